@@ -1,0 +1,23 @@
+//! The values that a cell of a running Pascal program holds, the arithmetic on them, and the small
+//! types that the crates above share: ways out of a call, entries of the log, lists of cells,
+//! and a counter of steps that takes no memory.
+#![tactic(auto)]
+
+mod arithmetic;
+mod cell_list;
+mod entries;
+mod faults;
+mod steps_taken;
+mod values;
+mod ways_out;
+
+pub use arithmetic::{ArithOp, arith, in_range, negate};
+pub use cell_list::{Cells, Memory};
+pub use entries::Touch;
+pub use faults::OpFault;
+pub use steps_taken::Steps;
+pub use values::{SetBits, Value};
+pub use ways_out::{Kind, WayOut, Which};
+
+#[cfg(test)]
+mod tests;
