@@ -1,0 +1,10 @@
+use Rattle.std.proofs.Common.{◌∙◌, ap}
+use Rattle.pas_lexer.specs.Reading.{piece_at}
+use Rattle.pas_lexer.proofs.Divided.{inside, rest_is}
+use Rattle.pas_lexer.proofs.lexing.piece_from.Goals as goal
+
+pub returns-clause-gives : goal.returns-clause-gives
+returns-clause-gives c = c.piece.ensures ∙ ap piece_at (rest_is c.args.bytes.now c.args.at)
+
+pub returns-clause-inside : goal.returns-clause-inside
+returns-clause-inside c = inside c.args.bytes.now c.args.at c.piece.result c.requires (c.piece.ensures ∙ ap piece_at (rest_is c.args.bytes.now c.args.at))

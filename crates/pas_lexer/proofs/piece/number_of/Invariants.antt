@@ -1,0 +1,10 @@
+use Rattle.std.proofs.Common.{◌≡◌, ◌≤◌, drop}
+use Rattle.pas_lexer.specs.Lexis.{decimal, maxint}
+use Rattle.pas_lexer.proofs.Decimals.{then_digits}
+use Rattle.pas_lexer.proofs.piece.number_of.Given as goal
+
+abbrev pub invariant-loop-c : goal.invariant-loop-c
+invariant-loop-c l = record {
+  so_far : then_digits l.value (drop l.c-index l.digits) ≡ decimal l.digits;
+  small : l.value ≤ maxint;
+}

@@ -1,0 +1,53 @@
+-- The two tables of the lexis, ISO 7185 clause 6.1.2: how the word symbols and the special symbols are spelled.
+use Rattle.std.specs.Prelude.{ℕ, List, codes}
+use Rattle.pas_lexer.specs.declared.kinds.Word.{Word}
+use Rattle.pas_lexer.specs.declared.kinds.Word.TheVariants.{WAnd, WArray, WBegin, WCase, WConst, WDiv, WDo, WDownto, WElse, WEnd, WFile, WFor, WFunction, WGoto, WIf, WIn, WLabel, WMod, WNil, WNot, WOf, WOr, WPacked, WProcedure, WProgram, WRecord, WRepeat, WSet, WThen, WTo, WType, WUntil, WVar, WWhile, WWith}
+use Rattle.pas_lexer.specs.declared.kinds.Symbol.{Symbol}
+use Rattle.pas_lexer.specs.declared.kinds.Symbol.TheVariants.{Plus, Semicolon, Colon, Comma, Dot, Becomes}
+
+-- the word symbols, in lower case
+abbrev pub word_text : Word → List ℕ
+word_text WAnd = codes "and"
+word_text WArray = codes "array"
+word_text WBegin = codes "begin"
+word_text WCase = codes "case"
+word_text WConst = codes "const"
+word_text WDiv = codes "div"
+word_text WDo = codes "do"
+word_text WDownto = codes "downto"
+word_text WElse = codes "else"
+word_text WEnd = codes "end"
+word_text WFile = codes "file"
+word_text WFor = codes "for"
+word_text WFunction = codes "function"
+word_text WGoto = codes "goto"
+word_text WIf = codes "if"
+word_text WIn = codes "in"
+word_text WLabel = codes "label"
+word_text WMod = codes "mod"
+word_text WNil = codes "nil"
+word_text WNot = codes "not"
+word_text WOf = codes "of"
+word_text WOr = codes "or"
+word_text WPacked = codes "packed"
+word_text WProcedure = codes "procedure"
+word_text WProgram = codes "program"
+word_text WRecord = codes "record"
+word_text WRepeat = codes "repeat"
+word_text WSet = codes "set"
+word_text WThen = codes "then"
+word_text WTo = codes "to"
+word_text WType = codes "type"
+word_text WUntil = codes "until"
+word_text WVar = codes "var"
+word_text WWhile = codes "while"
+word_text WWith = codes "with"
+
+-- the special symbols
+abbrev pub symbol_text : Symbol → List ℕ
+symbol_text Plus = codes "+"
+symbol_text Semicolon = codes ";"
+symbol_text Colon = codes ":"
+symbol_text Comma = codes ","
+symbol_text Dot = codes "."
+symbol_text Becomes = codes ":="

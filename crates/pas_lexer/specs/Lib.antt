@@ -1,0 +1,5 @@
+pub mod Division
+pub mod Lexed
+pub mod Lexicon
+pub mod Lexis
+pub mod Reading

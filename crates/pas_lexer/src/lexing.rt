@@ -1,0 +1,120 @@
+//! A whole source.
+
+ghost use Rattle.std.specs.Prelude.{◌≡◌, ◌⊎◌, ℕ, ◌+◌, ◌<◌, ◌≤◌, ◌^◌, ◌++◌, List, [], IfOk, IfErr, IfSome, OnOk, All, length, drop, nat_eq, count_by, vec_len};
+ghost use Rattle.pas_lexer.specs.declared.kinds.LexFault.TheVariants.{Memory};
+ghost use Rattle.pas_lexer.specs.declared.kinds.Token.{Token};
+ghost use Rattle.pas_lexer.specs.Reading.{piece_at};
+ghost use Rattle.pas_lexer.specs.Lexed.{IsPlaced, EndsOnce};
+ghost use Rattle.pas_lexer.specs.Division.{Piece, Divides, token_of, line_feed, IsLexed, FailsAt, IsFault, IsThose, IsUnbuilt};
+
+use crate::kinds::{Kind, LexFault, Token};
+use crate::piece::piece;
+use crate::tokens::Tokens;
+use std::alloc::Global;
+
+/// The most bytes that a source may have.
+pub const MAX_SOURCE_BYTES: usize = 1_048_576;
+
+/// The piece at a place.
+fn piece_from(bytes: &[u8], at: usize) -> Option<(Option<Kind>, usize)>
+    requires { at ≤ length bytes.now }
+    ensures gives { result ≡ piece_at (drop at bytes.now) }
+    ensures inside { IfSome result (λ x. (0 < x.1) × (at + x.1 ≤ length bytes.now)) }
+{
+    piece(&bytes[at..])
+}
+
+/// How many line feeds there are.
+fn line_feeds(bytes: &[u8]) -> usize
+    ensures { result ≡ count_by (λ c. nat_eq c line_feed) bytes.now }
+{
+    bytes.iter().filter(|c| **c == b'\n').count()
+}
+
+/// Adds the token of a piece, and none of a separator.
+fn push_piece(
+    tokens: &mut Vec<Token>,
+    kind: Option<Kind>,
+    start: usize,
+    end: usize,
+    line: usize,
+) -> Result<(), LexFault>
+    requires start { start < 2 ^ 32 }
+    requires end { end < 2 ^ 32 }
+    requires line { line < 2 ^ 32 }
+    ensures pushed { OnOk result (tokens.new.items ≡ tokens.old.items ++ token_of start end line kind) }
+    ensures full { IfErr result (λ e. e ≡ Memory) }
+{
+    if let Some(kind) = kind {
+        tokens.push(Token {
+            kind,
+            start: start as u32,
+            end: end as u32,
+            line: line as u32,
+        })?;
+    }
+    Ok(())
+}
+
+/// The tokens of a source.
+fn scan(alloc: Global, bytes: &[u8]) -> Result<Vec<Token>, LexFault>
+    requires { length bytes.now ≤ MAX_SOURCE_BYTES }
+    ensures found { IfOk result (λ v. IsLexed bytes.now v.items) }
+    ensures few { IfOk result (λ v. vec_len v ≤ MAX_SOURCE_BYTES + 1) }
+    ensures fault { IfErr result (IsFault bytes.now) }
+{
+    let mut tokens = Vec::new(alloc);
+    let mut at = 0;
+    let mut line = 1;
+    'pieces: while at < bytes.len() {
+        let Some((kind, length)) = piece_from(bytes, at) else {
+            return Err(LexFault::Unbuilt(at as u32));
+        };
+        let end = at + length;
+        push_piece(&mut tokens, kind, at, end, line)?;
+        line += line_feeds(&bytes[at..end]);
+        at = end;
+    }
+    push_piece(&mut tokens, Some(Kind::End), at, at, line)?;
+    Ok(tokens)
+}
+
+/// The tokens of a source of at most `MAX_SOURCE_BYTES` bytes, and `End` behind them. Where no piece fits
+/// at byte n, and pieces fit up to there, the fault is `Unbuilt(n)`.
+pub fn lex(alloc: Global, bytes: &[u8]) -> Result<Tokens, LexFault>
+    requires { length bytes.now ≤ MAX_SOURCE_BYTES }
+
+    // The tokens are those of a division of the source into pieces, and the source is kept.
+    ensures found { IfOk result (λ t. IsLexed bytes.now t.tokens) }
+    ensures source { IfOk result (λ t. t.source ≡ bytes.now) }
+
+    // A source with such a division has its tokens for an answer, unless memory runs out.
+    ensures only { (tokens : List Token) → IsLexed bytes.now tokens → IsThose tokens result }
+
+    // `Unbuilt` names the first piece that does not fit, and a source with such a piece is refused there,
+    // unless memory runs out.
+    ensures fault { IfErr result (IsFault bytes.now) }
+    ensures refused { (n : ℕ) → FailsAt bytes.now n → IsUnbuilt n result }
+
+    // Each token stands in the source, and the last, and only the last, is `End`.
+    ensures placed { IfOk result (λ t. All (IsPlaced bytes.now) t.tokens) }
+    ensures ended { IfOk result (λ t. EndsOnce t.tokens) }
+{
+    let tokens = scan(alloc, bytes)?;
+    Ok(Tokens::new(alloc, bytes, tokens)?)
+}
+
+/// The laws of divisions, for proofs. A source has one division into pieces, or it fails at one byte, and
+/// never both; and what each list of tokens keeps. It does nothing.
+pub fn division_laws()
+    ensures one_division { (source : List ℕ) (ps qs : List Piece) → Divides ps source [] → Divides qs source [] → ps ≡ qs }
+    ensures one_list { (source : List ℕ) (tokens others : List Token)
+        → IsLexed source tokens → IsLexed source others → tokens ≡ others }
+    ensures one_fault { (source : List ℕ) (m n : ℕ) → FailsAt source m → FailsAt source n → m ≡ n }
+    ensures lexed_or_fails { (source : List ℕ)
+        → ((tokens : List Token) × IsLexed source tokens) ⊎ ((n : ℕ) × FailsAt source n) }
+    ensures never_both { (source : List ℕ) (tokens : List Token) (n : ℕ)
+        → IsLexed source tokens → FailsAt source n → ⊥ }
+    ensures placed { (source : List ℕ) (tokens : List Token) → IsLexed source tokens → All (IsPlaced source) tokens }
+    ensures ended { (source : List ℕ) (tokens : List Token) → IsLexed source tokens → EndsOnce tokens }
+{}

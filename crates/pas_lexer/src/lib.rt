@@ -1,0 +1,16 @@
+//! The lexer of a small Pascal: the tokens of a source, ISO 7185 clause 6.1.
+#![tactic(auto)]
+
+mod bytes;
+pub mod kinds;
+pub mod lexing;
+mod piece;
+mod symbols;
+#[cfg(test)]
+mod tests;
+pub mod tokens;
+mod words;
+
+pub use kinds::{Kind, LexFault, Symbol, Token, Word};
+pub use lexing::{MAX_SOURCE_BYTES, lex};
+pub use tokens::Tokens;

@@ -1,0 +1,90 @@
+//! A source with its tokens.
+
+ghost use Rattle.std.specs.Prelude.{◌≡◌, ◌↔◌, ℕ, ◌+◌, ◌<◌, ◌^◌, IfOk, length, slice_get, All, vec_len};
+ghost use Rattle.pas_lexer.specs.declared.kinds.Kind.TheVariants.{End};
+ghost use Rattle.pas_lexer.specs.declared.kinds.Token.{Token};
+ghost use Rattle.pas_lexer.specs.Lexed.{text_of, spelling_of, IsPlaced, EndsOnce};
+
+use crate::kinds::{Kind, Token};
+use std::alloc::{AllocError, Global};
+use std::marker::Model;
+
+/// The tokens of a source, with a copy of the source. The last token, and only the last, is `End`.
+/// Tokens are numbered from 0.
+#[derive(Drop)]
+pub struct Tokens {
+    source: Vec<u8>,
+    /// The source in lower case, where `spelling` finds the names.
+    lower: Vec<u8>,
+    tokens: Vec<Token>,
+}
+
+impl Model for Tokens {
+    ghost use Rattle.pas_lexer.specs.Lexed.{Lexed, IsKept};
+
+    ghost Value = { Lexed };
+
+    ghost view = { λ t. record { tokens = t.tokens.items; source = t.source.items } };
+
+    ghost invariant = { λ t. IsKept t.source.items t.lower.items t.tokens.items };
+}
+
+impl Tokens {
+    /// Keeps a copy of the source beside its tokens. The only error is that memory ran out.
+    pub(crate) fn new(alloc: Global, source: &[u8], tokens: Vec<Token>) -> Result<Self, AllocError>
+        requires placed { All (IsPlaced source.now) tokens.items }
+        requires ended { EndsOnce tokens.items }
+        requires few { vec_len tokens < 2 ^ 32 }
+        ensures { IfOk result (λ t. t ≡ record { tokens = tokens.items; source = source.now }) }
+    {
+        let lower = source.to_ascii_lowercase(alloc)?;
+        let source = source.to_vec(alloc)?;
+        Ok(Tokens {
+            source,
+            lower,
+            tokens,
+        })
+    }
+
+    /// How many tokens there are, `End` among them.
+    pub fn len(&self) -> u32
+        ensures count { result ≡ length self.now.tokens }
+        ensures some { 0 < result }
+        ensures ended { EndsOnce self.now.tokens }
+    {
+        self.tokens.len() as u32
+    }
+
+    /// The token of a number. Only the last is `End`.
+    pub fn at(&self, i: u32) -> Token
+        requires { i < length self.now.tokens }
+        ensures token { slice_get self.now.tokens i ≡ Some result }
+        ensures placed { IsPlaced self.now.source result }
+        ensures last { (result.kind ≡ End) ↔ (i + 1 ≡ length self.now.tokens) }
+    {
+        self.tokens[i as usize]
+    }
+
+    /// The bytes of the source that a token takes.
+    pub fn text(&self, i: u32) -> &[u8]
+        requires { i < length self.now.tokens }
+        ensures { (t : Token) → slice_get self.now.tokens i ≡ Some t
+            → result.now ≡ text_of self.now.source t }
+    {
+        let token = self.tokens[i as usize];
+        &self.source[token.start as usize..token.end as usize]
+    }
+
+    /// Of a name the text in lower case, of any other token the text.
+    pub fn spelling(&self, i: u32) -> &[u8]
+        requires { i < length self.now.tokens }
+        ensures { (t : Token) → slice_get self.now.tokens i ≡ Some t
+            → result.now ≡ spelling_of self.now.source t }
+    {
+        let token = self.tokens[i as usize];
+        match token.kind {
+            Kind::Name => &self.lower[token.start as usize..token.end as usize],
+            _ => self.text(i),
+        }
+    }
+}
