@@ -1,0 +1,25 @@
+-- The files of a keeper, where it tells them.
+use Rattle.std.specs.Prelude.{◌≡◌, ◌<◌, ℕ, List, length, Option, Some, None, IfSome, IsSomeAnd}
+use Rattle.std.specs.Ordering.{nat_cmp}
+use Rattle.std.specs.Cmp.Lexicographic.{slice_cmp}
+use Rattle.std.specs.FinMap.{FinMap, get}
+
+-- a finite map from the bytes of names to the bytes of files
+abbrev pub FileMap : Type 0
+FileMap = FinMap (slice_cmp nat_cmp) (List ℕ)
+
+-- the file of this name, if there is one
+abbrev pub file_at : FileMap → List ℕ → Option (List ℕ)
+file_at files name = get files name
+
+-- the file of this name has these bytes, where files are told
+abbrev pub HoldsFile : Option FileMap → List ℕ → List ℕ → Type 0
+HoldsFile files name bytes = IfSome files (λ map. file_at map name ≡ Some bytes)
+
+-- there is no file of this name, where files are told
+abbrev pub LacksFile : Option FileMap → List ℕ → Type 0
+LacksFile files name = IfSome files (λ map. file_at map name ≡ None)
+
+-- the file of this name has more bytes than so many, where files are told
+abbrev pub HoldsLonger : Option FileMap → List ℕ → ℕ → Type 0
+HoldsLonger files name limit = IfSome files (λ map. IsSomeAnd (file_at map name) (λ bytes. limit < length bytes))

@@ -1,0 +1,9 @@
+pub mod Counts
+pub mod Told
+pub mod States
+pub mod Lines
+pub mod Turns
+pub mod Files
+pub mod Shelves
+pub mod Entries
+pub mod Streams

@@ -1,0 +1,124 @@
+// Real files as a keeper. It tells nothing of its files.
+ghost use Rattle.std.specs.Prelude.{◌≡◌, ◌<◌, ◌≤◌, ◌+◌, ℕ, List, length, Err, IfOk, IfSome, None};
+ghost use Rattle.std.specs.Io.KnownBytes.{Consumes};
+ghost use Rattle.edge_ports.specs.Counts.{Rose, NotFallen};
+
+use crate::plan::count_on;
+use crate::{Bytes, FetchFault, Keeper};
+use std::alloc::Global;
+use std::fs;
+use std::io::{ErrorKind, Read};
+use std::rt::Files;
+
+/// Real files as a keeper. It tells nothing of them, and counts each error.
+#[derive(Debug, Drop)]
+pub struct FileKeeper<R> {
+    files: R,
+    faults: u64,
+    misses: u64,
+    overs: u64,
+}
+
+impl<R: Files> FileKeeper<R> {
+    /// The files that the runtime opens. Nothing has failed yet.
+    pub fn new(files: R) -> FileKeeper<R>
+        ensures faults { ⟦<FileKeeper<R> as Keeper>⟧.faults result ≡ 0 }
+        ensures misses { ⟦<FileKeeper<R> as Keeper>⟧.misses result ≡ 0 }
+        ensures overs { ⟦<FileKeeper<R> as Keeper>⟧.overs result ≡ 0 }
+    {
+        FileKeeper {
+            files,
+            faults: 0,
+            misses: 0,
+            overs: 0,
+        }
+    }
+}
+
+// The most bytes that are read at once.
+const CHUNK: usize = 4_096;
+
+// How many bytes to read next, where so many are left up to the limit: at most one more than that.
+fn chunk_len(left: u64) -> usize
+    ensures some { 0 < result }
+    ensures fits { result ≤ CHUNK }
+    ensures most { result ≤ left + 1 }
+{
+    if left < CHUNK as u64 {
+        left as usize + 1
+    } else {
+        CHUNK
+    }
+}
+
+// All the bytes of the reader, if they are at most `limit`. It reads at most one byte more.
+fn read_within<R: Read>(alloc: Global, reader: &mut R, limit: u64) -> Result<Bytes, FetchFault>
+    ensures fits { IfOk result (λ bytes. length bytes ≤ limit) }
+    ensures whole { IfOk result (λ bytes. IfSome (R.remaining reader.old) (λ all. bytes ≡ all)) }
+    ensures not_absent { result ≡ Err FetchFault.Absent → ⊥ }
+    ensures too_long { (bound : ℕ) → result ≡ Err (FetchFault.TooLong bound) → bound ≡ limit }
+    ensures longer { (bound : ℕ) → result ≡ Err (FetchFault.TooLong bound) → IfSome (R.remaining reader.old) (λ all. limit < length all) }
+    ensures most { (taken : List ℕ) × Consumes (R.remaining reader.old) (R.remaining reader.new) taken × (length taken ≤ limit + 1) }
+{
+    let mut bytes = Bytes::new(alloc);
+    let mut chunk = [0u8; CHUNK];
+    'chunks: loop {
+        let left = limit - bytes.as_slice().len() as u64;
+        let want = chunk_len(left);
+        let count = match reader.read(&mut chunk[..want]) {
+            Ok(0) => return Ok(bytes),
+            Ok(count) => count,
+            Err(_) => return Err(FetchFault::Failed),
+        };
+        if count as u64 > left {
+            return Err(FetchFault::TooLong(limit));
+        }
+        if bytes.append(&chunk[..count]).is_err() {
+            return Err(FetchFault::Memory);
+        }
+    }
+}
+
+// All the bytes of the file of this name, if they are at most `limit`.
+fn read_file<R: Files>(
+    files: &R,
+    alloc: Global,
+    name: &str,
+    limit: u64,
+) -> Result<Bytes, FetchFault>
+    ensures fits { IfOk result (λ bytes. length bytes ≤ limit) }
+    ensures too_long { (bound : ℕ) → result ≡ Err (FetchFault.TooLong bound) → bound ≡ limit }
+{
+    match fs::open(files, name) {
+        Ok(mut file) => read_within(alloc, &mut file, limit),
+        Err(error) => Err(match error.kind() {
+            ErrorKind::NotFound => FetchFault::Absent,
+            _ => FetchFault::Failed,
+        }),
+    }
+}
+
+impl<R: Files> Keeper for FileKeeper<R> {
+    ghost files = { λ _. None };
+
+    ghost faults = { λ k. k.faults };
+
+    ghost misses = { λ k. k.misses };
+
+    ghost overs = { λ k. k.overs };
+
+    fn fetch(&mut self, alloc: Global, name: &str, limit: u64) -> Result<Bytes, FetchFault> {
+        match read_file(&self.files, alloc, name, limit) {
+            Ok(bytes) => Ok(bytes),
+            Err(fault) => {
+                match fault {
+                    FetchFault::Absent => self.misses = count_on(self.misses),
+                    FetchFault::Failed => self.faults = count_on(self.faults),
+                    FetchFault::TooLong(_) => self.overs = count_on(self.overs),
+                    FetchFault::Memory => {}
+                }
+                Err(fault)
+            }
+        }
+    }
+}

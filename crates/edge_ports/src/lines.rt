@@ -1,0 +1,371 @@
+// The lines of a console.
+ghost use Rattle.std.specs.Prelude.{◌≡◌, ◌<◌, ◌≤◌, ◌↔◌, ◌⊎◌, ◌+◌, ℕ, List, [], ◌++◌, Ok, Err, Some, None, Option, length, take, drop, position, IsTrue, IsOk, OnOk, OnErr, IfOk, IfErr, IsSomeAnd, MatchOption, true, false, IfSome, ◌-◌, slice_index};
+ghost use Rattle.std.specs.Option.{option_map};
+ghost use Rattle.std.specs.Str.Lines.{strip_carriage_return};
+ghost use Rattle.std.specs.Io.KnownBytes.{IsAtEnd};
+ghost use Rattle.edge_ports.specs.Counts.{Rose, NotFallen};
+ghost use Rattle.edge_ports.specs.Lines.{is_line_end, line_end_of, HasWholeLine, next_line, lines_of, Moves};
+
+use crate::{Failed, Memory, Source};
+use std::alloc::Global;
+use std::marker::Model;
+use thiserror::Error;
+
+/// The most bytes that are taken of a console.
+pub const CONSOLE_BYTES: usize = 16_777_216;
+
+/// The most bytes of a line that is shown, without its LF and a CR directly before that.
+pub const LINE_BYTES: usize = 4_096;
+
+/// What came of the console.
+#[derive(Clone, Copy, Debug, PartialEq, Eq)]
+pub enum Turn {
+    /// A line, which [`Lines::line`] shows.
+    Line,
+    /// A line of more than [`LINE_BYTES`] bytes, which was skipped whole.
+    TooLong,
+    /// The console's end.
+    End,
+}
+
+/// Why no line came.
+#[derive(Clone, Copy, Debug, PartialEq, Eq, Drop, Error)]
+pub enum LineFault {
+    /// The source failed. The bytes taken are kept, and the next call goes on with them.
+    #[error("the console failed")]
+    Failed,
+    /// [`CONSOLE_BYTES`] bytes were taken, and all whole lines in them handed out.
+    #[error("the console is too long")]
+    Spent,
+}
+
+/// Hands out the lines of a console. All bytes taken are kept, in room that is taken at the start.
+#[derive(Debug, Drop)]
+pub struct Lines {
+    room: Vec<u8>,
+    handed: usize,
+    taken: usize,
+    ended: bool,
+    line_start: usize,
+    line_end: usize,
+}
+
+impl Model for Lines {
+    ghost use Rattle.std.specs.Prelude.{◌≡◌, ◌≤◌, [], take, drop, length};
+    ghost use Rattle.edge_ports.specs.declared.lines.TheConstants.{CONSOLE_BYTES};
+    ghost use Rattle.edge_ports.specs.Lines.{LinesState, IsCutAtLines};
+
+    ghost Value = { LinesState };
+
+    ghost view = { λ l. record {
+      taken = take l.taken l.room.items;
+      handed = l.handed;
+      ended = l.ended;
+      line = drop l.line_start (take l.line_end l.room.items);
+    } };
+
+    ghost invariant = { λ l. (length l.room.items ≡ CONSOLE_BYTES) × (l.taken ≤ CONSOLE_BYTES)
+        × (l.handed ≤ l.taken) × (l.line_start ≤ l.line_end) × (l.line_end ≤ l.taken)
+        × IsCutAtLines (record { taken = take l.taken l.room.items; handed = l.handed; ended = l.ended; line = [] }) };
+}
+
+// So many zeros.
+fn zeros(alloc: Global, count: usize) -> Result<Vec<u8>, Memory>
+    ensures { IfOk result (λ room. length room.items ≡ count) }
+{
+    vec![in alloc; 0; count]
+}
+
+// Where the first LF stands, if there is one.
+fn first_line_end(bytes: &[u8]) -> Option<usize>
+    ensures place { result ≡ line_end_of bytes.now }
+    ensures within { IfSome result (λ place. place < length bytes.now) }
+{
+    bytes.iter().position(|byte| *byte == b'\n')
+}
+
+// The same, where the first `from` bytes have none. Only the bytes behind them are looked at.
+fn line_end(bytes: &[u8], from: usize) -> Option<usize>
+    requires within { from ≤ length bytes.now }
+    requires none { line_end_of (take from bytes.now) ≡ None }
+    ensures { result ≡ line_end_of bytes.now }
+{
+    match first_line_end(&bytes[from..]) {
+        Some(place) => Some(from + place),
+        None => None,
+    }
+}
+
+// The length of a line without the one CR at its end, if it has one.
+fn length_without_return(line: &[u8]) -> usize
+    ensures within { result ≤ length line.now }
+    ensures line { take result line.now ≡ strip_carriage_return line.now }
+{
+    let length = line.len();
+    if length > 0 && line[length - 1] == b'\r' {
+        length - 1
+    } else {
+        length
+    }
+}
+
+// How many bytes at the front of these are the next line, and how many it takes up with its end.
+fn next_range(bytes: &[u8], ended: bool, line_end: Option<usize>) -> Option<(usize, usize)>
+    requires { line_end ≡ line_end_of bytes.now }
+    ensures within { IfSome result (λ range. (range.0 ≤ range.1) × (range.1 ≤ length bytes.now) × (0 < range.1)) }
+    ensures end { IfSome result (λ range. (slice_index bytes.now (range.1 - 1) ≡ 10)
+        ⊎ (IsTrue ended × (range.1 ≡ length bytes.now))) }
+    ensures next { next_line ended bytes.now
+        ≡ option_map (λ range. (take range.0 bytes.now, drop range.1 bytes.now)) result }
+{
+    match line_end {
+        Some(place) => Some((length_without_return(&bytes[..place]), place + 1)),
+        None => {
+            if ended && !bytes.is_empty() {
+                Some((bytes.len(), bytes.len()))
+            } else {
+                None
+            }
+        }
+    }
+}
+
+// Takes bytes into the room behind those that are there, and answers how many.
+fn take_behind<I: Source>(source: &mut I, room: &mut [u8], taken: usize) -> Result<usize, Failed>
+    requires { taken < length room.old }
+    ensures count { IfOk result (λ n. taken + n ≤ length room.new) }
+    ensures moved { IfOk result (λ n. Moves (take taken room.old) (take (taken + n) room.new)
+        (I.left source.old) (I.left source.new)) }
+    ensures kept { take taken room.new ≡ take taken room.old }
+    ensures end { result ≡ Ok 0 → IsAtEnd (I.left source.new) }
+    ensures failed { OnErr result (I.left source.new ≡ I.left source.old) }
+    ensures cause { OnErr result (Rose (I.faults source.old) (I.faults source.new)) }
+    ensures faults { NotFallen (I.faults source.old) (I.faults source.new) }
+{
+    source.take(&mut room[taken..])
+}
+
+impl Lines {
+    ghost use Rattle.std.specs.Prelude.{◌≡◌, ◌<◌, ◌≤◌, ◌↔◌, ◌⊎◌, ◌+◌, ℕ, List, [], ◌++◌, Ok, Err, Some, None, Option, length, take, drop, IsTrue, IsOk, OnOk, OnErr, IfOk, IfErr, IsSomeAnd, MatchOption, true, false};
+    ghost use Rattle.std.specs.Io.KnownBytes.{IsAtEnd};
+    ghost use Rattle.edge_ports.specs.Counts.{Rose, NotFallen};
+    ghost use Rattle.edge_ports.specs.Lines.{line_end_of, HasWholeLine, next_line, lines_of, Moves, unread, reach, upcoming, handed_lines, whole_lines, IsUsed, StillComes};
+    ghost use Rattle.edge_ports.specs.Turns.{AsksNothing, IsConsistent, shown_line, HandsOut, HandedBy, TurnsTo};
+
+    /// A reader that has taken nothing. It takes the room for all [`CONSOLE_BYTES`] bytes at once.
+    pub fn new(alloc: Global) -> Result<Lines, Memory>
+        ensures { IfOk result (λ lines. lines ≡ record { taken = []; handed = 0; ended = false; line = [] }) }
+    {
+        Ok(Lines {
+            room: zeros(alloc, CONSOLE_BYTES)?,
+            handed: 0,
+            taken: 0,
+            ended: false,
+            line_start: 0,
+            line_end: 0,
+        })
+    }
+
+    /// The next line of the console. Each LF ends a line, and a CR directly before it is dropped; a last
+    /// part with no LF is a line, unless it is empty. A line of more than [`LINE_BYTES`] bytes is skipped
+    /// whole. It takes no memory.
+    ///
+    /// After a fault of the source the bytes taken are kept, and the next call goes on with them. After the
+    /// end, and after [`LineFault::Spent`], each further call answers the same.
+    pub fn next<I: Source>(&mut self, source: &mut I) -> Result<Turn, LineFault>
+        // What moved. The source is asked only where no whole line is left in the bytes taken.
+        ensures moved { Moves self.old.taken self.new.taken (I.left source.old) (I.left source.new) }
+        ensures consistent { IsConsistent self.new }
+        ensures quiet { AsksNothing self.old → (source.new ≡ source.old) × (self.new.taken ≡ self.old.taken)
+            × (self.new.ended ≡ self.old.ended) }
+        ensures end_seen { IsTrue self.new.ended → IsTrue self.old.ended ⊎ IsAtEnd (I.left source.new) }
+
+        // The answer, by the bytes that were to be handed out.
+        ensures line { (result ≡ Ok Turn.Line) ↔ IsSomeAnd (upcoming self.old self.new) (λ next. length next.0 ≤ LINE_BYTES) }
+        ensures too_long { (result ≡ Ok Turn.TooLong) ↔ IsSomeAnd (upcoming self.old self.new) (λ next. LINE_BYTES < length next.0) }
+        ensures end { (result ≡ Ok Turn.End) ↔ (IsTrue self.new.ended × (self.old.handed ≡ length self.new.taken)) }
+        ensures spent { (result ≡ Err LineFault.Spent) ↔ ((length self.new.taken ≡ CONSOLE_BYTES)
+            × (upcoming self.old self.new ≡ None) × (self.new.ended ≡ false)) }
+        ensures failed { result ≡ Err LineFault.Failed → (upcoming self.old self.new ≡ None) × (self.new.ended ≡ false) }
+        ensures cause { result ≡ Err LineFault.Failed → Rose (I.faults source.old) (I.faults source.new) }
+        ensures faults { NotFallen (I.faults source.old) (I.faults source.new) }
+
+        // After the end, and after Spent, the answer stays.
+        ensures end_again { IsTrue self.old.ended → self.old.handed ≡ length self.old.taken → result ≡ Ok Turn.End }
+        ensures spent_again { length self.old.taken ≡ CONSOLE_BYTES → self.old.ended ≡ false
+            → line_end_of (unread self.old) ≡ None → result ≡ Err LineFault.Spent }
+
+        // What is shown, and what is handed out.
+        ensures shown { self.new.line ≡ shown_line (upcoming self.old self.new) }
+        ensures behind { MatchOption (upcoming self.old self.new) (self.new.handed ≡ self.old.handed) (λ next. unread self.new ≡ next.1) }
+        ensures handed { HandsOut result self.old.handed self.new.handed }
+
+        // The lines handed out so far: where no more comes, all whole lines in the bytes taken.
+        ensures lines { HandedBy result self.new.line (handed_lines self.old) (handed_lines self.new) }
+        ensures stopped { OnErr result (handed_lines self.new ≡ whole_lines self.new.taken) }
+
+        // The lines still to come, where the source tells its bytes.
+        ensures console { (bytes : List ℕ) → StillComes self.old (I.left source.old) bytes
+            → (rest : List ℕ) × StillComes self.new (I.left source.new) rest
+            × TurnsTo result self.new.line (lines_of bytes) (lines_of rest) }
+    {
+        self.clear();
+        match self.fill(source) {
+            Ok(place) => Ok(self.hand_out(place)),
+            Err(fault) => Err(fault),
+        }
+    }
+
+    /// The line that came last, without its LF and a CR directly before that. Empty where the last call
+    /// of [`Lines::next`] gave no line.
+    pub fn line(&self) -> &[u8]
+        ensures { result.now ≡ self.now.line }
+    {
+        &self.room[self.line_start..self.line_end]
+    }
+
+    // The bytes taken and not handed out.
+    fn unread(&self) -> &[u8]
+        ensures bytes { result.now ≡ unread self.now }
+        ensures consistent { IsConsistent self.now }
+    {
+        &self.room[self.handed..self.taken]
+    }
+
+    // Whether the end was seen.
+    fn has_ended(&self) -> bool
+        ensures { result ≡ self.now.ended }
+    {
+        self.ended
+    }
+
+    // Whether all room is used.
+    fn is_full(&self) -> bool
+        ensures full { IsTrue result ↔ (length self.now.taken ≡ CONSOLE_BYTES) }
+        ensures consistent { IsConsistent self.now }
+    {
+        self.taken == CONSOLE_BYTES
+    }
+
+    // Shows no line.
+    fn clear(&mut self)
+        ensures cleared { self.new ≡ record self.old { line = [] } }
+        ensures consistent { IsConsistent self.new }
+    {
+        self.line_start = 0;
+        self.line_end = 0;
+    }
+
+    // Hands out so many bytes, and shows no line.
+    fn skip(&mut self, used: usize)
+        requires { IsUsed self.old used }
+        ensures { self.new ≡ record self.old { handed = self.old.handed + used } }
+    {
+        self.handed += used;
+    }
+
+    // Hands out so many bytes, and shows the first `count` of them.
+    fn show(&mut self, count: usize, used: usize)
+        requires shown { count ≤ used }
+        requires used { IsUsed self.old used }
+        ensures { self.new ≡ record self.old { handed = self.old.handed + used; line = take count (unread self.old) } }
+    {
+        self.line_start = self.handed;
+        self.line_end = self.handed + count;
+        self.handed += used;
+    }
+
+    // Takes more from the source, or sees its end.
+    fn take_more<I: Source>(&mut self, source: &mut I) -> Result<(), Failed>
+        requires room { length self.old.taken < CONSOLE_BYTES }
+        requires not_ended { self.old.ended ≡ false }
+        ensures moved { Moves self.old.taken self.new.taken (I.left source.old) (I.left source.new) }
+        ensures handed { self.new.handed ≡ self.old.handed }
+        ensures line { self.new.line ≡ self.old.line }
+        ensures consistent { IsConsistent self.new }
+        ensures ok { OnOk result ((IsTrue self.new.ended × IsAtEnd (I.left source.new))
+            ⊎ ((length self.old.taken < length self.new.taken) × (self.new.ended ≡ self.old.ended))) }
+        ensures failed { OnErr result ((self.new.taken ≡ self.old.taken) × (self.new.ended ≡ self.old.ended)) }
+        ensures cause { OnErr result (Rose (I.faults source.old) (I.faults source.new)) }
+        ensures faults { NotFallen (I.faults source.old) (I.faults source.new) }
+    {
+        match take_behind(source, &mut self.room, self.taken) {
+            Ok(0) => {
+                self.ended = true;
+                Ok(())
+            }
+            Ok(count) => {
+                self.taken += count;
+                Ok(())
+            }
+            Err(failed) => Err(failed),
+        }
+    }
+
+    // Takes from the source until the next line's LF is there, or the end was seen; and answers where
+    // that LF stands.
+    fn fill<I: Source>(&mut self, source: &mut I) -> Result<Option<usize>, LineFault>
+        ensures moved { Moves self.old.taken self.new.taken (I.left source.old) (I.left source.new) }
+        ensures handed { self.new.handed ≡ self.old.handed }
+        ensures line { self.new.line ≡ self.old.line }
+        ensures consistent { IsConsistent self.new }
+        ensures quiet { AsksNothing self.old → (source.new ≡ source.old) × (self.new.taken ≡ self.old.taken)
+            × (self.new.ended ≡ self.old.ended) }
+        ensures end_seen { IsTrue self.new.ended → IsTrue self.old.ended ⊎ IsAtEnd (I.left source.new) }
+        ensures place { IfOk result (λ place. place ≡ line_end_of (unread self.new)) }
+        ensures none { result ≡ Ok None → IsTrue self.new.ended }
+        ensures err { OnErr result ((line_end_of (unread self.new) ≡ None) × (self.new.ended ≡ false)) }
+        ensures spent { result ≡ Err LineFault.Spent → length self.new.taken ≡ CONSOLE_BYTES }
+        ensures failed { result ≡ Err LineFault.Failed → Rose (I.faults source.old) (I.faults source.new)
+            × (length self.new.taken < CONSOLE_BYTES) }
+        ensures faults { NotFallen (I.faults source.old) (I.faults source.new) }
+    {
+        let mut looked = 0;
+        'filling: loop {
+            let place = line_end(self.unread(), looked);
+            if place.is_some() || self.has_ended() {
+                return Ok(place);
+            }
+            if self.is_full() {
+                return Err(LineFault::Spent);
+            }
+            looked = self.unread().len();
+            if self.take_more(source).is_err() {
+                return Err(LineFault::Failed);
+            }
+        }
+    }
+
+    // Hands out the next line, whose LF stands at this place. Without one, the end was seen.
+    fn hand_out(&mut self, place: Option<usize>) -> Turn
+        requires place { place ≡ line_end_of (unread self.old) }
+        requires none { place ≡ None → IsTrue self.old.ended }
+        requires clear { self.old.line ≡ [] }
+        ensures taken { self.new.taken ≡ self.old.taken }
+        ensures ended { self.new.ended ≡ self.old.ended }
+        ensures consistent { IsConsistent self.new }
+        ensures line { (result ≡ Turn.Line) ↔ IsSomeAnd (upcoming self.old self.old) (λ next. length next.0 ≤ LINE_BYTES) }
+        ensures too_long { (result ≡ Turn.TooLong) ↔ IsSomeAnd (upcoming self.old self.old) (λ next. LINE_BYTES < length next.0) }
+        ensures end { (result ≡ Turn.End) ↔ (IsTrue self.old.ended × (self.old.handed ≡ length self.old.taken)) }
+        ensures shown { self.new.line ≡ shown_line (upcoming self.old self.old) }
+        ensures behind { MatchOption (upcoming self.old self.old) (self.new.handed ≡ self.old.handed) (λ next. unread self.new ≡ next.1) }
+        ensures handed { HandsOut (Ok result) self.old.handed self.new.handed }
+        ensures lines { HandedBy (Ok result) self.new.line (handed_lines self.old) (handed_lines self.new) }
+        ensures console { (more : List ℕ) → (IsTrue self.old.ended → more ≡ [])
+            → TurnsTo (Ok result) self.new.line (lines_of (unread self.old ++ more)) (lines_of (unread self.new ++ more)) }
+    {
+        let ended = self.has_ended();
+        match next_range(self.unread(), ended, place) {
+            None => Turn::End,
+            Some((count, used)) => {
+                if count > LINE_BYTES {
+                    self.skip(used);
+                    Turn::TooLong
+                } else {
+                    self.show(count, used);
+                    Turn::Line
+                }
+            }
+        }
+    }
+}

@@ -1,0 +1,114 @@
+// What the program asks of the outside.
+ghost use Rattle.std.specs.Prelude.{◌≡◌, ◌<◌, ◌≤◌, ℕ, List, Ok, Err, Option, length, take, IfOk, OnOk, OnErr};
+ghost use Rattle.std.specs.Io.KnownBytes.{IsAtEnd};
+ghost use Rattle.edge_ports.specs.Counts.{Rose, NotFallen};
+ghost use Rattle.edge_ports.specs.Told.{GaveAll, GavePrefix, TookAll};
+ghost use Rattle.edge_ports.specs.Files.{FileMap, HoldsFile, LacksFile, HoldsLonger};
+
+use crate::Bytes;
+use std::alloc::Global;
+use thiserror::Error;
+
+/// A call on the outside that failed. The object's count of faults rose in that call.
+#[derive(Clone, Copy, Debug, PartialEq, Eq)]
+pub struct Failed;
+
+/// Where bytes come from, such as a console.
+pub trait Source {
+    /// The bytes still to come, where the object tells them.
+    ghost left: { Self → Option (List ℕ) };
+
+    /// How often the object failed. It never falls, and stands still at the last number of 64 bits.
+    ghost faults: { Self → ℕ };
+
+    /// Moves bytes from the front of what is left into the front of the room, and answers how many, at
+    /// most the room's length. 0 means the end. What the rest of the room has then is left open.
+    fn take(&mut self, room: &mut [u8]) -> Result<usize, Failed>
+        requires { 0 < length room.old }
+        ensures count { IfOk result (λ n. n ≤ length room.new) }
+        ensures moved { IfOk result (λ n. TookAll (left self.old) (left self.new) (take n room.new)) }
+        ensures end { result ≡ Ok 0 → IsAtEnd (left self.new) }
+        ensures failed { OnErr result (left self.new ≡ left self.old) }
+        ensures cause { OnErr result (Rose (faults self.old) (faults self.new)) }
+        ensures faults { NotFallen (faults self.old) (faults self.new) };
+}
+
+/// Where bytes go to, such as a screen.
+pub trait Sink {
+    /// The bytes that were given so far, where the object tells them.
+    ghost given: { Self → Option (List ℕ) };
+
+    /// How often the object failed. It never falls, and stands still at the last number of 64 bits.
+    ghost faults: { Self → ℕ };
+
+    /// Appends bytes from the front of the piece to what was given, and answers how many, at least 1.
+    fn give(&mut self, piece: &[u8]) -> Result<usize, Failed>
+        requires { 0 < length piece.now }
+        ensures count { IfOk result (λ n. n ≤ length piece.now) }
+        ensures some { IfOk result (λ n. 0 < n) }
+        ensures gave { IfOk result (λ n. GaveAll (given self.old) (given self.new) (take n piece.now)) }
+        ensures failed { OnErr result (given self.new ≡ given self.old) }
+        ensures cause { OnErr result (Rose (faults self.old) (faults self.new)) }
+        ensures faults { NotFallen (faults self.old) (faults self.new) };
+}
+
+/// Why a file was not fetched.
+#[derive(Clone, Copy, Debug, PartialEq, Eq, Drop, Error)]
+pub enum FetchFault {
+    /// There is no file of that name.
+    #[error("the file is absent")]
+    Absent,
+    /// The file could not be opened or read.
+    #[error("the file could not be read")]
+    Failed,
+    /// The file has more bytes than this limit, which is the one that was asked for.
+    #[error("the file has more than {0} bytes")]
+    TooLong(u64),
+    /// Memory was wanting.
+    #[error("memory was wanting")]
+    Memory,
+}
+
+/// Where files are kept, by their names.
+pub trait Keeper {
+    /// The files, where the object tells them. A name stands for its bytes.
+    ghost files: { Self → Option FileMap };
+
+    /// How often the object failed. This count and the two below never fall, and stand still at the last
+    /// number of 64 bits.
+    ghost faults: { Self → ℕ };
+
+    /// How often a file was absent.
+    ghost misses: { Self → ℕ };
+
+    /// How often a file was too long.
+    ghost overs: { Self → ℕ };
+
+    /// All the bytes of the file of this name, if they are at most `limit`.
+    fn fetch(&mut self, alloc: Global, name: &str, limit: u64) -> Result<Bytes, FetchFault>
+        ensures fits { IfOk result (λ bytes. length bytes ≤ limit) }
+        ensures found { IfOk result (λ bytes. HoldsFile (files self.old) name.now bytes) }
+        ensures absent { result ≡ Err FetchFault.Absent → LacksFile (files self.old) name.now }
+        ensures absent_cause { result ≡ Err FetchFault.Absent → Rose (misses self.old) (misses self.new) }
+        ensures failed_cause { result ≡ Err FetchFault.Failed → Rose (faults self.old) (faults self.new) }
+        ensures too_long { (bound : ℕ) → result ≡ Err (FetchFault.TooLong bound) → (bound ≡ limit) × HoldsLonger (files self.old) name.now limit }
+        ensures too_long_cause { (bound : ℕ) → result ≡ Err (FetchFault.TooLong bound) → Rose (overs self.old) (overs self.new) }
+        ensures files { files self.new ≡ files self.old }
+        ensures faults { NotFallen (faults self.old) (faults self.new) }
+        ensures misses { NotFallen (misses self.old) (misses self.new) }
+        ensures overs { NotFallen (overs self.old) (overs self.new) };
+}
+
+/// Gives all the bytes, piece by piece. It takes no memory.
+pub fn write_all<O: Sink>(sink: &mut O, bytes: &[u8]) -> Result<(), Failed>
+    ensures ok { OnOk result (GaveAll (O.given sink.old) (O.given sink.new) bytes.now) }
+    ensures failed { OnErr result (GavePrefix (O.given sink.old) (O.given sink.new) bytes.now) }
+    ensures cause { OnErr result (Rose (O.faults sink.old) (O.faults sink.new)) }
+    ensures faults { NotFallen (O.faults sink.old) (O.faults sink.new) }
+{
+    let mut at = 0;
+    while at < bytes.len() {
+        at += sink.give(&bytes[at..])?;
+    }
+    Ok(())
+}

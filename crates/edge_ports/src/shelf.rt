@@ -1,0 +1,159 @@
+// A keeper in memory.
+ghost use Rattle.std.specs.Prelude.{◌≡◌, ◌<◌, ◌≤◌, ◌↔◌, ℕ, List, length, Option, Some, None, Ok, Err, IfOk, OnOk, OnErr, IsSomeAnd};
+ghost use Rattle.std.specs.Option.{option_map};
+ghost use Rattle.std.specs.FinMap.{insert};
+ghost use Rattle.edge_ports.specs.Counts.{Rose, NotFallen};
+ghost use Rattle.edge_ports.specs.States.{IsListed};
+ghost use Rattle.edge_ports.specs.Files.{file_at, HoldsFile, LacksFile, HoldsLonger};
+ghost use Rattle.edge_ports.specs.Shelves.{empty_shelf, shelf_after};
+ghost use Rattle.edge_ports.specs.Entries.{files_of};
+
+use crate::plan::{Plan, count_on};
+use crate::{Bytes, FetchFault, Keeper, Memory};
+use std::alloc::Global;
+use std::collections::VecDeque;
+use std::marker::Model;
+
+// A name and the bytes of its file.
+#[derive(Debug, Drop)]
+pub struct Entry {
+    name: Vec<u8>,
+    bytes: Vec<u8>,
+}
+
+/// A keeper in memory, some of whose calls may be asked to fail.
+#[derive(Debug, Drop)]
+pub struct Shelf {
+    alloc: Global,
+    entries: VecDeque<Entry>,
+    plan: Plan,
+    misses: u64,
+    overs: u64,
+}
+
+impl Model for Shelf {
+    ghost use Rattle.edge_ports.specs.Shelves.{ShelfState, shelf_code};
+
+    ghost Value = { ShelfState };
+
+    ghost coded = { shelf_code };
+
+    ghost use Rattle.edge_ports.specs.Entries.{files_of};
+
+    ghost view = { λ s. record { files = files_of s.entries.items; plan = s.plan; misses = s.misses; overs = s.overs } };
+}
+
+impl Shelf {
+    /// A shelf with no files. `fails` lists the numbers, from 0, of the calls of `fetch` that are to fail.
+    pub fn new(alloc: Global, fails: &[u64]) -> Result<Shelf, Memory>
+        ensures { IfOk result (λ shelf. shelf ≡ empty_shelf fails.now) }
+    {
+        Ok(Shelf {
+            alloc,
+            entries: VecDeque::new(alloc),
+            plan: Plan::new(alloc, fails)?,
+            misses: 0,
+            overs: 0,
+        })
+    }
+
+    /// Puts a file of this name in the place of the one that is there, or leaves the shelf as it was where
+    /// memory is wanting.
+    pub fn put(&mut self, name: &str, bytes: &[u8]) -> Result<(), Memory>
+        ensures ok { OnOk result (self.new ≡ record self.old { files = insert self.old.files name.now bytes.now }) }
+        ensures err { OnErr result (self.new ≡ self.old) }
+    {
+        let name = name.as_bytes().to_vec(self.alloc)?;
+        let bytes = bytes.to_vec(self.alloc)?;
+        self.entries.push_front(Entry { name, bytes })?;
+        Ok(())
+    }
+}
+
+// The bytes of the newest entry of this name.
+#[tactic(auto, using(crate::proofs::ShelfLemmas::file_at_newest, crate::proofs::ShelfLemmas::file_at_none))]
+fn find<'a>(entries: &'a VecDeque<Entry>, name: &[u8]) -> Option<&'a [u8]>
+    ensures { option_map (λ bytes. bytes.now) result ≡ file_at (files_of entries.now.items) name.now }
+{
+    for entry in entries {
+        if entry.name.as_slice() == name {
+            return Some(entry.bytes.as_slice());
+        }
+    }
+    None
+}
+
+// A copy of the bytes of this file, if they are at most `limit`.
+fn fetched(alloc: Global, bytes: Option<&[u8]>, limit: u64) -> Result<Bytes, FetchFault>
+    ensures found { IfOk result (λ copy. (option_map (λ b. b.now) bytes.entry ≡ Some copy) × (length copy ≤ limit)) }
+    ensures absent { (result ≡ Err FetchFault.Absent) ↔ (option_map (λ b. b.now) bytes.entry ≡ None) }
+    ensures over { (result ≡ Err (FetchFault.TooLong limit)) ↔
+        IsSomeAnd (option_map (λ b. b.now) bytes.entry) (λ b. limit < length b) }
+    ensures limit { (bound : ℕ) → result ≡ Err (FetchFault.TooLong bound) → bound ≡ limit }
+    ensures not_failed { result ≡ Err FetchFault.Failed → ⊥ }
+{
+    let Some(bytes) = bytes else {
+        return Err(FetchFault::Absent);
+    };
+    if bytes.len() as u64 > limit {
+        return Err(FetchFault::TooLong(limit));
+    }
+    let mut copy = Bytes::new(alloc);
+    match copy.append(bytes) {
+        Ok(()) => Ok(copy),
+        Err(_) => Err(FetchFault::Memory),
+    }
+}
+
+impl Keeper for Shelf {
+    ghost files = { λ s. Some s.files };
+
+    ghost faults = { λ s. s.plan.faults };
+
+    ghost misses = { λ s. s.misses };
+
+    ghost overs = { λ s. s.overs };
+
+    /// Fails exactly where the call is listed. Else the file is absent exactly where there is none of that
+    /// name, and too long exactly where it has more than `limit` bytes.
+    fn fetch(&mut self, alloc: Global, name: &str, limit: u64) -> Result<Bytes, FetchFault>
+        ensures listed { (result ≡ Err FetchFault.Failed) ↔ IsListed self.old.plan }
+        ensures lacking { (result ≡ Err FetchFault.Absent) ↔
+            ((IsListed self.old.plan → ⊥) × (file_at self.old.files name.now ≡ None)) }
+        ensures over { (result ≡ Err (FetchFault.TooLong limit)) ↔
+            ((IsListed self.old.plan → ⊥) × IsSomeAnd (file_at self.old.files name.now) (λ bytes. limit < length bytes)) }
+        ensures copy { IfOk result (λ bytes. file_at self.old.files name.now ≡ Some bytes) }
+        ensures after { self.new ≡ shelf_after result self.old }
+        ensures fits { IfOk result (λ bytes. length bytes ≤ limit) }
+        ensures found { IfOk result (λ bytes. HoldsFile (Some self.old.files) name.now bytes) }
+        ensures absent { result ≡ Err FetchFault.Absent → LacksFile (Some self.old.files) name.now }
+        ensures absent_cause { result ≡ Err FetchFault.Absent → Rose self.old.misses self.new.misses }
+        ensures failed_cause { result ≡ Err FetchFault.Failed → Rose self.old.plan.faults self.new.plan.faults }
+        ensures too_long { (bound : ℕ) → result ≡ Err (FetchFault.TooLong bound) → (bound ≡ limit)
+            × HoldsLonger (Some self.old.files) name.now limit }
+        ensures too_long_cause { (bound : ℕ) → result ≡ Err (FetchFault.TooLong bound) → Rose self.old.overs self.new.overs }
+        ensures files { Some self.new.files ≡ Some self.old.files }
+        ensures faults { NotFallen self.old.plan.faults self.new.plan.faults }
+        ensures misses { NotFallen self.old.misses self.new.misses }
+        ensures overs { NotFallen self.old.overs self.new.overs }
+    {
+        let failed = self.plan.is_listed();
+        self.plan.count(failed);
+        if failed {
+            return Err(FetchFault::Failed);
+        }
+        match fetched(alloc, find(&self.entries, name.as_bytes()), limit) {
+            Ok(copy) => Ok(copy),
+            Err(FetchFault::Absent) => {
+                self.misses = count_on(self.misses);
+                Err(FetchFault::Absent)
+            }
+            Err(FetchFault::TooLong(bound)) => {
+                self.overs = count_on(self.overs);
+                Err(FetchFault::TooLong(bound))
+            }
+            Err(FetchFault::Failed) => Err(FetchFault::Failed),
+            Err(FetchFault::Memory) => Err(FetchFault::Memory),
+        }
+    }
+}

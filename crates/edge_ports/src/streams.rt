@@ -1,0 +1,118 @@
+// std's readers and writers as ports. They tell nothing of their bytes.
+ghost use Rattle.std.specs.Prelude.{◌≡◌, ◌<◌, ◌≤◌, length, take, IfOk};
+ghost use Rattle.std.specs.Io.KnownBytes.{Appends};
+
+use crate::plan::count_on;
+use crate::{Failed, Sink, Source};
+use std::io::{Read, Write};
+
+/// A reader as a source. It tells nothing of its bytes, and counts each error.
+#[derive(Debug, Drop)]
+pub struct StdSource<R> {
+    reader: R,
+    faults: u64,
+}
+
+impl<R: Read> StdSource<R> {
+    /// The reader, which has not failed yet.
+    pub fn new(reader: R) -> StdSource<R>
+        ensures { ⟦<StdSource<R> as Source>⟧.faults result ≡ 0 }
+    {
+        StdSource { reader, faults: 0 }
+    }
+}
+
+impl<R: Read> Source for StdSource<R> {
+    ghost use Rattle.std.specs.Prelude.{◌≡◌, ◌≤◌, ◌<◌, Ok, None, length, take, IfOk, OnErr};
+    ghost use Rattle.std.specs.Io.KnownBytes.{ReadConsumes, IsAtEnd};
+    ghost use Rattle.edge_ports.specs.Counts.{Rose, NotFallen};
+    ghost use Rattle.edge_ports.specs.Told.{TookAll};
+    ghost use Rattle.edge_ports.specs.Streams.{reader_left};
+
+    ghost left = { λ _. None };
+
+    ghost faults = { λ s. s.faults };
+
+    /// One read, as std says of the reader.
+    fn take(&mut self, room: &mut [u8]) -> Result<usize, Failed>
+        requires { 0 < length room.old }
+        ensures read { ReadConsumes (reader_left R.remaining self.old) (reader_left R.remaining self.new) result room.new }
+        ensures count { IfOk result (λ n. n ≤ length room.new) }
+        ensures moved { IfOk result (λ n. TookAll None None (take n room.new)) }
+        ensures end { result ≡ Ok 0 → IsAtEnd None }
+        ensures cause { OnErr result (Rose self.old.faults self.new.faults) }
+        ensures faults { NotFallen self.old.faults self.new.faults }
+    {
+        match self.reader.read(room) {
+            Ok(count) => Ok(count),
+            Err(_) => {
+                self.faults = count_on(self.faults);
+                Err(Failed)
+            }
+        }
+    }
+}
+
+/// A writer as a sink, which is flushed after each piece. It tells nothing of its bytes, and counts each
+/// error. A writer that takes nothing of a piece has failed.
+#[derive(Debug, Drop)]
+pub struct StdSink<W> {
+    writer: W,
+    faults: u64,
+}
+
+impl<W: Write> StdSink<W> {
+    /// The writer, which has not failed yet.
+    pub fn new(writer: W) -> StdSink<W>
+        ensures { ⟦<StdSink<W> as Sink>⟧.faults result ≡ 0 }
+    {
+        StdSink { writer, faults: 0 }
+    }
+}
+
+// Writes from the front of the piece and flushes, and answers how many bytes were written.
+fn write_flushed<W: Write>(writer: &mut W, piece: &[u8]) -> Result<usize, Failed>
+    ensures some { IfOk result (λ n. 0 < n) }
+    ensures count { IfOk result (λ n. n ≤ length piece.now) }
+    ensures wrote { IfOk result (λ n. Appends (W.contents writer.old) (W.contents writer.new) (take n piece.now)) }
+{
+    match writer.write(piece) {
+        Ok(0) => Err(Failed),
+        Ok(count) => match writer.flush() {
+            Ok(()) => Ok(count),
+            Err(_) => Err(Failed),
+        },
+        Err(_) => Err(Failed),
+    }
+}
+
+impl<W: Write> Sink for StdSink<W> {
+    ghost use Rattle.std.specs.Prelude.{◌≡◌, ◌≤◌, ◌<◌, None, length, take, IfOk, OnErr};
+    ghost use Rattle.std.specs.Io.KnownBytes.{Appends};
+    ghost use Rattle.edge_ports.specs.Counts.{Rose, NotFallen};
+    ghost use Rattle.edge_ports.specs.Told.{GaveAll};
+    ghost use Rattle.edge_ports.specs.Streams.{writer_holds};
+
+    ghost given = { λ _. None };
+
+    ghost faults = { λ s. s.faults };
+
+    /// One write and a flush, as std says of the writer.
+    fn give(&mut self, piece: &[u8]) -> Result<usize, Failed>
+        requires { 0 < length piece.now }
+        ensures wrote { IfOk result (λ n. Appends (writer_holds W.contents self.old) (writer_holds W.contents self.new) (take n piece.now)) }
+        ensures count { IfOk result (λ n. n ≤ length piece.now) }
+        ensures some { IfOk result (λ n. 0 < n) }
+        ensures gave { IfOk result (λ n. GaveAll None None (take n piece.now)) }
+        ensures cause { OnErr result (Rose self.old.faults self.new.faults) }
+        ensures faults { NotFallen self.old.faults self.new.faults }
+    {
+        match write_flushed(&mut self.writer, piece) {
+            Ok(count) => Ok(count),
+            Err(failed) => {
+                self.faults = count_on(self.faults);
+                Err(failed)
+            }
+        }
+    }
+}
