@@ -1,0 +1,23 @@
+-- Frames, made and removed a cell at a time.
+use Rattle.std.proofs.Common.{◌≡◌, ℕ, suc, ◌+◌, List, [], ◌∷◌, sym, ap, subst, ◌∙◌, replicate, arith}
+use Rattle.std.proofs.lemmas.List.{take-replicate}
+use Rattle.std.proofs.Math.ListN.{set}
+use Rattle.std.specs.Ordering.{nat_cmp}
+use Rattle.std.specs.FinMap.{FinMap, insert, remove}
+use Rattle.cell_value.specs.declared.values.Value.{Value}
+use Rattle.cell_value.specs.declared.values.Value.TheVariants.{Undefined, Nil}
+use Rattle.core_program.specs.Run.{frame_cells, framed, unframed}
+
+pub no_cells : (n : ℕ) → n ≡ 0 → [] ≡ frame_cells n []
+no_cells n e = ap (λ k. frame_cells k []) (sym e)
+
+pub first_cells : (n k : ℕ) → n ≡ suc k → set (replicate n Undefined) 0 Nil ≡ frame_cells n []
+first_cells n k e = subst (λ n. set (replicate n Undefined) 0 Nil ≡ frame_cells n []) (sym e) (ap (λ vs. Nil ∷ vs) (sym (take-replicate k (suc k) Undefined (omega arith))))
+
+-- one cell more is removed
+pub unframed_more : (base i n k : ℕ) (m : FinMap nat_cmp Value) → n ≡ suc k → unframed (base + i) n m ≡ unframed (base + (i + 1)) k (remove m (base + i))
+unframed_more base i n k m e = ap (λ j. unframed (base + i) j m) e ∙ ap (λ a. unframed a k (remove m (base + i))) (omega arith)
+
+-- one cell more is made
+pub framed_more : (base i : ℕ) (vs rest : List Value) (v : Value) (m : FinMap nat_cmp Value) → vs ≡ v ∷ rest → framed (base + i) vs m ≡ framed (base + (i + 1)) rest (insert m (base + i) v)
+framed_more base i vs rest v m e = ap (λ us. framed (base + i) us m) e ∙ ap (λ a. framed a rest (insert m (base + i) v)) (omega arith)

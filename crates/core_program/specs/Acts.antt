@@ -1,0 +1,34 @@
+-- What the code's acts do to a machine.
+use Rattle.std.specs.Prelude.{◌≡◌, List, ◌++◌, Result, Ok, Err}
+use Rattle.cell_value.specs.declared.entries.Touch.{Touch}
+use Rattle.core_program.specs.declared.machine.Machine.{Machine}
+use Rattle.core_program.specs.declared.machine.Halt.{Halt}
+use Rattle.core_program.specs.declared.machine.Halt.TheVariants.{Why, NoMemory}
+use Rattle.core_program.specs.declared.machine.Trouble.{Trouble}
+use Rattle.core_program.specs.State.{State, Done, Went, Stops}
+
+-- a state, and the log so far
+pub record Moment : Type 0 where
+  pub state : State
+  pub log : List Touch
+
+-- what a machine stands for
+abbrev pub state_of : Machine → State
+state_of m = record { cells = m.store; top = m.top; steps = m.steps; calls = m.calls; depth = m.depth }
+
+abbrev pub moment_of : Machine → Moment
+moment_of m = record { state = state_of m; log = m.log.items }
+
+-- the act was done, with this answer
+abbrev pub WentSo : {A : Type 0} → Done A → A → Moment → Moment → Type 0
+WentSo {A} did x old new = (w : List Touch) × (did ≡ Went x w new.state) × (new.log ≡ old.log ++ w)
+
+-- the act was not done, for this reason
+abbrev pub StoppedSo : {A : Type 0} → Done A → Trouble → Moment → Moment → Type 0
+StoppedSo did why old new = (did ≡ Stops why new.state) × (new.log ≡ old.log)
+
+-- a call on the machine is the act, unless memory runs out
+abbrev pub Does : {A X : Type 0} → (X → A) → Done A → Result X Halt → Moment → Moment → Type 0
+Does seen did (Ok x) old new = WentSo did (seen x) old new
+Does seen did (Err (Why why)) old new = StoppedSo did why old new
+Does seen did (Err NoMemory) old new = Unit {0}

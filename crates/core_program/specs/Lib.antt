@@ -1,0 +1,10 @@
+pub mod Tables
+pub mod State
+pub mod Acts
+pub mod Actions
+pub mod Statements
+pub mod Tree
+pub mod Layer
+pub mod Run
+pub mod Laws
+pub mod Plain

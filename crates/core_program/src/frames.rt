@@ -1,0 +1,64 @@
+//! Frames of calls.
+ghost use Rattle.std.specs.Prelude.{◌≡◌, [], ◌∷◌, ◌≤◌, ◌<◌, ◌+◌, ◌^◌, length, IfOk, OnOk};
+ghost use Rattle.core_program.specs.Acts.{moment_of, state_of};
+ghost use Rattle.core_program.specs.Run.{frame_cells, framed, stack_end, unframed, with_frame, without_frame};
+
+use crate::machine::Machine;
+use crate::store::Store;
+use cell_value::{Memory, Value};
+use std::alloc::Global;
+
+/// The cells of a frame of so many cells with no parameters.
+fn first_values(alloc: Global, cells: u32) -> Result<Vec<Value>, Memory>
+    ensures { IfOk result (λ v. v.items ≡ frame_cells cells []) }
+{
+    if cells == 0 {
+        return Ok(Vec::new(alloc));
+    }
+    let mut values = vec![in alloc; Value::Undefined; cells as usize]?;
+    values[0] = Value::Nil;
+    Ok(values)
+}
+
+/// Makes cells with these values from an address on.
+fn put_all(store: &mut Store, base: u32, values: &[Value]) -> Result<(), Memory>
+    requires { base + length values.now < 2 ^ 32 }
+    ensures { OnOk result (store.new ≡ framed base values.now store.old) }
+{
+    for (i, value) in values.iter().enumerate() {
+        store.put(base + i as u32, *value)?;
+    }
+    Ok(())
+}
+
+/// Removes so many cells from an address on.
+fn remove_all(store: &mut Store, base: u32, cells: u32)
+    requires { base + cells < 2 ^ 32 }
+    ensures { store.new ≡ unframed base cells store.old }
+{
+    for i in 0..cells {
+        store.remove(base + i);
+    }
+}
+
+/// Makes a frame of so many cells at the machine's top, with a step for each cell.
+pub fn make_frame(alloc: Global, machine: &mut Machine, cells: u32) -> Result<(), Memory>
+    requires room { machine.old.top + cells ≤ stack_end }
+    requires paid { cells ≤ machine.old.steps }
+    ensures made { OnOk result (moment_of machine.new ≡ record { state = with_frame cells [] (state_of machine.old); log = machine.old.log.items }) }
+{
+    let values = first_values(alloc, cells)?;
+    put_all(&mut machine.store, machine.top, &values)?;
+    machine.top += cells;
+    machine.steps -= cells;
+    Ok(())
+}
+
+/// Removes the frame of so many cells at a base, which is the last one.
+pub fn remove_frame(machine: &mut Machine, base: u32, cells: u32)
+    requires { base + cells ≤ stack_end }
+    ensures removed { moment_of machine.new ≡ record { state = without_frame base cells (state_of machine.old); log = machine.old.log.items } }
+{
+    remove_all(&mut machine.store, base, cells);
+    machine.top = base;
+}

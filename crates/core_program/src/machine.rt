@@ -1,0 +1,112 @@
+//! A run's state with the log so far, and the acts on it.
+ghost use Rattle.std.specs.Prelude.{◌≡◌, ◌+◌, OnOk};
+ghost use Rattle.core_program.specs.Acts.{Does, moment_of, state_of};
+ghost use Rattle.core_program.specs.State.{ReadCell, Spend, WriteCell, perform};
+
+use crate::store::Store;
+use cell_value::{Kind, Touch, Value, Which};
+use std::alloc::{AllocError, AllocFailed};
+
+/// Why a run stops for good.
+#[derive(Clone, Copy, Debug, PartialEq, Eq)]
+pub enum Trouble {
+    /// A fault, and the line on which the first token of the statement at work stands.
+    Fault(Kind, u32),
+    /// An act needed more steps than were left.
+    OutOfSteps,
+    /// A limit of the run was reached.
+    Limited(Which),
+    /// The tables name a row or a routine that they do not have.
+    NoRow,
+}
+
+/// Why an act was not done.
+#[derive(Clone, Copy, Debug, PartialEq, Eq)]
+pub enum Halt {
+    /// The run stops.
+    Why(Trouble),
+    /// There was no memory for the act. What the machine holds then is left open.
+    NoMemory,
+}
+
+impl From<AllocError> for Halt {
+    ghost use Rattle.core_program.specs.declared.machine.Halt.TheVariants.{NoMemory};
+
+    ghost from_gives = { λ _ e. e ≡ NoMemory };
+
+    fn from(_: AllocError) -> Self {
+        Halt::NoMemory
+    }
+}
+
+impl<T: Drop> From<AllocFailed<T>> for Halt {
+    ghost use Rattle.core_program.specs.declared.machine.Halt.TheVariants.{NoMemory};
+
+    ghost from_gives = { λ _ e. e ≡ NoMemory };
+
+    fn from(_: AllocFailed<T>) -> Self {
+        Halt::NoMemory
+    }
+}
+
+/// A state, and the log so far.
+#[derive(Drop)]
+pub struct Machine {
+    /// The cells, by their addresses.
+    pub store: Store,
+    /// The first free address of the stack.
+    pub top: u32,
+    /// The steps that are left.
+    pub steps: u32,
+    /// The calls entered so far.
+    pub calls: u32,
+    /// The calls that are open.
+    pub depth: u32,
+    pub log: Vec<Touch>,
+}
+
+/// Takes a step.
+pub fn spend(machine: &mut Machine) -> Result<(), Halt>
+    ensures act { Does (λ _. tt) (perform Spend (state_of machine.old)) result (moment_of machine.old) (moment_of machine.new) }
+{
+    if machine.steps == 0 {
+        return Err(Halt::Why(Trouble::OutOfSteps));
+    }
+    machine.steps -= 1;
+    Ok(())
+}
+
+/// Takes a step and reads the cell at this address, in a statement on this line.
+pub fn read_cell(machine: &mut Machine, line: u32, addr: u32) -> Result<Value, Halt>
+    ensures act { Does (λ x. x) (perform (ReadCell line addr) (state_of machine.old)) result (moment_of machine.old) (moment_of machine.new) }
+{
+    match machine.store.get(addr) {
+        None => Err(Halt::Why(Trouble::Fault(Kind::Undefined, line))),
+        Some(value) => {
+            if machine.steps == 0 {
+                return Err(Halt::Why(Trouble::OutOfSteps));
+            }
+            machine.log.push(Touch::Read(addr, value))?;
+            machine.steps -= 1;
+            Ok(value)
+        }
+    }
+}
+
+/// Takes a step and writes the cell at this address, in a statement on this line.
+pub fn write_cell(machine: &mut Machine, line: u32, addr: u32, value: Value) -> Result<(), Halt>
+    ensures act { Does (λ _. tt) (perform (WriteCell line addr value) (state_of machine.old)) result (moment_of machine.old) (moment_of machine.new) }
+{
+    match machine.store.get(addr) {
+        None => Err(Halt::Why(Trouble::Fault(Kind::Undefined, line))),
+        Some(_) => {
+            if machine.steps == 0 {
+                return Err(Halt::Why(Trouble::OutOfSteps));
+            }
+            machine.store.put(addr, value)?;
+            machine.log.push(Touch::Write(addr, value))?;
+            machine.steps -= 1;
+            Ok(())
+        }
+    }
+}
