@@ -1,0 +1,5 @@
+//! Tests of the whole command over a keeper, a console and a screen in memory.
+#![tactic(auto)]
+
+#[cfg(test)]
+mod tests;

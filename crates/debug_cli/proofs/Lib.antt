@@ -1,0 +1,15 @@
+pub mod Words
+pub mod Fronts
+pub mod Placed
+pub mod Lists
+pub mod Named
+pub mod Begins
+pub mod Sound
+pub mod Whole
+pub mod Parsed
+pub mod Halted
+pub mod Talk
+pub mod Opened
+pub mod Lines
+pub mod Fetched
+pub mod Codes

@@ -1,0 +1,84 @@
+-- What is printed of a call, and of the state of the search.
+use Rattle.std.specs.Prelude.{ℕ, List, [], ◌++◌, codes, decimal}
+use Rattle.cell_value.specs.declared.ways_out.Kind.{Kind}
+use Rattle.cell_value.specs.declared.ways_out.Kind.TheVariants as kind
+use Rattle.cell_value.specs.declared.ways_out.Which.{Which}
+use Rattle.cell_value.specs.declared.ways_out.Which.TheVariants as which
+use Rattle.cell_value.specs.declared.ways_out.WayOut.{WayOut}
+use Rattle.cell_value.specs.declared.ways_out.WayOut.TheVariants as way
+use Rattle.edge_ports.specs.declared.ports.FetchFault.{FetchFault}
+use Rattle.edge_ports.specs.declared.ports.FetchFault.TheVariants as fetch
+
+-- the name of a kind of fault
+abbrev pub kind_text : Kind → List ℕ
+kind_text kind.Overflow = codes "Overflow"
+kind_text kind.ZeroDivisor = codes "ZeroDivisor"
+kind_text kind.BadModulus = codes "BadModulus"
+kind_text kind.OutOfRange = codes "OutOfRange"
+kind_text kind.Undefined = codes "Undefined"
+kind_text kind.NilPointer = codes "NilPointer"
+kind_text kind.Disposed = codes "Disposed"
+kind_text kind.InactiveVariant = codes "InactiveVariant"
+kind_text kind.NoCase = codes "NoCase"
+kind_text kind.PastEnd = codes "PastEnd"
+kind_text kind.BadNumber = codes "BadNumber"
+kind_text kind.BadWidth = codes "BadWidth"
+kind_text kind.UndefinedResult = codes "UndefinedResult"
+
+abbrev pub limit_text : Which → List ℕ
+limit_text which.Calls = codes "calls"
+limit_text which.Depth = codes "depth"
+limit_text which.Stack = codes "stack"
+limit_text which.Heap = codes "heap"
+
+-- how a call ended, as the last words of its card
+abbrev pub way_text : WayOut → List ℕ
+way_text way.Returned = codes "returned"
+way_text (way.Jumped label base) = codes "jumped to " ++ decimal label
+way_text (way.Faulted k line) = codes "faulted " ++ kind_text k ++ codes " line " ++ decimal line
+way_text way.OutOfSteps = codes "out of steps"
+way_text (way.Limited w) = codes "limited " ++ limit_text w
+
+-- a line behind the first one of a card
+abbrev pub inner_line : List ℕ → List ℕ
+inner_line text = codes "  " ++ text ++ codes "\n"
+
+-- the line that begins the card of call 0, after the routine's name
+abbrev pub first_line : List ℕ → List ℕ
+first_line name = codes "call 0 " ++ name ++ codes "\n"
+
+-- the card of call 0
+abbrev pub card : List ℕ → WayOut → List ℕ
+card name w = first_line name ++ inner_line (way_text w)
+
+-- the report where call 0 is found, which is judged wrong from the start
+abbrev pub found_report : List ℕ → WayOut → List ℕ
+found_report name w = codes "found " ++ first_line name ++ inner_line (way_text w)
+
+-- what a session opens with: the card of call 0, and the report
+unfoldable pub opening : List ℕ → WayOut → List ℕ
+opening name w = card name w ++ found_report name w
+
+-- the lines of refusals
+abbrev pub usage_line : List ℕ
+usage_line = codes "usage: pasask SOURCE [--input F] [--budget N] [--load F]\n"
+
+abbrev pub absent_line : List ℕ → List ℕ
+absent_line name = codes "file: absent " ++ name ++ codes "\n"
+
+abbrev pub failed_line : List ℕ → List ℕ
+failed_line name = codes "file: failed " ++ name ++ codes "\n"
+
+abbrev pub too_long_line : List ℕ → List ℕ
+too_long_line name = codes "file: too long " ++ name ++ codes "\n"
+
+-- the line on a file that could not be fetched
+abbrev pub file_line : FetchFault → List ℕ → List ℕ
+file_line fetch.Absent name = absent_line name
+file_line fetch.Failed name = failed_line name
+file_line (fetch.TooLong limit) name = too_long_line name
+file_line fetch.Memory name = []
+
+-- a source that is no program of the language, at a place of it
+abbrev pub refused_line : (line byte : ℕ) → List ℕ
+refused_line line byte = codes "refused: Unbuilt, line " ++ decimal line ++ codes ", byte " ++ decimal byte ++ codes "\n"

@@ -1,0 +1,311 @@
+//! The parser of small programs.
+ghost use Rattle.std.specs.Prelude.{◌≡◌, ◌+◌, ◌≤◌, ◌<◌, ℕ, List, [], ◌++◌, ◌∷◌, drop, length, IfOk, OnOk, IsTrue, MatchResult, Some, slice_get};
+ghost use Rattle.pas_lexer.specs.Lexed.{Lexed};
+ghost use Rattle.debug_cli.specs.declared.terminals.Fixed.TheVariants as fixed;
+ghost use Rattle.debug_cli.specs.declared.small.SmallFault.TheVariants.{Memory};
+ghost use Rattle.debug_cli.specs.Names.{Tabled};
+ghost use Rattle.debug_cli.specs.Small.{pieces, piece_of, is_required, Piece, Small, IsSmall, program_of};
+ghost use Rattle.debug_cli.specs.Reading.{IsFront, fixed_at, fixed_next, name_at, number_at, integer_at, new_name, known_name, constant_at, sum_at, value_at, step_at, all_further, names_at, variables_at, steps_at, body_at, heading_at, small_at, Gives, GivesPlace, Skips, Declared, NamesRead, VariablesRead, IsThat};
+
+use crate::names::Names;
+use crate::required::is_required_name;
+use crate::terminals::{Fixed, is_fixed};
+use core_program::{Expression, Program, Routine, Row, Statement};
+use pas_lexer::{Kind, Token, Tokens};
+use std::alloc::{AllocError, AllocFailed, Global};
+use thiserror::Error;
+
+/// Why tokens are no small program.
+#[derive(Debug, Drop, Error)]
+pub enum SmallFault {
+    /// No small program goes on with the token of this number.
+    #[error("token {0} is not built")]
+    Unbuilt(u32),
+    #[error("out of memory")]
+    Memory,
+}
+
+impl From<AllocError> for SmallFault {
+    ghost from_gives = { λ _ e. e ≡ Memory };
+
+    fn from(_e: AllocError) -> SmallFault {
+        SmallFault::Memory
+    }
+}
+
+impl<T: Drop> From<AllocFailed<T>> for SmallFault {
+    ghost from_gives = { λ _ e. e ≡ Memory };
+
+    fn from(_e: AllocFailed<T>) -> SmallFault {
+        SmallFault::Memory
+    }
+}
+
+/// The token at this place, if one is there.
+fn peek(tokens: &Tokens, at: u32) -> Option<Token>
+    ensures { IsFront tokens.now at result }
+{
+    if at < tokens.len() {
+        Some(tokens.at(at))
+    } else {
+        None
+    }
+}
+
+/// The place behind that token, if it stands at this place.
+fn skip(tokens: &Tokens, at: u32, which: Fixed) -> Option<u32>
+    ensures { Skips (pieces tokens.now) at which result }
+{
+    let token = peek(tokens, at)?;
+    if is_fixed(which, token.kind) {
+        Some(at + 1)
+    } else {
+        None
+    }
+}
+
+/// The place behind that token, which stands at this place.
+fn expect(tokens: &Tokens, at: u32, which: Fixed) -> Result<u32, SmallFault>
+    ensures gives { GivesPlace (pieces tokens.now) result (fixed_at which (drop at (pieces tokens.now))) }
+    ensures forward { IfOk result (λ after. at < after) }
+{
+    match skip(tokens, at, which) {
+        Some(after) => Ok(after),
+        None => Err(SmallFault::Unbuilt(at)),
+    }
+}
+
+/// A name: its token, and the place behind it.
+fn read_name(tokens: &Tokens, at: u32) -> Result<(Token, u32), SmallFault>
+    ensures gives { Gives (pieces tokens.now) (piece_of tokens.now.source) result (name_at (drop at (pieces tokens.now))) }
+    ensures there { IfOk result (λ x. slice_get tokens.now.tokens at ≡ Some x.0) }
+    ensures inside { IfOk result (λ x. at < length tokens.now.tokens) }
+    ensures forward { IfOk result (λ x. at < x.1) }
+{
+    match peek(tokens, at) {
+        Some(token) => match token.kind {
+            Kind::Name => Ok((token, at + 1)),
+            _ => Err(SmallFault::Unbuilt(at)),
+        },
+        None => Err(SmallFault::Unbuilt(at)),
+    }
+}
+
+/// A number: its value, and the place behind it.
+fn read_number(tokens: &Tokens, at: u32) -> Result<(u32, u32), SmallFault>
+    ensures gives { Gives (pieces tokens.now) (λ n. n) result (number_at (drop at (pieces tokens.now))) }
+    ensures forward { IfOk result (λ x. at < x.1) }
+{
+    match peek(tokens, at) {
+        Some(token) => match token.kind {
+            Kind::Number(value) => Ok((value, at + 1)),
+            _ => Err(SmallFault::Unbuilt(at)),
+        },
+        None => Err(SmallFault::Unbuilt(at)),
+    }
+}
+
+/// The name `integer`: the place behind it.
+fn expect_integer(tokens: &Tokens, at: u32) -> Result<u32, SmallFault>
+    ensures gives { GivesPlace (pieces tokens.now) result (integer_at (drop at (pieces tokens.now))) }
+    ensures forward { IfOk result (λ after. at < after) }
+{
+    let (_, after) = read_name(tokens, at)?;
+    if tokens.spelling(at) == b"integer".as_slice() {
+        Ok(after)
+    } else {
+        Err(SmallFault::Unbuilt(at))
+    }
+}
+
+/// A name that is new, which is declared: the place behind it.
+fn declare_name<'a>(tokens: &'a Tokens, at: u32, names: &mut Names<'a>) -> Result<u32, SmallFault>
+    ensures gives { (found : List (List ℕ)) → Tabled found names.old.places names.old.cells
+        → Declared (pieces tokens.now) found names.new result (new_name found (drop at (pieces tokens.now))) }
+    ensures forward { IfOk result (λ after. at < after) }
+{
+    let (_, after) = read_name(tokens, at)?;
+    let spelling = tokens.spelling(at);
+    if is_required_name(spelling) || names.place(spelling).is_some() {
+        return Err(SmallFault::Unbuilt(at));
+    }
+    names.declare(spelling)?;
+    Ok(after)
+}
+
+/// A declared name: its place in the frame and its line, and the place behind it.
+fn known(tokens: &Tokens, at: u32, names: &Names) -> Result<((u32, u32), u32), SmallFault>
+    ensures gives { (found : List (List ℕ)) → Tabled found names.now.places names.now.cells
+        → Gives (pieces tokens.now) (λ x. x) result (known_name found (drop at (pieces tokens.now))) }
+    ensures forward { IfOk result (λ x. at < x.1) }
+{
+    let (token, after) = read_name(tokens, at)?;
+    match names.place(tokens.spelling(at)) {
+        Some(place) => Ok(((place, token.line), after)),
+        None => Err(SmallFault::Unbuilt(at)),
+    }
+}
+
+/// What is assigned: the expression, and the place behind it.
+#[tactic(auto, unfolding(crate::specs::Reading::value_at))]
+fn read_value(tokens: &Tokens, at: u32, names: &Names) -> Result<(Expression, u32), SmallFault>
+    ensures gives { (found : List (List ℕ)) → Tabled found names.now.places names.now.cells
+        → Gives (pieces tokens.now) (λ x. x) result (value_at found (drop at (pieces tokens.now))) }
+    ensures forward { IfOk result (λ x. at < x.1) }
+{
+    match peek(tokens, at) {
+        None => Err(SmallFault::Unbuilt(at)),
+        Some(token) => match token.kind {
+            Kind::Name => read_sum(tokens, at, names),
+            _ => read_constant(tokens, at),
+        },
+    }
+}
+
+/// A variable plus a constant, and the place behind them.
+fn read_sum(tokens: &Tokens, at: u32, names: &Names) -> Result<(Expression, u32), SmallFault>
+    ensures gives { (found : List (List ℕ)) → Tabled found names.now.places names.now.cells
+        → Gives (pieces tokens.now) (λ x. x) result (sum_at found (drop at (pieces tokens.now))) }
+    ensures forward { IfOk result (λ x. at < x.1) }
+{
+    let ((variable, _), after) = known(tokens, at, names)?;
+    let after = expect(tokens, after, Fixed::Plus)?;
+    let (number, after) = read_number(tokens, after)?;
+    Ok((Expression::Sum { variable, number }, after))
+}
+
+/// A constant, and the place behind it.
+fn read_constant(tokens: &Tokens, at: u32) -> Result<(Expression, u32), SmallFault>
+    ensures gives { Gives (pieces tokens.now) (λ x. x) result (constant_at (drop at (pieces tokens.now))) }
+    ensures forward { IfOk result (λ x. at < x.1) }
+{
+    let (number, after) = read_number(tokens, at)?;
+    Ok((Expression::Number(number), after))
+}
+
+/// A step: its row, and the place behind it.
+#[tactic(auto, unfolding(crate::specs::Reading::step_at))]
+fn read_step(tokens: &Tokens, at: u32, names: &Names) -> Result<(Row, u32), SmallFault>
+    ensures gives { (found : List (List ℕ)) → Tabled found names.now.places names.now.cells
+        → Gives (pieces tokens.now) (λ x. x) result (step_at found (drop at (pieces tokens.now))) }
+    ensures forward { IfOk result (λ x. at < x.1) }
+{
+    let ((target, line), after) = known(tokens, at, names)?;
+    let after = expect(tokens, after, Fixed::Becomes)?;
+    let (value, after) = read_value(tokens, after, names)?;
+    let statement = Statement::Assign { target, value };
+    Ok((Row { line, statement }, after))
+}
+
+/// Names, parted by commas, which are declared: the place behind them.
+fn declare_names<'a>(tokens: &'a Tokens, at: u32, names: &mut Names<'a>) -> Result<u32, SmallFault>
+    ensures { Tabled [] names.old.places names.old.cells → NamesRead (pieces tokens.now) names.new result (names_at (drop at (pieces tokens.now))) }
+{
+    let mut next = declare_name(tokens, at, names)?;
+    'names: while let Some(after) = skip(tokens, next, Fixed::Comma) {
+        next = declare_name(tokens, after, names)?;
+    }
+    Ok(next)
+}
+
+/// The variable part, where there is one: the names, and the place behind it.
+#[tactic(auto, unfolding(crate::specs::Reading::variables_at))]
+fn read_variables(alloc: Global, tokens: &Tokens, at: u32) -> Result<(Names, u32), SmallFault>
+    ensures { VariablesRead (pieces tokens.now) result (variables_at (drop at (pieces tokens.now))) }
+{
+    let mut names = Names::new(alloc);
+    let Some(after) = skip(tokens, at, Fixed::Var) else {
+        return Ok((names, at));
+    };
+    let after = declare_names(tokens, after, &mut names)?;
+    let after = expect(tokens, after, Fixed::Colon)?;
+    let after = expect_integer(tokens, after)?;
+    let after = expect(tokens, after, Fixed::Semicolon)?;
+    Ok((names, after))
+}
+
+/// Steps, parted by semicolons: a program of their rows, and the place behind them.
+fn read_steps(
+    alloc: Global,
+    tokens: &Tokens,
+    at: u32,
+    names: &Names,
+) -> Result<(Program, u32), SmallFault>
+    ensures gives { (found : List (List ℕ)) → Tabled found names.now.places names.now.cells
+        → Gives (pieces tokens.now) (λ p. p.rows) result (steps_at found (drop at (pieces tokens.now))) }
+    ensures routines { IfOk result (λ x. x.0.routines ≡ []) }
+{
+    let mut program = Program::new(alloc);
+    let (row, mut next) = read_step(tokens, at, names)?;
+    program.add_row(row)?;
+    'steps: while let Some(after) = skip(tokens, next, Fixed::Semicolon) {
+        let (row, after) = read_step(tokens, after, names)?;
+        program.add_row(row)?;
+        next = after;
+    }
+    Ok((program, next))
+}
+
+/// The statement part: a program of its rows, and the place behind it.
+#[tactic(auto, unfolding(crate::specs::Reading::body_at))]
+fn read_body(
+    alloc: Global,
+    tokens: &Tokens,
+    at: u32,
+    names: &Names,
+) -> Result<(Program, u32), SmallFault>
+    ensures gives { (found : List (List ℕ)) → Tabled found names.now.places names.now.cells
+        → Gives (pieces tokens.now) (λ p. p.rows) result (body_at found (drop at (pieces tokens.now))) }
+    ensures routines { IfOk result (λ x. x.0.routines ≡ []) }
+{
+    let after = expect(tokens, at, Fixed::Begin)?;
+    let (program, after) = read_steps(alloc, tokens, after, names)?;
+    let after = expect(tokens, after, Fixed::End)?;
+    Ok((program, after))
+}
+
+/// The program's heading: the place behind it.
+#[tactic(auto, unfolding(crate::specs::Reading::heading_at))]
+fn read_heading(tokens: &Tokens) -> Result<u32, SmallFault>
+    ensures { GivesPlace (pieces tokens.now) result (heading_at (pieces tokens.now)) }
+{
+    let after = expect(tokens, 0, Fixed::Program)?;
+    let (_, after) = read_name(tokens, after)?;
+    expect(tokens, after, Fixed::Semicolon)
+}
+
+/// The program that the tokens of a source denote. `Unbuilt` names the token at which a reader of the
+/// grammar, who knows the names declared so far, cannot go on.
+#[tactic(auto, unfolding(crate::specs::Reading::small_at))]
+pub fn parse_small(alloc: Global, tokens: &Tokens) -> Result<Program, SmallFault>
+    // The tokens are a small program, and this is what it denotes.
+    ensures found { IfOk result (λ p. (s : Small) × IsSmall (pieces tokens.now) s × (p ≡ program_of s)) }
+    // Each small program that the tokens are gives this answer, unless memory runs out.
+    ensures only { (s : Small) → IsSmall (pieces tokens.now) s → IsThat (program_of s) result }
+{
+    let (program, after) = read_program(alloc, tokens)?;
+    if after < tokens.len() {
+        return Err(SmallFault::Unbuilt(after));
+    }
+    Ok(program)
+}
+
+/// A program in front of any other tokens: what it denotes, and the place behind it.
+#[tactic(auto, unfolding(crate::specs::Reading::small_at))]
+fn read_program(alloc: Global, tokens: &Tokens) -> Result<(Program, u32), SmallFault>
+    ensures { Gives (pieces tokens.now) (λ p. p) result (small_at (pieces tokens.now)) }
+{
+    let after = read_heading(tokens)?;
+    let (names, after) = read_variables(alloc, tokens, after)?;
+    let (mut program, after) = read_body(alloc, tokens, after, &names)?;
+    let after = expect(tokens, after, Fixed::Dot)?;
+    let after = expect(tokens, after, Fixed::Finish)?;
+    let count = program.rows();
+    program.add_routine(Routine {
+        name: 1,
+        cells: names.cells,
+        first: 0,
+        count,
+    })?;
+    Ok((program, after))
+}
