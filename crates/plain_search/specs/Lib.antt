@@ -1,0 +1,6 @@
+pub mod Laws
+pub mod Marks
+pub mod Numbering
+pub mod Question
+pub mod Region
+pub mod State
