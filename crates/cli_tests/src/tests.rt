@@ -150,15 +150,15 @@ fn words_and_files(rt: HostRuntime) -> Result<(), Fail> {
         (&[], &[], 2, usage),
         (&["pasask"], &[], 2, usage),
         (&["pasask", "F", "F"], &[], 2, usage),
-        (&["pasask", "G"], &[], 4, b"file: absent G\n"),
+        (&["pasask", "F"], &[], 4, b"file: absent F\n"),
         (&["pasask", ""], &[], 4, b"file: absent \n"),
         (&["pasask", "F"], &[0], 4, b"file: failed F\n"),
-        (&["pasask", "F"], &[], 4, b"file: too long F\n"),
+        (&["pasask", "G"], &[], 4, b"file: too long G\n"),
     ];
     for (given, fails, status, shown) in table {
         let words = words(alloc, given)?;
         let mut keeper = Shelf::new(alloc, fails)?;
-        keeper.put("F", longer.as_slice())?;
+        keeper.put("G", longer.as_slice())?;
         let mut console = Tape::new(alloc, b"", &[])?;
         let mut screen = Page::new(alloc, ROOM, &[])?;
         assert_eq!(rt;
@@ -210,5 +210,85 @@ fn failing_consoles(rt: HostRuntime) -> Result<(), Fail> {
         assert_eq!(rt; got.0, status);
         assert_eq!(rt; got.1.as_slice(), shown.as_slice());
     }
+    Ok(())
+}
+
+// A call in a procedure costs 13 steps here: 1 for its cell, 1 for its statement part, 9 for the sum
+// with its two links, and 2 for the statement that calls, with its link. 8 go before. So call 76,923 is
+// the last one that is entered.
+const NESTED: &[u8] =
+    b"program q; var x: integer; procedure s; begin x := x + 1; s end; begin x := 0; s end.";
+
+const ADDERS: &[u8] =
+    b"program p;\nvar x: integer;\nprocedure a; begin x := x + 1 end;\nprocedure b; begin a; a end;\nbegin x := 1; b end.\n";
+
+#[test]
+fn questions(rt: HostRuntime) -> Result<(), Fail> {
+    let alloc = rt.alloc();
+    let table: [(&[u8], &[u8], &[u8]); 8] = [
+        (
+            ADDERS,
+            b"wrong\nright\nright\nquit\n",
+            b"call 0 p\n  returned\nask 1 suspects 3 left 2\ncall 1 b in call 0\n  returned\nentry 2\nask 2 suspects 2 left 1\ncall 2 a in call 1\n  returned\nentry 3\nask 3 suspects 1 left 0\ncall 3 a in call 1\n  returned\nentry 4\nfound call 1 b\n  returned\n",
+        ),
+        (
+            ADDERS,
+            b"why\nright\nwrong\n",
+            b"call 0 p\n  returned\nask 1 suspects 3 left 2\ncall 1 b in call 0\n  returned\nnot understood\nentry 2\nfound call 0 p\n  returned\nno question\n",
+        ),
+        (
+            b"program c; var x: integer; procedure d; begin x := 1 end; procedure b; begin d end; begin b end.\n",
+            b"",
+            b"call 0 c\n  returned\nask 1 suspects 2 left 1\ncall 1 b in call 0\n  returned\n",
+        ),
+        (
+            b"program c; var x: integer; procedure e; begin x := 1 end; procedure d; begin e end; procedure b; begin d end; begin b end.\n",
+            b"wrong\nright\n",
+            b"call 0 c\n  returned\nask 2 suspects 3 left 1\ncall 2 d in call 1\n  returned\nentry 2\nask 3 suspects 1 left 0\ncall 3 e in call 2\n  returned\nentry 3\nfound call 2 d\n  returned\n",
+        ),
+        (
+            b"program r; procedure s; begin s end; begin s end.\n",
+            b"",
+            b"call 0 r\n  limited depth\nask 50000 suspects 99999 left 49999\ncall 50000 s in call 49999\n  limited depth\n",
+        ),
+        (
+            NESTED,
+            b"",
+            b"call 0 q\n  out of steps\nask 38462 suspects 76923 left 38461\ncall 38462 s in call 38461\n  out of steps\n",
+        ),
+        (
+            b"program f; var x: integer;\nprocedure a;\nbegin x := x + 1 end;\nprocedure B;\nbegin A end;\nbegin b end.",
+            b"right\n",
+            b"call 0 f\n  faulted Undefined line 3\nask 1 suspects 2 left 1\ncall 1 B in call 0\n  faulted Undefined line 3\nentry 2\nfound call 0 f\n  faulted Undefined line 3\n",
+        ),
+        (
+            b"program l; procedure b; begin c end; procedure c; begin b end; begin c end.",
+            b"",
+            b"refused: Unbuilt, line 1, byte 30\n",
+        ),
+    ];
+    for (source, console, shown) in table {
+        let tape = Tape::new(alloc, console, &[])?;
+        let got = session(alloc, source, tape, Page::new(alloc, ROOM, &[])?)?;
+        assert_eq!(rt; got.1.as_slice(), shown);
+    }
+    Ok(())
+}
+
+#[test]
+fn many_calls(rt: HostRuntime) -> Result<(), Fail> {
+    let alloc = rt.alloc();
+    let mut source = Bytes::new(alloc);
+    source.append(b"program w; var x: integer; procedure a; begin x := x + 1 end; begin x := 0")?;
+    for _ in 0..4_000 {
+        source.append(b"; a")?;
+    }
+    source.append(b" end.")?;
+    let tape = Tape::new(alloc, b"right\n", &[])?;
+    let got = session(alloc, source.as_slice(), tape, Page::new(alloc, ROOM, &[])?)?;
+    let shown =
+        b"call 0 w\n  returned\nask 1 suspects 4000 left 3999\ncall 1 a in call 0\n  returned\nentry 2\nask 2 suspects 3999 left 3998\ncall 2 a in call 0\n  returned\n".as_slice();
+    assert_eq!(rt; got.1.as_slice(), shown);
+    assert_eq!(rt; got.0, 0);
     Ok(())
 }

@@ -5,14 +5,14 @@ use Rattle.std.proofs.Math.ListN.{set}
 use Rattle.std.specs.Ordering.{nat_cmp}
 use Rattle.std.specs.FinMap.{FinMap, insert, remove}
 use Rattle.cell_value.specs.declared.values.Value.{Value}
-use Rattle.cell_value.specs.declared.values.Value.TheVariants.{Undefined, Nil}
+use Rattle.cell_value.specs.declared.values.Value.TheVariants.{Undefined}
 use Rattle.core_program.specs.Run.{frame_cells, framed, unframed}
 
-pub no_cells : (n : ℕ) → n ≡ 0 → [] ≡ frame_cells n []
-no_cells n e = ap (λ k. frame_cells k []) (sym e)
+pub no_cells : (n : ℕ) (link : Value) → n ≡ 0 → [] ≡ frame_cells n link []
+no_cells n link e = ap (λ k. frame_cells k link []) (sym e)
 
-pub first_cells : (n k : ℕ) → n ≡ suc k → set (replicate n Undefined) 0 Nil ≡ frame_cells n []
-first_cells n k e = subst (λ n. set (replicate n Undefined) 0 Nil ≡ frame_cells n []) (sym e) (ap (λ vs. Nil ∷ vs) (sym (take-replicate k (suc k) Undefined (omega arith))))
+pub first_cells : (n k : ℕ) (link : Value) → n ≡ suc k → set (replicate n Undefined) 0 link ≡ frame_cells n link []
+first_cells n k link e = subst (λ n. set (replicate n Undefined) 0 link ≡ frame_cells n link []) (sym e) (ap (λ vs. link ∷ vs) (sym (take-replicate k (suc k) Undefined (omega arith))))
 
 -- one cell more is removed
 pub unframed_more : (base i n k : ℕ) (m : FinMap nat_cmp Value) → n ≡ suc k → unframed (base + i) n m ≡ unframed (base + (i + 1)) k (remove m (base + i))

@@ -4,4 +4,8 @@ pub mod FrameCells
 pub mod More
 pub mod Total
 pub mod Whole
-pub mod Straight
+pub mod Numbers
+pub mod Forests
+pub mod Events
+pub mod Joins
+pub mod Climb

@@ -4,16 +4,17 @@ use Rattle.cell_value.specs.declared.values.Value.{Value}
 use Rattle.cell_value.specs.declared.entries.Touch.{Touch}
 use Rattle.core_program.specs.declared.tables.Routine.{Routine}
 use Rattle.core_program.specs.Tables.{Tables}
-use Rattle.core_program.specs.State.{State, Done, Went, Stops, perform}
+use Rattle.core_program.specs.State.{State, Done, Went, Stops, perform, stack_end}
 use Rattle.core_program.specs.Tree.{Out, Part, Tree, Ret, Halt, Do, Sub, Enter}
+use Rattle.core_program.specs.Statements.{block_of}
 use Rattle.core_program.specs.Layer.{layer}
-use Rattle.core_program.specs.Run.{End, Ended, Halted, Result, Rules, in_front, on_end, joined, on_done, walk, Outcome, recorded, after_all, in_frame, with_routine, call_of, plain, within, run_of, whole, with_frame, without_frame, opened, closed, stack_end}
+use Rattle.core_program.specs.Run.{End, Ended, Halted, Result, Rules, in_front, on_end, joined, on_done, walk, Outcome, recorded, after_all, in_frame, with_routine, call_of, plain, within, run_of, whole, with_frame, without_frame, opened, closed, link_of}
 
 -- what the first gives, the second gives
 pub record Less {A : Type 0} (a b : Option A) : Type 0 where
   pub gives : (r : A) → a ≡ Some r → b ≡ Some r
 
-less_none : {A : Type 0} (b : Option A) → Less None b
+pub less_none : {A : Type 0} (b : Option A) → Less None b
 less_none b = record { gives = λ r e. absurd (let x : ⊥ = cc in x) }
 
 pub less_same : {A : Type 0} (a : Option A) → Less a a
@@ -64,7 +65,7 @@ frame_less : (run run' : Tree → State → Outcome) → ((t : Tree) (σ : State
 frame_less run run' h f r args σ =
     if_less (nat_lt stack_end (σ.top + r.cells)) _ _ _ _ (less_same _)
     (if_less (nat_lt σ.steps r.cells) _ _ _ _ (less_same _)
-    (after_less (without_frame σ.top r.cells) _ _ (h (whole f σ.top) (with_frame r.cells args σ))))
+    (after_less (without_frame σ.top r.cells) _ _ (h (whole f σ.top) (with_frame r.cells (link_of (block_of f)) args σ))))
 
 routine_less : (o : Option Routine) (go go' : Routine → Outcome) (σ : State) → ((r : Routine) → Less (go r) (go' r)) → Less (with_routine o go σ) (with_routine o go' σ)
 routine_less None go go' σ h = less_same _

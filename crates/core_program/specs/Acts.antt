@@ -1,10 +1,12 @@
 -- What the code's acts do to a machine.
-use Rattle.std.specs.Prelude.{◌≡◌, List, ◌++◌, Result, Ok, Err}
+use Rattle.std.specs.Prelude.{◌≡◌, ◌<◌, List, ◌++◌, Result, Ok, Err}
 use Rattle.cell_value.specs.declared.entries.Touch.{Touch}
 use Rattle.core_program.specs.declared.machine.Machine.{Machine}
 use Rattle.core_program.specs.declared.machine.Halt.{Halt}
 use Rattle.core_program.specs.declared.machine.Halt.TheVariants.{Why, NoMemory}
 use Rattle.core_program.specs.declared.machine.Trouble.{Trouble}
+use Rattle.core_program.specs.declared.tables.Statement.{Statement}
+use Rattle.core_program.specs.declared.tables.Statement.TheVariants.{Assign, Call}
 use Rattle.core_program.specs.State.{State, Done, Went, Stops}
 
 -- a state, and the log so far
@@ -18,6 +20,15 @@ state_of m = record { cells = m.store; top = m.top; steps = m.steps; calls = m.c
 
 abbrev pub moment_of : Machine → Moment
 moment_of m = record { state = state_of m; log = m.log.items }
+
+-- one call more can be counted
+abbrev pub HasRoom : Machine → Type 0
+HasRoom m = (m.calls < 500000) × (m.depth < 100000)
+
+-- after a call statement has done what it does itself, its routine can be entered
+abbrev pub RoomAfter : Statement → Machine → Type 0
+RoomAfter (Assign target e) m = Unit {0}
+RoomAfter (Call routine) m = HasRoom m
 
 -- the act was done, with this answer
 abbrev pub WentSo : {A : Type 0} → Done A → A → Moment → Moment → Type 0

@@ -1,12 +1,15 @@
 -- What each construct does, in one layer: its own acts, and its parts by name.
-use Rattle.std.specs.Prelude.{ℕ, zero, suc, ◌+◌, Option, Some, None, slice_get}
+use Rattle.std.specs.Prelude.{ℕ, [], zero, suc, ◌+◌, Option, Some, None, slice_get}
 use Rattle.core_program.specs.declared.tables.Row.{Row}
 use Rattle.core_program.specs.declared.tables.Routine.{Routine}
+use Rattle.core_program.specs.declared.tables.Block.{Block}
+use Rattle.core_program.specs.declared.tables.Statement.{Statement}
+use Rattle.core_program.specs.declared.tables.Statement.TheVariants.{Assign, Call}
 use Rattle.core_program.specs.declared.machine.Trouble.TheVariants.{NoRow}
 use Rattle.core_program.specs.Tables.{Tables}
 use Rattle.core_program.specs.State.{Spend}
-use Rattle.core_program.specs.Tree.{Out, Normal, Jump, Part, Exec, Body, Tree, Ret, Halt, Do, Sub, doing}
-use Rattle.core_program.specs.Statements.{statement_action}
+use Rattle.core_program.specs.Tree.{Out, Normal, Jump, Part, Exec, Body, Tree, Ret, Halt, Do, Sub, Enter, doing}
+use Rattle.core_program.specs.Statements.{block_of, statement_action}
 
 -- a row or a routine that the tables do not have
 abbrev pub or_no_row : {A : Type 0} → (A → Tree) → Option A → Tree
@@ -22,19 +25,24 @@ abbrev pub spend : Tree → Tree
 spend next = Do Spend (λ _. next)
 
 -- so many statements in order, from a row on (ISO 7185, clause 6.8.3.2)
-abbrev pub in_order : (base row count : ℕ) → Tree
-in_order base row zero = Ret Normal
-in_order base row (suc n) = Sub (Exec row base) (on_normal (in_order base (row + 1) n))
+abbrev pub in_order : Block → (base row count : ℕ) → Tree
+in_order b base row zero = Ret Normal
+in_order b base row (suc n) = Sub (Exec row b base) (on_normal (in_order b base (row + 1) n))
+
+-- how a statement goes on after what it does itself: a call enters its routine
+abbrev pub afterwards : Statement → Tree
+afterwards (Assign target e) = Ret Normal
+afterwards (Call routine) = Enter routine [] Ret
 
 -- the statement of a row
-abbrev pub of_row : ℕ → Row → Tree
-of_row base r = doing (statement_action r.line base r.statement) (λ _. Ret Normal)
+abbrev pub of_row : Tables → Block → ℕ → Row → Tree
+of_row p b base r = doing (statement_action p r.line b base r.statement) (λ _. afterwards r.statement)
 
 -- the statement part of a routine, which is itself a statement and takes a step
-abbrev pub of_body : ℕ → Routine → Tree
-of_body base r = spend (in_order base r.first r.count)
+abbrev pub of_body : Block → ℕ → Routine → Tree
+of_body b base r = spend (in_order b base r.first r.count)
 
 -- what a part does, by the program's tables
 abbrev pub layer : Tables → Part → Tree
-layer p (Exec row base) = or_no_row (of_row base) (slice_get p.rows row)
-layer p (Body routine base) = or_no_row (of_body base) (slice_get p.routines routine)
+layer p (Exec row b base) = or_no_row (of_row p b base) (slice_get p.rows row)
+layer p (Body routine base) = or_no_row (of_body (block_of routine) base) (slice_get p.routines routine)

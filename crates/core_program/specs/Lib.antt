@@ -7,4 +7,6 @@ pub mod Tree
 pub mod Layer
 pub mod Run
 pub mod Laws
-pub mod Plain
+pub mod Numbering
+pub mod Rows
+pub mod Tower

@@ -3,18 +3,21 @@ use Rattle.std.specs.Prelude.{ℕ, zero, suc, ◌+◌, ◌-◌, ◌*◌, List, [
 use Rattle.std.specs.Ordering.{nat_cmp}
 use Rattle.std.specs.FinMap.{FinMap, insert, remove, empty}
 use Rattle.cell_value.specs.declared.values.Value.{Value}
-use Rattle.cell_value.specs.declared.values.Value.TheVariants.{Undefined, Nil}
+use Rattle.cell_value.specs.declared.values.Value.TheVariants.{Undefined, Nil, Frame}
 use Rattle.cell_value.specs.declared.entries.Touch.{Touch}
 use Rattle.cell_value.specs.declared.ways_out.WayOut.{WayOut}
 use Rattle.cell_value.specs.declared.ways_out.WayOut.TheVariants as way
 use Rattle.cell_value.specs.declared.ways_out.Which.TheVariants.{Stack}
 use Rattle.cell_value.specs.declared.ways_out.Kind.TheVariants as kind
 use Rattle.core_program.specs.declared.tables.Routine.{Routine}
+use Rattle.core_program.specs.declared.tables.Block.{Block}
+use Rattle.core_program.specs.declared.tables.Block.TheVariants.{Program, Procedure}
 use Rattle.core_program.specs.declared.machine.Trouble.{Trouble}
 use Rattle.core_program.specs.declared.machine.Trouble.TheVariants.{Fault, OutOfSteps, Limited, NoRow}
 use Rattle.core_program.specs.Tables.{Tables}
-use Rattle.core_program.specs.State.{State, Done, Went, Stops, perform}
+use Rattle.core_program.specs.State.{State, Done, Went, Stops, perform, stack_end}
 use Rattle.core_program.specs.Tree.{Out, Normal, Jump, Part, Body, Tree, Ret, Halt, Do, Sub, Enter}
+use Rattle.core_program.specs.Statements.{block_of}
 use Rattle.core_program.specs.Layer.{layer}
 
 -- how a tree or a call ended
@@ -70,6 +73,11 @@ module _ {S E : Type 0} where
   within rules p zero t σ = None
   within rules p (suc n) t σ = walk rules (λ part τ. within rules p n (layer p part) τ) (rules.call (λ u τ. within rules p n u τ)) t σ
 
+-- the end of a call that a runner tells by its trouble, if it had one
+abbrev pub end_of : Option Trouble → End
+end_of None = Ended Normal
+end_of (Some why) = Halted why
+
 -- the way out of a call; tables that miss a row are no program of a source, so the fault has no line
 abbrev pub way_of : End → WayOut
 way_of (Ended Normal) = way.Returned
@@ -89,9 +97,15 @@ abbrev pub unframed : ℕ → ℕ → FinMap nat_cmp Value → FinMap nat_cmp Va
 unframed base zero m = m
 unframed base (suc n) m = unframed (base + 1) n (remove m base)
 
--- the n cells of a frame of the program block: the link, the args, and one Undefined per variable
-abbrev pub frame_cells : ℕ → List Value → List Value
-frame_cells n args = take n (Nil ∷ (args ++ replicate n Undefined))
+-- the link in a frame of a block: none in the program block, and in a procedure the frame of the program
+-- block, in which the procedure was declared; that frame begins at 0
+abbrev pub link_of : Block → Value
+link_of Program = Nil
+link_of Procedure = Frame 0
+
+-- the n cells of a frame: the link, the args, and one Undefined per variable
+abbrev pub frame_cells : ℕ → Value → List Value → List Value
+frame_cells n link args = take n (link ∷ (args ++ replicate n Undefined))
 
 -- a call is entered
 abbrev pub opened : State → State
@@ -102,8 +116,8 @@ abbrev pub closed : ℕ → State → State
 closed depth σ = record σ { depth = depth }
 
 -- a frame of n cells is made at the top, with a step for each cell
-abbrev pub with_frame : ℕ → List Value → State → State
-with_frame n args σ = record σ { cells = framed σ.top (frame_cells n args) σ.cells; top = σ.top + n; steps = σ.steps - n }
+abbrev pub with_frame : ℕ → Value → List Value → State → State
+with_frame n link args σ = record σ { cells = framed σ.top (frame_cells n link args) σ.cells; top = σ.top + n; steps = σ.steps - n }
 
 -- the frame of n cells at a base is removed
 abbrev pub without_frame : ℕ → ℕ → State → State
@@ -112,10 +126,6 @@ without_frame base n σ = record σ { cells = unframed base n σ.cells; top = ba
 -- no steps are left
 abbrev pub spent : State → State
 spent σ = record σ { steps = 0 }
-
--- the first address above the stack
-abbrev pub stack_end : ℕ
-stack_end = 524288
 
 -- a call, with the calls below it behind it in order of entry
 pub record Call : Type 0 where
@@ -173,7 +183,7 @@ abbrev pub in_frame : (Tree → State → Outcome) → ℕ → Routine → List 
 in_frame run routine r args σ =
     if nat_lt stack_end (σ.top + r.cells) then ends (Halted (Limited Stack)) σ
     else if nat_lt σ.steps r.cells then ends (Halted OutOfSteps) (spent σ)
-    else after_all (without_frame σ.top r.cells) (run (whole routine σ.top) (with_frame r.cells args σ))
+    else after_all (without_frame σ.top r.cells) (run (whole routine σ.top) (with_frame r.cells (link_of (block_of routine)) args σ))
 
 abbrev pub with_routine : Option Routine → (Routine → Outcome) → State → Outcome
 with_routine None go σ = ends (Halted NoRow) σ

@@ -2,6 +2,7 @@
 use Rattle.std.specs.Prelude.{ℕ, List}
 use Rattle.cell_value.specs.declared.values.Value.{Value}
 use Rattle.core_program.specs.declared.machine.Trouble.{Trouble}
+use Rattle.core_program.specs.declared.tables.Block.{Block}
 use Rattle.core_program.specs.State.{Act, Answer}
 use Rattle.core_program.specs.Actions.{Action, Give, Fail, Perform}
 
@@ -11,11 +12,11 @@ pub data Out : Type 0 where
   -- a goto to a label, in the frame at a base
   Jump : (label base : ℕ) → Out
 
--- a part of a program at work in the frame at a base
+-- a part of a program at work
 pub data Part : Type 0 where
-  -- the statement of a row
-  Exec : (row base : ℕ) → Part
-  -- the statement part of a routine
+  -- the statement of a row, in a block whose frame is at a base
+  Exec : (row : ℕ) (block : Block) (base : ℕ) → Part
+  -- the statement part of a routine whose frame is at a base
   Body : (routine base : ℕ) → Part
 
 pub data Tree : Type 0 where

@@ -1,22 +1,28 @@
 //! The meaning of a small Pascal program: its tables, the definitions of a statement, a call and a
-//! run, and the plain slow runner that computes them.
+//! run, the numbering of a run's calls, and the runner that computes them.
 #![tactic(auto)]
 
+mod calls;
 mod frames;
 mod laws;
 mod machine;
-mod plain_run;
+mod open_call;
+mod runner;
 mod statements;
 mod store;
 mod tables;
 
-pub use frames::{make_frame, remove_frame};
-pub use laws::{depth_is_enough, every_program_runs, every_run_has_a_call};
-pub use machine::{Halt, Machine, Trouble, read_cell, spend, write_cell};
-pub use plain_run::{PlainRun, STACK_END, run_plain};
-pub use statements::{address, evaluate, execute, fault_kind};
+pub use calls::{CallRow, Calls};
+pub use frames::{link, make_frame, remove_frame};
+pub use laws::{depth_is_enough, every_program_runs, every_run_has_a_call, numbers_tell_the_tree};
+pub use machine::{
+    Halt, MOST_CALLS, MOST_DEPTH, Machine, STACK_END, Trouble, may_call, read_cell, spend,
+    write_cell,
+};
+pub use runner::{PlainRun, run_calls, run_plain, way_out};
+pub use statements::{address, evaluate, execute, fault_kind, program_frame};
 pub use store::Store;
-pub use tables::{Expression, Program, Routine, Row, Statement};
+pub use tables::{Block, Expression, Program, Routine, Row, Statement, block_of};
 
 #[cfg(test)]
 mod tests;

@@ -1,11 +1,20 @@
 //! A run's state with the log so far, and the acts on it.
 ghost use Rattle.std.specs.Prelude.{◌≡◌, ◌+◌, OnOk};
-ghost use Rattle.core_program.specs.Acts.{Does, moment_of, state_of};
-ghost use Rattle.core_program.specs.State.{ReadCell, Spend, WriteCell, perform};
+ghost use Rattle.core_program.specs.Acts.{Does, HasRoom, moment_of, state_of};
+ghost use Rattle.core_program.specs.State.{MayCall, ReadCell, Spend, WriteCell, perform};
 
 use crate::store::Store;
 use cell_value::{Kind, Touch, Value, Which};
 use std::alloc::{AllocError, AllocFailed};
+
+/// The first address above the stack.
+pub const STACK_END: u32 = 524_288;
+
+/// How many calls a run may enter.
+pub const MOST_CALLS: u32 = 500_000;
+
+/// The greatest depth at which a call may stand.
+pub const MOST_DEPTH: u32 = 99_999;
 
 /// Why a run stops for good.
 #[derive(Clone, Copy, Debug, PartialEq, Eq)]
@@ -109,4 +118,21 @@ pub fn write_cell(machine: &mut Machine, line: u32, addr: u32, value: Value) -> 
             Ok(())
         }
     }
+}
+
+/// Asks leave for one call more, with a frame of so many cells.
+pub fn may_call(machine: &mut Machine, cells: u32) -> Result<(), Halt>
+    ensures act { Does (λ _. tt) (perform (MayCall cells) (state_of machine.old)) result (moment_of machine.old) (moment_of machine.new) }
+    ensures room { OnOk result (HasRoom machine.new) }
+{
+    if machine.calls >= MOST_CALLS {
+        return Err(Halt::Why(Trouble::Limited(Which::Calls)));
+    }
+    if machine.depth > MOST_DEPTH {
+        return Err(Halt::Why(Trouble::Limited(Which::Depth)));
+    }
+    if u64::from(machine.top) + u64::from(cells) > u64::from(STACK_END) {
+        return Err(Halt::Why(Trouble::Limited(Which::Stack)));
+    }
+    Ok(())
 }

@@ -1,5 +1,6 @@
 //! A program as tables: its statements in rows, and its routines.
 ghost use Rattle.std.specs.Prelude.{◌≡◌, ◌+◌, [], ◌∷◌, ◌++◌, length, slice_get, OnOk, OnErr};
+ghost use Rattle.core_program.specs.Statements as statements;
 
 use cell_value::Memory;
 use std::alloc::{AllocError, Global};
@@ -10,15 +11,37 @@ use std::marker::Model;
 pub enum Expression {
     /// A constant.
     Number(u32),
-    /// The variable at this place of the frame, plus a constant.
+    /// The variable at this place of the program block's frame, plus a constant.
     Sum { variable: u32, number: u32 },
 }
 
 /// A statement.
 #[derive(Clone, Copy, Debug, PartialEq, Eq)]
 pub enum Statement {
-    /// `target := value`, where the target is the variable at this place of the frame.
+    /// `target := value`, where the target is the variable at this place of the program block's frame.
     Assign { target: u32, value: Expression },
+    /// A call of the procedure of this number.
+    Call { routine: u32 },
+}
+
+/// The kind of block in which a statement stands.
+#[derive(Clone, Copy, Debug, PartialEq, Eq)]
+pub enum Block {
+    /// The program block, whose frame has the variables.
+    Program,
+    /// The block of a procedure, which is declared in the program block.
+    Procedure,
+}
+
+/// The block of a routine: routine 0 is the program block.
+pub fn block_of(routine: u32) -> Block
+    ensures { result ≡ statements.block_of routine }
+{
+    if routine == 0 {
+        Block::Program
+    } else {
+        Block::Procedure
+    }
 }
 
 /// A row of the table of statements.
@@ -29,9 +52,10 @@ pub struct Row {
     pub statement: Statement,
 }
 
-/// A routine: a block with its statement part. Routine 0 is the program block.
+/// A routine: a block with its statement part. Routine 0 is the program block, which declares each
+/// variable and each procedure. The others are procedures without parameters and variables.
 ///
-/// A variable is named by its place in the routine's frame. Place 0 is the link, and the first
+/// A variable is named by its place in the program block's frame. Place 0 is the link, and the first
 /// declared variable has place 1.
 #[derive(Clone, Copy, Debug, PartialEq, Eq)]
 pub struct Routine {

@@ -7,9 +7,9 @@ pub mod Begins
 pub mod Sound
 pub mod Whole
 pub mod Parsed
-pub mod Halted
 pub mod Talk
 pub mod Opened
 pub mod Lines
 pub mod Fetched
 pub mod Codes
+pub mod Columns

@@ -1,16 +1,22 @@
 -- A loop over items behind separators.
-use Rattle.std.proofs.Common.{◌≡◌, ℕ, zero, suc, ◌<◌, ◌≤◌, Bool, true, false, if◌then◌else◌, List, [], ◌∷◌, ◌++◌, length, drop, Some, None, Ok, Err, refl, sym, ap, ◌∙◌, arith}
+use Rattle.std.proofs.Common.{◌≡◌, ℕ, zero, suc, ◌+◌, ◌-◌, ◌<◌, ◌≤◌, Bool, true, false, if◌then◌else◌, List, [], ◌∷◌, ◌++◌, length, drop, Some, None, Ok, Err, refl, sym, ap, subst, ◌∙◌, arith, append_assoc, append-nil, length-append}
+use Rattle.std.specs.Prelude.{Vec}
+use Rattle.std.specs.declared.alloc.Global.{Global}
 use Rattle.debug_cli.specs.declared.terminals.Fixed.{Fixed}
 use Rattle.debug_cli.specs.declared.terminals.Fixed.TheVariants as fixed
 use Rattle.core_program.specs.declared.tables.Row.{Row}
+use Rattle.core_program.specs.declared.tables.Routine.{Routine}
+use Rattle.core_program.specs.Tables.{Tables}
 use Rattle.debug_cli.specs.declared.names.Names.{Names}
+use Rattle.debug_cli.specs.declared.names.Scope.{Scope}
 use Rattle.debug_cli.specs.declared.small.SmallFault.{SmallFault}
 use Rattle.debug_cli.specs.declared.small.SmallFault.TheVariants.{Unbuilt, Memory}
 use Rattle.debug_cli.specs.Names.{Tabled}
-use Rattle.debug_cli.specs.Small.{Piece, Terminal, This, step_places}
-use Rattle.debug_cli.specs.Reading.{Read, after, fixed_at, fixed_next, new_name, step_at, names_at, further, all_further, steps_at, Declared, Skips, NamesRead, Gives}
-use Rattle.debug_cli.proofs.Begins.{Begins}
+use Rattle.debug_cli.specs.Small.{Piece, Terminal, This, step_places, procedure_places, Known, with_procedure, Translation, all_rows, routine, routines_from}
+use Rattle.debug_cli.specs.Reading.{Read, after, fixed_at, fixed_next, new_name, step_at, names_at, further, all_further, steps_at, body_at, free_name, known_after, translated, procedure_at, procedures_at, Declared, Skips, NamesRead, Gives, RowsRead, IsScope, ProcedureRead, ProceduresRead}
+use Rattle.debug_cli.proofs.Begins.{Begins, joined}
 use Rattle.debug_cli.proofs.Sound.{fixed_sound, new_sound, step_sound}
+use Rattle.debug_cli.proofs.Whole.{procedure_sound, names_last}
 
 pub begins_shorter : (ts : List Terminal) (l rest : List Piece) → Begins ts l rest → length rest ≤ length l
 begins_shorter [] l rest e = omega (arith, ap length e)
@@ -74,8 +80,11 @@ module _ {A : Type 0} (sep : Fixed) (item : List A → List Piece → Read A) (s
 pub new_shrinks : (found : List (List ℕ)) (l : List Piece) (x : List ℕ) (rest : List Piece) → new_name found l ≡ Ok (x, rest) → length rest ≤ length l
 new_shrinks found l x rest e = let h = new_sound found l x rest e in begins_shorter (This h.0 ∷ []) l rest h.1
 
-pub step_shrinks : (names : List (List ℕ)) (found : List Row) (l : List Piece) (x : Row) (rest : List Piece) → step_at names l ≡ Ok (x, rest) → length rest ≤ length l
-step_shrinks names found l x rest e = let h = step_sound names l x rest e in begins_shorter (step_places h.0) l rest h.1
+pub step_shrinks : (k : Known) (found : List Row) (l : List Piece) (x : Row) (rest : List Piece) → step_at k l ≡ Ok (x, rest) → length rest ≤ length l
+step_shrinks k found l x rest e = let h = step_sound k l x rest e in begins_shorter (step_places h.0) l rest h.1
+
+pub procedure_shrinks : (variables : List (List ℕ)) (found : List Translation) (l : List Piece) (x : Translation) (rest : List Piece) → procedure_at variables found l ≡ Ok (x, rest) → length rest ≤ length l
+procedure_shrinks variables found l x rest e = let h = procedure_sound variables found l x rest e in begins_shorter (procedure_places h.0) l rest h.1
 
 -- the names found so far, in front of those still to be read
 pub record NamesSoFar (ps : List Piece) (whole : Read (List (List ℕ))) (names : Names) (at : ℕ) : Type 0 where
@@ -83,9 +92,19 @@ pub record NamesSoFar (ps : List Piece) (whole : Read (List (List ℕ))) (names 
   pub tabled : Tabled found names.places names.cells
   pub leads : all_further fixed.Comma new_name found (drop at ps) ≡ whole
 
--- the rows found so far
-pub record RowsSoFar (names : List (List ℕ)) (ps : List Piece) (whole : Read (List Row)) (found : List Row) (at : ℕ) : Type 0 where
-  pub leads : all_further fixed.Semicolon (λ _ l. step_at names l) found (drop at ps) ≡ whole
+-- the rows found so far, behind those that were there
+pub record RowsSoFar (k : Known) (ps : List Piece) (whole : Read (List Row)) (old now : Tables) (at : ℕ) : Type 0 where
+  pub found : List Row
+  pub is : now ≡ record old { rows = old.rows ++ found }
+  pub leads : all_further fixed.Semicolon (λ _ l. step_at k l) found (drop at ps) ≡ whole
+
+-- the procedures found so far
+pub record ProceduresSoFar (variables : List (List ℕ)) (ps : List Piece) (whole : Read (List Translation)) (old now : Tables) (scope : Scope) (routines : List Routine) (at : ℕ) : Type 0 where
+  pub found : List Translation
+  pub is : now ≡ record old { rows = old.rows ++ all_rows found }
+  pub routines_are : routines ≡ routines_from (length old.rows) found
+  pub scoped : IsScope (known_after variables found) scope
+  pub leads : all_further fixed.Procedure (procedure_at variables) found (drop at ps) ≡ whole
 
 module _ (ps : List Piece) where
   -- the first name
@@ -122,37 +141,126 @@ module _ (ps : List Piece) where
   pub names_end : (whole : Read (List (List ℕ))) (names : Names) (at : ℕ) (s : NamesSoFar ps whole names at) → Skips ps at fixed.Comma None → NamesRead ps names (Ok at) whole
   names_end whole names at s k = (s.found, sym s.leads ∙ is_done fixed.Comma new_name new_shrinks s.found (drop at ps) k.0, s.tabled)
 
-module _ (ps : List Piece) (names : List (List ℕ)) where
+abbrev with_rows : Tables → List Row → Tables
+with_rows t rows = record t { rows = t.rows ++ rows }
+
+-- rows behind rows
+rows_behind : (t : Tables) (a b : List Row) → with_rows (with_rows t a) b ≡ with_rows t (a ++ b)
+rows_behind t a b = ap (λ (rs : List Row). record t { rows = rs }) (append_assoc t.rows a b)
+
+pub grows : (t u : Tables) (rows : List Row) → u ≡ with_rows t rows → length t.rows ≤ length u.rows
+grows t u rows e = omega (arith, ap (λ (v : Tables). length v.rows) e, length-append t.rows rows)
+
+module _ (ps : List Piece) (k : Known) where
   abbrev step_item : List Row → List Piece → Read Row
-  step_item _ l = step_at names l
+  step_item _ l = step_at k l
 
   -- the first step
-  pub rows_begin : (l : List Piece) (r : Row) (rows : List Row) (n : ℕ) → step_at names l ≡ Ok (r, drop n ps) → rows ≡ r ∷ [] → RowsSoFar names ps (steps_at names l) rows n
+  pub rows_begin : (l : List Piece) (r : Row) (old now : Tables) (n : ℕ) → step_at k l ≡ Ok (r, drop n ps) → now ≡ with_rows old (r ∷ []) → RowsSoFar k ps (steps_at k l) old now n
   unfolding steps_at
-  rows_begin l r rows n e f = record {
-    leads =
-        ap (λ (rs : List Row). all_further fixed.Semicolon step_item rs (drop n ps)) f
-        ∙ sym (ap (λ (s : Read Row). after s (λ x l. all_further fixed.Semicolon step_item (x ∷ []) l)) e);
+  rows_begin l r old now n e f = record {
+    found = r ∷ [];
+    is = f;
+    leads = sym (ap (λ (s : Read Row). after s (λ x l. all_further fixed.Semicolon step_item (x ∷ []) l)) e);
   }
 
-  pub rows_begin_fails : {X Y : Type 0} (view : X → Row) (other : Y → List Row) (l : List Piece) (e : SmallFault) → Gives ps view (Err e) (step_at names l) → Gives ps other (Err e) (steps_at names l)
+  pub rows_begin_fails : {X : Type 0} (view : X → Row) (old now : Tables) (l : List Piece) (e : SmallFault) → Gives ps view (Err e) (step_at k l) → RowsRead ps old now (Err e) (steps_at k l)
   unfolding steps_at
-  rows_begin_fails view other l (Unbuilt i) d = ap (λ (s : Read Row). after s (λ x l. all_further fixed.Semicolon step_item (x ∷ []) l)) d
-  rows_begin_fails view other l Memory d = tt
+  rows_begin_fails view old now l (Unbuilt i) d = ap (λ (s : Read Row). after s (λ x l. all_further fixed.Semicolon step_item (x ∷ []) l)) d
+  rows_begin_fails view old now l Memory d = tt
 
   -- one more step
-  pub rows_more : (whole : Read (List Row)) (found more : List Row) (at behind n : ℕ) (r : Row) (s : RowsSoFar names ps whole found at) → Skips ps at fixed.Semicolon (Some behind)
-      → step_at names (drop behind ps) ≡ Ok (r, drop n ps) → more ≡ found ++ r ∷ [] → RowsSoFar names ps whole more n
-  rows_more whole found more at behind n r s k d f = record {
-    leads =
-        ap (λ (rs : List Row). all_further fixed.Semicolon step_item rs (drop n ps)) f
-        ∙ sym (goes_on fixed.Semicolon step_item (step_shrinks names) found (drop at ps) (drop behind ps) (drop n ps) r k.0 k.1 d) ∙ s.leads;
+  pub rows_more : (whole : Read (List Row)) (old now new : Tables) (at behind n : ℕ) (r : Row) (s : RowsSoFar k ps whole old now at) → Skips ps at fixed.Semicolon (Some behind)
+      → step_at k (drop behind ps) ≡ Ok (r, drop n ps) → new ≡ with_rows now (r ∷ []) → RowsSoFar k ps whole old new n
+  rows_more whole old now new at behind n r s skips d f = record {
+    found = s.found ++ r ∷ [];
+    is = f ∙ ap (λ (t : Tables). with_rows t (r ∷ [])) s.is ∙ rows_behind old s.found (r ∷ []);
+    leads = sym (goes_on fixed.Semicolon step_item (step_shrinks k) s.found (drop at ps) (drop behind ps) (drop n ps) r skips.0 skips.1 d) ∙ s.leads;
   }
 
-  pub rows_more_fails : {X Y : Type 0} (view : X → Row) (other : Y → List Row) (whole : Read (List Row)) (found : List Row) (at behind : ℕ) (e : SmallFault) (s : RowsSoFar names ps whole found at) → Skips ps at fixed.Semicolon (Some behind)
-      → Gives ps view (Err e) (step_at names (drop behind ps)) → Gives ps other (Err e) whole
-  rows_more_fails view other whole found at behind (Unbuilt i) s k d = sym s.leads ∙ ends fixed.Semicolon step_item (step_shrinks names) found (drop at ps) (drop behind ps) (drop i ps) k.0 k.1 d
-  rows_more_fails view other whole found at behind Memory s k d = tt
+  pub rows_more_fails : {X : Type 0} (view : X → Row) (whole : Read (List Row)) (old now new : Tables) (at behind : ℕ) (e : SmallFault) (s : RowsSoFar k ps whole old now at) → Skips ps at fixed.Semicolon (Some behind)
+      → Gives ps view (Err e) (step_at k (drop behind ps)) → RowsRead ps old new (Err e) whole
+  rows_more_fails view whole old now new at behind (Unbuilt i) s skips d = sym s.leads ∙ ends fixed.Semicolon step_item (step_shrinks k) s.found (drop at ps) (drop behind ps) (drop i ps) skips.0 skips.1 d
+  rows_more_fails view whole old now new at behind Memory s skips d = tt
 
-  pub rows_end : (whole : Read (List Row)) (found : List Row) (at : ℕ) (s : RowsSoFar names ps whole found at) → Skips ps at fixed.Semicolon None → whole ≡ Ok (found, drop at ps)
-  rows_end whole found at s k = sym s.leads ∙ is_done fixed.Semicolon step_item (step_shrinks names) found (drop at ps) k.0
+  pub rows_end : (whole : Read (List Row)) (old now : Tables) (at : ℕ) (s : RowsSoFar k ps whole old now at) → Skips ps at fixed.Semicolon None → RowsRead ps old now (Ok at) whole
+  rows_end whole old now at s skips = (s.found, sym s.leads ∙ is_done fixed.Semicolon step_item (step_shrinks k) s.found (drop at ps) skips.0, s.is)
+
+all_rows_last : (ts : List Translation) (t : Translation) → all_rows (ts ++ t ∷ []) ≡ all_rows ts ++ t.rows
+all_rows_last [] t = append-nil t.rows
+all_rows_last (u ∷ ts) t = ap (λ (rs : List Row). u.rows ++ rs) (all_rows_last ts t) ∙ sym (append_assoc u.rows (all_rows ts) t.rows)
+
+routines_last : (first : ℕ) (ts : List Translation) (t : Translation) → routines_from first (ts ++ t ∷ []) ≡ routines_from first ts ++ routine t.name (first + length (all_rows ts)) (length t.rows) ∷ []
+routines_last first [] t = ap (λ (n : ℕ). routine t.name n (length t.rows) ∷ []) (let e : first ≡ first + 0 = omega arith in e)
+routines_last first (u ∷ ts) t =
+    let e : first + length u.rows + length (all_rows ts) ≡ first + length (u.rows ++ all_rows ts) = omega (arith, length-append u.rows (all_rows ts)) in
+    ap (λ (rs : List Routine). routine u.name first (length u.rows) ∷ rs)
+    (routines_last (first + length u.rows) ts t ∙ ap (λ (n : ℕ). routines_from (first + length u.rows) ts ++ routine t.name n (length t.rows) ∷ []) e)
+
+module _ (ps : List Piece) (variables : List (List ℕ)) where
+  -- no procedure yet
+  pub procedures_begin : (old : Tables) (scope : Scope) (routines : List Routine) (at : ℕ) → routines ≡ [] → IsScope (known_after variables []) scope
+      → ProceduresSoFar variables ps (procedures_at variables (drop at ps)) old old scope routines at
+  unfolding procedures_at
+  procedures_begin old scope routines at none scoped = record {
+    found = [];
+    is = ap (λ (rs : List Row). record old { rows = rs }) (sym (append-nil old.rows));
+    routines_are = none;
+    scoped = scoped;
+    leads = refl;
+  }
+
+  -- one more procedure
+  pub procedures_more : (whole : Read (List Translation)) (old now new : Tables) (scope scope' : Scope) (routines more : List Routine) (at behind n : ℕ) (x : Routine)
+      (s : ProceduresSoFar variables ps whole old now scope routines at) → Skips ps at fixed.Procedure (Some behind)
+      → ((found : List Translation) → IsScope (known_after variables found) scope → ProcedureRead ps variables found now new scope' (Ok (x, n)) (procedure_at variables found (drop behind ps)))
+      → more ≡ routines ++ x ∷ [] → ProceduresSoFar variables ps whole old new scope' more n
+  procedures_more whole old now new scope scope' routines more at behind n x s skips d grown =
+      let y = d s.found s.scoped in
+      let t : Translation = y.0 in
+      let lengths : length now.rows ≡ length old.rows + length (all_rows s.found) = ap (λ (u : Tables). length u.rows) s.is ∙ length-append old.rows (all_rows s.found) in
+      record {
+        found = s.found ++ t ∷ [];
+        is = y.2 ∙ ap (λ (u : Tables). with_rows u t.rows) s.is ∙ rows_behind old (all_rows s.found) t.rows ∙ ap (with_rows old) (sym (all_rows_last s.found t));
+        routines_are = grown ∙ (λ i. s.routines_are i ++ (y.3 ∙ ap (λ (f : ℕ). routine t.name f (length t.rows)) lengths) i ∷ []) ∙ sym (routines_last (length old.rows) s.found t);
+        scoped = y.4;
+        leads = sym (goes_on fixed.Procedure (procedure_at variables) (procedure_shrinks variables) s.found (drop at ps) (drop behind ps) (drop n ps) t skips.0 skips.1 y.1) ∙ s.leads;
+      }
+
+  pub procedures_more_fails : (whole : Read (List Translation)) (old now new : Tables) (scope scope' : Scope) (routines : List Routine) (at behind : ℕ) (e : SmallFault)
+      (s : ProceduresSoFar variables ps whole old now scope routines at) → Skips ps at fixed.Procedure (Some behind)
+      → ((found : List Translation) → IsScope (known_after variables found) scope → ProcedureRead ps variables found now new scope' (Err e) (procedure_at variables found (drop behind ps)))
+      → ProceduresRead ps variables old new scope' (Err e) whole
+  procedures_more_fails whole old now new scope scope' routines at behind (Unbuilt i) s skips d =
+      sym s.leads ∙ ends fixed.Procedure (procedure_at variables) (procedure_shrinks variables) s.found (drop at ps) (drop behind ps) (drop i ps) skips.0 skips.1 (d s.found s.scoped)
+  procedures_more_fails whole old now new scope scope' routines at behind Memory s skips d = tt
+
+  pub procedures_end : (whole : Read (List Translation)) (old now : Tables) (scope : Scope) (routines : Vec Routine Global) (at : ℕ) (s : ProceduresSoFar variables ps whole old now scope routines.items at) → Skips ps at fixed.Procedure None
+      → ProceduresRead ps variables old now scope (Ok (routines, at)) whole
+  procedures_end whole old now scope routines at s skips =
+      (s.found, sym s.leads ∙ is_done fixed.Procedure (procedure_at variables) (procedure_shrinks variables) s.found (drop at ps) skips.0, s.is, s.routines_are, s.scoped)
+
+known_last : (variables : List (List ℕ)) (found : List Translation) (t : Translation) → with_procedure (known_after variables found) t.name ≡ known_after variables (found ++ t ∷ [])
+known_last variables found t = ap (λ (ns : List (List ℕ)). record { variables = variables; procedures = ns }) (sym (names_last found t))
+
+-- a procedure, by its parts
+pub procedure_read : (ps : List Piece) (variables : List (List ℕ)) (found : List Translation) (old new : Tables) (scope : Scope) (at named colon done end : ℕ) (x : Piece) (rows : List Row) (number first count : ℕ)
+    → IsScope (with_procedure (known_after variables found) x) scope → free_name (known_after variables found) (drop at ps) ≡ Ok (x, drop named ps) → fixed_at fixed.Semicolon (drop named ps) ≡ Ok (tt, drop colon ps)
+    → body_at (with_procedure (known_after variables found) x) (drop colon ps) ≡ Ok (rows, drop done ps) → fixed_at fixed.Semicolon (drop done ps) ≡ Ok (tt, drop end ps)
+    → new ≡ with_rows old rows → x.number ≡ number → first ≡ length old.rows → count ≡ length new.rows - first
+    → ProcedureRead ps variables found old new scope (Ok (record { name = number; cells = 1; first = first; count = count }, end)) (procedure_at variables found (drop at ps))
+unfolding procedure_at
+procedure_read ps variables found old new scope at named colon done end x rows number first count scoped a b c d is numbered begins counted =
+    let k : Known = with_procedure (known_after variables found) x in
+    let t : Translation = translated x rows in
+    let so_many : count ≡ length rows = omega (arith, counted, begins, ap (λ (v : Tables). length v.rows) is, length-append old.rows rows) in (
+      t,
+      joined (free_name (known_after variables found) (drop at ps)) (λ p l. after (fixed_at fixed.Semicolon l) (λ _ l. after (body_at (with_procedure (known_after variables found) p) l) (λ rows l. after (fixed_at fixed.Semicolon l) (λ _ l. Ok (translated p rows, l)))))
+          x (drop named ps) (Ok (t, drop end ps)) a
+          (joined (fixed_at fixed.Semicolon (drop named ps)) (λ _ l. after (body_at k l) (λ rows l. after (fixed_at fixed.Semicolon l) (λ _ l. Ok (translated x rows, l)))) tt (drop colon ps) (Ok (t, drop end ps)) b
+          (joined (body_at k (drop colon ps)) (λ rows l. after (fixed_at fixed.Semicolon l) (λ _ l. Ok (translated x rows, l))) rows (drop done ps) (Ok (t, drop end ps)) c
+          (joined (fixed_at fixed.Semicolon (drop done ps)) (λ _ l. Ok (t, l)) tt (drop end ps) (Ok (t, drop end ps)) d refl))),
+      is,
+      (λ i. record { name = sym numbered i; cells = 1; first = begins i; count = so_many i }),
+      subst (λ (j : Known). IsScope j scope) (known_last variables found t) scoped,
+    )

@@ -1,13 +1,13 @@
 -- What the answer of the parser says of the whole list of tokens.
 use Rattle.std.proofs.Common.{◌≡◌, ℕ, ◌<◌, ◌≤◌, List, [], length, drop, Ok, Err, sym, ap, ◌∙◌, arith, length-drop}
 use Rattle.std.proofs.Math.ListN.{drop_of_length-le}
-use Rattle.std.proofs.lemmas.List.{length-map}
 use Rattle.core_program.specs.Tables.{Tables}
 use Rattle.pas_lexer.specs.Lexed.{Lexed}
 use Rattle.debug_cli.specs.declared.small.SmallFault.{SmallFault}
 use Rattle.debug_cli.specs.declared.small.SmallFault.TheVariants.{Unbuilt, Memory}
-use Rattle.debug_cli.specs.Small.{Piece, pieces, piece_of, Small, IsSmall, program_of}
+use Rattle.debug_cli.specs.Small.{Piece, pieces, Small, IsSmall, program_of}
 use Rattle.debug_cli.specs.Reading.{Read, small_at, Gives, IsThat}
+use Rattle.debug_cli.proofs.Fronts.{from_length}
 use Rattle.debug_cli.proofs.Whole.{whole_small, small_whole}
 
 abbrev ok : Tables → List Piece → Read Tables
@@ -24,7 +24,7 @@ refused ps (Unbuilt i) g s h = let x = small_whole ps s h in let y : ok (program
 refused ps Memory g s h = tt
 
 pieces_length : (lexed : Lexed) → length (pieces lexed) ≡ length lexed.tokens
-pieces_length lexed = length-map lexed.tokens (piece_of lexed.source)
+pieces_length lexed = from_length lexed.source 0 lexed.tokens
 
 pub too_long : (lexed : Lexed) (t : Tables) (n : ℕ) → n < length lexed.tokens → small_at (pieces lexed) ≡ Ok (t, drop n (pieces lexed)) → (s : Small) → IsSmall (pieces lexed) s → ⊥
 too_long lexed t n lt g s h =

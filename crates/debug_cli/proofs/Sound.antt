@@ -8,8 +8,8 @@ use Rattle.core_program.specs.declared.tables.Expression.TheVariants as expressi
 use Rattle.core_program.specs.declared.tables.Row.{Row}
 use Rattle.debug_cli.specs.declared.terminals.Fixed.{Fixed}
 use Rattle.debug_cli.specs.declared.terminals.Fixed.TheVariants as fixed
-use Rattle.debug_cli.specs.Small.{Piece, Terminal, Quoted, Value, Spelled, This, Step, Set, SetSum, step_places, is_fixed, is_required, place, Uses, row_of, place_or_link}
-use Rattle.debug_cli.specs.Reading.{Read, after, fixed_at, fixed_next, named, name_at, number_next, number_read, number_at, integer_at, new_name, place_read, known_name, row, value_at, step_at}
+use Rattle.debug_cli.specs.Small.{Piece, Terminal, Quoted, Value, Spelled, This, Assignment, Set, SetSum, Step, Assigns, Calls, assignment_places, step_places, is_fixed, is_required, place, Known, UsesVariables, Uses, IsFree, assignment_of, row_of, place_or_link}
+use Rattle.debug_cli.specs.Reading.{Read, after, fixed_at, fixed_next, named, name_at, number_next, number_read, number_at, integer_at, new_name, place_read, known_name, row, value_at, assignment_at, call_row, step_read, step_at, free_name}
 use Rattle.debug_cli.proofs.Begins.{Begins, begins_append, begins_split, parts, joined}
 
 abbrev ok : {A : Type 0} → A → List Piece → Read A
@@ -76,7 +76,7 @@ number_again l n rest h = rw (h.2, h.3) (ap (λ (m : List Piece). Ok (n, m)) h.4
 -- ---- the names
 
 -- the text of a test, decided
-same_text : (a b : List ℕ) → bytes_eq a b ≡ true → a ≡ b
+pub same_text : (a b : List ℕ) → bytes_eq a b ≡ true → a ≡ b
 same_text a b e = (bytes_eq-Decides a b).0 e
 
 text_same : (a b : List ℕ) → a ≡ b → bytes_eq a b ≡ true
@@ -161,17 +161,17 @@ known_again names l p rest h k =
     joined (name_at l) (known_after names l) p rest (ok (place_or_link names p, p.line) rest) (name_again l p rest h)
     (ap (λ (o : Option ℕ). place_read o p l rest) (some_of (place names p.spelling) 0 k))
 
--- ---- steps
+-- ---- assignments
 
-abbrev value_of : List (List ℕ) → Step → expression.the_data
+abbrev value_of : List (List ℕ) → Assignment → expression.the_data
 value_of names (Set x n) = expression.Number n
 value_of names (SetSum x y n) = expression.Sum (place_or_link names y) n
 
-abbrev value_places : Step → List Terminal
+abbrev value_places : Assignment → List Terminal
 value_places (Set x n) = Value n ∷ []
 value_places (SetSum x y n) = This y ∷ Quoted fixed.Plus ∷ Value n ∷ []
 
-abbrev target : Step → Piece
+abbrev target : Assignment → Piece
 target (Set x n) = x
 target (SetSum x y n) = x
 
@@ -185,13 +185,13 @@ link_is names p n e = ap (λ (o : Option ℕ). unwrap_or o 0) e
 abbrev sum_after : List (List ℕ) → ℕ × ℕ → List Piece → Read expression.the_data
 sum_after names y l = after (fixed_at fixed.Plus l) (λ _ l. after (number_at l) (λ n l. Ok (expression.Sum y.0 n, l)))
 
-step_is_placed : (s : Step) → step_places s ≡ This (target s) ∷ Quoted fixed.Becomes ∷ value_places s
-step_is_placed (Set x n) = refl
-step_is_placed (SetSum x y n) = refl
+assignment_is_placed : (s : Assignment) → assignment_places s ≡ This (target s) ∷ Quoted fixed.Becomes ∷ value_places s
+assignment_is_placed (Set x n) = refl
+assignment_is_placed (SetSum x y n) = refl
 
-step_row : (names : List (List ℕ)) (s : Step) → row_of names s ≡ row (place_or_link names (target s), (target s).line) (value_of names s)
-step_row names (Set x n) = refl
-step_row names (SetSum x y n) = refl
+assignment_row : (names : List (List ℕ)) (s : Assignment) → assignment_of names s ≡ row (place_or_link names (target s), (target s).line) (value_of names s)
+assignment_row names (Set x n) = refl
+assignment_row names (SetSum x y n) = refl
 
 abbrev value_begun : Bool → List (List ℕ) → List Piece → Read expression.the_data
 value_begun b names l = if b
@@ -200,11 +200,11 @@ value_begun b names l = if b
 
 -- the value of a step with this target
 record Valued (names : List (List ℕ)) (x : Piece) (l : List Piece) (e : expression.the_data) (rest : List Piece) : Type 0 where
-  step : Step
+  step : Assignment
   begins : Begins (value_places step) l rest
   same_target : target step ≡ x
   value_is : e ≡ value_of names step
-  uses : IsSome (place names x.spelling) → Uses names step
+  uses : IsSome (place names x.spelling) → UsesVariables names step
 
 value_first : (names : List (List ℕ)) (x : Piece) (l : List Piece) (b : Bool) (e : expression.the_data) (rest : List Piece) → value_begun b names l ≡ Ok (e, rest) → Valued names x l e rest
 value_first names x l true e rest h =
@@ -251,7 +251,7 @@ value_at_is : (names : List (List ℕ)) (p : Piece) (l : List Piece) (b : Bool) 
 unfolding value_at
 value_at_is names p l b e = rw e refl
 
-value_again : (names : List (List ℕ)) (s : Step) (l rest : List Piece) → Begins (value_places s) l rest → Uses names s → value_at names l ≡ Ok (value_of names s, rest)
+value_again : (names : List (List ℕ)) (s : Assignment) (l rest : List Piece) → Begins (value_places s) l rest → UsesVariables names s → value_at names l ≡ Ok (value_of names s, rest)
 value_again names (Set x n) l rest h u =
     ap (value_at names) h.2 ∙ value_at_is names h.0 h.1 false (ap named h.3) ∙ ap (value_begun false names) (sym h.2) ∙ constant_again names n l rest h
 value_again names (SetSum x y n) l rest h u =
@@ -260,9 +260,9 @@ value_again names (SetSum x y n) l rest h u =
 abbrev becomes_after : List (List ℕ) → ℕ × ℕ → List Piece → Read Row
 becomes_after names x l = after (fixed_at fixed.Becomes l) (λ _ l. after (value_at names l) (λ e l. Ok (row x e, l)))
 
-pub step_sound : (names : List (List ℕ)) (l : List Piece) (r : Row) (rest : List Piece) → step_at names l ≡ Ok (r, rest) → (s : Step) × Begins (step_places s) l rest × Uses names s × (r ≡ row_of names s)
-unfolding step_at
-step_sound names l r rest h =
+pub assignment_sound : (names : List (List ℕ)) (l : List Piece) (r : Row) (rest : List Piece) → assignment_at names l ≡ Ok (r, rest) → (s : Assignment) × Begins (assignment_places s) l rest × UsesVariables names s × (r ≡ assignment_of names s)
+unfolding assignment_at
+assignment_sound names l r rest h =
     let y = parts (known_name names l) (becomes_after names) r rest h in
     let k = known_sound names l y.x y.m y.first in
     let z = parts (fixed_at fixed.Becomes y.m) (λ _ m. after (value_at names m) (λ e m. Ok (row y.x e, m))) r rest y.then' in
@@ -273,30 +273,85 @@ step_sound names l r rest h =
     let behind : Begins (value_places v.step) z.m rest = subst (λ (m : List Piece). Begins (value_places v.step) z.m m) t.1 v.begins in
     let places : Begins (This k.0 ∷ Quoted fixed.Becomes ∷ value_places v.step) l rest =
     begins_append (This k.0 ∷ []) (Quoted fixed.Becomes ∷ value_places v.step) l y.m rest k.1 (begins_append (Quoted fixed.Becomes ∷ []) (value_places v.step) y.m z.m rest f behind) in
-    let whole : Begins (step_places v.step) l rest =
-    subst (λ (ts : List Terminal). Begins ts l rest) (ap (λ (x : Piece). This x ∷ Quoted fixed.Becomes ∷ value_places v.step) (sym v.same_target) ∙ sym (step_is_placed v.step)) places in
+    let whole : Begins (assignment_places v.step) l rest =
+    subst (λ (ts : List Terminal). Begins ts l rest) (ap (λ (x : Piece). This x ∷ Quoted fixed.Becomes ∷ value_places v.step) (sym v.same_target) ∙ sym (assignment_is_placed v.step)) places in
     let line : y.x ≡ (place_or_link names (target v.step), (target v.step).line) =
     (λ i. (sym (link_is names k.0 y.x.0 k.2) i, k.3 i)) ∙ ap (λ (x : Piece). (place_or_link names x, x.line)) (sym v.same_target) in (
       v.step,
       whole,
       v.uses (some_is (place names k.0.spelling) y.x.0 k.2),
-      sym t.0 ∙ (λ i. row (line i) (v.value_is i)) ∙ sym (step_row names v.step),
+      sym t.0 ∙ (λ i. row (line i) (v.value_is i)) ∙ sym (assignment_row names v.step),
     )
 
-target_known : (names : List (List ℕ)) (s : Step) → Uses names s → IsSome (place names (target s).spelling)
+target_known : (names : List (List ℕ)) (s : Assignment) → UsesVariables names s → IsSome (place names (target s).spelling)
 target_known names (Set x n) u = u
 target_known names (SetSum x y n) u = u.0
 
-pub step_again : (names : List (List ℕ)) (s : Step) (l rest : List Piece) → Begins (step_places s) l rest → Uses names s → step_at names l ≡ Ok (row_of names s, rest)
-unfolding step_at
-step_again names s l rest h u =
-    let h' : Begins (This (target s) ∷ Quoted fixed.Becomes ∷ value_places s) l rest = subst (λ (ts : List Terminal). Begins ts l rest) (step_is_placed s) h in
+pub assignment_again : (names : List (List ℕ)) (s : Assignment) (l rest : List Piece) → Begins (assignment_places s) l rest → UsesVariables names s → assignment_at names l ≡ Ok (assignment_of names s, rest)
+unfolding assignment_at
+assignment_again names s l rest h u =
+    let h' : Begins (This (target s) ∷ Quoted fixed.Becomes ∷ value_places s) l rest = subst (λ (ts : List Terminal). Begins ts l rest) (assignment_is_placed s) h in
     let a = begins_split (This (target s) ∷ []) (Quoted fixed.Becomes ∷ value_places s) l rest h' in
     let b = begins_split (Quoted fixed.Becomes ∷ []) (value_places s) a.0 rest a.2 in
     let x : ℕ × ℕ = (place_or_link names (target s), (target s).line) in
-    joined (known_name names l) (becomes_after names) x a.0 (ok (row_of names s) rest)
+    joined (known_name names l) (becomes_after names) x a.0 (ok (assignment_of names s) rest)
     (known_again names l (target s) a.0 a.1 (target_known names s u))
-    (joined (fixed_at fixed.Becomes a.0) (λ _ m. after (value_at names m) (λ e m. Ok (row x e, m))) tt b.0 (ok (row_of names s) rest)
+    (joined (fixed_at fixed.Becomes a.0) (λ _ m. after (value_at names m) (λ e m. Ok (row x e, m))) tt b.0 (ok (assignment_of names s) rest)
     (fixed_again fixed.Becomes a.0 b.0 b.1)
-    (joined (value_at names b.0) (λ e m. Ok (row x e, m)) (value_of names s) rest (ok (row_of names s) rest)
-    (value_again names s b.0 rest b.2 u) (ap (λ (r : Row). ok r rest) (sym (step_row names s)))))
+    (joined (value_at names b.0) (λ e m. Ok (row x e, m)) (value_of names s) rest (ok (assignment_of names s) rest)
+    (value_again names s b.0 rest b.2 u) (ap (λ (r : Row). ok r rest) (sym (assignment_row names s)))))
+
+-- ---- steps
+
+abbrev step_after : Known → List Piece → Piece → List Piece → Read Row
+step_after k l p m = step_read (place k.procedures p.spelling) k p l m
+
+step_begun : (k : Known) (l : List Piece) (r : Row) (rest : List Piece) (p : Piece) (m : List Piece) (o : Option ℕ) → place k.procedures p.spelling ≡ o → name_at l ≡ Ok (p, m) → step_read o k p l m ≡ Ok (r, rest)
+    → (s : Step) × Begins (step_places s) l rest × Uses k s × (r ≡ row_of k s)
+step_begun k l r rest p m (Some n) e f h =
+    let t = same_read (call_row p.line n) r m rest h in
+    let b = name_sound l p m f in
+    (Calls p, (b.0, b.1, b.2, b.3, b.4 ∙ t.1), some_is (place k.procedures p.spelling) n e, sym t.0 ∙ ap (call_row p.line) (sym (link_is k.procedures p n e)))
+step_begun k l r rest p m None e f h = let a = assignment_sound k.variables l r rest h in (Assigns a.0, a.1, a.2, a.3)
+
+pub step_sound : (k : Known) (l : List Piece) (r : Row) (rest : List Piece) → step_at k l ≡ Ok (r, rest) → (s : Step) × Begins (step_places s) l rest × Uses k s × (r ≡ row_of k s)
+unfolding step_at
+step_sound k l r rest h =
+    let y = parts (name_at l) (step_after k l) r rest h in
+    step_begun k l r rest y.x y.m (place k.procedures y.x.spelling) refl y.first y.then'
+
+-- no variable has the name of a procedure
+abbrev pub Apart : Known → Type 0
+Apart k = (s : List ℕ) → IsSome (place k.variables s) → place k.procedures s ≡ None
+
+pub step_again : (k : Known) (s : Step) (l rest : List Piece) → Apart k → Begins (step_places s) l rest → Uses k s → step_at k l ≡ Ok (row_of k s, rest)
+unfolding step_at
+step_again k (Calls x) l rest apart h u =
+    joined (name_at l) (step_after k l) x rest (ok (row_of k (Calls x)) rest) (name_again l x rest h)
+    (ap (λ (o : Option ℕ). step_read o k x l rest) (some_of (place k.procedures x.spelling) 0 u))
+step_again k (Assigns a) l rest apart h u =
+    let h' : Begins (This (target a) ∷ Quoted fixed.Becomes ∷ value_places a) l rest = subst (λ (ts : List Terminal). Begins ts l rest) (assignment_is_placed a) h in
+    let b = begins_split (This (target a) ∷ []) (Quoted fixed.Becomes ∷ value_places a) l rest h' in
+    joined (name_at l) (step_after k l) (target a) b.0 (ok (assignment_of k.variables a) rest) (name_again l (target a) b.0 b.1)
+    (ap (λ (o : Option ℕ). step_read o k (target a) l b.0) (apart (target a).spelling (target_known k.variables a u)) ∙ assignment_again k.variables a l rest h u)
+
+-- ---- the name of a procedure
+
+abbrev free_after : Known → List Piece → Piece → List Piece → Read Piece
+free_after k l p m = if is_required p.spelling || (is_some (place k.variables p.spelling) || is_some (place k.procedures p.spelling)) then Err l else Ok (p, m)
+
+pub free_sound : (k : Known) (l : List Piece) (p : Piece) (rest : List Piece) → free_name k l ≡ Ok (p, rest) → Begins (This p ∷ []) l rest × IsFree k p
+free_sound k l p rest e =
+    let y = parts (name_at l) (free_after k l) p rest e in
+    let n = name_sound l y.x y.m y.first in
+    let z = avoided (is_required y.x.spelling || (is_some (place k.variables y.x.spelling) || is_some (place k.procedures y.x.spelling))) (no l) (ok y.x y.m) p rest l refl y.then' in
+    let b = free_of (is_required y.x.spelling) (is_some (place k.variables y.x.spelling) || is_some (place k.procedures y.x.spelling)) z.0 in
+    let c = free_of (is_some (place k.variables y.x.spelling)) (is_some (place k.procedures y.x.spelling)) b.1 in
+    let t = same_read y.x p y.m rest z.1 in
+    let new : IsFree k y.x = record { free = b.0; no_variable = none_of (place k.variables y.x.spelling) c.0; no_procedure = none_of (place k.procedures y.x.spelling) c.1 } in
+    (subst (λ (q : Piece). Begins (This q ∷ []) l rest) t.0 (n.0, n.1, n.2, n.3, n.4 ∙ t.1), subst (λ (q : Piece). IsFree k q) t.0 new)
+
+pub free_again : (k : Known) (l : List Piece) (p : Piece) (rest : List Piece) → Begins (This p ∷ []) l rest → IsFree k p → free_name k l ≡ Ok (p, rest)
+free_again k l p rest h new =
+    joined (name_at l) (free_after k l) p rest (ok p rest) (name_again l p rest h)
+    (rw (new.free, new.no_variable, new.no_procedure) refl)

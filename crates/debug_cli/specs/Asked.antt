@@ -3,15 +3,15 @@ use Rattle.std.specs.Prelude.{◌≡◌, ◌⊎◌, ℕ, List, [], ◌∷◌, �
 use Rattle.std.specs.String.{string_bytes}
 use Rattle.std.specs.declared.alloc.Global.{Global}
 use Rattle.std.specs.declared.string.String.{String}
-use Rattle.cell_value.specs.declared.ways_out.WayOut.{WayOut}
 use Rattle.pas_lexer.specs.Lexed.{Lexed}
 use Rattle.edge_ports.specs.Lines.{lines_of}
 use Rattle.edge_ports.specs.Files.{FileMap, file_at, HoldsFile, LacksFile, HoldsLonger}
 use Rattle.debug_cli.specs.declared.ask.TheConstants.{SOURCE_BYTES}
 use Rattle.debug_cli.specs.Small.{Small}
-use Rattle.debug_cli.specs.Program.{IsProgram, name_of}
-use Rattle.debug_cli.specs.Texts.{opening, absent_line, failed_line, too_long_line, refused_line}
-use Rattle.debug_cli.specs.Dialog.{replies}
+use Rattle.debug_cli.specs.Program.{IsProgram}
+use Rattle.debug_cli.specs.History.{History}
+use Rattle.debug_cli.specs.Texts.{absent_line, failed_line, too_long_line, refused_line}
+use Rattle.debug_cli.specs.Dialog.{opening, first_entries, replies}
 use Rattle.edge_ports.specs.Counts.{Rose}
 use Rattle.edge_ports.specs.Told.{GaveAll, GavePrefix}
 use Rattle.debug_cli.specs.declared.status.Status.{Status}
@@ -29,6 +29,7 @@ session_status ending.Done = status.Done
 session_status ending.Console = status.Console
 session_status ending.Screen = status.Screen
 session_status ending.Spent = status.Spent
+session_status ending.Memory = status.Memory
 
 -- a status with which a session may end
 abbrev pub IsSession : Status → Type 0
@@ -68,9 +69,9 @@ abbrev pub source_of : List (String Global) → Option (List ℕ)
 source_of (program ∷ source ∷ []) = Some (string_bytes source)
 source_of _ = None
 
--- the whole of what is printed for a program whose run ends so and a console with these bytes
-abbrev pub transcript : Lexed → WayOut → List ℕ → List ℕ
-transcript t way bytes = opening (name_of t) way ++ replies (lines_of bytes)
+-- the whole of what is printed for the run of a program and a console with these bytes
+abbrev pub transcript : History → List ℕ → List ℕ
+transcript h bytes = opening h ++ replies h first_entries (lines_of bytes)
 
 -- a status with which a fetch that refused may end
 abbrev pub IsFileRefusal : Status → Type 0

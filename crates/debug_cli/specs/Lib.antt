@@ -1,11 +1,11 @@
-pub mod Texts
 pub mod Commands
 pub mod Names
 pub mod Small
 pub mod Reading
-pub mod Running
+pub mod History
+pub mod Texts
 pub mod Dialog
 pub mod Program
-pub mod Ways
 pub mod Status
 pub mod Asked
+pub mod Laws

@@ -1,15 +1,14 @@
--- What a source is: a small program, its name, and the way out of its run.
-use Rattle.std.specs.Prelude.{◌≡◌, ℕ, List, [], Option, Some, None, Result, Ok, Err, slice_get}
-use Rattle.cell_value.specs.declared.ways_out.WayOut.{WayOut}
+-- What a source is: a small program, and its run.
+use Rattle.std.specs.Prelude.{◌≡◌, ℕ, List, Result, Ok, Err}
 use Rattle.pas_lexer.specs.declared.kinds.Token.{Token}
-use Rattle.pas_lexer.specs.Lexed.{Lexed, text_of}
+use Rattle.pas_lexer.specs.Lexed.{Lexed}
 use Rattle.pas_lexer.specs.Division.{IsLexed, line_at}
 use Rattle.core_program.specs.Tables.{Tables}
-use Rattle.debug_cli.specs.declared.opening.SourceFault.{SourceFault}
-use Rattle.debug_cli.specs.declared.opening.SourceFault.TheVariants.{Refused, Memory}
-use Rattle.debug_cli.specs.declared.opening.TheConstants.{BUDGET, NAME_TOKEN}
-use Rattle.debug_cli.specs.Ways.{way_within}
-use Rattle.debug_cli.specs.Small.{pieces, Small, IsSmall, program_of}
+use Rattle.debug_cli.specs.declared.run.SourceFault.{SourceFault}
+use Rattle.debug_cli.specs.declared.run.SourceFault.TheVariants.{Refused, Memory}
+use Rattle.debug_cli.specs.declared.run.Run.{Run}
+use Rattle.debug_cli.specs.History.{History, history}
+use Rattle.debug_cli.specs.Small.{pieces, Small, IsSmall}
 
 -- the source has these tokens, which are this small program
 pub record IsProgram (source : List ℕ) (t : Lexed) (s : Small) : Type 0 where
@@ -17,24 +16,11 @@ pub record IsProgram (source : List ℕ) (t : Lexed) (s : Small) : Type 0 where
   pub lexed : IsLexed source t.tokens
   pub small : IsSmall (pieces t) s
 
--- the source is a small program whose run ends so
-pub record Runs (source : List ℕ) (t : Lexed) (s : Small) (way : WayOut) : Type 0 where
-  pub program : IsProgram source t s
-  pub ends : way_within (program_of s) BUDGET ≡ Some way
-
-abbrev pub text_at : List ℕ → Option Token → List ℕ
-text_at source None = []
-text_at source (Some t) = text_of source t
-
--- the program's name, as the heading spells it
-abbrev pub name_of : Lexed → List ℕ
-name_of t = text_at t.source (slice_get t.tokens NAME_TOKEN)
-
--- the answer is this text, or that memory ran out
-abbrev pub Opens : List ℕ → Result (List ℕ) SourceFault → Type 0
-Opens text (Ok opened) = opened ≡ text
-Opens text (Err (Refused line byte)) = ⊥
-Opens text (Err Memory) = Unit {0}
+-- the answer keeps this history, or memory ran out
+abbrev pub Keeps : History → Result Run SourceFault → Type 0
+Keeps h (Ok r) = history r ≡ h
+Keeps h (Err (Refused line byte)) = ⊥
+Keeps h (Err Memory) = Unit {0}
 
 -- a refused source is no small program
 abbrev pub IsRefused : List ℕ → SourceFault → Type 0

@@ -1,21 +1,24 @@
 -- Reading a small program from the front of the tokens: what the parser does, as functions.
-use Rattle.std.specs.Prelude.{◌≡◌, ℕ, zero, suc, ◌+◌, ◌<◌, ◌^◌, Bool, true, false, ◌||◌, if◌then◌else◌, is_some, slice_get, List, [], ◌∷◌, ◌++◌, length, drop, Option, Some, None, Result, Ok, Err, codes}
+use Rattle.std.specs.Prelude.{◌≡◌, ℕ, zero, suc, ◌+◌, ◌<◌, ◌^◌, Bool, true, false, ◌||◌, if◌then◌else◌, is_some, slice_get, List, [], ◌∷◌, ◌++◌, length, map, drop, Vec, Option, Some, None, Result, Ok, Err, codes}
 use Rattle.std.specs.Str.{bytes_eq}
+use Rattle.std.specs.declared.alloc.Global.{Global}
 use Rattle.pas_lexer.specs.declared.kinds.Kind.{Kind}
 use Rattle.pas_lexer.specs.declared.kinds.Kind.TheVariants.{Name, Number}
 use Rattle.pas_lexer.specs.declared.kinds.Token.{Token}
 use Rattle.pas_lexer.specs.Lexed.{Lexed}
 use Rattle.core_program.specs.declared.tables.Expression.TheVariants as expression
-use Rattle.core_program.specs.declared.tables.Statement.TheVariants.{Assign}
+use Rattle.core_program.specs.declared.tables.Statement.TheVariants.{Assign, Call}
 use Rattle.core_program.specs.declared.tables.Row.{Row}
+use Rattle.core_program.specs.declared.tables.Routine.{Routine}
 use Rattle.core_program.specs.Tables.{Tables}
 use Rattle.debug_cli.specs.declared.terminals.Fixed.{Fixed}
 use Rattle.debug_cli.specs.declared.terminals.Fixed.TheVariants as fixed
 use Rattle.debug_cli.specs.declared.names.Names.{Names}
+use Rattle.debug_cli.specs.declared.names.Scope.{Scope}
 use Rattle.debug_cli.specs.declared.small.SmallFault.{SmallFault}
 use Rattle.debug_cli.specs.declared.small.SmallFault.TheVariants.{Unbuilt, Memory}
 use Rattle.debug_cli.specs.Names.{Tabled}
-use Rattle.debug_cli.specs.Small.{Piece, piece_of, pieces, is_fixed, is_required, place, block_of}
+use Rattle.debug_cli.specs.Small.{Piece, piece_of, pieces, is_fixed, is_required, place, Known, with_procedure, Translation, all_rows, routine, routines_from, tables_of}
 
 -- what is read and the tokens behind it, or the tokens from the refused one on
 abbrev pub Read : Type 0 → Type 0
@@ -84,8 +87,19 @@ unfoldable pub value_at : List (List ℕ) → List Piece → Read expression.the
 value_at names [] = Err []
 value_at names (p ∷ l) = if named p.kind then sum_at names (p ∷ l) else constant_at (p ∷ l)
 
-unfoldable pub step_at : List (List ℕ) → List Piece → Read Row
-step_at names l = after (known_name names l) (λ x l. after (fixed_at fixed.Becomes l) (λ _ l. after (value_at names l) (λ e l. Ok (row x e, l))))
+unfoldable pub assignment_at : List (List ℕ) → List Piece → Read Row
+assignment_at names l = after (known_name names l) (λ x l. after (fixed_at fixed.Becomes l) (λ _ l. after (value_at names l) (λ e l. Ok (row x e, l))))
+
+abbrev pub call_row : ℕ → ℕ → Row
+call_row line n = record { line = line; statement = Call n }
+
+-- a step that begins with this name: a call, if it is the name of a procedure
+abbrev pub step_read : Option ℕ → Known → Piece → List Piece → List Piece → Read Row
+step_read (Some n) k p l rest = Ok (call_row p.line n, rest)
+step_read None k p l rest = assignment_at k.variables l
+
+unfoldable pub step_at : Known → List Piece → Read Row
+step_at k l = after (name_at l) (λ p rest. step_read (place k.procedures p.spelling) k p l rest)
 
 -- further items, each behind the separator, at most n of them
 module _ {A : Type 0} where
@@ -108,23 +122,46 @@ variables_at l =
     then after (fixed_at fixed.Var l) (λ _ l. after (names_at l) (λ names l. after (fixed_at fixed.Colon l) (λ _ l. after (integer_at l) (λ _ l. after (fixed_at fixed.Semicolon l) (λ _ l. Ok (names, l))))))
     else Ok ([], l)
 
-unfoldable pub steps_at : List (List ℕ) → List Piece → Read (List Row)
-steps_at names l = after (step_at names l) (λ x l. all_further fixed.Semicolon (λ _ l. step_at names l) (x ∷ []) l)
+unfoldable pub steps_at : Known → List Piece → Read (List Row)
+steps_at k l = after (step_at k l) (λ x l. all_further fixed.Semicolon (λ _ l. step_at k l) (x ∷ []) l)
 
-unfoldable pub body_at : List (List ℕ) → List Piece → Read (List Row)
-body_at names l = after (fixed_at fixed.Begin l) (λ _ l. after (steps_at names l) (λ rows l. after (fixed_at fixed.End l) (λ _ l. Ok (rows, l))))
+unfoldable pub body_at : Known → List Piece → Read (List Row)
+body_at k l = after (fixed_at fixed.Begin l) (λ _ l. after (steps_at k l) (λ rows l. after (fixed_at fixed.End l) (λ _ l. Ok (rows, l))))
+
+-- a name that is free
+abbrev pub free_name : Known → List Piece → Read Piece
+free_name k l = after (name_at l) (λ p rest. if is_required p.spelling || (is_some (place k.variables p.spelling) || is_some (place k.procedures p.spelling)) then Err l else Ok (p, rest))
+
+-- what is known behind these procedures
+abbrev pub known_after : List (List ℕ) → List Translation → Known
+known_after variables found = record { variables = variables; procedures = map (λ t. t.name.spelling) found }
+
+abbrev pub translated : Piece → List Row → Translation
+translated name rows = record { name = name; rows = rows }
+
+-- a procedure behind the word `procedure` and these procedures
+unfoldable pub procedure_at : List (List ℕ) → List Translation → List Piece → Read Translation
+procedure_at variables found l =
+    after (free_name (known_after variables found) l) (λ p l. after (fixed_at fixed.Semicolon l) (λ _ l.
+    after (body_at (with_procedure (known_after variables found) p) l) (λ rows l. after (fixed_at fixed.Semicolon l) (λ _ l. Ok (translated p rows, l)))))
+
+unfoldable pub procedures_at : List (List ℕ) → List Piece → Read (List Translation)
+procedures_at variables l = all_further fixed.Procedure (procedure_at variables) [] l
 
 unfoldable pub heading_at : List Piece → Read (Unit {0})
 heading_at l = after (fixed_at fixed.Program l) (λ _ l. after (name_at l) (λ _ l. fixed_at fixed.Semicolon l))
 
+-- the statement part of the program behind these procedures, and the end
+unfoldable pub block_at : List (List ℕ) → List Translation → List Piece → Read Tables
+block_at names ts l = after (body_at (known_after names ts) l) (λ rows l. after (fixed_at fixed.Dot l) (λ _ l. after (fixed_at fixed.Finish l) (λ _ l. Ok (tables_of (length names) ts rows, l))))
+
 unfoldable pub small_at : List Piece → Read Tables
-small_at l = after (heading_at l) (λ _ l. after (variables_at l) (λ names l. after (body_at names l) (λ rows l. after (fixed_at fixed.Dot l) (λ _ l. after (fixed_at fixed.Finish l) (λ _ l.
-    Ok (record { rows = rows; routines = block_of (length names) (length rows) ∷ [] }, l))))))
+small_at l = after (heading_at l) (λ _ l. after (variables_at l) (λ names l. after (procedures_at names l) (λ ts l. block_at names ts l)))
 
 -- what stands at a place of the tokens
 abbrev pub IsFront : Lexed → ℕ → Option Token → Type 0
 IsFront lexed at None = drop at (pieces lexed) ≡ []
-IsFront lexed at (Some t) = (drop at (pieces lexed) ≡ piece_of lexed.source t ∷ drop (at + 1) (pieces lexed)) × (at + 1 < 2 ^ 32) × (slice_get lexed.tokens at ≡ Some t)
+IsFront lexed at (Some t) = (drop at (pieces lexed) ≡ piece_of lexed.source at t ∷ drop (at + 1) (pieces lexed)) × (at + 1 < 2 ^ 32) × (slice_get lexed.tokens at ≡ Some t)
 
 -- the code's answer is this reading of the tokens, unless memory ran out
 abbrev pub Gives : {X A : Type 0} → List Piece → (X → A) → Result (X × ℕ) SmallFault → Read A → Type 0
@@ -159,6 +196,43 @@ abbrev pub VariablesRead : List Piece → Result (Names × ℕ) SmallFault → R
 VariablesRead ps (Ok x) r = (list : List (List ℕ)) × (r ≡ Ok (list, drop x.1 ps)) × Tabled list x.0.places x.0.cells
 VariablesRead ps (Err (Unbuilt i)) r = r ≡ Err (drop i ps)
 VariablesRead ps (Err Memory) r = Unit {0}
+
+-- these rows were read and put behind the others
+abbrev pub RowsRead : List Piece → Tables → Tables → Result ℕ SmallFault → Read (List Row) → Type 0
+RowsRead ps old new (Ok n) r = (rows : List Row) × (r ≡ Ok (rows, drop n ps)) × (new ≡ record old { rows = old.rows ++ rows })
+RowsRead ps old new (Err (Unbuilt i)) r = r ≡ Err (drop i ps)
+RowsRead ps old new (Err Memory) r = Unit {0}
+
+-- the scope keeps the places of the names that are known
+pub record IsScope (k : Known) (scope : Scope) : Type 0 where
+  pub variables : Tabled k.variables scope.variables.places scope.variables.cells
+  pub procedures : Tabled k.procedures scope.procedures.places scope.procedures.cells
+
+-- a free name was declared as a procedure's
+abbrev pub ProcedureDeclared : List Piece → Known → ℕ → Scope → Result ℕ SmallFault → Read Piece → Type 0
+ProcedureDeclared ps k at scope (Ok n) r = (x : Piece) × (r ≡ Ok (x, drop n ps)) × (x.number ≡ at) × IsScope (with_procedure k x) scope
+ProcedureDeclared ps k at scope (Err (Unbuilt i)) r = r ≡ Err (drop i ps)
+ProcedureDeclared ps k at scope (Err Memory) r = Unit {0}
+
+-- a procedure was read: its rows were put behind the others, and its name was declared
+abbrev pub ProcedureRead : List Piece → List (List ℕ) → List Translation → Tables → Tables → Scope → Result (Routine × ℕ) SmallFault → Read Translation → Type 0
+ProcedureRead ps variables found old new scope (Ok x) r = (t : Translation) × (r ≡ Ok (t, drop x.1 ps)) × (new ≡ record old { rows = old.rows ++ t.rows })
+    × (x.0 ≡ routine t.name (length old.rows) (length t.rows)) × IsScope (known_after variables (found ++ t ∷ [])) scope
+ProcedureRead ps variables found old new scope (Err (Unbuilt i)) r = r ≡ Err (drop i ps)
+ProcedureRead ps variables found old new scope (Err Memory) r = Unit {0}
+
+-- these procedures were read
+abbrev pub ProceduresRead : List Piece → List (List ℕ) → Tables → Tables → Scope → Result (Vec Routine Global × ℕ) SmallFault → Read (List Translation) → Type 0
+ProceduresRead ps variables old new scope (Ok x) r = (ts : List Translation) × (r ≡ Ok (ts, drop x.1 ps)) × (new ≡ record old { rows = old.rows ++ all_rows ts })
+    × (x.0.items ≡ routines_from (length old.rows) ts) × IsScope (known_after variables ts) scope
+ProceduresRead ps variables old new scope (Err (Unbuilt i)) r = r ≡ Err (drop i ps)
+ProceduresRead ps variables old new scope (Err Memory) r = Unit {0}
+
+-- the tables are those read
+abbrev pub TablesRead : List Piece → Tables → Result ℕ SmallFault → Read Tables → Type 0
+TablesRead ps new (Ok n) r = r ≡ Ok (new, drop n ps)
+TablesRead ps new (Err (Unbuilt i)) r = r ≡ Err (drop i ps)
+TablesRead ps new (Err Memory) r = Unit {0}
 
 -- the answer is this program, or that memory ran out
 abbrev pub IsThat : Tables → Result Tables SmallFault → Type 0

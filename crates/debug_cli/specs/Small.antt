@@ -1,7 +1,10 @@
 -- Small programs: the grammar, its static rules, and the program that they denote. The grammar and the
--- rules are those of ISO 7185, cut to one block of integer variables whose statements assign to them:
---   program = "program" name ";" [ "var" name { "," name } ":" "integer" ";" ] "begin" step { ";" step } "end" "."
---   step    = name ":=" number | name ":=" name "+" number
+-- rules are those of ISO 7185, cut to integer variables of the program block and procedures without
+-- parameters and variables, which stand in the program block:
+--   program   = "program" name ";" [ "var" name { "," name } ":" "integer" ";" ] { procedure } body "."
+--   procedure = "procedure" name ";" body ";"
+--   body      = "begin" step { ";" step } "end"
+--   step      = name ":=" number | name ":=" name "+" number | name
 use Rattle.std.specs.Prelude.{◌≡◌, ℕ, suc, ◌+◌, Bool, true, false, ◌||◌, if◌then◌else◌, List, [], ◌∷◌, ◌++◌, length, map, Option, Some, None, option_map, IsSome, codes, unwrap_or}
 use Rattle.std.specs.List.{list_any}
 use Rattle.std.specs.Str.{bytes_eq}
@@ -12,7 +15,7 @@ use Rattle.pas_lexer.specs.declared.kinds.Symbol.TheVariants as symbol
 use Rattle.pas_lexer.specs.declared.kinds.Token.{Token}
 use Rattle.pas_lexer.specs.Lexed.{Lexed, spelling_of}
 use Rattle.core_program.specs.declared.tables.Expression.TheVariants as expression
-use Rattle.core_program.specs.declared.tables.Statement.TheVariants.{Assign}
+use Rattle.core_program.specs.declared.tables.Statement.TheVariants.{Assign, Call}
 use Rattle.core_program.specs.declared.tables.Row.{Row}
 use Rattle.core_program.specs.declared.tables.Routine.{Routine}
 use Rattle.core_program.specs.Tables.{Tables}
@@ -26,17 +29,25 @@ pub record Piece : Type 0 where
   pub kind : Kind
   pub spelling : List ℕ
   pub line : ℕ
+  -- the number of the token
+  pub number : ℕ
 
-abbrev pub piece_of : List ℕ → Token → Piece
-piece_of source t = record { kind = t.kind; spelling = spelling_of source t; line = t.line }
+abbrev pub piece_of : List ℕ → ℕ → Token → Piece
+piece_of source n t = record { kind = t.kind; spelling = spelling_of source t; line = t.line; number = n }
+
+-- tokens that are numbered from n on
+abbrev pub pieces_from : List ℕ → ℕ → List Token → List Piece
+pieces_from source n [] = []
+pieces_from source n (t ∷ ts) = piece_of source n t ∷ pieces_from source (n + 1) ts
 
 abbrev pub pieces : Lexed → List Piece
-pieces lexed = map (piece_of lexed.source) lexed.tokens
+pieces lexed = pieces_from lexed.source 0 lexed.tokens
 
 -- the tokens that the grammar writes in quotes
 abbrev pub is_fixed : Fixed → Kind → Bool
 is_fixed fixed.Program (Word word.WProgram) = true
 is_fixed fixed.Var (Word word.WVar) = true
+is_fixed fixed.Procedure (Word word.WProcedure) = true
 is_fixed fixed.Begin (Word word.WBegin) = true
 is_fixed fixed.End (Word word.WEnd) = true
 is_fixed fixed.Semicolon (Symbol symbol.Semicolon) = true
@@ -71,20 +82,37 @@ Spells [] (p ∷ ps) = ⊥
 Spells (t ∷ ts) [] = ⊥
 
 -- name ":=" number, and name ":=" name "+" number
+pub data Assignment : Type 0 where
+  Set : (target : Piece) (number : ℕ) → Assignment
+  SetSum : (target summand : Piece) (number : ℕ) → Assignment
+
+-- an assignment, or the name of the procedure that is called
 pub data Step : Type 0 where
-  Set : (target : Piece) (number : ℕ) → Step
-  SetSum : (target summand : Piece) (number : ℕ) → Step
+  Assigns : (assignment : Assignment) → Step
+  Calls : (procedure : Piece) → Step
+
+pub record Body : Type 0 where
+  pub first : Step
+  pub others : List Step
+
+pub record Procedure : Type 0 where
+  pub name : Piece
+  pub body : Body
 
 pub record Small : Type 0 where
   pub name : Piece
   -- none where there is no variable part
   pub variables : List Piece
-  pub first : Step
-  pub others : List Step
+  pub procedures : List Procedure
+  pub body : Body
+
+abbrev pub assignment_places : Assignment → List Terminal
+assignment_places (Set x n) = This x ∷ Quoted fixed.Becomes ∷ Value n ∷ []
+assignment_places (SetSum x y n) = This x ∷ Quoted fixed.Becomes ∷ This y ∷ Quoted fixed.Plus ∷ Value n ∷ []
 
 abbrev pub step_places : Step → List Terminal
-step_places (Set x n) = This x ∷ Quoted fixed.Becomes ∷ Value n ∷ []
-step_places (SetSum x y n) = This x ∷ Quoted fixed.Becomes ∷ This y ∷ Quoted fixed.Plus ∷ Value n ∷ []
+step_places (Assigns a) = assignment_places a
+step_places (Calls x) = This x ∷ []
 
 -- further items, each behind the separator
 abbrev pub further_places : {T : Type 0} → Fixed → (T → List Terminal) → List T → List Terminal
@@ -99,13 +127,20 @@ variable_part [] = []
 variable_part (x ∷ xs) =
     Quoted fixed.Var ∷ This x ∷ (further_places fixed.Comma name_places xs ++ Quoted fixed.Colon ∷ Spelled (codes "integer") ∷ Quoted fixed.Semicolon ∷ [])
 
--- the places of a whole program
+abbrev pub body_places : Body → List Terminal
+body_places b = Quoted fixed.Begin ∷ (step_places b.first ++ (further_places fixed.Semicolon step_places b.others ++ Quoted fixed.End ∷ []))
+
+-- the places of a procedure behind the word `procedure`
+abbrev pub procedure_places : Procedure → List Terminal
+procedure_places q = This q.name ∷ Quoted fixed.Semicolon ∷ (body_places q.body ++ Quoted fixed.Semicolon ∷ [])
+
+-- the places of a whole program; the word `procedure` stands in front of each procedure
 abbrev pub places : Small → List Terminal
 places s =
     Quoted fixed.Program ∷ This s.name ∷ Quoted fixed.Semicolon ∷ (variable_part s.variables
-    ++ (Quoted fixed.Begin ∷ (step_places s.first
-    ++ (further_places fixed.Semicolon step_places s.others
-    ++ Quoted fixed.End ∷ Quoted fixed.Dot ∷ Quoted fixed.Finish ∷ []))))
+    ++ (further_places fixed.Procedure procedure_places s.procedures
+    ++ (body_places s.body
+    ++ Quoted fixed.Dot ∷ Quoted fixed.Finish ∷ [])))
 
 -- ---- the static rules
 
@@ -146,41 +181,117 @@ abbrev pub Declares : List (List ℕ) → List Piece → Type 0
 Declares before [] = Unit {0}
 Declares before (x ∷ xs) = (is_required x.spelling ≡ false) × (place before x.spelling ≡ None) × Declares (before ++ x.spelling ∷ []) xs
 
--- a step's names are declared
-abbrev pub Uses : List (List ℕ) → Step → Type 0
-Uses names (Set x n) = IsSome (place names x.spelling)
-Uses names (SetSum x y n) = IsSome (place names x.spelling) × IsSome (place names y.spelling)
+-- the names that are declared at a place of the source
+pub record Known : Type 0 where
+  pub variables : List (List ℕ)
+  pub procedures : List (List ℕ)
 
-abbrev pub AllUse : List (List ℕ) → List Step → Type 0
-AllUse names [] = Unit {0}
-AllUse names (s ∷ ss) = Uses names s × AllUse names ss
+abbrev pub with_procedure : Known → Piece → Known
+with_procedure k x = record k { procedures = k.procedures ++ x.spelling ∷ [] }
+
+-- the names of an assignment are declared variables
+abbrev pub UsesVariables : List (List ℕ) → Assignment → Type 0
+UsesVariables names (Set x n) = IsSome (place names x.spelling)
+UsesVariables names (SetSum x y n) = IsSome (place names x.spelling) × IsSome (place names y.spelling)
+
+-- a step assigns and reads declared variables, or calls a declared procedure
+abbrev pub Uses : Known → Step → Type 0
+Uses k (Assigns a) = UsesVariables k.variables a
+Uses k (Calls x) = IsSome (place k.procedures x.spelling)
+
+abbrev pub AllUse : Known → List Step → Type 0
+AllUse k [] = Unit {0}
+AllUse k (s ∷ ss) = Uses k s × AllUse k ss
+
+pub record BodyUses (k : Known) (b : Body) : Type 0 where
+  pub first : Uses k b.first
+  pub others : AllUse k b.others
+
+-- a name that is neither required nor declared yet
+pub record IsFree (k : Known) (x : Piece) : Type 0 where
+  pub free : is_required x.spelling ≡ false
+  pub no_variable : place k.variables x.spelling ≡ None
+  pub no_procedure : place k.procedures x.spelling ≡ None
+
+-- A procedure's name is new. The procedure is declared from its heading on, so that its own body knows it.
+abbrev pub DeclaresProcedures : Known → List Procedure → Type 0
+DeclaresProcedures k [] = Unit {0}
+DeclaresProcedures k (q ∷ qs) = IsFree k q.name × BodyUses (with_procedure k q.name) q.body × DeclaresProcedures (with_procedure k q.name) qs
+
+abbrev pub with_procedures : Known → List Procedure → Known
+with_procedures k [] = k
+with_procedures k (q ∷ qs) = with_procedures (with_procedure k q.name) qs
+
+-- what is known behind the variable part
+abbrev pub at_first : Small → Known
+at_first s = record { variables = spellings s.variables; procedures = [] }
+
+-- what is known in the statement part of the program
+abbrev pub at_last : Small → Known
+at_last s = with_procedures (at_first s) s.procedures
 
 -- the tokens spell this small program, and it keeps the rules
 pub record IsSmall (tokens : List Piece) (s : Small) : Type 0 where
   pub spelled : Spells (places s) tokens
-  pub declared : Declares [] s.variables
-  pub first_uses : Uses (spellings s.variables) s.first
-  pub others_use : AllUse (spellings s.variables) s.others
+  pub variables : Declares [] s.variables
+  pub procedures : DeclaresProcedures (at_first s) s.procedures
+  pub body : BodyUses (at_last s) s.body
 
 -- ---- the program denoted
 
 abbrev pub place_or_link : List (List ℕ) → Piece → ℕ
 place_or_link names x = unwrap_or (place names x.spelling) 0
 
--- a step begins at its target
-abbrev pub row_of : List (List ℕ) → Step → Row
-row_of names (Set x n) = record { line = x.line; statement = Assign (place_or_link names x) (expression.Number n) }
-row_of names (SetSum x y n) = record { line = x.line; statement = Assign (place_or_link names x) (expression.Sum (place_or_link names y) n) }
+abbrev pub assignment_of : List (List ℕ) → Assignment → Row
+assignment_of names (Set x n) = record { line = x.line; statement = Assign (place_or_link names x) (expression.Number n) }
+assignment_of names (SetSum x y n) = record { line = x.line; statement = Assign (place_or_link names x) (expression.Sum (place_or_link names y) n) }
 
-abbrev pub rows_of : List (List ℕ) → List Step → List Row
-rows_of names steps = map (row_of names) steps
+-- A step begins at its first name. The first procedure is routine 1.
+abbrev pub row_of : Known → Step → Row
+row_of k (Assigns a) = assignment_of k.variables a
+row_of k (Calls x) = record { line = x.line; statement = Call (place_or_link k.procedures x) }
+
+abbrev pub rows_of : Known → List Step → List Row
+rows_of k steps = map (row_of k) steps
+
+abbrev pub body_rows : Known → Body → List Row
+body_rows k b = rows_of k (b.first ∷ b.others)
+
+-- a procedure's name and the rows of its statement part
+pub record Translation : Type 0 where
+  pub name : Piece
+  pub rows : List Row
+
+abbrev pub translation : Known → Procedure → Translation
+translation k q = record { name = q.name; rows = body_rows (with_procedure k q.name) q.body }
+
+abbrev pub translations : Known → List Procedure → List Translation
+translations k [] = []
+translations k (q ∷ qs) = translation k q ∷ translations (with_procedure k q.name) qs
+
+abbrev pub all_rows : List Translation → List Row
+all_rows [] = []
+all_rows (t ∷ ts) = t.rows ++ all_rows ts
+
+-- a procedure, whose frame has the link alone
+abbrev pub routine : Piece → ℕ → ℕ → Routine
+routine name first count = record { name = name.number; cells = 1; first = first; count = count }
+
+-- the procedures, whose rows stand one behind the other
+abbrev pub routines_from : ℕ → List Translation → List Routine
+routines_from first [] = []
+routines_from first (t ∷ ts) = routine t.name first (length t.rows) ∷ routines_from (first + length t.rows) ts
 
 -- the program block: its name is token 1, and its frame has the link and the variables
-abbrev pub block_of : ℕ → ℕ → Routine
-block_of variables steps = record { name = 1; cells = 1 + variables; first = 0; count = steps }
+abbrev pub block : ℕ → ℕ → ℕ → Routine
+block variables first count = record { name = 1; cells = 1 + variables; first = first; count = count }
+
+-- the rows of the procedures stand in front of those of the program block, which is routine 0
+abbrev pub tables_of : ℕ → List Translation → List Row → Tables
+tables_of variables ts rows = record {
+  rows = all_rows ts ++ rows;
+  routines = block variables (length (all_rows ts)) (length rows) ∷ routines_from 0 ts;
+}
 
 abbrev pub program_of : Small → Tables
-program_of s = record {
-  rows = rows_of (spellings s.variables) (s.first ∷ s.others);
-  routines = block_of (length s.variables) (1 + length s.others) ∷ [];
-}
+program_of s = tables_of (length s.variables) (translations (at_first s) s.procedures) (body_rows (at_last s) s.body)

@@ -1,11 +1,15 @@
 -- What is printed of a call, and of the state of the search.
-use Rattle.std.specs.Prelude.{ℕ, List, [], ◌++◌, codes, decimal}
+use Rattle.std.specs.Prelude.{ℕ, List, [], ◌++◌, codes, decimal, Option, Some, None, slice_get}
 use Rattle.cell_value.specs.declared.ways_out.Kind.{Kind}
 use Rattle.cell_value.specs.declared.ways_out.Kind.TheVariants as kind
 use Rattle.cell_value.specs.declared.ways_out.Which.{Which}
 use Rattle.cell_value.specs.declared.ways_out.Which.TheVariants as which
 use Rattle.cell_value.specs.declared.ways_out.WayOut.{WayOut}
 use Rattle.cell_value.specs.declared.ways_out.WayOut.TheVariants as way
+use Rattle.core_program.specs.declared.calls.CallRow.{CallRow}
+use Rattle.plain_search.specs.declared.state.SearchState.{SearchState}
+use Rattle.plain_search.specs.declared.state.SearchState.TheVariants.{Ask, Found, NothingWrong}
+use Rattle.debug_cli.specs.History.{History, name_of}
 use Rattle.edge_ports.specs.declared.ports.FetchFault.{FetchFault}
 use Rattle.edge_ports.specs.declared.ports.FetchFault.TheVariants as fetch
 
@@ -43,21 +47,38 @@ way_text (way.Limited w) = codes "limited " ++ limit_text w
 abbrev pub inner_line : List ℕ → List ℕ
 inner_line text = codes "  " ++ text ++ codes "\n"
 
--- the line that begins the card of call 0, after the routine's name
-abbrev pub first_line : List ℕ → List ℕ
-first_line name = codes "call 0 " ++ name ++ codes "\n"
+-- a call by its number and the name of its routine
+abbrev pub call_text : History → ℕ → CallRow → List ℕ
+call_text h call row = codes "call " ++ decimal call ++ codes " " ++ name_of h row.routine
 
--- the card of call 0
-abbrev pub card : List ℕ → WayOut → List ℕ
-card name w = first_line name ++ inner_line (way_text w)
+abbrev pub in_parent : Option ℕ → List ℕ
+in_parent None = []
+in_parent (Some parent) = codes " in call " ++ decimal parent
 
--- the report where call 0 is found, which is judged wrong from the start
-abbrev pub found_report : List ℕ → WayOut → List ℕ
-found_report name w = codes "found " ++ first_line name ++ inner_line (way_text w)
+-- the card of a call: what was called from where, and how it ended
+abbrev pub card_by : History → ℕ → Option CallRow → List ℕ
+card_by h call None = []
+card_by h call (Some row) = call_text h call row ++ in_parent row.parent ++ codes "\n" ++ inner_line (way_text row.way)
 
--- what a session opens with: the card of call 0, and the report
-unfoldable pub opening : List ℕ → WayOut → List ℕ
-opening name w = card name w ++ found_report name w
+unfoldable pub card : History → ℕ → List ℕ
+card h call = card_by h call (slice_get h.calls call)
+
+-- the lines on a call that is found
+abbrev pub found_by : History → ℕ → Option CallRow → List ℕ
+found_by h call None = []
+found_by h call (Some row) = codes "found " ++ call_text h call row ++ codes "\n" ++ inner_line (way_text row.way)
+
+unfoldable pub found_text : History → ℕ → List ℕ
+found_text h call = found_by h call (slice_get h.calls call)
+
+abbrev pub question_line : (call suspects left : ℕ) → List ℕ
+question_line call suspects left = codes "ask " ++ decimal call ++ codes " suspects " ++ decimal suspects ++ codes " left " ++ decimal left ++ codes "\n"
+
+-- the report on a state of the search
+unfoldable pub report : History → SearchState → List ℕ
+report h (Ask call weight suspects left) = question_line call suspects left ++ card h call
+report h (Found call) = found_text h call
+report h NothingWrong = codes "nothing wrong\n"
 
 -- the lines of refusals
 abbrev pub usage_line : List ℕ

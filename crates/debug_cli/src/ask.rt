@@ -1,7 +1,6 @@
 //! The command: from its words to its exit status.
 ghost use Rattle.std.specs.Prelude.{◌≡◌, ◌⊎◌, ◌<◌, ◌≤◌, ◌++◌, ℕ, List, Option, Some, None, Ok, Err, length, IfOk, codes, alloc_error};
 ghost use Rattle.std.specs.Option.{option_map};
-ghost use Rattle.cell_value.specs.declared.ways_out.WayOut.{WayOut};
 ghost use Rattle.edge_ports.specs.Counts.{Rose, NotFallen};
 ghost use Rattle.edge_ports.specs.Told.{GaveAll, GavePrefix};
 ghost use Rattle.edge_ports.specs.Lines.{lines_of};
@@ -9,14 +8,16 @@ ghost use Rattle.edge_ports.specs.Files.{FileMap, file_at, HoldsFile, LacksFile,
 ghost use Rattle.edge_ports.specs.declared.lines.TheConstants.{CONSOLE_BYTES};
 ghost use Rattle.pas_lexer.specs.Lexed.{Lexed};
 ghost use Rattle.debug_cli.specs.Small.{Small};
-ghost use Rattle.debug_cli.specs.Program.{Runs};
-ghost use Rattle.debug_cli.specs.Texts.{opening, usage_line, file_line, refused_line};
-ghost use Rattle.debug_cli.specs.Dialog.{replies};
+ghost use Rattle.debug_cli.specs.Program.{IsProgram};
+ghost use Rattle.debug_cli.specs.Texts.{usage_line, file_line, refused_line};
+ghost use Rattle.debug_cli.specs.History.{history_of};
+ghost use Rattle.debug_cli.specs.Laws.{AsksTheBest, FindsTheFault};
 ghost use Rattle.debug_cli.specs.declared.status.Status.{Status};
 ghost use Rattle.debug_cli.specs.Status.{code_of};
 ghost use Rattle.debug_cli.specs.Asked.{GivesLine, IsSession, IsRefusal, IsAnswer, IsFileRefusal, Finds, NoProgram, StayedBelow, SourceRefused, FileRefused, source_of, transcript};
 
-use crate::opening::{SourceFault, open_source};
+use crate::laws::search_is_sound;
+use crate::run::{SourceFault, run_source};
 use crate::session::{give_line, hold_session};
 use crate::status::Status;
 use crate::texts::{absent_text, failed_text, refused_text, too_long_text};
@@ -47,12 +48,12 @@ fn ask_source<I: Source, O: Sink>(
     screen: &mut O,
 ) -> Status
     requires { length source.now ≤ 1048576 }
-    // A small program whose run ends so.
-    ensures whole { (t : Lexed) (s : Small) (way : WayOut) (more : List ℕ) → Runs source.now t s way → I.left console.old ≡ Some more
-        → result ≡ Status.Done → GaveAll (O.given screen.old) (O.given screen.new) (transcript t way more) }
-    ensures prefix { (t : Lexed) (s : Small) (way : WayOut) (more : List ℕ) → Runs source.now t s way → I.left console.old ≡ Some more
-        → GavePrefix (O.given screen.old) (O.given screen.new) (transcript t way more) }
-    ensures program { (t : Lexed) (s : Small) (way : WayOut) → Runs source.now t s way → IsSession result }
+    // A small program.
+    ensures whole { (t : Lexed) (s : Small) (more : List ℕ) → IsProgram source.now t s → I.left console.old ≡ Some more
+        → result ≡ Status.Done → GaveAll (O.given screen.old) (O.given screen.new) (transcript (history_of t s) more) }
+    ensures prefix { (t : Lexed) (s : Small) (more : List ℕ) → IsProgram source.now t s → I.left console.old ≡ Some more
+        → GavePrefix (O.given screen.old) (O.given screen.new) (transcript (history_of t s) more) }
+    ensures program { (t : Lexed) (s : Small) → IsProgram source.now t s → IsSession result }
     // Another source.
     ensures refused { result ≡ Status.Source → NoProgram source.now
         × ((line : ℕ) × (byte : ℕ) × GaveAll (O.given screen.old) (O.given screen.new) (refused_line line byte)) }
@@ -65,8 +66,8 @@ fn ask_source<I: Source, O: Sink>(
     ensures console_faults { NotFallen (I.faults console.old) (I.faults console.new) }
     ensures screen_faults { NotFallen (O.faults screen.old) (O.faults screen.new) }
 {
-    match open_source(alloc, source) {
-        Ok(opening) => hold_session(alloc, opening.as_slice(), console, screen),
+    match run_source(alloc, source) {
+        Ok(run) => hold_session(alloc, &run, console, screen),
         Err(SourceFault::Refused { line, byte }) => match refused_text(alloc, line, byte) {
             Ok(text) => give_line(screen, text.as_slice(), Status::Source),
             Err(_) => Status::Memory,
@@ -111,15 +112,15 @@ fn ask_file<K: Keeper, I: Source, O: Sink>(
     console: &mut I,
     screen: &mut O,
 ) -> Status
-    // A small program whose run ends so.
-    ensures whole { (source : List ℕ) (t : Lexed) (s : Small) (way : WayOut) (more : List ℕ) → Finds (K.files keeper.old) name.now source
-        → Runs source t s way → I.left console.old ≡ Some more
-        → result ≡ Status.Done → GaveAll (O.given screen.old) (O.given screen.new) (transcript t way more) }
-    ensures prefix { (source : List ℕ) (t : Lexed) (s : Small) (way : WayOut) (more : List ℕ) → Finds (K.files keeper.old) name.now source
-        → length source ≤ SOURCE_BYTES → Runs source t s way → I.left console.old ≡ Some more → StayedBelow (K.faults keeper.old) (K.faults keeper.new)
-        → GavePrefix (O.given screen.old) (O.given screen.new) (transcript t way more) }
-    ensures program { (source : List ℕ) (t : Lexed) (s : Small) (way : WayOut) → Finds (K.files keeper.old) name.now source
-        → length source ≤ SOURCE_BYTES → Runs source t s way → StayedBelow (K.faults keeper.old) (K.faults keeper.new) → IsSession result }
+    // A small program.
+    ensures whole { (source : List ℕ) (t : Lexed) (s : Small) (more : List ℕ) → Finds (K.files keeper.old) name.now source
+        → IsProgram source t s → I.left console.old ≡ Some more
+        → result ≡ Status.Done → GaveAll (O.given screen.old) (O.given screen.new) (transcript (history_of t s) more) }
+    ensures prefix { (source : List ℕ) (t : Lexed) (s : Small) (more : List ℕ) → Finds (K.files keeper.old) name.now source
+        → length source ≤ SOURCE_BYTES → IsProgram source t s → I.left console.old ≡ Some more → StayedBelow (K.faults keeper.old) (K.faults keeper.new)
+        → GavePrefix (O.given screen.old) (O.given screen.new) (transcript (history_of t s) more) }
+    ensures program { (source : List ℕ) (t : Lexed) (s : Small) → Finds (K.files keeper.old) name.now source
+        → length source ≤ SOURCE_BYTES → IsProgram source t s → StayedBelow (K.faults keeper.old) (K.faults keeper.new) → IsSession result }
     // Another source, or none.
     ensures refused { result ≡ Status.Source → SourceRefused (K.files keeper.old) name.now (O.given screen.old) (O.given screen.new) }
     ensures no_program { (source : List ℕ) → Finds (K.files keeper.old) name.now source → length source ≤ SOURCE_BYTES
@@ -141,7 +142,8 @@ fn ask_file<K: Keeper, I: Source, O: Sink>(
 
 /// The command `pasask SOURCE`: `words` are the program's name and the source's. It fetches the source
 /// from the keeper, runs it, gives the card of call 0 and a report to the screen, and answers the
-/// console's lines up to `quit` or its end.
+/// console's lines up to `quit` or its end. A report asks about a call, or names the call at fault, as
+/// the answers stand.
 ///
 /// It answers the exit status: 0 after `quit` or the console's end; 2 where the words are not two; 3
 /// where the source is no program of the language; 4 where it could not be fetched; 5 and 6 where the
@@ -156,19 +158,22 @@ pub fn ask_pascal<K: Keeper, I: Source, O: Sink>(
 ) -> u8
     // The words name a source that the keeper has, which is a small program, and the console tells its
     // bytes: what the screen got.
-    ensures transcript { (name source : List ℕ) (t : Lexed) (s : Small) (way : WayOut) (more : List ℕ) → source_of words.now ≡ Some name
-        → Finds (K.files keeper.old) name source → Runs source t s way → I.left console.old ≡ Some more
-        → result ≡ 0 → GaveAll (O.given screen.old) (O.given screen.new) (transcript t way more) }
-    ensures prefix { (name source : List ℕ) (t : Lexed) (s : Small) (way : WayOut) (more : List ℕ) → source_of words.now ≡ Some name
-        → Finds (K.files keeper.old) name source → length source ≤ SOURCE_BYTES → Runs source t s way → I.left console.old ≡ Some more
+    ensures transcript { (name source : List ℕ) (t : Lexed) (s : Small) (more : List ℕ) → source_of words.now ≡ Some name
+        → Finds (K.files keeper.old) name source → IsProgram source t s → I.left console.old ≡ Some more
+        → result ≡ 0 → GaveAll (O.given screen.old) (O.given screen.new) (transcript (history_of t s) more) }
+    ensures prefix { (name source : List ℕ) (t : Lexed) (s : Small) (more : List ℕ) → source_of words.now ≡ Some name
+        → Finds (K.files keeper.old) name source → length source ≤ SOURCE_BYTES → IsProgram source t s → I.left console.old ≡ Some more
         → StayedBelow (K.faults keeper.old) (K.faults keeper.new)
-        → GavePrefix (O.given screen.old) (O.given screen.new) (transcript t way more) }
+        → GavePrefix (O.given screen.old) (O.given screen.new) (transcript (history_of t s) more) }
     // If besides nothing failed, and the console has fewer than 16,777,216 bytes, the status is 0 or 7.
-    ensures complete { (name source : List ℕ) (t : Lexed) (s : Small) (way : WayOut) (more : List ℕ) → source_of words.now ≡ Some name
-        → Finds (K.files keeper.old) name source → length source ≤ SOURCE_BYTES → Runs source t s way → I.left console.old ≡ Some more
+    ensures complete { (name source : List ℕ) (t : Lexed) (s : Small) (more : List ℕ) → source_of words.now ≡ Some name
+        → Finds (K.files keeper.old) name source → length source ≤ SOURCE_BYTES → IsProgram source t s → I.left console.old ≡ Some more
         → length more < CONSOLE_BYTES
         → StayedBelow (K.faults keeper.old) (K.faults keeper.new) → StayedBelow (I.faults console.old) (I.faults console.new)
         → StayedBelow (O.faults screen.old) (O.faults screen.new) → (result ≡ 0) ⊎ (result ≡ 7) }
+    // What a question and a verdict in that transcript say.
+    ensures asks { AsksTheBest }
+    ensures finds { FindsTheFault }
     // The words are not two.
     ensures usage { source_of words.now ≡ None → ((result ≡ 2) × GaveAll (O.given screen.old) (O.given screen.new) usage_line)
         ⊎ ((result ≡ 6) × Rose (O.faults screen.old) (O.faults screen.new)) }
@@ -190,6 +195,7 @@ pub fn ask_pascal<K: Keeper, I: Source, O: Sink>(
     // The keeper's files stay.
     ensures files { K.files keeper.new ≡ K.files keeper.old }
 {
+    search_is_sound();
     match source_name(words) {
         Some(name) => ask_file(alloc, name, keeper, console, screen).code(),
         None => give_line(screen, USAGE, Status::Words).code(),

@@ -4,10 +4,11 @@
 mod ask;
 mod commands;
 mod dialog;
+mod judging;
+mod laws;
 mod names;
-mod opening;
 mod required;
-mod runner;
+mod run;
 mod session;
 mod small;
 mod status;
@@ -15,4 +16,5 @@ mod terminals;
 mod texts;
 
 pub use ask::{SOURCE_BYTES, ask_pascal};
-pub use opening::BUDGET;
+pub use judging::BOOK_ENTRIES;
+pub use run::BUDGET;

@@ -6,13 +6,21 @@ ghost use Rattle.debug_cli.specs.Names.{Tabled};
 use std::alloc::{AllocError, Global};
 use std::collections::BTreeMap;
 
-/// The declared names in order of declaration, each with its place in the frame of the program block:
-/// the first has place 1.
+/// Declared names of one kind in order of declaration, each with its number: the first is number 1.
 #[derive(Drop)]
 pub struct Names<'a> {
     pub places: BTreeMap<&'a [u8], u32>,
-    /// The number of cells of the frame: the link and the variables.
+    /// One more than there are names: of variables, the cells of the frame with its link.
     pub cells: u32,
+}
+
+/// The names that are declared at a place of the source.
+#[derive(Drop)]
+pub struct Scope<'a> {
+    /// The variables, each with its place in the frame of the program block.
+    pub variables: Names<'a>,
+    /// The procedures, each with the number of its routine.
+    pub procedures: Names<'a>,
 }
 
 impl<'a> Names<'a> {

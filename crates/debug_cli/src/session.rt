@@ -1,16 +1,21 @@
 //! A session on the console: what it opens with, and the dialog.
-ghost use Rattle.std.specs.Prelude.{◌≡◌, ◌⊎◌, ◌<◌, ◌≤◌, ◌++◌, ℕ, List, Some, length};
+ghost use Rattle.std.specs.Prelude.{◌≡◌, ◌⊎◌, ◌<◌, ◌≤◌, ◌++◌, ℕ, List, Some, length, IfOk};
 ghost use Rattle.edge_ports.specs.Counts.{Rose, NotFallen};
 ghost use Rattle.edge_ports.specs.Told.{GaveAll, GavePrefix};
 ghost use Rattle.edge_ports.specs.Lines.{lines_of};
 ghost use Rattle.edge_ports.specs.declared.lines.TheConstants.{CONSOLE_BYTES};
-ghost use Rattle.debug_cli.specs.Dialog.{replies};
-ghost use Rattle.debug_cli.specs.Asked.{GivesLine, IsSession, session_status};
+ghost use Rattle.debug_cli.specs.History.{history, IsReady};
+ghost use Rattle.debug_cli.specs.Dialog.{opening, first_entries};
+ghost use Rattle.debug_cli.specs.Asked.{GivesLine, IsSession, session_status, transcript};
 
 use crate::dialog::{Ending, converse};
+use crate::judging::find_state;
+use crate::run::Run;
 use crate::status::Status;
-use edge_ports::{Lines, Sink, Source, write_all};
-use std::alloc::Global;
+use crate::texts::{write_card, write_report};
+use edge_ports::{Bytes, Lines, Sink, Source, write_all};
+use plain_search::{Entry, Judgement};
+use std::alloc::{AllocError, AllocFailed, Global};
 
 /// Gives a whole line and ends with this status, or with that of a screen that failed.
 pub fn give_line<O: Sink>(screen: &mut O, line: &[u8], status: Status) -> Status
@@ -23,17 +28,43 @@ pub fn give_line<O: Sink>(screen: &mut O, line: &[u8], status: Status) -> Status
     }
 }
 
+/// What a session opens with: the card of call 0, and a report.
+fn opening_text(alloc: Global, run: &Run, entries: &[Entry]) -> Result<Bytes, AllocError>
+    requires ready { IsReady run.now }
+    requires first { entries.now ≡ first_entries }
+    ensures { IfOk result (λ text. text ≡ opening (history run.now)) }
+{
+    let found = find_state(alloc, run, entries)?;
+    let mut text = Bytes::new(alloc);
+    write_card(&mut text, run, 0)?;
+    write_report(&mut text, run, found)?;
+    Ok(text)
+}
+
+/// The entries with which a session begins: call 0 is taken to be wrong.
+fn begin_entries(alloc: Global) -> Result<Vec<Entry>, AllocFailed<Entry>>
+    ensures { IfOk result (λ entries. entries.items ≡ first_entries) }
+{
+    let mut entries = Vec::new(alloc);
+    entries.push(Entry {
+        call: 0,
+        judgement: Judgement::Wrong,
+    })?;
+    Ok(entries)
+}
+
 /// Gives the opening, and then answers the console up to `quit` or its end.
 pub fn hold_session<I: Source, O: Sink>(
     alloc: Global,
-    opening: &[u8],
+    run: &Run,
     console: &mut I,
     screen: &mut O,
 ) -> Status
+    requires ready { IsReady run.now }
     ensures whole { (more : List ℕ) → I.left console.old ≡ Some more → result ≡ Status.Done
-        → GaveAll (O.given screen.old) (O.given screen.new) (opening.now ++ replies (lines_of more)) }
+        → GaveAll (O.given screen.old) (O.given screen.new) (transcript (history run.now) more) }
     ensures prefix { (more : List ℕ) → I.left console.old ≡ Some more
-        → GavePrefix (O.given screen.old) (O.given screen.new) (opening.now ++ replies (lines_of more)) }
+        → GavePrefix (O.given screen.old) (O.given screen.new) (transcript (history run.now) more) }
     ensures spent { (more : List ℕ) → I.left console.old ≡ Some more → result ≡ Status.Spent → CONSOLE_BYTES ≤ length more }
     ensures console { result ≡ Status.Console → Rose (I.faults console.old) (I.faults console.new) }
     ensures screen { result ≡ Status.Screen → Rose (O.faults screen.old) (O.faults screen.new) }
@@ -44,10 +75,16 @@ pub fn hold_session<I: Source, O: Sink>(
     let Ok(mut lines) = Lines::new(alloc) else {
         return Status::Memory;
     };
-    let Ok(()) = write_all(screen, opening) else {
+    let Ok(mut entries) = begin_entries(alloc) else {
+        return Status::Memory;
+    };
+    let Ok(opening) = opening_text(alloc, run, entries.as_slice()) else {
+        return Status::Memory;
+    };
+    let Ok(()) = write_all(screen, opening.as_slice()) else {
         return Status::Screen;
     };
-    status_of(converse(&mut lines, console, screen))
+    status_of(converse(alloc, run, &mut entries, &mut lines, console, screen))
 }
 
 /// The status of a dialog that ended so.
@@ -59,5 +96,6 @@ fn status_of(ending: Ending) -> Status
         Ending::Console => Status::Console,
         Ending::Screen => Status::Screen,
         Ending::Spent => Status::Spent,
+        Ending::Memory => Status::Memory,
     }
 }

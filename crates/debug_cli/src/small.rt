@@ -4,10 +4,10 @@ ghost use Rattle.pas_lexer.specs.Lexed.{Lexed};
 ghost use Rattle.debug_cli.specs.declared.terminals.Fixed.TheVariants as fixed;
 ghost use Rattle.debug_cli.specs.declared.small.SmallFault.TheVariants.{Memory};
 ghost use Rattle.debug_cli.specs.Names.{Tabled};
-ghost use Rattle.debug_cli.specs.Small.{pieces, piece_of, is_required, Piece, Small, IsSmall, program_of};
-ghost use Rattle.debug_cli.specs.Reading.{IsFront, fixed_at, fixed_next, name_at, number_at, integer_at, new_name, known_name, constant_at, sum_at, value_at, step_at, all_further, names_at, variables_at, steps_at, body_at, heading_at, small_at, Gives, GivesPlace, Skips, Declared, NamesRead, VariablesRead, IsThat};
+ghost use Rattle.debug_cli.specs.Small.{pieces, piece_of, is_required, Piece, Small, IsSmall, program_of, Known, Translation, all_rows, routines_from};
+ghost use Rattle.debug_cli.specs.Reading.{IsFront, fixed_at, fixed_next, name_at, number_at, integer_at, new_name, known_name, constant_at, sum_at, value_at, assignment_at, step_at, free_name, known_after, procedure_at, procedures_at, block_at, all_further, names_at, variables_at, steps_at, body_at, heading_at, small_at, Gives, GivesPlace, Skips, Declared, NamesRead, VariablesRead, RowsRead, IsScope, ProcedureDeclared, ProcedureRead, ProceduresRead, TablesRead, IsThat};
 
-use crate::names::Names;
+use crate::names::{Names, Scope};
 use crate::required::is_required_name;
 use crate::terminals::{Fixed, is_fixed};
 use core_program::{Expression, Program, Routine, Row, Statement};
@@ -77,7 +77,7 @@ fn expect(tokens: &Tokens, at: u32, which: Fixed) -> Result<u32, SmallFault>
 
 /// A name: its token, and the place behind it.
 fn read_name(tokens: &Tokens, at: u32) -> Result<(Token, u32), SmallFault>
-    ensures gives { Gives (pieces tokens.now) (piece_of tokens.now.source) result (name_at (drop at (pieces tokens.now))) }
+    ensures gives { Gives (pieces tokens.now) (piece_of tokens.now.source at) result (name_at (drop at (pieces tokens.now))) }
     ensures there { IfOk result (λ x. slice_get tokens.now.tokens at ≡ Some x.0) }
     ensures inside { IfOk result (λ x. at < length tokens.now.tokens) }
     ensures forward { IfOk result (λ x. at < x.1) }
@@ -183,11 +183,11 @@ fn read_constant(tokens: &Tokens, at: u32) -> Result<(Expression, u32), SmallFau
     Ok((Expression::Number(number), after))
 }
 
-/// A step: its row, and the place behind it.
-#[tactic(auto, unfolding(crate::specs::Reading::step_at))]
-fn read_step(tokens: &Tokens, at: u32, names: &Names) -> Result<(Row, u32), SmallFault>
+/// An assignment: its row, and the place behind it.
+#[tactic(auto, unfolding(crate::specs::Reading::assignment_at))]
+fn read_assignment(tokens: &Tokens, at: u32, names: &Names) -> Result<(Row, u32), SmallFault>
     ensures gives { (found : List (List ℕ)) → Tabled found names.now.places names.now.cells
-        → Gives (pieces tokens.now) (λ x. x) result (step_at found (drop at (pieces tokens.now))) }
+        → Gives (pieces tokens.now) (λ x. x) result (assignment_at found (drop at (pieces tokens.now))) }
     ensures forward { IfOk result (λ x. at < x.1) }
 {
     let ((target, line), after) = known(tokens, at, names)?;
@@ -195,6 +195,28 @@ fn read_step(tokens: &Tokens, at: u32, names: &Names) -> Result<(Row, u32), Smal
     let (value, after) = read_value(tokens, after, names)?;
     let statement = Statement::Assign { target, value };
     Ok((Row { line, statement }, after))
+}
+
+/// A step: its row, and the place behind it.
+#[tactic(auto, unfolding(crate::specs::Reading::step_at))]
+fn read_step(tokens: &Tokens, at: u32, scope: &Scope) -> Result<(Row, u32), SmallFault>
+    ensures gives { (k : Known) → IsScope k scope.now → Gives (pieces tokens.now) (λ x. x) result (step_at k (drop at (pieces tokens.now))) }
+    ensures forward { IfOk result (λ x. at < x.1) }
+{
+    let (token, after) = read_name(tokens, at)?;
+    match scope.procedures.place(tokens.spelling(at)) {
+        Some(routine) => {
+            let statement = Statement::Call { routine };
+            Ok((
+                Row {
+                    line: token.line,
+                    statement,
+                },
+                after,
+            ))
+        }
+        None => read_assignment(tokens, at, &scope.variables),
+    }
 }
 
 /// Names, parted by commas, which are declared: the place behind them.
@@ -224,44 +246,114 @@ fn read_variables(alloc: Global, tokens: &Tokens, at: u32) -> Result<(Names, u32
     Ok((names, after))
 }
 
-/// Steps, parted by semicolons: a program of their rows, and the place behind them.
+/// Steps, parted by semicolons, whose rows are put behind the others: the place behind them.
 fn read_steps(
-    alloc: Global,
     tokens: &Tokens,
     at: u32,
-    names: &Names,
-) -> Result<(Program, u32), SmallFault>
-    ensures gives { (found : List (List ℕ)) → Tabled found names.now.places names.now.cells
-        → Gives (pieces tokens.now) (λ p. p.rows) result (steps_at found (drop at (pieces tokens.now))) }
-    ensures routines { IfOk result (λ x. x.0.routines ≡ []) }
+    scope: &Scope,
+    program: &mut Program,
+) -> Result<u32, SmallFault>
+    ensures gives { (k : Known) → IsScope k scope.now
+        → RowsRead (pieces tokens.now) program.old program.new result (steps_at k (drop at (pieces tokens.now))) }
+    ensures grown { IfOk result (λ _. length program.old.rows ≤ length program.new.rows) }
+    ensures forward { IfOk result (λ after. at < after) }
 {
-    let mut program = Program::new(alloc);
-    let (row, mut next) = read_step(tokens, at, names)?;
+    let (row, mut next) = read_step(tokens, at, scope)?;
     program.add_row(row)?;
     'steps: while let Some(after) = skip(tokens, next, Fixed::Semicolon) {
-        let (row, after) = read_step(tokens, after, names)?;
+        let (row, after) = read_step(tokens, after, scope)?;
         program.add_row(row)?;
         next = after;
     }
-    Ok((program, next))
+    Ok(next)
 }
 
-/// The statement part: a program of its rows, and the place behind it.
+/// A statement part, whose rows are put behind the others: the place behind it.
 #[tactic(auto, unfolding(crate::specs::Reading::body_at))]
 fn read_body(
-    alloc: Global,
     tokens: &Tokens,
     at: u32,
-    names: &Names,
-) -> Result<(Program, u32), SmallFault>
-    ensures gives { (found : List (List ℕ)) → Tabled found names.now.places names.now.cells
-        → Gives (pieces tokens.now) (λ p. p.rows) result (body_at found (drop at (pieces tokens.now))) }
-    ensures routines { IfOk result (λ x. x.0.routines ≡ []) }
+    scope: &Scope,
+    program: &mut Program,
+) -> Result<u32, SmallFault>
+    ensures gives { (k : Known) → IsScope k scope.now
+        → RowsRead (pieces tokens.now) program.old program.new result (body_at k (drop at (pieces tokens.now))) }
+    ensures grown { IfOk result (λ _. length program.old.rows ≤ length program.new.rows) }
+    ensures forward { IfOk result (λ after. at < after) }
 {
     let after = expect(tokens, at, Fixed::Begin)?;
-    let (program, after) = read_steps(alloc, tokens, after, names)?;
-    let after = expect(tokens, after, Fixed::End)?;
-    Ok((program, after))
+    let after = read_steps(tokens, after, scope, program)?;
+    expect(tokens, after, Fixed::End)
+}
+
+/// A free name, which is declared as a procedure's: the place behind it.
+fn declare_procedure<'a>(
+    tokens: &'a Tokens,
+    at: u32,
+    scope: &mut Scope<'a>,
+) -> Result<u32, SmallFault>
+    ensures gives { (k : Known) → IsScope k scope.old
+        → ProcedureDeclared (pieces tokens.now) k at scope.new result (free_name k (drop at (pieces tokens.now))) }
+    ensures forward { IfOk result (λ after. at < after) }
+{
+    let (_, after) = read_name(tokens, at)?;
+    let spelling = tokens.spelling(at);
+    if is_required_name(spelling)
+        || scope.variables.place(spelling).is_some()
+        || scope.procedures.place(spelling).is_some()
+    {
+        return Err(SmallFault::Unbuilt(at));
+    }
+    scope.procedures.declare(spelling)?;
+    Ok(after)
+}
+
+/// A procedure behind the word `procedure`: its routine, and the place behind it.
+#[tactic(auto, unfolding(crate::specs::Reading::procedure_at))]
+fn read_procedure<'a>(
+    tokens: &'a Tokens,
+    at: u32,
+    scope: &mut Scope<'a>,
+    program: &mut Program,
+) -> Result<(Routine, u32), SmallFault>
+    ensures gives { (variables : List (List ℕ)) (found : List Translation) → IsScope (known_after variables found) scope.old
+        → ProcedureRead (pieces tokens.now) variables found program.old program.new scope.new result (procedure_at variables found (drop at (pieces tokens.now))) }
+    ensures forward { IfOk result (λ x. at < x.1) }
+{
+    let after = declare_procedure(tokens, at, scope)?;
+    let after = expect(tokens, after, Fixed::Semicolon)?;
+    let first = program.rows();
+    let after = read_body(tokens, after, scope, program)?;
+    let after = expect(tokens, after, Fixed::Semicolon)?;
+    let routine = Routine {
+        name: at,
+        cells: 1,
+        first,
+        count: program.rows() - first,
+    };
+    Ok((routine, after))
+}
+
+/// The procedures: their routines, and the place behind them.
+#[tactic(auto, unfolding(crate::specs::Reading::procedures_at))]
+fn read_procedures<'a>(
+    alloc: Global,
+    tokens: &'a Tokens,
+    at: u32,
+    scope: &mut Scope<'a>,
+    program: &mut Program,
+) -> Result<(Vec<Routine>, u32), SmallFault>
+    ensures { (variables : List (List ℕ)) → IsScope (known_after variables []) scope.old
+        → ProceduresRead (pieces tokens.now) variables program.old program.new scope.new result (procedures_at variables (drop at (pieces tokens.now))) }
+{
+    let mut routines = Vec::new(alloc);
+    let mut next = at;
+    'procedures: while let Some(after) = skip(tokens, next, Fixed::Procedure) {
+        let (routine, after) = read_procedure(tokens, after, scope, program)?;
+        routines.push(routine)?;
+        next = after;
+    }
+    Ok((routines, next))
 }
 
 /// The program's heading: the place behind it.
@@ -290,22 +382,56 @@ pub fn parse_small(alloc: Global, tokens: &Tokens) -> Result<Program, SmallFault
     Ok(program)
 }
 
+/// Puts routines behind the others.
+fn add_routines(program: &mut Program, routines: &[Routine]) -> Result<(), AllocError>
+    ensures { OnOk result (program.new ≡ record program.old { routines = program.old.routines ++ routines.now }) }
+{
+    'routines: for routine in routines {
+        program.add_routine(*routine)?;
+    }
+    Ok(())
+}
+
+/// The statement part of the program and its end, behind procedures: the place behind them. The program
+/// block is put in front of the procedures.
+#[tactic(auto, unfolding(crate::specs::Reading::block_at))]
+fn read_block(
+    tokens: &Tokens,
+    at: u32,
+    scope: &Scope,
+    procedures: &[Routine],
+    program: &mut Program,
+) -> Result<u32, SmallFault>
+    ensures { (variables : List (List ℕ)) (ts : List Translation) → IsScope (known_after variables ts) scope.now → procedures.now ≡ routines_from 0 ts
+        → program.old ≡ record { rows = all_rows ts; routines = [] } → TablesRead (pieces tokens.now) program.new result (block_at variables ts (drop at (pieces tokens.now))) }
+{
+    let first = program.rows();
+    let after = read_body(tokens, at, scope, program)?;
+    let after = expect(tokens, after, Fixed::Dot)?;
+    let after = expect(tokens, after, Fixed::Finish)?;
+    program.add_routine(Routine {
+        name: 1,
+        cells: scope.variables.cells,
+        first,
+        count: program.rows() - first,
+    })?;
+    add_routines(program, procedures)?;
+    Ok(after)
+}
+
 /// A program in front of any other tokens: what it denotes, and the place behind it.
 #[tactic(auto, unfolding(crate::specs::Reading::small_at))]
 fn read_program(alloc: Global, tokens: &Tokens) -> Result<(Program, u32), SmallFault>
     ensures { Gives (pieces tokens.now) (λ p. p) result (small_at (pieces tokens.now)) }
 {
     let after = read_heading(tokens)?;
-    let (names, after) = read_variables(alloc, tokens, after)?;
-    let (mut program, after) = read_body(alloc, tokens, after, &names)?;
-    let after = expect(tokens, after, Fixed::Dot)?;
-    let after = expect(tokens, after, Fixed::Finish)?;
-    let count = program.rows();
-    program.add_routine(Routine {
-        name: 1,
-        cells: names.cells,
-        first: 0,
-        count,
-    })?;
+    let (variables, after) = read_variables(alloc, tokens, after)?;
+    let mut scope = Scope {
+        variables,
+        procedures: Names::new(alloc),
+    };
+    let mut program = Program::new(alloc);
+    let (procedures, after) = read_procedures(alloc, tokens, after, &mut scope, &mut program)?;
+    let after = read_block(tokens, after, &scope, procedures.as_slice(), &mut program)?;
     Ok((program, after))
 }

@@ -9,6 +9,7 @@ use pas_lexer::{Kind, Symbol, Word};
 pub enum Fixed {
     Program,
     Var,
+    Procedure,
     Begin,
     End,
     Semicolon,
@@ -27,6 +28,7 @@ pub fn is_fixed(which: Fixed, kind: Kind) -> bool
     match which {
         Fixed::Program => matches!(&kind, Kind::Word(Word::WProgram)),
         Fixed::Var => matches!(&kind, Kind::Word(Word::WVar)),
+        Fixed::Procedure => matches!(&kind, Kind::Word(Word::WProcedure)),
         Fixed::Begin => matches!(&kind, Kind::Word(Word::WBegin)),
         Fixed::End => matches!(&kind, Kind::Word(Word::WEnd)),
         Fixed::Semicolon => matches!(&kind, Kind::Symbol(Symbol::Semicolon)),

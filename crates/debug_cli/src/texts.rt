@@ -1,10 +1,15 @@
 //! The texts of a call and of the state of the search.
-ghost use Rattle.std.specs.Prelude.{◌≡◌, ◌++◌, IfOk, OnOk, decimal, codes};
-ghost use Rattle.debug_cli.specs.Texts.{kind_text, limit_text, way_text, inner_line, first_line, opening, absent_line, failed_line, too_long_line, refused_line};
+ghost use Rattle.std.specs.Prelude.{◌≡◌, ◌++◌, IfOk, OnOk, decimal, codes, slice_get};
+ghost use Rattle.debug_cli.specs.History.{history, name_of, text_at};
+ghost use Rattle.debug_cli.specs.Texts.{kind_text, limit_text, way_text, inner_line, call_text, in_parent, card, found_text, question_line, report, absent_line, failed_line, too_long_line, refused_line};
 
+use crate::run::Run;
 use cell_value::{Kind, WayOut, Which};
+use core_program::CallRow;
 use edge_ports::Bytes;
 use itoa::Buffer;
+use pas_lexer::Tokens;
+use plain_search::SearchState;
 use std::alloc::{AllocError, Global};
 
 /// The name of a kind of fault.
@@ -84,29 +89,110 @@ pub fn write_way_line(out: &mut Bytes, way: WayOut) -> Result<(), AllocError>
     Ok(())
 }
 
-/// Appends the line that begins the card of call 0.
-fn write_first_line(out: &mut Bytes, name: &[u8]) -> Result<(), AllocError>
-    ensures { OnOk result (out.new ≡ out.old ++ first_line name.now) }
+/// The text of a token, and nothing where there is none.
+fn token_text(tokens: &Tokens, number: u32) -> &[u8]
+    ensures { result.now ≡ text_at tokens.now.source (slice_get tokens.now.tokens number) }
 {
-    out.append(b"call 0 ")?;
-    out.append(name)?;
+    if number < tokens.len() {
+        tokens.text(number)
+    } else {
+        b""
+    }
+}
+
+/// The name of a routine, and nothing where there is none.
+fn routine_name(run: &Run, routine: u32) -> &[u8]
+    ensures { result.now ≡ name_of (history run.now) routine }
+{
+    match run.program.routine(routine) {
+        Some(found) => token_text(&run.tokens, found.name),
+        None => b"",
+    }
+}
+
+/// Appends a call by its number and the name of its routine.
+fn write_call(out: &mut Bytes, run: &Run, number: u32, call: CallRow) -> Result<(), AllocError>
+    ensures { OnOk result (out.new ≡ out.old ++ call_text (history run.now) number call) }
+{
+    out.append(b"call ")?;
+    write_number(out, number)?;
+    out.append(b" ")?;
+    out.append(routine_name(run, call.routine))?;
+    Ok(())
+}
+
+/// Appends where a call was made.
+fn write_parent(out: &mut Bytes, parent: Option<u32>) -> Result<(), AllocError>
+    ensures { OnOk result (out.new ≡ out.old ++ in_parent parent) }
+{
+    if let Some(parent) = parent {
+        out.append(b" in call ")?;
+        write_number(out, parent)?;
+    }
+    Ok(())
+}
+
+/// Appends the card of a call: what was called from where, and how it ended.
+#[tactic(auto, unfolding(crate::specs::Texts::card))]
+pub fn write_card(out: &mut Bytes, run: &Run, number: u32) -> Result<(), AllocError>
+    ensures { OnOk result (out.new ≡ out.old ++ card (history run.now) number) }
+{
+    if let Some(call) = run.calls.get(number) {
+        write_call(out, run, number, call)?;
+        write_parent(out, call.parent)?;
+        out.append(b"\n")?;
+        write_way_line(out, call.way)?;
+    }
+    Ok(())
+}
+
+/// Appends the lines on a call that is found.
+#[tactic(auto, unfolding(crate::specs::Texts::found_text))]
+fn write_found(out: &mut Bytes, run: &Run, number: u32) -> Result<(), AllocError>
+    ensures { OnOk result (out.new ≡ out.old ++ found_text (history run.now) number) }
+{
+    if let Some(call) = run.calls.get(number) {
+        out.append(b"found ")?;
+        write_call(out, run, number, call)?;
+        out.append(b"\n")?;
+        write_way_line(out, call.way)?;
+    }
+    Ok(())
+}
+
+/// Appends the line of a question.
+fn write_question(out: &mut Bytes, call: u32, suspects: u32, left: u32) -> Result<(), AllocError>
+    ensures { OnOk result (out.new ≡ out.old ++ question_line call suspects left) }
+{
+    out.append(b"ask ")?;
+    write_number(out, call)?;
+    out.append(b" suspects ")?;
+    write_number(out, suspects)?;
+    out.append(b" left ")?;
+    write_number(out, left)?;
     out.append(b"\n")?;
     Ok(())
 }
 
-/// What a session opens with: the card of call 0 and the report, for a program of this name whose run
-/// ended so.
-#[tactic(auto, unfolding(crate::specs::Texts::opening))]
-pub fn opening_text(alloc: Global, name: &[u8], way: WayOut) -> Result<Bytes, AllocError>
-    ensures { IfOk result (λ text. text ≡ opening name.now way) }
+/// Appends the report on a state of the search.
+#[tactic(auto, unfolding(crate::specs::Texts::report))]
+pub fn write_report(out: &mut Bytes, run: &Run, state: SearchState) -> Result<(), AllocError>
+    ensures { OnOk result (out.new ≡ out.old ++ report (history run.now) state) }
 {
-    let mut text = Bytes::new(alloc);
-    write_first_line(&mut text, name)?;
-    write_way_line(&mut text, way)?;
-    text.append(b"found ")?;
-    write_first_line(&mut text, name)?;
-    write_way_line(&mut text, way)?;
-    Ok(text)
+    match state {
+        SearchState::Ask {
+            call,
+            suspects,
+            left,
+            ..
+        } => {
+            write_question(out, call, suspects, left)?;
+            write_card(out, run, call)?;
+        }
+        SearchState::Found(call) => write_found(out, run, call)?,
+        SearchState::NothingWrong => out.append(b"nothing wrong\n")?,
+    }
+    Ok(())
 }
 
 /// Begin, name and line end.

@@ -1,28 +1,27 @@
-use Rattle.std.proofs.Common.{sym, ap, ◌∙◌}
-use Rattle.debug_cli.specs.Dialog.{ends_session, reply_to}
+use Rattle.std.proofs.Common.{List, ℕ, subst}
+use Rattle.debug_cli.specs.History.{history}
+use Rattle.debug_cli.specs.Dialog.{Answers}
 use Rattle.debug_cli.proofs.Talk.{line_owed, line_ends, long_owed, nothing_owed}
 use Rattle.debug_cli.proofs.dialog.next_reply.Goals as goal
 
-pub returns-in-Some-clause-reply : goal.returns-in-Some-clause-reply
-returns-in-Some-clause-reply g c =
+pub returns-in-Ok-Line-clause-reply : goal.returns-in-Ok-Line-clause-reply
+returns-in-Ok-Line-clause-reply g c =
     let left = g.I.Source.left in
-    let said = c.in-Some.ensures in
-    let shown = c.line.ensures in
-    line_owed c.args.lines.now c.next.new.self (left c.args.console.now) (left c.next.new.source) c.next.new.self.line c.in-Some.reply.now
-    (rw c.in-Ok-Line.field-0-is at c.in-Ok-Line.ensures.console) (ap ends_session (sym shown) ∙ said.0) (said.1 ∙ ap reply_to shown)
+    line_owed (history c.args.run.now) c.args.entries.now.items c.args.lines.now c.next.new.self (left c.args.console.now) (left c.next.new.source) c.next.new.self.line c.answer.result c.answer.new.entries.items (rw c.in-Ok-Line.field-0-is at c.in-Ok-Line.ensures.console)
+    (subst (λ (l : List ℕ). Answers (history c.args.run.now) c.args.entries.now.items l c.answer.result c.answer.new.entries.items) c.line.ensures c.answer.ensures)
 
-pub returns-in-None-clause-done : goal.returns-in-None-clause-done
-returns-in-None-clause-done g c = λ text o e.
+pub returns-in-Ok-Line-clause-done : goal.returns-in-Ok-Line-clause-done
+returns-in-Ok-Line-clause-done g c =
     let left = g.I.Source.left in
-    line_ends c.args.lines.now c.next.new.self (left c.args.console.now) (left c.next.new.source) c.next.new.self.line
-    (rw c.in-Ok-Line.field-0-is at c.in-Ok-Line.ensures.console) (ap ends_session (sym c.line.ensures) ∙ c.in-None.ensures) text o
+    line_ends (history c.args.run.now) c.args.entries.now.items c.args.lines.now c.next.new.self (left c.args.console.now) (left c.next.new.source) c.next.new.self.line c.answer.result c.answer.new.entries.items (rw c.in-Ok-Line.field-0-is at c.in-Ok-Line.ensures.console)
+    (subst (λ (l : List ℕ). Answers (history c.args.run.now) c.args.entries.now.items l c.answer.result c.answer.new.entries.items) c.line.ensures c.answer.ensures)
 
 pub returns-in-Ok-TooLong-clause-reply : goal.returns-in-Ok-TooLong-clause-reply
 returns-in-Ok-TooLong-clause-reply g c =
     let left = g.I.Source.left in
-    long_owed c.args.lines.now c.next.new.self (left c.args.console.now) (left c.next.new.source) c.next.new.self.line (rw c.in-Ok-TooLong.field-0-is at c.in-Ok-TooLong.ensures.console)
+    long_owed (history c.args.run.now) c.args.entries.now.items c.args.lines.now c.next.new.self (left c.args.console.now) (left c.next.new.source) c.next.new.self.line c.text_of.result (rw c.in-Ok-TooLong.field-0-is at c.in-Ok-TooLong.ensures.console) c.text_of.ensures.text
 
 pub returns-in-Ok-End-clause-done : goal.returns-in-Ok-End-clause-done
 returns-in-Ok-End-clause-done g c = λ text o e.
     let left = g.I.Source.left in
-    nothing_owed c.args.lines.now c.next.new.self (left c.args.console.now) (left c.next.new.source) c.next.new.self.line (rw c.in-Ok-End.field-0-is at c.in-Ok-End.ensures.console) text o
+    nothing_owed (history c.args.run.now) c.args.entries.now.items c.args.lines.now c.next.new.self (left c.args.console.now) (left c.next.new.source) c.next.new.self.line (rw c.in-Ok-End.field-0-is at c.in-Ok-End.ensures.console) text o

@@ -1,9 +1,11 @@
-use Rattle.std.proofs.Common.{◌≡◌, Result, Err, sym, ap, ◌∙◌}
+use Rattle.std.proofs.Common.{◌≡◌, ℕ, List, Result, Err, sym, ap, subst, ◌∙◌}
+use Rattle.edge_ports.specs.Told.{GaveAll, GavePrefix}
 use Rattle.std.proofs.lemmas.Result.{err_from_is_err_and}
+use Rattle.edge_ports.proofs.ToldLemmas.{gave_prefix_whole}
 use Rattle.debug_cli.specs.declared.dialog.Ending.{Ending}
 use Rattle.debug_cli.specs.declared.dialog.Ending.TheVariants.{Done}
+use Rattle.debug_cli.specs.History.{history}
 use Rattle.debug_cli.proofs.Talk.{turn_goes, turn_prefix, nothing_given}
-use Rattle.edge_ports.proofs.ToldLemmas.{gave_prefix_whole}
 use Rattle.debug_cli.proofs.dialog.turn.Goals as goal
 
 err_same : (a b : Ending) → ◌≡◌ {A = Result (Unit {0}) Ending} (Err a) (Err b) → a ≡ b
@@ -18,13 +20,16 @@ returns-in_err-reply-clause-whole g c = λ text o e.
 
 pub returns-in-Ok-clause-went : goal.returns-in-Ok-clause-went
 returns-in-Ok-clause-went g c =
-    turn_goes c.args.lines.now c.next_reply.new.lines (g.I.Source.left c.args.console.now) (g.I.Source.left c.next_reply.new.console) (g.O.Sink.given c.args.screen.now) (g.O.Sink.given c.write_all.new.sink) c.in_ok-reply.reply.now c.in_ok-reply.ensures.reply c.in-Ok.ensures.ok
+    turn_goes (history c.args.run.now) c.args.entries.now.items c.next_reply.new.entries.items c.args.lines.now c.next_reply.new.lines (g.I.Source.left c.args.console.now) (g.I.Source.left c.next_reply.new.console) (g.O.Sink.given c.args.screen.now) (g.O.Sink.given c.write_all.new.sink) c.in_ok-reply.reply c.in_ok-reply.ensures.reply
+    (subst (λ (x : List ℕ). GaveAll (g.O.Sink.given c.args.screen.now) (g.O.Sink.given c.write_all.new.sink) x) c.as_slice.ensures c.in-Ok.ensures.ok)
 
 pub returns-in-Ok-clause-prefix : goal.returns-in-Ok-clause-prefix
 returns-in-Ok-clause-prefix g c =
-    turn_prefix c.args.lines.now c.next_reply.new.lines (g.I.Source.left c.args.console.now) (g.I.Source.left c.next_reply.new.console) (g.O.Sink.given c.args.screen.now) (g.O.Sink.given c.write_all.new.sink) c.in_ok-reply.reply.now c.in_ok-reply.ensures.reply
-    (gave_prefix_whole (g.O.Sink.given c.args.screen.now) (g.O.Sink.given c.write_all.new.sink) c.in_ok-reply.reply.now c.in-Ok.ensures.ok)
+    turn_prefix (history c.args.run.now) c.args.entries.now.items c.next_reply.new.entries.items c.args.lines.now c.next_reply.new.lines (g.I.Source.left c.args.console.now) (g.I.Source.left c.next_reply.new.console) (g.O.Sink.given c.args.screen.now) (g.O.Sink.given c.write_all.new.sink) c.in_ok-reply.reply c.in_ok-reply.ensures.reply
+    (gave_prefix_whole (g.O.Sink.given c.args.screen.now) (g.O.Sink.given c.write_all.new.sink) c.in_ok-reply.reply
+    (subst (λ (x : List ℕ). GaveAll (g.O.Sink.given c.args.screen.now) (g.O.Sink.given c.write_all.new.sink) x) c.as_slice.ensures c.in-Ok.ensures.ok))
 
-pub returns-in-Err-clause-prefix : goal.returns-in-Err-clause-prefix
-returns-in-Err-clause-prefix g c =
-    turn_prefix c.args.lines.now c.next_reply.new.lines (g.I.Source.left c.args.console.now) (g.I.Source.left c.next_reply.new.console) (g.O.Sink.given c.args.screen.now) (g.O.Sink.given c.write_all.new.sink) c.in_ok-reply.reply.now c.in_ok-reply.ensures.reply c.in-Err.ensures.failed
+pub returns-clause-prefix : goal.returns-clause-prefix
+returns-clause-prefix g c =
+    turn_prefix (history c.args.run.now) c.args.entries.now.items c.next_reply.new.entries.items c.args.lines.now c.next_reply.new.lines (g.I.Source.left c.args.console.now) (g.I.Source.left c.next_reply.new.console) (g.O.Sink.given c.args.screen.now) (g.O.Sink.given c.write_all.new.sink) c.in_ok-reply.reply c.in_ok-reply.ensures.reply
+    (subst (λ (x : List ℕ). GavePrefix (g.O.Sink.given c.args.screen.now) (g.O.Sink.given c.write_all.new.sink) x) c.as_slice.ensures c.in-Err.ensures.failed)

@@ -1,14 +1,14 @@
-use Rattle.std.proofs.Common.{◌≡◌, ◌-◌, ℕ, List, [], drop, length}
-use Rattle.debug_cli.specs.Names.{Tabled}
-use Rattle.debug_cli.specs.Small.{pieces}
-use Rattle.debug_cli.specs.Reading.{steps_at}
+use Rattle.std.proofs.Common.{◌-◌, ◌<◌, ◌≤◌, drop, length}
+use Rattle.debug_cli.specs.Small.{Known, pieces}
+use Rattle.debug_cli.specs.Reading.{IsScope, steps_at}
 use Rattle.debug_cli.proofs.Lists.{RowsSoFar}
 use Rattle.debug_cli.proofs.small.read_steps.Given as goal
 
 abbrev pub invariant-steps : goal.invariant-steps
 invariant-steps l = record {
-  so_far : (found : List (List ℕ)) → Tabled found l.names.places l.names.cells → RowsSoFar found (pieces l.tokens) (steps_at found (drop l.at (pieces l.tokens))) l.program.rows l.next;
-  routines : l.program.routines ≡ [];
+  so_far : (k : Known) → IsScope k l.scope → RowsSoFar k (pieces l.tokens) (steps_at k (drop l.at (pieces l.tokens))) l.fn.program l.program l.next;
+  forward : l.at < l.next;
+  grown : length l.fn.program.rows ≤ length l.program.rows;
 }
 
 abbrev pub decreases-steps : goal.decreases-steps

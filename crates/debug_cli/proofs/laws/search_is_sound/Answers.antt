@@ -1,0 +1,14 @@
+use Rattle.debug_cli.specs.Small.{program_of}
+use Rattle.debug_cli.specs.History.{history_of, lasts_of, parents_of}
+use Rattle.debug_cli.specs.declared.run.TheConstants.{BUDGET}
+use Rattle.debug_cli.proofs.Columns.{run_numbered}
+use Rattle.debug_cli.proofs.laws.search_is_sound.Goals as goal
+
+pub returns-clause-asks : goal.returns-clause-asks
+returns-clause-asks c = λ t s entries call weight suspects left e.
+    c.question_is_best.ensures.best (lasts_of (history_of t s).calls) entries call weight suspects left e
+
+pub returns-clause-finds : goal.returns-clause-finds
+returns-clause-finds c = λ t s entries call e.
+    c.found_is_at_fault.ensures.at_fault (parents_of (history_of t s).calls) (lasts_of (history_of t s).calls) entries call
+    (run_numbered c.numbers_tell_the_tree.ensures.subtree c.numbers_tell_the_tree.ensures.last (program_of s) BUDGET) e

@@ -1,0 +1,170 @@
+//! From the bytes of a source to its run.
+ghost use Rattle.std.specs.Prelude.{◌≡◌, ◌<◌, ◌≤◌, ◌^◌, ℕ, List, Some, IfOk, IfErr, length, nat_eq, count_by, slice_get};
+ghost use Rattle.core_program.specs.declared.calls.CallRow.{CallRow};
+ghost use Rattle.pas_lexer.specs.declared.kinds.Token.{Token};
+ghost use Rattle.pas_lexer.specs.Lexed.{Lexed};
+ghost use Rattle.pas_lexer.specs.Division.{line_at, line_feed, FailsAt, IsLexed};
+ghost use Rattle.debug_cli.specs.Small.{Small, IsSmall, pieces, program_of};
+ghost use Rattle.debug_cli.specs.Program.{IsProgram, Keeps, IsRefused, IsUnlexed, TokensAre, ProgramIs, RefusesAt};
+ghost use Rattle.debug_cli.specs.History.{history, history_of, calls_within, lasts_of, IsReady};
+
+use crate::small::{SmallFault, parse_small};
+use core_program::{Calls, Program, numbers_tell_the_tree, run_calls};
+use pas_lexer::{LexFault, Tokens, lex};
+use std::alloc::{AllocError, Global};
+use thiserror::Error;
+
+/// The steps that a run may take.
+pub const BUDGET: u32 = 1_000_000;
+
+/// A source that was run: its tokens, the program that they are, and the calls of its run.
+#[derive(Drop)]
+pub struct Run {
+    pub tokens: Tokens,
+    pub program: Program,
+    pub calls: Calls,
+    /// The last call below each call.
+    pub lasts: Vec<u32>,
+}
+
+/// Why a source opens no session.
+#[derive(Clone, Copy, Debug, PartialEq, Eq, Drop, Error)]
+pub enum SourceFault {
+    /// The source is no program of the language. The line is counted from 1, the byte from 0.
+    #[error("no program goes on at line {line}, byte {byte}")]
+    Refused { line: u32, byte: u32 },
+    #[error("out of memory")]
+    Memory,
+}
+
+impl From<AllocError> for SourceFault {
+    ghost use Rattle.debug_cli.specs.declared.run.SourceFault.TheVariants.{Memory};
+
+    ghost from_gives = { λ _ e. e ≡ Memory };
+
+    fn from(_e: AllocError) -> SourceFault {
+        SourceFault::Memory
+    }
+}
+
+/// How many line feeds there are.
+fn line_feeds(bytes: &[u8]) -> usize
+    ensures count { result ≡ count_by (λ c. nat_eq c line_feed) bytes.now }
+    ensures within { result ≤ length bytes.now }
+{
+    bytes.iter().filter(|c| **c == b'\n').count()
+}
+
+/// The line on which a byte of a source stands, counted from 1.
+fn line_of(source: &[u8], byte: u32) -> u32
+    requires { length source.now ≤ 1048576 }
+    ensures { result ≡ line_at source.now byte }
+{
+    let end = source.len().min(byte as usize);
+    1 + line_feeds(&source[..end]) as u32
+}
+
+/// The place of the token of this number, and of the last one where there is none: its line and its
+/// first byte.
+fn place_of(tokens: &Tokens, number: u32) -> (u32, u32) {
+    let token = tokens.at(number.min(tokens.len() - 1));
+    (token.line, token.start)
+}
+
+/// The tokens of a source.
+fn read_tokens(alloc: Global, source: &[u8]) -> Result<Tokens, SourceFault>
+    requires { length source.now ≤ 1048576 }
+    ensures found { IfOk result (λ t. (t.source ≡ source.now) × IsLexed source.now t.tokens) }
+    ensures only { (tokens : List Token) → IsLexed source.now tokens → TokensAre tokens result }
+    ensures fault { IfErr result (λ e. IsUnlexed source.now e) }
+    ensures refused { (n : ℕ) → FailsAt source.now n → RefusesAt source.now n result }
+{
+    match lex(alloc, source) {
+        Ok(tokens) => Ok(tokens),
+        Err(LexFault::Unbuilt(byte)) => Err(SourceFault::Refused {
+            line: line_of(source, byte),
+            byte,
+        }),
+        Err(LexFault::Memory) => Err(SourceFault::Memory),
+    }
+}
+
+/// The program that the tokens are.
+fn read_program(alloc: Global, tokens: &Tokens) -> Result<Program, SourceFault>
+    ensures found { IfOk result (λ p. (s : Small) × IsSmall (pieces tokens.now) s × (p ≡ program_of s)) }
+    ensures only { (s : Small) → IsSmall (pieces tokens.now) s → ProgramIs (program_of s) result }
+{
+    match parse_small(alloc, tokens) {
+        Ok(program) => Ok(program),
+        Err(SmallFault::Unbuilt(token)) => {
+            let (line, byte) = place_of(tokens, token);
+            Err(SourceFault::Refused { line, byte })
+        }
+        Err(SmallFault::Memory) => Err(SourceFault::Memory),
+    }
+}
+
+/// The calls of the run of a program with this budget.
+#[tactic(auto, unfolding(crate::specs::History::calls_within))]
+fn find_calls(alloc: Global, program: &Program, budget: u32) -> Result<Calls, AllocError>
+    ensures { IfOk result (λ calls. calls ≡ calls_within program.now budget) }
+{
+    run_calls(alloc, program, budget)
+}
+
+/// The last call below the call of this number.
+fn last_call(calls: &Calls, number: u32) -> u32
+    ensures { (row : CallRow) → slice_get calls.now number ≡ Some row → result ≡ row.last }
+{
+    match calls.get(number) {
+        Some(call) => call.last,
+        None => number,
+    }
+}
+
+/// The last call below each call.
+fn last_calls(alloc: Global, calls: &Calls) -> Result<Vec<u32>, AllocError>
+    ensures lasts { IfOk result (λ v. v.items ≡ lasts_of calls.now) }
+    ensures few { length calls.now < 2 ^ 32 }
+{
+    let mut lasts = Vec::new(alloc);
+    let count = calls.count();
+    'calls: for number in 0..count {
+        lasts.push(last_call(calls, number))?;
+    }
+    Ok(lasts)
+}
+
+/// The run of a program, whose tokens these are.
+fn run_tokens(alloc: Global, tokens: Tokens, program: Program) -> Result<Run, AllocError>
+    ensures kept { IfOk result (λ run. history run ≡ record { tokens = tokens; program = program; calls = calls_within program BUDGET }) }
+    ensures ready { IfOk result IsReady }
+{
+    numbers_tell_the_tree();
+    let calls = find_calls(alloc, &program, BUDGET)?;
+    let lasts = last_calls(alloc, &calls)?;
+    Ok(Run {
+        tokens,
+        program,
+        calls,
+        lasts,
+    })
+}
+
+/// The run of a source. It takes memory; a source of another language is refused.
+pub fn run_source(alloc: Global, source: &[u8]) -> Result<Run, SourceFault>
+    requires { length source.now ≤ 1048576 }
+    // Each small program that the source is has this run.
+    ensures only { (t : Lexed) (s : Small) → IsProgram source.now t s → Keeps (history_of t s) result }
+    // A refused source is no small program, and one that is none is refused, unless memory runs out.
+    ensures refused { IfErr result (IsRefused source.now) }
+    ensures found { IfOk result (λ run. (t : Lexed) × (s : Small) × IsProgram source.now t s × (history run ≡ history_of t s)) }
+    // A piece that does not fit is refused at its first byte.
+    ensures piece { (n : ℕ) → FailsAt source.now n → RefusesAt source.now n result }
+    ensures ready { IfOk result IsReady }
+{
+    let tokens = read_tokens(alloc, source)?;
+    let program = read_program(alloc, &tokens)?;
+    let run = run_tokens(alloc, tokens, program)?;
+    Ok(run)
+}
