@@ -43,7 +43,25 @@ const ONE: &[u8] = b"program p; var x: integer; begin x := 1 end.\n";
 #[test]
 fn sessions(rt: HostRuntime) -> Result<(), Fail> {
     let alloc = rt.alloc();
-    let table: [(&[u8], &[u8], u8, &[u8]); 9] = [
+    let table: [(&[u8], &[u8], u8, &[u8]); 12] = [
+        (
+            b"program p;\r\nvar x: integer;\r\nbegin\r\nx := x + 1 end.\r\n",
+            b"right\r\nquit\r\nright\r\n",
+            0,
+            b"call 0 p\n  faulted Undefined line 4\nfound call 0 p\n  faulted Undefined line 4\nno question\n",
+        ),
+        (
+            ONE,
+            b"\0\nright\0\n\xffright\nright",
+            0,
+            b"call 0 p\n  returned\nfound call 0 p\n  returned\nnot understood\nnot understood\nnot understood\nno question\n",
+        ),
+        (
+            ONE,
+            b"right\r",
+            0,
+            b"call 0 p\n  returned\nfound call 0 p\n  returned\nnot understood\n",
+        ),
         (
             ONE,
             b"right\nquit\n",
@@ -290,5 +308,161 @@ fn many_calls(rt: HostRuntime) -> Result<(), Fail> {
         b"call 0 w\n  returned\nask 1 suspects 4000 left 3999\ncall 1 a in call 0\n  returned\nentry 2\nask 2 suspects 3999 left 3998\ncall 2 a in call 0\n  returned\n".as_slice();
     assert_eq!(rt; got.1.as_slice(), shown);
     assert_eq!(rt; got.0, 0);
+    Ok(())
+}
+
+// The place at which each source is refused is marked by `|`, which is taken out of it. One source is
+// refused at its end.
+const REFUSED: [&[u8]; 58] = [
+    b"|",
+    b"|; program p; begin x := 1 end.",
+    b"|p; begin end.",
+    b"|x program p; var x: integer; begin x := 1 end.",
+    b"program |; begin x := 1 end.",
+    b"program |begin; begin x := 1 end.",
+    b"program |1; begin x := 1 end.",
+    b"program p |begin x := 1 end.",
+    b"program p|, q; begin x := 1 end.",
+    b"program p|. var x: integer; begin x := 1 end.",
+    b"program p; |x := 1 end.",
+    b"program p; |end.",
+    b"program p; |const c; begin x := 1 end.",
+    b"program p; begin |end.",
+    b"program p; begin |; end.",
+    b"program p; begin |x := 1 end.",
+    b"program p; begin |1 end.",
+    b"program p; begin |begin end end.",
+    b"program p; begin |p end.",
+    b"program p; begin |integer := 1 end.",
+    b"program p; var |begin x := 1 end.",
+    b"program p; var |: integer; begin x := 1 end.",
+    b"program p; var |1: integer; begin x := 1 end.",
+    b"program p; var |input: integer; begin x := 1 end.",
+    b"program p; var x |integer; begin x := 1 end.",
+    b"program p; var x|; begin x := 1 end.",
+    b"program p; var x, |: integer; begin x := 1 end.",
+    b"program p; var x, |X: integer; begin x := 1 end.",
+    b"program p; var x, y, z, |y: integer; begin x := 1 end.",
+    b"program p; var x |y: integer; begin x := 1 end.",
+    b"program p; var x: |char; begin x := 1 end.",
+    b"program p; var x: |x; begin x := 1 end.",
+    b"program p; var x: |1; begin x := 1 end.",
+    b"program p; var x: integer |begin x := 1 end.",
+    b"program p; var x: integer; |y: integer; begin x := 1 end.",
+    b"program p; var x: integer; |var y: integer; begin x := 1 end.",
+    b"program p;\nvar x: integer;\nbegin x |= 1 end.",
+    b"program p;\nvar x: integer;\nbegin x |: 1 end.",
+    b"program p;\nvar x: integer;\nbegin x := |end.",
+    b"program p;\nvar x: integer;\nbegin x := |+ 1 end.",
+    b"program p;\nvar x: integer;\nbegin x := |y + 1 end.",
+    b"program p;\nvar x: integer;\nbegin x := x |end.",
+    b"program p;\nvar x: integer;\nbegin x := x |1 end.",
+    b"program p;\nvar x: integer;\nbegin x := x + |x end.",
+    b"program p;\nvar x: integer;\nbegin x := x + |2147483648 end.",
+    b"program p;\nvar x: integer;\nbegin x := 1 |+ 2 end.",
+    b"program p;\nvar x: integer;\nbegin x := |1x end.",
+    b"program p;\nvar x: integer;\nbegin x := 1; |end.",
+    b"program p;\nvar x: integer;\nbegin x := 1 |x := 2 end.",
+    b"program p;\nvar x: integer;\nbegin x := 1 end|;",
+    b"program p;\nvar x: integer;\nbegin x := 1 end|",
+    b"program p;\nvar x: integer;\nbegin x := 1 end. |program",
+    b"program p;\nvar x: integer;\nbegin x := 1 end.\n|\0",
+    b"program p;\nvar x: integer;\nbegin x := 1 end.\n|\xe9",
+    b"program p; procedure |; begin x := 1 end; begin x := 1 end.",
+    b"program p; procedure q; begin q end; procedure |Q; begin q end; begin q end.",
+    b"program p; var q: integer; procedure |q; begin q := 1 end; begin q := 1 end.",
+    b"program p; procedure q; begin |r end; procedure r; begin q end; begin q end.",
+];
+
+// The source without its mark, and the line of refusal that is to be printed.
+fn refusal(alloc: Global, marked: &[u8]) -> Result<(Bytes, Bytes), Fail> {
+    let place = marked
+        .iter()
+        .position(|byte| *byte == b'|')
+        .unwrap_or(marked.len());
+    let (before, after) = marked.split_at(place);
+    let mut source = Bytes::new(alloc);
+    source.append(before)?;
+    source.append(after.get(1..).unwrap_or(b""))?;
+    let line = 1 + before.iter().filter(|byte| **byte == b'\n').count();
+    let text = format!(in alloc; "refused: Unbuilt, line {line}, byte {place}\n")?;
+    let mut refused = Bytes::new(alloc);
+    refused.append(text.as_bytes())?;
+    Ok((source, refused))
+}
+
+#[test]
+fn refusals(rt: HostRuntime) -> Result<(), Fail> {
+    let alloc = rt.alloc();
+    for marked in REFUSED {
+        let (source, refused) = refusal(alloc, marked)?;
+        let tape = Tape::new(alloc, b"", &[])?;
+        let got = session(alloc, source.as_slice(), tape, Page::new(alloc, ROOM, &[])?)?;
+        assert_eq!(rt; got.1.as_slice(), refused.as_slice());
+        assert_eq!(rt; got.0, 3);
+    }
+    Ok(())
+}
+
+// A console of so many bytes of one kind.
+fn console_of(alloc: Global, byte: u8, count: usize) -> Result<Vec<u8>, Fail> {
+    Ok(vec![in alloc; byte; count]?)
+}
+
+#[test]
+fn long_consoles(rt: HostRuntime) -> Result<(), Fail> {
+    let alloc = rt.alloc();
+    let opening = b"call 0 p\n  returned\nfound call 0 p\n  returned\n".as_slice();
+    for (byte, count, status) in [
+        (b'\n', 16_777_216, 9),
+        (b'\n', 16_777_215, 0),
+        (b'x', 16_777_216, 9),
+    ] {
+        let console = console_of(alloc, byte, count)?;
+        let tape = Tape::new(alloc, &console, &[])?;
+        let got = session(alloc, ONE, tape, Page::new(alloc, ROOM, &[])?)?;
+        assert_eq!(rt; got.1.as_slice(), opening);
+        assert_eq!(rt; got.0, status);
+    }
+    Ok(())
+}
+
+#[test]
+fn long_lines(rt: HostRuntime) -> Result<(), Fail> {
+    let alloc = rt.alloc();
+    let table: [(usize, &[u8]); 2] = [
+        (
+            4_096,
+            b"call 0 p\n  returned\nfound call 0 p\n  returned\nnot understood\nno question\n",
+        ),
+        (
+            4_097,
+            b"call 0 p\n  returned\nfound call 0 p\n  returned\nline too long\nno question\n",
+        ),
+    ];
+    for (count, shown) in table {
+        let mut console = console_of(alloc, b'a', count)?;
+        console.extend_from_slice(b"\nright\n")?;
+        let tape = Tape::new(alloc, &console, &[])?;
+        let got = session(alloc, ONE, tape, Page::new(alloc, ROOM, &[])?)?;
+        assert_eq!(rt; got.1.as_slice(), shown);
+        assert_eq!(rt; got.0, 0);
+    }
+    Ok(())
+}
+
+#[test]
+fn little_memory(rt: HostRuntime) -> Result<(), Fail> {
+    let alloc = rt.alloc();
+    let whole =
+        b"call 0 p\n  returned\nask 1 suspects 3 left 2\ncall 1 b in call 0\n  returned\nentry 2\nask 2 suspects 2 left 1\ncall 2 a in call 1\n  returned\nnot understood\n".as_slice();
+    let words = words(alloc, &["pasask", "F"])?;
+    let mut keeper = shelf(alloc, ADDERS)?;
+    let mut console = Tape::new(alloc, b"wrong\nwhy\nquit\n", &[])?;
+    let mut screen = Page::new(alloc, ROOM, &[])?;
+    let status = ask_pascal(alloc, &words, &mut keeper, &mut console, &mut screen);
+    assert!(rt; status == 0 || status == 7);
+    assert!(rt; whole.starts_with(screen.given()));
+    assert!(rt; status == 7 || screen.given() == whole);
     Ok(())
 }

@@ -1,30 +1,41 @@
 -- The statuses behind their codes.
-use Rattle.std.proofs.Common.{◌≡◌, ◌⊎◌, inl, inr, ℕ, Some, List, refl}
+use Rattle.std.proofs.Common.{◌≡◌, ◌⊎◌, inl, inr, ℕ, nat_eq, if◌then◌else◌, Some, List, refl, sym, ap, subst, ◌∙◌}
+use Rattle.edge_ports.specs.Counts.{Counted}
 use Rattle.debug_cli.specs.declared.status.Status.{Status}
 use Rattle.debug_cli.specs.declared.status.Status.TheVariants.{Done, Words, Source, File, Console, Screen, Memory, Spent}
-use Rattle.debug_cli.specs.Status.{code_of}
-use Rattle.debug_cli.specs.Asked.{IsRefusal}
+use Rattle.debug_cli.specs.Status.{code_of, is_console, is_screen}
+use Rattle.debug_cli.specs.Asked.{StayedBelow}
 
-pub done_of : (s : Status) → code_of s ≡ 0 → s ≡ Done
-done_of Done e = refl
-done_of Words e = absurd (let x : ⊥ = cc in x)
-done_of Source e = absurd (let x : ⊥ = cc in x)
-done_of File e = absurd (let x : ⊥ = cc in x)
-done_of Console e = absurd (let x : ⊥ = cc in x)
-done_of Screen e = absurd (let x : ⊥ = cc in x)
-done_of Memory e = absurd (let x : ⊥ = cc in x)
-done_of Spent e = absurd (let x : ⊥ = cc in x)
+abbrev status_with : ℕ → Status
+status_with n =
+    if nat_eq n 0 then Done else (if nat_eq n 2 then Words else (if nat_eq n 3 then Source else (if nat_eq n 4 then File
+    else (if nat_eq n 5 then Console else (if nat_eq n 6 then Screen else (if nat_eq n 7 then Memory else Spent))))))
 
--- a refusal of a source whose screen did not fail
-pub refusal_code : (s : Status) → IsRefusal s → (s ≡ Screen → ⊥) → (code_of s ≡ 3) ⊎ (code_of s ≡ 7)
-refusal_code Done h n = absurd h
-refusal_code Words h n = absurd h
-refusal_code Source h n = inl refl
-refusal_code File h n = absurd h
-refusal_code Console h n = absurd h
-refusal_code Screen h n = absurd (n refl)
-refusal_code Memory h n = inr refl
-refusal_code Spent h n = absurd h
+status_again : (s : Status) → status_with (code_of s) ≡ s
+status_again Done = refl
+status_again Words = refl
+status_again Source = refl
+status_again File = refl
+status_again Console = refl
+status_again Screen = refl
+status_again Memory = refl
+status_again Spent = refl
+
+-- no two statuses have one code
+pub code_is : (s wanted : Status) → code_of s ≡ code_of wanted → s ≡ wanted
+code_is s wanted e = sym (status_again s) ∙ ap status_with e ∙ status_again wanted
+
+-- one of two statuses
+pub either_code : (s one other : Status) (n : ℕ) → n ≡ code_of s → (s ≡ one) ⊎ (s ≡ other) → (n ≡ code_of one) ⊎ (n ≡ code_of other)
+either_code s one other n e (inl h) = inl (e ∙ ap code_of h)
+either_code s one other n e (inr h) = inr (e ∙ ap code_of h)
+
+-- an object that did not fail is not the cause
+pub no_console : (s : Status) (before now : ℕ) → Counted (is_console s) before now → StayedBelow before now → s ≡ Console → ⊥
+no_console s before now k stayed e = stayed (subst (λ (x : Status). Counted (is_console x) before now) e k)
+
+pub no_screen : (s : Status) (before now : ℕ) → Counted (is_screen s) before now → StayedBelow before now → s ≡ Screen → ⊥
+no_screen s before now k stayed e = stayed (subst (λ (x : Status). Counted (is_screen x) before now) e k)
 
 pub same_name : (a b : List ℕ) → Some a ≡ Some b → a ≡ b
 same_name a b e = cc

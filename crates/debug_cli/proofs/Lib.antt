@@ -9,7 +9,9 @@ pub mod Whole
 pub mod Parsed
 pub mod Talk
 pub mod Opened
-pub mod Lines
 pub mod Fetched
 pub mod Codes
 pub mod Columns
+pub mod Local
+pub mod Refusals
+pub mod Best

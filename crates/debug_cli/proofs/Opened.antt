@@ -1,5 +1,5 @@
 -- From the tokens and the program of a source to its run.
-use Rattle.std.proofs.Common.{◌≡◌, ℕ, zero, suc, min, List, [], ◌∷◌, length, take, Err, refl, sym, ap, subst, ◌∙◌, arith}
+use Rattle.std.proofs.Common.{◌≡◌, inl, inr, ℕ, zero, suc, min, List, [], ◌∷◌, length, take, Ok, Err, refl, sym, ap, subst, ◌∙◌, arith}
 use Rattle.pas_lexer.specs.declared.kinds.Token.{Token}
 use Rattle.pas_lexer.specs.Lexed.{Lexed}
 use Rattle.pas_lexer.specs.Division.{IsLexed}
@@ -7,9 +7,11 @@ use Rattle.core_program.specs.Tables.{Tables}
 use Rattle.debug_cli.specs.declared.run.SourceFault.{SourceFault}
 use Rattle.debug_cli.specs.declared.run.SourceFault.TheVariants.{Refused, Memory}
 use Rattle.debug_cli.specs.declared.run.TheConstants.{BUDGET}
-use Rattle.debug_cli.specs.Small.{pieces, Small, IsSmall, program_of}
+use Rattle.debug_cli.specs.Small.{Piece, pieces, Small, IsSmall, program_of}
+use Rattle.debug_cli.specs.Reading.{Read}
+use Rattle.debug_cli.proofs.Whole.{small_whole}
 use Rattle.debug_cli.specs.History.{History, history_of, calls_within}
-use Rattle.debug_cli.specs.Program.{IsProgram, Keeps, IsRefused, IsUnlexed, TokensAre, ProgramIs}
+use Rattle.debug_cli.specs.Program.{IsProgram, Keeps, IsRefused, IsUnlexed, IsUnread, TokensAre, ProgramIs}
 
 pub take_min : (l : List ℕ) (n : ℕ) → take (min (length l) n) l ≡ take n l
 take_min [] zero = refl
@@ -26,7 +28,7 @@ no_tokens_only source (Refused line byte) h t s r = h t.tokens r.lexed
 no_tokens_only source Memory h t s r = tt
 
 pub no_tokens_refused : (source : List ℕ) (e : SourceFault) → IsUnlexed source e → IsRefused source e
-no_tokens_refused source (Refused line byte) h = λ t s p. h t.tokens p.lexed
+no_tokens_refused source (Refused line byte) h = ((λ t s p. h.0 t.tokens p.lexed), inl (h.1, h.2))
 no_tokens_refused source Memory h = tt
 
 -- ---- no program
@@ -42,9 +44,9 @@ module _ (source : List ℕ) (tokens : Lexed) (kept : tokens.source ≡ source) 
   no_program_only (Refused line byte) h t s r = h s (small_of source tokens t s kept r (one t.tokens r.lexed))
   no_program_only Memory h t s r = tt
 
-  pub no_program_refused : (e : SourceFault) → ((s : Small) → IsSmall (pieces tokens) s → ProgramIs (program_of s) (Err e)) → IsRefused source e
-  no_program_refused (Refused line byte) h = λ t s p. h s (small_of source tokens t s kept p (one t.tokens p.lexed))
-  no_program_refused Memory h = tt
+  pub no_program_refused : (e : SourceFault) → ((s : Small) → IsSmall (pieces tokens) s → ProgramIs (program_of s) (Err e)) → IsLexed source tokens.tokens → IsUnread tokens e → IsRefused source e
+  no_program_refused (Refused line byte) h lexed place = ((λ t s p. h s (small_of source tokens t s kept p (one t.tokens p.lexed))), inr (tokens, kept, lexed, place))
+  no_program_refused Memory h lexed place = tt
 
   -- ---- a program
 
@@ -63,3 +65,17 @@ module _ (source : List ℕ) (tokens : Lexed) (kept : tokens.source ≡ source) 
     record { kept = kept; lexed = lexed; small = p.1 },
     is ∙ (λ i. record { tokens = tokens; program = p.2 i; calls = calls_within (p.2 i) BUDGET }),
   )
+
+-- ---- one program of a source
+
+same_program : (l : List Piece) (s s' : Small) → IsSmall l s → IsSmall l s' → program_of s ≡ program_of s'
+same_program l s s' p q =
+    let both : ◌≡◌ {A = Read Tables} (Ok (program_of s, [])) (Ok (program_of s', [])) = sym (small_whole l s p) ∙ small_whole l s' q in
+    let pair : (program_of s, []) ≡ (program_of s', []) = cc in
+    ap (λ (z : Tables × List Piece). z.0) pair
+
+pub one_run : (source : List ℕ) (t t' : Lexed) (s s' : Small) → IsProgram source t s → IsProgram source t' s' → t.tokens ≡ t'.tokens → history_of t s ≡ history_of t' s'
+one_run source t t' s s' p q e =
+    let same : t' ≡ t = same_tokens source t t' s' p.kept q e in
+    let program : program_of s ≡ program_of s' = same_program (pieces t) s s' p.small (small_of source t t' s' p.kept q e) in
+    λ i. record { tokens = sym same i; program = program i; calls = calls_within (program i) BUDGET }

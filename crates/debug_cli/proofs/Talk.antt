@@ -1,24 +1,26 @@
--- What is owed to a console, line by line.
-use Rattle.std.proofs.Common.{◌≡◌, ℕ, ◌<◌, ◌≤◌, Bool, true, false, if◌then◌else◌, List, [], ◌∷◌, ◌++◌, length, Option, Some, Result, Ok, Err, IfOk, IfErr, refl, sym, ap, subst, ◌∙◌, append_assoc, codes}
+-- What is answered to a console, line by line.
+use Rattle.std.proofs.Common.{◌≡◌, ◌⊎◌, inl, inr, ℕ, ◌<◌, ◌≤◌, Bool, true, false, ◌||◌, IsTrue, if◌then◌else◌, List, [], ◌∷◌, ◌++◌, length, Option, Result, Ok, Err, IfOk, IfErr, take, refl, sym, ap, subst, ◌∙◌, append_assoc, append-nil, codes, arith}
+use Rattle.std.specs.Io.KnownBytes.{IsAtEnd}
+use Rattle.std.proofs.Math.Seq.{take-length}
 use Rattle.std.proofs.lemmas.Bool.{lt-ltb, le-ltb}
 use Rattle.edge_ports.specs.declared.lines.TheConstants.{LINE_BYTES}
-use Rattle.edge_ports.specs.declared.lines.Turn.{Turn}
-use Rattle.edge_ports.specs.declared.lines.Turn.TheVariants as turn
-use Rattle.edge_ports.specs.declared.lines.LineFault.{LineFault}
-use Rattle.edge_ports.specs.Lines.{LinesState, lines_of, StillComes}
-use Rattle.edge_ports.specs.Turns.{TurnsTo}
-use Rattle.edge_ports.specs.Told.{GaveAll, GavePrefix}
-use Rattle.edge_ports.proofs.ToldLemmas.{gave_nothing, gave_more, gave_prefix_after, gave_prefix_before}
+use Rattle.edge_ports.specs.Counts.{Counted}
+use Rattle.edge_ports.specs.Lines.{LinesState, lines_of, whole_lines, lines_heard, handed_lines, unread, Moves}
+use Rattle.edge_ports.specs.Turns.{AsksNothing, IsConsistent}
+use Rattle.edge_ports.specs.Told.{TookAll, GaveAll, GavePrefix}
+use Rattle.edge_ports.proofs.ToldLemmas.{gave_nothing, gave_more, gave_prefix_after, gave_prefix_before, gave_prefix_whole, took_nothing}
+use Rattle.edge_ports.proofs.WholeLines.{heard_in_order}
 use Rattle.debug_cli.specs.declared.dialog.Ending.{Ending}
 use Rattle.debug_cli.specs.declared.dialog.Ending.TheVariants as ending
-use Rattle.debug_cli.specs.declared.status.Status.TheVariants as status
-use Rattle.debug_cli.specs.Asked.{session_status}
-use Rattle.debug_cli.specs.Commands.{command_of}
 use Rattle.plain_search.specs.declared.entries.Entry.{Entry}
 use Rattle.plain_search.specs.declared.entries.Judgement.{Judgement}
 use Rattle.debug_cli.specs.declared.commands.Command.{Command}
+use Rattle.debug_cli.specs.Status.{is_screen, is_console}
+use Rattle.debug_cli.specs.Commands.{command_of}
 use Rattle.debug_cli.specs.History.{History}
-use Rattle.debug_cli.specs.Dialog.{first_entries, state, replies, reply_of, entries_after, reply_judged, entries_judged, is_quit, reply_to, entries_behind, ends_session, is_too_long, Owes, Judges, Answers, Goes}
+use Rattle.debug_cli.specs.Dialog.{first_entries, state, replies, reply_of, entries_after, reply_judged, entries_judged, is_quit, reply_to, entries_behind, ends_session, ends_among, is_too_long}
+use Rattle.debug_cli.specs.Heard.{Heard, IsHeard, EndedBy, GaveBy, session_status}
+use Rattle.debug_cli.specs.Turned.{Judges, Answers, entries_through, Answered, Hands, HandsNone, NextReply, Turned, console_failed, screen_failed}
 
 -- ---- lines
 
@@ -35,8 +37,20 @@ long_is line h = lt-ltb LINE_BYTES (length line) h
 pub short_is : (line : List ℕ) → length line ≤ LINE_BYTES → is_too_long line ≡ false
 short_is line h = le-ltb LINE_BYTES (length line) h
 
-too_long : (h : History) (entries : List Entry) (line : List ℕ) (ls : List (List ℕ)) → LINE_BYTES < length line → replies h entries (line ∷ ls) ≡ codes "line too long\n" ++ replies h entries ls
-too_long h entries line ls k = ap (λ (b : Bool). if (if b then false else is_quit (command_of line)) then [] else (if b then codes "line too long\n" else reply_of h entries (command_of line)) ++ replies h (if b then entries else entries_after h entries (command_of line)) ls) (long_is line k)
+-- what a line that is too long is answered
+pub record Long (h : History) (entries : List Entry) (line : List ℕ) : Type 0 where
+  pub ends : ends_session line ≡ false
+  pub reply : reply_to h entries line ≡ codes "line too long\n"
+  pub behind : entries_behind h entries line ≡ entries
+
+pub long_line : (h : History) (entries : List Entry) (line : List ℕ) → LINE_BYTES < length line → Long h entries line
+long_line h entries line k =
+    let l = long_is line k in
+    record {
+      ends = ap (λ (b : Bool). if b then false else is_quit (command_of line)) l;
+      reply = ap (λ (b : Bool). if b then codes "line too long\n" else reply_of h entries (command_of line)) l;
+      behind = ap (λ (b : Bool). if b then entries else entries_after h entries (command_of line)) l;
+    }
 
 -- what a line that is not too long is answered
 pub record Short (h : History) (entries : List Entry) (line : List ℕ) (c : Command) : Type 0 where
@@ -73,108 +87,241 @@ told_line h entries line text c (Err ending.Console) s q f g k m = absurd (let x
 told_line h entries line text c (Err ending.Screen) s q f g k m = absurd (let x : ⊥ = cc in x)
 told_line h entries line text c (Err ending.Spent) s q f g k m = absurd (let x : ⊥ = cc in x)
 
--- ---- the next reply
+-- ---- several lines
 
-abbrev Next : Result Turn LineFault → List ℕ → LinesState → LinesState → Option (List ℕ) → Option (List ℕ) → Type 0
-Next r line old new left left' = (bytes : List ℕ) → StillComes old left bytes → (rest : List ℕ) × StillComes new left' rest × TurnsTo r line (lines_of bytes) (lines_of rest)
+or_false : (a b : Bool) → a || b ≡ false → (a ≡ false) × (b ≡ false)
+or_false true b e = absurd (let x : ⊥ = cc in x)
+or_false false b e = (refl, e)
 
-module _ (h : History) (entries : List Entry) (old new : LinesState) (left left' : Option (List ℕ)) where
-  -- the reply to a line, and what is owed behind it
-  pub line_owed : (line : List ℕ) (r : Result (List ℕ) Ending) (entries' : List Entry) → Next (Ok turn.Line) line old new left left' → Answers h entries line r entries'
-      → (text : List ℕ) → Owes h entries old left text → IfOk r (λ reply. (rest : List ℕ) × Owes h entries' new left' rest × (text ≡ reply ++ rest))
-  line_owed line (Ok reply) entries' next a text o =
-      let n = next o.0 o.1 in
-      let ls : List (List ℕ) = lines_of n.0 in (
-        replies h entries' ls,
-        (n.0, n.1, refl),
-        o.2 ∙ ap (replies h entries) n.2.0 ∙ replied h entries line ls a.0 ∙ (λ i. sym a.1 i ++ replies h (sym a.2 i) ls),
-      )
-  line_owed line (Err e) entries' next a text o = tt
+-- lines that go on, and the lines behind them
+pub on_append : (ls ms : List (List ℕ)) (b : Bool) → ends_among ls ≡ false → ends_among ms ≡ b → ends_among (ls ++ ms) ≡ b
+on_append [] ms b e f = f
+on_append (l ∷ ls) ms b e f = let both = or_false (ends_session l) (ends_among ls) e in ap (λ (c : Bool). c || ends_among (ls ++ ms)) both.0 ∙ on_append ls ms b both.1 f
 
-  pub line_ends : (line : List ℕ) (r : Result (List ℕ) Ending) (entries' : List Entry) → Next (Ok turn.Line) line old new left left' → Answers h entries line r entries' → (text : List ℕ) → Owes h entries old left text → r ≡ Err ending.Done → text ≡ []
-  line_ends line (Ok reply) entries' next a text o e = absurd (let x : ⊥ = cc in x)
-  line_ends line (Err ending.Done) entries' next a text o e = let n = next o.0 o.1 in o.2 ∙ ap (replies h entries) n.2.0 ∙ quitted h entries line (lines_of n.0) a
-  line_ends line (Err ending.Memory) entries' next a text o e = absurd (let x : ⊥ = cc in x)
-  line_ends line (Err ending.Console) entries' next a text o e = absurd a
-  line_ends line (Err ending.Screen) entries' next a text o e = absurd a
-  line_ends line (Err ending.Spent) entries' next a text o e = absurd a
-
-  pub long_owed : (line : List ℕ) (r : Result (List ℕ) Ending) → Next (Ok turn.TooLong) line old new left left' → IfOk r (λ bytes. bytes ≡ codes "line too long\n") → (text : List ℕ) → Owes h entries old left text
-      → IfOk r (λ reply. (rest : List ℕ) × Owes h entries new left' rest × (text ≡ reply ++ rest))
-  long_owed line (Ok reply) next k text o =
-      let n = next o.0 o.1 in
-      let ls : List (List ℕ) = lines_of n.0 in
-      (replies h entries ls, (n.0, n.1, refl), o.2 ∙ ap (replies h entries) n.2.1 ∙ too_long h entries n.2.0 ls n.2.2 ∙ ap (λ (s : List ℕ). s ++ replies h entries ls) (sym k))
-  long_owed line (Err e) next k text o = tt
-
-  pub nothing_owed : (line : List ℕ) → Next (Ok turn.End) line old new left left' → (text : List ℕ) → Owes h entries old left text → text ≡ []
-  nothing_owed line next text o = let n = next o.0 o.1 in o.2 ∙ ap (replies h entries) n.2.0
-
--- what an answer is not
-pub not_that : (h : History) (entries entries' : List Entry) (line : List ℕ) (r : Result (List ℕ) Ending) → Answers h entries line r entries' → (r ≡ Err ending.Console → ⊥) × (r ≡ Err ending.Screen → ⊥) × (r ≡ Err ending.Spent → ⊥)
-not_that h entries entries' line (Ok reply) a = ((λ e. let x : ⊥ = cc in x), (λ e. let x : ⊥ = cc in x), (λ e. let x : ⊥ = cc in x))
-not_that h entries entries' line (Err ending.Memory) a = ((λ e. let x : ⊥ = cc in x), (λ e. let x : ⊥ = cc in x), (λ e. let x : ⊥ = cc in x))
-not_that h entries entries' line (Err ending.Done) a = ((λ e. let x : ⊥ = cc in x), (λ e. let x : ⊥ = cc in x), (λ e. let x : ⊥ = cc in x))
-not_that h entries entries' line (Err ending.Console) a = absurd a
-not_that h entries entries' line (Err ending.Screen) a = absurd a
-not_that h entries entries' line (Err ending.Spent) a = absurd a
-
--- an error that is want of memory alone
-pub memory_alone : (r : Result (List ℕ) Ending) → IfErr r (λ e. e ≡ ending.Memory) → (r ≡ Err ending.Console → ⊥) × (r ≡ Err ending.Screen → ⊥) × (r ≡ Err ending.Spent → ⊥) × (r ≡ Err ending.Done → ⊥)
-memory_alone (Ok x) m = ((λ e. let y : ⊥ = cc in y), (λ e. let y : ⊥ = cc in y), (λ e. let y : ⊥ = cc in y), (λ e. let y : ⊥ = cc in y))
-memory_alone (Err x) m = ((λ e. let y : ⊥ = cc in y), (λ e. let y : ⊥ = cc in y), (λ e. let y : ⊥ = cc in y), (λ e. let y : ⊥ = cc in y))
-
--- ---- one line after another
-
-pub goes_nothing : (h : History) (entries : List Entry) (lines : LinesState) (left given : Option (List ℕ)) → Goes h entries lines left given entries lines left given
-goes_nothing h entries lines left given = record { each = λ text o. ([], text, o, gave_nothing given, refl) }
+pub ended_append : (ls ms : List (List ℕ)) → ends_among ls ≡ true → ends_among (ls ++ ms) ≡ true
+ended_append [] ms e = absurd (let x : ⊥ = cc in x)
+ended_append (l ∷ ls) ms e = by (ended_append ls ms) (ends_session l) e
+  where
+    by : (ends_among ls ≡ true → ends_among (ls ++ ms) ≡ true) → (b : Bool) → b || ends_among ls ≡ true → b || ends_among (ls ++ ms) ≡ true
+    by ih true h = refl
+    by ih false h = ih h
 
 module _ (h : History) where
-  pub goes_more : (ea eb ec : List Entry) (a b c : LinesState) (ka kb kc ga gb gc : Option (List ℕ)) → Goes h ea a ka ga eb b kb gb → Goes h eb b kb gb ec c kc gc → Goes h ea a ka ga ec c kc gc
-  goes_more ea eb ec a b c ka kb kc ga gb gc f g = record {
-    each = λ text o.
-        let x = f.each text o in
-        let y = g.each x.1 x.2 in
-        (x.0 ++ y.0, y.1, y.2, gave_more ga gb gc x.0 y.0 x.3 y.3, x.4 ∙ ap (λ (r : List ℕ). x.0 ++ r) y.4 ∙ sym (append_assoc x.0 y.0 y.1));
-  }
+  -- the replies to lines that go on, and to those behind them
+  pub replies_append : (entries : List Entry) (ls ms : List (List ℕ)) → ends_among ls ≡ false → replies h entries (ls ++ ms) ≡ replies h entries ls ++ replies h (entries_through h entries ls) ms
+  replies_append entries [] ms e = refl
+  replies_append entries (l ∷ ls) ms e =
+      let both = or_false (ends_session l) (ends_among ls) e in
+      let rest : List ℕ = replies h (entries_behind h entries l) ls in
+      replied h entries l (ls ++ ms) both.0
+      ∙ ap (λ (t : List ℕ). reply_to h entries l ++ t) (replies_append (entries_behind h entries l) ls ms both.1)
+      ∙ sym (append_assoc (reply_to h entries l) rest (replies h (entries_through h (entries_behind h entries l) ls) ms))
+      ∙ ap (λ (t : List ℕ). t ++ replies h (entries_through h (entries_behind h entries l) ls) ms) (sym (replied h entries l ls both.0))
 
-  pub goes_whole : (ea eb : List Entry) (a b : LinesState) (ka kb ga gb gc : Option (List ℕ)) → Goes h ea a ka ga eb b kb gb → ((rest : List ℕ) → Owes h eb b kb rest → GaveAll gb gc rest) → (text : List ℕ) → Owes h ea a ka text → GaveAll ga gc text
-  goes_whole ea eb a b ka kb ga gb gc f g text o =
-      let x = f.each text o in
-      subst (λ (t : List ℕ). GaveAll ga gc t) (sym x.4) (gave_more ga gb gc x.0 x.1 x.3 (g x.1 x.2))
+  -- nothing is replied behind a line that ends the session
+  pub replies_ended : (entries : List Entry) (ls ms : List (List ℕ)) → ends_among ls ≡ true → replies h entries (ls ++ ms) ≡ replies h entries ls
+  replies_ended entries [] ms e = absurd (let x : ⊥ = cc in x)
+  replies_ended entries (l ∷ ls) ms e = by (replies_ended (entries_behind h entries l) ls ms) (ends_session l) refl e
+    where
+      by : (ends_among ls ≡ true → replies h (entries_behind h entries l) (ls ++ ms) ≡ replies h (entries_behind h entries l) ls)
+          → (b : Bool) → ends_session l ≡ b → b || ends_among ls ≡ true → replies h entries (l ∷ (ls ++ ms)) ≡ replies h entries (l ∷ ls)
+      by ih true is f = quitted h entries l (ls ++ ms) is ∙ sym (quitted h entries l ls is)
+      by ih false is f =
+          replied h entries l (ls ++ ms) is
+          ∙ ap (λ (t : List ℕ). reply_to h entries l ++ t) (ih f)
+          ∙ sym (replied h entries l ls is)
 
-  pub goes_prefix : (ea eb : List Entry) (a b : LinesState) (ka kb ga gb gc : Option (List ℕ)) → Goes h ea a ka ga eb b kb gb → ((rest : List ℕ) → Owes h eb b kb rest → GavePrefix gb gc rest) → (text : List ℕ) → Owes h ea a ka text → GavePrefix ga gc text
-  goes_prefix ea eb a b ka kb ga gb gc f g text o =
-      let x = f.each text o in
-      subst (λ (t : List ℕ). GavePrefix ga gc t) (sym x.4) (gave_prefix_after ga gb gc x.0 x.1 x.3 (g x.1 x.2))
+  -- the replies to the first lines are the first of the replies
+  pub replies_front : (entries : List Entry) (ls ms : List (List ℕ)) → (rest : List ℕ) × (replies h entries (ls ++ ms) ≡ replies h entries ls ++ rest)
+  replies_front entries ls ms = by (ends_among ls) refl
+    where
+      by : (b : Bool) → ends_among ls ≡ b → (rest : List ℕ) × (replies h entries (ls ++ ms) ≡ replies h entries ls ++ rest)
+      by true e = ([], replies_ended entries ls ms e ∙ sym (append-nil (replies h entries ls)))
+      by false e = (replies h (entries_through h entries ls) ms, replies_append entries ls ms e)
 
-  -- ---- one turn
+  through_append : (entries : List Entry) (ls ms : List (List ℕ)) → entries_through h entries (ls ++ ms) ≡ entries_through h (entries_through h entries ls) ms
+  through_append entries [] ms = refl
+  through_append entries (l ∷ ls) ms = through_append (entries_behind h entries l) ls ms
 
-  abbrev Reply : List Entry → LinesState → Option (List ℕ) → List Entry → LinesState → Option (List ℕ) → List ℕ → Type 0
-  Reply ea a ka eb b kb reply = (text : List ℕ) → Owes h ea a ka text → (rest : List ℕ) × Owes h eb b kb rest × (text ≡ reply ++ rest)
+  one_reply : (entries : List Entry) (line : List ℕ) → ends_session line ≡ false → replies h entries (line ∷ []) ≡ reply_to h entries line
+  one_reply entries line e = replied h entries line [] e ∙ append-nil (reply_to h entries line)
 
-  pub turn_goes : (ea eb : List Entry) (a b : LinesState) (ka kb ga gb : Option (List ℕ)) (reply : List ℕ) → Reply ea a ka eb b kb reply → GaveAll ga gb reply → Goes h ea a ka ga eb b kb gb
-  turn_goes ea eb a b ka kb ga gb reply r g = record { each = λ text o. let x = r text o in (reply, x.0, x.1, g, x.2) }
+  one_on : (line : List ℕ) (b : Bool) → ends_session line ≡ b → ends_among (line ∷ []) ≡ b
+  one_on line true e = ap (λ (c : Bool). c || false) e
+  one_on line false e = ap (λ (c : Bool). c || false) e
 
-  pub turn_prefix : (ea eb : List Entry) (a b : LinesState) (ka kb ga gb : Option (List ℕ)) (reply : List ℕ) → Reply ea a ka eb b kb reply → GavePrefix ga gb reply → (text : List ℕ) → Owes h ea a ka text → GavePrefix ga gb text
-  turn_prefix ea eb a b ka kb ga gb reply r g text o =
-      let x = r text o in
-      subst (λ (t : List ℕ). GavePrefix ga gb t) (sym x.2) (gave_prefix_before ga gb reply x.0 g)
+  -- ---- one line after another
 
-pub nothing_given : (given : Option (List ℕ)) (text : List ℕ) → text ≡ [] → GaveAll given given text
-nothing_given given text e = subst (λ (t : List ℕ). GaveAll given given t) (sym e) (gave_nothing given)
+  pub answered_none : (old : LinesState) (entries : List Entry) (given : Option (List ℕ)) → handed_lines old ≡ [] → entries ≡ first_entries → Answered h (handed_lines old) entries given given
+  answered_none old entries given e f =
+      subst (λ (ls : List (List ℕ)). Answered h ls entries given given) (sym e) (record { on = refl; entries_are = f; gave = gave_nothing given })
+
+  pub answered_more : (old new : LinesState) (entries entries' : List Entry) (given given' given'' : Option (List ℕ)) (r : Unit {0})
+      → Answered h (handed_lines old) entries given given' → Turned h entries old (Ok r) entries' new given' given'' → Answered h (handed_lines new) entries' given given''
+  answered_more old new entries entries' given given' given'' r a t =
+      let line = t.1.0 in
+      let hands = t.1.1 in
+      let on = t.1.2 in
+      subst (λ (ls : List (List ℕ)). Answered h ls entries' given given'') (sym hands) (record {
+        on = on_append (handed_lines old) (line ∷ []) false a.on (one_on line false on);
+        entries_are = t.1.4 ∙ ap (λ (es : List Entry). entries_behind h es line) a.entries_are ∙ sym (through_append first_entries (handed_lines old) (line ∷ []));
+        gave = subst (λ (text : List ℕ). GaveAll given given'' text)
+            (sym (replies_append first_entries (handed_lines old) (line ∷ []) a.on
+            ∙ ap (λ (text : List ℕ). replies h first_entries (handed_lines old) ++ text) (one_reply (entries_through h first_entries (handed_lines old)) line on
+            ∙ ap (λ (es : List Entry). reply_to h es line) (sym a.entries_are) ∙ sym t.1.3)))
+            (gave_more given given' given'' (replies h first_entries (handed_lines old)) t.0 a.gave t.2);
+      })
+
+  -- ---- the end of the dialog
+
+  abbrev Ends : LinesState → Ending → Option (List ℕ) → Option (List ℕ) → Type 0
+  Ends new e given given' = GaveBy e given given' (replies h first_entries (lines_heard new.ended new.taken)) × EndedBy e (record { bytes = new.taken; ended = new.ended })
+
+  module _ (old new : LinesState) (entries entries' : List Entry) (given given' given'' : Option (List ℕ)) (a : Answered h (handed_lines old) entries given given') (c : IsConsistent new) where
+    -- the lines heard are those handed out and more
+    order : lines_heard new.ended new.taken ≡ handed_lines new ++ lines_heard new.ended (unread new)
+    order = heard_in_order new c.handed c.cut
+
+    abbrev rest : List (List ℕ)
+    rest = lines_heard new.ended (unread new)
+
+    abbrev before : List (List ℕ)
+    before = handed_lines old
+
+    same_given : given'' ≡ given' → GaveAll given given'' (replies h first_entries before)
+    same_given e = subst (λ (g : Option (List ℕ)). GaveAll given g (replies h first_entries before)) (sym e) a.gave
+
+    -- no further line
+    none_more : HandsNone old new → (replies h first_entries (lines_heard new.ended new.taken) ≡ replies h first_entries before) × (ends_among (lines_heard new.ended new.taken) ≡ false)
+    none_more n =
+        let same : lines_heard new.ended new.taken ≡ before = n.1 ∙ n.0 in
+        (ap (replies h first_entries) same, ap ends_among same ∙ a.on)
+
+    gave_none : HandsNone old new → given'' ≡ given' → GaveAll given given'' (replies h first_entries (lines_heard new.ended new.taken))
+    gave_none n e = subst (λ (t : List ℕ). GaveAll given given'' t) (sym (none_more n).0) (same_given e)
+
+    -- one more line
+    with_line : (line : List ℕ) → Hands old new line → lines_heard new.ended new.taken ≡ before ++ (line ∷ rest)
+    with_line line hands = order ∙ ap (λ (ls : List (List ℕ)). ls ++ rest) hands ∙ append_assoc before (line ∷ []) rest
+
+    quit_ends : (line : List ℕ) → Hands old new line → ends_session line ≡ true → given'' ≡ given' → Ends new ending.Done given given''
+    quit_ends line hands quit e =
+        let all = with_line line hands in
+        let said : replies h first_entries (lines_heard new.ended new.taken) ≡ replies h first_entries before =
+        ap (replies h first_entries) all ∙ replies_append first_entries before (line ∷ rest) a.on
+        ∙ ap (λ (t : List ℕ). replies h first_entries before ++ t) (quitted h (entries_through h first_entries before) line rest quit) ∙ append-nil (replies h first_entries before) in
+        let among : ends_among (lines_heard new.ended new.taken) ≡ true = ap ends_among all ∙ on_append before (line ∷ rest) true a.on (ap (λ (b : Bool). b || ends_among rest) quit) in
+        (subst (λ (t : List ℕ). GaveAll given given'' t) (sym said) (same_given e), inr among)
+
+    screen_ends : (reply : List ℕ) → NextReply h entries old (Ok reply) entries' new → GavePrefix given' given'' reply → GavePrefix given given'' (replies h first_entries (lines_heard new.ended new.taken))
+    screen_ends reply n g =
+        let line = n.0 in
+        let behind : List Entry = entries_through h first_entries before in
+        let more : List ℕ = replies h (entries_behind h behind line) rest in
+        let said : replies h first_entries (lines_heard new.ended new.taken) ≡ replies h first_entries before ++ (reply ++ more) =
+        ap (replies h first_entries) (with_line line n.1) ∙ replies_append first_entries before (line ∷ rest) a.on
+        ∙ ap (λ (t : List ℕ). replies h first_entries before ++ t) (replied h behind line rest n.2
+        ∙ ap (λ (t : List ℕ). t ++ more) (ap (λ (es : List Entry). reply_to h es line) (sym a.entries_are) ∙ sym n.3)) in
+        subst (λ (t : List ℕ). GavePrefix given given'' t) (sym said)
+        (gave_prefix_after given given' given'' (replies h first_entries before) (reply ++ more) a.gave (gave_prefix_before given' given'' reply more g))
+
+    memory_ends : (more : List (List ℕ)) → handed_lines new ≡ before ++ more → given'' ≡ given' → GavePrefix given given'' (replies h first_entries (lines_heard new.ended new.taken))
+    memory_ends more hands e =
+        let all : lines_heard new.ended new.taken ≡ before ++ (more ++ rest) = order ∙ ap (λ (ls : List (List ℕ)). ls ++ rest) hands ∙ append_assoc before more rest in
+        let front = replies_front first_entries before (more ++ rest) in
+        subst (λ (t : List ℕ). GavePrefix given given'' t) (sym (ap (replies h first_entries) all ∙ front.1))
+        (gave_prefix_before given given'' (replies h first_entries before) front.0 (gave_prefix_whole given given'' (replies h first_entries before) (same_given e)))
+
+    pub talk_ends : (e : Ending) → Turned h entries old (Err e) entries' new given' given'' → Ends new e given given''
+    talk_ends ending.Done (inl quit, e) = quit_ends quit.0 quit.1 quit.2 e
+    talk_ends ending.Done (inr end, e) = (gave_none end.1 e, inl end.0)
+    talk_ends ending.Console (n, e) = (gave_none n.1 e, (n.0, (none_more n.1).1))
+    talk_ends ending.Spent (n, e) = (gave_none n.1 e, (n.0, (none_more n.1).1, n.2))
+    talk_ends ending.Screen (reply, n, g) = (screen_ends reply n g, tt)
+    talk_ends ending.Memory (n, e) = (memory_ends n.0 n.1 e, tt)
+
+-- what was heard while a reader that had taken nothing took these bytes
+pub heard_of : (taken : List ℕ) (new : LinesState) (left left' : Option (List ℕ)) → taken ≡ [] → Moves taken new.taken left left' → IsConsistent new → (IsTrue new.ended → IsAtEnd left') → IsHeard left left' (record { bytes = new.taken; ended = new.ended })
+heard_of taken new left left' none m c at_end = record {
+  took = subst (λ (bytes : List ℕ). TookAll left left' bytes) (sym (m.grown ∙ ap (λ (bytes : List ℕ). bytes ++ m.more) none)) m.took;
+  within = c.taken;
+  room = c.seen;
+  at_end = at_end;
+}
+
+-- ---- the next reply
+
+module _ (h : History) (entries : List Entry) (old new : LinesState) where
+  -- the reply to a line
+  pub line_reply : (line : List ℕ) (r : Result (List ℕ) Ending) (entries' : List Entry) → Hands old new line → Answers h entries line r entries' → NextReply h entries old r entries' new
+  line_reply line (Ok reply) entries' hands a = (line, hands, a.0, a.1, a.2)
+  line_reply line (Err ending.Done) entries' hands a = inl (line, hands, a)
+  line_reply line (Err ending.Memory) entries' hands a = (line ∷ [], hands)
+  line_reply line (Err ending.Console) entries' hands a = absurd a
+  line_reply line (Err ending.Screen) entries' hands a = absurd a
+  line_reply line (Err ending.Spent) entries' hands a = absurd a
+
+  pub long_reply : (line : List ℕ) (r : Result (List ℕ) Ending) → Hands old new line → LINE_BYTES < length line → IfOk r (λ bytes. bytes ≡ codes "line too long\n") → IfErr r (λ e. e ≡ ending.Memory) → NextReply h entries old r entries new
+  long_reply line (Ok reply) hands k f m = let l = long_line h entries line k in (line, hands, l.ends, f ∙ sym l.reply, sym l.behind)
+  long_reply line (Err ending.Memory) hands k f m = (line ∷ [], hands)
+  long_reply line (Err ending.Done) hands k f m = absurd (let x : ⊥ = cc in x)
+  long_reply line (Err ending.Console) hands k f m = absurd (let x : ⊥ = cc in x)
+  long_reply line (Err ending.Screen) hands k f m = absurd (let x : ⊥ = cc in x)
+  long_reply line (Err ending.Spent) hands k f m = absurd (let x : ⊥ = cc in x)
+
+  pub end_reply : IsTrue new.ended → handed_lines new ≡ handed_lines old → new.handed ≡ old.handed → old.handed ≡ length new.taken → NextReply h entries old (Err ending.Done) entries new
+  end_reply ended same handed all =
+      let whole : handed_lines new ≡ lines_of new.taken = ap (λ (n : ℕ). lines_of (take n new.taken)) (handed ∙ all) ∙ ap lines_of (take-length new.taken) in
+      inr (ended, (same, ap (λ (b : Bool). lines_heard b new.taken) ended ∙ sym whole))
+
+  pub none_handed : new.ended ≡ false → handed_lines new ≡ handed_lines old → handed_lines new ≡ whole_lines new.taken → HandsNone old new
+  none_handed on same stopped = (same, ap (λ (b : Bool). lines_heard b new.taken) on ∙ sym stopped)
+
+-- an answer in which neither console nor screen failed
+pub answer_fails_not : (h : History) (entries entries' : List Entry) (line : List ℕ) (r : Result (List ℕ) Ending) → Answers h entries line r entries' → (console_failed r ≡ false) × (screen_failed r ≡ false)
+answer_fails_not h entries entries' line (Ok reply) a = (refl, refl)
+answer_fails_not h entries entries' line (Err ending.Done) a = (refl, refl)
+answer_fails_not h entries entries' line (Err ending.Memory) a = (refl, refl)
+answer_fails_not h entries entries' line (Err ending.Console) a = absurd a
+answer_fails_not h entries entries' line (Err ending.Screen) a = absurd a
+answer_fails_not h entries entries' line (Err ending.Spent) a = absurd a
+
+pub memory_fails_not : (r : Result (List ℕ) Ending) → IfErr r (λ e. e ≡ ending.Memory) → (console_failed r ≡ false) × (screen_failed r ≡ false)
+memory_fails_not (Ok x) m = (refl, refl)
+memory_fails_not (Err e) m = (ap (λ (x : Ending). is_console (session_status x)) m, ap (λ (x : Ending). is_screen (session_status x)) m)
+
+pub stays_counted : (b : Bool) (before now : ℕ) → b ≡ false → now ≡ before → Counted b before now
+stays_counted b before now e same = subst (λ (c : Bool). Counted c before now) (sym e) same
+
+-- a source that was at its end is left alone
+pub still_at_end : {I : Type 0} (left : I → Option (List ℕ)) (old : LinesState) (ended : Bool) (source source' : I) → (AsksNothing old → source' ≡ source) → (IsTrue ended → IsTrue old.ended ⊎ IsAtEnd (left source'))
+    → (IsTrue old.ended → IsAtEnd (left source)) → IsTrue ended → IsAtEnd (left source')
+still_at_end left old ended source source' quiet seen was is = elim (seen is) [
+  | inl before ↦ subst (λ s. IsAtEnd (left s)) (sym (quiet (inr (inl before)))) (was before)
+  | inr now ↦ now
+]
 
 -- ---- a session
 
-abbrev fresh : LinesState
-fresh = record { taken = []; handed = 0; ended = false; line = [] }
+-- nothing was heard
+abbrev pub nothing : Heard
+nothing = record { bytes = []; ended = false }
 
-pub owed_at_first : (h : History) (entries : List Entry) (lines : LinesState) (left : Option (List ℕ)) (more : List ℕ) → lines ≡ fresh → left ≡ Some more → entries ≡ first_entries → Owes h entries lines left (replies h first_entries (lines_of more))
-owed_at_first h entries lines left more e told first = subst (λ (l : LinesState). Owes h entries l left (replies h first_entries (lines_of more))) (sym e) (more, record { more = more; told = told; whole = refl; ended = λ x. absurd (let y : ⊥ = cc in y) }, ap (λ (es : List Entry). replies h es (lines_of more)) (sym first))
+pub heard_nothing : (left : Option (List ℕ)) → IsHeard left left nothing
+heard_nothing left = record {
+  took = took_nothing left;
+  within = omega arith;
+  room = λ e. absurd (let x : ⊥ = cc in x);
+  at_end = λ e. absurd (let x : ⊥ = cc in x);
+}
 
-pub ending_done : (e : Ending) → session_status e ≡ status.Done → e ≡ ending.Done
-ending_done ending.Done h = refl
-ending_done ending.Console h = absurd (let y : ⊥ = cc in y)
-ending_done ending.Screen h = absurd (let y : ⊥ = cc in y)
-ending_done ending.Spent h = absurd (let y : ⊥ = cc in y)
-ending_done ending.Memory h = absurd (let y : ⊥ = cc in y)
+pub nothing_is_prefix : (given given' : Option (List ℕ)) (text : List ℕ) → given' ≡ given → GavePrefix given given' text
+nothing_is_prefix given given' text e = gave_prefix_before given given' [] text (gave_prefix_whole given given' [] (e ∙ gave_nothing given))
+
+-- what a dialog gave behind the opening
+pub gave_behind : (e : Ending) (k0 k1 k2 : Option (List ℕ)) (a b : List ℕ) → GaveAll k0 k1 a → GaveBy e k1 k2 b → GaveBy e k0 k2 (a ++ b)
+gave_behind ending.Done k0 k1 k2 a b f g = gave_more k0 k1 k2 a b f g
+gave_behind ending.Console k0 k1 k2 a b f g = gave_more k0 k1 k2 a b f g
+gave_behind ending.Spent k0 k1 k2 a b f g = gave_more k0 k1 k2 a b f g
+gave_behind ending.Screen k0 k1 k2 a b f g = gave_prefix_after k0 k1 k2 a b f g
+gave_behind ending.Memory k0 k1 k2 a b f g = gave_prefix_after k0 k1 k2 a b f g

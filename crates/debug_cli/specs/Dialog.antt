@@ -1,8 +1,7 @@
 -- The dialog: what each line of the console is replied, up to `quit`.
-use Rattle.std.specs.Prelude.{◌≡◌, ℕ, Bool, true, false, nat_lt, if◌then◌else◌, length, List, [], ◌∷◌, ◌++◌, Option, Result, Ok, Err, codes, decimal}
+use Rattle.std.specs.Prelude.{ℕ, Bool, true, false, nat_lt, if◌then◌else◌, length, List, [], ◌∷◌, ◌++◌, codes, decimal}
+use Rattle.std.specs.List.{list_any}
 use Rattle.edge_ports.specs.declared.lines.TheConstants.{LINE_BYTES}
-use Rattle.edge_ports.specs.Lines.{LinesState, lines_of, StillComes}
-use Rattle.edge_ports.specs.Told.{GaveAll}
 use Rattle.plain_search.specs.declared.entries.Entry.{Entry}
 use Rattle.plain_search.specs.declared.entries.Judgement.{Judgement}
 use Rattle.plain_search.specs.declared.entries.Judgement.TheVariants as judgement
@@ -12,8 +11,6 @@ use Rattle.plain_search.specs.State.{state_of}
 use Rattle.plain_search.specs.Laws.{judged}
 use Rattle.debug_cli.specs.declared.commands.Command.{Command}
 use Rattle.debug_cli.specs.declared.commands.Command.TheVariants.{Nothing, Right, Wrong, Quit, Other}
-use Rattle.debug_cli.specs.declared.dialog.Ending.{Ending}
-use Rattle.debug_cli.specs.declared.dialog.Ending.TheVariants as ending
 use Rattle.debug_cli.specs.declared.judging.TheConstants.{BOOK_ENTRIES}
 use Rattle.debug_cli.specs.Commands.{command_of}
 use Rattle.debug_cli.specs.History.{History, lasts_of}
@@ -92,30 +89,6 @@ abbrev pub replies : History → List Entry → List (List ℕ) → List ℕ
 replies h entries [] = []
 replies h entries (line ∷ lines) = if ends_session line then [] else reply_to h entries line ++ replies h (entries_behind h entries line) lines
 
--- ---- what the code does
-
--- the console tells what is still to come, and these are the replies to its lines
-abbrev pub Owes : History → List Entry → LinesState → Option (List ℕ) → List ℕ → Type 0
-Owes h entries lines left text = (bytes : List ℕ) × StillComes lines left bytes × (text ≡ replies h entries (lines_of bytes))
-
--- the reply to a judgement, and the entries after it
-abbrev pub Judges : History → List Entry → Judgement → Result (List ℕ) Ending → List Entry → Type 0
-Judges h entries j (Ok reply) entries' = (reply ≡ reply_judged h (state h entries) entries j) × (entries' ≡ entries_judged (state h entries) entries j)
-Judges h entries j (Err ending.Memory) entries' = Unit {0}
-Judges h entries j (Err ending.Done) entries' = ⊥
-Judges h entries j (Err ending.Console) entries' = ⊥
-Judges h entries j (Err ending.Screen) entries' = ⊥
-Judges h entries j (Err ending.Spent) entries' = ⊥
-
--- the reply to a line that is not too long, or that it ends the session
-abbrev pub Answers : History → List Entry → List ℕ → Result (List ℕ) Ending → List Entry → Type 0
-Answers h entries line (Ok reply) entries' = (ends_session line ≡ false) × (reply ≡ reply_to h entries line) × (entries' ≡ entries_behind h entries line)
-Answers h entries line (Err ending.Memory) entries' = Unit {0}
-Answers h entries line (Err ending.Done) entries' = ends_session line ≡ true
-Answers h entries line (Err ending.Console) entries' = ⊥
-Answers h entries line (Err ending.Screen) entries' = ⊥
-Answers h entries line (Err ending.Spent) entries' = ⊥
-
--- one more line was answered: what was owed is the reply to it and what is owed now
-pub record Goes (h : History) (entries : List Entry) (lines : LinesState) (left given : Option (List ℕ)) (entries' : List Entry) (lines' : LinesState) (left' given' : Option (List ℕ)) : Type 0 where
-  pub each : (text : List ℕ) → Owes h entries lines left text → (said : List ℕ) × (rest : List ℕ) × Owes h entries' lines' left' rest × GaveAll given given' said × (text ≡ said ++ rest)
+-- a line that ends the session is among these
+abbrev pub ends_among : List (List ℕ) → Bool
+ends_among lines = list_any ends_session lines

@@ -9,3 +9,5 @@ pub mod Program
 pub mod Status
 pub mod Asked
 pub mod Laws
+pub mod Heard
+pub mod Turned

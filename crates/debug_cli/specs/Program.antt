@@ -1,14 +1,14 @@
--- What a source is: a small program, and its run.
-use Rattle.std.specs.Prelude.{◌≡◌, ℕ, List, Result, Ok, Err}
+-- What a source is: a small program, and its run; or where it is refused.
+use Rattle.std.specs.Prelude.{◌≡◌, ◌⊎◌, ℕ, List, Some, Result, Ok, Err, slice_get}
 use Rattle.pas_lexer.specs.declared.kinds.Token.{Token}
 use Rattle.pas_lexer.specs.Lexed.{Lexed}
-use Rattle.pas_lexer.specs.Division.{IsLexed, line_at}
+use Rattle.pas_lexer.specs.Division.{IsLexed, FailsAt, line_at}
 use Rattle.core_program.specs.Tables.{Tables}
 use Rattle.debug_cli.specs.declared.run.SourceFault.{SourceFault}
 use Rattle.debug_cli.specs.declared.run.SourceFault.TheVariants.{Refused, Memory}
 use Rattle.debug_cli.specs.declared.run.Run.{Run}
 use Rattle.debug_cli.specs.History.{History, history}
-use Rattle.debug_cli.specs.Small.{pieces, Small, IsSmall}
+use Rattle.debug_cli.specs.Small.{pieces, Small, IsSmall, BeginsNone}
 
 -- the source has these tokens, which are this small program
 pub record IsProgram (source : List ℕ) (t : Lexed) (s : Small) : Type 0 where
@@ -22,15 +22,37 @@ Keeps h (Ok r) = history r ≡ h
 Keeps h (Err (Refused line byte)) = ⊥
 Keeps h (Err Memory) = Unit {0}
 
--- a refused source is no small program
+-- no small program has this source
+abbrev pub NoProgram : List ℕ → Type 0
+NoProgram source = (t : Lexed) (s : Small) → IsProgram source t s → ⊥
+
+-- The place of a token, its line and its first byte, where no small program begins with the tokens up to it.
+pub record IsRefusedToken (t : Lexed) (line byte : ℕ) : Type 0 where
+  pub number : ℕ
+  pub token : Token
+  pub there : slice_get t.tokens number ≡ Some token
+  pub at : (line ≡ token.line) × (byte ≡ token.start)
+  pub begins_none : BeginsNone (pieces t) number
+
+-- Where a source is refused: at the first byte of the first piece that does not fit, or, where all pieces fit, at such a token.
+abbrev pub RefusedPlace : List ℕ → (line byte : ℕ) → Type 0
+RefusedPlace source line byte =
+    (FailsAt source byte × (line ≡ line_at source byte)) ⊎ ((t : Lexed) × (t.source ≡ source) × IsLexed source t.tokens × IsRefusedToken t line byte)
+
+-- a refused source is no small program, and this is the place
 abbrev pub IsRefused : List ℕ → SourceFault → Type 0
-IsRefused source (Refused line byte) = (t : Lexed) (s : Small) → IsProgram source t s → ⊥
+IsRefused source (Refused line byte) = NoProgram source × RefusedPlace source line byte
 IsRefused source Memory = Unit {0}
 
--- a refused source has no division into pieces
+-- a source that has no division into pieces is refused at the first that does not fit
 abbrev pub IsUnlexed : List ℕ → SourceFault → Type 0
-IsUnlexed source (Refused line byte) = (tokens : List Token) → IsLexed source tokens → ⊥
+IsUnlexed source (Refused line byte) = ((tokens : List Token) → IsLexed source tokens → ⊥) × FailsAt source byte × (line ≡ line_at source byte)
 IsUnlexed source Memory = Unit {0}
+
+-- tokens that are no program are refused at one of them
+abbrev pub IsUnread : Lexed → SourceFault → Type 0
+IsUnread t (Refused line byte) = IsRefusedToken t line byte
+IsUnread t Memory = Unit {0}
 
 -- the answer is these tokens, or that memory ran out
 abbrev pub TokensAre : List Token → Result Lexed SourceFault → Type 0
@@ -43,13 +65,3 @@ abbrev pub ProgramIs : Tables → Result Tables SourceFault → Type 0
 ProgramIs p (Ok found) = found ≡ p
 ProgramIs p (Err (Refused line byte)) = ⊥
 ProgramIs p (Err Memory) = Unit {0}
-
--- a refusal at this byte, with its line, or that memory ran out
-abbrev pub RefusedAt : List ℕ → ℕ → SourceFault → Type 0
-RefusedAt source n (Refused line byte) = (byte ≡ n) × (line ≡ line_at source n)
-RefusedAt source n Memory = Unit {0}
-
--- the answer is such a refusal
-abbrev pub RefusesAt : {A : Type 0} → List ℕ → ℕ → Result A SourceFault → Type 0
-RefusesAt source n (Ok x) = ⊥
-RefusesAt source n (Err e) = RefusedAt source n e

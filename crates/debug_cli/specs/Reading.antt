@@ -5,7 +5,7 @@ use Rattle.std.specs.declared.alloc.Global.{Global}
 use Rattle.pas_lexer.specs.declared.kinds.Kind.{Kind}
 use Rattle.pas_lexer.specs.declared.kinds.Kind.TheVariants.{Name, Number}
 use Rattle.pas_lexer.specs.declared.kinds.Token.{Token}
-use Rattle.pas_lexer.specs.Lexed.{Lexed}
+use Rattle.pas_lexer.specs.Lexed.{Lexed, EndsOnce}
 use Rattle.core_program.specs.declared.tables.Expression.TheVariants as expression
 use Rattle.core_program.specs.declared.tables.Statement.TheVariants.{Assign, Call}
 use Rattle.core_program.specs.declared.tables.Row.{Row}
@@ -18,7 +18,7 @@ use Rattle.debug_cli.specs.declared.names.Scope.{Scope}
 use Rattle.debug_cli.specs.declared.small.SmallFault.{SmallFault}
 use Rattle.debug_cli.specs.declared.small.SmallFault.TheVariants.{Unbuilt, Memory}
 use Rattle.debug_cli.specs.Names.{Tabled}
-use Rattle.debug_cli.specs.Small.{Piece, piece_of, pieces, is_fixed, is_required, place, Known, with_procedure, Translation, all_rows, routine, routines_from, tables_of}
+use Rattle.debug_cli.specs.Small.{Piece, piece_of, pieces, is_fixed, is_required, place, Known, with_procedure, Translation, all_rows, routine, routines_from, tables_of, BeginsNone}
 
 -- what is read and the tokens behind it, or the tokens from the refused one on
 abbrev pub Read : Type 0 → Type 0
@@ -233,6 +233,11 @@ abbrev pub TablesRead : List Piece → Tables → Result ℕ SmallFault → Read
 TablesRead ps new (Ok n) r = r ≡ Ok (new, drop n ps)
 TablesRead ps new (Err (Unbuilt i)) r = r ≡ Err (drop i ps)
 TablesRead ps new (Err Memory) r = Unit {0}
+
+-- The token of a refusal is there, and no small program begins with the tokens up to it.
+abbrev pub RefusedThere : Lexed → SmallFault → Type 0
+RefusedThere lexed (Unbuilt i) = EndsOnce lexed.tokens → (i < length lexed.tokens) × BeginsNone (pieces lexed) i
+RefusedThere lexed Memory = Unit {0}
 
 -- the answer is this program, or that memory ran out
 abbrev pub IsThat : Tables → Result Tables SmallFault → Type 0

@@ -5,7 +5,7 @@
 --   procedure = "procedure" name ";" body ";"
 --   body      = "begin" step { ";" step } "end"
 --   step      = name ":=" number | name ":=" name "+" number | name
-use Rattle.std.specs.Prelude.{◌≡◌, ℕ, suc, ◌+◌, Bool, true, false, ◌||◌, if◌then◌else◌, List, [], ◌∷◌, ◌++◌, length, map, Option, Some, None, option_map, IsSome, codes, unwrap_or}
+use Rattle.std.specs.Prelude.{◌≡◌, ℕ, suc, ◌+◌, Bool, true, false, ◌||◌, if◌then◌else◌, List, [], ◌∷◌, ◌++◌, length, map, take, Option, Some, None, option_map, IsSome, codes, unwrap_or}
 use Rattle.std.specs.List.{list_any}
 use Rattle.std.specs.Str.{bytes_eq}
 use Rattle.pas_lexer.specs.declared.kinds.Kind.{Kind}
@@ -236,6 +236,10 @@ pub record IsSmall (tokens : List Piece) (s : Small) : Type 0 where
   pub variables : Declares [] s.variables
   pub procedures : DeclaresProcedures (at_first s) s.procedures
   pub body : BodyUses (at_last s) s.body
+
+-- no small program begins with the tokens 0 to i
+abbrev pub BeginsNone : List Piece → ℕ → Type 0
+BeginsNone tokens i = (others : List Piece) (s : Small) → IsSmall others s → take (i + 1) others ≡ take (i + 1) tokens → ⊥
 
 -- ---- the program denoted
 

@@ -1,5 +1,5 @@
 -- The exit status.
-use Rattle.std.specs.Prelude.{ℕ}
+use Rattle.std.specs.Prelude.{ℕ, Bool, true, false}
 use Rattle.debug_cli.specs.declared.status.Status.{Status}
 use Rattle.debug_cli.specs.declared.status.Status.TheVariants.{Done, Words, Source, File, Console, Screen, Memory, Spent}
 
@@ -12,3 +12,13 @@ code_of Console = 5
 code_of Screen = 6
 code_of Memory = 7
 code_of Spent = 9
+
+-- the screen failed
+abbrev pub is_screen : Status → Bool
+is_screen Screen = true
+is_screen _ = false
+
+-- the console failed
+abbrev pub is_console : Status → Bool
+is_console Console = true
+is_console _ = false

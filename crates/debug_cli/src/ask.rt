@@ -1,24 +1,26 @@
 //! The command: from its words to its exit status.
-ghost use Rattle.std.specs.Prelude.{◌≡◌, ◌⊎◌, ◌<◌, ◌≤◌, ◌++◌, ℕ, List, Option, Some, None, Ok, Err, length, IfOk, codes, alloc_error};
+ghost use Rattle.std.specs.Prelude.{◌≡◌, ◌⊎◌, ◌<◌, ◌≤◌, ℕ, List, Some, None, Err, false, IsTrue, take, length, IfOk, alloc_error};
 ghost use Rattle.std.specs.Option.{option_map};
-ghost use Rattle.edge_ports.specs.Counts.{Rose, NotFallen};
+ghost use Rattle.edge_ports.specs.Counts.{Rose, Counted};
 ghost use Rattle.edge_ports.specs.Told.{GaveAll, GavePrefix};
-ghost use Rattle.edge_ports.specs.Lines.{lines_of};
-ghost use Rattle.edge_ports.specs.Files.{FileMap, file_at, HoldsFile, LacksFile, HoldsLonger};
+ghost use Rattle.edge_ports.specs.Lines.{whole_lines};
 ghost use Rattle.edge_ports.specs.declared.lines.TheConstants.{CONSOLE_BYTES};
 ghost use Rattle.pas_lexer.specs.Lexed.{Lexed};
 ghost use Rattle.debug_cli.specs.Small.{Small};
-ghost use Rattle.debug_cli.specs.Program.{IsProgram};
+ghost use Rattle.debug_cli.specs.Program.{IsProgram, NoProgram};
 ghost use Rattle.debug_cli.specs.Texts.{usage_line, file_line, refused_line};
 ghost use Rattle.debug_cli.specs.History.{history_of};
 ghost use Rattle.debug_cli.specs.Laws.{AsksTheBest, FindsTheFault};
 ghost use Rattle.debug_cli.specs.declared.status.Status.{Status};
-ghost use Rattle.debug_cli.specs.Status.{code_of};
-ghost use Rattle.debug_cli.specs.Asked.{GivesLine, IsSession, IsRefusal, IsAnswer, IsFileRefusal, Finds, NoProgram, StayedBelow, SourceRefused, FileRefused, source_of, transcript};
+ghost use Rattle.debug_cli.specs.declared.dialog.Ending.TheVariants as ending;
+ghost use Rattle.debug_cli.specs.Status.{code_of, is_console, is_screen};
+ghost use Rattle.debug_cli.specs.Dialog.{ends_among};
+ghost use Rattle.debug_cli.specs.Heard.{EndedBy};
+ghost use Rattle.debug_cli.specs.Asked.{source_of, transcript, said_to, GivesLine, GivesNothing, Session, SourceRefused, FileFault, SourceGoes, Owes, Goes, Finds, StayedBelow};
 
-use crate::laws::search_is_sound;
+use crate::laws::{one_run, search_is_sound};
 use crate::run::{SourceFault, run_source};
-use crate::session::{give_line, hold_session};
+use crate::session::{give_line, hold_session, status_of};
 use crate::status::Status;
 use crate::texts::{absent_text, failed_text, refused_text, too_long_text};
 use edge_ports::{Bytes, FetchFault, Keeper, Sink, Source};
@@ -40,6 +42,19 @@ fn source_name(words: &[String]) -> Option<&str>
     }
 }
 
+/// Says where a source is no program.
+fn refuse_source<O: Sink>(alloc: Global, line: u32, byte: u32, screen: &mut O) -> Status
+    ensures goes { GivesLine result Status.Source (refused_line line byte) (O.given screen.old) (O.given screen.new)
+        ⊎ GivesNothing result (O.given screen.old) (O.given screen.new) }
+    ensures not_console { is_console result ≡ false }
+    ensures faults { Counted (is_screen result) (O.faults screen.old) (O.faults screen.new) }
+{
+    match refused_text(alloc, line, byte) {
+        Ok(text) => give_line(screen, text.as_slice(), Status::Source),
+        Err(_) => Status::Memory,
+    }
+}
+
 /// Runs a source and asks about it on the console.
 fn ask_source<I: Source, O: Sink>(
     alloc: Global,
@@ -48,30 +63,13 @@ fn ask_source<I: Source, O: Sink>(
     screen: &mut O,
 ) -> Status
     requires { length source.now ≤ 1048576 }
-    // A small program.
-    ensures whole { (t : Lexed) (s : Small) (more : List ℕ) → IsProgram source.now t s → I.left console.old ≡ Some more
-        → result ≡ Status.Done → GaveAll (O.given screen.old) (O.given screen.new) (transcript (history_of t s) more) }
-    ensures prefix { (t : Lexed) (s : Small) (more : List ℕ) → IsProgram source.now t s → I.left console.old ≡ Some more
-        → GavePrefix (O.given screen.old) (O.given screen.new) (transcript (history_of t s) more) }
-    ensures program { (t : Lexed) (s : Small) → IsProgram source.now t s → IsSession result }
-    // Another source.
-    ensures refused { result ≡ Status.Source → NoProgram source.now
-        × ((line : ℕ) × (byte : ℕ) × GaveAll (O.given screen.old) (O.given screen.new) (refused_line line byte)) }
-    ensures no_program { NoProgram source.now → IsRefusal result }
-    // The causes.
-    ensures spent { (more : List ℕ) → I.left console.old ≡ Some more → result ≡ Status.Spent → CONSOLE_BYTES ≤ length more }
-    ensures console { result ≡ Status.Console → Rose (I.faults console.old) (I.faults console.new) }
-    ensures screen { result ≡ Status.Screen → Rose (O.faults screen.old) (O.faults screen.new) }
-    ensures statuses { IsAnswer result }
-    ensures console_faults { NotFallen (I.faults console.old) (I.faults console.new) }
-    ensures screen_faults { NotFallen (O.faults screen.old) (O.faults screen.new) }
+    ensures goes { SourceGoes source.now result (I.left console.old) (I.left console.new) (O.given screen.old) (O.given screen.new) }
+    ensures console_faults { Counted (is_console result) (I.faults console.old) (I.faults console.new) }
+    ensures screen_faults { Counted (is_screen result) (O.faults screen.old) (O.faults screen.new) }
 {
     match run_source(alloc, source) {
-        Ok(run) => hold_session(alloc, &run, console, screen),
-        Err(SourceFault::Refused { line, byte }) => match refused_text(alloc, line, byte) {
-            Ok(text) => give_line(screen, text.as_slice(), Status::Source),
-            Err(_) => Status::Memory,
-        },
+        Ok(run) => status_of(hold_session(alloc, &run, console, screen)),
+        Err(SourceFault::Refused { line, byte }) => refuse_source(alloc, line, byte, screen),
         Err(SourceFault::Memory) => Status::Memory,
     }
 }
@@ -91,12 +89,10 @@ fn file_text(alloc: Global, fault: FetchFault, name: &[u8]) -> Result<Bytes, All
 
 /// Says why a file could not be fetched.
 fn refuse_file<O: Sink>(alloc: Global, fault: FetchFault, name: &[u8], screen: &mut O) -> Status
-    ensures line { result ≡ Status.File → (fault ≡ FetchFault.Memory → ⊥) × GaveAll (O.given screen.old) (O.given screen.new) (file_line fault name.now) }
-    ensures memory { fault ≡ FetchFault.Memory → result ≡ Status.Memory }
-    ensures quiet { result ≡ Status.Memory → O.given screen.new ≡ O.given screen.old }
-    ensures statuses { IsFileRefusal result }
-    ensures screen { result ≡ Status.Screen → Rose (O.faults screen.old) (O.faults screen.new) }
-    ensures faults { NotFallen (O.faults screen.old) (O.faults screen.new) }
+    ensures goes { ((fault ≡ FetchFault.Memory → ⊥) × GivesLine result Status.File (file_line fault name.now) (O.given screen.old) (O.given screen.new))
+        ⊎ GivesNothing result (O.given screen.old) (O.given screen.new) }
+    ensures not_console { is_console result ≡ false }
+    ensures faults { Counted (is_screen result) (O.faults screen.old) (O.faults screen.new) }
 {
     match file_text(alloc, fault, name) {
         Ok(text) => give_line(screen, text.as_slice(), Status::File),
@@ -112,26 +108,10 @@ fn ask_file<K: Keeper, I: Source, O: Sink>(
     console: &mut I,
     screen: &mut O,
 ) -> Status
-    // A small program.
-    ensures whole { (source : List ℕ) (t : Lexed) (s : Small) (more : List ℕ) → Finds (K.files keeper.old) name.now source
-        → IsProgram source t s → I.left console.old ≡ Some more
-        → result ≡ Status.Done → GaveAll (O.given screen.old) (O.given screen.new) (transcript (history_of t s) more) }
-    ensures prefix { (source : List ℕ) (t : Lexed) (s : Small) (more : List ℕ) → Finds (K.files keeper.old) name.now source
-        → length source ≤ SOURCE_BYTES → IsProgram source t s → I.left console.old ≡ Some more → StayedBelow (K.faults keeper.old) (K.faults keeper.new)
-        → GavePrefix (O.given screen.old) (O.given screen.new) (transcript (history_of t s) more) }
-    ensures program { (source : List ℕ) (t : Lexed) (s : Small) → Finds (K.files keeper.old) name.now source
-        → length source ≤ SOURCE_BYTES → IsProgram source t s → StayedBelow (K.faults keeper.old) (K.faults keeper.new) → IsSession result }
-    // Another source, or none.
-    ensures refused { result ≡ Status.Source → SourceRefused (K.files keeper.old) name.now (O.given screen.old) (O.given screen.new) }
-    ensures no_program { (source : List ℕ) → Finds (K.files keeper.old) name.now source → length source ≤ SOURCE_BYTES
-        → NoProgram source → StayedBelow (K.faults keeper.old) (K.faults keeper.new) → IsRefusal result }
-    ensures file { result ≡ Status.File → FileRefused (K.files keeper.old) name.now (K.misses keeper.old) (K.misses keeper.new)
-        (K.faults keeper.old) (K.faults keeper.new) (K.overs keeper.old) (K.overs keeper.new) (O.given screen.old) (O.given screen.new) }
-    // The causes.
-    ensures spent { (more : List ℕ) → I.left console.old ≡ Some more → result ≡ Status.Spent → CONSOLE_BYTES ≤ length more }
-    ensures console { result ≡ Status.Console → Rose (I.faults console.old) (I.faults console.new) }
-    ensures screen { result ≡ Status.Screen → Rose (O.faults screen.old) (O.faults screen.new) }
-    ensures words { result ≡ Status.Words → ⊥ }
+    ensures goes { Goes name.now (K.files keeper.old) (K.misses keeper.old) (K.misses keeper.new) (K.faults keeper.old) (K.faults keeper.new)
+        (K.overs keeper.old) (K.overs keeper.new) (I.left console.old) (I.left console.new) (O.given screen.old) (O.given screen.new) result }
+    ensures console_faults { Counted (is_console result) (I.faults console.old) (I.faults console.new) }
+    ensures screen_faults { Counted (is_screen result) (O.faults screen.old) (O.faults screen.new) }
     ensures files { K.files keeper.new ≡ K.files keeper.old }
 {
     match keeper.fetch(alloc, name, SOURCE_BYTES) {
@@ -157,7 +137,7 @@ pub fn ask_pascal<K: Keeper, I: Source, O: Sink>(
     screen: &mut O,
 ) -> u8
     // The words name a source that the keeper has, which is a small program, and the console tells its
-    // bytes: what the screen got.
+    // bytes: what the screen got, at status 0 and at every status.
     ensures transcript { (name source : List ℕ) (t : Lexed) (s : Small) (more : List ℕ) → source_of words.now ≡ Some name
         → Finds (K.files keeper.old) name source → IsProgram source t s → I.left console.old ≡ Some more
         → result ≡ 0 → GaveAll (O.given screen.old) (O.given screen.new) (transcript (history_of t s) more) }
@@ -165,37 +145,72 @@ pub fn ask_pascal<K: Keeper, I: Source, O: Sink>(
         → Finds (K.files keeper.old) name source → length source ≤ SOURCE_BYTES → IsProgram source t s → I.left console.old ≡ Some more
         → StayedBelow (K.faults keeper.old) (K.faults keeper.new)
         → GavePrefix (O.given screen.old) (O.given screen.new) (transcript (history_of t s) more) }
-    // If besides nothing failed, and the console has fewer than 16,777,216 bytes, the status is 0 or 7.
+    // If besides nothing failed, the status is 0 or 7 where the console ends or says `quit` within 16,777,216
+    // bytes, and 9 or 7 where it does not.
     ensures complete { (name source : List ℕ) (t : Lexed) (s : Small) (more : List ℕ) → source_of words.now ≡ Some name
         → Finds (K.files keeper.old) name source → length source ≤ SOURCE_BYTES → IsProgram source t s → I.left console.old ≡ Some more
-        → length more < CONSOLE_BYTES
+        → (length more < CONSOLE_BYTES) ⊎ IsTrue (ends_among (whole_lines (take CONSOLE_BYTES more)))
         → StayedBelow (K.faults keeper.old) (K.faults keeper.new) → StayedBelow (I.faults console.old) (I.faults console.new)
         → StayedBelow (O.faults screen.old) (O.faults screen.new) → (result ≡ 0) ⊎ (result ≡ 7) }
+    ensures limit { (name source : List ℕ) (t : Lexed) (s : Small) (more : List ℕ) → source_of words.now ≡ Some name
+        → Finds (K.files keeper.old) name source → length source ≤ SOURCE_BYTES → IsProgram source t s → I.left console.old ≡ Some more
+        → CONSOLE_BYTES ≤ length more → ends_among (whole_lines (take CONSOLE_BYTES more)) ≡ false
+        → StayedBelow (K.faults keeper.old) (K.faults keeper.new) → StayedBelow (I.faults console.old) (I.faults console.new)
+        → StayedBelow (O.faults screen.old) (O.faults screen.new) → (result ≡ 9) ⊎ (result ≡ 7) }
     // What a question and a verdict in that transcript say.
     ensures asks { AsksTheBest }
     ensures finds { FindsTheFault }
-    // The words are not two.
-    ensures usage { source_of words.now ≡ None → ((result ≡ 2) × GaveAll (O.given screen.old) (O.given screen.new) usage_line)
-        ⊎ ((result ≡ 6) × Rose (O.faults screen.old) (O.faults screen.new)) }
-    ensures words { result ≡ 2 → source_of words.now ≡ None }
-    // The source is no small program.
-    ensures refused { result ≡ 3 → (name : List ℕ) × (source_of words.now ≡ Some name)
-        × SourceRefused (K.files keeper.old) name (O.given screen.old) (O.given screen.new) }
+    // The source is no small program, and nothing failed.
     ensures no_program { (name source : List ℕ) → source_of words.now ≡ Some name → Finds (K.files keeper.old) name source
         → length source ≤ SOURCE_BYTES → NoProgram source → StayedBelow (K.faults keeper.old) (K.faults keeper.new)
         → StayedBelow (O.faults screen.old) (O.faults screen.new) → (result ≡ 3) ⊎ (result ≡ 7) }
-    // The causes of the other statuses.
-    ensures file { result ≡ 4 → (name : List ℕ) × (source_of words.now ≡ Some name)
-        × FileRefused (K.files keeper.old) name (K.misses keeper.old) (K.misses keeper.new)
-        (K.faults keeper.old) (K.faults keeper.new) (K.overs keeper.old) (K.overs keeper.new) (O.given screen.old) (O.given screen.new) }
-    ensures console { result ≡ 5 → Rose (I.faults console.old) (I.faults console.new) }
-    ensures screen { result ≡ 6 → Rose (O.faults screen.old) (O.faults screen.new) }
-    ensures spent { (more : List ℕ) → I.left console.old ≡ Some more → result ≡ 9 → CONSOLE_BYTES ≤ length more }
+    // The words are not two.
+    ensures usage { source_of words.now ≡ None → (result ≡ 2) ⊎ (result ≡ 6) }
+
+    // What the screen got at each status, and why it came, whether or not the objects tell their bytes:
+    // a session, answered to its end;
+    ensures done { result ≡ 0 → (name : List ℕ) × (source_of words.now ≡ Some name)
+        × (a : Session name (K.files keeper.old) (I.left console.old) (I.left console.new))
+        × GaveAll (O.given screen.old) (O.given screen.new) (said_to a.tokens a.small a.heard) × EndedBy ending.Done a.heard }
+    // words that are not two;
+    ensures words { result ≡ 2 → (source_of words.now ≡ None) × GaveAll (O.given screen.old) (O.given screen.new) usage_line }
+    // a source that is no small program, at the place that is printed;
+    ensures refused { result ≡ 3 → (name : List ℕ) × (source_of words.now ≡ Some name) × (line : ℕ) × (byte : ℕ)
+        × SourceRefused name (K.files keeper.old) line byte × GaveAll (O.given screen.old) (O.given screen.new) (refused_line line byte) }
+    // a file that could not be fetched;
+    ensures file { result ≡ 4 → (name : List ℕ) × (source_of words.now ≡ Some name) × (fault : FetchFault)
+        × FileFault fault name (K.files keeper.old) (K.misses keeper.old) (K.misses keeper.new) (K.faults keeper.old) (K.faults keeper.new)
+        (K.overs keeper.old) (K.overs keeper.new)
+        × GaveAll (O.given screen.old) (O.given screen.new) (file_line fault name) }
+    // a console that failed, with all whole lines of the bytes taken answered;
+    ensures console { result ≡ 5 → Rose (I.faults console.old) (I.faults console.new) × (name : List ℕ) × (source_of words.now ≡ Some name)
+        × (a : Session name (K.files keeper.old) (I.left console.old) (I.left console.new))
+        × GaveAll (O.given screen.old) (O.given screen.new) (said_to a.tokens a.small a.heard) × EndedBy ending.Console a.heard }
+    // a screen that failed, which got a first part of what was to be given;
+    ensures screen { result ≡ 6 → Rose (O.faults screen.old) (O.faults screen.new) × (text : List ℕ)
+        × (((source_of words.now ≡ None) × (text ≡ usage_line))
+        ⊎ ((name : List ℕ) × (source_of words.now ≡ Some name)
+        × Owes name (K.files keeper.old) (K.misses keeper.old) (K.misses keeper.new) (K.faults keeper.old) (K.faults keeper.new)
+        (K.overs keeper.old) (K.overs keeper.new) (I.left console.old) (I.left console.new) text))
+        × GavePrefix (O.given screen.old) (O.given screen.new) text }
+    // want of memory, before anything was given or in a session;
+    ensures memory { result ≡ 7 → (O.given screen.new ≡ O.given screen.old) ⊎ ((name : List ℕ) × (source_of words.now ≡ Some name)
+        × (a : Session name (K.files keeper.old) (I.left console.old) (I.left console.new))
+        × GavePrefix (O.given screen.old) (O.given screen.new) (said_to a.tokens a.small a.heard)) }
+    // and a console of which all 16,777,216 bytes were taken, with all whole lines in them answered.
+    ensures spent { result ≡ 9 → (name : List ℕ) × (source_of words.now ≡ Some name)
+        × (a : Session name (K.files keeper.old) (I.left console.old) (I.left console.new))
+        × GaveAll (O.given screen.old) (O.given screen.new) (said_to a.tokens a.small a.heard) × EndedBy ending.Spent a.heard }
     ensures statuses { (status : Status) × (result ≡ code_of status) }
+
+    // A console or a screen that fails ends the call with its status.
+    ensures failing_console { I.faults console.old < I.faults console.new → result ≡ 5 }
+    ensures failing_screen { O.faults screen.old < O.faults screen.new → result ≡ 6 }
     // The keeper's files stay.
     ensures files { K.files keeper.new ≡ K.files keeper.old }
 {
     search_is_sound();
+    one_run();
     match source_name(words) {
         Some(name) => ask_file(alloc, name, keeper, console, screen).code(),
         None => give_line(screen, USAGE, Status::Words).code(),

@@ -1,12 +1,16 @@
 //! The dialog on the console.
-ghost use Rattle.std.specs.Prelude.{◌≡◌, ◌<◌, ◌≤◌, [], ◌++◌, ℕ, List, Option, Err, length, IfOk, OnOk};
-ghost use Rattle.edge_ports.specs.Counts.{Rose, NotFallen};
+ghost use Rattle.std.specs.Prelude.{◌≡◌, ◌<◌, ◌≤◌, [], false, IsTrue, length, IfErr, OnOk, OnErr};
+ghost use Rattle.std.specs.Io.KnownBytes.{IsAtEnd};
+ghost use Rattle.edge_ports.specs.Counts.{Counted};
 ghost use Rattle.edge_ports.specs.Told.{GaveAll, GavePrefix};
 ghost use Rattle.edge_ports.specs.Lines.{Moves};
-ghost use Rattle.edge_ports.specs.declared.lines.TheConstants.{CONSOLE_BYTES, LINE_BYTES};
+ghost use Rattle.edge_ports.specs.declared.lines.TheConstants.{LINE_BYTES};
 ghost use Rattle.edge_ports.specs.Turns.{IsConsistent};
 ghost use Rattle.debug_cli.specs.History.{history, IsReady};
-ghost use Rattle.debug_cli.specs.Dialog.{Owes, Answers, Goes};
+ghost use Rattle.debug_cli.specs.Status.{is_console, is_screen};
+ghost use Rattle.debug_cli.specs.Dialog.{first_entries, replies};
+ghost use Rattle.debug_cli.specs.Heard.{Heard, IsHeard, lines_in, EndedBy, GaveBy, session_status};
+ghost use Rattle.debug_cli.specs.Turned.{Answers, NextReply, Turned, console_failed, screen_failed};
 
 use crate::commands::{Command, command_in};
 use crate::judging::{judge, text_of};
@@ -76,14 +80,11 @@ fn next_reply<I: Source>(
     console: &mut I,
 ) -> Result<Bytes, Ending>
     requires ready { IsReady run.now }
-    ensures reply { (text : List ℕ) → Owes (history run.now) entries.old.items lines.old (I.left console.old) text
-        → IfOk result (λ reply. (rest : List ℕ) × Owes (history run.now) entries.new.items lines.new (I.left console.new) rest × (text ≡ reply ++ rest)) }
-    ensures done { (text : List ℕ) → Owes (history run.now) entries.old.items lines.old (I.left console.old) text → result ≡ Err Ending.Done → text ≡ [] }
+    ensures reply { NextReply (history run.now) entries.old.items lines.old result entries.new.items lines.new }
     ensures moved { Moves lines.old.taken lines.new.taken (I.left console.old) (I.left console.new) }
-    ensures spent { result ≡ Err Ending.Spent → length lines.new.taken ≡ CONSOLE_BYTES }
-    ensures console { result ≡ Err Ending.Console → Rose (I.faults console.old) (I.faults console.new) }
-    ensures not_screen { result ≡ Err Ending.Screen → ⊥ }
-    ensures faults { NotFallen (I.faults console.old) (I.faults console.new) }
+    ensures at_end { (IsTrue lines.old.ended → IsAtEnd (I.left console.old)) → IsTrue lines.new.ended → IsAtEnd (I.left console.new) }
+    ensures faults { Counted (console_failed result) (I.faults console.old) (I.faults console.new) }
+    ensures not_screen { screen_failed result ≡ false }
     ensures consistent { IsConsistent lines.new }
     ensures handed { OnOk result (lines.old.handed < lines.new.handed) }
 {
@@ -93,6 +94,19 @@ fn next_reply<I: Source>(
         Ok(Turn::End) => Err(Ending::Done),
         Err(LineFault::Failed) => Err(Ending::Console),
         Err(LineFault::Spent) => Err(Ending::Spent),
+    }
+}
+
+/// Gives a reply whole.
+fn give_reply<O: Sink>(screen: &mut O, reply: &[u8]) -> Result<(), Ending>
+    ensures ok { OnOk result (GaveAll (O.given screen.old) (O.given screen.new) reply.now) }
+    ensures failed { OnErr result (GavePrefix (O.given screen.old) (O.given screen.new) reply.now) }
+    ensures ending { IfErr result (λ e. e ≡ Ending.Screen) }
+    ensures faults { Counted (screen_failed result) (O.faults screen.old) (O.faults screen.new) }
+{
+    match write_all(screen, reply) {
+        Ok(()) => Ok(()),
+        Err(_) => Err(Ending::Screen),
     }
 }
 
@@ -106,24 +120,17 @@ fn turn<I: Source, O: Sink>(
     screen: &mut O,
 ) -> Result<(), Ending>
     requires ready { IsReady run.now }
-    ensures went { OnOk result (Goes (history run.now) entries.old.items lines.old (I.left console.old) (O.given screen.old) entries.new.items lines.new (I.left console.new) (O.given screen.new)) }
-    ensures whole { (text : List ℕ) → Owes (history run.now) entries.old.items lines.old (I.left console.old) text → result ≡ Err Ending.Done
-        → GaveAll (O.given screen.old) (O.given screen.new) text }
-    ensures prefix { (text : List ℕ) → Owes (history run.now) entries.old.items lines.old (I.left console.old) text
-        → GavePrefix (O.given screen.old) (O.given screen.new) text }
+    ensures turned { Turned (history run.now) entries.old.items lines.old result entries.new.items lines.new (O.given screen.old) (O.given screen.new) }
     ensures moved { Moves lines.old.taken lines.new.taken (I.left console.old) (I.left console.new) }
-    ensures spent { result ≡ Err Ending.Spent → length lines.new.taken ≡ CONSOLE_BYTES }
-    ensures console { result ≡ Err Ending.Console → Rose (I.faults console.old) (I.faults console.new) }
-    ensures screen { result ≡ Err Ending.Screen → Rose (O.faults screen.old) (O.faults screen.new) }
-    ensures console_faults { NotFallen (I.faults console.old) (I.faults console.new) }
-    ensures screen_faults { NotFallen (O.faults screen.old) (O.faults screen.new) }
+    ensures at_end { (IsTrue lines.old.ended → IsAtEnd (I.left console.old)) → IsTrue lines.new.ended → IsAtEnd (I.left console.new) }
+    ensures console_faults { Counted (console_failed result) (I.faults console.old) (I.faults console.new) }
+    ensures screen_faults { Counted (screen_failed result) (O.faults screen.old) (O.faults screen.new) }
     ensures consistent { IsConsistent lines.new }
     ensures handed { OnOk result (lines.old.handed < lines.new.handed) }
 {
-    let reply = next_reply(alloc, run, entries, lines, console)?;
-    match write_all(screen, reply.as_slice()) {
-        Ok(()) => Ok(()),
-        Err(_) => Err(Ending::Screen),
+    match next_reply(alloc, run, entries, lines, console) {
+        Ok(reply) => give_reply(screen, reply.as_slice()),
+        Err(ending) => Err(ending),
     }
 }
 
@@ -138,19 +145,14 @@ pub fn converse<I: Source, O: Sink>(
     screen: &mut O,
 ) -> Ending
     requires ready { IsReady run.now }
-    // Where the console tells its bytes, the screen got all replies, or the first part of them.
-    ensures whole { (text : List ℕ) → Owes (history run.now) entries.old.items lines.old (I.left console.old) text → result ≡ Ending.Done
-        → GaveAll (O.given screen.old) (O.given screen.new) text }
-    ensures prefix { (text : List ℕ) → Owes (history run.now) entries.old.items lines.old (I.left console.old) text
-        → GavePrefix (O.given screen.old) (O.given screen.new) text }
-    // What was taken of the console, and all of it where the dialog was spent.
-    ensures moved { Moves lines.old.taken lines.new.taken (I.left console.old) (I.left console.new) }
-    ensures spent { result ≡ Ending.Spent → length lines.new.taken ≡ CONSOLE_BYTES }
-    // The causes.
-    ensures console { result ≡ Ending.Console → Rose (I.faults console.old) (I.faults console.new) }
-    ensures screen { result ≡ Ending.Screen → Rose (O.faults screen.old) (O.faults screen.new) }
-    ensures console_faults { NotFallen (I.faults console.old) (I.faults console.new) }
-    ensures screen_faults { NotFallen (O.faults screen.old) (O.faults screen.new) }
+    requires first { entries.old.items ≡ first_entries }
+    requires fresh { lines.old ≡ record { taken = []; handed = 0; ended = false; line = [] } }
+    // What was heard of the console, what the screen got by how the dialog ended, and why it ended.
+    ensures goes { (x : Heard) × IsHeard (I.left console.old) (I.left console.new) x
+        × GaveBy result (O.given screen.old) (O.given screen.new) (replies (history run.now) first_entries (lines_in x)) × EndedBy result x }
+    // A count rises where its object failed, and there alone.
+    ensures console_faults { Counted (is_console (session_status result)) (I.faults console.old) (I.faults console.new) }
+    ensures screen_faults { Counted (is_screen (session_status result)) (O.faults screen.old) (O.faults screen.new) }
 {
     'lines: loop {
         match turn(alloc, run, entries, lines, console, screen) {

@@ -2,7 +2,8 @@
 ghost use Rattle.std.specs.Prelude.{◌≡◌, ◌<◌, ◌++◌, ◌∷◌, [], IfOk, IfErr, length};
 ghost use Rattle.debug_cli.specs.History.{history, IsReady};
 ghost use Rattle.debug_cli.specs.Texts.{report};
-ghost use Rattle.debug_cli.specs.Dialog.{state, entered, Judges};
+ghost use Rattle.debug_cli.specs.Dialog.{state, entered};
+ghost use Rattle.debug_cli.specs.Turned.{Judges};
 
 use crate::dialog::Ending;
 use crate::run::Run;

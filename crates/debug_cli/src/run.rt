@@ -2,10 +2,10 @@
 ghost use Rattle.std.specs.Prelude.{◌≡◌, ◌<◌, ◌≤◌, ◌^◌, ℕ, List, Some, IfOk, IfErr, length, nat_eq, count_by, slice_get};
 ghost use Rattle.core_program.specs.declared.calls.CallRow.{CallRow};
 ghost use Rattle.pas_lexer.specs.declared.kinds.Token.{Token};
-ghost use Rattle.pas_lexer.specs.Lexed.{Lexed};
-ghost use Rattle.pas_lexer.specs.Division.{line_at, line_feed, FailsAt, IsLexed};
+ghost use Rattle.pas_lexer.specs.Lexed.{Lexed, EndsOnce};
+ghost use Rattle.pas_lexer.specs.Division.{line_at, line_feed, IsLexed};
 ghost use Rattle.debug_cli.specs.Small.{Small, IsSmall, pieces, program_of};
-ghost use Rattle.debug_cli.specs.Program.{IsProgram, Keeps, IsRefused, IsUnlexed, TokensAre, ProgramIs, RefusesAt};
+ghost use Rattle.debug_cli.specs.Program.{IsProgram, Keeps, IsRefused, IsUnlexed, IsUnread, TokensAre, ProgramIs};
 ghost use Rattle.debug_cli.specs.History.{history, history_of, calls_within, lasts_of, IsReady};
 
 use crate::small::{SmallFault, parse_small};
@@ -66,7 +66,11 @@ fn line_of(source: &[u8], byte: u32) -> u32
 
 /// The place of the token of this number, and of the last one where there is none: its line and its
 /// first byte.
-fn place_of(tokens: &Tokens, number: u32) -> (u32, u32) {
+fn place_of(tokens: &Tokens, number: u32) -> (u32, u32)
+    ensures ended { EndsOnce tokens.now.tokens }
+    ensures place { number < length tokens.now.tokens → (token : Token) × (slice_get tokens.now.tokens number ≡ Some token)
+        × (result.0 ≡ token.line) × (result.1 ≡ token.start) }
+{
     let token = tokens.at(number.min(tokens.len() - 1));
     (token.line, token.start)
 }
@@ -76,8 +80,7 @@ fn read_tokens(alloc: Global, source: &[u8]) -> Result<Tokens, SourceFault>
     requires { length source.now ≤ 1048576 }
     ensures found { IfOk result (λ t. (t.source ≡ source.now) × IsLexed source.now t.tokens) }
     ensures only { (tokens : List Token) → IsLexed source.now tokens → TokensAre tokens result }
-    ensures fault { IfErr result (λ e. IsUnlexed source.now e) }
-    ensures refused { (n : ℕ) → FailsAt source.now n → RefusesAt source.now n result }
+    ensures fault { IfErr result (IsUnlexed source.now) }
 {
     match lex(alloc, source) {
         Ok(tokens) => Ok(tokens),
@@ -93,6 +96,7 @@ fn read_tokens(alloc: Global, source: &[u8]) -> Result<Tokens, SourceFault>
 fn read_program(alloc: Global, tokens: &Tokens) -> Result<Program, SourceFault>
     ensures found { IfOk result (λ p. (s : Small) × IsSmall (pieces tokens.now) s × (p ≡ program_of s)) }
     ensures only { (s : Small) → IsSmall (pieces tokens.now) s → ProgramIs (program_of s) result }
+    ensures place { IfErr result (IsUnread tokens.now) }
 {
     match parse_small(alloc, tokens) {
         Ok(program) => Ok(program),
@@ -156,11 +160,11 @@ pub fn run_source(alloc: Global, source: &[u8]) -> Result<Run, SourceFault>
     requires { length source.now ≤ 1048576 }
     // Each small program that the source is has this run.
     ensures only { (t : Lexed) (s : Small) → IsProgram source.now t s → Keeps (history_of t s) result }
-    // A refused source is no small program, and one that is none is refused, unless memory runs out.
+    // A refused source is no small program, and the place is told: the first byte of the first piece that
+    // does not fit, or of a token such that no small program begins with the tokens up to it.
     ensures refused { IfErr result (IsRefused source.now) }
+    // A source that is no small program is refused, unless memory runs out.
     ensures found { IfOk result (λ run. (t : Lexed) × (s : Small) × IsProgram source.now t s × (history run ≡ history_of t s)) }
-    // A piece that does not fit is refused at its first byte.
-    ensures piece { (n : ℕ) → FailsAt source.now n → RefusesAt source.now n result }
     ensures ready { IfOk result IsReady }
 {
     let tokens = read_tokens(alloc, source)?;

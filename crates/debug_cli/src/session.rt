@@ -1,12 +1,11 @@
 //! A session on the console: what it opens with, and the dialog.
-ghost use Rattle.std.specs.Prelude.{◌≡◌, ◌⊎◌, ◌<◌, ◌≤◌, ◌++◌, ℕ, List, Some, length, IfOk};
-ghost use Rattle.edge_ports.specs.Counts.{Rose, NotFallen};
-ghost use Rattle.edge_ports.specs.Told.{GaveAll, GavePrefix};
-ghost use Rattle.edge_ports.specs.Lines.{lines_of};
-ghost use Rattle.edge_ports.specs.declared.lines.TheConstants.{CONSOLE_BYTES};
+ghost use Rattle.std.specs.Prelude.{◌≡◌, false, IfOk};
+ghost use Rattle.edge_ports.specs.Counts.{Counted};
 ghost use Rattle.debug_cli.specs.History.{history, IsReady};
+ghost use Rattle.debug_cli.specs.Status.{is_console, is_screen};
 ghost use Rattle.debug_cli.specs.Dialog.{opening, first_entries};
-ghost use Rattle.debug_cli.specs.Asked.{GivesLine, IsSession, session_status, transcript};
+ghost use Rattle.debug_cli.specs.Heard.{Heard, IsHeard, lines_in, EndedBy, GaveBy, session_status};
+ghost use Rattle.debug_cli.specs.Asked.{GivesLine, said};
 
 use crate::dialog::{Ending, converse};
 use crate::judging::find_state;
@@ -19,8 +18,9 @@ use std::alloc::{AllocError, AllocFailed, Global};
 
 /// Gives a whole line and ends with this status, or with that of a screen that failed.
 pub fn give_line<O: Sink>(screen: &mut O, line: &[u8], status: Status) -> Status
-    ensures gives { GivesLine result status line.now (O.given screen.old) (O.given screen.new) (O.faults screen.old) (O.faults screen.new) }
-    ensures faults { NotFallen (O.faults screen.old) (O.faults screen.new) }
+    requires { is_screen status ≡ false }
+    ensures gives { GivesLine result status line.now (O.given screen.old) (O.given screen.new) }
+    ensures faults { Counted (is_screen result) (O.faults screen.old) (O.faults screen.new) }
 {
     match write_all(screen, line) {
         Ok(()) => status,
@@ -59,36 +59,30 @@ pub fn hold_session<I: Source, O: Sink>(
     run: &Run,
     console: &mut I,
     screen: &mut O,
-) -> Status
+) -> Ending
     requires ready { IsReady run.now }
-    ensures whole { (more : List ℕ) → I.left console.old ≡ Some more → result ≡ Status.Done
-        → GaveAll (O.given screen.old) (O.given screen.new) (transcript (history run.now) more) }
-    ensures prefix { (more : List ℕ) → I.left console.old ≡ Some more
-        → GavePrefix (O.given screen.old) (O.given screen.new) (transcript (history run.now) more) }
-    ensures spent { (more : List ℕ) → I.left console.old ≡ Some more → result ≡ Status.Spent → CONSOLE_BYTES ≤ length more }
-    ensures console { result ≡ Status.Console → Rose (I.faults console.old) (I.faults console.new) }
-    ensures screen { result ≡ Status.Screen → Rose (O.faults screen.old) (O.faults screen.new) }
-    ensures statuses { IsSession result }
-    ensures console_faults { NotFallen (I.faults console.old) (I.faults console.new) }
-    ensures screen_faults { NotFallen (O.faults screen.old) (O.faults screen.new) }
+    ensures goes { (x : Heard) × IsHeard (I.left console.old) (I.left console.new) x
+        × GaveBy result (O.given screen.old) (O.given screen.new) (said (history run.now) (lines_in x)) × EndedBy result x }
+    ensures console_faults { Counted (is_console (session_status result)) (I.faults console.old) (I.faults console.new) }
+    ensures screen_faults { Counted (is_screen (session_status result)) (O.faults screen.old) (O.faults screen.new) }
 {
     let Ok(mut lines) = Lines::new(alloc) else {
-        return Status::Memory;
+        return Ending::Memory;
     };
     let Ok(mut entries) = begin_entries(alloc) else {
-        return Status::Memory;
+        return Ending::Memory;
     };
     let Ok(opening) = opening_text(alloc, run, entries.as_slice()) else {
-        return Status::Memory;
+        return Ending::Memory;
     };
-    let Ok(()) = write_all(screen, opening.as_slice()) else {
-        return Status::Screen;
-    };
-    status_of(converse(alloc, run, &mut entries, &mut lines, console, screen))
+    match write_all(screen, opening.as_slice()) {
+        Ok(()) => converse(alloc, run, &mut entries, &mut lines, console, screen),
+        Err(_) => Ending::Screen,
+    }
 }
 
-/// The status of a dialog that ended so.
-fn status_of(ending: Ending) -> Status
+/// The status of a session that ended so.
+pub fn status_of(ending: Ending) -> Status
     ensures { result ≡ session_status ending }
 {
     match ending {

@@ -1,11 +1,11 @@
 //! The parser of small programs.
-ghost use Rattle.std.specs.Prelude.{◌≡◌, ◌+◌, ◌≤◌, ◌<◌, ℕ, List, [], ◌++◌, ◌∷◌, drop, length, IfOk, OnOk, IsTrue, MatchResult, Some, slice_get};
+ghost use Rattle.std.specs.Prelude.{◌≡◌, ◌+◌, ◌≤◌, ◌<◌, ℕ, List, [], ◌++◌, ◌∷◌, drop, length, IfOk, IfErr, OnOk, IsTrue, MatchResult, Some, slice_get};
 ghost use Rattle.pas_lexer.specs.Lexed.{Lexed};
 ghost use Rattle.debug_cli.specs.declared.terminals.Fixed.TheVariants as fixed;
 ghost use Rattle.debug_cli.specs.declared.small.SmallFault.TheVariants.{Memory};
 ghost use Rattle.debug_cli.specs.Names.{Tabled};
 ghost use Rattle.debug_cli.specs.Small.{pieces, piece_of, is_required, Piece, Small, IsSmall, program_of, Known, Translation, all_rows, routines_from};
-ghost use Rattle.debug_cli.specs.Reading.{IsFront, fixed_at, fixed_next, name_at, number_at, integer_at, new_name, known_name, constant_at, sum_at, value_at, assignment_at, step_at, free_name, known_after, procedure_at, procedures_at, block_at, all_further, names_at, variables_at, steps_at, body_at, heading_at, small_at, Gives, GivesPlace, Skips, Declared, NamesRead, VariablesRead, RowsRead, IsScope, ProcedureDeclared, ProcedureRead, ProceduresRead, TablesRead, IsThat};
+ghost use Rattle.debug_cli.specs.Reading.{IsFront, fixed_at, fixed_next, name_at, number_at, integer_at, new_name, known_name, constant_at, sum_at, value_at, assignment_at, step_at, free_name, known_after, procedure_at, procedures_at, block_at, all_further, names_at, variables_at, steps_at, body_at, heading_at, small_at, Gives, GivesPlace, Skips, Declared, NamesRead, VariablesRead, RowsRead, IsScope, ProcedureDeclared, ProcedureRead, ProceduresRead, TablesRead, IsThat, RefusedThere};
 
 use crate::names::{Names, Scope};
 use crate::required::is_required_name;
@@ -374,6 +374,8 @@ pub fn parse_small(alloc: Global, tokens: &Tokens) -> Result<Program, SmallFault
     ensures found { IfOk result (λ p. (s : Small) × IsSmall (pieces tokens.now) s × (p ≡ program_of s)) }
     // Each small program that the tokens are gives this answer, unless memory runs out.
     ensures only { (s : Small) → IsSmall (pieces tokens.now) s → IsThat (program_of s) result }
+    // A refused token is one of them, and no small program begins with the tokens up to it.
+    ensures refused { IfErr result (λ e. RefusedThere tokens.now e) }
 {
     let (program, after) = read_program(alloc, tokens)?;
     if after < tokens.len() {

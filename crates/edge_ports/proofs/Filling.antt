@@ -4,7 +4,6 @@ use Rattle.std.specs.Io.KnownBytes.{IsAtEnd}
 use Rattle.edge_ports.specs.declared.lines.TheConstants.{CONSOLE_BYTES}
 use Rattle.edge_ports.specs.declared.lines.Turn.{Turn}
 use Rattle.edge_ports.specs.declared.lines.LineFault.{LineFault}
-use Rattle.edge_ports.specs.Counts.{NotFallen}
 use Rattle.edge_ports.specs.Told.{TookAll}
 use Rattle.edge_ports.specs.Lines.{LinesState, line_end_of, unread, lines_of, Moves, StillComes}
 use Rattle.edge_ports.specs.Turns.{AsksNothing, IsConsistent, TurnsTo}
@@ -20,7 +19,7 @@ pub record Filled {I : Type 0} (left : I → Option (List ℕ)) (faults : I → 
   pub line : now.line ≡ old.line
   pub quiet : AsksNothing old → (source' ≡ source) × (now.taken ≡ old.taken) × (now.ended ≡ old.ended)
   pub end_seen : IsTrue now.ended → IsTrue old.ended ⊎ IsAtEnd (left source')
-  pub not_fallen : NotFallen (faults source) (faults source')
+  pub calm : faults source' ≡ faults source
 
 -- nothing has moved
 pub moves_nothing : (taken : List ℕ) (left : Option (List ℕ)) → Moves taken taken left left
@@ -66,9 +65,9 @@ pub filled_more : {I : Type 0} (left : I → Option (List ℕ)) (faults : I → 
     → Filled left faults old now source source' looked → line_end_of (unread now) ≡ None → now.ended ≡ false → (length now.taken ≡ CONSOLE_BYTES → ⊥) → IsConsistent now
     → Moves now.taken new.taken (left source') (left source'') → new.handed ≡ now.handed → new.line ≡ now.line
     → (IsTrue new.ended × IsAtEnd (left source'')) ⊎ ((length now.taken < length new.taken) × (new.ended ≡ now.ended))
-    → NotFallen (faults source') (faults source'') → count ≡ length (unread now)
+    → faults source'' ≡ faults source' → count ≡ length (unread now)
     → Filled left faults old new source source'' count
-filled_more left faults old now new source source' source'' looked count filled none not_ended room sound moved handed line ended risen counted =
+filled_more left faults old now new source source' source'' looked count filled none not_ended room sound moved handed line ended calm counted =
     let grown = unread_more now new moved.more sound.handed handed moved.grown in
     let length_grown = ap length grown in
     record {
@@ -79,11 +78,11 @@ filled_more left faults old now new source source' source'' looked count filled 
       line = line ∙ filled.line;
       quiet = λ asks. let kept = filled.quiet asks in absurd (asks_something old now kept.1 filled.handed kept.2 none not_ended room asks);
       end_seen = end_of_either old.ended now.ended new.ended (IsAtEnd (left source')) (IsAtEnd (left source'')) (length now.taken < length new.taken) filled.end_seen not_ended ended;
-      not_fallen = omega (arith, filled.not_fallen, risen);
+      calm = calm ∙ filled.calm;
     }
 
 -- a source that tells its bytes tells them still, when some were taken
-told_still : (left left' : Option (List ℕ)) (taken more : List ℕ) → TookAll left left' taken → left ≡ Some more → (more' : List ℕ) × (left' ≡ Some more') × (more ≡ taken ++ more')
+pub told_still : (left left' : Option (List ℕ)) (taken more : List ℕ) → TookAll left left' taken → left ≡ Some more → (more' : List ℕ) × (left' ≡ Some more') × (more ≡ taken ++ more')
 told_still left None taken more took told = let both : Some more ≡ None = sym told ∙ took in cc
 told_still left (Some more') taken more took told =
     let both : Some more ≡ Some (taken ++ more') = sym told ∙ took in

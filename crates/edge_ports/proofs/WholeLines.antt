@@ -4,7 +4,9 @@ use Rattle.std.proofs.lemmas.List.{append-nil, append_cancel_right, take-append-
 use Rattle.std.proofs.Math.Seq.{take-add}
 use Rattle.std.specs.List.{slice_split, onto_first, slice_index}
 use Rattle.std.specs.Str.Lines.{lines, lines_of_parts, strip_carriage_return}
-use Rattle.edge_ports.specs.Lines.{is_line_end, line_end_of, lines_of, whole_parts, whole_lines, EndsWhole, LinesState, unread, handed_bytes, handed_lines, IsCutAtLines, IsUsed}
+use Rattle.edge_ports.specs.Lines.{is_line_end, line_end_of, lines_of, whole_parts, whole_lines, lines_heard, EndsWhole, LinesState, unread, handed_bytes, handed_lines, IsCutAtLines, IsUsed}
+use Rattle.std.proofs.Math.Dec.{leb}
+use Rattle.std.proofs.lemmas.Bool.{leb-true, leb-false}
 use Rattle.edge_ports.proofs.LinesLemmas.{some_part, no_split}
 
 -- The parts of bytes that end whole, whatever stands behind them.
@@ -139,3 +141,85 @@ pub all_handed : (lines : LinesState) → IsCutAtLines lines → line_end_of (un
 all_handed lines cut none not_ended =
     let whole : EndsWhole (handed_bytes lines) = cut (λ ended. let both : true ≡ false = sym ended ∙ not_ended in cc) in
     sym (ap whole_lines (sym (take-append-drop lines.handed lines.taken)) ∙ whole_lines-append (handed_bytes lines) (unread lines) whole none)
+
+-- ---- the lines that were heard
+
+whole_parts-more : (parts : List (List ℕ)) (part : List ℕ) (more : List (List ℕ)) → whole_parts (parts ++ part ∷ more) ≡ map strip_carriage_return parts ++ whole_parts (part ∷ more)
+whole_parts-more [] part more = refl
+whole_parts-more (x ∷ []) part more = refl
+whole_parts-more (x ∷ y ∷ parts) part more = ap (λ l. strip_carriage_return x ∷ l) (whole_parts-more (y ∷ parts) part more)
+
+whole_lines-parts : (front more : List ℕ) (parts : List (List ℕ)) → slice_split is_line_end (front ++ more) ≡ parts ++ slice_split is_line_end more → whole_lines (front ++ more) ≡ map strip_carriage_return parts ++ whole_lines more
+whole_lines-parts front more parts splits =
+    let some = some_part is_line_end more in
+    ap whole_parts (splits ∙ ap (λ l. parts ++ l) some.2)
+    ∙ whole_parts-more parts some.0 some.1
+    ∙ ap (λ l. map strip_carriage_return parts ++ whole_parts l) (sym some.2)
+
+-- the whole lines of whole lines, and of what stands behind them
+whole_lines-behind : (front more : List ℕ) → EndsWhole front → whole_lines (front ++ more) ≡ lines_of front ++ whole_lines more
+whole_lines-behind front more whole =
+    let p = whole_front front whole in
+    whole_lines-parts front more p.0 (p.1 more) ∙ ap (λ l. l ++ whole_lines more) (sym (lines_of-whole_parts front p.0 p.1))
+
+-- The lines handed out are the first of those heard.
+pub heard_in_order : (lines : LinesState) → lines.handed ≤ length lines.taken → IsCutAtLines lines → lines_heard lines.ended lines.taken ≡ handed_lines lines ++ lines_heard lines.ended (unread lines)
+heard_in_order lines within cut =
+    let parts : lines.taken ≡ handed_bytes lines ++ unread lines = sym (take-append-drop lines.handed lines.taken) in
+    ap (lines_heard lines.ended) parts ∙ elim lines.ended as (λ b. ((IsTrue b → lines.handed < length lines.taken) → EndsWhole (handed_bytes lines)) → lines_heard b (handed_bytes lines ++ unread lines) ≡ handed_lines lines ++ lines_heard b (unread lines)) [
+      | true ↦ λ whole. ended (leb (length lines.taken) lines.handed) refl whole
+      | false ↦ λ whole. whole_lines-behind (handed_bytes lines) (unread lines) (whole (λ e. absurd (let x : ⊥ = cc in x)))
+    ] cut
+  where
+    ended : (b : Bool) → leb (length lines.taken) lines.handed ≡ b → ((IsTrue true → lines.handed < length lines.taken) → EndsWhole (handed_bytes lines)) → lines_of (handed_bytes lines ++ unread lines) ≡ handed_lines lines ++ lines_of (unread lines)
+    ended true e whole =
+        let all : length lines.taken ≤ lines.handed = leb-true _ _ e in
+        let none : unread lines ≡ [] = drop_all lines.handed lines.taken all in
+        ap (λ l. lines_of (handed_bytes lines ++ l)) none ∙ ap lines_of (append-nil (handed_bytes lines)) ∙ sym (append-nil (handed_lines lines)) ∙ ap (λ l. handed_lines lines ++ lines_of l) (sym none)
+    ended false e whole = lines_of-append (handed_bytes lines) (unread lines) (whole (λ _. leb-false _ _ e))
+
+-- The parts of some bytes, all but the last of which stay whatever stands behind them.
+record Kept (bytes : List ℕ) : Type 0 where
+  parts : List (List ℕ)
+  last : List ℕ
+  splits : slice_split is_line_end bytes ≡ parts ++ last ∷ []
+  longer : (more : List ℕ) → (part : List ℕ) × (others : List (List ℕ)) × (slice_split is_line_end (bytes ++ more) ≡ parts ++ part ∷ others)
+
+kept_first : (byte : ℕ) (bytes : List ℕ) (parts : List (List ℕ)) (last : List ℕ) → slice_split is_line_end bytes ≡ parts ++ last ∷ []
+    → ((more : List ℕ) → (part : List ℕ) × (others : List (List ℕ)) × (slice_split is_line_end (bytes ++ more) ≡ parts ++ part ∷ others))
+    → (b : Bool) → ((l : List ℕ) → slice_split is_line_end (byte ∷ l) ≡ cond b ([] ∷ slice_split is_line_end l) (onto_first byte (slice_split is_line_end l))) → Kept (byte ∷ bytes)
+kept_first byte bytes parts last splits more true step = record {
+  parts = [] ∷ parts;
+  last = last;
+  splits = step bytes ∙ ap (λ l. [] ∷ l) splits;
+  longer = λ m. let x = more m in (x.0, x.1, step (bytes ++ m) ∙ ap (λ l. [] ∷ l) x.2);
+}
+kept_first byte bytes [] last splits more false step = record {
+  parts = [];
+  last = byte ∷ last;
+  splits = step bytes ∙ ap (onto_first byte) splits;
+  longer = λ m. let x = more m in (byte ∷ x.0, x.1, step (bytes ++ m) ∙ ap (onto_first byte) x.2);
+}
+kept_first byte bytes (part ∷ parts) last splits more false step = record {
+  parts = (byte ∷ part) ∷ parts;
+  last = last;
+  splits = step bytes ∙ ap (onto_first byte) splits;
+  longer = λ m. let x = more m in (x.0, x.1, step (bytes ++ m) ∙ ap (onto_first byte) x.2);
+}
+
+kept : (bytes : List ℕ) → Kept bytes
+kept [] = record { parts = []; last = []; splits = refl; longer = some_part is_line_end }
+kept (byte ∷ bytes) =
+    let k = kept bytes in
+    kept_first byte bytes k.parts k.last k.splits k.longer (is_line_end byte) (λ l. refl)
+
+-- The whole lines of some bytes are the first lines of those and more.
+pub heard_longer : (ended : Bool) (bytes more : List ℕ) → (rest : List (List ℕ)) × (lines_heard ended (bytes ++ more) ≡ whole_lines bytes ++ rest)
+heard_longer ended bytes more =
+    let k = kept bytes in
+    let x = k.longer more in
+    let whole : whole_lines bytes ≡ map strip_carriage_return k.parts = ap whole_parts k.splits ∙ whole_parts-append k.parts k.last in
+    elim ended as (λ b. (rest : List (List ℕ)) × (lines_heard b (bytes ++ more) ≡ whole_lines bytes ++ rest)) [
+      | true ↦ (lines_of_parts (x.0 ∷ x.1), ap lines_of_parts x.2 ∙ lines_of_parts-append k.parts x.0 x.1 ∙ ap (λ l. l ++ lines_of_parts (x.0 ∷ x.1)) (sym whole))
+      | false ↦ (whole_parts (x.0 ∷ x.1), ap whole_parts x.2 ∙ whole_parts-more k.parts x.0 x.1 ∙ ap (λ l. l ++ whole_parts (x.0 ∷ x.1)) (sym whole))
+    ]

@@ -1,5 +1,5 @@
 -- Counts of what went wrong outside: numbers of 64 bits that never fall, and stand still at the last one.
-use Rattle.std.specs.Prelude.{ℕ, ◌+◌, ◌-◌, ◌^◌, ◌≤◌, min}
+use Rattle.std.specs.Prelude.{◌≡◌, ℕ, ◌+◌, ◌-◌, ◌^◌, ◌≤◌, min, Bool, true, false}
 
 -- one more, unless the count stands at its last value
 abbrev pub next_count : ℕ → ℕ
@@ -12,3 +12,8 @@ Rose before now = next_count before ≤ now
 -- the count has not fallen
 abbrev pub NotFallen : ℕ → ℕ → Type 0
 NotFallen before now = before ≤ now
+
+-- the count behind some calls of which the last one failed, or none did: it rose, or is what it was
+abbrev pub Counted : Bool → ℕ → ℕ → Type 0
+Counted true before now = Rose before now
+Counted false before now = now ≡ before

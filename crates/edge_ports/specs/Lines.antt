@@ -22,6 +22,11 @@ is_line_end byte = byte == 10
 abbrev pub whole_lines : List ℕ → List (List ℕ)
 whole_lines bytes = whole_parts (slice_split is_line_end bytes)
 
+-- the lines of bytes that were heard: those whose LF is there, and the last part too where the end was seen
+abbrev pub lines_heard : Bool → List ℕ → List (List ℕ)
+lines_heard true bytes = lines_of bytes
+lines_heard false bytes = whole_lines bytes
+
 -- where the first LF stands, if there is one
 abbrev pub line_end_of : List ℕ → Option ℕ
 line_end_of bytes = position is_line_end bytes

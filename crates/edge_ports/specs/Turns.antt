@@ -10,10 +10,11 @@ use Rattle.edge_ports.specs.Lines.{LinesState, unread, HasWholeLine, IsCutAtLine
 abbrev pub AsksNothing : LinesState → Type 0
 AsksNothing lines = HasWholeLine (unread lines) ⊎ IsTrue lines.ended ⊎ (length lines.taken ≡ CONSOLE_BYTES)
 
--- no more was handed out than taken, no more taken than there is room for, and what was handed out is cut at lines
+-- no more was handed out than taken, no more taken than there is room for, and less where the end was seen; what was handed out is cut at lines
 pub record IsConsistent (lines : LinesState) : Type 0 where
   pub handed : lines.handed ≤ length lines.taken
   pub taken : length lines.taken ≤ CONSOLE_BYTES
+  pub seen : IsTrue lines.ended → length lines.taken < CONSOLE_BYTES
   pub cut : IsCutAtLines lines
 
 -- the line that is shown of the next line: itself, if it is not too long

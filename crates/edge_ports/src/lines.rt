@@ -51,7 +51,7 @@ pub struct Lines {
 }
 
 impl Model for Lines {
-    ghost use Rattle.std.specs.Prelude.{◌≡◌, ◌≤◌, [], take, drop, length};
+    ghost use Rattle.std.specs.Prelude.{◌≡◌, ◌<◌, ◌≤◌, IsTrue, [], take, drop, length};
     ghost use Rattle.edge_ports.specs.declared.lines.TheConstants.{CONSOLE_BYTES};
     ghost use Rattle.edge_ports.specs.Lines.{LinesState, IsCutAtLines};
 
@@ -66,6 +66,7 @@ impl Model for Lines {
 
     ghost invariant = { λ l. (length l.room.items ≡ CONSOLE_BYTES) × (l.taken ≤ CONSOLE_BYTES)
         × (l.handed ≤ l.taken) × (l.line_start ≤ l.line_end) × (l.line_end ≤ l.taken)
+        × (IsTrue l.ended → l.taken < CONSOLE_BYTES)
         × IsCutAtLines (record { taken = take l.taken l.room.items; handed = l.handed; ended = l.ended; line = [] }) };
 }
 
@@ -140,6 +141,7 @@ fn take_behind<I: Source>(source: &mut I, room: &mut [u8], taken: usize) -> Resu
     ensures end { result ≡ Ok 0 → IsAtEnd (I.left source.new) }
     ensures failed { OnErr result (I.left source.new ≡ I.left source.old) }
     ensures cause { OnErr result (Rose (I.faults source.old) (I.faults source.new)) }
+    ensures calm { OnOk result (I.faults source.new ≡ I.faults source.old) }
     ensures faults { NotFallen (I.faults source.old) (I.faults source.new) }
 {
     source.take(&mut room[taken..])
@@ -188,6 +190,7 @@ impl Lines {
             × (upcoming self.old self.new ≡ None) × (self.new.ended ≡ false)) }
         ensures failed { result ≡ Err LineFault.Failed → (upcoming self.old self.new ≡ None) × (self.new.ended ≡ false) }
         ensures cause { result ≡ Err LineFault.Failed → Rose (I.faults source.old) (I.faults source.new) }
+        ensures calm { (result ≡ Err LineFault.Failed → ⊥) → I.faults source.new ≡ I.faults source.old }
         ensures faults { NotFallen (I.faults source.old) (I.faults source.new) }
 
         // After the end, and after Spent, the answer stays.
@@ -287,6 +290,7 @@ impl Lines {
             ⊎ ((length self.old.taken < length self.new.taken) × (self.new.ended ≡ self.old.ended))) }
         ensures failed { OnErr result ((self.new.taken ≡ self.old.taken) × (self.new.ended ≡ self.old.ended)) }
         ensures cause { OnErr result (Rose (I.faults source.old) (I.faults source.new)) }
+        ensures calm { OnOk result (I.faults source.new ≡ I.faults source.old) }
         ensures faults { NotFallen (I.faults source.old) (I.faults source.new) }
     {
         match take_behind(source, &mut self.room, self.taken) {
@@ -318,6 +322,7 @@ impl Lines {
         ensures spent { result ≡ Err LineFault.Spent → length self.new.taken ≡ CONSOLE_BYTES }
         ensures failed { result ≡ Err LineFault.Failed → Rose (I.faults source.old) (I.faults source.new)
             × (length self.new.taken < CONSOLE_BYTES) }
+        ensures calm { (result ≡ Err LineFault.Failed → ⊥) → I.faults source.new ≡ I.faults source.old }
         ensures faults { NotFallen (I.faults source.old) (I.faults source.new) }
     {
         let mut looked = 0;

@@ -70,6 +70,7 @@ impl Sink for Page {
         ensures gave { IfOk result (λ n. GaveAll (Some self.old.given) (Some self.new.given) (take n piece.now)) }
         ensures failed { OnErr result (Some self.new.given ≡ Some self.old.given) }
         ensures cause { OnErr result (Rose self.old.plan.faults self.new.plan.faults) }
+        ensures calm { OnOk result (self.new.plan.faults ≡ self.old.plan.faults) }
         ensures faults { NotFallen self.old.plan.faults self.new.plan.faults }
     {
         let left = self.room - self.bytes.len();

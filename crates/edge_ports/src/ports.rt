@@ -18,7 +18,8 @@ pub trait Source {
     /// The bytes still to come, where the object tells them.
     ghost left: { Self → Option (List ℕ) };
 
-    /// How often the object failed. It never falls, and stands still at the last number of 64 bits.
+    /// How often the object failed. It rises with each call that fails and with no other, and stands still
+    /// at the last number of 64 bits.
     ghost faults: { Self → ℕ };
 
     /// Moves bytes from the front of what is left into the front of the room, and answers how many, at
@@ -30,6 +31,7 @@ pub trait Source {
         ensures end { result ≡ Ok 0 → IsAtEnd (left self.new) }
         ensures failed { OnErr result (left self.new ≡ left self.old) }
         ensures cause { OnErr result (Rose (faults self.old) (faults self.new)) }
+        ensures calm { OnOk result (faults self.new ≡ faults self.old) }
         ensures faults { NotFallen (faults self.old) (faults self.new) };
 }
 
@@ -38,7 +40,8 @@ pub trait Sink {
     /// The bytes that were given so far, where the object tells them.
     ghost given: { Self → Option (List ℕ) };
 
-    /// How often the object failed. It never falls, and stands still at the last number of 64 bits.
+    /// How often the object failed. It rises with each call that fails and with no other, and stands still
+    /// at the last number of 64 bits.
     ghost faults: { Self → ℕ };
 
     /// Appends bytes from the front of the piece to what was given, and answers how many, at least 1.
@@ -49,6 +52,7 @@ pub trait Sink {
         ensures gave { IfOk result (λ n. GaveAll (given self.old) (given self.new) (take n piece.now)) }
         ensures failed { OnErr result (given self.new ≡ given self.old) }
         ensures cause { OnErr result (Rose (faults self.old) (faults self.new)) }
+        ensures calm { OnOk result (faults self.new ≡ faults self.old) }
         ensures faults { NotFallen (faults self.old) (faults self.new) };
 }
 
@@ -104,6 +108,7 @@ pub fn write_all<O: Sink>(sink: &mut O, bytes: &[u8]) -> Result<(), Failed>
     ensures ok { OnOk result (GaveAll (O.given sink.old) (O.given sink.new) bytes.now) }
     ensures failed { OnErr result (GavePrefix (O.given sink.old) (O.given sink.new) bytes.now) }
     ensures cause { OnErr result (Rose (O.faults sink.old) (O.faults sink.new)) }
+    ensures calm { OnOk result (O.faults sink.new ≡ O.faults sink.old) }
     ensures faults { NotFallen (O.faults sink.old) (O.faults sink.new) }
 {
     let mut at = 0;

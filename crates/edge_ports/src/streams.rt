@@ -23,7 +23,7 @@ impl<R: Read> StdSource<R> {
 }
 
 impl<R: Read> Source for StdSource<R> {
-    ghost use Rattle.std.specs.Prelude.{◌≡◌, ◌≤◌, ◌<◌, Ok, None, length, take, IfOk, OnErr};
+    ghost use Rattle.std.specs.Prelude.{◌≡◌, ◌≤◌, ◌<◌, Ok, None, length, take, IfOk, OnErr, OnOk};
     ghost use Rattle.std.specs.Io.KnownBytes.{ReadConsumes, IsAtEnd};
     ghost use Rattle.edge_ports.specs.Counts.{Rose, NotFallen};
     ghost use Rattle.edge_ports.specs.Told.{TookAll};
@@ -41,6 +41,7 @@ impl<R: Read> Source for StdSource<R> {
         ensures moved { IfOk result (λ n. TookAll None None (take n room.new)) }
         ensures end { result ≡ Ok 0 → IsAtEnd None }
         ensures cause { OnErr result (Rose self.old.faults self.new.faults) }
+        ensures calm { OnOk result (self.new.faults ≡ self.old.faults) }
         ensures faults { NotFallen self.old.faults self.new.faults }
     {
         match self.reader.read(room) {
@@ -87,7 +88,7 @@ fn write_flushed<W: Write>(writer: &mut W, piece: &[u8]) -> Result<usize, Failed
 }
 
 impl<W: Write> Sink for StdSink<W> {
-    ghost use Rattle.std.specs.Prelude.{◌≡◌, ◌≤◌, ◌<◌, None, length, take, IfOk, OnErr};
+    ghost use Rattle.std.specs.Prelude.{◌≡◌, ◌≤◌, ◌<◌, None, length, take, IfOk, OnErr, OnOk};
     ghost use Rattle.std.specs.Io.KnownBytes.{Appends};
     ghost use Rattle.edge_ports.specs.Counts.{Rose, NotFallen};
     ghost use Rattle.edge_ports.specs.Told.{GaveAll};
@@ -105,6 +106,7 @@ impl<W: Write> Sink for StdSink<W> {
         ensures some { IfOk result (λ n. 0 < n) }
         ensures gave { IfOk result (λ n. GaveAll None None (take n piece.now)) }
         ensures cause { OnErr result (Rose self.old.faults self.new.faults) }
+        ensures calm { OnOk result (self.new.faults ≡ self.old.faults) }
         ensures faults { NotFallen self.old.faults self.new.faults }
     {
         match write_flushed(&mut self.writer, piece) {

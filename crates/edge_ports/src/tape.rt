@@ -72,6 +72,7 @@ impl Source for Tape {
         ensures end { result ≡ Ok 0 → IsAtEnd (Some self.new.left) }
         ensures failed { OnErr result (Some self.new.left ≡ Some self.old.left) }
         ensures cause { OnErr result (Rose self.old.plan.faults self.new.plan.faults) }
+        ensures calm { OnOk result (self.new.plan.faults ≡ self.old.plan.faults) }
         ensures faults { NotFallen self.old.plan.faults self.new.plan.faults }
     {
         let failed = self.plan.is_listed();

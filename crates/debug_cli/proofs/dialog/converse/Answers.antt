@@ -1,8 +1,7 @@
-use Rattle.std.proofs.Common.{Err, ap, arith}
+use Rattle.std.proofs.Common.{ap, ◌∙◌}
 use Rattle.edge_ports.proofs.Filling.{moves_more}
 use Rattle.debug_cli.specs.History.{history}
-use Rattle.edge_ports.proofs.Filling.{moves_nothing}
-use Rattle.debug_cli.proofs.Talk.{goes_nothing, goes_more, goes_whole, goes_prefix}
+use Rattle.debug_cli.proofs.Talk.{answered_more, talk_ends, heard_of}
 use Rattle.debug_cli.proofs.dialog.converse.Goals as goal
 
 pub lines-preserved : goal.lines-preserved
@@ -10,32 +9,21 @@ lines-preserved g c =
     let left = g.I.Source.left in
     let given = g.O.Sink.given in
     record {
-      so_far = goes_more (history c.args.run.now) c.args.entries.now.items c.lines.entries.items c.turn.new.entries.items c.args.lines.now c.lines.lines c.turn.new.lines (left c.args.console.now) (left c.lines.console) (left c.turn.new.console) (given c.args.screen.now) (given c.lines.screen) (given c.turn.new.screen) c.lines.invariant.so_far c.in-Ok.ensures.went;
+      answered = answered_more (history c.args.run.now) c.lines.lines c.turn.new.lines c.lines.entries.items c.turn.new.entries.items (given c.args.screen.now) (given c.lines.screen) (given c.turn.new.screen) tt c.lines.invariant.answered c.in-Ok.ensures.turned;
       moved = moves_more c.args.lines.now.taken c.lines.lines.taken c.turn.new.lines.taken (left c.args.console.now) (left c.lines.console) (left c.turn.new.console) c.lines.invariant.moved c.turn.ensures.moved;
-      console_faults = omega (arith, c.lines.invariant.console_faults, c.turn.ensures.console_faults);
-      screen_faults = omega (arith, c.lines.invariant.screen_faults, c.turn.ensures.screen_faults);
+      at_end = c.turn.ensures.at_end c.lines.invariant.at_end;
+      console_faults = c.in-Ok.ensures.console_faults ∙ c.lines.invariant.console_faults;
+      screen_faults = c.in-Ok.ensures.screen_faults ∙ c.lines.invariant.screen_faults;
     }
 
-pub returns-in-Err-clause-whole : goal.returns-in-Err-clause-whole
-returns-in-Err-clause-whole g c = λ text o e.
+pub returns-in-Err-clause-goes : goal.returns-in-Err-clause-goes
+returns-in-Err-clause-goes g c =
     let left = g.I.Source.left in
     let given = g.O.Sink.given in
-    goes_whole (history c.args.run.now) c.args.entries.now.items c.lines.entries.items c.args.lines.now c.lines.lines (left c.args.console.now) (left c.lines.console) (given c.args.screen.now) (given c.lines.screen) (given c.turn.new.screen) c.lines.invariant.so_far
-    (λ rest r. c.in-Err.ensures.whole rest r (ap Err e)) text o
-
-pub returns-in-Err-clause-prefix : goal.returns-in-Err-clause-prefix
-returns-in-Err-clause-prefix g c =
-    let left = g.I.Source.left in
-    let given = g.O.Sink.given in
-    goes_prefix (history c.args.run.now) c.args.entries.now.items c.lines.entries.items c.args.lines.now c.lines.lines (left c.args.console.now) (left c.lines.console) (given c.args.screen.now) (given c.lines.screen) (given c.turn.new.screen) c.lines.invariant.so_far c.in-Err.ensures.prefix
-
-pub lines-init : goal.lines-init
-lines-init g c =
-    let left = g.I.Source.left in
-    let given = g.O.Sink.given in
-    record {
-      so_far = goes_nothing (history c.args.run.now) c.args.entries.now.items c.args.lines.now (left c.args.console.now) (given c.args.screen.now);
-      moved = moves_nothing c.args.lines.now.taken (left c.args.console.now);
-      console_faults = omega arith;
-      screen_faults = omega arith;
-    }
+    let ends = talk_ends (history c.args.run.now) c.lines.lines c.turn.new.lines c.lines.entries.items c.turn.new.entries.items (given c.args.screen.now) (given c.lines.screen) (given c.turn.new.screen) c.lines.invariant.answered c.turn.ensures.consistent c.in-Err.ending c.in-Err.ensures.turned in
+    let moved = moves_more c.args.lines.now.taken c.lines.lines.taken c.turn.new.lines.taken (left c.args.console.now) (left c.lines.console) (left c.turn.new.console) c.lines.invariant.moved c.turn.ensures.moved in (
+      record { bytes = c.turn.new.lines.taken; ended = c.turn.new.lines.ended },
+      heard_of c.args.lines.now.taken c.turn.new.lines (left c.args.console.now) (left c.turn.new.console) (ap (λ s. s.taken) c.requires.fresh) moved c.turn.ensures.consistent (c.turn.ensures.at_end c.lines.invariant.at_end),
+      ends.0,
+      ends.1,
+    )

@@ -1,9 +1,9 @@
-use Rattle.std.proofs.Common.{◌-◌}
-use Rattle.edge_ports.specs.Counts.{NotFallen}
-use Rattle.edge_ports.specs.Lines.{Moves}
+use Rattle.std.proofs.Common.{◌≡◌, ◌-◌, IsTrue}
+use Rattle.std.specs.Io.KnownBytes.{IsAtEnd}
+use Rattle.edge_ports.specs.Lines.{Moves, handed_lines}
 use Rattle.edge_ports.specs.declared.lines.TheConstants.{CONSOLE_BYTES}
 use Rattle.debug_cli.specs.History.{history}
-use Rattle.debug_cli.specs.Dialog.{Goes}
+use Rattle.debug_cli.specs.Turned.{Answered}
 use Rattle.debug_cli.proofs.dialog.converse.Given as goal
 
 abbrev pub invariant-lines : goal.invariant-lines
@@ -11,10 +11,11 @@ invariant-lines g l =
     let left = g.I.Source.left in
     let given = g.O.Sink.given in
     record {
-      so_far : Goes (history l.run) l.fn.entries.items l.fn.lines (left l.fn.console) (given l.fn.screen) l.entries.items l.lines (left l.console) (given l.screen);
+      answered : Answered (history l.run) (handed_lines l.lines) l.entries.items (given l.fn.screen) (given l.screen);
       moved : Moves l.fn.lines.taken l.lines.taken (left l.fn.console) (left l.console);
-      console_faults : NotFallen (g.I.Source.faults l.fn.console) (g.I.Source.faults l.console);
-      screen_faults : NotFallen (g.O.Sink.faults l.fn.screen) (g.O.Sink.faults l.screen);
+      at_end : IsTrue l.lines.ended → IsAtEnd (left l.console);
+      console_faults : g.I.Source.faults l.console ≡ g.I.Source.faults l.fn.console;
+      screen_faults : g.O.Sink.faults l.screen ≡ g.O.Sink.faults l.fn.screen;
     }
 
 abbrev pub decreases-lines : goal.decreases-lines

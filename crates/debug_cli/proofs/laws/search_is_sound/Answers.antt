@@ -2,11 +2,15 @@ use Rattle.debug_cli.specs.Small.{program_of}
 use Rattle.debug_cli.specs.History.{history_of, lasts_of, parents_of}
 use Rattle.debug_cli.specs.declared.run.TheConstants.{BUDGET}
 use Rattle.debug_cli.proofs.Columns.{run_numbered}
+use Rattle.debug_cli.proofs.Best.{best_of}
 use Rattle.debug_cli.proofs.laws.search_is_sound.Goals as goal
 
 pub returns-clause-asks : goal.returns-clause-asks
-returns-clause-asks c = λ t s entries call weight suspects left e.
-    c.question_is_best.ensures.best (lasts_of (history_of t s).calls) entries call weight suspects left e
+returns-clause-asks c = λ t s entries call weight count left e.
+    best_of (history_of t s) entries call weight count left
+    (c.answers_leave_what_is_counted.ensures.worse (parents_of (history_of t s).calls) (lasts_of (history_of t s).calls) entries)
+    (run_numbered c.numbers_tell_the_tree.ensures.subtree c.numbers_tell_the_tree.ensures.last (program_of s) BUDGET)
+    (c.question_is_best.ensures.best (lasts_of (history_of t s).calls) entries call weight count left e)
 
 pub returns-clause-finds : goal.returns-clause-finds
 returns-clause-finds c = λ t s entries call e.

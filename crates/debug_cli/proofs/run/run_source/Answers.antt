@@ -13,11 +13,6 @@ returns-in_err-tokens-clause-refused c =
     let p = err_from_is_err_and c.from_residual.result c.from_residual.ensures.1 in
     rw (p.1, p.2) (no_tokens_refused c.args.source.now c.in_err-tokens.field-0.0 c.in_err-tokens.ensures.fault)
 
-pub returns-in_err-tokens-clause-piece : goal.returns-in_err-tokens-clause-piece
-returns-in_err-tokens-clause-piece c = λ n f.
-    let p = err_from_is_err_and c.from_residual.result c.from_residual.ensures.1 in
-    rw (p.1, p.2) (c.in_err-tokens.ensures.refused n f)
-
 pub returns-in_err-program-clause-only : goal.returns-in_err-program-clause-only
 returns-in_err-program-clause-only c = λ t s r.
     let p = err_from_is_err_and c.from_residual-in_err-program.result c.from_residual-in_err-program.ensures.1 in
@@ -26,10 +21,7 @@ returns-in_err-program-clause-only c = λ t s r.
 pub returns-in_err-program-clause-refused : goal.returns-in_err-program-clause-refused
 returns-in_err-program-clause-refused c =
     let p = err_from_is_err_and c.from_residual-in_err-program.result c.from_residual-in_err-program.ensures.1 in
-    rw (p.1, p.2) (no_program_refused c.args.source.now c.in_ok-tokens.tokens c.in_ok-tokens.ensures.found.0 c.in_ok-tokens.ensures.only c.in_err-program.field-0.0 c.in_err-program.ensures.only)
-
-pub returns-in_err-program-clause-piece : goal.returns-in_err-program-clause-piece
-returns-in_err-program-clause-piece c = λ n f. absurd (c.in_ok-tokens.ensures.refused n f)
+    rw (p.1, p.2) (no_program_refused c.args.source.now c.in_ok-tokens.tokens c.in_ok-tokens.ensures.found.0 c.in_ok-tokens.ensures.only c.in_err-program.field-0.0 c.in_err-program.ensures.only c.in_ok-tokens.ensures.found.1 c.in_err-program.ensures.place)
 
 pub returns-clause-only : goal.returns-clause-only
 returns-clause-only c =
@@ -38,6 +30,3 @@ returns-clause-only c =
 pub returns-clause-found : goal.returns-clause-found
 returns-clause-found c =
     run_found c.args.source.now c.in_ok-tokens.tokens c.in_ok-tokens.ensures.found.0 c.in_ok-tokens.ensures.only c.in_ok-program.program (history c.in_ok-run.run') c.in_ok-tokens.ensures.found.1 c.in_ok-program.ensures.found c.in_ok-run.ensures.kept
-
-pub returns-clause-piece : goal.returns-clause-piece
-returns-clause-piece c = λ n f. c.in_ok-tokens.ensures.refused n f

@@ -1,26 +1,40 @@
-use Rattle.std.proofs.Common.{ℕ, List, sym, subst, ◌∙◌}
-use Rattle.edge_ports.specs.Lines.{lines_of}
-use Rattle.edge_ports.specs.Told.{GaveAll}
-use Rattle.edge_ports.proofs.ToldLemmas.{gave_more, gave_prefix_after}
+use Rattle.std.proofs.Common.{ℕ, List, refl, subst, ◌∙◌}
+use Rattle.edge_ports.specs.Told.{GaveAll, GavePrefix}
+use Rattle.edge_ports.proofs.ToldLemmas.{gave_prefix_before}
 use Rattle.debug_cli.specs.History.{history}
 use Rattle.debug_cli.specs.Dialog.{opening, first_entries, replies}
-use Rattle.debug_cli.proofs.Talk.{owed_at_first, ending_done}
+use Rattle.debug_cli.specs.Heard.{lines_in}
+use Rattle.debug_cli.specs.Asked.{said}
+use Rattle.debug_cli.proofs.Talk.{nothing, heard_nothing, nothing_is_prefix, gave_behind}
 use Rattle.debug_cli.proofs.session.hold_session.Goals as goal
 
-pub returns-clause-whole : goal.returns-clause-whole
-returns-clause-whole g c = λ more told e.
-    let given = g.O.Sink.given in
-    let h = history c.args.run.now in
-    let text = replies h first_entries (lines_of more) in
-    gave_more (given c.args.screen.now) (given c.write_all.new.sink) (given c.converse.new.screen) (opening h) text
-    (subst (λ (x : List ℕ). GaveAll (given c.args.screen.now) (given c.write_all.new.sink) x) (c.as_slice-2.ensures ∙ c.in-Ok-opening_text.ensures) c.in-Ok-write_all.ensures.ok)
-    (c.converse.ensures.whole text (owed_at_first h c.in-Ok-begin_entries.entries.items c.in-Ok.lines (g.I.Source.left c.args.console.now) more c.in-Ok.ensures told c.in-Ok-begin_entries.ensures) (ending_done c.converse.result (sym c.status_of.ensures ∙ e)))
+pub returns-in_default-clause-goes : goal.returns-in_default-clause-goes
+returns-in_default-clause-goes g c =
+    let given = g.O.Sink.given c.args.screen.now in
+    (nothing, heard_nothing (g.I.Source.left c.args.console.now), nothing_is_prefix given given (said (history c.args.run.now) (lines_in nothing)) refl, tt)
 
-pub returns-clause-prefix : goal.returns-clause-prefix
-returns-clause-prefix g c = λ more told.
+pub returns-in_default-begin_entries-clause-goes : goal.returns-in_default-begin_entries-clause-goes
+returns-in_default-begin_entries-clause-goes g c =
+    let given = g.O.Sink.given c.args.screen.now in
+    (nothing, heard_nothing (g.I.Source.left c.args.console.now), nothing_is_prefix given given (said (history c.args.run.now) (lines_in nothing)) refl, tt)
+
+pub returns-in_default-opening_text-clause-goes : goal.returns-in_default-opening_text-clause-goes
+returns-in_default-opening_text-clause-goes g c =
+    let given = g.O.Sink.given c.args.screen.now in
+    (nothing, heard_nothing (g.I.Source.left c.args.console.now), nothing_is_prefix given given (said (history c.args.run.now) (lines_in nothing)) refl, tt)
+
+pub returns-clause-goes : goal.returns-clause-goes
+returns-clause-goes g c =
+    let given = g.O.Sink.given c.args.screen.now in
+    let given' = g.O.Sink.given c.write_all.new.sink in
+    let h = history c.args.run.now in
+    let opened = subst (λ (x : List ℕ). GavePrefix given given' x) (c.as_slice-2.ensures ∙ c.in-Ok-opening_text.ensures) c.in-Err.ensures.failed in
+    (nothing, heard_nothing (g.I.Source.left c.args.console.now), gave_prefix_before given given' (opening h) (replies h first_entries (lines_in nothing)) opened, tt)
+
+pub returns-in-Ok-write_all-clause-goes : goal.returns-in-Ok-write_all-clause-goes
+returns-in-Ok-write_all-clause-goes g c =
     let given = g.O.Sink.given in
     let h = history c.args.run.now in
-    let text = replies h first_entries (lines_of more) in
-    gave_prefix_after (given c.args.screen.now) (given c.write_all.new.sink) (given c.converse.new.screen) (opening h) text
-    (subst (λ (x : List ℕ). GaveAll (given c.args.screen.now) (given c.write_all.new.sink) x) (c.as_slice-2.ensures ∙ c.in-Ok-opening_text.ensures) c.in-Ok-write_all.ensures.ok)
-    (c.converse.ensures.prefix text (owed_at_first h c.in-Ok-begin_entries.entries.items c.in-Ok.lines (g.I.Source.left c.args.console.now) more c.in-Ok.ensures told c.in-Ok-begin_entries.ensures))
+    let talk = c.converse.ensures.goes in
+    let opened = subst (λ (x : List ℕ). GaveAll (given c.args.screen.now) (given c.write_all.new.sink) x) (c.as_slice-2.ensures ∙ c.in-Ok-opening_text.ensures) c.in-Ok-write_all.ensures.ok in
+    (talk.0, talk.1, gave_behind c.converse.result (given c.args.screen.now) (given c.write_all.new.sink) (given c.converse.new.screen) (opening h) (replies h first_entries (lines_in talk.0)) opened talk.2, talk.3)

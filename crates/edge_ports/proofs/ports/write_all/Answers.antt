@@ -1,4 +1,4 @@
-use Rattle.std.proofs.Common.{arith, ℕ}
+use Rattle.std.proofs.Common.{arith, ℕ, ◌∙◌}
 use Rattle.std.proofs.lemmas.List.{take_rest, length-take, length-drop}
 use Rattle.std.proofs.lemmas.Result.{err_from_is_err_and}
 use Rattle.edge_ports.proofs.ToldLemmas.{gave_prefix_take, gave_piece}
@@ -12,6 +12,6 @@ returns-in_err-at-clause-failed g c =
 pub loop-at-preserved : goal.loop-at-preserved
 loop-at-preserved g c = (
   omega (arith, length-take {A = ℕ}, length-drop {A = ℕ}, c.in_ok-at.ensures.count),
-  omega (arith, c.in_ok-at.ensures.faults),
+  c.in_ok-at.ensures.calm ∙ c.loop-at.invariant.1,
   gave_piece _ _ _ c.args.bytes.now c.loop-at.at c.in_ok-at.field-0 c.loop-at.invariant.2 (rw take_rest at c.in_ok-at.ensures.gave),
 )

@@ -1,12 +1,11 @@
-use Rattle.std.proofs.Common.{length, ◌-◌, ◌≤◌, take}
-use Rattle.edge_ports.specs.Counts.{NotFallen}
+use Rattle.std.proofs.Common.{◌≡◌, length, ◌-◌, ◌≤◌, take}
 use Rattle.edge_ports.specs.Told.{GaveAll}
 use Rattle.edge_ports.proofs.ports.write_all.Given as goal
 
 abbrev pub invariant-loop-at : goal.invariant-loop-at
 invariant-loop-at g l =
     (l.at ≤ length l.bytes)
-    × NotFallen (g.O.Sink.faults l.fn.sink) (g.O.Sink.faults l.sink)
+    × (g.O.Sink.faults l.sink ≡ g.O.Sink.faults l.fn.sink)
     × GaveAll (g.O.Sink.given l.fn.sink) (g.O.Sink.given l.sink) (take l.at l.bytes)
 
 abbrev pub decreases-loop-at : goal.decreases-loop-at

@@ -16,5 +16,5 @@ filling-preserved g c =
     c.take_more.ensures.handed
     c.take_more.ensures.line
     (on_ok c.take_more.result c.if-is_err.ensures.negation c.take_more.ensures.ok)
-    c.take_more.ensures.faults
+    (on_ok c.take_more.result c.if-is_err.ensures.negation c.take_more.ensures.calm)
     (ap length c.unread-looked.ensures.bytes)

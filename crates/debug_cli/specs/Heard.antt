@@ -1,0 +1,51 @@
+-- What is heard of a console, and what a dialog gives by how it ends.
+use Rattle.std.specs.Prelude.{◌≡◌, ◌⊎◌, ◌<◌, ◌≤◌, ℕ, Bool, false, IsTrue, List, Option, length}
+use Rattle.std.specs.Io.KnownBytes.{IsAtEnd}
+use Rattle.edge_ports.specs.declared.lines.TheConstants.{CONSOLE_BYTES}
+use Rattle.edge_ports.specs.Lines.{lines_heard}
+use Rattle.edge_ports.specs.Told.{TookAll, GaveAll, GavePrefix}
+use Rattle.debug_cli.specs.declared.dialog.Ending.{Ending}
+use Rattle.debug_cli.specs.declared.dialog.Ending.TheVariants as ending
+use Rattle.debug_cli.specs.declared.status.Status.{Status}
+use Rattle.debug_cli.specs.declared.status.Status.TheVariants as status
+use Rattle.debug_cli.specs.Dialog.{ends_among}
+
+-- the bytes that were taken of it, and whether its end was seen
+pub record Heard : Type 0 where
+  pub bytes : List ℕ
+  pub ended : Bool
+
+-- the lines that can be answered: those whose LF was heard, and the last part too where the end was seen
+abbrev pub lines_in : Heard → List (List ℕ)
+lines_in x = lines_heard x.ended x.bytes
+
+-- These bytes were taken, at most CONSOLE_BYTES; fewer where the end was seen, and then none is left.
+pub record IsHeard (left left' : Option (List ℕ)) (x : Heard) : Type 0 where
+  pub took : TookAll left left' x.bytes
+  pub within : length x.bytes ≤ CONSOLE_BYTES
+  pub room : IsTrue x.ended → length x.bytes < CONSOLE_BYTES
+  pub at_end : IsTrue x.ended → IsAtEnd left'
+
+-- why a dialog ended: at the console's end or a line that ends it, or at no such line, with all CONSOLE_BYTES taken where it was spent
+abbrev pub EndedBy : Ending → Heard → Type 0
+EndedBy ending.Done x = IsTrue x.ended ⊎ IsTrue (ends_among (lines_in x))
+EndedBy ending.Console x = (x.ended ≡ false) × (ends_among (lines_in x) ≡ false)
+EndedBy ending.Spent x = (x.ended ≡ false) × (ends_among (lines_in x) ≡ false) × (length x.bytes ≡ CONSOLE_BYTES)
+EndedBy ending.Screen x = Unit {0}
+EndedBy ending.Memory x = Unit {0}
+
+-- a dialog that ended so has given the whole text, or, where the screen failed or memory was wanting, a first part of it
+abbrev pub GaveBy : Ending → Option (List ℕ) → Option (List ℕ) → List ℕ → Type 0
+GaveBy ending.Done given given' text = GaveAll given given' text
+GaveBy ending.Console given given' text = GaveAll given given' text
+GaveBy ending.Spent given given' text = GaveAll given given' text
+GaveBy ending.Screen given given' text = GavePrefix given given' text
+GaveBy ending.Memory given given' text = GavePrefix given given' text
+
+-- the exit status of a dialog that ended so
+abbrev pub session_status : Ending → Status
+session_status ending.Done = status.Done
+session_status ending.Console = status.Console
+session_status ending.Screen = status.Screen
+session_status ending.Spent = status.Spent
+session_status ending.Memory = status.Memory
