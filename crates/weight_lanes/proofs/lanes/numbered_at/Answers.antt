@@ -1,0 +1,18 @@
+use Rattle.std.proofs.Common.{◌≡◌, ◌+◌, eqb, eq-eqb, get_or, sym, subst, ◌∙◌, arith, w32}
+use Rattle.std.proofs.lemmas.Bool.{eqb-true}
+use Rattle.std.proofs.lemmas.Simd.{bitmask_splat}
+use Rattle.weight_lanes.specs.Lanes.{Marks, number_at}
+use Rattle.weight_lanes.proofs.MarkLemmas.{Marks-mask_l}
+use Rattle.weight_lanes.proofs.lanes.numbered_at.Goals as goal
+
+pub returns : goal.returns
+returns c =
+    let number = λ (lane : _). number_at c.args.weights.now c.args.askable.now c.args.total (c.args.at + lane) in
+    let lanes = c.numbers_from.result in
+    let has = c.numbers_from.ensures in
+    let sought = c.args.number in
+    subst (Marks (λ lane. number lane ≡ sought) 16)
+    (sym (bitmask_splat w32 eqb lanes 16 sought has.long (omega arith)))
+    (Marks-mask_l (λ lane. number lane ≡ sought) (λ x. eqb x sought) lanes 16 has.long
+    (λ lane l h. eq-eqb (get_or lanes lane 0) sought (has.each lane l ∙ h))
+    (λ lane l h. sym (has.each lane l) ∙ eqb-true (get_or lanes lane 0) sought h))

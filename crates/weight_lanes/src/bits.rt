@@ -1,0 +1,23 @@
+//! The lowest and the highest bit of a mask.
+ghost use Rattle.std.specs.Prelude.{◌≡◌, ◌≢◌, ℕ, ◌<◌};
+ghost use Rattle.std.specs.Int.{bit_at};
+
+#[inline(always)]
+pub(crate) fn lowest(mask: u64) -> usize
+    requires { mask ≢ 0 }
+    ensures bound { result < 64 }
+    ensures set { bit_at mask result ≡ 1 }
+    ensures below { (bit : ℕ) → bit < result → bit_at mask bit ≡ 0 }
+{
+    mask.trailing_zeros() as usize
+}
+
+#[inline(always)]
+pub(crate) fn highest(mask: u64) -> usize
+    requires { mask ≢ 0 }
+    ensures bound { result < 64 }
+    ensures set { bit_at mask result ≡ 1 }
+    ensures above { (bit : ℕ) → result < bit → bit_at mask bit ≡ 0 }
+{
+    mask.ilog2() as usize
+}

@@ -1,0 +1,30 @@
+//! A choice of a place, and the number by which places are compared.
+ghost use Rattle.std.specs.Prelude.{◌≡◌, ◌≤◌, MatchOption, nat_le, if◌then◌else◌};
+ghost use Rattle.weight_lanes.specs.Places.{left_of};
+
+/// A place, and how many suspects the worse answer on the call there leaves.
+#[derive(Clone, Copy, Debug, PartialEq, Eq)]
+pub struct Choice {
+    pub left: u32,
+    pub at: usize,
+}
+
+/// How many suspects the worse answer leaves.
+pub(crate) fn left_after(weight: u32, total: u32) -> u32
+    requires at_least_one { 1 ≤ weight }
+    requires at_most_total { weight ≤ total }
+    ensures { result ≡ left_of total weight }
+{
+    (weight - 1).max(total - weight)
+}
+
+/// The choice that leaves fewer; of equals the one that came first.
+pub(crate) fn better(best: Option<Choice>, next: Choice) -> Choice
+    ensures { MatchOption best (result ≡ next)
+        (λ best. result ≡ (if nat_le best.left next.left then best else next)) }
+{
+    match best {
+        Some(best) if best.left <= next.left => best,
+        _ => next,
+    }
+}

@@ -1,0 +1,48 @@
+//! The next place that holds a value, and the last place whose flag is set.
+ghost use Rattle.std.specs.Prelude.{◌≡◌, ℕ, ◌≤◌, ◌↔◌, All, IsNone, IfSome};
+ghost use Rattle.weight_lanes.specs.Places.{Holds, IsSet};
+
+use crate::bits::{highest, lowest};
+use crate::lanes::{FLAGS, NUMBERS, equal_at, set_at};
+use crate::plain;
+
+/// The least place of at least `from` that holds the value. None where there is none, also where
+/// `from` is beyond the end.
+pub fn next_of(column: &[u32], from: usize, value: u32) -> Option<usize>
+    ensures none { IsNone result ↔ ((place : ℕ) → from ≤ place → ¬ Holds column.now value place) }
+    ensures holds { IfSome result (λ place. Holds column.now value place) }
+    ensures at_least { IfSome result (λ place. from ≤ place) }
+    ensures least { IfSome result (λ place. (other : ℕ) → from ≤ other →
+        Holds column.now value other → place ≤ other) }
+{
+    if column.len() < from {
+        return None;
+    }
+    let mut at = from;
+    'search: while NUMBERS <= column.len() - at {
+        let hits = equal_at(column, at, value);
+        if hits != 0 {
+            return Some(at + lowest(hits));
+        }
+        at += NUMBERS;
+    }
+    plain::next_of(column, at, value)
+}
+
+/// The greatest place whose flag is not 0. None where all are 0.
+pub fn last_set(flags: &[u8]) -> Option<usize>
+    ensures none { IsNone result ↔ All (λ flag. flag ≡ 0) flags.now }
+    ensures set { IfSome result (λ place. IsSet flags.now place) }
+    ensures greatest { IfSome result (λ place. (other : ℕ) → IsSet flags.now other →
+        other ≤ place) }
+{
+    let mut end = flags.len();
+    'search: while FLAGS <= end {
+        let hits = set_at(flags, end - FLAGS);
+        if hits != 0 {
+            return Some(end - FLAGS + highest(hits));
+        }
+        end -= FLAGS;
+    }
+    plain::last_set(&flags[..end])
+}

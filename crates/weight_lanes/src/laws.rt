@@ -1,0 +1,45 @@
+//! Each search and its plain loop give one answer.
+ghost use Rattle.std.specs.Prelude.{◌≡◌, length};
+ghost use Rattle.weight_lanes.specs.Answers.{IsBest, IsLast, IsNext};
+ghost use Rattle.weight_lanes.specs.Places.{AreWeighed};
+
+use crate::choice::Choice;
+use crate::choosing::best;
+use crate::finding::{last_set, next_of};
+use crate::plain;
+
+/// What `best` and `plain::best` answer.
+pub fn best_both_ways(
+    weights: &[u32],
+    askable: &[u8],
+    total: u32,
+) -> (Option<Choice>, Option<Choice>)
+    requires same_length { length weights.now ≡ length askable.now }
+    requires weighed { AreWeighed weights.now askable.now total }
+    ensures answer { IsBest weights.now askable.now total result.0 }
+    ensures same { result.0 ≡ result.1 }
+{
+    let by_lanes = best(weights, askable, total);
+    let by_loop = plain::best(weights, askable, total);
+    (by_lanes, by_loop)
+}
+
+/// What `next_of` and `plain::next_of` answer.
+pub fn next_of_both_ways(column: &[u32], from: usize, value: u32) -> (Option<usize>, Option<usize>)
+    ensures answer { IsNext column.now from value result.0 }
+    ensures same { result.0 ≡ result.1 }
+{
+    let by_lanes = next_of(column, from, value);
+    let by_loop = plain::next_of(column, from, value);
+    (by_lanes, by_loop)
+}
+
+/// What `last_set` and `plain::last_set` answer.
+pub fn last_set_both_ways(flags: &[u8]) -> (Option<usize>, Option<usize>)
+    ensures answer { IsLast flags.now result.0 }
+    ensures same { result.0 ≡ result.1 }
+{
+    let by_lanes = last_set(flags);
+    let by_loop = plain::last_set(flags);
+    (by_lanes, by_loop)
+}

@@ -1,0 +1,60 @@
+//! The searches as plain loops.
+ghost use Rattle.std.specs.Prelude.{◌≡◌, ◌≢◌, ℕ, ◌<◌, ◌≤◌, ◌↔◌, All, IsNone, IfSome, length};
+ghost use Rattle.weight_lanes.specs.Places.{AreWeighed, Holds, IsSet, left_at};
+
+use crate::choice::{Choice, better, left_after};
+
+/// Of the places that may be asked about, the one of which the worse answer leaves the fewest, with
+/// that number; of several, the least place. None where no place may be asked about.
+pub fn best(weights: &[u32], askable: &[u8], total: u32) -> Option<Choice>
+    requires same_length { length weights.now ≡ length askable.now }
+    requires weighed { AreWeighed weights.now askable.now total }
+    ensures none { IsNone result ↔ All (λ flag. flag ≡ 0) askable.now }
+    ensures at_askable { IfSome result (λ choice. IsSet askable.now choice.at) }
+    ensures left { IfSome result (λ choice. choice.left ≡ left_at weights.now total choice.at) }
+    ensures least { IfSome result (λ choice. (place : ℕ) → IsSet askable.now place →
+        choice.left ≤ left_at weights.now total place) }
+    ensures first { IfSome result (λ choice. (place : ℕ) → place < choice.at →
+        IsSet askable.now place → left_at weights.now total place ≢ choice.left) }
+{
+    let mut best = None;
+    for at in 0..weights.len() {
+        if askable[at] != 0 {
+            let left = left_after(weights[at], total);
+            best = Some(better(best, Choice { left, at }));
+        }
+    }
+    best
+}
+
+/// The least place of at least `from` that holds the value. None where there is none, also where
+/// `from` is beyond the end.
+pub fn next_of(column: &[u32], from: usize, value: u32) -> Option<usize>
+    ensures none { IsNone result ↔ ((place : ℕ) → from ≤ place → ¬ Holds column.now value place) }
+    ensures holds { IfSome result (λ place. Holds column.now value place) }
+    ensures at_least { IfSome result (λ place. from ≤ place) }
+    ensures least { IfSome result (λ place. (other : ℕ) → from ≤ other →
+        Holds column.now value other → place ≤ other) }
+{
+    for place in from..column.len() {
+        if column[place] == value {
+            return Some(place);
+        }
+    }
+    None
+}
+
+/// The greatest place whose flag is not 0. None where all are 0.
+pub fn last_set(flags: &[u8]) -> Option<usize>
+    ensures none { IsNone result ↔ All (λ flag. flag ≡ 0) flags.now }
+    ensures set { IfSome result (λ place. IsSet flags.now place) }
+    ensures greatest { IfSome result (λ place. (other : ℕ) → IsSet flags.now other →
+        other ≤ place) }
+{
+    for place in (0..flags.len()).rev() {
+        if flags[place] != 0 {
+            return Some(place);
+        }
+    }
+    None
+}
