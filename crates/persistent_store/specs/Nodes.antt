@@ -1,0 +1,43 @@
+-- A trie over addresses in base sixteen. A node of the lowest level, a leaf, has a value or none at
+-- each of sixteen places. A node of a higher level has a node of the level below or none at each
+-- place. The place at each level is a digit of the address, the highest digit at the root.
+use Rattle.std.specs.Prelude.{◌≡◌, ℕ, ◌+◌, ◌/◌, ◌%◌, ◌≤◌, ◌==◌, if◌then◌else◌, List, map, slice_index_or, Option, Some, None}
+use Rattle.std.specs.declared.rc.Rc.{Rc}
+
+-- the entries of a node, some of them with nothing
+abbrev pub Entries : Type 0 → Type 0
+Entries X = List (Option X)
+
+-- what a shared pointer leads to, if there is one
+abbrev pub target_of : {X Z : Type 0} → Option (Rc X Z) → Option X
+target_of (Some pointer) = Some pointer.value
+target_of None = None
+
+abbrev pub targets : {X Z : Type 0} → List (Option (Rc X Z)) → Entries X
+targets pointers = map target_of pointers
+
+-- what a node has at a place; a node that is not there has nothing anywhere
+abbrev pub entry_at : {X : Type 0} → Option (Entries X) → ℕ → Option X
+entry_at (Some entries) place = slice_index_or entries place None
+entry_at None place = None
+
+-- what is found at an address below a node, each of whose entries has this many addresses
+abbrev pub found_in : {X V : Type 0} → ℕ → (Option X → ℕ → Option V) → Option (Entries X) → ℕ → Option V
+found_in span find_below node addr = find_below (entry_at node (addr / span)) (addr % span)
+
+-- a trie of five levels
+abbrev pub Trie : Type 0 → Type 0
+Trie V = Entries (Entries (Entries (Entries (Entries V))))
+
+-- what a trie of five levels has at an address
+abbrev pub cell_at : {V : Type 0} → Option (Trie V) → ℕ → Option V
+cell_at root addr = found_in 65536 (found_in 4096 (found_in 256 (found_in 16 entry_at))) root addr
+
+-- at one argument the new function has this answer, and elsewhere the old one's
+pub record ChangesAt {X : Type 0} (old new : ℕ → Option X) (place : ℕ) (entry : Option X) : Type 0 where
+  pub at : (k : ℕ) → new k ≡ (if k == place then entry else old k)
+
+-- a counter rose, and by at most n
+pub record TakesAtMost (n old new : ℕ) : Type 0 where
+  pub rises : old ≤ new
+  pub most : new ≤ old + n

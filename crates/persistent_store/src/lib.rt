@@ -1,0 +1,7 @@
+//! x
+#![tactic(auto)]
+
+mod nodes;
+mod store;
+
+pub use store::Store;

@@ -1,0 +1,141 @@
+//! The nodes of the trie: leaves with cells, and branches with nodes of the level below. A node is
+//! never written to once it is made, so any number of stores may share it.
+ghost use Rattle.std.specs.Prelude.{◌≡◌, ◌+◌, ◌<◌, ℕ, IfOk, Some, None, option_copied, length, replicate};
+ghost use Rattle.persistent_store.specs.Nodes.{entry_at, target_of, targets, ChangesAt};
+
+use cell_value::{Memory, Steps, Value};
+use std::alloc::Global;
+use std::marker::Model;
+use std::rc::Rc;
+
+/// A node of the lowest level: sixteen cells, each with a value or none.
+#[derive(Drop)]
+pub(crate) struct Leaf {
+    cells: [Option<Value>; 16],
+}
+
+impl Model for Leaf {
+    ghost use Rattle.std.specs.Prelude.{◌≡◌, List, Option, length};
+    ghost use Rattle.cell_value.specs.declared.values.Value.{Value as CellValue};
+
+    ghost Value = { List (Option CellValue) };
+
+    ghost view = { λ leaf. leaf.cells };
+
+    ghost invariant = { λ leaf. length leaf.cells ≡ 16 };
+}
+
+impl Leaf {
+    /// The value of the cell at a place.
+    pub(crate) fn at(leaf: Option<&Leaf>, place: u32) -> Option<Value>
+        requires { place < 16 }
+        ensures { result ≡ entry_at (option_copied leaf.entry) place }
+    {
+        match leaf {
+            Some(leaf) => leaf.cells[place as usize],
+            None => None,
+        }
+    }
+
+    /// The cells of a leaf, none of them with a value where there is no leaf.
+    fn cells_of(leaf: Option<&Leaf>) -> [Option<Value>; 16]
+        ensures sixteen { length result ≡ 16 }
+        ensures same { (k : ℕ) → entry_at (Some result) k ≡ entry_at (option_copied leaf.entry) k }
+    {
+        match leaf {
+            Some(leaf) => leaf.cells,
+            None => [None; 16],
+        }
+    }
+
+    /// Makes the leaf that has this cell at the place, and elsewhere what `old` has.
+    pub(crate) fn changed<L>(
+        alloc: Global,
+        old: Option<&Leaf>,
+        place: u32,
+        cell: Option<Value>,
+        made: &mut Steps<L>,
+    ) -> Result<Rc<Leaf>, Memory>
+        requires { place < 16 }
+        ensures changed { IfOk result (λ new. ChangesAt (entry_at (option_copied old.entry)) (entry_at (Some new.value)) place cell) }
+        ensures one_node { made.new ≡ made.old + 1 }
+    {
+        made.tick();
+        let mut cells = Leaf::cells_of(old);
+        cells[place as usize] = cell;
+        Ok(Rc::new(alloc, Leaf { cells })?)
+    }
+}
+
+/// A node of a higher level: sixteen nodes of the level below, each there or not.
+#[derive(Drop)]
+pub(crate) struct Branch<T> {
+    below: [Option<Rc<T>>; 16],
+}
+
+impl<T> Model for Branch<T> {
+    ghost use Rattle.std.specs.Prelude.{◌≡◌, List, Option, length};
+    ghost use Rattle.persistent_store.specs.Nodes.{targets};
+
+    ghost Value = { List (Option T) };
+
+    ghost view = { λ branch. targets branch.below };
+
+    ghost invariant = { λ branch. length branch.below ≡ 16 };
+}
+
+impl<T: Drop> Branch<T> {
+    /// The node at a place.
+    pub(crate) fn at(branch: Option<&Branch<T>>, place: u32) -> Option<&T>
+        requires { place < 16 }
+        ensures { option_copied result ≡ entry_at (option_copied branch.entry) place }
+    {
+        target(&branch?.below[place as usize])
+    }
+
+    /// Pointers to the nodes that a branch has, none where there is no branch.
+    fn pointers_of(branch: Option<&Branch<T>>) -> Result<[Option<Rc<T>>; 16], Memory>
+        ensures sixteen { IfOk result (λ p. length p ≡ 16) }
+        ensures same { IfOk result (λ p. (k : ℕ) → entry_at (Some (targets p)) k ≡ entry_at (option_copied branch.entry) k) }
+    {
+        match branch {
+            Some(branch) => Ok(branch.below.clone()?),
+            None => Ok(no_pointers()),
+        }
+    }
+
+    /// Makes the branch that has this node at the place, and elsewhere what `old` has.
+    pub(crate) fn changed<L>(
+        alloc: Global,
+        old: Option<&Branch<T>>,
+        place: u32,
+        node: Rc<T>,
+        made: &mut Steps<L>,
+    ) -> Result<Rc<Branch<T>>, Memory>
+        requires { place < 16 }
+        ensures changed { IfOk result (λ new. ChangesAt (entry_at (option_copied old.entry)) (entry_at (Some new.value)) place (Some node.value)) }
+        ensures one_node { made.new ≡ made.old + 1 }
+    {
+        made.tick();
+        let mut below = Branch::pointers_of(old)?;
+        below[place as usize] = Some(node);
+        Ok(Rc::new(alloc, Branch { below })?)
+    }
+}
+
+/// The node that a pointer leads to.
+pub(crate) fn target<T>(pointer: &Option<Rc<T>>) -> Option<&T>
+    ensures { option_copied result ≡ target_of pointer.now }
+{
+    match pointer {
+        Some(node) => Some(&**node),
+        None => None,
+    }
+}
+
+/// Sixteen pointers to nothing.
+fn no_pointers<T>() -> [Option<Rc<T>>; 16]
+    ensures { result ≡ replicate 16 None }
+{
+    [const { None }; 16]
+}
