@@ -6,7 +6,7 @@ use Rattle.std.specs.Cmp.{nat_cmp_total, unsigned_tied}
 use Rattle.std.specs.FinMap.{FinMap, empty, get, insert, remove, get-empty, get-insert, get-remove, same_map, nat_cmp-IsAntisymmetric}
 use Rattle.std.proofs.lemmas.Bool.{cases_lt}
 use Rattle.std.proofs.lemmas.Bool.Decides.{eqb_tells, nat_tests}
-use Rattle.persistent_store.specs.Addresses.{with_entry, map_below, map_of}
+use Rattle.persistent_store.specs.Addresses.{with_entry, with_cell, map_below, map_of}
 use Rattle.persistent_store.specs.Nodes.{ChangesAt}
 use Rattle.persistent_store.proofs.NodeLemmas.{chosen_true, chosen_false}
 
@@ -80,6 +80,10 @@ map_of-insert old new addr value inside changes = map_below-insert 1048576 old n
 pub map_of-remove : {V : Type 0} (old new : ℕ → Option V) (addr : ℕ) → addr < 1048576 → ChangesAt old new addr None → map_of new ≡ remove (map_of old) addr
 unfolding map_of
 map_of-remove old new addr inside changes = map_below-remove 1048576 old new addr inside changes
+
+pub map_of-with_cell : {V : Type 0} (old new : ℕ → Option V) (addr : ℕ) (cell : Option V) → addr < 1048576 → ChangesAt old new addr cell → map_of new ≡ with_cell (map_of old) addr cell
+map_of-with_cell old new addr (Some value) inside changes = map_of-insert old new addr value inside changes
+map_of-with_cell old new addr None inside changes = map_of-remove old new addr inside changes
 
 pub map_of-empty : {V : Type 0} (f : ℕ → Option V) → ((q : ℕ) → f q ≡ None) → map_of f ≡ empty
 unfolding map_of

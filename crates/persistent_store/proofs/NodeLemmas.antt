@@ -1,12 +1,15 @@
 -- Lemmas on the nodes of the trie.
 use Rattle.std.proofs.Common.{◌≡◌, ℕ, ◌+◌, ◌*◌, ◌/◌, ◌%◌, ◌<◌, ◌≢◌, List, [], ◌∷◌, length, map, get_or, set, Option, Some, None, refl, ap, sym, ◌∙◌, arith, cond, true, false, inl, inr, Bool}
-use Rattle.std.specs.Prelude.{◌==◌}
+use Rattle.std.specs.Prelude.{◌==◌, IfNone}
 use Rattle.std.specs.List.{AllZip}
 use Rattle.std.specs.declared.rc.Rc.{Rc}
 use Rattle.std.proofs.lemmas.Bool.Decides.{eqb_tells, nat_tests}
-use Rattle.std.proofs.lemmas.List.{get_or-set_same, get_or-set_other, map-set, length-map}
+use Rattle.std.proofs.lemmas.List.{get_or-set_same, get_or-set_other, map-set, length-map, set-get_or}
+use Rattle.std.proofs.lemmas.List.{get_or-map as get_or-map_inside}
+use Rattle.std.proofs.Math.ListN.{get_or-map}
 use Rattle.std.proofs.lemmas.Nat.{div-add-mod'}
-use Rattle.persistent_store.specs.Nodes.{Entries, targets, entry_at, found_in, ChangesAt}
+use Rattle.persistent_store.specs.Loans.{with_target}
+use Rattle.persistent_store.specs.Nodes.{Entries, target_of, targets, entry_at, found_in, ChangesAt}
 
 -- clones of pointers lead where the pointers lead
 pub targets_alike : {X Z : Type 0} (R : Option (Rc X Z) → Option (Rc X Z) → Type 0) → ((q : Rc X Z) → R None (Some q) → ⊥) → ((p : Rc X Z) → R (Some p) None → ⊥) → ((p q : Rc X Z) → R (Some p) (Some q) → q.value ≡ p.value) → (ps qs : List (Option (Rc X Z))) → AllZip R ps qs → targets qs ≡ targets ps
@@ -57,7 +60,7 @@ rest_tells q a span e =
 
 -- A node is changed at the place of an address, to a node below that is changed at the rest of the
 -- address: what is found is changed at that address and at no other.
-pub found_in-changed : {X V : Type 0} (span : ℕ) (find_below : Option X → ℕ → Option V) (old new : Option (Entries X)) (addr : ℕ) (below : X) (cell : Option V) → ChangesAt (entry_at old) (entry_at new) (addr / span) (Some below) → ChangesAt (find_below (entry_at old (addr / span))) (find_below (Some below)) (addr % span) cell → ChangesAt (found_in span find_below old) (found_in span find_below new) addr cell
+pub found_in-changed : {X V : Type 0} (span : ℕ) (find_below : Option X → ℕ → Option V) (old new : Option (Entries X)) (addr : ℕ) (below : Option X) (cell : Option V) → ChangesAt (entry_at old) (entry_at new) (addr / span) below → ChangesAt (find_below (entry_at old (addr / span))) (find_below below) (addr % span) cell → ChangesAt (found_in span find_below old) (found_in span find_below new) addr cell
 found_in-changed span find_below old new addr below cell here there = record {
     at = λ q. elim (eqb_tells (q / span) (addr / span)) [
       | inl h ↦
@@ -73,3 +76,36 @@ found_in-changed span find_below old new addr below cell here there = record {
           ]))
     ]
   }
+
+-- ---- nodes that are written to in place
+
+target_of-with_target : {X Z : Type 0} (p : Option (Rc X Z)) (x y : X) → target_of p ≡ Some x → target_of (with_target p y) ≡ Some y
+target_of-with_target (Some pointer) x y e = refl
+target_of-with_target None x y e = cc
+
+entries_after : {X Z : Type 0} (ps : List (Option (Rc X Z))) (i : ℕ) (d q : Option (Rc X Z)) → target_of q ≡ target_of (get_or ps i d) → targets (set ps i q) ≡ targets ps
+entries_after ps i d q same = map-set target_of ps i q ∙ ap (set (targets ps) i) same ∙ ap (set (targets ps) i) (sym (get_or-map target_of ps i d)) ∙ set-get_or (targets ps) i (target_of d)
+
+-- a node below that is as it was leaves the node as it was
+pub restored : {X Z : Type 0} (p : Option (Rc (Entries X) Z)) (ps : List (Option (Rc X Z))) (i : ℕ) (d q : Option (Rc X Z)) → target_of p ≡ Some (targets ps) → target_of q ≡ target_of (get_or ps i d) → target_of (with_target p (targets (set ps i q))) ≡ target_of p
+restored p ps i d q is same = target_of-with_target p _ _ is ∙ ap Some (entries_after ps i d q same) ∙ sym is
+
+-- a cell of a leaf is written
+pub written_leaf : {V Z : Type 0} (p : Option (Rc (Entries V) Z)) (cells : Entries V) (place : ℕ) (cell : Option V) → target_of p ≡ Some cells → place < length cells → ChangesAt (entry_at (target_of p)) (entry_at (target_of (with_target p (set cells place cell)))) place cell
+written_leaf p cells place cell is inside =
+    let here : ChangesAt (entry_at (target_of p)) (entry_at (Some (set cells place cell))) place cell = entry_at-set cells (set cells place cell) (target_of p) place cell inside (λ k. ap (λ node. entry_at node k) (sym is)) refl in
+    rw (target_of-with_target p cells (set cells place cell) is) here
+
+-- a node below is written
+pub written_below : {X Z V : Type 0} (span : ℕ) (find_below : Option X → ℕ → Option V) (p : Option (Rc (Entries X) Z)) (ps : List (Option (Rc X Z))) (addr : ℕ) (d q : Option (Rc X Z)) (cell : Option V) → target_of p ≡ Some (targets ps) → addr / span < length ps → ChangesAt (find_below (target_of (get_or ps (addr / span) d))) (find_below (target_of q)) (addr % span) cell → ChangesAt (found_in span find_below (target_of p)) (found_in span find_below (target_of (with_target p (targets (set ps (addr / span) q))))) addr cell
+written_below span find_below p ps addr d q cell is inside there =
+    let ys = targets (set ps (addr / span) q) in
+    let room : addr / span < length (targets ps) = simp length-map inside in
+    let was : entry_at (target_of p) (addr / span) ≡ target_of (get_or ps (addr / span) d) = ap (λ node. entry_at node (addr / span)) is ∙ get_or-map_inside target_of ps (addr / span) d None inside in
+    let here : ChangesAt (entry_at (target_of p)) (entry_at (Some ys)) (addr / span) (target_of q) = entry_at-set (targets ps) ys (target_of p) (addr / span) (target_of q) room (λ k. ap (λ node. entry_at node k) (sym is)) (map-set target_of ps (addr / span) q) in
+    let below : ChangesAt (find_below (entry_at (target_of p) (addr / span))) (find_below (target_of q)) (addr % span) cell = rw was there in
+    rw (target_of-with_target p (targets ps) ys is) (found_in-changed span find_below (target_of p) (Some ys) addr (target_of q) cell here below)
+
+pub if_none : {T : Type 0} {P : Type 0} (o : Option T) → P → IfNone o P
+if_none (Some x) h = tt
+if_none None h = h

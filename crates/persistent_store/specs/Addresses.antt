@@ -1,7 +1,7 @@
 -- Finite maps from addresses. The addresses are the numbers below 1,048,576, which is 16 ^ 5.
 use Rattle.std.specs.Prelude.{ℕ, zero, suc, Option, Some, None}
 use Rattle.std.specs.Ordering.{nat_cmp}
-use Rattle.std.specs.FinMap.{FinMap, empty, insert}
+use Rattle.std.specs.FinMap.{FinMap, empty, insert, remove}
 
 -- the map with this value at the key, where there is a value
 abbrev pub with_entry : {V : Type 0} → FinMap nat_cmp V → ℕ → Option V → FinMap nat_cmp V
@@ -16,3 +16,8 @@ map_below (suc n) f = with_entry (map_below n f) n (f n)
 -- the map of what a function gives at each address
 unfoldable pub map_of : {V : Type 0} → (ℕ → Option V) → FinMap nat_cmp V
 map_of f = map_below 1048576 f
+
+-- the map with a value at the key, or with none there
+abbrev pub with_cell : {V : Type 0} → FinMap nat_cmp V → ℕ → Option V → FinMap nat_cmp V
+with_cell m key (Some value) = insert m key value
+with_cell m key None = remove m key

@@ -25,13 +25,19 @@ entry_at None place = None
 abbrev pub found_in : {X V : Type 0} → ℕ → (Option X → ℕ → Option V) → Option (Entries X) → ℕ → Option V
 found_in span find_below node addr = find_below (entry_at node (addr / span)) (addr % span)
 
--- a trie of five levels
-abbrev pub Trie : Type 0 → Type 0
-Trie V = Entries (Entries (Entries (Entries (Entries V))))
+-- what is found below a node of each level, the lowest level first; a leaf is at level 0
+abbrev pub in_level1 : {V : Type 0} → Option (Entries (Entries V)) → ℕ → Option V
+in_level1 = found_in 16 entry_at
 
--- what a trie of five levels has at an address
-abbrev pub cell_at : {V : Type 0} → Option (Trie V) → ℕ → Option V
-cell_at root addr = found_in 65536 (found_in 4096 (found_in 256 (found_in 16 entry_at))) root addr
+abbrev pub in_level2 : {V : Type 0} → Option (Entries (Entries (Entries V))) → ℕ → Option V
+in_level2 = found_in 256 in_level1
+
+abbrev pub in_level3 : {V : Type 0} → Option (Entries (Entries (Entries (Entries V)))) → ℕ → Option V
+in_level3 = found_in 4096 in_level2
+
+-- what the trie under a root has at an address
+abbrev pub cell_at : {V : Type 0} → Option (Entries (Entries (Entries (Entries (Entries V))))) → ℕ → Option V
+cell_at = found_in 65536 in_level3
 
 -- at one argument the new function has this answer, and elsewhere the old one's
 pub record ChangesAt {X : Type 0} (old new : ℕ → Option X) (place : ℕ) (entry : Option X) : Type 0 where

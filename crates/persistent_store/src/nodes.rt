@@ -3,6 +3,10 @@
 ghost use Rattle.std.specs.Prelude.{◌≡◌, ◌+◌, ◌<◌, ℕ, IfOk, Some, None, option_copied, length, replicate};
 ghost use Rattle.persistent_store.specs.Nodes.{entry_at, target_of, targets, ChangesAt};
 
+ghost use Rattle.std.specs.Borrow.{sem};
+ghost use Rattle.std.specs.Prelude.{IfSome};
+ghost use Rattle.persistent_store.specs.Loans.{LendsTarget};
+
 use cell_value::{Memory, Steps, Value};
 use std::alloc::Global;
 use std::marker::Model;
@@ -11,7 +15,7 @@ use std::rc::Rc;
 /// A node of the lowest level: sixteen cells, each with a value or none.
 #[derive(Drop)]
 pub(crate) struct Leaf {
-    cells: [Option<Value>; 16],
+    pub(crate) cells: [Option<Value>; 16],
 }
 
 impl Model for Leaf {
@@ -70,7 +74,7 @@ impl Leaf {
 /// A node of a higher level: sixteen nodes of the level below, each there or not.
 #[derive(Drop)]
 pub(crate) struct Branch<T> {
-    below: [Option<Rc<T>>; 16],
+    pub(crate) below: [Option<Rc<T>>; 16],
 }
 
 impl<T> Model for Branch<T> {
@@ -138,4 +142,15 @@ fn no_pointers<T>() -> [Option<Rc<T>>; 16]
     ensures { result ≡ replicate 16 None }
 {
     [const { None }; 16]
+}
+
+/// The node that a pointer leads to, to write to, where this pointer is the only one.
+pub(crate) fn sole<T>(pointer: &mut Option<Rc<T>>) -> Option<&mut T>
+    ensures* writes_back { sem 𝓛 (LendsTarget T.row pointer.entry result) }
+    ensures value { IfSome result (λ node. target_of pointer.old ≡ Some node.now) }
+{
+    match pointer {
+        Some(node) => Rc::get_mut(node),
+        None => None,
+    }
 }

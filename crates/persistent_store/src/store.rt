@@ -1,9 +1,10 @@
 //! A map from addresses to values whose copies share what they have in common.
-ghost use Rattle.std.specs.Prelude.{◌≡◌, ◌+◌, ◌<◌, IfOk, OnOk, OnErr, IsOk, Some, None, option_copied};
+ghost use Rattle.std.specs.Prelude.{◌≡◌, ◌+◌, ◌<◌, IfOk, OnOk, OnErr, OnSome, IfNone, IsOk, Some, None, option_copied};
 ghost use Rattle.std.specs.FinMap as map;
-ghost use Rattle.persistent_store.specs.Nodes.{cell_at, ChangesAt, TakesAtMost};
+ghost use Rattle.persistent_store.specs.Nodes.{cell_at, target_of, ChangesAt, TakesAtMost};
+ghost use Rattle.persistent_store.specs.Addresses.{with_cell};
 
-use crate::nodes::{Branch, Leaf, target};
+use crate::nodes::{Branch, Leaf, sole, target};
 use cell_value::{Memory, Steps, Value};
 use std::alloc::Global;
 use std::marker::Model;
@@ -78,6 +79,24 @@ fn changed<L>(
     Branch::changed(alloc, root, addr / 65536, new_level3, made)
 }
 
+/// Writes to the nodes on the way to an address where no other store has one of them.
+fn written_in_place(root: &mut Option<Rc<Root>>, addr: u32, cell: Option<Value>) -> Option<()>
+    requires { addr < 1048576 }
+    ensures written { OnSome result (ChangesAt (cell_at (target_of root.old)) (cell_at (target_of root.new)) addr cell) }
+    ensures unchanged { IfNone result (target_of root.new ≡ target_of root.old) }
+{
+    let root = sole(root)?;
+    let level3 = sole(&mut root.below[(addr / 65536) as usize])?;
+    let in_level3 = addr % 65536;
+    let level2 = sole(&mut level3.below[(in_level3 / 4096) as usize])?;
+    let in_level2 = in_level3 % 4096;
+    let level1 = sole(&mut level2.below[(in_level2 / 256) as usize])?;
+    let in_level1 = in_level2 % 256;
+    let leaf = sole(&mut level1.below[(in_level1 / 16) as usize])?;
+    leaf.cells[(in_level1 % 16) as usize] = cell;
+    Some(())
+}
+
 impl Store {
     /// The empty map, which takes no memory.
     pub fn new() -> Store
@@ -94,6 +113,29 @@ impl Store {
         cell_of(target(&self.root), addr)
     }
 
+    /// Writes a cell: to the nodes on its way where they have no other owner, and to new ones else.
+    fn write<L>(
+        &mut self,
+        alloc: Global,
+        addr: u32,
+        cell: Option<Value>,
+        made: &mut Steps<L>,
+    ) -> Result<(), Memory>
+        requires { addr < 1048576 }
+        ensures written { OnOk result (self.new ≡ with_cell self.old addr cell) }
+        ensures unchanged { OnErr result (self.new ≡ self.old) }
+        ensures nodes { TakesAtMost 5 made.old made.new }
+    {
+        match written_in_place(&mut self.root, addr, cell) {
+            Some(()) => Ok(()),
+            None => {
+                let root = changed(alloc, target(&self.root), addr, cell, made)?;
+                self.root = Some(root);
+                Ok(())
+            }
+        }
+    }
+
     /// Sets the value at the address. After `Memory` the map is as it was. Each node that is made,
     /// five at most, is a step of `made`.
     pub fn put<L>(
@@ -108,9 +150,7 @@ impl Store {
         ensures unchanged { OnErr result (self.new ≡ self.old) }
         ensures nodes { TakesAtMost 5 made.old made.new }
     {
-        let root = changed(alloc, target(&self.root), addr, Some(value), made)?;
-        self.root = Some(root);
-        Ok(())
+        self.write(alloc, addr, Some(value), made)
     }
 
     /// Takes the value at the address out of the map. Where the map has none there, nothing changes,
@@ -131,9 +171,7 @@ impl Store {
         if self.get(addr).is_none() {
             return Ok(());
         }
-        let root = changed(alloc, target(&self.root), addr, None, made)?;
-        self.root = Some(root);
-        Ok(())
+        self.write(alloc, addr, None, made)
     }
 
     /// Another store with the same map, which shares every node with this one. No later write to
