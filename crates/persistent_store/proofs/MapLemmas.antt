@@ -2,6 +2,8 @@
 use Rattle.std.proofs.Common.{◌≡◌, ℕ, suc, zero, ◌+◌, ◌<◌, ◌≤◌, ◌≢◌, Option, Some, None, refl, ap, sym, ◌∙◌, arith, cond, true, false, inl, inr, Bool, ◌⊎◌}
 use Rattle.std.specs.Prelude.{◌==◌, is_some}
 use Rattle.std.specs.Ordering.{nat_cmp, eq_by_cmp}
+use Rattle.std.specs.BTreeMap as tree
+use Rattle.std.specs.Map.{lookup}
 use Rattle.std.specs.Cmp.{nat_cmp_total, unsigned_tied}
 use Rattle.std.specs.FinMap.{FinMap, empty, get, insert, remove, get-empty, get-insert, get-remove, same_map, nat_cmp-IsAntisymmetric}
 use Rattle.std.proofs.lemmas.Bool.{cases_lt}
@@ -10,10 +12,10 @@ use Rattle.persistent_store.specs.Addresses.{with_entry, with_cell, map_below, m
 use Rattle.persistent_store.specs.Nodes.{ChangesAt}
 use Rattle.persistent_store.proofs.NodeLemmas.{chosen_true, chosen_false}
 
-get-insert_nat : {V : Type 0} (m : FinMap nat_cmp V) (k q : ℕ) (v : V) → get (insert m k v) q ≡ cond (q == k) (Some v) (get m q)
+pub get-insert_nat : {V : Type 0} (m : FinMap nat_cmp V) (k q : ℕ) (v : V) → get (insert m k v) q ≡ cond (q == k) (Some v) (get m q)
 get-insert_nat m k q v = get-insert nat_cmp_total m k v q ∙ ap (λ b. cond b (Some v) (get m q)) (unsigned_tied q k)
 
-get-remove_nat : {V : Type 0} (m : FinMap nat_cmp V) (k q : ℕ) → get (remove m k) q ≡ cond (q == k) None (get m q)
+pub get-remove_nat : {V : Type 0} (m : FinMap nat_cmp V) (k q : ℕ) → get (remove m k) q ≡ cond (q == k) None (get m q)
 get-remove_nat m k q = get-remove nat_cmp_total m k q ∙ ap (λ b. cond b None (get m q)) (unsigned_tied q k)
 
 -- an entry at a key that the map lacks
@@ -99,3 +101,15 @@ remove_absent m addr none = same_map nat_cmp_total nat_cmp-IsAntisymmetric (remo
 pub none_from_is_some : {V : Type 0} (o : Option V) → is_some o ≡ false → o ≡ None
 none_from_is_some None e = refl
 none_from_is_some (Some v) e = cc
+
+-- ---- the whole map
+
+pub tree_get-empty : {V : Type 0} (m : tree.BTreeMap ℕ V) (q : ℕ) → tree.IsEmpty m → tree.get nat_cmp m q ≡ None
+tree_get-empty m q e = ap (lookup (tree.is_at (nat_cmp q))) e
+
+tied : (k q : ℕ) → tree.is_at (nat_cmp k) q ≡ (q == k)
+tied k q = unsigned_tied k q ∙ grind (arith, nat_tests)
+
+-- one key of a tree is changed
+pub tree_changes : {V : Type 0} (m n : tree.BTreeMap ℕ V) (k : ℕ) (w : Option V) → tree.Updates nat_cmp m n k w → ChangesAt (tree.get nat_cmp m) (tree.get nat_cmp n) k w
+tree_changes m n k w updates = record { at = λ q. updates.0 q ∙ ap (λ b. cond b w (tree.get nat_cmp m q)) (tied k q) }

@@ -1,3 +1,4 @@
 pub mod Nodes
 pub mod Addresses
 pub mod Loans
+pub mod Commands
