@@ -41,21 +41,21 @@ pub get-map_below : {V : Type 0} (n : ℕ) (f : ℕ → Option V) (q : ℕ) → 
 unfolding map_below
 get-map_below zero f q inside = absurd (omega arith)
 get-map_below (suc n) f q inside = elim (cases_lt q n) [
-    | inl h ↦
-        let other : q ≢ n = omega arith in
-        get-with_entry_other (map_below n f) n q (f n) other ∙ get-map_below n f q h
-    | inr h ↦
-        let same : q ≡ n = omega arith in
-        let least : n ≤ n = omega arith in
-        get-with_entry_same (map_below n f) n q (f n) same (get-map_below_past n f n least) ∙ ap f (sym same)
-  ]
+  | inl h ↦
+      let other : q ≢ n = omega arith in
+      get-with_entry_other (map_below n f) n q (f n) other ∙ get-map_below n f q h
+  | inr h ↦
+      let same : q ≡ n = omega arith in
+      let least : n ≤ n = omega arith in
+      get-with_entry_same (map_below n f) n q (f n) same (get-map_below_past n f n least) ∙ ap f (sym same)
+]
 
 -- a map of all addresses, as the map of two functions that agree below a bound
 inside_or_past : {V : Type 0} (n : ℕ) (f : ℕ → Option V) (m : FinMap nat_cmp V) → ((q : ℕ) → q < n → get m q ≡ f q) → ((q : ℕ) → n ≤ q → get m q ≡ None) → map_below n f ≡ m
 inside_or_past n f m inside past = same_map nat_cmp_total nat_cmp-IsAntisymmetric (map_below n f) m (λ q. elim (cases_lt q n) [
-    | inl h ↦ get-map_below n f q h ∙ sym (inside q h)
-    | inr h ↦ get-map_below_past n f q h ∙ sym (past q h)
-  ])
+  | inl h ↦ get-map_below n f q h ∙ sym (inside q h)
+  | inr h ↦ get-map_below_past n f q h ∙ sym (past q h)
+])
 
 not_past : (n q addr : ℕ) → addr < n → n ≤ q → (q == addr) ≡ false
 not_past n q addr inside past = grind (arith, nat_tests)
@@ -94,9 +94,9 @@ map_of-empty f none = inside_or_past 1048576 f empty (λ q h. get-empty nat_cmp 
 -- to remove what is not there leaves the map as it is
 pub remove_absent : {V : Type 0} (m : FinMap nat_cmp V) (addr : ℕ) → get m addr ≡ None → remove m addr ≡ m
 remove_absent m addr none = same_map nat_cmp_total nat_cmp-IsAntisymmetric (remove m addr) m (λ q. elim (eqb_tells q addr) [
-    | inl h ↦ get-remove_nat m addr q ∙ chosen_true (q == addr) _ _ h.0 ∙ sym (ap (get m) h.1 ∙ none)
-    | inr h ↦ get-remove_nat m addr q ∙ chosen_false (q == addr) _ _ h.0
-  ])
+  | inl h ↦ get-remove_nat m addr q ∙ chosen_true (q == addr) _ _ h.0 ∙ sym (ap (get m) h.1 ∙ none)
+  | inr h ↦ get-remove_nat m addr q ∙ chosen_false (q == addr) _ _ h.0
+])
 
 pub none_from_is_some : {V : Type 0} (o : Option V) → is_some o ≡ false → o ≡ None
 none_from_is_some None e = refl

@@ -1,5 +1,5 @@
 -- Lemmas on the nodes of the trie.
-use Rattle.std.proofs.Common.{◌≡◌, ℕ, ◌+◌, ◌*◌, ◌/◌, ◌%◌, ◌<◌, ◌≢◌, List, [], ◌∷◌, length, map, get_or, set, Option, Some, None, refl, ap, sym, ◌∙◌, arith, cond, true, false, inl, inr, Bool}
+use Rattle.std.proofs.Common.{◌≡◌, ℕ, ◌+◌, ◌*◌, ◌/◌, ◌%◌, ◌<◌, ◌≢◌, List, [], ◌∷◌, length, map, get_or, set, Option, Some, None, refl, ap, sym, subst, ◌∙◌, arith, cond, true, false, inl, inr, Bool}
 use Rattle.std.specs.Prelude.{◌==◌, IfNone}
 use Rattle.std.specs.List.{AllZip}
 use Rattle.std.specs.declared.rc.Rc.{Rc}
@@ -30,15 +30,15 @@ chosen_false b x y e = ap (λ t. cond t x y) e
 
 get_or-set : {X : Type 0} (xs : List X) (i k : ℕ) (x d : X) → i < length xs → get_or (set xs i x) k d ≡ cond (k == i) x (get_or xs k d)
 get_or-set xs i k x d inside = elim (eqb_tells k i) [
-    | inl h ↦ ap (λ j. get_or (set xs i x) j d) h.1 ∙ get_or-set_same xs i x d inside ∙ sym (chosen_true (k == i) x (get_or xs k d) h.0)
-    | inr h ↦ get_or-set_other xs i k x d h.1 ∙ sym (chosen_false (k == i) x (get_or xs k d) h.0)
-  ]
+  | inl h ↦ ap (λ j. get_or (set xs i x) j d) h.1 ∙ get_or-set_same xs i x d inside ∙ sym (chosen_true (k == i) x (get_or xs k d) h.0)
+  | inr h ↦ get_or-set_other xs i k x d h.1 ∙ sym (chosen_false (k == i) x (get_or xs k d) h.0)
+]
 
 -- one entry of a node is written over
 pub entry_at-set : {X : Type 0} (xs ys : Entries X) (old : Option (Entries X)) (place : ℕ) (entry : Option X) → place < length xs → ((k : ℕ) → get_or xs k None ≡ entry_at old k) → ys ≡ set xs place entry → ChangesAt (entry_at old) (entry_at (Some ys)) place entry
 entry_at-set xs ys old place entry inside same is = record {
-    at = λ k. ap (λ zs. get_or zs k None) is ∙ get_or-set xs place k entry None inside ∙ ap (cond (k == place) entry) (same k)
-  }
+  at = λ k. ap (λ zs. get_or zs k None) is ∙ get_or-set xs place k entry None inside ∙ ap (cond (k == place) entry) (same k);
+}
 
 -- the same of a node whose entries are pointers
 pub targets-set : {X Z : Type 0} (ps : List (Option (Rc X Z))) (ys : Entries X) (old : Option (Entries X)) (place : ℕ) (pointer : Rc X Z) → place < length ps → ((k : ℕ) → get_or (targets ps) k None ≡ entry_at old k) → ys ≡ targets (set ps place (Some pointer)) → ChangesAt (entry_at old) (entry_at (Some ys)) place (Some pointer.value)
@@ -53,29 +53,29 @@ rest_tells q a span e =
     elim (eqb_tells (q % span) (a % span)) [
       | inl h ↦ let same : q ≡ a = cc in grind (arith, nat_tests)
       | inr h ↦ elim (eqb_tells q a) [
-          | inl s ↦ absurd (h.1 (ap (λ n. n % span) s.1))
-          | inr s ↦ s.0 ∙ sym h.0
-        ]
+        | inl s ↦ absurd (h.1 (ap (λ n. n % span) s.1))
+        | inr s ↦ s.0 ∙ sym h.0
+      ]
     ]
 
 -- A node is changed at the place of an address, to a node below that is changed at the rest of the
 -- address: what is found is changed at that address and at no other.
 pub found_in-changed : {X V : Type 0} (span : ℕ) (find_below : Option X → ℕ → Option V) (old new : Option (Entries X)) (addr : ℕ) (below : Option X) (cell : Option V) → ChangesAt (entry_at old) (entry_at new) (addr / span) below → ChangesAt (find_below (entry_at old (addr / span))) (find_below below) (addr % span) cell → ChangesAt (found_in span find_below old) (found_in span find_below new) addr cell
 found_in-changed span find_below old new addr below cell here there = record {
-    at = λ q. elim (eqb_tells (q / span) (addr / span)) [
-      | inl h ↦
-          ap (λ node. find_below node (q % span)) (here.at (q / span) ∙ chosen_true _ _ _ h.0)
-          ∙ there.at (q % span)
-          ∙ ap (λ b. cond b cell (find_below (entry_at old (addr / span)) (q % span))) (sym (rest_tells q addr span h.1))
-          ∙ ap (λ place. cond (q == addr) cell (find_below (entry_at old place) (q % span))) (sym h.1)
-      | inr h ↦
-          ap (λ node. find_below node (q % span)) (here.at (q / span) ∙ chosen_false _ _ _ h.0)
-          ∙ sym (chosen_false (q == addr) cell (found_in span find_below old q) (elim (eqb_tells q addr) [
-            | inl s ↦ absurd (h.1 (ap (λ n. n / span) s.1))
-            | inr s ↦ s.0
-          ]))
-    ]
-  }
+  at = λ q. elim (eqb_tells (q / span) (addr / span)) [
+    | inl h ↦
+        ap (λ node. find_below node (q % span)) (here.at (q / span) ∙ chosen_true _ _ _ h.0)
+        ∙ there.at (q % span)
+        ∙ ap (λ b. cond b cell (find_below (entry_at old (addr / span)) (q % span))) (sym (rest_tells q addr span h.1))
+        ∙ ap (λ place. cond (q == addr) cell (find_below (entry_at old place) (q % span))) (sym h.1)
+    | inr h ↦
+        ap (λ node. find_below node (q % span)) (here.at (q / span) ∙ chosen_false _ _ _ h.0)
+        ∙ sym (chosen_false (q == addr) cell (found_in span find_below old q) (elim (eqb_tells q addr) [
+          | inl s ↦ absurd (h.1 (ap (λ n. n / span) s.1))
+          | inr s ↦ s.0
+        ]))
+  ];
+}
 
 -- ---- nodes that are written to in place
 
@@ -90,21 +90,27 @@ entries_after ps i d q same = map-set target_of ps i q ∙ ap (set (targets ps) 
 pub restored : {X Z : Type 0} (p : Option (Rc (Entries X) Z)) (ps : List (Option (Rc X Z))) (i : ℕ) (d q : Option (Rc X Z)) → target_of p ≡ Some (targets ps) → target_of q ≡ target_of (get_or ps i d) → target_of (with_target p (targets (set ps i q))) ≡ target_of p
 restored p ps i d q is same = target_of-with_target p _ _ is ∙ ap Some (entries_after ps i d q same) ∙ sym is
 
+-- a change at a place that is known by two names
+change_at : {X : Type 0} (old new : ℕ → Option X) (i j : ℕ) (entry : Option X) → i ≡ j → ChangesAt old new i entry → ChangesAt old new j entry
+change_at old new i j entry e changes = subst (λ k. ChangesAt old new k entry) e changes
+
 -- a cell of a leaf is written
-pub written_leaf : {V Z : Type 0} (p : Option (Rc (Entries V) Z)) (cells : Entries V) (place : ℕ) (cell : Option V) → target_of p ≡ Some cells → place < length cells → ChangesAt (entry_at (target_of p)) (entry_at (target_of (with_target p (set cells place cell)))) place cell
-written_leaf p cells place cell is inside =
-    let here : ChangesAt (entry_at (target_of p)) (entry_at (Some (set cells place cell))) place cell = entry_at-set cells (set cells place cell) (target_of p) place cell inside (λ k. ap (λ node. entry_at node k) (sym is)) refl in
-    rw (target_of-with_target p cells (set cells place cell) is) here
+pub written_leaf : {V Z : Type 0} (p : Option (Rc (Entries V) Z)) (cells : Entries V) (i addr : ℕ) (cell : Option V) → i ≡ addr → target_of p ≡ Some cells → i < length cells → ChangesAt (entry_at (target_of p)) (entry_at (target_of (with_target p (set cells i cell)))) addr cell
+written_leaf p cells i addr cell place is inside =
+    let here : ChangesAt (entry_at (target_of p)) (entry_at (Some (set cells i cell))) i cell = entry_at-set cells (set cells i cell) (target_of p) i cell inside (λ k. ap (λ node. entry_at node k) (sym is)) refl in
+    let there : ChangesAt (entry_at (target_of p)) (entry_at (Some (set cells i cell))) addr cell = change_at _ _ i addr cell place here in
+    rw (target_of-with_target p cells (set cells i cell) is) there
 
 -- a node below is written
-pub written_below : {X Z V : Type 0} (span : ℕ) (find_below : Option X → ℕ → Option V) (p : Option (Rc (Entries X) Z)) (ps : List (Option (Rc X Z))) (addr : ℕ) (d q : Option (Rc X Z)) (cell : Option V) → target_of p ≡ Some (targets ps) → addr / span < length ps → ChangesAt (find_below (target_of (get_or ps (addr / span) d))) (find_below (target_of q)) (addr % span) cell → ChangesAt (found_in span find_below (target_of p)) (found_in span find_below (target_of (with_target p (targets (set ps (addr / span) q))))) addr cell
-written_below span find_below p ps addr d q cell is inside there =
-    let ys = targets (set ps (addr / span) q) in
-    let room : addr / span < length (targets ps) = simp length-map inside in
-    let was : entry_at (target_of p) (addr / span) ≡ target_of (get_or ps (addr / span) d) = ap (λ node. entry_at node (addr / span)) is ∙ get_or-map_inside target_of ps (addr / span) d None inside in
-    let here : ChangesAt (entry_at (target_of p)) (entry_at (Some ys)) (addr / span) (target_of q) = entry_at-set (targets ps) ys (target_of p) (addr / span) (target_of q) room (λ k. ap (λ node. entry_at node k) (sym is)) (map-set target_of ps (addr / span) q) in
-    let below : ChangesAt (find_below (entry_at (target_of p) (addr / span))) (find_below (target_of q)) (addr % span) cell = rw was there in
-    rw (target_of-with_target p (targets ps) ys is) (found_in-changed span find_below (target_of p) (Some ys) addr (target_of q) cell here below)
+pub written_below : {X Z V : Type 0} (span : ℕ) (find_below : Option X → ℕ → Option V) (p : Option (Rc (Entries X) Z)) (ps : List (Option (Rc X Z))) (i addr : ℕ) (d q : Option (Rc X Z)) (cell : Option V) → i ≡ addr / span → target_of p ≡ Some (targets ps) → i < length ps → ChangesAt (find_below (target_of (get_or ps i d))) (find_below (target_of q)) (addr % span) cell → ChangesAt (found_in span find_below (target_of p)) (found_in span find_below (target_of (with_target p (targets (set ps i q))))) addr cell
+written_below span find_below p ps i addr d q cell place is inside there =
+    let ys = targets (set ps i q) in
+    let room : i < length (targets ps) = simp length-map inside in
+    let was : entry_at (target_of p) i ≡ target_of (get_or ps i d) = ap (λ node. entry_at node i) is ∙ get_or-map_inside target_of ps i d None inside in
+    let here : ChangesAt (entry_at (target_of p)) (entry_at (Some ys)) i (target_of q) = entry_at-set (targets ps) ys (target_of p) i (target_of q) room (λ k. ap (λ node. entry_at node k) (sym is)) (map-set target_of ps i q) in
+    let below : ChangesAt (find_below (entry_at (target_of p) i)) (find_below (target_of q)) (addr % span) cell = rw was there in
+    let below_place : ChangesAt (find_below (entry_at (target_of p) (addr / span))) (find_below (target_of q)) (addr % span) cell = subst (λ k. ChangesAt (find_below (entry_at (target_of p) k)) (find_below (target_of q)) (addr % span) cell) place below in
+    rw (target_of-with_target p (targets ps) ys is) (found_in-changed span find_below (target_of p) (Some ys) addr (target_of q) cell (change_at _ _ i (addr / span) (target_of q) place here) below_place)
 
 pub if_none : {T : Type 0} {P : Type 0} (o : Option T) → P → IfNone o P
 if_none (Some x) h = tt

@@ -1,7 +1,7 @@
 -- A trie over addresses in base sixteen. A node of the lowest level, a leaf, has a value or none at
 -- each of sixteen places. A node of a higher level has a node of the level below or none at each
 -- place. The place at each level is a digit of the address, the highest digit at the root.
-use Rattle.std.specs.Prelude.{◌≡◌, ℕ, ◌+◌, ◌/◌, ◌%◌, ◌≤◌, ◌==◌, if◌then◌else◌, List, map, slice_index_or, Option, Some, None}
+use Rattle.std.specs.Prelude.{◌≡◌, ℕ, ◌/◌, ◌%◌, ◌==◌, if◌then◌else◌, List, map, slice_index_or, Option, Some, None}
 use Rattle.std.specs.declared.rc.Rc.{Rc}
 
 -- the entries of a node, some of them with nothing
@@ -42,8 +42,3 @@ cell_at = found_in 65536 in_level3
 -- at one argument the new function has this answer, and elsewhere the old one's
 pub record ChangesAt {X : Type 0} (old new : ℕ → Option X) (place : ℕ) (entry : Option X) : Type 0 where
   pub at : (k : ℕ) → new k ≡ (if k == place then entry else old k)
-
--- a counter rose, and by at most n
-pub record TakesAtMost (n old new : ℕ) : Type 0 where
-  pub rises : old ≤ new
-  pub most : new ≤ old + n

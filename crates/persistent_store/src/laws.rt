@@ -10,5 +10,4 @@ ghost use Rattle.persistent_store.specs.Commands.{Command, IsRun, answer_of};
 /// address what a whole map of its own would answer.
 pub fn stores_answer_as_whole_maps()
     ensures { (commands : List (Command CellValue)) (old new : ℕ → map.FinMap nat_cmp CellValue) → IsRun commands old new → (store addr : ℕ) → map.get (new store) addr ≡ answer_of commands (λ s a. map.get (old s) a) store addr }
-{
-}
+{}

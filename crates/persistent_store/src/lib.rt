@@ -1,12 +1,17 @@
-//! A map from addresses to the values of cells, whose snapshots share with it what they have in
-//! common: a trie of five levels, whose nodes have sixteen entries each.
+//! A map from addresses to the values of cells, of which snapshots are cheap: a store and its
+//! snapshots share what they have in common. Beside it stands the same map kept whole, the plain
+//! program that the tests compare it with.
 #![tactic(auto)]
 
 mod laws;
 mod nodes;
 mod store;
+mod trie;
 mod whole_map;
 
 pub use laws::stores_answer_as_whole_maps;
 pub use store::Store;
 pub use whole_map::WholeMap;
+
+#[cfg(test)]
+mod tests;

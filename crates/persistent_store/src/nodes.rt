@@ -1,8 +1,7 @@
-//! The nodes of the trie: leaves with cells, and branches with nodes of the level below. A node is
-//! never written to once it is made, so any number of stores may share it.
+//! The nodes of the trie: leaves with cells, and branches with nodes of the level below. Any number
+//! of stores may share a node, and one that is shared is never written to.
 ghost use Rattle.std.specs.Prelude.{◌≡◌, ◌+◌, ◌<◌, ℕ, IfOk, Some, None, option_copied, length, replicate};
 ghost use Rattle.persistent_store.specs.Nodes.{entry_at, target_of, targets, ChangesAt};
-
 ghost use Rattle.std.specs.Borrow.{sem};
 ghost use Rattle.std.specs.Prelude.{IfSome};
 ghost use Rattle.persistent_store.specs.Loans.{LendsTarget};
@@ -31,12 +30,12 @@ impl Model for Leaf {
 
 impl Leaf {
     /// The value of the cell at a place.
-    pub(crate) fn at(leaf: Option<&Leaf>, place: u32) -> Option<Value>
+    pub(crate) fn at(leaf: Option<&Leaf>, place: usize) -> Option<Value>
         requires { place < 16 }
         ensures { result ≡ entry_at (option_copied leaf.entry) place }
     {
         match leaf {
-            Some(leaf) => leaf.cells[place as usize],
+            Some(leaf) => leaf.cells[place],
             None => None,
         }
     }
@@ -56,7 +55,7 @@ impl Leaf {
     pub(crate) fn changed<L>(
         alloc: Global,
         old: Option<&Leaf>,
-        place: u32,
+        place: usize,
         cell: Option<Value>,
         made: &mut Steps<L>,
     ) -> Result<Rc<Leaf>, Memory>
@@ -66,7 +65,7 @@ impl Leaf {
     {
         made.tick();
         let mut cells = Leaf::cells_of(old);
-        cells[place as usize] = cell;
+        cells[place] = cell;
         Ok(Rc::new(alloc, Leaf { cells })?)
     }
 }
@@ -90,11 +89,11 @@ impl<T> Model for Branch<T> {
 
 impl<T: Drop> Branch<T> {
     /// The node at a place.
-    pub(crate) fn at(branch: Option<&Branch<T>>, place: u32) -> Option<&T>
+    pub(crate) fn at(branch: Option<&Branch<T>>, place: usize) -> Option<&T>
         requires { place < 16 }
         ensures { option_copied result ≡ entry_at (option_copied branch.entry) place }
     {
-        target(&branch?.below[place as usize])
+        target(&branch?.below[place])
     }
 
     /// Pointers to the nodes that a branch has, none where there is no branch.
@@ -112,7 +111,7 @@ impl<T: Drop> Branch<T> {
     pub(crate) fn changed<L>(
         alloc: Global,
         old: Option<&Branch<T>>,
-        place: u32,
+        place: usize,
         node: Rc<T>,
         made: &mut Steps<L>,
     ) -> Result<Rc<Branch<T>>, Memory>
@@ -122,7 +121,7 @@ impl<T: Drop> Branch<T> {
     {
         made.tick();
         let mut below = Branch::pointers_of(old)?;
-        below[place as usize] = Some(node);
+        below[place] = Some(node);
         Ok(Rc::new(alloc, Branch { below })?)
     }
 }
