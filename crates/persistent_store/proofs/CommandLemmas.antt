@@ -1,10 +1,10 @@
 -- What stores answer after a list of commands.
-use Rattle.std.proofs.Common.{◌≡◌, ℕ, List, [], ◌∷◌, Option, Some, None, refl, ap, sym, ◌∙◌, cond, true, false, inl, inr, Bool}
+use Rattle.std.proofs.Common.{◌≡◌, ℕ, List, [], ◌∷◌, Option, Some, None, ap, sym, ◌∙◌, cond, inl, inr}
 use Rattle.std.specs.Prelude.{◌==◌, ◌&&◌}
 use Rattle.std.specs.Ordering.{nat_cmp}
 use Rattle.std.specs.FinMap.{FinMap, get, insert, remove}
 use Rattle.std.proofs.lemmas.Bool.Decides.{eqb_tells}
-use Rattle.persistent_store.specs.Commands.{Command, Put, Remove, Snapshot, IsStep, IsRun, answer_of}
+use Rattle.persistent_store.specs.Commands.{Command, Put, Remove, Snapshot, IsRun, answer_of}
 use Rattle.persistent_store.proofs.MapLemmas.{get-insert_nat, get-remove_nat}
 
 -- one store's map is changed at one address: the answer there, and elsewhere the answer of before

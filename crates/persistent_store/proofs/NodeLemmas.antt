@@ -1,5 +1,5 @@
 -- Lemmas on the nodes of the trie.
-use Rattle.std.proofs.Common.{◌≡◌, ℕ, ◌+◌, ◌*◌, ◌/◌, ◌%◌, ◌<◌, ◌≢◌, List, [], ◌∷◌, length, map, get_or, set, Option, Some, None, refl, ap, sym, subst, ◌∙◌, arith, cond, true, false, inl, inr, Bool}
+use Rattle.std.proofs.Common.{◌≡◌, ℕ, ◌/◌, ◌%◌, ◌<◌, List, [], ◌∷◌, length, get_or, set, Option, Some, None, refl, ap, sym, subst, ◌∙◌, arith, cond, true, false, inl, inr, Bool}
 use Rattle.std.specs.Prelude.{◌==◌, IfNone}
 use Rattle.std.specs.List.{AllZip}
 use Rattle.std.specs.declared.rc.Rc.{Rc}

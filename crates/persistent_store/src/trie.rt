@@ -87,7 +87,11 @@ pub(crate) fn changed<L>(
 
 /// Writes a cell in place, where the nodes on the way to it are there and have no other owner, and
 /// changes nothing else.
-pub(crate) fn written_in_place(root: &mut Option<Rc<Root>>, addr: u32, cell: Option<Value>) -> Option<()>
+pub(crate) fn written_in_place(
+    root: &mut Option<Rc<Root>>,
+    addr: u32,
+    cell: Option<Value>,
+) -> Option<()>
     requires { addr < 1048576 }
     ensures written { OnSome result (ChangesAt (cell_at (target_of root.old)) (cell_at (target_of root.new)) addr cell) }
     ensures unchanged { IfNone result (target_of root.new ≡ target_of root.old) }

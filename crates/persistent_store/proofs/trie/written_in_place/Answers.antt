@@ -1,4 +1,4 @@
-use Rattle.std.proofs.Common.{ap, sym, ◌∙◌, refl, Some, arith, ◌<◌, ◌/◌, ◌%◌, length}
+use Rattle.std.proofs.Common.{ap, sym, ◌∙◌, refl, Some, arith, ◌<◌, length}
 use Rattle.persistent_store.specs.Nodes.{entry_at, in_level1, in_level2, in_level3}
 use Rattle.persistent_store.proofs.NodeLemmas.{restored, written_leaf, written_below, if_none}
 use Rattle.persistent_store.proofs.trie.written_in_place.Goals as goal

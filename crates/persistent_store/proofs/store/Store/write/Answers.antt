@@ -1,6 +1,5 @@
 use Rattle.std.proofs.Common.{ap, ◌∙◌}
 use Rattle.persistent_store.specs.Addresses.{with_cell}
-use Rattle.persistent_store.specs.Nodes.{cell_at, ChangesAt}
 use Rattle.persistent_store.proofs.MapLemmas.{map_of-with_cell}
 use Rattle.persistent_store.proofs.store.Store.write.Goals as goal
 
