@@ -1,7 +1,7 @@
 -- Lists of commands on a family of stores, which are numbered.
 use Rattle.std.specs.Prelude.{◌≡◌, ℕ, ◌==◌, ◌&&◌, if◌then◌else◌, List, [], ◌∷◌, Option, Some, None}
 use Rattle.std.specs.Ordering.{nat_cmp}
-use Rattle.std.specs.FinMap.{FinMap, insert, remove}
+use Rattle.std.specs.FinMap.{FinMap, get, insert, remove}
 
 -- a value is put into a store at an address, or removed there, or a store becomes a snapshot of
 -- another
@@ -29,3 +29,7 @@ answer_of [] first s a = first s a
 answer_of (Put store addr value ∷ earlier) first s a = if s == store && a == addr then Some value else answer_of earlier first s a
 answer_of (Remove store addr ∷ earlier) first s a = if s == store && a == addr then None else answer_of earlier first s a
 answer_of (Snapshot of to ∷ earlier) first s a = if s == to then answer_of earlier first of a else answer_of earlier first s a
+
+-- whatever was run, each store answers what its whole map answers
+abbrev pub AnswerAsWholeMaps : Type 0 → Type 0
+AnswerAsWholeMaps V = (commands : List (Command V)) (old new : ℕ → FinMap nat_cmp V) → IsRun commands old new → (store addr : ℕ) → get (new store) addr ≡ answer_of commands (λ s a. get (old s) a) store addr

@@ -1,13 +1,11 @@
 //! What is true of stores over whole lists of commands, whatever nodes they share.
-ghost use Rattle.std.specs.Prelude.{◌≡◌, ℕ, List};
-ghost use Rattle.std.specs.Ordering.{nat_cmp};
-ghost use Rattle.std.specs.FinMap as map;
 ghost use Rattle.cell_value.specs.declared.values.Value.{Value as CellValue};
-ghost use Rattle.persistent_store.specs.Commands.{Command, IsRun, answer_of};
+ghost use Rattle.persistent_store.specs.Commands.{AnswerAsWholeMaps};
 
-/// A law for callers that keep many stores, snapshots of one another: after any list of commands,
-/// each one doing to its store what the contract of its call says, each store answers at each
-/// address what a whole map of its own would answer.
+/// A law for callers that keep many stores, snapshots of one another: after any list of puts,
+/// removals and snapshots, each one doing what the contract of its call says to the store that it
+/// names and nothing to any other, each store answers at each address what a whole map of its own
+/// would answer. A call that answered `Memory` changed no store and is in no list.
 pub fn stores_answer_as_whole_maps()
-    ensures { (commands : List (Command CellValue)) (old new : ℕ → map.FinMap nat_cmp CellValue) → IsRun commands old new → (store addr : ℕ) → map.get (new store) addr ≡ answer_of commands (λ s a. map.get (old s) a) store addr }
+    ensures { AnswerAsWholeMaps CellValue }
 {}

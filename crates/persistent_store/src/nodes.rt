@@ -1,10 +1,9 @@
 //! The nodes of the trie: leaves with cells, and branches with nodes of the level below. Any number
 //! of stores may share a node, and one that is shared is never written to.
-ghost use Rattle.std.specs.Prelude.{◌≡◌, ◌+◌, ◌<◌, ℕ, IfOk, Some, None, option_copied, length, replicate};
-ghost use Rattle.persistent_store.specs.Nodes.{entry_at, target_of, targets, ChangesAt};
+ghost use Rattle.std.specs.Prelude.{◌≡◌, ◌+◌, ◌<◌, ℕ, IfOk, IfSome, Some, None, option_copied, length, replicate};
 ghost use Rattle.std.specs.Borrow.{sem};
-ghost use Rattle.std.specs.Prelude.{IfSome};
 ghost use Rattle.persistent_store.specs.Loans.{LendsTarget};
+ghost use Rattle.persistent_store.specs.Nodes.{entry_at, target_of, targets, ChangesAt};
 
 use cell_value::{Memory, Steps, Value};
 use std::alloc::Global;
@@ -51,7 +50,8 @@ impl Leaf {
         }
     }
 
-    /// Makes the leaf that has this cell at the place, and elsewhere what `old` has.
+    /// Makes the leaf that has this cell at the place, and elsewhere what `old` has. The leaf made is
+    /// the step taken.
     pub(crate) fn changed<L>(
         alloc: Global,
         old: Option<&Leaf>,
@@ -107,7 +107,8 @@ impl<T: Drop> Branch<T> {
         }
     }
 
-    /// Makes the branch that has this node at the place, and elsewhere what `old` has.
+    /// Makes the branch that has this node at the place, and elsewhere the nodes that `old` has, which
+    /// it then shares with `old`. The branch made is the step taken.
     pub(crate) fn changed<L>(
         alloc: Global,
         old: Option<&Branch<T>>,
@@ -143,7 +144,7 @@ fn no_pointers<T>() -> [Option<Rc<T>>; 16]
     [const { None }; 16]
 }
 
-/// The node that a pointer leads to, to write to, where this pointer is the only one.
+/// The node that a pointer leads to, to be written to, where no other pointer leads to it.
 pub(crate) fn sole<T>(pointer: &mut Option<Rc<T>>) -> Option<&mut T>
     ensures* writes_back { sem 𝓛 (LendsTarget T.row pointer.entry result) }
     ensures value { IfSome result (λ node. target_of pointer.old ≡ Some node.now) }

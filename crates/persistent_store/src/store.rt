@@ -1,4 +1,4 @@
-//! The map that callers see.
+//! The map that callers see. Its trie is the root node with all that it leads to.
 ghost use Rattle.std.specs.Prelude.{◌≡◌, ◌+◌, ◌<◌, ◌≤◌, IfOk, OnOk, OnErr, IsOk, None};
 ghost use Rattle.std.specs.FinMap as map;
 ghost use Rattle.persistent_store.specs.Addresses.{with_cell};
@@ -52,7 +52,8 @@ impl Store {
         cell_of(target(&self.root), addr)
     }
 
-    /// Writes a cell: to the nodes on its way where they have no other owner, and to new ones else.
+    /// Writes a cell: in place where the store is the only owner of each node on the way to it, and
+    /// else by new nodes for that way.
     fn write<L>(
         &mut self,
         alloc: Global,
@@ -76,8 +77,8 @@ impl Store {
         }
     }
 
-    /// Sets the value at the address. After `Memory` the map is as it was. Each node that is made,
-    /// five at most, is a step of `made`.
+    /// Sets the value at the address. After `Memory` the map is as it was. Each node that is made is a
+    /// step of `made`, also before a `Memory`: five at most.
     pub fn put<L>(
         &mut self,
         alloc: Global,
@@ -96,7 +97,8 @@ impl Store {
 
     /// Takes the value at the address out of the map. Where the map has none there, nothing changes,
     /// no node is made, and the answer is Ok. After `Memory` the map is as it was. Each node that is
-    /// made, five at most, is a step of `made`.
+    /// made is a step of `made`, also before a `Memory`: five at most. Nodes that are left with no
+    /// value are kept.
     pub fn remove<L>(&mut self, alloc: Global, addr: u32, made: &mut Steps<L>) -> Result<(), Memory>
         requires { addr < 1048576 }
         ensures gone { OnOk result (self.new ≡ map.remove self.old addr) }
