@@ -1,29 +1,41 @@
 -- Divisions of a source, and its tokens.
 use Rattle.std.proofs.Common.{◌≡◌, ℕ, zero, suc, ◌+◌, ◌-◌, ◌<◌, ◌≤◌, nat_eq, List, [], ◌∷◌, ◌++◌, length, take, drop, Option, Some, None, Result, Ok, Err, refl, sym, ap, subst, ◌∙◌, append_assoc, arith, length-append, length-drop, inl, inr, ◌⊎◌}
-use Rattle.std.specs.Prelude.{◌≢◌, IfOk, IfErr, IfSome, All, count_by}
-use Rattle.std.proofs.lemmas.List.{append-nil, take_at, drop_at, drop-drop, take_all}
+use Rattle.std.specs.Prelude.{◌≢◌, IfOk, IfErr, All, count_by}
+use Rattle.std.proofs.lemmas.List.{append-nil, take_at, drop_at, drop-drop}
 use Rattle.std.proofs.lemmas.List.Sums.{sum_by-append}
 use Rattle.std.proofs.Math.ListN.{drop_of_length-le}
 use Rattle.std.proofs.Math.Seq.{take-add}
 use Rattle.pas_lexer.specs.declared.kinds.Kind.{Kind}
-use Rattle.pas_lexer.specs.declared.kinds.Kind.TheVariants.{Word as WordKind, Name, Number, Symbol as SymbolKind, End}
+use Rattle.pas_lexer.specs.declared.kinds.Kind.TheVariants.{Word as WordKind, Name, Number, Text, Symbol as SymbolKind, End}
 use Rattle.pas_lexer.specs.declared.kinds.Token.{Token}
 use Rattle.pas_lexer.specs.declared.kinds.LexFault.{LexFault}
-use Rattle.pas_lexer.specs.declared.kinds.LexFault.TheVariants.{Unbuilt, Memory}
-use Rattle.pas_lexer.specs.Lexis.{Fits, NothingFits}
+use Rattle.pas_lexer.specs.declared.kinds.LexFault.TheVariants.{BadByte, OpenComment, OpenString, EmptyString, RealWord, TooLarge, Joined, Memory}
+use Rattle.pas_lexer.specs.declared.kinds.Reason.{Reason}
+use Rattle.pas_lexer.specs.declared.kinds.Reason.TheVariants as reason
+use Rattle.pas_lexer.specs.Lexis.{Fits, NothingFits, IsReason}
 use Rattle.pas_lexer.specs.Reading.{Reading, piece_at}
 use Rattle.pas_lexer.specs.Lexed.{Lexed, IsPlaced, EndsOnce}
-use Rattle.pas_lexer.specs.Division.{Piece, Divides, size, line_feed, line_at, token_of, tokens_from, tokens_of, IsLexed, FailsAt, IsFault, IsThose, IsUnbuilt}
+use Rattle.pas_lexer.specs.Division.{Piece, Divides, size, line_feed, line_at, token_of, tokens_from, tokens_of, IsLexed, FailsFor, FailsAt, fault_of, IsFault, IsThose, IsThat}
 use Rattle.pas_lexer.proofs.Pieces.{piece_cut, piece_again, nothing_fits}
+use Rattle.pas_lexer.proofs.Reasons.{piece_fails, reason_again}
 
 -- ---- one division
 
 pub nil_fits : NothingFits []
 unfolding piece_at
-nil_fits = nothing_fits [] refl
+nil_fits = nothing_fits [] reason.BadByte refl
 
-some_is : (x y : Option Kind × ℕ) → Some x ≡ Some y → x ≡ y
-some_is x y e = cc
+abbrev read : Option Kind × ℕ → Reading
+read x = Ok x
+
+abbrev failed : Reason → Reading
+failed r = Err r
+
+pair_is : (x y : Option Kind × ℕ) → read x ≡ Ok y → x ≡ y
+pair_is x y e = cc
+
+reason_is : (r q : Reason) → failed r ≡ Err q → r ≡ q
+reason_is r q e = cc
 
 piece_of : List ℕ → Option Kind → Piece
 piece_of text kind = record { text = text; kind = kind }
@@ -38,7 +50,7 @@ one_division [] (q ∷ qs) s a b d e f g = absurd (f q.text e.0 q.kind (sym d �
 one_division (p ∷ ps) [] s a b d e f g = absurd (g p.text d.0 p.kind (sym e ∙ d.1) d.2)
 one_division (p ∷ ps) (q ∷ qs) s a b d e f g =
     let same : p.text ++ d.0 ≡ q.text ++ e.0 = sym d.1 ∙ e.1 in
-    let read_both : (p.kind, length p.text) ≡ (q.kind, length q.text) = some_is (p.kind, length p.text) (q.kind, length q.text) (sym (piece_again p.kind p.text d.0 d.2) ∙ ap piece_at same ∙ piece_again q.kind q.text e.0 e.2) in
+    let read_both : (p.kind, length p.text) ≡ (q.kind, length q.text) = pair_is (p.kind, length p.text) (q.kind, length q.text) (sym (piece_again p.kind p.text d.0 d.2) ∙ ap piece_at same ∙ piece_again q.kind q.text e.0 e.2) in
     let kinds : p.kind ≡ q.kind = ap (λ (x : Option Kind × ℕ). x.0) read_both in
     let lengths : length p.text ≡ length q.text = ap (λ (x : Option Kind × ℕ). x.1) read_both in
     let texts : p.text ≡ q.text = sym (take_at p.text d.0 (length q.text) lengths) ∙ ap (take (length q.text)) same ∙ take_at q.text e.0 (length q.text) refl in
@@ -50,11 +62,37 @@ one_division (p ∷ ps) (q ∷ qs) s a b d e f g =
 pub same_tokens : (source : List ℕ) (tokens others : List Token) → IsLexed source tokens → IsLexed source others → tokens ≡ others
 same_tokens source tokens others a b = a.2 ∙ ap (tokens_of source) (one_division a.0 b.0 source [] [] a.1 b.1 nil_fits nil_fits).0 ∙ sym b.2
 
+-- at a failing piece the same is left
+same_left : (source : List ℕ) (r q : Reason) (m n : ℕ) (a : FailsFor source r m) (b : FailsFor source q n) → (a.0 ≡ b.0) × (a.1 ≡ b.1)
+same_left source r q m n a b = one_division a.0 b.0 source a.1 b.1 a.2 b.2 a.3 b.3
+
+pub same_place : (source : List ℕ) (r q : Reason) (m n : ℕ) → FailsFor source r m → FailsFor source q n → m ≡ n
+same_place source r q m n a b = a.5 ∙ ap size (same_left source r q m n a b).0 ∙ sym b.5
+
+pub same_reason : (source : List ℕ) (r q : Reason) (m n : ℕ) → FailsFor source r m → FailsFor source q n → r ≡ q
+same_reason source r q m n a b = reason_is r q (sym (reason_again r a.1 a.3 a.4) ∙ ap piece_at (same_left source r q m n a b).1 ∙ reason_again q b.1 b.3 b.4)
+
 pub same_fault : (source : List ℕ) (m n : ℕ) → FailsAt source m → FailsAt source n → m ≡ n
-same_fault source m n a b = a.5 ∙ ap size (one_division a.0 b.0 source a.1 b.1 a.2 b.2 a.4 b.4).0 ∙ sym b.5
+same_fault source m n a b = same_place source a.0 b.0 m n a.1 b.1
+
+-- a reason holds of some byte
+never_nil : (r : Reason) → IsReason r [] → ⊥
+unfolding piece_at
+never_nil r h = nothing_there r h (reason_again r [] nil_fits h)
+  where
+    nothing_there : (r : Reason) → IsReason r [] → failed reason.BadByte ≡ Err r → ⊥
+    nothing_there r h e = bad (subst (λ (x : Reason). IsReason x []) (sym (reason_is reason.BadByte r e)) h)
+      where
+        bad : IsReason reason.BadByte [] → ⊥
+        bad h = let never : [] ≡ h.0.0 ∷ h.0.1 = h.0.2 in cc
+
+pub never_for : (source : List ℕ) (tokens : List Token) (r : Reason) (n : ℕ) → IsLexed source tokens → FailsFor source r n → ⊥
+never_for source tokens r n a b =
+    let same : [] ≡ b.1 = (one_division a.0 b.0 source [] b.1 a.1 b.2 nil_fits b.3).1 in
+    never_nil r (subst (IsReason r) (sym same) b.4)
 
 pub never_both : (source : List ℕ) (tokens : List Token) (n : ℕ) → IsLexed source tokens → FailsAt source n → ⊥
-never_both source tokens n a b = omega (arith, b.3, ap length (one_division a.0 b.0 source [] b.1 a.1 b.2 nil_fits b.4).1)
+never_both source tokens n a b = never_for source tokens b.0 n a b.1
 
 -- ---- the pieces so far
 
@@ -85,7 +123,7 @@ pub record SoFar (source : List ℕ) (at : ℕ) (tokens : List Token) : Type 0 w
 pub begun : (source : List ℕ) → SoFar source 0 []
 begun source = record { pieces = []; divides = refl; tokens_are = refl; at_is = refl }
 
-pub goes_on : (source : List ℕ) (at n : ℕ) (tokens : List Token) (k : Option Kind) → SoFar source at tokens → piece_at (drop at source) ≡ Some (k, n) → SoFar source (at + n) (tokens ++ token_of at (at + n) (line_at source at) k)
+pub goes_on : (source : List ℕ) (at n : ℕ) (tokens : List Token) (k : Option Kind) → SoFar source at tokens → piece_at (drop at source) ≡ Ok (k, n) → SoFar source (at + n) (tokens ++ token_of at (at + n) (line_at source at) k)
 goes_on source at n tokens k so_far e =
     let cut = piece_cut (drop at source) k n e in
     let p : Piece = record { text = cut.text; kind = k } in
@@ -106,14 +144,11 @@ line_goes_on source at n =
     ap (count_by (λ c. nat_eq c line_feed)) (take-add at n source) ∙ sum_by-append _ (take at source) (take n (drop at source)) in
     omega (arith, parts)
 
-pub inside : (source : List ℕ) (at : ℕ) (r : Reading) → at ≤ length source → r ≡ piece_at (drop at source) → IfSome r (λ x. (0 < x.1) × (at + x.1 ≤ length source))
-inside source at None le e = tt
-inside source at (Some x) le e =
+pub inside : (source : List ℕ) (at : ℕ) (r : Reading) → at ≤ length source → r ≡ piece_at (drop at source) → IfOk r (λ x. (0 < x.1) × (at + x.1 ≤ length source))
+inside source at (Err r) le e = tt
+inside source at (Ok x) le e =
     let cut = piece_cut (drop at source) x.0 x.1 (sym e) in
     (cut.some, omega (arith, cut.len, ap length cut.whole, length-append cut.text cut.rest, length-drop at source))
-
-pub rest_is : (l : List ℕ) (n : ℕ) → take (length l - n) (drop n l) ≡ drop n l
-rest_is l n = take_all (length l - n) (drop n l) (omega (arith, length-drop n l))
 
 -- ---- how it ends
 
@@ -127,18 +162,50 @@ lexed source at line tokens le ge line_is so_far =
           ∙ ap (λ (m : ℕ). tokens_from source 0 so_far.pieces ++ token_of m m (line_at source m) (Some End)) place,
     )
 
-pub fails : (source : List ℕ) (at : ℕ) (tokens : List Token) → at < length source → SoFar source at tokens → piece_at (drop at source) ≡ None → FailsAt source at
-fails source at tokens lt so_far e = (so_far.pieces, drop at source, so_far.divides, omega (arith, length-drop at source), nothing_fits (drop at source) e, sym so_far.at_is)
+fails_nonempty : (l : List ℕ) (r : Reason) → 0 < length l → piece_at l ≡ Err r → IsReason r l
+fails_nonempty [] r lt e = absurd (omega (arith, lt))
+fails_nonempty (c ∷ l) r lt e = piece_fails c l r e
+
+pub fails : (source : List ℕ) (at : ℕ) (tokens : List Token) (r : Reason) → at < length source → SoFar source at tokens → piece_at (drop at source) ≡ Err r → FailsFor source r at
+fails source at tokens r lt so_far e =
+    (so_far.pieces, drop at source, so_far.divides, nothing_fits (drop at source) r e, fails_nonempty (drop at source) r (omega (arith, length-drop at source)) e, sym so_far.at_is)
+
+-- the fault for the reason is the fault of the source
+pub fault_is : (source : List ℕ) (r : Reason) (n : ℕ) → FailsFor source r n → IsFault source (fault_of r n)
+fault_is source reason.BadByte n h = h
+fault_is source reason.OpenComment n h = h
+fault_is source reason.OpenString n h = h
+fault_is source reason.EmptyString n h = h
+fault_is source reason.RealWord n h = h
+fault_is source reason.TooLarge n h = h
+fault_is source reason.Joined n h = h
+
+-- a fault of the source is that memory ran out, or the fault for a reason
+is_fault : (source : List ℕ) (e : LexFault) → IsFault source e → ((r : Reason) × (n : ℕ) × (e ≡ fault_of r n) × FailsFor source r n) ⊎ (e ≡ Memory)
+is_fault source (BadByte n) h = inl (reason.BadByte, n, refl, h)
+is_fault source (OpenComment n) h = inl (reason.OpenComment, n, refl, h)
+is_fault source (OpenString n) h = inl (reason.OpenString, n, refl, h)
+is_fault source (EmptyString n) h = inl (reason.EmptyString, n, refl, h)
+is_fault source (RealWord n) h = inl (reason.RealWord, n, refl, h)
+is_fault source (TooLarge n) h = inl (reason.TooLarge, n, refl, h)
+is_fault source (Joined n) h = inl (reason.Joined, n, refl, h)
+is_fault source Memory h = inr refl
 
 pub only : (source : List ℕ) (r : Result Lexed LexFault) → IfOk r (λ t. IsLexed source t.tokens) → IfErr r (IsFault source) → (tokens : List Token) → IsLexed source tokens → IsThose tokens r
 only source (Ok t) found fault tokens is = same_tokens source t.tokens tokens found is
-only source (Err (Unbuilt n)) found fault tokens is = never_both source tokens n is fault
-only source (Err Memory) found fault tokens is = tt
+only source (Err e) found fault tokens is =
+    elim (is_fault source e fault) [
+      | inl h ↦ absurd (never_for source tokens h.0 h.1 is h.3)
+      | inr h ↦ h
+    ]
 
-pub refused : (source : List ℕ) (r : Result Lexed LexFault) → IfOk r (λ t. IsLexed source t.tokens) → IfErr r (IsFault source) → (n : ℕ) → FailsAt source n → IsUnbuilt n r
-refused source (Ok t) found fault n is = never_both source t.tokens n found is
-refused source (Err (Unbuilt m)) found fault n is = same_fault source m n fault is
-refused source (Err Memory) found fault n is = tt
+pub refused : (source : List ℕ) (r : Result Lexed LexFault) → IfOk r (λ t. IsLexed source t.tokens) → IfErr r (IsFault source) → (q : Reason) (n : ℕ) → FailsFor source q n → IsThat (fault_of q n) r
+refused source (Ok t) found fault q n is = never_for source t.tokens q n found is
+refused source (Err e) found fault q n is =
+    elim (is_fault source e fault) [
+      | inl h ↦ inl (h.2 ∙ ap (λ (x : Reason). fault_of x h.1) (same_reason source h.0 q h.1 n h.3 is) ∙ ap (fault_of q) (same_place source h.0 q h.1 n h.3 is))
+      | inr h ↦ inr h
+    ]
 
 -- ---- places
 
@@ -179,6 +246,7 @@ kind_no_end : (k : Kind) (text rest : List ℕ) → Fits text rest (Some k) → 
 kind_no_end (WordKind w) text rest f e = cc
 kind_no_end Name text rest f e = cc
 kind_no_end (Number n) text rest f e = cc
+kind_no_end Text text rest f e = cc
 kind_no_end (SymbolKind s) text rest f e = cc
 kind_no_end End text rest f e = absurd f.0
 
@@ -210,17 +278,17 @@ line_more source at n line feeds e f =
 -- ---- a source is lexed, or fails
 
 abbrev Ends : List ℕ → Type 0
-Ends source = ((ps : List Piece) × Divides ps source []) ⊎ ((ps : List Piece) × (left : List ℕ) × Divides ps source left × (0 < length left) × NothingFits left)
+Ends source = ((ps : List Piece) × Divides ps source []) ⊎ ((ps : List Piece) × (left : List ℕ) × (r : Reason) × Divides ps source left × NothingFits left × IsReason r left)
 
 one_step : (l : List ℕ) (r : Reading) → 0 < length l → piece_at l ≡ r → ((rest : List ℕ) → length rest < length l → Ends rest) → Ends l
-one_step l None some e more = inr ([], l, refl, some, nothing_fits l e)
-one_step l (Some x) some e more =
+one_step l (Err r) some e more = inr ([], l, r, refl, nothing_fits l r e, fails_nonempty l r some e)
+one_step l (Ok x) some e more =
     let cut = piece_cut l x.0 x.1 e in
     let p : Piece = record { text = cut.text; kind = x.0 } in
     let less : length cut.rest < length l = omega (arith, cut.some, cut.len, ap length cut.whole, length-append cut.text cut.rest) in
     elim (more cut.rest less) [
       | inl d ↦ inl (p ∷ d.0, (cut.rest, cut.whole, cut.fits, d.1))
-      | inr d ↦ inr (p ∷ d.0, d.1, (cut.rest, cut.whole, cut.fits, d.2), d.3, d.4)
+      | inr d ↦ inr (p ∷ d.0, d.1, d.2, (cut.rest, cut.whole, cut.fits, d.3), d.4, d.5)
     ]
 
 ends_within : (n : ℕ) (l : List ℕ) → length l ≤ n → Ends l
@@ -232,5 +300,5 @@ pub lexed_or_fails : (source : List ℕ) → ((tokens : List Token) × IsLexed s
 lexed_or_fails source =
     elim (ends_within (length source) source (omega arith)) [
       | inl d ↦ inl (tokens_of source d.0, (d.0, d.1, refl))
-      | inr d ↦ inr (size d.0, (d.0, d.1, d.2, d.3, d.4, refl))
+      | inr d ↦ inr (size d.0, (d.2, (d.0, d.1, d.3, d.4, d.5, refl)))
     ]

@@ -1,7 +1,14 @@
+pub mod Comments
 pub mod Decimals
 pub mod Divided
 pub mod Endings
+pub mod Names
+pub mod Numbers
 pub mod Pieces
+pub mod Reasons
+pub mod Rejoined
 pub mod Runs
-pub mod Spellings
+pub mod Spelled
+pub mod Steps
+pub mod Strings
 pub mod Tables

@@ -1,95 +1,37 @@
 -- What is read as a piece fits, and what fits is read.
-use Rattle.std.proofs.Common.{◌≡◌, ℕ, suc, ◌<◌, ◌≤◌, Bool, true, false, cond, nat_lt, List, [], ◌∷◌, ◌++◌, length, take, drop, Option, Some, None, refl, sym, ap, subst, ◌∙◌, append_assoc, arith, length-append, inl, inr}
-use Rattle.std.specs.Prelude.{◌&&◌}
-use Rattle.std.specs.List.{AllPass, list_all}
-use Rattle.std.specs.Char.{to_ascii_lowercase}
-use Rattle.std.proofs.lemmas.List.{take-append-drop, append-nil}
-use Rattle.std.proofs.lemmas.List.Sums.{AllPass-from_list_all}
+use Rattle.std.proofs.Common.{◌≡◌, ℕ, suc, ◌+◌, ◌<◌, ◌≤◌, Bool, true, false, cond, nat_eq, nat_lt, List, [], ◌∷◌, ◌++◌, length, take, drop, Option, Some, None, Ok, Err, refl, sym, ap, subst, ◌∙◌, append_assoc, arith, length-append, length-take, inl, inr}
+use Rattle.std.specs.Prelude.{◌&&◌, ◌||◌}
+use Rattle.std.proofs.lemmas.Bool.{eqb-true}
 use Rattle.std.proofs.lemmas.Bool.Decides.{nat_tests}
-use Rattle.std.proofs.Math.Seq.{take-append_seam, drop-append_seam}
+use Rattle.std.proofs.lemmas.List.{take-append-drop, append-nil}
+use Rattle.std.proofs.Math.Seq.{take-append_seam}
 use Rattle.pas_lexer.specs.declared.kinds.Word.{Word}
 use Rattle.pas_lexer.specs.declared.kinds.Symbol.{Symbol}
 use Rattle.pas_lexer.specs.declared.kinds.Kind.{Kind}
-use Rattle.pas_lexer.specs.declared.kinds.Kind.TheVariants.{Word as WordKind, Name, Number, Symbol as SymbolKind, End}
-use Rattle.pas_lexer.specs.Lexicon.{word_text, symbol_text}
-use Rattle.pas_lexer.specs.Lexis.{letter, digit, letter_or_digit, separator, letter_first, lower_case, IsIdentifier, IsDigitSequence, decimal, maxint, Spells, IsLongest, IsAllowed, Fits, NothingFits}
-use Rattle.pas_lexer.specs.Reading.{all_words, all_symbols, word_among, symbol_among, word_in, symbol_in, run, Reading, word_or_name, symbol_piece, identifier_at, number_in, number_piece, number_at, piece_at}
-use Rattle.pas_lexer.proofs.Runs.{chosen, pass_nil, pass_cons, pass_head, pass_tail, pass_rest, pass_more, Stops, stops, next_fails, run_again, run_passes, run_stops, run_len, split}
-use Rattle.pas_lexer.proofs.Tables.{word_found, identifier, word_identifier, opened, word_is, symbol_is, longest_symbol, some_symbol, one_symbol}
+use Rattle.pas_lexer.specs.declared.kinds.Kind.TheVariants.{Word as WordKind, Name, Number, Text, Symbol as SymbolKind, End}
+use Rattle.pas_lexer.specs.declared.kinds.Reason.{Reason}
+use Rattle.pas_lexer.specs.declared.kinds.Reason.TheVariants.{BadByte, OpenComment, OpenString, EmptyString, RealWord, TooLarge, Joined}
+use Rattle.pas_lexer.specs.declared.symbols.Written.{Written}
+use Rattle.pas_lexer.specs.declared.symbols.Written.TheVariants.{Usual, Other}
+use Rattle.pas_lexer.specs.Lexis.{letter, digit, letter_or_digit, separator, apostrophe, letter_first, next_is, real_follows, IsIdentifier, IsDigitSequence, decimal, maxint, doubled, quoted, IsCharacters, Spells, opens_comment, IsClosed, IsOpened, IsLongest, IsAllowed, Fits, NothingFits}
+use Rattle.pas_lexer.specs.Reading.{all_symbols, symbol_among, word_in, symbol_in, written_text, symbol_of, run, Reading, word_or_name, symbol_piece, identifier_at, number_in, number_piece, number_before, comment_piece, closing, string_piece, string_end, string_at, mark_at, piece_at}
+use Rattle.pas_lexer.proofs.Runs.{chosen, fact_of, pass_head, pass_rest, Stops, stops, next_fails, run_again, run_passes, run_stops, run_len, split}
+use Rattle.pas_lexer.proofs.Tables.{opened, symbol_is, longest_symbol, some_symbol, one_symbol}
+use Rattle.pas_lexer.proofs.Numbers.{digit_no_letter, letter_passes, separator_no_letter, separator_no_digit, letter_opens_none, digit_opens_none, both_ways, digits_more, stops_first, first_digits, number_read, small_number, number_small}
+use Rattle.pas_lexer.proofs.Names.{identifier_all, identifier_more, word_spelled, identifier_spells, word_again, name_again}
+use Rattle.pas_lexer.proofs.Comments.{closing_again, closing_sound}
+use Rattle.pas_lexer.proofs.Strings.{Ended, ended_sound, ended_found, characters_are, characters_on_line, characters_some}
 
 abbrev read : Option Kind → ℕ → Reading
-read k n = Some (k, n)
+read k n = Ok (k, n)
 
--- ---- bytes
+abbrev found : Option Kind × ℕ → Reading
+found x = Ok x
 
-digit_no_letter : (c : ℕ) → digit c ≡ true → letter c ≡ false
-digit_no_letter c h = grind (arith, nat_tests)
-
-letter_passes : (c : ℕ) → letter c ≡ true → letter_or_digit c ≡ true
-letter_passes c h = grind (arith, nat_tests)
-
-separator_no_letter : (c : ℕ) → separator c ≡ true → letter c ≡ false
-separator_no_letter c h = grind (arith, nat_tests)
-
-separator_no_digit : (c : ℕ) → separator c ≡ true → digit c ≡ false
-separator_no_digit c h = grind (arith, nat_tests)
-
-lower_letter : (c : ℕ) → letter (to_ascii_lowercase c) ≡ true → letter c ≡ true
-lower_letter c h = grind (arith, nat_tests)
-
-lower_letter_or_digit : (c : ℕ) → letter_or_digit (to_ascii_lowercase c) ≡ true → letter_or_digit c ≡ true
-lower_letter_or_digit c h = grind (arith, nat_tests)
+abbrev failed : Reason → Reading
+failed r = Err r
 
 -- ---- identifiers
-
-identifier_all : (t : List ℕ) → IsIdentifier t → AllPass letter_or_digit t
-identifier_all [] h = absurd h
-identifier_all (c ∷ cs) h = pass_cons letter_or_digit c cs (letter_passes c h.0) h.1
-
-identifier_more : (t : List ℕ) (d : ℕ) → IsIdentifier t → letter_or_digit d ≡ true → IsIdentifier (t ++ d ∷ [])
-identifier_more [] d h e = absurd h
-identifier_more (c ∷ cs) d h e = (h.0, pass_more letter_or_digit cs d h.1 e)
-
-identifier_true : (t : List ℕ) → identifier t ≡ true → IsIdentifier t
-identifier_true [] e = absurd cc
-identifier_true (c ∷ cs) e = let p = both (letter c) (list_all letter_or_digit cs) e in (p.0, AllPass-from_list_all letter_or_digit cs p.1)
-  where
-    both : (a b : Bool) → (a && b) ≡ true → (a ≡ true) × (b ≡ true)
-    both true b e = (refl, e)
-    both false b e = absurd cc
-
-lower_passes : (cs : List ℕ) → AllPass letter_or_digit (lower_case cs) → AllPass letter_or_digit cs
-lower_passes [] h = pass_nil letter_or_digit
-lower_passes (c ∷ cs) h = pass_cons letter_or_digit c cs (lower_letter_or_digit c (pass_head letter_or_digit (to_ascii_lowercase c) (lower_case cs) h)) (lower_passes cs (pass_tail letter_or_digit (to_ascii_lowercase c) (lower_case cs) h))
-
-lower_identifier : (t : List ℕ) → IsIdentifier (lower_case t) → IsIdentifier t
-lower_identifier [] h = absurd h
-lower_identifier (c ∷ cs) h = (lower_letter c h.0, lower_passes cs h.1)
-
--- a word symbol is spelled as an identifier
-word_spelled : (t : List ℕ) (w : Word) → lower_case t ≡ word_text w → IsIdentifier t
-word_spelled t w e = lower_identifier t (subst IsIdentifier (sym e) (identifier_true (word_text w) (word_identifier w)))
-
--- an identifier spells the word that is found, or a name
-identifier_spells : (t : List ℕ) → IsIdentifier t → Spells (word_or_name (word_in t)) t
-unfolding word_in
-identifier_spells t h = at (word_among all_words (lower_case t)) refl
-  where
-    at : (o : Option Word) → word_among all_words (lower_case t) ≡ o → Spells (word_or_name o) t
-    at None e = (h, λ w same. let never : None ≡ Some w = sym e ∙ ap (word_among all_words) same ∙ word_found w in cc)
-    at (Some w) e = word_is all_words (lower_case t) w e
-
-word_again : (t : List ℕ) (w : Word) → lower_case t ≡ word_text w → word_in t ≡ Some w
-unfolding word_in
-word_again t w e = ap (word_among all_words) e ∙ word_found w
-
-name_again : (t : List ℕ) → ((w : Word) → lower_case t ≡ word_text w → ⊥) → word_in t ≡ None
-unfolding word_in
-name_again t none = at (word_among all_words (lower_case t)) refl
-  where
-    at : (o : Option Word) → word_among all_words (lower_case t) ≡ o → o ≡ None
-    at None e = refl
-    at (Some w) e = absurd (none w (word_is all_words (lower_case t) w e))
 
 identifier_again : (t rest : List ℕ) → IsIdentifier t → IsLongest t rest → piece_at (t ++ rest) ≡ read (Some (word_or_name (word_in t))) (length t)
 unfolding piece_at identifier_at
@@ -103,79 +45,117 @@ identifier_again (c ∷ cs) rest h longest =
 
 -- ---- numbers
 
-digits_all : (t : List ℕ) → IsDigitSequence t → AllPass digit t
-digits_all [] h = absurd h
-digits_all (c ∷ cs) h = pass_cons digit c cs h.0 h.1
-
-digits_more : (t : List ℕ) (d : ℕ) → IsDigitSequence t → digit d ≡ true → IsDigitSequence (t ++ d ∷ [])
-digits_more [] d h e = absurd h
-digits_more (c ∷ cs) d h e = (h.0, pass_more digit cs d h.1 e)
-
-small_number : (t : List ℕ) → decimal t ≤ maxint → number_in t ≡ Some (decimal t)
-unfolding number_in
-small_number t le = let e : nat_lt maxint (decimal t) ≡ false = not_less maxint (decimal t) le in rw e refl
+number_again : (t rest : List ℕ) → IsDigitSequence t → IsLongest t rest → real_follows rest ≡ false → letter_first rest ≡ false → decimal t ≤ maxint → piece_at (t ++ rest) ≡ read (Some (Number (decimal t))) (length t)
+number_again t rest h longest no_real no_letter small =
+    let s : Stops digit rest = stops digit rest (λ d more e p. longest d [] more (Number (decimal (t ++ d ∷ []))) e (digits_more t d h p, refl)) in
+    number_read (t ++ rest) t rest (refl, h, stops_first rest s) ∙ plain (length t) t rest no_real no_letter ∙ ap (number_piece (length t)) (small_number t small)
   where
-    not_less : (a b : ℕ) → b ≤ a → nat_lt a b ≡ false
-    not_less a b h = grind (arith, nat_tests)
+    plain : (n : ℕ) (t rest : List ℕ) → real_follows rest ≡ false → letter_first rest ≡ false → number_before rest n t ≡ number_piece n (number_in t)
+    plain n t rest e f = rw (e, f) refl
 
-number_small : (t : List ℕ) (n : ℕ) → number_in t ≡ Some n → (decimal t ≡ n) × (n ≤ maxint)
-unfolding number_in
-number_small t n e =
-    elim (chosen (nat_lt maxint (decimal t)) None (Some (decimal t)) (Some n) e) [
-      | inl h ↦ absurd (let never : None ≡ Some n = h.1 in cc)
-      | inr h ↦ let same : decimal t ≡ n = number_is (decimal t) n h.1 in (same, subst (λ (m : ℕ). m ≤ maxint) same (not_above maxint (decimal t) h.0))
-    ]
+-- ---- marks
+
+-- behind the bytes that no name, number or separator begins with
+pub mark_read : (c : ℕ) (l : List ℕ) → letter c ≡ false → digit c ≡ false → separator c ≡ false → piece_at (c ∷ l) ≡ mark_at c l
+unfolding piece_at
+mark_read c l a b d = rw (a, b, d) refl
+
+pub symbol_read : (c : ℕ) (l : List ℕ) → nat_eq c apostrophe ≡ false → nat_eq c 123 ≡ false → (nat_eq c 40 && next_is 42 l) ≡ false → nat_eq c 47 ≡ false → mark_at c l ≡ symbol_piece (symbol_among all_symbols (c ∷ l))
+unfolding mark_at symbol_in
+symbol_read c l a b d e = rw (a, b, d, e) refl
+
+pub neither : (a b : Bool) → (a || b) ≡ false → (a ≡ false) × (b ≡ false)
+neither true b e = absurd cc
+neither false b e = (refl, e)
+
+not_either : (a b : Bool) → a ≡ false → b ≡ false → (a || b) ≡ false
+not_either a b e f = rw (e, f) refl
+
+-- a text is one of its symbol's spellings
+written_spells : (w : Written) (t : List ℕ) → t ≡ written_text w → Spells (SymbolKind (symbol_of w)) t
+written_spells (Usual s) t e = inl e
+written_spells (Other s) t e = inr e
+
+-- the symbol of the longest text is found
+symbol_again : (w : Written) (rest : List ℕ) → IsLongest (written_text w) rest → (v : Written) × (symbol_among all_symbols (written_text w ++ rest) ≡ Some v) × (written_text v ≡ written_text w)
+symbol_again w rest longest =
+    let whole : List ℕ = written_text w ++ rest in
+    let found = some_symbol whole rest w refl in
+    let v : Written = found.0 in
+    let le : length (written_text w) ≤ length (written_text v) = longest_symbol whole rest w v refl found.1 in
+    let front : whole ≡ written_text v ++ drop (length (written_text v)) whole = symbol_is all_symbols whole v found.1 in
+    let more = split (written_text w) rest (written_text v) (drop (length (written_text v)) whole) front le in
+    (v, found.1, same v more.0 more.1 (drop (length (written_text v)) whole) more.2)
   where
-    number_is : (m n : ℕ) → Some m ≡ Some n → m ≡ n
-    number_is m n e = cc
+    same : (v : Written) (m : List ℕ) → written_text v ≡ written_text w ++ m → (q : List ℕ) → rest ≡ m ++ q → written_text v ≡ written_text w
+    same v [] e q f = e ∙ append-nil (written_text w)
+    same v (d ∷ ds) e q f = absurd (longest d ds q (SymbolKind (symbol_of v)) f (written_spells v (written_text w ++ (d ∷ ds)) (sym e)))
 
-    not_above : (a b : ℕ) → nat_lt a b ≡ false → b ≤ a
-    not_above a b h = grind (arith, nat_tests)
+symbol_piece_again : (w : Written) (rest : List ℕ) → IsLongest (written_text w) rest → opens_comment (written_text w ++ rest) ≡ false → piece_at (written_text w ++ rest) ≡ read (Some (SymbolKind (symbol_of w))) (length (written_text w))
+symbol_piece_again w rest longest none =
+    let o = opened w in
+    let e : written_text w ++ rest ≡ o.first ∷ (o.others ++ rest) = ap (λ (l : List ℕ). l ++ rest) o.text_is in
+    let no_star = neither (nat_eq o.first 123) (nat_eq o.first 40 && next_is 42 (o.others ++ rest)) (sym (ap opens_comment e) ∙ none) in
+    let found = symbol_again w rest longest in
+    ap piece_at e
+    ∙ mark_read o.first (o.others ++ rest) o.no_letter o.no_digit o.no_separator
+    ∙ symbol_read o.first (o.others ++ rest) o.no_apostrophe o.no_brace no_star.1 o.no_slash
+    ∙ ap (λ (l : List ℕ). symbol_piece (symbol_among all_symbols l)) (sym e)
+    ∙ ap symbol_piece found.1
+    ∙ ap (λ (s : Symbol). read (Some (SymbolKind s)) (length (written_text found.0))) (one_symbol found.0 w found.2)
+    ∙ ap (λ (l : List ℕ). read (Some (SymbolKind (symbol_of w))) (length l)) found.2
 
-number_again : (t rest : List ℕ) → IsDigitSequence t → IsLongest t rest → decimal t ≤ maxint → letter_first rest ≡ false → piece_at (t ++ rest) ≡ read (Some (Number (decimal t))) (length t)
-unfolding piece_at number_at
-number_again [] rest h longest small no_letter = absurd h
-number_again (c ∷ cs) rest h longest small no_letter =
-    let s : Stops digit rest = stops digit rest (λ d more e p. longest d [] more (Number (decimal ((c ∷ cs) ++ d ∷ []))) e (digits_more (c ∷ cs) d h p, refl)) in
-    let n : run digit ((c ∷ cs) ++ rest) ≡ length (c ∷ cs) = run_again digit (c ∷ cs) rest (digits_all (c ∷ cs) h) s in
-    let f : letter c ≡ false = digit_no_letter c h.0 in
-    let g : digit c ≡ true = h.0 in
-    let at : piece_at ((c ∷ cs) ++ rest) ≡ number_at ((c ∷ cs) ++ rest) = rw (f, g) refl in
-    at ∙ ap (λ (m : ℕ). cond (letter_first (drop m ((c ∷ cs) ++ rest))) None (number_piece m (number_in (take m ((c ∷ cs) ++ rest))))) n
-    ∙ ap (λ (l : List ℕ). cond (letter_first l) None (number_piece (length (c ∷ cs)) (number_in (take (length (c ∷ cs)) ((c ∷ cs) ++ rest))))) (drop-append_seam (c ∷ cs) rest)
-    ∙ ap (λ (b : Bool). cond b None (number_piece (length (c ∷ cs)) (number_in (take (length (c ∷ cs)) ((c ∷ cs) ++ rest))))) no_letter
-    ∙ ap (λ (t : List ℕ). number_piece (length (c ∷ cs)) (number_in t)) (take-append_seam (c ∷ cs) rest)
-    ∙ ap (number_piece (length (c ∷ cs))) (small_number (c ∷ cs) small)
+-- ---- comments
 
--- ---- symbols
+brace_again : (behind rest : List ℕ) → IsClosed behind → piece_at (123 ∷ (behind ++ rest)) ≡ read None (suc (length behind))
+unfolding piece_at mark_at
+brace_again behind rest h = rw (closing_again behind rest h) (ap (read None) (omega arith))
 
--- behind the bytes that no name, number or separator begins with, a symbol is read
-symbol_read : (c : ℕ) (l : List ℕ) → letter c ≡ false → digit c ≡ false → separator c ≡ false → piece_at (c ∷ l) ≡ symbol_piece (symbol_among all_symbols (c ∷ l))
-unfolding piece_at symbol_in
-symbol_read c l a b d = rw (a, b, d) refl
+paren_again : (behind rest : List ℕ) → IsClosed behind → piece_at (40 ∷ (42 ∷ (behind ++ rest))) ≡ read None (suc (suc (length behind)))
+unfolding piece_at mark_at
+paren_again behind rest h = rw (closing_again behind rest h) (ap (read None) (omega arith))
 
-symbol_again : (s : Symbol) (rest : List ℕ) → IsLongest (symbol_text s) rest → symbol_among all_symbols (symbol_text s ++ rest) ≡ Some s
-symbol_again s rest longest =
-    let whole : List ℕ = symbol_text s ++ rest in
-    let found = some_symbol whole rest s refl in
-    let t : Symbol = found.0 in
-    let le : length (symbol_text s) ≤ length (symbol_text t) = longest_symbol whole rest s t refl found.1 in
-    let begins : whole ≡ symbol_text t ++ drop (length (symbol_text t)) whole = symbol_is all_symbols whole t found.1 in
-    let more = split (symbol_text s) rest (symbol_text t) (drop (length (symbol_text t)) whole) begins le in
-    found.1 ∙ ap Some (same t more.0 more.1 (drop (length (symbol_text t)) whole) more.2)
+comment_again : (text behind rest : List ℕ) → IsOpened text behind → IsClosed behind → piece_at (text ++ rest) ≡ read None (length text)
+comment_again text behind rest (inl e) h = subst (λ (t : List ℕ). piece_at (t ++ rest) ≡ read None (length t)) (sym e) (brace_again behind rest h)
+comment_again text behind rest (inr e) h = subst (λ (t : List ℕ). piece_at (t ++ rest) ≡ read None (length t)) (sym e) (paren_again behind rest h)
+
+-- ---- strings
+
+string_read : (l : List ℕ) → piece_at (apostrophe ∷ l) ≡ string_piece l (string_end false l)
+unfolding piece_at mark_at string_at
+string_read l = refl
+
+long_string : (l : List ℕ) (n : ℕ) → 1 < n → string_piece l (Some n) ≡ read (Some Text) (1 + n)
+long_string l n lt = let e : nat_lt 1 n ≡ true = less n lt in rw e refl
   where
-    same : (t : Symbol) (m : List ℕ) → symbol_text t ≡ symbol_text s ++ m → (q : List ℕ) → rest ≡ m ++ q → t ≡ s
-    same t [] e q f = one_symbol t s (e ∙ append_nil_is (symbol_text s))
-      where
-        append_nil_is : (l : List ℕ) → l ++ [] ≡ l
-        append_nil_is l = append-nil l
-    same t (d ∷ ds) e q f = absurd (longest d ds q (SymbolKind t) f (sym e))
+    less : (n : ℕ) → 1 < n → nat_lt 1 n ≡ true
+    less n h = grind (arith, nat_tests)
 
-symbol_piece_again : (s : Symbol) (rest : List ℕ) → IsLongest (symbol_text s) rest → piece_at (symbol_text s ++ rest) ≡ read (Some (SymbolKind s)) (length (symbol_text s))
-symbol_piece_again s rest longest =
-    let o = opened s in
-    let e : symbol_text s ++ rest ≡ o.first ∷ (o.others ++ rest) = ap (λ (l : List ℕ). l ++ rest) o.text in
-    ap piece_at e ∙ symbol_read o.first (o.others ++ rest) o.no_letter o.no_digit o.no_separator ∙ ap (λ (l : List ℕ). symbol_piece (symbol_among all_symbols l)) (sym e) ∙ ap symbol_piece (symbol_again s rest longest)
+whole_string : (text rest : List ℕ) → quoted text ++ rest ≡ apostrophe ∷ (doubled text ++ (apostrophe ∷ rest))
+whole_string text rest = ap (λ (l : List ℕ). apostrophe ∷ l) (append_assoc (doubled text) (apostrophe ∷ []) rest)
+
+quoted_length : (text : List ℕ) → length (quoted text) ≡ suc (suc (length (doubled text)))
+quoted_length text = omega (arith, length-append (doubled text) (apostrophe ∷ []))
+
+-- a string that is read is no longer than the longest text
+string_again : (text rest : List ℕ) → IsCharacters text → IsLongest (quoted text) rest → piece_at (quoted text ++ rest) ≡ read (Some Text) (length (quoted text))
+string_again text rest h longest =
+    let l : List ℕ = doubled text ++ (apostrophe ∷ rest) in
+    let found = ended_found text rest (characters_on_line text h) in
+    let n : ℕ = found.0 in
+    let e : Ended l n = ended_sound l n found.1 in
+    let some : 0 < length (doubled text) = characters_some text h in
+    let le : length (quoted text) ≤ length (quoted e.text) = omega (arith, quoted_length text, quoted_length e.text, e.len, found.2) in
+    let whole : quoted text ++ rest ≡ quoted e.text ++ e.rest = whole_string text rest ∙ ap (λ (x : List ℕ). apostrophe ∷ x) e.whole ∙ sym (whole_string e.text e.rest) in
+    let more = split (quoted text) rest (quoted e.text) e.rest whole le in
+    let more_some : 0 < length (doubled e.text) = omega (arith, e.len, found.2, some) in
+    let same : quoted e.text ≡ quoted text = alike e.text e.rest (characters_are e.text e.on_line more_some) more.0 more.1 more.2 in
+    let count : 1 + n ≡ length (quoted text) = omega (arith, ap length same, quoted_length e.text, e.len) in
+    ap piece_at (whole_string text rest) ∙ string_read l ∙ ap (string_piece l) found.1 ∙ long_string l n (omega (arith, found.2, some)) ∙ ap (read (Some Text)) count
+  where
+    alike : (other others : List ℕ) → IsCharacters other → (m : List ℕ) → quoted other ≡ quoted text ++ m → rest ≡ m ++ others → quoted other ≡ quoted text
+    alike other others is [] e f = e ∙ append-nil (quoted text)
+    alike other others is (d ∷ ds) e f = absurd (longest d ds others Text f (other, is, sym e))
 
 -- ---- what fits is read
 
@@ -186,49 +166,91 @@ separator_again c rest h =
     let b : digit c ≡ false = separator_no_digit c h in
     rw (a, b, h) refl
 
-pub piece_again : (k : Option Kind) (text rest : List ℕ) → Fits text rest k → piece_at (text ++ rest) ≡ Some (k, length text)
-piece_again None text rest h = subst (λ (t : List ℕ). piece_at (t ++ rest) ≡ read None (length t)) (sym h.1) (separator_again h.0 rest h.2)
+written_again : (w : Written) (text rest : List ℕ) → text ≡ written_text w → IsLongest text rest → opens_comment (text ++ rest) ≡ false → piece_at (text ++ rest) ≡ read (Some (SymbolKind (symbol_of w))) (length text)
+written_again w text rest e longest none =
+    subst (λ (t : List ℕ). piece_at (t ++ rest) ≡ read (Some (SymbolKind (symbol_of w))) (length t)) (sym e)
+    (symbol_piece_again w rest (subst (λ (t : List ℕ). IsLongest t rest) e longest) (subst (λ (t : List ℕ). opens_comment (t ++ rest) ≡ false) e none))
+
+pub piece_again : (k : Option Kind) (text rest : List ℕ) → Fits text rest k → piece_at (text ++ rest) ≡ Ok (k, length text)
+piece_again None text rest (inl h) = subst (λ (t : List ℕ). piece_at (t ++ rest) ≡ read None (length t)) (sym h.1) (separator_again h.0 rest h.2)
+piece_again None text rest (inr h) = comment_again text h.0 rest h.1 h.2
 piece_again (Some (WordKind w)) text rest h = identifier_again text rest (word_spelled text w h.0) h.1 ∙ ap (λ (o : Option Word). read (Some (word_or_name o)) (length text)) (word_again text w h.0)
 piece_again (Some Name) text rest h = identifier_again text rest h.0.0 h.1 ∙ ap (λ (o : Option Word). read (Some (word_or_name o)) (length text)) (name_again text h.0.1)
-piece_again (Some (Number n)) text rest h = number_again text rest h.0.0 h.1 (omega (arith, h.0.1, h.2.0)) h.2.1 ∙ ap (λ (m : ℕ). read (Some (Number m)) (length text)) h.0.1
-piece_again (Some (SymbolKind s)) text rest h = subst (λ (t : List ℕ). piece_at (t ++ rest) ≡ read (Some (SymbolKind s)) (length t)) (sym h.0) (symbol_piece_again s rest (subst (λ (t : List ℕ). IsLongest t rest) h.0 h.1))
+piece_again (Some (Number n)) text rest h = number_again text rest h.0.0 h.1 h.2.0 h.2.1 (omega (arith, h.0.1, h.2.2)) ∙ ap (λ (m : ℕ). read (Some (Number m)) (length text)) h.0.1
+piece_again (Some Text) text rest h =
+    let e : text ≡ quoted h.0.0 = h.0.2 in
+    subst (λ (t : List ℕ). piece_at (t ++ rest) ≡ read (Some Text) (length t)) (sym e) (string_again h.0.0 rest h.0.1 (subst (λ (t : List ℕ). IsLongest t rest) e h.1))
+piece_again (Some (SymbolKind s)) text rest h =
+    elim h.0 [
+      | inl e ↦ written_again (Usual s) text rest e h.1 h.3
+      | inr e ↦ written_again (Other s) text rest e h.1 h.3
+    ]
 piece_again (Some End) text rest h = absurd h.0
 
 -- ---- what is read fits
 
-both_ways : (b : Bool) → b ≡ true → b ≡ false → ⊥
-both_ways b e f = let g : true ≡ false = sym e ∙ f in cc
-
--- a symbol begins with no letter and no digit
-symbol_first : (s : Symbol) (c : ℕ) (cs : List ℕ) → c ∷ cs ≡ symbol_text s → (letter c ≡ false) × (digit c ≡ false)
-symbol_first s c cs e =
-    let o = opened s in
-    let first : c ≡ o.first = head_is c o.first cs o.others (e ∙ o.text) in
-    (ap letter first ∙ o.no_letter, ap digit first ∙ o.no_digit)
+-- a symbol begins with no letter, no digit and no apostrophe
+symbol_first : (w : Written) (c : ℕ) (cs : List ℕ) → c ∷ cs ≡ written_text w → (letter c ≡ false) × (digit c ≡ false) × (nat_eq c apostrophe ≡ false)
+symbol_first w c cs e =
+    let o = opened w in
+    let first : c ≡ o.first = head_is c o.first cs o.others (e ∙ o.text_is) in
+    (ap letter first ∙ o.no_letter, ap digit first ∙ o.no_digit, ap (λ (x : ℕ). nat_eq x apostrophe) first ∙ o.no_apostrophe)
   where
     head_is : (x y : ℕ) (l m : List ℕ) → x ∷ l ≡ y ∷ m → x ≡ y
     head_is x y l m e = cc
+
+-- a symbol's text, as it is written
+written_of : (s : Symbol) (t : List ℕ) → Spells (SymbolKind s) t → (w : Written) × (t ≡ written_text w)
+written_of s t (inl e) = (Usual s, e)
+written_of s t (inr e) = (Other s, e)
+
+-- a string begins with an apostrophe
+quoted_first : (text : List ℕ) (c : ℕ) (cs : List ℕ) → c ∷ cs ≡ quoted text → c ≡ apostrophe
+quoted_first text c cs e = head_is c apostrophe cs (doubled text ++ apostrophe ∷ []) e
+  where
+    head_is : (x y : ℕ) (l m : List ℕ) → x ∷ l ≡ y ∷ m → x ≡ y
+    head_is x y l m e = cc
+
+no_quote : (text : List ℕ) (c : ℕ) (cs : List ℕ) → letter c ≡ true → c ∷ cs ≡ quoted text → ⊥
+no_quote text c cs h e = let f : letter apostrophe ≡ true = subst (λ (x : ℕ). letter x ≡ true) (quoted_first text c cs e) h in both_ways (letter apostrophe) f refl
+
+no_quote_digit : (text : List ℕ) (c : ℕ) (cs : List ℕ) → digit c ≡ true → c ∷ cs ≡ quoted text → ⊥
+no_quote_digit text c cs h e = let f : digit apostrophe ≡ true = subst (λ (x : ℕ). digit x ≡ true) (quoted_first text c cs e) h in both_ways (digit apostrophe) f refl
 
 identifier_spelled : (k : Kind) (c : ℕ) (cs : List ℕ) → letter c ≡ true → Spells k (c ∷ cs) → IsIdentifier (c ∷ cs)
 identifier_spelled (WordKind w) c cs h f = word_spelled (c ∷ cs) w f
 identifier_spelled Name c cs h f = f.0
 identifier_spelled (Number n) c cs h f = absurd (both_ways (letter c) h (digit_no_letter c f.0.0))
-identifier_spelled (SymbolKind s) c cs h f = absurd (both_ways (letter c) h (symbol_first s c cs f).0)
+identifier_spelled Text c cs h f = absurd (no_quote f.0 c cs h f.2)
+identifier_spelled (SymbolKind s) c cs h f = let w = written_of s (c ∷ cs) f in absurd (both_ways (letter c) h (symbol_first w.0 c cs w.1).0)
 identifier_spelled End c cs h f = absurd f
 
 digits_spelled : (k : Kind) (c : ℕ) (cs : List ℕ) → digit c ≡ true → Spells k (c ∷ cs) → IsDigitSequence (c ∷ cs)
 digits_spelled (WordKind w) c cs h f = absurd (both_ways (letter c) (word_spelled (c ∷ cs) w f).0 (digit_no_letter c h))
 digits_spelled Name c cs h f = absurd (both_ways (letter c) f.0.0 (digit_no_letter c h))
 digits_spelled (Number n) c cs h f = f.0
-digits_spelled (SymbolKind s) c cs h f = absurd (both_ways (digit c) h (symbol_first s c cs f).1)
+digits_spelled Text c cs h f = absurd (no_quote_digit f.0 c cs h f.2)
+digits_spelled (SymbolKind s) c cs h f = let w = written_of s (c ∷ cs) f in absurd (both_ways (digit c) h (symbol_first w.0 c cs w.1).1)
 digits_spelled End c cs h f = absurd f
 
-symbol_spelled : (k : Kind) (c : ℕ) (cs : List ℕ) → letter c ≡ false → digit c ≡ false → Spells k (c ∷ cs) → (t : Symbol) × (c ∷ cs ≡ symbol_text t)
-symbol_spelled (WordKind w) c cs a b f = absurd (both_ways (letter c) (word_spelled (c ∷ cs) w f).0 a)
-symbol_spelled Name c cs a b f = absurd (both_ways (letter c) f.0.0 a)
-symbol_spelled (Number n) c cs a b f = absurd (both_ways (digit c) f.0.0 b)
-symbol_spelled (SymbolKind s) c cs a b f = (s, f)
-symbol_spelled End c cs a b f = absurd f
+string_spelled : (k : Kind) (cs : List ℕ) → Spells k (apostrophe ∷ cs) → Spells Text (apostrophe ∷ cs)
+string_spelled (WordKind w) cs f = absurd (both_ways (letter apostrophe) (word_spelled (apostrophe ∷ cs) w f).0 refl)
+string_spelled Name cs f = absurd (both_ways (letter apostrophe) f.0.0 refl)
+string_spelled (Number n) cs f = absurd (both_ways (digit apostrophe) f.0.0 refl)
+string_spelled Text cs f = f
+string_spelled (SymbolKind s) cs f = let w = written_of s (apostrophe ∷ cs) f in absurd (both_ways (nat_eq apostrophe apostrophe) refl (symbol_first w.0 apostrophe cs w.1).2)
+string_spelled End cs f = absurd f
+
+symbol_spelled : (k : Kind) (c : ℕ) (cs : List ℕ) → letter c ≡ false → digit c ≡ false → nat_eq c apostrophe ≡ false → Spells k (c ∷ cs) → (w : Written) × (c ∷ cs ≡ written_text w)
+symbol_spelled (WordKind w) c cs a b d f = absurd (both_ways (letter c) (word_spelled (c ∷ cs) w f).0 a)
+symbol_spelled Name c cs a b d f = absurd (both_ways (letter c) f.0.0 a)
+symbol_spelled (Number n) c cs a b d f = absurd (both_ways (digit c) f.0.0 b)
+symbol_spelled Text c cs a b d f = absurd (both_ways (nat_eq c apostrophe) (is_eq c apostrophe (quoted_first f.0 c cs f.2)) d)
+  where
+    is_eq : (x y : ℕ) → x ≡ y → nat_eq x y ≡ true
+    is_eq x y e = grind (arith, nat_tests)
+symbol_spelled (SymbolKind s) c cs a b d f = written_of s (c ∷ cs) f
+symbol_spelled End c cs a b d f = absurd f
 
 identifier_longest : (c : ℕ) (t rest : List ℕ) → letter c ≡ true → Stops letter_or_digit rest → IsLongest (c ∷ t) rest
 identifier_longest c t rest h s d ds more k e f = next_fails letter_or_digit rest d ds more s e (pass_head letter_or_digit d ds (pass_rest letter_or_digit t (d ∷ ds) (identifier_spelled k c (t ++ (d ∷ ds)) h f).1))
@@ -236,14 +258,32 @@ identifier_longest c t rest h s d ds more k e f = next_fails letter_or_digit res
 digits_longest : (c : ℕ) (t rest : List ℕ) → digit c ≡ true → Stops digit rest → IsLongest (c ∷ t) rest
 digits_longest c t rest h s d ds more k e f = next_fails digit rest d ds more s e (pass_head digit d ds (pass_rest digit t (d ∷ ds) (digits_spelled k c (t ++ (d ∷ ds)) h f).1))
 
-symbol_longest : (s : Symbol) (rest : List ℕ) → symbol_among all_symbols (symbol_text s ++ rest) ≡ Some s → IsLongest (symbol_text s) rest
-symbol_longest s rest found d ds more k e f =
-    let o = opened s in
-    let spelled : Spells k (o.first ∷ (o.others ++ (d ∷ ds))) = subst (λ (l : List ℕ). Spells k (l ++ (d ∷ ds))) o.text f in
-    let t = symbol_spelled k o.first (o.others ++ (d ∷ ds)) o.no_letter o.no_digit spelled in
-    let text : symbol_text s ++ (d ∷ ds) ≡ symbol_text t.0 = ap (λ (l : List ℕ). l ++ (d ∷ ds)) o.text ∙ t.1 in
-    let begins : symbol_text s ++ rest ≡ symbol_text t.0 ++ more = ap (λ (l : List ℕ). symbol_text s ++ l) e ∙ sym (append_assoc (symbol_text s) (d ∷ ds) more) ∙ ap (λ (l : List ℕ). l ++ more) text in
-    omega (arith, longest_symbol (symbol_text s ++ rest) more t.0 s begins found, ap length text, length-append (symbol_text s) (d ∷ ds))
+symbol_longest : (w : Written) (rest : List ℕ) → symbol_among all_symbols (written_text w ++ rest) ≡ Some w → IsLongest (written_text w) rest
+symbol_longest w rest found d ds more k e f =
+    let o = opened w in
+    let spelled : Spells k (o.first ∷ (o.others ++ (d ∷ ds))) = subst (λ (l : List ℕ). Spells k (l ++ (d ∷ ds))) o.text_is f in
+    let t = symbol_spelled k o.first (o.others ++ (d ∷ ds)) o.no_letter o.no_digit o.no_apostrophe spelled in
+    let text : written_text w ++ (d ∷ ds) ≡ written_text t.0 = ap (λ (l : List ℕ). l ++ (d ∷ ds)) o.text_is ∙ t.1 in
+    let front : written_text w ++ rest ≡ written_text t.0 ++ more = ap (λ (l : List ℕ). written_text w ++ l) e ∙ sym (append_assoc (written_text w) (d ∷ ds) more) ∙ ap (λ (l : List ℕ). l ++ more) text in
+    omega (arith, longest_symbol (written_text w ++ rest) more t.0 w front found, ap length text, length-append (written_text w) (d ∷ ds))
+
+-- no string is longer than to the end that is read
+string_longest : (l : List ℕ) (n : ℕ) (e : Ended l n) → string_end false l ≡ Some n → IsLongest (quoted e.text) e.rest
+string_longest l n e found d ds more k f spelled =
+    let s = string_spelled k ((doubled e.text ++ apostrophe ∷ []) ++ (d ∷ ds)) spelled in
+    let other : List ℕ = s.0 in
+    let text : quoted e.text ++ (d ∷ ds) ≡ quoted other = s.2 in
+    let whole : apostrophe ∷ l ≡ apostrophe ∷ (doubled other ++ (apostrophe ∷ more)) =
+    ap (λ (x : List ℕ). apostrophe ∷ x) e.whole ∙ sym (whole_string e.text e.rest) ∙ ap (λ (x : List ℕ). quoted e.text ++ x) f ∙ sym (append_assoc (quoted e.text) (d ∷ ds) more) ∙ ap (λ (x : List ℕ). x ++ more) text ∙ whole_string other more in
+    let longer = ended_found other more (characters_on_line other s.1) in
+    let same : longer.0 ≡ n = some_is longer.0 n (sym longer.1 ∙ ap (string_end false) (sym (tail_is apostrophe l (doubled other ++ (apostrophe ∷ more)) whole)) ∙ found) in
+    omega (arith, same, longer.2, e.len, quoted_length e.text, quoted_length other, ap length text, length-append (quoted e.text) (d ∷ ds))
+  where
+    tail_is : (x : ℕ) (l m : List ℕ) → x ∷ l ≡ x ∷ m → l ≡ m
+    tail_is x l m e = cc
+
+    some_is : (m n : ℕ) → Some m ≡ Some n → m ≡ n
+    some_is m n e = cc
 
 -- a piece of a length in front
 pub record Cut (l : List ℕ) (k : Option Kind) (n : ℕ) : Type 0 where
@@ -254,14 +294,14 @@ pub record Cut (l : List ℕ) (k : Option Kind) (n : ℕ) : Type 0 where
   pub some : 0 < n
   pub fits : Fits text rest k
 
-cut_same : (l : List ℕ) (k j : Option Kind) (m n : ℕ) → read k m ≡ Some (j, n) → Cut l k m → Cut l j n
+cut_same : (l : List ℕ) (k j : Option Kind) (m n : ℕ) → read k m ≡ Ok (j, n) → Cut l k m → Cut l j n
 cut_same l k j m n e c = subst (λ (x : Option Kind × ℕ). Cut l x.0 x.1) (pair_is (k, m) (j, n) e) c
   where
-    pair_is : (x y : Option Kind × ℕ) → Some x ≡ Some y → x ≡ y
+    pair_is : (x y : Option Kind × ℕ) → found x ≡ Ok y → x ≡ y
     pair_is x y e = cc
 
-nothing_read : (k : Option Kind) (n : ℕ) → None ≡ read k n → ⊥
-nothing_read k n e = cc
+pub nothing_read : (r : Reason) (k : Option Kind) (n : ℕ) → failed r ≡ read k n → ⊥
+nothing_read r k n e = cc
 
 word_or_name_allowed : (o : Option Word) (rest : List ℕ) → IsAllowed (word_or_name o) rest
 word_or_name_allowed None rest = tt
@@ -271,78 +311,168 @@ word_or_name_allowed (Some w) rest = tt
 run_one : (p : ℕ → Bool) (c : ℕ) (l : List ℕ) → p c ≡ true → run p (c ∷ l) ≡ suc (run p l)
 run_one p c l h = rw h refl
 
-identifier_cut : (c : ℕ) (l : List ℕ) (k : Option Kind) (n : ℕ) → letter c ≡ true → identifier_at (c ∷ l) ≡ Some (k, n) → Cut (c ∷ l) k n
+identifier_cut : (c : ℕ) (l : List ℕ) (k : Option Kind) (n : ℕ) → letter c ≡ true → identifier_at (c ∷ l) ≡ Ok (k, n) → Cut (c ∷ l) k n
 unfolding identifier_at
 identifier_cut c l k n h e =
     let one : run letter_or_digit (c ∷ l) ≡ suc (run letter_or_digit l) = run_one letter_or_digit c l (letter_passes c h) in
     let t : List ℕ = take (run letter_or_digit l) l in
     let is : IsIdentifier (c ∷ t) = (h, run_passes letter_or_digit l) in
-    let e2 : read (Some (word_or_name (word_in (c ∷ t)))) (suc (run letter_or_digit l)) ≡ Some (k, n) = sym (ap (λ (m : ℕ). read (Some (word_or_name (word_in (take m (c ∷ l))))) m) one) ∙ e in
+    let e2 : read (Some (word_or_name (word_in (c ∷ t)))) (suc (run letter_or_digit l)) ≡ Ok (k, n) = sym (ap (λ (m : ℕ). read (Some (word_or_name (word_in (take m (c ∷ l))))) m) one) ∙ e in
     cut_same (c ∷ l) (Some (word_or_name (word_in (c ∷ t)))) k (suc (run letter_or_digit l)) n e2 (record {
       text = c ∷ t;
       rest = drop (run letter_or_digit l) l;
       whole = ap (λ (x : List ℕ). c ∷ x) (sym (take-append-drop (run letter_or_digit l) l));
       len = ap suc (run_len letter_or_digit l);
       some = omega arith;
-      fits = (identifier_spells (c ∷ t) is, identifier_longest c t (drop (run letter_or_digit l) l) h (run_stops letter_or_digit l), word_or_name_allowed (word_in (c ∷ t)) (drop (run letter_or_digit l) l));
+      fits = (identifier_spells (c ∷ t) is, identifier_longest c t (drop (run letter_or_digit l) l) h (run_stops letter_or_digit l), word_or_name_allowed (word_in (c ∷ t)) (drop (run letter_or_digit l) l), letter_opens_none c (t ++ drop (run letter_or_digit l) l) h);
     })
 
-number_cut : (c : ℕ) (l : List ℕ) (k : Option Kind) (n : ℕ) → digit c ≡ true → number_at (c ∷ l) ≡ Some (k, n) → Cut (c ∷ l) k n
-unfolding number_at
+number_cut : (c : ℕ) (l : List ℕ) (k : Option Kind) (n : ℕ) → digit c ≡ true → piece_at (c ∷ l) ≡ Ok (k, n) → Cut (c ∷ l) k n
 number_cut c l k n h e =
-    let one : run digit (c ∷ l) ≡ suc (run digit l) = run_one digit c l h in
-    let e2 : cond (letter_first (drop (run digit l) l)) None (number_piece (suc (run digit l)) (number_in (c ∷ take (run digit l) l))) ≡ Some (k, n) = sym (ap (λ (m : ℕ). cond (letter_first (drop m (c ∷ l))) None (number_piece m (number_in (take m (c ∷ l))))) one) ∙ e in
-    elim (chosen (letter_first (drop (run digit l) l)) None (number_piece (suc (run digit l)) (number_in (c ∷ take (run digit l) l))) (Some (k, n)) e2) [
-      | inl f ↦ absurd (nothing_read k n f.1)
-      | inr f ↦ at (number_in (c ∷ take (run digit l) l)) refl f.0 f.1
+    let digits : List ℕ = c ∷ take (run digit l) l in
+    let rest : List ℕ = drop (run digit l) l in
+    let e2 : number_before rest (length digits) digits ≡ Ok (k, n) = sym (number_read (c ∷ l) digits rest (first_digits c l h)) ∙ e in
+    elim (chosen (real_follows rest) (Err RealWord) (cond (letter_first rest) (Err Joined) (number_piece (length digits) (number_in digits))) (Ok (k, n)) e2) [
+      | inl f ↦ absurd (nothing_read RealWord k n f.1)
+      | inr f ↦ elim (chosen (letter_first rest) (Err Joined) (number_piece (length digits) (number_in digits)) (Ok (k, n)) f.1) [
+        | inl g ↦ absurd (nothing_read Joined k n g.1)
+        | inr g ↦ at (number_in digits) refl f.0 g.0 g.1
+      ]
     ]
   where
-    at : (o : Option ℕ) → number_in (c ∷ take (run digit l) l) ≡ o → letter_first (drop (run digit l) l) ≡ false → number_piece (suc (run digit l)) o ≡ Some (k, n) → Cut (c ∷ l) k n
-    at None g no_letter e = absurd (nothing_read k n e)
-    at (Some value) g no_letter e =
+    at : (o : Option ℕ) → number_in (c ∷ take (run digit l) l) ≡ o → real_follows (drop (run digit l) l) ≡ false → letter_first (drop (run digit l) l) ≡ false → number_piece (length (c ∷ take (run digit l) l)) o ≡ Ok (k, n) → Cut (c ∷ l) k n
+    at None g no_real no_letter e = absurd (nothing_read TooLarge k n e)
+    at (Some value) g no_real no_letter e =
         let v = number_small (c ∷ take (run digit l) l) value g in
-        cut_same (c ∷ l) (Some (Number value)) k (suc (run digit l)) n e (record {
+        cut_same (c ∷ l) (Some (Number value)) k (length (c ∷ take (run digit l) l)) n e (record {
           text = c ∷ take (run digit l) l;
           rest = drop (run digit l) l;
           whole = ap (λ (x : List ℕ). c ∷ x) (sym (take-append-drop (run digit l) l));
-          len = ap suc (run_len digit l);
+          len = refl;
           some = omega arith;
-          fits = (((h, run_passes digit l), v.0), digits_longest c (take (run digit l) l) (drop (run digit l) l) h (run_stops digit l), (v.1, no_letter));
+          fits = (((h, run_passes digit l), v.0), digits_longest c (take (run digit l) l) (drop (run digit l) l) h (run_stops digit l), (no_real, no_letter, v.1), digit_opens_none c (take (run digit l) l ++ drop (run digit l) l) h);
         })
 
-symbol_cut : (c : ℕ) (l : List ℕ) (k : Option Kind) (n : ℕ) → symbol_piece (symbol_among all_symbols (c ∷ l)) ≡ Some (k, n) → Cut (c ∷ l) k n
-symbol_cut c l k n e = at (symbol_among all_symbols (c ∷ l)) refl e
+string_cut : (l : List ℕ) (k : Option Kind) (n : ℕ) → string_piece l (string_end false l) ≡ Ok (k, n) → Cut (apostrophe ∷ l) k n
+string_cut l k n e = at (string_end false l) refl e
   where
-    at : (o : Option Symbol) → symbol_among all_symbols (c ∷ l) ≡ o → symbol_piece o ≡ Some (k, n) → Cut (c ∷ l) k n
-    at None g e = absurd (nothing_read k n e)
-    at (Some s) g e =
-        let rest : List ℕ = drop (length (symbol_text s)) (c ∷ l) in
-        let whole : c ∷ l ≡ symbol_text s ++ rest = symbol_is all_symbols (c ∷ l) s g in
-        cut_same (c ∷ l) (Some (SymbolKind s)) k (length (symbol_text s)) n e (record {
-          text = symbol_text s;
+    above : (a b : ℕ) → nat_lt a b ≡ true → a < b
+    above a b h = grind (arith, nat_tests)
+
+    short : (l : List ℕ) (k : Option Kind) (n : ℕ) → cond (next_is apostrophe (drop 1 l)) (failed OpenString) (Err EmptyString) ≡ Ok (k, n) → ⊥
+    short l k n e =
+        elim (chosen (next_is apostrophe (drop 1 l)) (failed OpenString) (Err EmptyString) (Ok (k, n)) e) [
+          | inl h ↦ nothing_read OpenString k n h.1
+          | inr h ↦ nothing_read EmptyString k n h.1
+        ]
+
+    at : (o : Option ℕ) → string_end false l ≡ o → string_piece l o ≡ Ok (k, n) → Cut (apostrophe ∷ l) k n
+    at None g e = absurd (nothing_read OpenString k n e)
+    at (Some m) g e =
+        elim (chosen (nat_lt 1 m) (read (Some Text) (1 + m)) (cond (next_is apostrophe (drop 1 l)) (failed OpenString) (Err EmptyString)) (Ok (k, n)) e) [
+          | inl h ↦
+              let s : Ended l m = ended_sound l m g in
+              let lt : 1 < m = above 1 m h.0 in
+              let some : 0 < length (doubled s.text) = omega (arith, s.len, lt) in
+              cut_same (apostrophe ∷ l) (Some Text) k (1 + m) n h.1 (record {
+                text = quoted s.text;
+                rest = s.rest;
+                whole = ap (λ (x : List ℕ). apostrophe ∷ x) s.whole ∙ sym (whole_string s.text s.rest);
+                len = omega (arith, quoted_length s.text, s.len);
+                some = omega arith;
+                fits = ((s.text, characters_are s.text s.on_line some, refl), string_longest l m s g, tt, refl);
+              })
+          | inr h ↦ absurd (short l k n h.1)
+        ]
+
+comment_cut : (whole behind : List ℕ) (opened : ℕ) (k : Option Kind) (n : ℕ) → IsOpened whole behind → ((x : List ℕ) → (t : List ℕ) × IsOpened t x × (length t ≡ opened + length x) × ((y : List ℕ) → behind ≡ x ++ y → whole ≡ t ++ y)) → 0 < opened → comment_piece opened (closing behind) ≡ Ok (k, n) → Cut whole k n
+comment_cut whole behind opened k n is front some e = at (closing behind) refl e
+  where
+    at : (o : Option ℕ) → closing behind ≡ o → comment_piece opened o ≡ Ok (k, n) → Cut whole k n
+    at None g e = absurd (nothing_read OpenComment k n e)
+    at (Some m) g e =
+        let s = closing_sound behind m g in
+        let t = front (take m behind) in
+        cut_same whole None k (opened + m) n e (record {
+          text = t.0;
+          rest = drop m behind;
+          whole = t.3 (drop m behind) (sym (take-append-drop m behind));
+          len = omega (arith, t.2, length-take m behind, s.1);
+          some = omega (arith, some);
+          fits = inr (take m behind, t.1, s.0);
+        })
+
+brace_front : (behind x : List ℕ) → (t : List ℕ) × IsOpened t x × (length t ≡ 1 + length x) × ((y : List ℕ) → behind ≡ x ++ y → 123 ∷ behind ≡ t ++ y)
+brace_front behind x = (123 ∷ x, inl refl, omega arith, λ y e. ap (λ (l : List ℕ). 123 ∷ l) e)
+
+paren_front : (behind x : List ℕ) → (t : List ℕ) × IsOpened t x × (length t ≡ 2 + length x) × ((y : List ℕ) → behind ≡ x ++ y → 40 ∷ (42 ∷ behind) ≡ t ++ y)
+paren_front behind x = (40 ∷ (42 ∷ x), inr refl, omega arith, λ y e. ap (λ (l : List ℕ). 40 ∷ (42 ∷ l)) e)
+
+-- the second byte of an opening symbol
+pub star_there : (c : ℕ) (l : List ℕ) → (nat_eq c 40 && next_is 42 l) ≡ true → (m : List ℕ) × (c ∷ l ≡ 40 ∷ (42 ∷ m)) × (drop 1 l ≡ m)
+star_there c l e = let p = both (nat_eq c 40) (next_is 42 l) e in at l p.1 (eqb-true c 40 p.0)
+  where
+    both : (a b : Bool) → (a && b) ≡ true → (a ≡ true) × (b ≡ true)
+    both true b e = (refl, e)
+    both false b e = absurd cc
+
+    at : (l : List ℕ) → next_is 42 l ≡ true → c ≡ 40 → (m : List ℕ) × (c ∷ l ≡ 40 ∷ (42 ∷ m)) × (drop 1 l ≡ m)
+    at [] e f = absurd cc
+    at (d ∷ m) e f = (m, ap (λ (x : ℕ). x ∷ (d ∷ m)) f ∙ ap (λ (x : ℕ). 40 ∷ (x ∷ m)) (eqb-true d 42 e), refl)
+
+symbol_cut : (c : ℕ) (l : List ℕ) (k : Option Kind) (n : ℕ) → opens_comment (c ∷ l) ≡ false → symbol_piece (symbol_among all_symbols (c ∷ l)) ≡ Ok (k, n) → Cut (c ∷ l) k n
+symbol_cut c l k n none e = at (symbol_among all_symbols (c ∷ l)) refl e
+  where
+    at : (o : Option Written) → symbol_among all_symbols (c ∷ l) ≡ o → symbol_piece o ≡ Ok (k, n) → Cut (c ∷ l) k n
+    at None g e = absurd (nothing_read BadByte k n e)
+    at (Some w) g e =
+        let rest : List ℕ = drop (length (written_text w)) (c ∷ l) in
+        let whole : c ∷ l ≡ written_text w ++ rest = symbol_is all_symbols (c ∷ l) w g in
+        cut_same (c ∷ l) (Some (SymbolKind (symbol_of w))) k (length (written_text w)) n e (record {
+          text = written_text w;
           rest = rest;
           whole = whole;
           len = refl;
-          some = omega (arith, ap length (opened s).text);
-          fits = (refl, symbol_longest s rest (ap (symbol_among all_symbols) (sym whole) ∙ g), tt);
+          some = omega (arith, ap length (opened w).text_is);
+          fits = (written_spells w (written_text w) refl, symbol_longest w rest (ap (symbol_among all_symbols) (sym whole) ∙ g), tt, ap opens_comment (sym whole) ∙ none);
         })
 
-pub piece_cut : (l : List ℕ) (k : Option Kind) (n : ℕ) → piece_at l ≡ Some (k, n) → Cut l k n
-unfolding piece_at symbol_in
-piece_cut [] k n e = absurd (nothing_read k n e)
+mark_cut : (c : ℕ) (l : List ℕ) (k : Option Kind) (n : ℕ) → mark_at c l ≡ Ok (k, n) → Cut (c ∷ l) k n
+unfolding mark_at string_at symbol_in
+mark_cut c l k n e =
+    elim (chosen (nat_eq c apostrophe) _ _ (Ok (k, n)) e) [
+      | inl h ↦ subst (λ (x : ℕ). Cut (x ∷ l) k n) (sym (eqb-true c apostrophe h.0)) (string_cut l k n h.1)
+      | inr h ↦ elim (chosen (nat_eq c 123) _ _ (Ok (k, n)) h.1) [
+        | inl g ↦ subst (λ (x : ℕ). Cut (x ∷ l) k n) (sym (eqb-true c 123 g.0)) (comment_cut (123 ∷ l) l 1 k n (inl refl) (brace_front l) (omega arith) g.1)
+        | inr g ↦ elim (chosen (nat_eq c 40 && next_is 42 l) _ _ (Ok (k, n)) g.1) [
+          | inl f ↦
+              let m = star_there c l f.0 in
+              let e2 : comment_piece 2 (closing m.0) ≡ Ok (k, n) = ap (λ (x : List ℕ). comment_piece 2 (closing x)) (sym m.2) ∙ f.1 in
+              subst (λ (x : List ℕ). Cut x k n) (sym m.1) (comment_cut (40 ∷ (42 ∷ m.0)) m.0 2 k n (inr refl) (paren_front m.0) (omega arith) e2)
+          | inr f ↦ elim (chosen (nat_eq c 47) (Err RealWord) (symbol_piece (symbol_among all_symbols (c ∷ l))) (Ok (k, n)) f.1) [
+            | inl a ↦ absurd (nothing_read RealWord k n a.1)
+            | inr a ↦ symbol_cut c l k n (not_either (nat_eq c 123) (nat_eq c 40 && next_is 42 l) g.0 f.0) a.1
+          ]
+        ]
+      ]
+    ]
+
+pub piece_cut : (l : List ℕ) (k : Option Kind) (n : ℕ) → piece_at l ≡ Ok (k, n) → Cut l k n
+unfolding piece_at
+piece_cut [] k n e = absurd (nothing_read BadByte k n e)
 piece_cut (c ∷ l) k n e =
-    elim (chosen (letter c) (identifier_at (c ∷ l)) _ (Some (k, n)) e) [
-      | inl h ↦ identifier_cut c l k n h.0 h.1
-      | inr h ↦ elim (chosen (digit c) (number_at (c ∷ l)) _ (Some (k, n)) h.1) [
-        | inl g ↦ number_cut c l k n g.0 g.1
-        | inr g ↦ elim (chosen (separator c) (Some (None, 1)) (symbol_piece (symbol_among all_symbols (c ∷ l))) (Some (k, n)) g.1) [
-          | inl f ↦ cut_same (c ∷ l) None k 1 n f.1 (record { text = c ∷ []; rest = l; whole = refl; len = refl; some = omega arith; fits = (c, refl, f.0) })
-          | inr f ↦ symbol_cut c l k n f.1
+    elim (fact_of (digit c)) [
+      | inl d ↦ number_cut c l k n d e
+      | inr d ↦ elim (chosen (letter c) (identifier_at (c ∷ l)) _ (Ok (k, n)) e) [
+        | inl h ↦ identifier_cut c l k n h.0 h.1
+        | inr h ↦ elim (fact_of (separator c)) [
+          | inl f ↦ cut_same (c ∷ l) None k 1 n (sym (separator_again c l f) ∙ e) (record { text = c ∷ []; rest = l; whole = refl; len = refl; some = omega arith; fits = inl (c, refl, f) })
+          | inr f ↦ mark_cut c l k n (sym (mark_read c l h.0 d f) ∙ e)
         ]
       ]
     ]
 
 -- ---- what is not read does not fit
 
-pub nothing_fits : (l : List ℕ) → piece_at l ≡ None → NothingFits l
-nothing_fits l e text rest k whole fits = nothing_read k (length text) (sym e ∙ ap piece_at whole ∙ piece_again k text rest fits)
+pub nothing_fits : (l : List ℕ) (r : Reason) → piece_at l ≡ Err r → NothingFits l
+nothing_fits l r e text rest k whole fits = nothing_read r k (length text) (sym e ∙ ap piece_at whole ∙ piece_again k text rest fits)

@@ -1,5 +1,5 @@
 -- The two tables: what each row has, and that what is found in a table is right.
-use Rattle.std.proofs.Common.{◌≡◌, ℕ, suc, ◌+◌, ◌<◌, ◌≤◌, Bool, true, false, nat_eq, List, [], ◌∷◌, ◌++◌, length, drop, get_or, Some, refl, sym, ap, subst, ◌∙◌, arith, drop-cons, inl, inr, ◌⊎◌}
+use Rattle.std.proofs.Common.{◌≡◌, ℕ, suc, ◌+◌, ◌<◌, ◌≤◌, Bool, true, false, nat_eq, List, [], ◌∷◌, ◌++◌, length, drop, get_or, Option, None, Some, refl, sym, ap, subst, ◌∙◌, arith, drop-cons, inl, inr, ◌⊎◌}
 use Rattle.std.specs.Prelude.{nat_le, ◌&&◌}
 use Rattle.std.specs.List.{starts_with, list_all}
 use Rattle.std.specs.Str.{bytes_eq}
@@ -8,10 +8,12 @@ use Rattle.std.proofs.lemmas.Slice.Eq.{bytes_eq-Decides, starts_is}
 use Rattle.pas_lexer.specs.declared.kinds.Word.{Word}
 use Rattle.pas_lexer.specs.declared.kinds.Word.TheVariants.{WAnd, WArray, WBegin, WCase, WConst, WDiv, WDo, WDownto, WElse, WEnd, WFile, WFor, WFunction, WGoto, WIf, WIn, WLabel, WMod, WNil, WNot, WOf, WOr, WPacked, WProcedure, WProgram, WRecord, WRepeat, WSet, WThen, WTo, WType, WUntil, WVar, WWhile, WWith}
 use Rattle.pas_lexer.specs.declared.kinds.Symbol.{Symbol}
-use Rattle.pas_lexer.specs.declared.kinds.Symbol.TheVariants.{Plus, Semicolon, Colon, Comma, Dot, Becomes}
+use Rattle.pas_lexer.specs.declared.kinds.Symbol.TheVariants.{Plus, Minus, Star, Equal, Less, Greater, LeftBracket, RightBracket, Dot, Comma, Colon, Semicolon, Caret, LeftParen, RightParen, NotEqual, AtMost, AtLeast, Becomes, Range}
+use Rattle.pas_lexer.specs.declared.symbols.Written.{Written}
+use Rattle.pas_lexer.specs.declared.symbols.Written.TheVariants.{Usual, Other}
 use Rattle.pas_lexer.specs.Lexicon.{word_text, symbol_text}
-use Rattle.pas_lexer.specs.Lexis.{letter, digit, letter_or_digit, separator, lower_case}
-use Rattle.pas_lexer.specs.Reading.{all_words, all_symbols, word_among, symbol_among}
+use Rattle.pas_lexer.specs.Lexis.{letter, digit, letter_or_digit, separator, apostrophe, lower_case}
+use Rattle.pas_lexer.specs.Reading.{all_words, all_symbols, word_among, symbol_among, written_text, symbol_of}
 use Rattle.pas_lexer.proofs.Runs.{chosen}
 
 -- ---- the rows
@@ -134,44 +136,167 @@ word_identifier WVar = refl
 word_identifier WWhile = refl
 word_identifier WWith = refl
 
--- each symbol is found by its text
-symbol_found : (s : Symbol) → symbol_among all_symbols (symbol_text s) ≡ Some s
-symbol_found Plus = refl
-symbol_found Semicolon = refl
-symbol_found Colon = refl
-symbol_found Comma = refl
-symbol_found Dot = refl
-symbol_found Becomes = refl
+-- the symbol that is found, however it is written
+abbrev found_in : Option Written → Option Symbol
+found_in None = None
+found_in (Some w) = Some (symbol_of w)
 
--- a symbol begins with a byte that begins nothing else
-pub record Opened (s : Symbol) : Type 0 where
+symbol_found : (w : Written) → found_in (symbol_among all_symbols (written_text w)) ≡ Some (symbol_of w)
+symbol_found (Usual NotEqual) = refl
+symbol_found (Usual AtMost) = refl
+symbol_found (Usual AtLeast) = refl
+symbol_found (Usual Becomes) = refl
+symbol_found (Usual Range) = refl
+symbol_found (Usual Plus) = refl
+symbol_found (Usual Minus) = refl
+symbol_found (Usual Star) = refl
+symbol_found (Usual Equal) = refl
+symbol_found (Usual Less) = refl
+symbol_found (Usual Greater) = refl
+symbol_found (Usual LeftBracket) = refl
+symbol_found (Usual RightBracket) = refl
+symbol_found (Usual Dot) = refl
+symbol_found (Usual Comma) = refl
+symbol_found (Usual Colon) = refl
+symbol_found (Usual Semicolon) = refl
+symbol_found (Usual Caret) = refl
+symbol_found (Usual LeftParen) = refl
+symbol_found (Usual RightParen) = refl
+symbol_found (Other NotEqual) = refl
+symbol_found (Other AtMost) = refl
+symbol_found (Other AtLeast) = refl
+symbol_found (Other Becomes) = refl
+symbol_found (Other Range) = refl
+symbol_found (Other Plus) = refl
+symbol_found (Other Minus) = refl
+symbol_found (Other Star) = refl
+symbol_found (Other Equal) = refl
+symbol_found (Other Less) = refl
+symbol_found (Other Greater) = refl
+symbol_found (Other LeftBracket) = refl
+symbol_found (Other RightBracket) = refl
+symbol_found (Other Dot) = refl
+symbol_found (Other Comma) = refl
+symbol_found (Other Colon) = refl
+symbol_found (Other Semicolon) = refl
+symbol_found (Other Caret) = refl
+symbol_found (Other LeftParen) = refl
+symbol_found (Other RightParen) = refl
+
+-- a symbol begins with a byte that begins nothing else, and that is a symbol by itself
+pub record Opened (text : List ℕ) : Type 0 where
   pub first : ℕ
   pub others : List ℕ
-  pub text : symbol_text s ≡ first ∷ others
+  pub alone : Written
+  pub text_is : text ≡ first ∷ others
+  pub alone_is : written_text alone ≡ first ∷ []
   pub no_letter : letter first ≡ false
   pub no_digit : digit first ≡ false
   pub no_separator : separator first ≡ false
+  pub no_apostrophe : nat_eq first apostrophe ≡ false
+  pub no_brace : nat_eq first 123 ≡ false
+  pub no_slash : nat_eq first 47 ≡ false
 
-pub opened : (s : Symbol) → Opened s
-opened Plus = record { first = 43; others = []; text = refl; no_letter = refl; no_digit = refl; no_separator = refl }
-opened Semicolon = record { first = 59; others = []; text = refl; no_letter = refl; no_digit = refl; no_separator = refl }
-opened Colon = record { first = 58; others = []; text = refl; no_letter = refl; no_digit = refl; no_separator = refl }
-opened Comma = record { first = 44; others = []; text = refl; no_letter = refl; no_digit = refl; no_separator = refl }
-opened Dot = record { first = 46; others = []; text = refl; no_letter = refl; no_digit = refl; no_separator = refl }
-opened Becomes = record { first = 58; others = 61 ∷ []; text = refl; no_letter = refl; no_digit = refl; no_separator = refl }
+usual_opened : (s : Symbol) → Opened (symbol_text s)
+usual_opened NotEqual = record { first = 60; others = 62 ∷ []; alone = Usual Less; text_is = refl; alone_is = refl; no_letter = refl; no_digit = refl; no_separator = refl; no_apostrophe = refl; no_brace = refl; no_slash = refl }
+usual_opened AtMost = record { first = 60; others = 61 ∷ []; alone = Usual Less; text_is = refl; alone_is = refl; no_letter = refl; no_digit = refl; no_separator = refl; no_apostrophe = refl; no_brace = refl; no_slash = refl }
+usual_opened AtLeast = record { first = 62; others = 61 ∷ []; alone = Usual Greater; text_is = refl; alone_is = refl; no_letter = refl; no_digit = refl; no_separator = refl; no_apostrophe = refl; no_brace = refl; no_slash = refl }
+usual_opened Becomes = record { first = 58; others = 61 ∷ []; alone = Usual Colon; text_is = refl; alone_is = refl; no_letter = refl; no_digit = refl; no_separator = refl; no_apostrophe = refl; no_brace = refl; no_slash = refl }
+usual_opened Range = record { first = 46; others = 46 ∷ []; alone = Usual Dot; text_is = refl; alone_is = refl; no_letter = refl; no_digit = refl; no_separator = refl; no_apostrophe = refl; no_brace = refl; no_slash = refl }
+usual_opened Plus = record { first = 43; others = []; alone = Usual Plus; text_is = refl; alone_is = refl; no_letter = refl; no_digit = refl; no_separator = refl; no_apostrophe = refl; no_brace = refl; no_slash = refl }
+usual_opened Minus = record { first = 45; others = []; alone = Usual Minus; text_is = refl; alone_is = refl; no_letter = refl; no_digit = refl; no_separator = refl; no_apostrophe = refl; no_brace = refl; no_slash = refl }
+usual_opened Star = record { first = 42; others = []; alone = Usual Star; text_is = refl; alone_is = refl; no_letter = refl; no_digit = refl; no_separator = refl; no_apostrophe = refl; no_brace = refl; no_slash = refl }
+usual_opened Equal = record { first = 61; others = []; alone = Usual Equal; text_is = refl; alone_is = refl; no_letter = refl; no_digit = refl; no_separator = refl; no_apostrophe = refl; no_brace = refl; no_slash = refl }
+usual_opened Less = record { first = 60; others = []; alone = Usual Less; text_is = refl; alone_is = refl; no_letter = refl; no_digit = refl; no_separator = refl; no_apostrophe = refl; no_brace = refl; no_slash = refl }
+usual_opened Greater = record { first = 62; others = []; alone = Usual Greater; text_is = refl; alone_is = refl; no_letter = refl; no_digit = refl; no_separator = refl; no_apostrophe = refl; no_brace = refl; no_slash = refl }
+usual_opened LeftBracket = record { first = 91; others = []; alone = Usual LeftBracket; text_is = refl; alone_is = refl; no_letter = refl; no_digit = refl; no_separator = refl; no_apostrophe = refl; no_brace = refl; no_slash = refl }
+usual_opened RightBracket = record { first = 93; others = []; alone = Usual RightBracket; text_is = refl; alone_is = refl; no_letter = refl; no_digit = refl; no_separator = refl; no_apostrophe = refl; no_brace = refl; no_slash = refl }
+usual_opened Dot = record { first = 46; others = []; alone = Usual Dot; text_is = refl; alone_is = refl; no_letter = refl; no_digit = refl; no_separator = refl; no_apostrophe = refl; no_brace = refl; no_slash = refl }
+usual_opened Comma = record { first = 44; others = []; alone = Usual Comma; text_is = refl; alone_is = refl; no_letter = refl; no_digit = refl; no_separator = refl; no_apostrophe = refl; no_brace = refl; no_slash = refl }
+usual_opened Colon = record { first = 58; others = []; alone = Usual Colon; text_is = refl; alone_is = refl; no_letter = refl; no_digit = refl; no_separator = refl; no_apostrophe = refl; no_brace = refl; no_slash = refl }
+usual_opened Semicolon = record { first = 59; others = []; alone = Usual Semicolon; text_is = refl; alone_is = refl; no_letter = refl; no_digit = refl; no_separator = refl; no_apostrophe = refl; no_brace = refl; no_slash = refl }
+usual_opened Caret = record { first = 94; others = []; alone = Usual Caret; text_is = refl; alone_is = refl; no_letter = refl; no_digit = refl; no_separator = refl; no_apostrophe = refl; no_brace = refl; no_slash = refl }
+usual_opened LeftParen = record { first = 40; others = []; alone = Usual LeftParen; text_is = refl; alone_is = refl; no_letter = refl; no_digit = refl; no_separator = refl; no_apostrophe = refl; no_brace = refl; no_slash = refl }
+usual_opened RightParen = record { first = 41; others = []; alone = Usual RightParen; text_is = refl; alone_is = refl; no_letter = refl; no_digit = refl; no_separator = refl; no_apostrophe = refl; no_brace = refl; no_slash = refl }
+
+pub opened : (w : Written) → Opened (written_text w)
+opened (Usual s) = usual_opened s
+opened (Other LeftBracket) = record { first = 40; others = 46 ∷ []; alone = Usual LeftParen; text_is = refl; alone_is = refl; no_letter = refl; no_digit = refl; no_separator = refl; no_apostrophe = refl; no_brace = refl; no_slash = refl }
+opened (Other RightBracket) = record { first = 46; others = 41 ∷ []; alone = Usual Dot; text_is = refl; alone_is = refl; no_letter = refl; no_digit = refl; no_separator = refl; no_apostrophe = refl; no_brace = refl; no_slash = refl }
+opened (Other Caret) = record { first = 64; others = []; alone = Other Caret; text_is = refl; alone_is = refl; no_letter = refl; no_digit = refl; no_separator = refl; no_apostrophe = refl; no_brace = refl; no_slash = refl }
+opened (Other NotEqual) = usual_opened NotEqual
+opened (Other AtMost) = usual_opened AtMost
+opened (Other AtLeast) = usual_opened AtLeast
+opened (Other Becomes) = usual_opened Becomes
+opened (Other Range) = usual_opened Range
+opened (Other Plus) = usual_opened Plus
+opened (Other Minus) = usual_opened Minus
+opened (Other Star) = usual_opened Star
+opened (Other Equal) = usual_opened Equal
+opened (Other Less) = usual_opened Less
+opened (Other Greater) = usual_opened Greater
+opened (Other Dot) = usual_opened Dot
+opened (Other Comma) = usual_opened Comma
+opened (Other Colon) = usual_opened Colon
+opened (Other Semicolon) = usual_opened Semicolon
+opened (Other LeftParen) = usual_opened LeftParen
+opened (Other RightParen) = usual_opened RightParen
 
 -- the symbol is one of these
-abbrev IsAmong : Symbol → List Symbol → Type 0
+abbrev IsAmong : Written → List Written → Type 0
 IsAmong t [] = ⊥
 IsAmong t (s ∷ ss) = (s ≡ t) ⊎ IsAmong t ss
 
-listed : (s : Symbol) → IsAmong s all_symbols
-listed Becomes = inl refl
-listed Plus = inr (inl refl)
-listed Semicolon = inr (inr (inl refl))
-listed Colon = inr (inr (inr (inl refl)))
-listed Comma = inr (inr (inr (inr (inl refl))))
-listed Dot = inr (inr (inr (inr (inr (inl refl)))))
+-- a row of the table with this symbol and this text
+pub record Listed (w : Written) : Type 0 where
+  pub row : Written
+  pub among : IsAmong row all_symbols
+  pub text : written_text w ≡ written_text row
+
+usual_row : (s : Symbol) → IsAmong (Usual s) all_symbols
+usual_row Plus = inr (inr (inr (inr (inr (inr (inr (inl refl)))))))
+usual_row Minus = inr (inr (inr (inr (inr (inr (inr (inr (inl refl))))))))
+usual_row Star = inr (inr (inr (inr (inr (inr (inr (inr (inr (inl refl)))))))))
+usual_row Equal = inr (inr (inr (inr (inr (inr (inr (inr (inr (inr (inl refl))))))))))
+usual_row Less = inr (inr (inr (inr (inr (inr (inr (inr (inr (inr (inr (inl refl)))))))))))
+usual_row Greater = inr (inr (inr (inr (inr (inr (inr (inr (inr (inr (inr (inr (inl refl))))))))))))
+usual_row LeftBracket = inr (inr (inr (inr (inr (inr (inr (inr (inr (inr (inr (inr (inr (inl refl)))))))))))))
+usual_row RightBracket = inr (inr (inr (inr (inr (inr (inr (inr (inr (inr (inr (inr (inr (inr (inl refl))))))))))))))
+usual_row Dot = inr (inr (inr (inr (inr (inr (inr (inr (inr (inr (inr (inr (inr (inr (inr (inl refl)))))))))))))))
+usual_row Comma = inr (inr (inr (inr (inr (inr (inr (inr (inr (inr (inr (inr (inr (inr (inr (inr (inl refl))))))))))))))))
+usual_row Colon = inr (inr (inr (inr (inr (inr (inr (inr (inr (inr (inr (inr (inr (inr (inr (inr (inr (inl refl)))))))))))))))))
+usual_row Semicolon = inr (inr (inr (inr (inr (inr (inr (inr (inr (inr (inr (inr (inr (inr (inr (inr (inr (inr (inl refl))))))))))))))))))
+usual_row Caret = inr (inr (inr (inr (inr (inr (inr (inr (inr (inr (inr (inr (inr (inr (inr (inr (inr (inr (inr (inl refl)))))))))))))))))))
+usual_row LeftParen = inr (inr (inr (inr (inr (inr (inr (inr (inr (inr (inr (inr (inr (inr (inr (inr (inr (inr (inr (inr (inl refl))))))))))))))))))))
+usual_row RightParen = inr (inr (inr (inr (inr (inr (inr (inr (inr (inr (inr (inr (inr (inr (inr (inr (inr (inr (inr (inr (inr (inl refl)))))))))))))))))))))
+usual_row NotEqual = inl refl
+usual_row AtMost = inr (inl refl)
+usual_row AtLeast = inr (inr (inl refl))
+usual_row Becomes = inr (inr (inr (inl refl)))
+usual_row Range = inr (inr (inr (inr (inl refl))))
+
+listed : (w : Written) → Listed w
+listed (Usual s) = record { row = Usual s; among = usual_row s; text = refl }
+listed (Other Plus) = record { row = Usual Plus; among = inr (inr (inr (inr (inr (inr (inr (inl refl))))))); text = refl }
+listed (Other Minus) = record { row = Usual Minus; among = inr (inr (inr (inr (inr (inr (inr (inr (inl refl)))))))); text = refl }
+listed (Other Star) = record { row = Usual Star; among = inr (inr (inr (inr (inr (inr (inr (inr (inr (inl refl))))))))); text = refl }
+listed (Other Equal) = record { row = Usual Equal; among = inr (inr (inr (inr (inr (inr (inr (inr (inr (inr (inl refl)))))))))); text = refl }
+listed (Other Less) = record { row = Usual Less; among = inr (inr (inr (inr (inr (inr (inr (inr (inr (inr (inr (inl refl))))))))))); text = refl }
+listed (Other Greater) = record { row = Usual Greater; among = inr (inr (inr (inr (inr (inr (inr (inr (inr (inr (inr (inr (inl refl)))))))))))); text = refl }
+listed (Other LeftBracket) = record { row = Other LeftBracket; among = inr (inr (inr (inr (inr (inl refl))))); text = refl }
+listed (Other RightBracket) = record { row = Other RightBracket; among = inr (inr (inr (inr (inr (inr (inl refl)))))); text = refl }
+listed (Other Dot) = record { row = Usual Dot; among = inr (inr (inr (inr (inr (inr (inr (inr (inr (inr (inr (inr (inr (inr (inr (inl refl))))))))))))))); text = refl }
+listed (Other Comma) = record { row = Usual Comma; among = inr (inr (inr (inr (inr (inr (inr (inr (inr (inr (inr (inr (inr (inr (inr (inr (inl refl)))))))))))))))); text = refl }
+listed (Other Colon) = record { row = Usual Colon; among = inr (inr (inr (inr (inr (inr (inr (inr (inr (inr (inr (inr (inr (inr (inr (inr (inr (inl refl))))))))))))))))); text = refl }
+listed (Other Semicolon) = record { row = Usual Semicolon; among = inr (inr (inr (inr (inr (inr (inr (inr (inr (inr (inr (inr (inr (inr (inr (inr (inr (inr (inl refl)))))))))))))))))); text = refl }
+listed (Other Caret) = record { row = Other Caret; among = inr (inr (inr (inr (inr (inr (inr (inr (inr (inr (inr (inr (inr (inr (inr (inr (inr (inr (inr (inr (inr (inr (inl refl)))))))))))))))))))))); text = refl }
+listed (Other LeftParen) = record { row = Usual LeftParen; among = inr (inr (inr (inr (inr (inr (inr (inr (inr (inr (inr (inr (inr (inr (inr (inr (inr (inr (inr (inr (inl refl)))))))))))))))))))); text = refl }
+listed (Other RightParen) = record { row = Usual RightParen; among = inr (inr (inr (inr (inr (inr (inr (inr (inr (inr (inr (inr (inr (inr (inr (inr (inr (inr (inr (inr (inr (inl refl))))))))))))))))))))); text = refl }
+listed (Other NotEqual) = record { row = Usual NotEqual; among = inl refl; text = refl }
+listed (Other AtMost) = record { row = Usual AtMost; among = inr (inl refl); text = refl }
+listed (Other AtLeast) = record { row = Usual AtLeast; among = inr (inr (inl refl)); text = refl }
+listed (Other Becomes) = record { row = Usual Becomes; among = inr (inr (inr (inl refl))); text = refl }
+listed (Other Range) = record { row = Usual Range; among = inr (inr (inr (inr (inl refl)))); text = refl }
 
 -- ---- words
 
@@ -211,37 +336,43 @@ word_is (v ∷ ws) t w e =
 
 -- ---- symbols
 
-symbol_same : (s t : Symbol) → Some s ≡ Some t → s ≡ t
-symbol_same s t e = cc
+written_same : (s t : Written) → Some s ≡ Some t → s ≡ t
+written_same s t e = cc
+
+begins : (l : List ℕ) (s : Written) → starts_with nat_eq l (written_text s) ≡ true → l ≡ written_text s ++ drop (length (written_text s)) l
+begins l s h = (starts_is Decides-eqb l (written_text s) (starts_with nat_eq l (written_text s)) refl).0 h
+
+begun : (l rest : List ℕ) (s : Written) → l ≡ written_text s ++ rest → starts_with nat_eq l (written_text s) ≡ true
+begun l rest s e = (starts_is Decides-eqb l (written_text s) (starts_with nat_eq l (written_text s)) refl).1 rest e
 
 -- the bytes begin with the symbol that is found
-pub symbol_is : (ss : List Symbol) (l : List ℕ) (s : Symbol) → symbol_among ss l ≡ Some s → l ≡ symbol_text s ++ drop (length (symbol_text s)) l
+pub symbol_is : (ss : List Written) (l : List ℕ) (s : Written) → symbol_among ss l ≡ Some s → l ≡ written_text s ++ drop (length (written_text s)) l
 symbol_is [] l s e = absurd cc
 symbol_is (t ∷ ss) l s e =
-    elim (chosen (starts_with nat_eq l (symbol_text t)) (Some t) (symbol_among ss l) (Some s) e) [
-      | inl h ↦ subst (λ (x : Symbol). l ≡ symbol_text x ++ drop (length (symbol_text x)) l) (symbol_same t s h.1) ((starts_is Decides-eqb l (symbol_text t) (starts_with nat_eq l (symbol_text t)) refl).0 h.0)
+    elim (chosen (starts_with nat_eq l (written_text t)) (Some t) (symbol_among ss l) (Some s) e) [
+      | inl h ↦ subst (λ (x : Written). l ≡ written_text x ++ drop (length (written_text x)) l) (written_same t s h.1) (begins l t h.0)
       | inr h ↦ symbol_is ss l s h.1
     ]
 
 -- no symbol of these is longer
-abbrev no_longer : ℕ → List Symbol → Bool
+abbrev no_longer : ℕ → List Written → Bool
 no_longer n [] = true
-no_longer n (s ∷ ss) = nat_le (length (symbol_text s)) n && no_longer n ss
+no_longer n (s ∷ ss) = nat_le (length (written_text s)) n && no_longer n ss
 
-abbrev ordered : List Symbol → Bool
+abbrev ordered : List Written → Bool
 ordered [] = true
-ordered (s ∷ ss) = no_longer (length (symbol_text s)) ss && ordered ss
+ordered (s ∷ ss) = no_longer (length (written_text s)) ss && ordered ss
 
 both : (a b : Bool) → (a && b) ≡ true → (a ≡ true) × (b ≡ true)
 both true b e = (refl, e)
 both false b e = absurd cc
 
-within_all : (n : ℕ) (ss : List Symbol) (t : Symbol) → no_longer n ss ≡ true → IsAmong t ss → length (symbol_text t) ≤ n
+within_all : (n : ℕ) (ss : List Written) (t : Written) → no_longer n ss ≡ true → IsAmong t ss → length (written_text t) ≤ n
 within_all n [] t h m = absurd m
 within_all n (s ∷ ss) t h m =
-    let p = both (nat_le (length (symbol_text s)) n) (no_longer n ss) h in
+    let p = both (nat_le (length (written_text s)) n) (no_longer n ss) h in
     elim m [
-      | inl e ↦ subst (λ (x : Symbol). length (symbol_text x) ≤ n) e (le_is (length (symbol_text s)) n p.0)
+      | inl e ↦ subst (λ (x : Written). length (written_text x) ≤ n) e (le_is (length (written_text s)) n p.0)
       | inr g ↦ within_all n ss t p.1 g
     ]
   where
@@ -249,39 +380,44 @@ within_all n (s ∷ ss) t h m =
     le_is a b h = grind (arith, nat_tests)
 
 -- the symbol that is found is the longest with which the bytes begin
-longest_among : (ss : List Symbol) (l rest : List ℕ) (t s : Symbol) → ordered ss ≡ true → IsAmong t ss → l ≡ symbol_text t ++ rest → symbol_among ss l ≡ Some s → length (symbol_text t) ≤ length (symbol_text s)
-longest_among [] l rest t s o m begins e = absurd m
-longest_among (v ∷ ss) l rest t s o m begins e =
-    let p = both (no_longer (length (symbol_text v)) ss) (ordered ss) o in
-    elim (chosen (starts_with nat_eq l (symbol_text v)) (Some v) (symbol_among ss l) (Some s) e) [
-      | inl h ↦ subst (λ (x : Symbol). length (symbol_text t) ≤ length (symbol_text x)) (symbol_same v s h.1) (elim m [
-        | inl same ↦ subst (λ (x : Symbol). length (symbol_text t) ≤ length (symbol_text x)) (sym same) (omega arith)
-        | inr g ↦ within_all (length (symbol_text v)) ss t p.0 g
+longest_among : (ss : List Written) (l rest : List ℕ) (t s : Written) → ordered ss ≡ true → IsAmong t ss → l ≡ written_text t ++ rest → symbol_among ss l ≡ Some s → length (written_text t) ≤ length (written_text s)
+longest_among [] l rest t s o m front e = absurd m
+longest_among (v ∷ ss) l rest t s o m front e =
+    let p = both (no_longer (length (written_text v)) ss) (ordered ss) o in
+    elim (chosen (starts_with nat_eq l (written_text v)) (Some v) (symbol_among ss l) (Some s) e) [
+      | inl h ↦ subst (λ (x : Written). length (written_text t) ≤ length (written_text x)) (written_same v s h.1) (elim m [
+        | inl same ↦ subst (λ (x : Written). length (written_text t) ≤ length (written_text x)) (sym same) (omega arith)
+        | inr g ↦ within_all (length (written_text v)) ss t p.0 g
       ])
       | inr h ↦ elim m [
-        | inl same ↦ absurd (let begun : starts_with nat_eq l (symbol_text v) ≡ true = (starts_is Decides-eqb l (symbol_text v) (starts_with nat_eq l (symbol_text v)) refl).1 rest (begins ∙ ap (λ (x : Symbol). symbol_text x ++ rest) (sym same)) in let not_begun : starts_with nat_eq l (symbol_text v) ≡ false = h.0 in cc)
-        | inr g ↦ longest_among ss l rest t s p.1 g begins h.1
+        | inl same ↦ absurd (let yes : starts_with nat_eq l (written_text v) ≡ true = begun l rest v (front ∙ ap (λ (x : Written). written_text x ++ rest) (sym same)) in let no : starts_with nat_eq l (written_text v) ≡ false = h.0 in cc)
+        | inr g ↦ longest_among ss l rest t s p.1 g front h.1
       ]
     ]
 
-pub longest_symbol : (l rest : List ℕ) (t s : Symbol) → l ≡ symbol_text t ++ rest → symbol_among all_symbols l ≡ Some s → length (symbol_text t) ≤ length (symbol_text s)
-longest_symbol l rest t s begins e = longest_among all_symbols l rest t s refl (listed t) begins e
+pub longest_symbol : (l rest : List ℕ) (t s : Written) → l ≡ written_text t ++ rest → symbol_among all_symbols l ≡ Some s → length (written_text t) ≤ length (written_text s)
+longest_symbol l rest t s front e =
+    let r = listed t in
+    subst (λ (x : List ℕ). length x ≤ length (written_text s)) (sym r.text) (longest_among all_symbols l rest r.row s refl r.among (front ∙ ap (λ (x : List ℕ). x ++ rest) r.text) e)
 
 -- where the bytes begin with a symbol, some symbol is found
-some_among : (ss : List Symbol) (l rest : List ℕ) (t : Symbol) → IsAmong t ss → l ≡ symbol_text t ++ rest → (s : Symbol) × (symbol_among ss l ≡ Some s)
-some_among [] l rest t m begins = absurd m
-some_among (v ∷ ss) l rest t m begins =
-    elim (chosen (starts_with nat_eq l (symbol_text v)) (Some v) (symbol_among ss l) (symbol_among (v ∷ ss) l) refl) [
+some_among : (ss : List Written) (l rest : List ℕ) (t : Written) → IsAmong t ss → l ≡ written_text t ++ rest → (s : Written) × (symbol_among ss l ≡ Some s)
+some_among [] l rest t m front = absurd m
+some_among (v ∷ ss) l rest t m front =
+    elim (chosen (starts_with nat_eq l (written_text v)) (Some v) (symbol_among ss l) (symbol_among (v ∷ ss) l) refl) [
       | inl h ↦ (v, sym h.1)
       | inr h ↦ elim m [
-        | inl same ↦ absurd (let begun : starts_with nat_eq l (symbol_text v) ≡ true = (starts_is Decides-eqb l (symbol_text v) (starts_with nat_eq l (symbol_text v)) refl).1 rest (begins ∙ ap (λ (x : Symbol). symbol_text x ++ rest) (sym same)) in let not_begun : starts_with nat_eq l (symbol_text v) ≡ false = h.0 in cc)
-        | inr g ↦ let r = some_among ss l rest t g begins in (r.0, sym h.1 ∙ r.1)
+        | inl same ↦ absurd (let yes : starts_with nat_eq l (written_text v) ≡ true = begun l rest v (front ∙ ap (λ (x : Written). written_text x ++ rest) (sym same)) in let no : starts_with nat_eq l (written_text v) ≡ false = h.0 in cc)
+        | inr g ↦ let r = some_among ss l rest t g front in (r.0, sym h.1 ∙ r.1)
       ]
     ]
 
-pub some_symbol : (l rest : List ℕ) (t : Symbol) → l ≡ symbol_text t ++ rest → (s : Symbol) × (symbol_among all_symbols l ≡ Some s)
-some_symbol l rest t begins = some_among all_symbols l rest t (listed t) begins
+pub some_symbol : (l rest : List ℕ) (t : Written) → l ≡ written_text t ++ rest → (s : Written) × (symbol_among all_symbols l ≡ Some s)
+some_symbol l rest t front = let r = listed t in some_among all_symbols l rest r.row r.among (front ∙ ap (λ (x : List ℕ). x ++ rest) r.text)
 
 -- a text is of one symbol
-pub one_symbol : (s t : Symbol) → symbol_text s ≡ symbol_text t → s ≡ t
-one_symbol s t e = symbol_same s t (sym (symbol_found s) ∙ ap (symbol_among all_symbols) e ∙ symbol_found t)
+pub one_symbol : (s t : Written) → written_text s ≡ written_text t → symbol_of s ≡ symbol_of t
+one_symbol s t e = symbol_same (symbol_of s) (symbol_of t) (sym (symbol_found s) ∙ ap (λ (l : List ℕ). found_in (symbol_among all_symbols l)) e ∙ symbol_found t)
+  where
+    symbol_same : (a b : Symbol) → Some a ≡ Some b → a ≡ b
+    symbol_same a b e = cc

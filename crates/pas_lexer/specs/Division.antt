@@ -1,14 +1,16 @@
 -- A source as a row of pieces, and the tokens of a source: ISO 7185 clause 6.1.
-use Rattle.std.specs.Prelude.{◌≡◌, ℕ, ◌+◌, ◌<◌, nat_eq, List, [], ◌∷◌, ◌++◌, length, take, count_by, Option, Some, None, Result, Ok, Err}
+use Rattle.std.specs.Prelude.{◌≡◌, ℕ, ◌+◌, ◌≤◌, nat_eq, List, [], ◌∷◌, ◌++◌, length, take, slice_range, count_by, Option, Some, None, Result, Ok, Err, ◌⊎◌}
 use Rattle.pas_lexer.specs.declared.kinds.Kind.{Kind}
 use Rattle.pas_lexer.specs.declared.kinds.Kind.TheVariants.{End}
 use Rattle.pas_lexer.specs.declared.kinds.Token.{Token}
+use Rattle.pas_lexer.specs.declared.kinds.Reason.{Reason}
+use Rattle.pas_lexer.specs.declared.kinds.Reason.TheVariants as reason
 use Rattle.pas_lexer.specs.declared.kinds.LexFault.{LexFault}
-use Rattle.pas_lexer.specs.declared.kinds.LexFault.TheVariants.{Unbuilt, Memory}
-use Rattle.pas_lexer.specs.Lexis.{Fits, NothingFits}
-use Rattle.pas_lexer.specs.Lexed.{Lexed}
+use Rattle.pas_lexer.specs.declared.kinds.LexFault.TheVariants.{BadByte, OpenComment, OpenString, EmptyString, RealWord, TooLarge, Joined, Memory}
+use Rattle.pas_lexer.specs.Lexis.{Fits, NothingFits, IsReason, IsSeparator, IsComment}
+use Rattle.pas_lexer.specs.Lexed.{Lexed, text_of}
 
--- a separator, which has no kind, or a token
+-- a separator or a comment, which have no kind, or a token
 pub record Piece : Type 0 where
   pub text : List ℕ
   pub kind : Option Kind
@@ -31,7 +33,7 @@ line_feed = 10
 abbrev pub line_at : List ℕ → ℕ → ℕ
 line_at source place = 1 + count_by (λ c. nat_eq c line_feed) (take place source)
 
--- the token of a piece, and none of a separator
+-- the token of a piece, and none of a separator or a comment
 abbrev pub token_of : ℕ → ℕ → ℕ → Option Kind → List Token
 token_of start end line None = []
 token_of start end line (Some k) = record { kind = k; start = start; end = end; line = line } ∷ []
@@ -49,25 +51,63 @@ tokens_of source ps = tokens_from source 0 ps ++ token_of (length source) (lengt
 abbrev pub IsLexed : List ℕ → List Token → Type 0
 IsLexed source tokens = (ps : List Piece) × Divides ps source [] × (tokens ≡ tokens_of source ps)
 
--- The pieces go well up to this byte, and there, before the end, no piece fits.
+-- The pieces go well up to this byte, and there no piece fits, for this reason.
+abbrev pub FailsFor : List ℕ → Reason → ℕ → Type 0
+FailsFor source r n = (ps : List Piece) × (left : List ℕ) × Divides ps source left × NothingFits left × IsReason r left × (n ≡ size ps)
+
+-- for some reason
 abbrev pub FailsAt : List ℕ → ℕ → Type 0
-FailsAt source n = (ps : List Piece) × (left : List ℕ) × Divides ps source left × (0 < length left) × NothingFits left × (n ≡ size ps)
+FailsAt source n = (r : Reason) × FailsFor source r n
 
 -- ---- answers
 
--- the fault is at the first piece that does not fit
+-- the fault for a reason, at a byte
+abbrev pub fault_of : Reason → ℕ → LexFault
+fault_of reason.BadByte n = BadByte n
+fault_of reason.OpenComment n = OpenComment n
+fault_of reason.OpenString n = OpenString n
+fault_of reason.EmptyString n = EmptyString n
+fault_of reason.RealWord n = RealWord n
+fault_of reason.TooLarge n = TooLarge n
+fault_of reason.Joined n = Joined n
+
+-- the fault is at the first piece that does not fit, for the reason that it names
 abbrev pub IsFault : List ℕ → LexFault → Type 0
-IsFault source (Unbuilt n) = FailsAt source n
+IsFault source (BadByte n) = FailsFor source reason.BadByte n
+IsFault source (OpenComment n) = FailsFor source reason.OpenComment n
+IsFault source (OpenString n) = FailsFor source reason.OpenString n
+IsFault source (EmptyString n) = FailsFor source reason.EmptyString n
+IsFault source (RealWord n) = FailsFor source reason.RealWord n
+IsFault source (TooLarge n) = FailsFor source reason.TooLarge n
+IsFault source (Joined n) = FailsFor source reason.Joined n
 IsFault source Memory = Unit {0}
 
 -- the answer is these tokens, or that memory ran out
 abbrev pub IsThose : List Token → Result Lexed LexFault → Type 0
 IsThose tokens (Ok lexed) = lexed.tokens ≡ tokens
-IsThose tokens (Err (Unbuilt n)) = ⊥
-IsThose tokens (Err Memory) = Unit {0}
+IsThose tokens (Err e) = e ≡ Memory
 
--- the answer is a fault at this byte, or that memory ran out
-abbrev pub IsUnbuilt : ℕ → Result Lexed LexFault → Type 0
-IsUnbuilt n (Ok lexed) = ⊥
-IsUnbuilt n (Err (Unbuilt m)) = m ≡ n
-IsUnbuilt n (Err Memory) = Unit {0}
+-- the answer is this fault, or that memory ran out
+abbrev pub IsThat : LexFault → Result Lexed LexFault → Type 0
+IsThat fault (Ok lexed) = ⊥
+IsThat fault (Err e) = (e ≡ fault) ⊎ (e ≡ Memory)
+
+-- ---- the source again
+
+-- What stands in front of each token, and its text, from a place on.
+abbrev pub rejoined : List ℕ → ℕ → List Token → List ℕ
+rejoined source at [] = []
+rejoined source at (t ∷ ts) = slice_range source at t.start ++ text_of source t ++ rejoined source t.end ts
+
+-- separators and comments, one behind the other
+abbrev pub Gaps : List (List ℕ) → List ℕ → Type 0
+Gaps [] text = text ≡ []
+Gaps (g ∷ gs) text = (rest : List ℕ) × (text ≡ g ++ rest) × (IsSeparator g ⊎ IsComment g) × Gaps gs rest
+
+abbrev pub IsGap : List ℕ → Type 0
+IsGap text = (gs : List (List ℕ)) × Gaps gs text
+
+-- The tokens stand in the source one behind the other, from a place on, with separators and comments between them.
+abbrev pub InOrder : List ℕ → ℕ → List Token → Type 0
+InOrder source at [] = Unit {0}
+InOrder source at (t ∷ ts) = (at ≤ t.start) × (t.start ≤ t.end) × (t.end ≤ length source) × IsGap (slice_range source at t.start) × InOrder source t.end ts

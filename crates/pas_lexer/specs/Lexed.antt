@@ -1,9 +1,10 @@
 -- A source with its tokens, as callers see it.
-use Rattle.std.specs.Prelude.{◌≡◌, ◌≢◌, ℕ, ◌<◌, ◌≤◌, ◌^◌, List, [], ◌∷◌, ◌++◌, length, slice_range, All}
+use Rattle.std.specs.Prelude.{◌≡◌, ◌≢◌, ℕ, ◌<◌, ◌≤◌, ◌^◌, Bool, true, false, not, nat_eq, ◌&&◌, if◌then◌else◌, List, [], ◌∷◌, ◌++◌, length, drop, slice_range, slice_get, Some, All}
 use Rattle.pas_lexer.specs.declared.kinds.Kind.{Kind}
-use Rattle.pas_lexer.specs.declared.kinds.Kind.TheVariants.{Name, End}
+use Rattle.pas_lexer.specs.declared.kinds.Kind.TheVariants.{Name, Text, End}
 use Rattle.pas_lexer.specs.declared.kinds.Token.{Token}
-use Rattle.pas_lexer.specs.Lexis.{lower_case}
+use Rattle.pas_lexer.specs.declared.spellings.Place.{Place}
+use Rattle.pas_lexer.specs.Lexis.{apostrophe, lower_case}
 
 pub record Lexed : Type 0 where
   pub tokens : List Token
@@ -13,9 +14,17 @@ pub record Lexed : Type 0 where
 abbrev pub text_of : List ℕ → Token → List ℕ
 text_of source t = slice_range source t.start t.end
 
--- of a name the text in lower case, since the case of a letter does not matter (6.1.1), and of any other token the text
+-- The characters in what follows a string's first apostrophe: of two apostrophes in a row one, and none of a single one.
+-- `behind` says that an apostrophe stands in front that has no other yet.
+abbrev pub characters : Bool → List ℕ → List ℕ
+characters behind [] = []
+characters behind (c ∷ l) = if nat_eq c apostrophe && not behind then characters true l else c ∷ characters false l
+
+-- Of a name the text in lower case, since the case of a letter does not matter (6.1.1), of a string its characters, and
+-- of any other token the text.
 abbrev pub spelled_as : Kind → List ℕ → List ℕ
 spelled_as Name text = lower_case text
+spelled_as Text text = characters false (drop 1 text)
 spelled_as _ text = text
 
 abbrev pub spelling_of : List ℕ → Token → List ℕ
@@ -29,10 +38,21 @@ IsPlaced source t = (t.start ≤ t.end) × (t.end ≤ length source)
 abbrev pub EndsOnce : List Token → Type 0
 EndsOnce tokens = (front : List Token) × (last : Token) × (tokens ≡ front ++ last ∷ []) × (last.kind ≡ End) × All (λ t. t.kind ≢ End) front
 
--- What each `Tokens` keeps: the source in lower case, tokens that stand in the source, one `End`, and fewer tokens than
--- a `u32` can count.
-pub record IsKept (source lower : List ℕ) (tokens : List Token) : Type 0 where
-  pub lowered : lower ≡ lower_case source
+-- a token's spelling stands at this place of the spellings
+pub record IsSpelled (source spellings : List ℕ) (t : Token) (p : Place) : Type 0 where
+  pub forward : p.start ≤ p.end
+  pub inside : p.end ≤ length spellings
+  pub reads : slice_range spellings p.start p.end ≡ spelling_of source t
+
+-- each token's spelling stands at the place of the token's number
+pub record AreSpelled (source spellings : List ℕ) (tokens : List Token) (places : List Place) : Type 0 where
+  pub count : length places ≡ length tokens
+  pub each : (i : ℕ) (t : Token) (p : Place) → slice_get tokens i ≡ Some t → slice_get places i ≡ Some p → IsSpelled source spellings t p
+
+-- What each `Tokens` keeps: tokens that stand in the source, their spellings, one `End`, and fewer tokens than a `u32`
+-- can count.
+pub record IsKept (source spellings : List ℕ) (places : List Place) (tokens : List Token) : Type 0 where
   pub placed : All (IsPlaced source) tokens
+  pub spelled : AreSpelled source spellings tokens places
   pub ended : EndsOnce tokens
   pub few : length tokens < 2 ^ 32

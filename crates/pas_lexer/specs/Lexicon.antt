@@ -3,7 +3,7 @@ use Rattle.std.specs.Prelude.{ℕ, List, codes}
 use Rattle.pas_lexer.specs.declared.kinds.Word.{Word}
 use Rattle.pas_lexer.specs.declared.kinds.Word.TheVariants.{WAnd, WArray, WBegin, WCase, WConst, WDiv, WDo, WDownto, WElse, WEnd, WFile, WFor, WFunction, WGoto, WIf, WIn, WLabel, WMod, WNil, WNot, WOf, WOr, WPacked, WProcedure, WProgram, WRecord, WRepeat, WSet, WThen, WTo, WType, WUntil, WVar, WWhile, WWith}
 use Rattle.pas_lexer.specs.declared.kinds.Symbol.{Symbol}
-use Rattle.pas_lexer.specs.declared.kinds.Symbol.TheVariants.{Plus, Semicolon, Colon, Comma, Dot, Becomes}
+use Rattle.pas_lexer.specs.declared.kinds.Symbol.TheVariants.{Plus, Minus, Star, Equal, Less, Greater, LeftBracket, RightBracket, Dot, Comma, Colon, Semicolon, Caret, LeftParen, RightParen, NotEqual, AtMost, AtLeast, Becomes, Range}
 
 -- the word symbols, in lower case
 abbrev pub word_text : Word → List ℕ
@@ -43,11 +43,32 @@ word_text WVar = codes "var"
 word_text WWhile = codes "while"
 word_text WWith = codes "with"
 
--- the special symbols
+-- the special symbols, without the `/` of real division
 abbrev pub symbol_text : Symbol → List ℕ
 symbol_text Plus = codes "+"
-symbol_text Semicolon = codes ";"
-symbol_text Colon = codes ":"
-symbol_text Comma = codes ","
+symbol_text Minus = codes "-"
+symbol_text Star = codes "*"
+symbol_text Equal = codes "="
+symbol_text Less = codes "<"
+symbol_text Greater = codes ">"
+symbol_text LeftBracket = codes "["
+symbol_text RightBracket = codes "]"
 symbol_text Dot = codes "."
+symbol_text Comma = codes ","
+symbol_text Colon = codes ":"
+symbol_text Semicolon = codes ";"
+symbol_text Caret = codes "^"
+symbol_text LeftParen = codes "("
+symbol_text RightParen = codes ")"
+symbol_text NotEqual = codes "<>"
+symbol_text AtMost = codes "<="
+symbol_text AtLeast = codes ">="
 symbol_text Becomes = codes ":="
+symbol_text Range = codes ".."
+
+-- 6.1.9: the alternative spelling of a symbol, or its only one
+abbrev pub other_text : Symbol → List ℕ
+other_text Caret = codes "@"
+other_text LeftBracket = codes "(."
+other_text RightBracket = codes ".)"
+other_text s = symbol_text s

@@ -1,8 +1,8 @@
-//! The bytes of a source, ISO 7185 clause 6.1.1.
+//! The bytes of a source, ISO 7185 clause 6.1.
 
-ghost use Rattle.std.specs.Prelude.{◌≡◌, ◌+◌, ◌≤◌, length};
-ghost use Rattle.pas_lexer.specs.Lexis.{letter, digit, letter_or_digit, separator, letter_first};
-ghost use Rattle.pas_lexer.specs.Reading.{run};
+ghost use Rattle.std.specs.Prelude.{◌≡◌, ◌+◌, ◌<◌, ◌≤◌, ◌&&◌, length, false, nat_eq, IfSome, IsTrue};
+ghost use Rattle.pas_lexer.specs.Lexis.{letter, digit, letter_or_digit, separator, letter_first, digit_first, next_is, scale_first, real_follows};
+ghost use Rattle.pas_lexer.specs.Reading.{run, closing, string_end};
 
 /// A tab, a line feed, a form feed, a carriage return or a space.
 pub fn is_separator(c: u8) -> bool
@@ -18,6 +18,68 @@ pub fn begins_with_letter(bytes: &[u8]) -> bool
     match bytes {
         [] => false,
         [c, ..] => c.is_ascii_alphabetic(),
+    }
+}
+
+/// Whether a digit stands first.
+fn begins_with_digit(bytes: &[u8]) -> bool
+    ensures { result ≡ digit_first bytes.now }
+{
+    match bytes {
+        [] => false,
+        [c, ..] => c.is_ascii_digit(),
+    }
+}
+
+/// Whether this byte stands first.
+pub fn begins_with(bytes: &[u8], byte: u8) -> bool
+    ensures next { result ≡ next_is byte bytes.now }
+    ensures room { IsTrue result → 0 < length bytes.now }
+{
+    match bytes {
+        [] => false,
+        [c, ..] => *c == byte,
+    }
+}
+
+/// Whether these two bytes, this one and the first of the rest, are the two.
+pub fn is_pair(c: u8, rest: &[u8], first: u8, second: u8) -> bool
+    ensures pair { result ≡ (nat_eq c first && next_is second rest.now) }
+    ensures room { IsTrue result → 0 < length rest.now }
+{
+    c == first && begins_with(rest, second)
+}
+
+/// Whether digits, or a sign and digits, stand first.
+fn begins_with_scale(bytes: &[u8]) -> bool
+    ensures { result ≡ scale_first bytes.now }
+{
+    match bytes {
+        [] => false,
+        [c, rest @ ..] => {
+            if *c == b'+' || *c == b'-' {
+                return begins_with_digit(rest);
+            }
+            c.is_ascii_digit()
+        }
+    }
+}
+
+/// Whether digits in front would go on as a real number, clause 6.1.5.
+pub fn real_goes_on(bytes: &[u8]) -> bool
+    ensures { result ≡ real_follows bytes.now }
+{
+    match bytes {
+        [] => false,
+        [c, rest @ ..] => {
+            if *c == b'.' {
+                return begins_with_digit(rest);
+            }
+            if *c == b'e' || *c == b'E' {
+                return begins_with_scale(rest);
+            }
+            false
+        }
     }
 }
 
@@ -45,4 +107,43 @@ pub fn digits_length(bytes: &[u8]) -> usize
         }
     }
     bytes.len()
+}
+
+/// How far the first closing symbol of a comment goes, clause 6.1.8.
+pub fn comment_end(bytes: &[u8]) -> Option<usize>
+    ensures closing { result ≡ closing bytes.now }
+    ensures inside { IfSome result (λ n. n ≤ length bytes.now) }
+{
+    let mut at = 0;
+    'body: while at < bytes.len() {
+        if bytes[at] == b'}' {
+            return Some(at + 1);
+        }
+        if is_pair(bytes[at], &bytes[at + 1..], b'*', b')') {
+            return Some(at + 2);
+        }
+        at += 1;
+    }
+    None
+}
+
+/// How far the last apostrophe goes that can end a string, whose first apostrophe stands in front, clause
+/// 6.1.7. A string stands on one line.
+pub fn last_apostrophe(bytes: &[u8]) -> Option<usize>
+    ensures last { result ≡ string_end false bytes.now }
+    ensures inside { IfSome result (λ n. (0 < n) × (n ≤ length bytes.now)) }
+{
+    let mut last = None;
+    let mut behind = false;
+    'characters: for (n, c) in bytes.iter().enumerate() {
+        if *c == b'\'' {
+            behind = !behind;
+            if behind {
+                last = Some(n + 1);
+            }
+        } else if behind || *c == b'\n' {
+            return last;
+        }
+    }
+    last
 }

@@ -2,6 +2,7 @@
 
 ghost use Rattle.std.specs.Prelude.{◌≡◌};
 ghost use Rattle.pas_lexer.specs.declared.kinds.LexFault.TheVariants.{Memory};
+ghost use Rattle.pas_lexer.specs.Division.{fault_of};
 
 use std::alloc::{AllocError, AllocFailed};
 use thiserror::Error;
@@ -46,29 +47,58 @@ pub enum Word {
     WWith,
 }
 
-/// A special symbol, ISO 7185 clause 6.1.2.
+/// A special symbol, ISO 7185 clause 6.1.2, without the `/` of real division.
 #[derive(Clone, Copy, Debug, PartialEq, Eq)]
 pub enum Symbol {
     /// `+`
     Plus,
-    /// `;`
-    Semicolon,
-    /// `:`
-    Colon,
-    /// `,`
-    Comma,
+    /// `-`
+    Minus,
+    /// `*`
+    Star,
+    /// `=`
+    Equal,
+    /// `<`
+    Less,
+    /// `>`
+    Greater,
+    /// `[` or `(.`
+    LeftBracket,
+    /// `]` or `.)`
+    RightBracket,
     /// `.`
     Dot,
+    /// `,`
+    Comma,
+    /// `:`
+    Colon,
+    /// `;`
+    Semicolon,
+    /// `^` or `@`
+    Caret,
+    /// `(`
+    LeftParen,
+    /// `)`
+    RightParen,
+    /// `<>`
+    NotEqual,
+    /// `<=`
+    AtMost,
+    /// `>=`
+    AtLeast,
     /// `:=`
     Becomes,
+    /// `..`
+    Range,
 }
 
-/// What a token is. A number has its value, at most maxint, which is 2147483647.
+/// What a token is. A number has its value, at most maxint, which is 2147483647. `Text` is a string.
 #[derive(Clone, Copy, Debug, PartialEq, Eq)]
 pub enum Kind {
     Word(Word),
     Name,
     Number(u32),
+    Text,
     Symbol(Symbol),
     /// Behind the last piece of the source.
     End,
@@ -84,14 +114,60 @@ pub struct Token {
     pub line: u32,
 }
 
-/// Why a source has no tokens.
+/// Why a source has no tokens. The number is the first byte of the first piece that does not fit, counted
+/// from 0.
 #[derive(Debug, Drop, Error)]
 pub enum LexFault {
-    /// No separator and no token that is built fits at this byte, where the first such piece begins.
-    #[error("no token that is built begins at byte {0}")]
-    Unbuilt(u32),
+    /// No piece begins with this byte.
+    #[error("no token begins with byte {0}")]
+    BadByte(u32),
+    /// No closing symbol follows.
+    #[error("the comment at byte {0} is open")]
+    OpenComment(u32),
+    /// The end of the line or of the source comes first.
+    #[error("the string at byte {0} is open")]
+    OpenString(u32),
+    #[error("the string at byte {0} is empty")]
+    EmptyString(u32),
+    /// Digits that go on as a real number, or the `/` of real division.
+    #[error("real arithmetic at byte {0}")]
+    RealWord(u32),
+    /// The number is above maxint, which is 2147483647.
+    #[error("the number at byte {0} is too large")]
+    TooLarge(u32),
+    #[error("a letter follows the number at byte {0}")]
+    Joined(u32),
     #[error("out of memory")]
     Memory,
+}
+
+/// Why no piece fits at a place.
+#[derive(Clone, Copy, Debug, PartialEq, Eq)]
+pub(crate) enum Reason {
+    BadByte,
+    OpenComment,
+    OpenString,
+    EmptyString,
+    RealWord,
+    TooLarge,
+    Joined,
+}
+
+impl Reason {
+    /// The fault for this reason, at a byte.
+    pub(crate) fn fault(self, byte: u32) -> LexFault
+        ensures { result ≡ fault_of self byte }
+    {
+        match self {
+            Reason::BadByte => LexFault::BadByte(byte),
+            Reason::OpenComment => LexFault::OpenComment(byte),
+            Reason::OpenString => LexFault::OpenString(byte),
+            Reason::EmptyString => LexFault::EmptyString(byte),
+            Reason::RealWord => LexFault::RealWord(byte),
+            Reason::TooLarge => LexFault::TooLarge(byte),
+            Reason::Joined => LexFault::Joined(byte),
+        }
+    }
 }
 
 impl From<AllocError> for LexFault {

@@ -1,13 +1,16 @@
 //! A whole source.
 
-ghost use Rattle.std.specs.Prelude.{◌≡◌, ◌⊎◌, ℕ, ◌+◌, ◌<◌, ◌≤◌, ◌^◌, ◌++◌, List, [], IfOk, IfErr, IfSome, OnOk, All, length, drop, nat_eq, count_by, vec_len};
+ghost use Rattle.std.specs.Prelude.{◌≡◌, ◌⊎◌, ℕ, ◌+◌, ◌<◌, ◌≤◌, ◌^◌, ◌++◌, List, [], IfOk, IfErr, OnOk, All, length, drop, nat_eq, count_by, vec_len};
+ghost use Rattle.pas_lexer.specs.declared.kinds.Kind.TheVariants.{Text};
 ghost use Rattle.pas_lexer.specs.declared.kinds.LexFault.TheVariants.{Memory};
+ghost use Rattle.pas_lexer.specs.declared.kinds.Reason.{Reason};
 ghost use Rattle.pas_lexer.specs.declared.kinds.Token.{Token};
+ghost use Rattle.pas_lexer.specs.Lexis.{quoted};
 ghost use Rattle.pas_lexer.specs.Reading.{piece_at};
-ghost use Rattle.pas_lexer.specs.Lexed.{IsPlaced, EndsOnce};
-ghost use Rattle.pas_lexer.specs.Division.{Piece, Divides, token_of, line_feed, IsLexed, FailsAt, IsFault, IsThose, IsUnbuilt};
+ghost use Rattle.pas_lexer.specs.Lexed.{IsPlaced, EndsOnce, spelled_as};
+ghost use Rattle.pas_lexer.specs.Division.{Piece, Divides, token_of, line_feed, IsLexed, FailsFor, FailsAt, fault_of, IsFault, IsThose, IsThat, rejoined, InOrder};
 
-use crate::kinds::{Kind, LexFault, Token};
+use crate::kinds::{Kind, LexFault, Reason, Token};
 use crate::piece::piece;
 use crate::tokens::Tokens;
 use std::alloc::Global;
@@ -15,11 +18,11 @@ use std::alloc::Global;
 /// The most bytes that a source may have.
 pub const MAX_SOURCE_BYTES: usize = 1_048_576;
 
-/// The piece at a place.
-fn piece_from(bytes: &[u8], at: usize) -> Option<(Option<Kind>, usize)>
+/// The piece at a place, or the reason for which none fits.
+fn piece_from(bytes: &[u8], at: usize) -> Result<(Option<Kind>, usize), Reason>
     requires { at ≤ length bytes.now }
     ensures gives { result ≡ piece_at (drop at bytes.now) }
-    ensures inside { IfSome result (λ x. (0 < x.1) × (at + x.1 ≤ length bytes.now)) }
+    ensures inside { IfOk result (λ x. (0 < x.1) × (at + x.1 ≤ length bytes.now)) }
 {
     piece(&bytes[at..])
 }
@@ -31,7 +34,7 @@ fn line_feeds(bytes: &[u8]) -> usize
     bytes.iter().filter(|c| **c == b'\n').count()
 }
 
-/// Adds the token of a piece, and none of a separator.
+/// Adds the token of a piece, and none of a separator or a comment.
 fn push_piece(
     tokens: &mut Vec<Token>,
     kind: Option<Kind>,
@@ -67,8 +70,9 @@ fn scan(alloc: Global, bytes: &[u8]) -> Result<Vec<Token>, LexFault>
     let mut at = 0;
     let mut line = 1;
     'pieces: while at < bytes.len() {
-        let Some((kind, length)) = piece_from(bytes, at) else {
-            return Err(LexFault::Unbuilt(at as u32));
+        let (kind, length) = match piece_from(bytes, at) {
+            Ok(piece) => piece,
+            Err(reason) => return Err(reason.fault(at as u32)),
         };
         let end = at + length;
         push_piece(&mut tokens, kind, at, end, line)?;
@@ -79,8 +83,8 @@ fn scan(alloc: Global, bytes: &[u8]) -> Result<Vec<Token>, LexFault>
     Ok(tokens)
 }
 
-/// The tokens of a source of at most `MAX_SOURCE_BYTES` bytes, and `End` behind them. Where no piece fits
-/// at byte n, and pieces fit up to there, the fault is `Unbuilt(n)`.
+/// The tokens of a source of at most `MAX_SOURCE_BYTES` bytes, and `End` behind them. Where pieces fit up to
+/// byte n and none fits there, the fault has this n and the reason.
 pub fn lex(alloc: Global, bytes: &[u8]) -> Result<Tokens, LexFault>
     requires { length bytes.now ≤ MAX_SOURCE_BYTES }
 
@@ -91,10 +95,10 @@ pub fn lex(alloc: Global, bytes: &[u8]) -> Result<Tokens, LexFault>
     // A source with such a division has its tokens for an answer, unless memory runs out.
     ensures only { (tokens : List Token) → IsLexed bytes.now tokens → IsThose tokens result }
 
-    // `Unbuilt` names the first piece that does not fit, and a source with such a piece is refused there,
-    // unless memory runs out.
+    // The fault names the first piece that does not fit, and why; and a source with such a piece is refused
+    // there and for that reason, unless memory runs out.
     ensures fault { IfErr result (IsFault bytes.now) }
-    ensures refused { (n : ℕ) → FailsAt bytes.now n → IsUnbuilt n result }
+    ensures refused { (r : Reason) (n : ℕ) → FailsFor bytes.now r n → IsThat (fault_of r n) result }
 
     // Each token stands in the source, and the last, and only the last, is `End`.
     ensures placed { IfOk result (λ t. All (IsPlaced bytes.now) t.tokens) }
@@ -104,17 +108,25 @@ pub fn lex(alloc: Global, bytes: &[u8]) -> Result<Tokens, LexFault>
     Ok(Tokens::new(alloc, bytes, tokens)?)
 }
 
-/// The laws of divisions, for proofs. A source has one division into pieces, or it fails at one byte, and
-/// never both; and what each list of tokens keeps. It does nothing.
+/// The laws of divisions, for proofs. A source has one division into pieces, or it fails at one byte and for
+/// one reason, and never both; and what each list of tokens keeps. It does nothing.
 pub fn division_laws()
     ensures one_division { (source : List ℕ) (ps qs : List Piece) → Divides ps source [] → Divides qs source [] → ps ≡ qs }
     ensures one_list { (source : List ℕ) (tokens others : List Token)
         → IsLexed source tokens → IsLexed source others → tokens ≡ others }
     ensures one_fault { (source : List ℕ) (m n : ℕ) → FailsAt source m → FailsAt source n → m ≡ n }
+    ensures one_reason { (source : List ℕ) (r q : Reason) (m n : ℕ) → FailsFor source r m → FailsFor source q n → r ≡ q }
     ensures lexed_or_fails { (source : List ℕ)
         → ((tokens : List Token) × IsLexed source tokens) ⊎ ((n : ℕ) × FailsAt source n) }
     ensures never_both { (source : List ℕ) (tokens : List Token) (n : ℕ)
         → IsLexed source tokens → FailsAt source n → ⊥ }
     ensures placed { (source : List ℕ) (tokens : List Token) → IsLexed source tokens → All (IsPlaced source) tokens }
     ensures ended { (source : List ℕ) (tokens : List Token) → IsLexed source tokens → EndsOnce tokens }
+
+    // The tokens' texts and what stands between them make the source again, whole and in order.
+    ensures whole { (source : List ℕ) (tokens : List Token) → IsLexed source tokens → rejoined source 0 tokens ≡ source }
+    ensures in_order { (source : List ℕ) (tokens : List Token) → IsLexed source tokens → InOrder source 0 tokens }
+
+    // A string is spelled by its characters.
+    ensures unquoted { (text : List ℕ) → spelled_as Text (quoted text) ≡ text }
 {}

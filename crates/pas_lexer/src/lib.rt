@@ -1,10 +1,11 @@
-//! The lexer of a small Pascal: the tokens of a source, ISO 7185 clause 6.1.
+//! The lexer of Pascal: the tokens of a source, ISO 7185 clause 6.1.
 #![tactic(auto)]
 
 mod bytes;
 pub mod kinds;
 pub mod lexing;
 mod piece;
+mod spellings;
 mod symbols;
 #[cfg(test)]
 mod tests;

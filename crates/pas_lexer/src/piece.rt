@@ -1,46 +1,73 @@
-//! One piece of a source: a separator or a token, ISO 7185 clause 6.1.
+//! One piece of a source: a separator, a comment or a token, ISO 7185 clause 6.1.
 
-ghost use Rattle.std.specs.Prelude.{◌≡◌};
+ghost use Rattle.std.specs.Prelude.{◌≡◌, ◌∷◌, ◌≤◌};
 ghost use Rattle.std.specs.List.{AllPass};
 ghost use Rattle.pas_lexer.specs.Lexis.{digit};
-ghost use Rattle.pas_lexer.specs.Reading.{identifier_at, number_in, number_at, piece_at};
+ghost use Rattle.pas_lexer.specs.Reading.{identifier_at, number_in, number_at, comment_piece, closing, string_at, mark_at, piece_at};
 
-use crate::bytes::{begins_with_letter, digits_length, identifier_length, is_separator};
-use crate::kinds::Kind;
-use crate::symbols::symbol_of;
+use crate::bytes::{
+    begins_with, begins_with_letter, comment_end, digits_length, identifier_length, is_pair,
+    is_separator, last_apostrophe, real_goes_on,
+};
+use crate::kinds::{Kind, Reason};
+use crate::symbols::symbol_begun;
 use crate::words::word_of;
 
 /// The largest number that a source may write, maxint.
 const MAXINT: u64 = 2_147_483_647;
 
-/// The first piece: its kind, or none for a separator, and its length in bytes. None where no piece fits.
+/// The first piece: its kind, or none for a separator or a comment, and its length in bytes. The error is
+/// the reason for which no piece fits.
 #[tactic(auto, unfolding(crate::specs::Reading::piece_at))]
-pub fn piece(bytes: &[u8]) -> Option<(Option<Kind>, usize)>
+pub fn piece(bytes: &[u8]) -> Result<(Option<Kind>, usize), Reason>
     ensures { result ≡ piece_at bytes.now }
 {
     match bytes {
-        [] => None,
-        [first, ..] => {
+        [] => Err(Reason::BadByte),
+        [first, rest @ ..] => {
             let c = *first;
             if c.is_ascii_alphabetic() {
-                return Some(identifier(bytes));
+                return Ok(identifier(bytes));
             }
             if c.is_ascii_digit() {
                 return number(bytes);
             }
             if is_separator(c) {
-                return Some((None, 1));
+                return Ok((None, 1));
             }
-            let symbol = symbol_of(bytes)?;
-            Some((Some(Kind::Symbol(symbol)), symbol.text().len()))
+            mark(c, bytes, rest)
         }
+    }
+}
+
+/// The string, the comment or the symbol that stands first.
+#[tactic(auto, unfolding(crate::specs::Reading::mark_at))]
+fn mark(c: u8, bytes: &[u8], rest: &[u8]) -> Result<(Option<Kind>, usize), Reason>
+    requires { bytes.now ≡ c ∷ rest.now }
+    ensures { result ≡ mark_at c rest.now }
+{
+    if c == b'\'' {
+        return string(rest);
+    }
+    if c == b'{' {
+        return comment(1, rest);
+    }
+    if is_pair(c, rest, b'(', b'*') {
+        return comment(2, &rest[1..]);
+    }
+    if c == b'/' {
+        return Err(Reason::RealWord);
+    }
+    match symbol_begun(bytes) {
+        None => Err(Reason::BadByte),
+        Some(written) => Ok((Some(Kind::Symbol(written.symbol())), written.text().len())),
     }
 }
 
 /// The word symbol or the name that stands first.
 #[tactic(auto, unfolding(crate::specs::Reading::identifier_at))]
 fn identifier(bytes: &[u8]) -> (Option<Kind>, usize)
-    ensures { Some result ≡ identifier_at bytes.now }
+    ensures { Ok result ≡ identifier_at bytes.now }
 {
     let n = identifier_length(bytes);
     match word_of(&bytes[..n]) {
@@ -49,17 +76,23 @@ fn identifier(bytes: &[u8]) -> (Option<Kind>, usize)
     }
 }
 
-/// The number that stands first, if it is not too large and no letter follows it.
+/// The number that stands first, if it goes on as no real one, no letter follows it, and it is not too
+/// large.
 #[tactic(auto, unfolding(crate::specs::Reading::number_at))]
-fn number(bytes: &[u8]) -> Option<(Option<Kind>, usize)>
+fn number(bytes: &[u8]) -> Result<(Option<Kind>, usize), Reason>
     ensures { result ≡ number_at bytes.now }
 {
     let n = digits_length(bytes);
-    if begins_with_letter(&bytes[n..]) {
-        return None;
+    if real_goes_on(&bytes[n..]) {
+        return Err(Reason::RealWord);
     }
-    let value = number_of(&bytes[..n])?;
-    Some((Some(Kind::Number(value)), n))
+    if begins_with_letter(&bytes[n..]) {
+        return Err(Reason::Joined);
+    }
+    match number_of(&bytes[..n]) {
+        None => Err(Reason::TooLarge),
+        Some(value) => Ok((Some(Kind::Number(value)), n)),
+    }
 }
 
 /// The number that digits denote, if it is at most maxint.
@@ -76,4 +109,34 @@ fn number_of(digits: &[u8]) -> Option<u32>
         }
     }
     Some(value as u32)
+}
+
+/// The comment behind whose opening symbol, of so many bytes, these stand.
+fn comment(opened: usize, behind: &[u8]) -> Result<(Option<Kind>, usize), Reason>
+    requires { opened ≤ 2 }
+    ensures { result ≡ comment_piece opened (closing behind.now) }
+{
+    match comment_end(behind) {
+        None => Err(Reason::OpenComment),
+        Some(n) => Ok((None, opened + n)),
+    }
+}
+
+/// The string behind whose first apostrophe these stand.
+#[tactic(auto, unfolding(crate::specs::Reading::string_at))]
+fn string(behind: &[u8]) -> Result<(Option<Kind>, usize), Reason>
+    ensures { result ≡ string_at behind.now }
+{
+    match last_apostrophe(behind) {
+        None => Err(Reason::OpenString),
+        Some(n) => {
+            if n > 1 {
+                return Ok((Some(Kind::Text), 1 + n));
+            }
+            if begins_with(&behind[1..], b'\'') {
+                return Err(Reason::OpenString);
+            }
+            Err(Reason::EmptyString)
+        }
+    }
 }

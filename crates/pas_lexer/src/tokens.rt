@@ -5,7 +5,8 @@ ghost use Rattle.pas_lexer.specs.declared.kinds.Kind.TheVariants.{End};
 ghost use Rattle.pas_lexer.specs.declared.kinds.Token.{Token};
 ghost use Rattle.pas_lexer.specs.Lexed.{text_of, spelling_of, IsPlaced, EndsOnce};
 
-use crate::kinds::{Kind, Token};
+use crate::kinds::Token;
+use crate::spellings::{Place, spell};
 use std::alloc::{AllocError, Global};
 use std::marker::Model;
 
@@ -14,9 +15,11 @@ use std::marker::Model;
 #[derive(Drop)]
 pub struct Tokens {
     source: Vec<u8>,
-    /// The source in lower case, where `spelling` finds the names.
-    lower: Vec<u8>,
     tokens: Vec<Token>,
+    /// The spellings of the tokens, one behind the other.
+    spellings: Vec<u8>,
+    /// Where the spelling of each token stands.
+    places: Vec<Place>,
 }
 
 impl Model for Tokens {
@@ -26,7 +29,7 @@ impl Model for Tokens {
 
     ghost view = { λ t. record { tokens = t.tokens.items; source = t.source.items } };
 
-    ghost invariant = { λ t. IsKept t.source.items t.lower.items t.tokens.items };
+    ghost invariant = { λ t. IsKept t.source.items t.spellings.items t.places.items t.tokens.items };
 }
 
 impl Tokens {
@@ -37,12 +40,13 @@ impl Tokens {
         requires few { vec_len tokens < 2 ^ 32 }
         ensures { IfOk result (λ t. t ≡ record { tokens = tokens.items; source = source.now }) }
     {
-        let lower = source.to_ascii_lowercase(alloc)?;
+        let (spellings, places) = spell(alloc, source, &tokens)?;
         let source = source.to_vec(alloc)?;
         Ok(Tokens {
             source,
-            lower,
             tokens,
+            spellings,
+            places,
         })
     }
 
@@ -75,16 +79,14 @@ impl Tokens {
         &self.source[token.start as usize..token.end as usize]
     }
 
-    /// Of a name the text in lower case, of any other token the text.
+    /// Of a name the text in lower case, of a string its characters, each doubled apostrophe as one, and of
+    /// any other token the text.
     pub fn spelling(&self, i: u32) -> &[u8]
         requires { i < length self.now.tokens }
         ensures { (t : Token) → slice_get self.now.tokens i ≡ Some t
             → result.now ≡ spelling_of self.now.source t }
     {
-        let token = self.tokens[i as usize];
-        match token.kind {
-            Kind::Name => &self.lower[token.start as usize..token.end as usize],
-            _ => self.text(i),
-        }
+        let place = self.places[i as usize];
+        &self.spellings[place.start..place.end]
     }
 }

@@ -1,5 +1,6 @@
 use Rattle.std.proofs.Common.{[]}
-use Rattle.pas_lexer.proofs.Divided.{nil_fits, one_division, same_tokens, same_fault, lexed_or_fails, never_both, placed, ended}
+use Rattle.pas_lexer.proofs.Divided.{nil_fits, one_division, same_tokens, same_fault, same_reason, lexed_or_fails, never_both, placed, ended}
+use Rattle.pas_lexer.proofs.Rejoined.{whole, in_order, unquoted}
 use Rattle.pas_lexer.proofs.lexing.division_laws.Goals as goal
 
 pub returns-clause-one_division : goal.returns-clause-one_division
@@ -10,6 +11,9 @@ returns-clause-one_list c = same_tokens
 
 pub returns-clause-one_fault : goal.returns-clause-one_fault
 returns-clause-one_fault c = same_fault
+
+pub returns-clause-one_reason : goal.returns-clause-one_reason
+returns-clause-one_reason c = same_reason
 
 pub returns-clause-never_both : goal.returns-clause-never_both
 returns-clause-never_both c = never_both
@@ -22,3 +26,12 @@ returns-clause-ended c = ended
 
 pub returns-clause-lexed_or_fails : goal.returns-clause-lexed_or_fails
 returns-clause-lexed_or_fails c = lexed_or_fails
+
+pub returns-clause-whole : goal.returns-clause-whole
+returns-clause-whole c = whole
+
+pub returns-clause-in_order : goal.returns-clause-in_order
+returns-clause-in_order c = in_order
+
+pub returns-clause-unquoted : goal.returns-clause-unquoted
+returns-clause-unquoted c = unquoted

@@ -1,8 +1,19 @@
-use Rattle.pas_lexer.proofs.Spellings.{name_spelling, other_spelling}
+use Rattle.std.proofs.Common.{arith, ap, length}
+use Rattle.pas_lexer.proofs.Spelled.{found, found_spelling}
 use Rattle.pas_lexer.proofs.tokens.Tokens.spelling.Goals as goal
 
-pub returns-in-Name : goal.returns-in-Name
-returns-in-Name c = λ t g. name_spelling c.args.self.now c.args.i c.index-token.result.now t c.self.inside.tokens.items c.self.inside.source.items c.self.inside.lower.items c.deref.result.now c.self.view_is c.index-token.ensures c.in-Name.is c.self.invariant.lowered c.deref.ensures.value g
+pub slice_bounds-result-count : goal.slice_bounds-result-count
+slice_bounds-result-count c = (found c.args.self.now c.args.i c.index-place.result.now c.self.inside.tokens.items c.self.inside.source.items c.self.inside.spellings.items c.self.inside.places.items c.self.view_is c.self.invariant.spelled c.requires c.index-place.ensures).spelled.forward
 
-pub returns-in_default : goal.returns-in_default
-returns-in_default c = λ t g. other_spelling c.args.self.now c.args.i c.index-token.result.now t c.self.inside.tokens.items c.self.inside.source.items c.text.result.now c.self.view_is c.index-token.ensures c.in_default.not-Name (c.text.ensures t g) g
+pub slice_bounds-result-start : goal.slice_bounds-result-start
+slice_bounds-result-start c = (found c.args.self.now c.args.i c.index-place.result.now c.self.inside.tokens.items c.self.inside.source.items c.self.inside.spellings.items c.self.inside.places.items c.self.view_is c.self.invariant.spelled c.requires c.index-place.ensures).spelled.forward
+
+pub slice_bounds-result-end : goal.slice_bounds-result-end
+slice_bounds-result-end c =
+    let f = found c.args.self.now c.args.i c.index-place.result.now c.self.inside.tokens.items c.self.inside.source.items c.self.inside.spellings.items c.self.inside.places.items c.self.view_is c.self.invariant.spelled c.requires c.index-place.ensures in
+    omega (arith, f.spelled.inside, ap length c.deref.ensures.value)
+
+pub returns : goal.returns
+returns c = λ t g.
+    let f = found c.args.self.now c.args.i c.index-place.result.now c.self.inside.tokens.items c.self.inside.source.items c.self.inside.spellings.items c.self.inside.places.items c.self.view_is c.self.invariant.spelled c.requires c.index-place.ensures in
+    found_spelling c.args.self.now c.args.i c.index-place.result.now c.self.inside.spellings.items c.deref.result.now t f c.deref.ensures.value g
