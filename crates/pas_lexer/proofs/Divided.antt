@@ -209,14 +209,14 @@ refused source (Err e) found fault q n is =
 
 -- ---- places
 
-all_nil : (P : Token → Type 0) → All P []
+pub all_nil : (P : Token → Type 0) → All P []
 all_nil P k d l = absurd (omega arith)
 
-all_cons : (P : Token → Type 0) (t : Token) (ts : List Token) → P t → All P ts → All P (t ∷ ts)
+pub all_cons : (P : Token → Type 0) (t : Token) (ts : List Token) → P t → All P ts → All P (t ∷ ts)
 all_cons P t ts h a zero d l = h
 all_cons P t ts h a (suc k) d l = a k d (omega arith)
 
-all_append : (P : Token → Type 0) (ts us : List Token) → All P ts → All P us → All P (ts ++ us)
+pub all_append : (P : Token → Type 0) (ts us : List Token) → All P ts → All P us → All P (ts ++ us)
 all_append P [] us a b = b
 all_append P (t ∷ ts) us a b = all_cons P t (ts ++ us) (a 0 t (omega arith)) (all_append P ts us (λ k d l. a (suc k) d (omega arith)) b)
 

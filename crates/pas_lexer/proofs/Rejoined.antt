@@ -1,14 +1,15 @@
 -- The source again, from its tokens and what stands between them; and a string, from its characters.
 use Rattle.std.proofs.Common.{◌≡◌, ℕ, ◌+◌, ◌-◌, ◌≤◌, true, false, nat_eq, List, [], ◌∷◌, ◌++◌, length, take, drop, Option, Some, None, refl, sym, ap, subst, ◌∙◌, append_assoc, arith, length-append, length-drop, inl, inr, ◌⊎◌}
-use Rattle.std.specs.Prelude.{slice_range}
+use Rattle.std.specs.Prelude.{◌≢◌, slice_range, All}
 use Rattle.std.proofs.lemmas.List.{append-nil, take_at, drop_at, drop-drop, take-append-drop}
 use Rattle.std.proofs.Math.Seq.{take-add}
 use Rattle.pas_lexer.specs.declared.kinds.Kind.{Kind}
 use Rattle.pas_lexer.specs.declared.kinds.Kind.TheVariants.{Text, End}
 use Rattle.pas_lexer.specs.declared.kinds.Token.{Token}
 use Rattle.pas_lexer.specs.Lexis.{IsSeparator, IsComment, Fits, apostrophe, doubled, quoted}
-use Rattle.pas_lexer.specs.Lexed.{characters, spelled_as}
+use Rattle.pas_lexer.specs.Lexed.{text_of, characters, spelled_as}
 use Rattle.pas_lexer.specs.Division.{Piece, Divides, line_at, token_of, tokens_from, IsLexed, rejoined, Gaps, IsGap, InOrder}
+use Rattle.pas_lexer.proofs.Divided.{all_nil, all_cons, all_append}
 use Rattle.pas_lexer.proofs.Runs.{fact_of, rest_is}
 
 -- ---- parts of a source
@@ -92,6 +93,30 @@ order_from source before at (p ∷ ps) le inside gap d =
 pub in_order : (source : List ℕ) (tokens : List Token) → IsLexed source tokens → InOrder source 0 tokens
 unfolding end_of
 in_order source tokens is = subst (InOrder source 0) (sym is.2) (order_from source 0 0 is.0 (omega arith) (omega arith) ([], slice_none source 0) is.1)
+
+-- ---- places
+
+abbrev FitsThere : List ℕ → Token → Type 0
+FitsThere source t = t.kind ≢ End → Fits (text_of source t) (drop t.end source) (Some t.kind)
+
+token_fits : (source : List ℕ) (at : ℕ) (k : Option Kind) (text rest : List ℕ) → drop at source ≡ text ++ rest → Fits text rest k → All (FitsThere source) (token_of at (at + length text) (line_at source at) k)
+token_fits source at None text rest e h = all_nil (FitsThere source)
+token_fits source at (Some k) text rest e h =
+    let count : at + length text - at ≡ length text = omega arith in
+    let same : slice_range source at (at + length text) ≡ text = ap (λ (n : ℕ). take n (drop at source)) count ∙ ap (take (length text)) e ∙ take_at text rest (length text) refl in
+    all_cons (FitsThere source) (record { kind = k; start = at; end = at + length text; line = line_at source at }) [] (λ other. subst (λ (x : List ℕ). Fits x (drop (at + length text) source) (Some k)) (sym same) (subst (λ (x : List ℕ). Fits text x (Some k)) (sym (next_rest source at text rest e)) h)) (all_nil (FitsThere source))
+
+fits_from : (source : List ℕ) (at : ℕ) (ps : List Piece) → Divides ps (drop at source) [] → All (FitsThere source) (tokens_from source at ps ++ end_of source)
+unfolding end_of
+fits_from source at [] d = all_cons (FitsThere source) (record { kind = End; start = length source; end = length source; line = line_at source (length source) }) [] (λ other. absurd (other refl)) (all_nil (FitsThere source))
+fits_from source at (p ∷ ps) d =
+    subst (All (FitsThere source)) (sym (append_assoc (token_of at (at + length p.text) (line_at source at) p.kind) (tokens_from source (at + length p.text) ps) (end_of source)))
+    (all_append (FitsThere source) (token_of at (at + length p.text) (line_at source at) p.kind) (tokens_from source (at + length p.text) ps ++ end_of source)
+    (token_fits source at p.kind p.text d.0 d.1 d.2) (fits_from source (at + length p.text) ps (further source at p.text d.0 ps d.1 d.3)))
+
+pub fits : (source : List ℕ) (tokens : List Token) → IsLexed source tokens → All (λ t. t.kind ≢ End → Fits (text_of source t) (drop t.end source) (Some t.kind)) tokens
+unfolding end_of
+fits source tokens is = subst (All (FitsThere source)) (sym is.2) (fits_from source 0 is.0 is.1)
 
 -- ---- characters
 

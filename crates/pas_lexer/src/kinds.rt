@@ -142,7 +142,7 @@ pub enum LexFault {
 }
 
 /// Why no piece fits at a place.
-#[derive(Clone, Copy, Debug, PartialEq, Eq)]
+#[derive(Clone, Copy)]
 pub(crate) enum Reason {
     BadByte,
     OpenComment,

@@ -1,13 +1,13 @@
 //! A whole source.
 
-ghost use Rattle.std.specs.Prelude.{◌≡◌, ◌⊎◌, ℕ, ◌+◌, ◌<◌, ◌≤◌, ◌^◌, ◌++◌, List, [], IfOk, IfErr, OnOk, All, length, drop, nat_eq, count_by, vec_len};
-ghost use Rattle.pas_lexer.specs.declared.kinds.Kind.TheVariants.{Text};
+ghost use Rattle.std.specs.Prelude.{◌≡◌, ◌≢◌, ◌⊎◌, ℕ, ◌+◌, ◌<◌, ◌≤◌, ◌^◌, ◌++◌, List, [], IfOk, IfErr, OnOk, All, length, drop, nat_eq, count_by, vec_len};
+ghost use Rattle.pas_lexer.specs.declared.kinds.Kind.TheVariants.{Text, End};
 ghost use Rattle.pas_lexer.specs.declared.kinds.LexFault.TheVariants.{Memory};
 ghost use Rattle.pas_lexer.specs.declared.kinds.Reason.{Reason};
 ghost use Rattle.pas_lexer.specs.declared.kinds.Token.{Token};
-ghost use Rattle.pas_lexer.specs.Lexis.{quoted};
+ghost use Rattle.pas_lexer.specs.Lexis.{quoted, Fits};
 ghost use Rattle.pas_lexer.specs.Reading.{piece_at};
-ghost use Rattle.pas_lexer.specs.Lexed.{IsPlaced, EndsOnce, spelled_as};
+ghost use Rattle.pas_lexer.specs.Lexed.{IsPlaced, EndsOnce, text_of, spelled_as};
 ghost use Rattle.pas_lexer.specs.Division.{Piece, Divides, token_of, line_feed, IsLexed, FailsFor, FailsAt, fault_of, IsFault, IsThose, IsThat, rejoined, InOrder};
 
 use crate::kinds::{Kind, LexFault, Reason, Token};
@@ -126,6 +126,10 @@ pub fn division_laws()
     // The tokens' texts and what stands between them make the source again, whole and in order.
     ensures whole { (source : List ℕ) (tokens : List Token) → IsLexed source tokens → rejoined source 0 tokens ≡ source }
     ensures in_order { (source : List ℕ) (tokens : List Token) → IsLexed source tokens → InOrder source 0 tokens }
+
+    // Each token but the last fits at its place.
+    ensures fits { (source : List ℕ) (tokens : List Token) → IsLexed source tokens
+        → All (λ t. t.kind ≢ End → Fits (text_of source t) (drop t.end source) (Some t.kind)) tokens }
 
     // A string is spelled by its characters.
     ensures unquoted { (text : List ℕ) → spelled_as Text (quoted text) ≡ text }

@@ -8,7 +8,7 @@ use crate::kinds::{Kind, Token};
 use std::alloc::{AllocError, Global};
 
 /// Where a spelling stands: the bytes from `start` up to, and without, `end`.
-#[derive(Clone, Copy, Debug)]
+#[derive(Clone, Copy)]
 pub struct Place {
     pub start: usize,
     pub end: usize,

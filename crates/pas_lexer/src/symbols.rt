@@ -7,7 +7,7 @@ ghost use Rattle.pas_lexer.specs.Reading.{written_text, symbol_of, symbol_among,
 use crate::kinds::Symbol;
 
 /// A special symbol as it is written: in its usual spelling, or in its alternative one.
-#[derive(Clone, Copy, Debug, PartialEq, Eq)]
+#[derive(Clone, Copy)]
 pub enum Written {
     Usual(Symbol),
     Other(Symbol),

@@ -2,7 +2,7 @@
 
 ghost use Rattle.std.specs.Prelude.{◌≡◌, ◌↔◌, ◌≤◌, IsTrue, length};
 
-use crate::kinds::{Kind, LexFault, Symbol, Token};
+use crate::kinds::{Kind, LexFault, Symbol};
 use crate::lexing::{MAX_SOURCE_BYTES, lex};
 use std::alloc::Global;
 use std::fmt::Write;
