@@ -43,7 +43,19 @@ const ONE: &[u8] = b"program p; var x: integer; begin x := 1 end.\n";
 #[test]
 fn sessions(rt: HostRuntime) -> Result<(), Fail> {
     let alloc = rt.alloc();
-    let table: [(&[u8], &[u8], u8, &[u8]); 12] = [
+    let table: [(&[u8], &[u8], u8, &[u8]); 14] = [
+        (
+            b"program p; { x *) begin end.",
+            b"",
+            3,
+            b"refused: Unbuilt, line 1, byte 24\n",
+        ),
+        (
+            b"program p (* 'a }; {}var{\n*)x:integer;(**)begin x:=1 end.",
+            b"",
+            0,
+            b"call 0 p\n  returned\nfound call 0 p\n  returned\n",
+        ),
         (
             b"program p;\r\nvar x: integer;\r\nbegin\r\nx := x + 1 end.\r\n",
             b"right\r\nquit\r\nright\r\n",
@@ -97,7 +109,7 @@ fn sessions(rt: HostRuntime) -> Result<(), Fail> {
             b"program p; var x: integer;\nbegin x := 2147483648 end.",
             b"",
             3,
-            b"refused: Unbuilt, line 2, byte 38\n",
+            b"refused: TooLarge, line 2, byte 38\n",
         ),
         (
             b"program p; var Maxint: integer; begin Maxint := 1 end.",
@@ -311,71 +323,181 @@ fn many_calls(rt: HostRuntime) -> Result<(), Fail> {
     Ok(())
 }
 
-// The place at which each source is refused is marked by `|`, which is taken out of it. One source is
-// refused at its end.
-const REFUSED: [&[u8]; 58] = [
-    b"|",
-    b"|; program p; begin x := 1 end.",
-    b"|p; begin end.",
-    b"|x program p; var x: integer; begin x := 1 end.",
-    b"program |; begin x := 1 end.",
-    b"program |begin; begin x := 1 end.",
-    b"program |1; begin x := 1 end.",
-    b"program p |begin x := 1 end.",
-    b"program p|, q; begin x := 1 end.",
-    b"program p|. var x: integer; begin x := 1 end.",
-    b"program p; |x := 1 end.",
-    b"program p; |end.",
-    b"program p; |const c; begin x := 1 end.",
-    b"program p; begin |end.",
-    b"program p; begin |; end.",
-    b"program p; begin |x := 1 end.",
-    b"program p; begin |1 end.",
-    b"program p; begin |begin end end.",
-    b"program p; begin |p end.",
-    b"program p; begin |integer := 1 end.",
-    b"program p; var |begin x := 1 end.",
-    b"program p; var |: integer; begin x := 1 end.",
-    b"program p; var |1: integer; begin x := 1 end.",
-    b"program p; var |input: integer; begin x := 1 end.",
-    b"program p; var x |integer; begin x := 1 end.",
-    b"program p; var x|; begin x := 1 end.",
-    b"program p; var x, |: integer; begin x := 1 end.",
-    b"program p; var x, |X: integer; begin x := 1 end.",
-    b"program p; var x, y, z, |y: integer; begin x := 1 end.",
-    b"program p; var x |y: integer; begin x := 1 end.",
-    b"program p; var x: |char; begin x := 1 end.",
-    b"program p; var x: |x; begin x := 1 end.",
-    b"program p; var x: |1; begin x := 1 end.",
-    b"program p; var x: integer |begin x := 1 end.",
-    b"program p; var x: integer; |y: integer; begin x := 1 end.",
-    b"program p; var x: integer; |var y: integer; begin x := 1 end.",
-    b"program p;\nvar x: integer;\nbegin x |= 1 end.",
-    b"program p;\nvar x: integer;\nbegin x |: 1 end.",
-    b"program p;\nvar x: integer;\nbegin x := |end.",
-    b"program p;\nvar x: integer;\nbegin x := |+ 1 end.",
-    b"program p;\nvar x: integer;\nbegin x := |y + 1 end.",
-    b"program p;\nvar x: integer;\nbegin x := x |end.",
-    b"program p;\nvar x: integer;\nbegin x := x |1 end.",
-    b"program p;\nvar x: integer;\nbegin x := x + |x end.",
-    b"program p;\nvar x: integer;\nbegin x := x + |2147483648 end.",
-    b"program p;\nvar x: integer;\nbegin x := 1 |+ 2 end.",
-    b"program p;\nvar x: integer;\nbegin x := |1x end.",
-    b"program p;\nvar x: integer;\nbegin x := 1; |end.",
-    b"program p;\nvar x: integer;\nbegin x := 1 |x := 2 end.",
-    b"program p;\nvar x: integer;\nbegin x := 1 end|;",
-    b"program p;\nvar x: integer;\nbegin x := 1 end|",
-    b"program p;\nvar x: integer;\nbegin x := 1 end. |program",
-    b"program p;\nvar x: integer;\nbegin x := 1 end.\n|\0",
-    b"program p;\nvar x: integer;\nbegin x := 1 end.\n|\xe9",
-    b"program p; procedure |; begin x := 1 end; begin x := 1 end.",
-    b"program p; procedure q; begin q end; procedure |Q; begin q end; begin q end.",
-    b"program p; var q: integer; procedure |q; begin q := 1 end; begin q := 1 end.",
-    b"program p; procedure q; begin |r end; procedure r; begin q end; begin q end.",
+// Why and where each source is refused. The place is marked by `|`, which is taken out of it.
+const REFUSED: [(&str, &[u8]); 76] = [
+    ("Unbuilt", b"|"),
+    ("Unbuilt", b"|; program p; begin x := 1 end."),
+    ("Unbuilt", b"|p; begin end."),
+    (
+        "Unbuilt",
+        b"|x program p; var x: integer; begin x := 1 end.",
+    ),
+    ("Unbuilt", b"program |; begin x := 1 end."),
+    ("Unbuilt", b"program |begin; begin x := 1 end."),
+    ("Unbuilt", b"program |1; begin x := 1 end."),
+    ("Unbuilt", b"program p |begin x := 1 end."),
+    ("Unbuilt", b"program p|, q; begin x := 1 end."),
+    ("Unbuilt", b"program p|. var x: integer; begin x := 1 end."),
+    ("Unbuilt", b"program p; |x := 1 end."),
+    ("Unbuilt", b"program p; |end."),
+    ("Unbuilt", b"program p; |const c; begin x := 1 end."),
+    ("Unbuilt", b"program p; begin |end."),
+    ("Unbuilt", b"program p; begin |; end."),
+    ("Unbuilt", b"program p; begin |x := 1 end."),
+    ("Unbuilt", b"program p; begin |1 end."),
+    ("Unbuilt", b"program p; begin |begin end end."),
+    ("Unbuilt", b"program p; begin |p end."),
+    ("Unbuilt", b"program p; begin |integer := 1 end."),
+    ("Unbuilt", b"program p; var |begin x := 1 end."),
+    ("Unbuilt", b"program p; var |: integer; begin x := 1 end."),
+    ("Unbuilt", b"program p; var |1: integer; begin x := 1 end."),
+    (
+        "Unbuilt",
+        b"program p; var |input: integer; begin x := 1 end.",
+    ),
+    ("Unbuilt", b"program p; var x |integer; begin x := 1 end."),
+    ("Unbuilt", b"program p; var x|; begin x := 1 end."),
+    (
+        "Unbuilt",
+        b"program p; var x, |: integer; begin x := 1 end.",
+    ),
+    (
+        "Unbuilt",
+        b"program p; var x, |X: integer; begin x := 1 end.",
+    ),
+    (
+        "Unbuilt",
+        b"program p; var x, y, z, |y: integer; begin x := 1 end.",
+    ),
+    (
+        "Unbuilt",
+        b"program p; var x |y: integer; begin x := 1 end.",
+    ),
+    ("Unbuilt", b"program p; var x: |char; begin x := 1 end."),
+    ("Unbuilt", b"program p; var x: |x; begin x := 1 end."),
+    ("Unbuilt", b"program p; var x: |1; begin x := 1 end."),
+    ("Unbuilt", b"program p; var x: integer |begin x := 1 end."),
+    (
+        "Unbuilt",
+        b"program p; var x: integer; |y: integer; begin x := 1 end.",
+    ),
+    (
+        "Unbuilt",
+        b"program p; var x: integer; |var y: integer; begin x := 1 end.",
+    ),
+    ("Unbuilt", b"program p;\nvar x: integer;\nbegin x |= 1 end."),
+    ("Unbuilt", b"program p;\nvar x: integer;\nbegin x |: 1 end."),
+    ("Unbuilt", b"program p;\nvar x: integer;\nbegin x := |end."),
+    (
+        "Unbuilt",
+        b"program p;\nvar x: integer;\nbegin x := |+ 1 end.",
+    ),
+    (
+        "Unbuilt",
+        b"program p;\nvar x: integer;\nbegin x := |y + 1 end.",
+    ),
+    (
+        "Unbuilt",
+        b"program p;\nvar x: integer;\nbegin x := x |end.",
+    ),
+    (
+        "Unbuilt",
+        b"program p;\nvar x: integer;\nbegin x := x |1 end.",
+    ),
+    (
+        "Unbuilt",
+        b"program p;\nvar x: integer;\nbegin x := x + |x end.",
+    ),
+    (
+        "TooLarge",
+        b"program p;\nvar x: integer;\nbegin x := x + |2147483648 end.",
+    ),
+    (
+        "Unbuilt",
+        b"program p;\nvar x: integer;\nbegin x := 1 |+ 2 end.",
+    ),
+    (
+        "Joined",
+        b"program p;\nvar x: integer;\nbegin x := |1x end.",
+    ),
+    (
+        "Unbuilt",
+        b"program p;\nvar x: integer;\nbegin x := 1; |end.",
+    ),
+    (
+        "Unbuilt",
+        b"program p;\nvar x: integer;\nbegin x := 1 |x := 2 end.",
+    ),
+    (
+        "Unbuilt",
+        b"program p;\nvar x: integer;\nbegin x := 1 end|;",
+    ),
+    ("Unbuilt", b"program p;\nvar x: integer;\nbegin x := 1 end|"),
+    (
+        "Unbuilt",
+        b"program p;\nvar x: integer;\nbegin x := 1 end. |program",
+    ),
+    (
+        "BadByte",
+        b"program p;\nvar x: integer;\nbegin x := 1 end.\n|\0",
+    ),
+    (
+        "BadByte",
+        b"program p;\nvar x: integer;\nbegin x := 1 end.\n|\xe9",
+    ),
+    (
+        "Unbuilt",
+        b"program p; procedure |; begin x := 1 end; begin x := 1 end.",
+    ),
+    (
+        "Unbuilt",
+        b"program p; procedure q; begin q end; procedure |Q; begin q end; begin q end.",
+    ),
+    (
+        "Unbuilt",
+        b"program p; var q: integer; procedure |q; begin q := 1 end; begin q := 1 end.",
+    ),
+    (
+        "Unbuilt",
+        b"program p; procedure q; begin |r end; procedure r; begin q end; begin q end.",
+    ),
+    ("BadByte", b"program p; begin x := |# end."),
+    ("BadByte", b"program p; |} begin end."),
+    (
+        "BadByte",
+        b"program p; var x|_y: integer; begin x := 1 end.",
+    ),
+    ("OpenComment", b"program p;\n|{ begin end."),
+    ("OpenComment", b"program p; begin end.\n|(*)"),
+    ("OpenString", b"program p; begin write(|'a) end."),
+    ("OpenString", b"program p; begin write('a'|');\n end."),
+    ("EmptyString", b"program p; begin write(|'') end."),
+    ("RealWord", b"program p; begin x := |1.5 end."),
+    ("RealWord", b"program p; begin x := 1 |/ 2 end."),
+    ("RealWord", b"program p; begin x := |2147483648e5 end."),
+    ("Joined", b"program p; begin x := |1e end."),
+    (
+        "Unbuilt",
+        b"program p;\nvar x: integer;\nbegin x |: = 1 end.",
+    ),
+    (
+        "Unbuilt",
+        b"program p;\nvar x: integer;\nbegin x := 1 |.. 5 end.",
+    ),
+    (
+        "Unbuilt",
+        b"program p;\nvar x: integer;\nbegin x := |'a' end.",
+    ),
+    (
+        "Unbuilt",
+        b"program p;\nvar x: integer;\nbegin |if x = 1 then x := 2 end.",
+    ),
+    ("Unbuilt", b"program p|(output); begin x := 1 end."),
+    ("Unbuilt", b"program p; |const c = 1; begin x := 1 end."),
 ];
 
 // The source without its mark, and the line of refusal that is to be printed.
-fn refusal(alloc: Global, marked: &[u8]) -> Result<(Bytes, Bytes), Fail> {
+fn refusal(alloc: Global, why: &str, marked: &[u8]) -> Result<(Bytes, Bytes), Fail> {
     let place = marked
         .iter()
         .position(|byte| *byte == b'|')
@@ -385,7 +507,7 @@ fn refusal(alloc: Global, marked: &[u8]) -> Result<(Bytes, Bytes), Fail> {
     source.append(before)?;
     source.append(after.get(1..).unwrap_or(b""))?;
     let line = 1 + before.iter().filter(|byte| **byte == b'\n').count();
-    let text = format!(in alloc; "refused: Unbuilt, line {line}, byte {place}\n")?;
+    let text = format!(in alloc; "refused: {why}, line {line}, byte {place}\n")?;
     let mut refused = Bytes::new(alloc);
     refused.append(text.as_bytes())?;
     Ok((source, refused))
@@ -394,8 +516,8 @@ fn refusal(alloc: Global, marked: &[u8]) -> Result<(Bytes, Bytes), Fail> {
 #[test]
 fn refusals(rt: HostRuntime) -> Result<(), Fail> {
     let alloc = rt.alloc();
-    for marked in REFUSED {
-        let (source, refused) = refusal(alloc, marked)?;
+    for (why, marked) in REFUSED {
+        let (source, refused) = refusal(alloc, why, marked)?;
         let tape = Tape::new(alloc, b"", &[])?;
         let got = session(alloc, source.as_slice(), tape, Page::new(alloc, ROOM, &[])?)?;
         assert_eq!(rt; got.1.as_slice(), refused.as_slice());

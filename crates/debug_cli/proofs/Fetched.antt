@@ -20,6 +20,7 @@ use Rattle.debug_cli.specs.declared.dialog.Ending.{Ending}
 use Rattle.debug_cli.specs.declared.dialog.Ending.TheVariants as ending
 use Rattle.debug_cli.specs.declared.status.Status.{Status}
 use Rattle.debug_cli.specs.declared.status.Status.TheVariants as status
+use Rattle.debug_cli.specs.declared.refusal.Reason.{Reason}
 use Rattle.debug_cli.specs.Small.{Small}
 use Rattle.debug_cli.specs.Program.{IsProgram, NoProgram}
 use Rattle.debug_cli.specs.History.{History, history_of}
@@ -75,8 +76,8 @@ module _ (name : List ℕ) (files : Option FileMap) (misses misses' faults fault
         let a : Session name files left left' = record { source = source; held = held; short = short; tokens = s.0; small = s.1; program = s.4; heard = s.2; is_heard = s.5 } in
         subst Here (sym s.6) (session_goes a s.3 s.7 s.8)
     source_goes source result held short (inr (inl r)) =
-        let refused : SourceRefused name files r.0 r.1 = record { source = source; held = held; short = short; no_program = r.2; place = r.3 } in
-        line_goes result status.Source (refused_line r.0 r.1) (inr (inl (r.0, r.1, refused, refl))) r.4 (λ g. (r.0, r.1, refused, g))
+        let refused : SourceRefused name files r.0 r.1 r.2 = record { source = source; held = held; short = short; no_program = r.3; place = r.4 } in
+        line_goes result status.Source (refused_line r.0 r.1 r.2) (inr (inl (r.0, r.1, r.2, refused, refl))) r.5 (λ g. (r.0, r.1, r.2, refused, g))
     source_goes source result held short (inr (inr n)) = nothing_goes result n
 
     -- a file that was not fetched
@@ -108,8 +109,8 @@ module _ (name : List ℕ) (files : Option FileMap) (misses misses' faults fault
     same_source : (source bytes : List ℕ) → Finds files name source → HoldsFile files name bytes → bytes ≡ source
     same_source source bytes f h = let n : file_at f.0 name ≡ Some bytes = subst (λ (o : Option FileMap). HoldsFile o name bytes) f.1 h in let x : Some bytes ≡ Some source = sym n ∙ f.2 in cc
 
-    not_refused : (source : List ℕ) (t : Lexed) (s : Small) (line byte : ℕ) → Finds files name source → IsProgram source t s → SourceRefused name files line byte → ⊥
-    not_refused source t s line byte f p r = r.no_program t s (subst (λ (b : List ℕ). IsProgram b t s) (sym (same_source source r.source f r.held)) p)
+    not_refused : (source : List ℕ) (t : Lexed) (s : Small) (why : Reason) (line byte : ℕ) → Finds files name source → IsProgram source t s → SourceRefused name files why line byte → ⊥
+    not_refused source t s why line byte f p r = r.no_program t s (subst (λ (b : List ℕ). IsProgram b t s) (sym (same_source source r.source f r.held)) p)
 
     is_refused : (source : List ℕ) (a : Session name files left left') → Finds files name source → NoProgram source → ⊥
     is_refused source a f none = none a.tokens a.small (subst (λ (b : List ℕ). IsProgram b a.tokens a.small) (same_source source a.source f a.held) a.program)
@@ -175,13 +176,13 @@ module _ (name : List ℕ) (files : Option FileMap) (misses misses' faults fault
       module _ (short : length source ≤ SOURCE_BYTES) (stayed : StayedBelow faults faults') where
         owed_part : (text : List ℕ) → Text text → GavePrefix given given' text → GavePrefix given given' (transcript (history_of t s) more)
         owed_part text (inl o) g = part_of o.0 (subst (λ (x : List ℕ). GavePrefix given given' x) o.1 g)
-        owed_part text (inr (inl o)) g = absurd (not_refused source t s o.0 o.1 f p o.2)
+        owed_part text (inr (inl o)) g = absurd (not_refused source t s o.0 o.1 o.2 f p o.3)
         owed_part text (inr (inr o)) g = absurd (no_fault o.0 source o.1 f short stayed)
 
         pub first_part : (result : Status) → Here result → GavePrefix given given' (transcript (history_of t s) more)
         first_part status.Done (a, g, w) = whole_part a g
         first_part status.Words h = absurd h
-        first_part status.Source h = absurd (not_refused source t s h.0 h.1 f p h.2)
+        first_part status.Source h = absurd (not_refused source t s h.0 h.1 h.2 f p h.3)
         first_part status.File h = absurd (no_fault h.0 source h.1 f short stayed)
         first_part status.Console (a, g, w) = whole_part a g
         first_part status.Screen h = owed_part h.0 h.1 h.2
@@ -222,7 +223,7 @@ module _ (name : List ℕ) (files : Option FileMap) (misses misses' faults fault
             → (result ≡ status.Done) ⊎ (result ≡ status.Memory)
         done_or_memory status.Done h ends console screen = inl refl
         done_or_memory status.Words h ends console screen = absurd h
-        done_or_memory status.Source h ends console screen = absurd (not_refused source t s h.0 h.1 f p h.2)
+        done_or_memory status.Source h ends console screen = absurd (not_refused source t s h.0 h.1 h.2 f p h.3)
         done_or_memory status.File h ends console screen = absurd (no_fault h.0 source h.1 f short stayed)
         done_or_memory status.Console h ends console screen = absurd (console refl)
         done_or_memory status.Screen h ends console screen = absurd (screen refl)
@@ -233,7 +234,7 @@ module _ (name : List ℕ) (files : Option FileMap) (misses misses' faults fault
             → (result ≡ status.Spent) ⊎ (result ≡ status.Memory)
         spent_or_memory status.Done (a, g, w) long on console screen = absurd (not_done a w long on)
         spent_or_memory status.Words h long on console screen = absurd h
-        spent_or_memory status.Source h long on console screen = absurd (not_refused source t s h.0 h.1 f p h.2)
+        spent_or_memory status.Source h long on console screen = absurd (not_refused source t s h.0 h.1 h.2 f p h.3)
         spent_or_memory status.File h long on console screen = absurd (no_fault h.0 source h.1 f short stayed)
         spent_or_memory status.Console h long on console screen = absurd (console refl)
         spent_or_memory status.Screen h long on console screen = absurd (screen refl)

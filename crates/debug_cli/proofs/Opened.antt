@@ -1,7 +1,10 @@
 -- From the tokens and the program of a source to its run.
-use Rattle.std.proofs.Common.{◌≡◌, inl, inr, ℕ, zero, suc, min, List, [], ◌∷◌, length, take, Ok, Err, refl, sym, ap, subst, ◌∙◌, arith}
+use Rattle.std.proofs.Common.{◌≡◌, ℕ, zero, suc, min, List, [], ◌∷◌, length, take, Ok, Err, refl, sym, ap, subst, ◌∙◌, arith}
 use Rattle.pas_lexer.specs.declared.kinds.Token.{Token}
+use Rattle.pas_lexer.specs.declared.kinds.LexFault.{LexFault}
+use Rattle.pas_lexer.specs.declared.kinds.LexFault.TheVariants as lexis
 use Rattle.pas_lexer.specs.Lexed.{Lexed}
+use Rattle.debug_cli.specs.declared.refusal.Reason.{Reason}
 use Rattle.pas_lexer.specs.Division.{IsLexed}
 use Rattle.core_program.specs.Tables.{Tables}
 use Rattle.debug_cli.specs.declared.run.SourceFault.{SourceFault}
@@ -11,7 +14,7 @@ use Rattle.debug_cli.specs.Small.{Piece, pieces, Small, IsSmall, program_of}
 use Rattle.debug_cli.specs.Reading.{Read}
 use Rattle.debug_cli.proofs.Whole.{small_whole}
 use Rattle.debug_cli.specs.History.{History, history_of, calls_within}
-use Rattle.debug_cli.specs.Program.{IsProgram, Keeps, IsRefused, IsUnlexed, IsUnread, TokensAre, ProgramIs}
+use Rattle.debug_cli.specs.Program.{IsProgram, Keeps, Refuses, IsRefused, IsMisfit, IsUnlexed, IsUnread, TokensAre, ProgramIs}
 
 pub take_min : (l : List ℕ) (n : ℕ) → take (min (length l) n) l ≡ take n l
 take_min [] zero = refl
@@ -24,12 +27,21 @@ take_min (x ∷ l) (suc n) =
 -- ---- no tokens
 
 pub no_tokens_only : (source : List ℕ) (e : SourceFault) → ((tokens : List Token) → IsLexed source tokens → TokensAre tokens (Err e)) → (t : Lexed) (s : Small) → IsProgram source t s → Keeps (history_of t s) (Err e)
-no_tokens_only source (Refused line byte) h t s r = h t.tokens r.lexed
+no_tokens_only source (Refused why line byte) h t s r = h t.tokens r.lexed
 no_tokens_only source Memory h t s r = tt
 
 pub no_tokens_refused : (source : List ℕ) (e : SourceFault) → IsUnlexed source e → IsRefused source e
-no_tokens_refused source (Refused line byte) h = ((λ t s p. h.0 t.tokens p.lexed), inl (h.1, h.2))
+no_tokens_refused source (Refused why line byte) h = ((λ t s p. h.0 t.tokens p.lexed), h.1)
 no_tokens_refused source Memory h = tt
+
+-- a fault of the lexer that has no tokens beside it
+pub misfit_unlexed : (source : List ℕ) (fault : LexFault) (r : SourceFault) → ((tokens : List Token) → IsLexed source tokens → fault ≡ lexis.Memory) → (fault ≡ lexis.Memory → r ≡ Memory) → IsMisfit source r → IsUnlexed source r
+misfit_unlexed source fault (Refused why line byte) only memory m = ((λ tokens l. let e : Refused why line byte ≡ Memory = memory (only tokens l) in let x : ⊥ = cc in x), m)
+misfit_unlexed source fault Memory only memory m = tt
+
+pub misfit_only : (source : List ℕ) (fault : LexFault) (r : SourceFault) → ((tokens : List Token) → IsLexed source tokens → fault ≡ lexis.Memory) → (fault ≡ lexis.Memory → r ≡ Memory) → (tokens : List Token) → IsLexed source tokens → TokensAre tokens (Err r)
+misfit_only source fault (Refused why line byte) only memory tokens l = let e : Refused why line byte ≡ Memory = memory (only tokens l) in absurd (let x : ⊥ = cc in x)
+misfit_only source fault Memory only memory tokens l = tt
 
 -- ---- no program
 
@@ -41,11 +53,11 @@ small_of source tokens t s kept p e = subst (λ (u : Lexed). IsSmall (pieces u) 
 
 module _ (source : List ℕ) (tokens : Lexed) (kept : tokens.source ≡ source) (one : (others : List Token) → IsLexed source others → tokens.tokens ≡ others) where
   pub no_program_only : (e : SourceFault) → ((s : Small) → IsSmall (pieces tokens) s → ProgramIs (program_of s) (Err e)) → (t : Lexed) (s : Small) → IsProgram source t s → Keeps (history_of t s) (Err e)
-  no_program_only (Refused line byte) h t s r = h s (small_of source tokens t s kept r (one t.tokens r.lexed))
+  no_program_only (Refused why line byte) h t s r = h s (small_of source tokens t s kept r (one t.tokens r.lexed))
   no_program_only Memory h t s r = tt
 
   pub no_program_refused : (e : SourceFault) → ((s : Small) → IsSmall (pieces tokens) s → ProgramIs (program_of s) (Err e)) → IsLexed source tokens.tokens → IsUnread tokens e → IsRefused source e
-  no_program_refused (Refused line byte) h lexed place = ((λ t s p. h s (small_of source tokens t s kept p (one t.tokens p.lexed))), inr (tokens, kept, lexed, place))
+  no_program_refused (Refused why line byte) h lexed place = ((λ t s p. h s (small_of source tokens t s kept p (one t.tokens p.lexed))), subst (λ (w : Reason). Refuses source w line byte) (sym place.0) (tokens, kept, lexed, place.1))
   no_program_refused Memory h lexed place = tt
 
   -- ---- a program

@@ -3,7 +3,7 @@ use Rattle.std.proofs.Common.{◌≡◌, ℕ, Bool, true, false, ◌||◌, is_so
 use Rattle.std.specs.Str.{bytes_eq}
 use Rattle.std.proofs.lemmas.Slice.Eq.{bytes_eq-Decides}
 use Rattle.pas_lexer.specs.declared.kinds.Kind.{Kind}
-use Rattle.pas_lexer.specs.declared.kinds.Kind.TheVariants.{Word, Name, Number, Symbol, End}
+use Rattle.pas_lexer.specs.declared.kinds.Kind.TheVariants.{Word, Name, Number, Text, Symbol, End}
 use Rattle.core_program.specs.declared.tables.Expression.TheVariants as expression
 use Rattle.core_program.specs.declared.tables.Row.{Row}
 use Rattle.debug_cli.specs.declared.terminals.Fixed.{Fixed}
@@ -46,6 +46,7 @@ name_first : (p : Piece) (k : Kind) (l rest : List Piece) (q : Piece) → p.kind
 name_first p Name l rest q e h = (e, (let x : (p, l) ≡ (q, rest) = cc in ap (λ (y : Piece × List Piece). y.0) x), (let x : (p, l) ≡ (q, rest) = cc in ap (λ (y : Piece × List Piece). y.1) x))
 name_first p (Word w) l rest q e h = absurd (let x : ⊥ = cc in x)
 name_first p (Number n) l rest q e h = absurd (let x : ⊥ = cc in x)
+name_first p Text l rest q e h = absurd (let x : ⊥ = cc in x)
 name_first p (Symbol s) l rest q e h = absurd (let x : ⊥ = cc in x)
 name_first p End l rest q e h = absurd (let x : ⊥ = cc in x)
 
@@ -63,6 +64,7 @@ number_first : (p : Piece) (k : Kind) (l rest : List Piece) (n : ℕ) → p.kind
 number_first p (Number m) l rest n e h = let x : (m, l) ≡ (n, rest) = cc in (e ∙ ap (λ (y : ℕ × List Piece). Number y.0) x, ap (λ (y : ℕ × List Piece). y.1) x)
 number_first p Name l rest n e h = absurd (let x : ⊥ = cc in x)
 number_first p (Word w) l rest n e h = absurd (let x : ⊥ = cc in x)
+number_first p Text l rest n e h = absurd (let x : ⊥ = cc in x)
 number_first p (Symbol s) l rest n e h = absurd (let x : ⊥ = cc in x)
 number_first p End l rest n e h = absurd (let x : ⊥ = cc in x)
 

@@ -13,10 +13,11 @@ use Rattle.edge_ports.specs.declared.ports.FetchFault.TheVariants as fetch
 use Rattle.debug_cli.specs.declared.ask.TheConstants.{SOURCE_BYTES}
 use Rattle.debug_cli.specs.declared.dialog.Ending.{Ending}
 use Rattle.debug_cli.specs.declared.dialog.Ending.TheVariants as ending
+use Rattle.debug_cli.specs.declared.refusal.Reason.{Reason}
 use Rattle.debug_cli.specs.declared.status.Status.{Status}
 use Rattle.debug_cli.specs.declared.status.Status.TheVariants as status
 use Rattle.debug_cli.specs.Small.{Small}
-use Rattle.debug_cli.specs.Program.{IsProgram, NoProgram, RefusedPlace}
+use Rattle.debug_cli.specs.Program.{IsProgram, NoProgram, Refuses}
 use Rattle.debug_cli.specs.History.{History, history_of}
 use Rattle.debug_cli.specs.Texts.{file_line, refused_line}
 use Rattle.debug_cli.specs.Dialog.{opening, first_entries, replies}
@@ -66,13 +67,13 @@ said_to t s x = said (history_of t s) (lines_in x)
 
 -- ---- a refusal
 
--- what was refused of a source: it is the file of this name, where files are told, and no program, and this is the place
-pub record SourceRefused (name : List ℕ) (files : Option FileMap) (line byte : ℕ) : Type 0 where
+-- what was refused of a source: it is the file of this name, where files are told, and no program, and this is why and where
+pub record SourceRefused (name : List ℕ) (files : Option FileMap) (why : Reason) (line byte : ℕ) : Type 0 where
   pub source : List ℕ
   pub held : HoldsFile files name source
   pub short : length source ≤ SOURCE_BYTES
   pub no_program : NoProgram source
-  pub place : RefusedPlace source line byte
+  pub place : Refuses source why line byte
 
 -- why a file was not fetched, by the count that rose
 abbrev pub FileFault : FetchFault → List ℕ → Option FileMap → (misses misses' faults faults' overs overs' : ℕ) → Type 0
@@ -87,21 +88,21 @@ FileFault fetch.Memory name files misses misses' faults faults' overs overs' = �
 abbrev pub SourceGoes : List ℕ → Status → (left left' given given' : Option (List ℕ)) → Type 0
 SourceGoes source result left left' given given' =
     ((t : Lexed) × (s : Small) × (x : Heard) × (e : Ending) × IsProgram source t s × IsHeard left left' x × (result ≡ session_status e) × GaveBy e given given' (said_to t s x) × EndedBy e x)
-    ⊎ ((line : ℕ) × (byte : ℕ) × NoProgram source × RefusedPlace source line byte × GivesLine result status.Source (refused_line line byte) given given')
+    ⊎ ((why : Reason) × (line : ℕ) × (byte : ℕ) × NoProgram source × Refuses source why line byte × GivesLine result status.Source (refused_line why line byte) given given')
     ⊎ GivesNothing result given given'
 
 -- the text that is to be given where the words name a source: that of a session, or the line of a refusal
 abbrev pub Owes : List ℕ → Option FileMap → (misses misses' faults faults' overs overs' : ℕ) → (left left' : Option (List ℕ)) → List ℕ → Type 0
 Owes name files misses misses' faults faults' overs overs' left left' text =
     ((a : Session name files left left') × (text ≡ said_to a.tokens a.small a.heard))
-    ⊎ ((line : ℕ) × (byte : ℕ) × SourceRefused name files line byte × (text ≡ refused_line line byte))
+    ⊎ ((why : Reason) × (line : ℕ) × (byte : ℕ) × SourceRefused name files why line byte × (text ≡ refused_line why line byte))
     ⊎ ((fault : FetchFault) × FileFault fault name files misses misses' faults faults' overs overs' × (text ≡ file_line fault name))
 
 -- what the screen got, and why, by the status
 abbrev pub Goes : List ℕ → Option FileMap → (misses misses' faults faults' overs overs' : ℕ) → (left left' given given' : Option (List ℕ)) → Status → Type 0
 Goes name files misses misses' faults faults' overs overs' left left' given given' status.Words = ⊥
 Goes name files misses misses' faults faults' overs overs' left left' given given' status.Source =
-    (line : ℕ) × (byte : ℕ) × SourceRefused name files line byte × GaveAll given given' (refused_line line byte)
+    (why : Reason) × (line : ℕ) × (byte : ℕ) × SourceRefused name files why line byte × GaveAll given given' (refused_line why line byte)
 Goes name files misses misses' faults faults' overs overs' left left' given given' status.File =
     (fault : FetchFault) × FileFault fault name files misses misses' faults faults' overs overs' × GaveAll given given' (file_line fault name)
 Goes name files misses misses' faults faults' overs overs' left left' given given' status.Done =

@@ -9,6 +9,8 @@ use Rattle.cell_value.specs.declared.ways_out.WayOut.TheVariants as way
 use Rattle.core_program.specs.declared.calls.CallRow.{CallRow}
 use Rattle.plain_search.specs.declared.state.SearchState.{SearchState}
 use Rattle.plain_search.specs.declared.state.SearchState.TheVariants.{Ask, Found, NothingWrong}
+use Rattle.debug_cli.specs.declared.refusal.Reason.{Reason}
+use Rattle.debug_cli.specs.declared.refusal.Reason.TheVariants as reason
 use Rattle.debug_cli.specs.History.{History, name_of}
 use Rattle.edge_ports.specs.declared.ports.FetchFault.{FetchFault}
 use Rattle.edge_ports.specs.declared.ports.FetchFault.TheVariants as fetch
@@ -100,6 +102,17 @@ file_line fetch.Failed name = failed_line name
 file_line (fetch.TooLong limit) name = too_long_line name
 file_line fetch.Memory name = []
 
+-- why a source is refused
+abbrev pub reason_text : Reason → List ℕ
+reason_text reason.BadByte = codes "BadByte"
+reason_text reason.OpenComment = codes "OpenComment"
+reason_text reason.OpenString = codes "OpenString"
+reason_text reason.EmptyString = codes "EmptyString"
+reason_text reason.RealWord = codes "RealWord"
+reason_text reason.TooLarge = codes "TooLarge"
+reason_text reason.Joined = codes "Joined"
+reason_text reason.Unbuilt = codes "Unbuilt"
+
 -- a source that is no program of the language, at a place of it
-abbrev pub refused_line : (line byte : ℕ) → List ℕ
-refused_line line byte = codes "refused: Unbuilt, line " ++ decimal line ++ codes ", byte " ++ decimal byte ++ codes "\n"
+abbrev pub refused_line : Reason → (line byte : ℕ) → List ℕ
+refused_line why line byte = codes "refused: " ++ reason_text why ++ codes ", line " ++ decimal line ++ codes ", byte " ++ decimal byte ++ codes "\n"

@@ -12,6 +12,7 @@ ghost use Rattle.debug_cli.specs.Texts.{usage_line, file_line, refused_line};
 ghost use Rattle.debug_cli.specs.History.{history_of};
 ghost use Rattle.debug_cli.specs.Laws.{AsksTheBest, FindsTheFault};
 ghost use Rattle.debug_cli.specs.declared.status.Status.{Status};
+ghost use Rattle.debug_cli.specs.declared.refusal.Reason.{Reason};
 ghost use Rattle.debug_cli.specs.declared.dialog.Ending.TheVariants as ending;
 ghost use Rattle.debug_cli.specs.Status.{code_of, is_console, is_screen};
 ghost use Rattle.debug_cli.specs.Dialog.{ends_among};
@@ -19,6 +20,7 @@ ghost use Rattle.debug_cli.specs.Heard.{EndedBy};
 ghost use Rattle.debug_cli.specs.Asked.{source_of, transcript, said_to, GivesLine, GivesNothing, Session, SourceRefused, FileFault, SourceGoes, Owes, Goes, Finds, StayedBelow};
 
 use crate::laws::{one_run, search_is_sound};
+use crate::refusal::Reason;
 use crate::run::{SourceFault, run_source};
 use crate::session::{give_line, hold_session, status_of};
 use crate::status::Status;
@@ -43,13 +45,19 @@ fn source_name(words: &[String]) -> Option<&str>
 }
 
 /// Says where a source is no program.
-fn refuse_source<O: Sink>(alloc: Global, line: u32, byte: u32, screen: &mut O) -> Status
-    ensures goes { GivesLine result Status.Source (refused_line line byte) (O.given screen.old) (O.given screen.new)
+fn refuse_source<O: Sink>(
+    alloc: Global,
+    why: Reason,
+    line: u32,
+    byte: u32,
+    screen: &mut O,
+) -> Status
+    ensures goes { GivesLine result Status.Source (refused_line why line byte) (O.given screen.old) (O.given screen.new)
         ⊎ GivesNothing result (O.given screen.old) (O.given screen.new) }
     ensures not_console { is_console result ≡ false }
     ensures faults { Counted (is_screen result) (O.faults screen.old) (O.faults screen.new) }
 {
-    match refused_text(alloc, line, byte) {
+    match refused_text(alloc, why, line, byte) {
         Ok(text) => give_line(screen, text.as_slice(), Status::Source),
         Err(_) => Status::Memory,
     }
@@ -69,7 +77,9 @@ fn ask_source<I: Source, O: Sink>(
 {
     match run_source(alloc, source) {
         Ok(run) => status_of(hold_session(alloc, &run, console, screen)),
-        Err(SourceFault::Refused { line, byte }) => refuse_source(alloc, line, byte, screen),
+        Err(SourceFault::Refused { why, line, byte }) => {
+            refuse_source(alloc, why, line, byte, screen)
+        }
         Err(SourceFault::Memory) => Status::Memory,
     }
 }
@@ -174,9 +184,9 @@ pub fn ask_pascal<K: Keeper, I: Source, O: Sink>(
         × GaveAll (O.given screen.old) (O.given screen.new) (said_to a.tokens a.small a.heard) × EndedBy ending.Done a.heard }
     // words that are not two;
     ensures words { result ≡ 2 → (source_of words.now ≡ None) × GaveAll (O.given screen.old) (O.given screen.new) usage_line }
-    // a source that is no small program, at the place that is printed;
-    ensures refused { result ≡ 3 → (name : List ℕ) × (source_of words.now ≡ Some name) × (line : ℕ) × (byte : ℕ)
-        × SourceRefused name (K.files keeper.old) line byte × GaveAll (O.given screen.old) (O.given screen.new) (refused_line line byte) }
+    // a source that is no small program, for the reason and at the place that are printed;
+    ensures refused { result ≡ 3 → (name : List ℕ) × (source_of words.now ≡ Some name) × (why : Reason) × (line : ℕ) × (byte : ℕ)
+        × SourceRefused name (K.files keeper.old) why line byte × GaveAll (O.given screen.old) (O.given screen.new) (refused_line why line byte) }
     // a file that could not be fetched;
     ensures file { result ≡ 4 → (name : List ℕ) × (source_of words.now ≡ Some name) × (fault : FetchFault)
         × FileFault fault name (K.files keeper.old) (K.misses keeper.old) (K.misses keeper.new) (K.faults keeper.old) (K.faults keeper.new)

@@ -7,6 +7,7 @@ mod dialog;
 mod judging;
 mod laws;
 mod names;
+mod refusal;
 mod required;
 mod run;
 mod session;

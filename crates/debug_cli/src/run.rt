@@ -3,11 +3,13 @@ ghost use Rattle.std.specs.Prelude.{◌≡◌, ◌<◌, ◌≤◌, ◌^◌, ℕ,
 ghost use Rattle.core_program.specs.declared.calls.CallRow.{CallRow};
 ghost use Rattle.pas_lexer.specs.declared.kinds.Token.{Token};
 ghost use Rattle.pas_lexer.specs.Lexed.{Lexed, EndsOnce};
-ghost use Rattle.pas_lexer.specs.Division.{line_at, line_feed, IsLexed};
+ghost use Rattle.pas_lexer.specs.Division.{line_at, line_feed, IsLexed, IsFault};
+ghost use Rattle.debug_cli.specs.declared.run.SourceFault.TheVariants.{Refused, Memory};
 ghost use Rattle.debug_cli.specs.Small.{Small, IsSmall, pieces, program_of};
-ghost use Rattle.debug_cli.specs.Program.{IsProgram, Keeps, IsRefused, IsUnlexed, IsUnread, TokensAre, ProgramIs};
+ghost use Rattle.debug_cli.specs.Program.{IsProgram, Keeps, IsRefused, IsMisfit, IsUnlexed, IsUnread, TokensAre, ProgramIs};
 ghost use Rattle.debug_cli.specs.History.{history, history_of, calls_within, lasts_of, IsReady};
 
+use crate::refusal::Reason;
 use crate::small::{SmallFault, parse_small};
 use core_program::{Calls, Program, numbers_tell_the_tree, run_calls};
 use pas_lexer::{LexFault, Tokens, lex};
@@ -31,8 +33,8 @@ pub struct Run {
 #[derive(Clone, Copy, Debug, PartialEq, Eq, Drop, Error)]
 pub enum SourceFault {
     /// The source is no program of the language. The line is counted from 1, the byte from 0.
-    #[error("no program goes on at line {line}, byte {byte}")]
-    Refused { line: u32, byte: u32 },
+    #[error("refused at line {line}, byte {byte}")]
+    Refused { why: Reason, line: u32, byte: u32 },
     #[error("out of memory")]
     Memory,
 }
@@ -75,6 +77,37 @@ fn place_of(tokens: &Tokens, number: u32) -> (u32, u32)
     (token.line, token.start)
 }
 
+/// The refusal of a source at a piece that does not fit.
+fn refused_at(source: &[u8], why: Reason, byte: u32) -> SourceFault
+    requires { length source.now ≤ 1048576 }
+    ensures { result ≡ Refused why (line_at source.now byte) byte }
+{
+    SourceFault::Refused {
+        why,
+        line: line_of(source, byte),
+        byte,
+    }
+}
+
+/// The refusal for what the lexer says of a source.
+fn misfit(source: &[u8], fault: LexFault) -> SourceFault
+    requires short { length source.now ≤ 1048576 }
+    requires fault { IsFault source.now fault }
+    ensures misfit { IsMisfit source.now result }
+    ensures memory { fault ≡ LexFault.Memory → result ≡ Memory }
+{
+    match fault {
+        LexFault::BadByte(byte) => refused_at(source, Reason::BadByte, byte),
+        LexFault::OpenComment(byte) => refused_at(source, Reason::OpenComment, byte),
+        LexFault::OpenString(byte) => refused_at(source, Reason::OpenString, byte),
+        LexFault::EmptyString(byte) => refused_at(source, Reason::EmptyString, byte),
+        LexFault::RealWord(byte) => refused_at(source, Reason::RealWord, byte),
+        LexFault::TooLarge(byte) => refused_at(source, Reason::TooLarge, byte),
+        LexFault::Joined(byte) => refused_at(source, Reason::Joined, byte),
+        LexFault::Memory => SourceFault::Memory,
+    }
+}
+
 /// The tokens of a source.
 fn read_tokens(alloc: Global, source: &[u8]) -> Result<Tokens, SourceFault>
     requires { length source.now ≤ 1048576 }
@@ -84,11 +117,7 @@ fn read_tokens(alloc: Global, source: &[u8]) -> Result<Tokens, SourceFault>
 {
     match lex(alloc, source) {
         Ok(tokens) => Ok(tokens),
-        Err(LexFault::Unbuilt(byte)) => Err(SourceFault::Refused {
-            line: line_of(source, byte),
-            byte,
-        }),
-        Err(LexFault::Memory) => Err(SourceFault::Memory),
+        Err(fault) => Err(misfit(source, fault)),
     }
 }
 
@@ -102,7 +131,11 @@ fn read_program(alloc: Global, tokens: &Tokens) -> Result<Program, SourceFault>
         Ok(program) => Ok(program),
         Err(SmallFault::Unbuilt(token)) => {
             let (line, byte) = place_of(tokens, token);
-            Err(SourceFault::Refused { line, byte })
+            Err(SourceFault::Refused {
+                why: Reason::Unbuilt,
+                line,
+                byte,
+            })
         }
         Err(SmallFault::Memory) => Err(SourceFault::Memory),
     }
@@ -160,8 +193,8 @@ pub fn run_source(alloc: Global, source: &[u8]) -> Result<Run, SourceFault>
     requires { length source.now ≤ 1048576 }
     // Each small program that the source is has this run.
     ensures only { (t : Lexed) (s : Small) → IsProgram source.now t s → Keeps (history_of t s) result }
-    // A refused source is no small program, and the place is told: the first byte of the first piece that
-    // does not fit, or of a token such that no small program begins with the tokens up to it.
+    // A refused source is no small program, and it is told why and where: at the first piece that does not
+    // fit, or at a token such that no small program begins with the tokens up to it.
     ensures refused { IfErr result (IsRefused source.now) }
     // A source that is no small program is refused, unless memory runs out.
     ensures found { IfOk result (λ run. (t : Lexed) × (s : Small) × IsProgram source.now t s × (history run ≡ history_of t s)) }

@@ -1,8 +1,9 @@
 //! The texts of a call and of the state of the search.
 ghost use Rattle.std.specs.Prelude.{◌≡◌, ◌++◌, IfOk, OnOk, decimal, codes, slice_get};
 ghost use Rattle.debug_cli.specs.History.{history, name_of, text_at};
-ghost use Rattle.debug_cli.specs.Texts.{kind_text, limit_text, way_text, inner_line, call_text, in_parent, card, found_text, question_line, report, absent_line, failed_line, too_long_line, refused_line};
+ghost use Rattle.debug_cli.specs.Texts.{kind_text, limit_text, way_text, inner_line, call_text, in_parent, card, found_text, question_line, report, absent_line, failed_line, too_long_line, reason_text, refused_line};
 
+use crate::refusal::Reason;
 use crate::run::Run;
 use cell_value::{Kind, WayOut, Which};
 use core_program::CallRow;
@@ -227,12 +228,30 @@ pub fn too_long_text(alloc: Global, name: &[u8]) -> Result<Bytes, AllocError>
     named_line(alloc, b"file: too long ", name)
 }
 
-/// The line on a source that is refused at this place.
-pub fn refused_text(alloc: Global, line: u32, byte: u32) -> Result<Bytes, AllocError>
-    ensures { IfOk result (λ text. text ≡ refused_line line byte) }
+/// The name of a reason for which a source is refused.
+fn reason_name(why: Reason) -> &'static str
+    ensures { result.now ≡ reason_text why }
+{
+    match why {
+        Reason::BadByte => "BadByte",
+        Reason::OpenComment => "OpenComment",
+        Reason::OpenString => "OpenString",
+        Reason::EmptyString => "EmptyString",
+        Reason::RealWord => "RealWord",
+        Reason::TooLarge => "TooLarge",
+        Reason::Joined => "Joined",
+        Reason::Unbuilt => "Unbuilt",
+    }
+}
+
+/// The line on a source that is refused for this reason at this place.
+pub fn refused_text(alloc: Global, why: Reason, line: u32, byte: u32) -> Result<Bytes, AllocError>
+    ensures { IfOk result (λ text. text ≡ refused_line why line byte) }
 {
     let mut text = Bytes::new(alloc);
-    text.append(b"refused: Unbuilt, line ")?;
+    text.append(b"refused: ")?;
+    text.append(reason_name(why).as_bytes())?;
+    text.append(b", line ")?;
     write_number(&mut text, line)?;
     text.append(b", byte ")?;
     write_number(&mut text, byte)?;

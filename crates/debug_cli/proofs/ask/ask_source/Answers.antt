@@ -16,6 +16,6 @@ pub returns-in-Err-Refused-clause-goes : goal.returns-in-Err-Refused-clause-goes
 returns-in-Err-Refused-clause-goes g c =
     let refused = rw c.in-Err-Refused.field-0-is at c.in-Err-Refused.ensures.refused in
     elim c.refuse_source.ensures.goes [
-      | inl line ↦ inr (inl (c.in-Err-Refused.line, c.in-Err-Refused.byte, refused.0, refused.1, line))
+      | inl line ↦ inr (inl (c.in-Err-Refused.why, c.in-Err-Refused.line, c.in-Err-Refused.byte, refused.0, refused.1, line))
       | inr none ↦ inr (inr none)
     ]

@@ -1,11 +1,8 @@
+use Rattle.debug_cli.proofs.Opened.{misfit_unlexed, misfit_only}
 use Rattle.debug_cli.proofs.run.read_tokens.Goals as goal
 
-pub returns-in-Err-Unbuilt-clause-only : goal.returns-in-Err-Unbuilt-clause-only
-returns-in-Err-Unbuilt-clause-only c = rw c.in-Err-Unbuilt.field-0-is at c.in-Err-Unbuilt.ensures.only
+pub returns-in-Err-clause-only : goal.returns-in-Err-clause-only
+returns-in-Err-clause-only c = misfit_only c.args.source.now c.in-Err.fault c.misfit.result c.in-Err.ensures.only c.misfit.ensures.memory
 
-pub returns-in-Err-Unbuilt-clause-fault : goal.returns-in-Err-Unbuilt-clause-fault
-returns-in-Err-Unbuilt-clause-fault c = (
-  rw c.in-Err-Unbuilt.field-0-is at c.in-Err-Unbuilt.ensures.only,
-  rw c.in-Err-Unbuilt.field-0-is at c.in-Err-Unbuilt.ensures.fault,
-  c.line_of.ensures,
-)
+pub returns-in-Err-clause-fault : goal.returns-in-Err-clause-fault
+returns-in-Err-clause-fault c = misfit_unlexed c.args.source.now c.in-Err.fault c.misfit.result c.in-Err.ensures.only c.misfit.ensures.memory c.misfit.ensures.misfit

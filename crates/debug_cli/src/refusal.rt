@@ -1,0 +1,22 @@
+//! Why a source is refused.
+
+/// Why a source is refused: the name that is printed.
+#[derive(Clone, Copy, Debug, PartialEq, Eq)]
+pub enum Reason {
+    /// No piece of a source begins with this byte.
+    BadByte,
+    /// A comment is not closed.
+    OpenComment,
+    /// A string is not closed on its line.
+    OpenString,
+    /// A string has no characters.
+    EmptyString,
+    /// Real arithmetic.
+    RealWord,
+    /// A number above maxint.
+    TooLarge,
+    /// A letter directly behind a number.
+    Joined,
+    /// A token at which no program of the language goes on.
+    Unbuilt,
+}
