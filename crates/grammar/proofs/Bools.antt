@@ -1,0 +1,31 @@
+-- Tests joined, taken apart and put together.
+use Rattle.std.proofs.Common.{◌≡◌, Bool, true, false, not, refl, ◌⊎◌, inl, inr}
+use Rattle.grammar.specs.Deciding.{both, either, implies}
+
+pub both_parts : (a b : Bool) → both a b ≡ true → (a ≡ true) × (b ≡ true)
+both_parts true b e = (refl, e)
+both_parts false b e = absurd cc
+
+pub both_make : (a b : Bool) → a ≡ true → b ≡ true → both a b ≡ true
+both_make true b e f = f
+both_make false b e f = absurd cc
+
+pub either_left : (a b : Bool) → a ≡ true → either a b ≡ true
+either_left true b e = refl
+either_left false b e = absurd cc
+
+pub either_right : (a b : Bool) → b ≡ true → either a b ≡ true
+either_right true b e = refl
+either_right false b e = e
+
+pub either_parts : (a b : Bool) → either a b ≡ true → (a ≡ true) ⊎ (b ≡ true)
+either_parts true b e = inl refl
+either_parts false b e = inr e
+
+pub implied : (a b : Bool) → implies a b ≡ true → a ≡ true → b ≡ true
+implied true b e f = e
+implied false b e f = absurd cc
+
+pub not_true : (a : Bool) → not a ≡ true → a ≡ false
+not_true true e = absurd cc
+not_true false e = refl

@@ -1,0 +1,11 @@
+mod Bools
+mod Decided
+mod Every
+mod Exact
+mod Knot
+mod Larger
+mod Lists
+mod Loops
+mod Testing
+mod Texts
+mod Wholes

@@ -1,0 +1,146 @@
+-- Reading one part after the other, as a loop of a program does.
+use Rattle.std.proofs.Common.{◌≡◌, ℕ, Bool, true, false, cond, List, [], ◌∷◌, ◌++◌, Ok, Err, refl, sym, ap, ◌∙◌}
+use Rattle.grammar.specs.declared.terminals.Terminal.{Terminal}
+use Rattle.grammar.specs.Terminals.{passes}
+use Rattle.grammar.specs.Nodes.{Item, Node, Nothing, Pair, row, Step, chain, next}
+use Rattle.grammar.specs.Grammars.{Level, Grammar, nothing, seq, choice, again, word, many, series}
+use Rattle.grammar.specs.Tested.{Within}
+use Rattle.grammar.specs.Deciding.{closed, solid, guarded, sane, Tables}
+use Rattle.grammar.specs.Reading.{Refusal, Read, ◌>>=◌, token_at, then_pair, unread, turning, reads, levels, read}
+use Rattle.grammar.proofs.Loops.{Guards, closed_same, guarded_same, closed_linear, turning_again}
+use Rattle.grammar.proofs.Wholes.{levels_exact, level_shortens}
+
+abbrev pub prepend : List Node → Node → Node
+prepend [] x = x
+prepend (n ∷ ns) x = Pair n (prepend ns x)
+
+-- what was read before, and what is still read
+abbrev pub with_front : List Node → Read → Read
+with_front front r = r >>= λ x. Ok (prepend front x.0, x.1)
+
+abbrev pub with_steps : List Step → Read → Read
+with_steps front r = r >>= λ x. Ok (chain front x.0, x.1)
+
+prepend_row : (front : List Node) → prepend front Nothing ≡ row front
+prepend_row [] = refl
+prepend_row (n ∷ ns) = ap (Pair n) (prepend_row ns)
+
+prepend_one : (front : List Node) (x y : Node) → prepend front (Pair x y) ≡ prepend (front ++ x ∷ []) y
+prepend_one [] x y = refl
+prepend_one (n ∷ ns) x y = ap (Pair n) (prepend_one ns x y)
+
+front_one : (front : List Node) (x : Node) (r : Read) → with_front front (r >>= λ y. Ok (Pair x y.0, y.1)) ≡ with_front (front ++ x ∷ []) r
+front_one front x (Ok y) = ap (λ (z : Node). Ok (z, y.1)) (prepend_one front x y.0)
+front_one front x (Err r) = refl
+
+chain_one : (front : List Step) (x : Step) (y : Node) → chain front (Pair x.separator (Pair x.part y)) ≡ chain (front ++ x ∷ []) y
+chain_one [] x y = refl
+chain_one (n ∷ ns) x y = ap (λ (z : Node). Pair n.separator (Pair n.part z)) (chain_one ns x y)
+
+step_one : (front : List Step) (x : Step) (r : Read) → with_steps front ((r >>= λ y. Ok (Pair x.part y.0, y.1)) >>= λ y. Ok (Pair x.separator y.0, y.1)) ≡ with_steps (front ++ x ∷ []) r
+step_one front x (Ok y) = ap (λ (z : Node). Ok (z, y.1)) (chain_one front x y.0)
+step_one front x (Err r) = refl
+
+then_same : (r : Read) (p q : List Item → Read) → ((m : List Item) → p m ≡ q m) → then_pair r p ≡ then_pair r q
+then_same (Ok x) p q h = ap (λ (r : Read). r >>= λ y. Ok (Pair x.0 y.0, y.1)) (h x.1)
+then_same (Err r) p q h = refl
+
+cond_same : (b : Bool) (x y z w : Read) → x ≡ y → z ≡ w → cond b x z ≡ cond b y w
+cond_same true x y z w g h = g
+cond_same false x y z w g h = h
+
+module _ (t : Tables) (sane_rule : (l : Level) → sane (t.rule l) ≡ true) (n : ℕ) where
+  closed_read : (g : Grammar) → closed g ≡ true → (u : List Item → Read) (l : List Item) → reads (levels t n) g u l ≡ read t n g l
+  unfolding read
+  closed_read g ok u l = closed_same (levels t n) (level_shortens (Within t.rule n) (levels t n) (levels_exact t sane_rule n)) g ok u unread l
+
+  body_guards : (g : Grammar) → guarded g ≡ true → Guards (reads (levels t n) g)
+  body_guards g ok = guarded_same (levels t n) (level_shortens (Within t.rule n) (levels t n) (levels_exact t sane_rule n)) g ok
+
+  -- ---- parts as often as a token leads to one
+
+  module _ (ks : List Terminal) (g : Grammar) (c : closed g ≡ true) (s : solid g ≡ true) where
+    many_guarded : guarded (choice ks (seq g again) nothing) ≡ true
+    many_guarded = rw (c, s) refl
+
+    pub many_read : (l : List Item) → read t n (many ks g) l ≡ cond (passes ks (next l)) (then_pair (read t n g l) (read t n (many ks g))) (Ok (Nothing, l))
+    unfolding read
+    many_read l =
+        let body = choice ks (seq g again) nothing in
+        let whole = turning (reads (levels t n) body) in
+        turning_again (reads (levels t n) body) (body_guards body many_guarded) l
+        ∙ cond_same (passes ks (next l)) (then_pair (reads (levels t n) g whole l) whole) (then_pair (reads (levels t n) g unread l) whole) (Ok (Nothing, l)) (Ok (Nothing, l))
+        (ap (λ (r : Read). then_pair r whole) (closed_read g c whole l)) refl
+
+    pub goes_on : (front : List Node) (l : List Item) (x : Node) (rest : List Item) (total : Read) → passes ks (next l) ≡ true → read t n g l ≡ Ok (x, rest)
+        → with_front front (read t n (many ks g) l) ≡ total → with_front (front ++ x ∷ []) (read t n (many ks g) rest) ≡ total
+    goes_on front l x rest total h e so_far =
+        let turn : read t n (many ks g) l ≡ then_pair (Ok (x, rest)) (read t n (many ks g)) = many_read l ∙ rw (h, e) refl in
+        sym (front_one front x (read t n (many ks g) rest)) ∙ ap (with_front front) (sym turn) ∙ so_far
+
+    pub stops : (front : List Node) (l : List Item) (r : Refusal) (total : Read) → passes ks (next l) ≡ true → read t n g l ≡ Err r → with_front front (read t n (many ks g) l) ≡ total → total ≡ Err r
+    stops front l r total h e so_far =
+        let turn : read t n (many ks g) l ≡ Err r = many_read l ∙ rw (h, e) refl in
+        sym so_far ∙ ap (with_front front) turn
+
+    pub is_done : (front : List Node) (l : List Item) (total : Read) → passes ks (next l) ≡ false → with_front front (read t n (many ks g) l) ≡ total → total ≡ Ok (row front, l)
+    is_done front l total h so_far =
+        let turn : read t n (many ks g) l ≡ Ok (Nothing, l) = many_read l ∙ rw h refl in
+        sym so_far ∙ ap (with_front front) turn ∙ ap (λ (z : Node). Ok (z, l)) (prepend_row front)
+
+  -- ---- parts behind separators, and an end
+
+  module _ (separator : Terminal) (ks : List Terminal) (g z : Grammar) (c : closed g ≡ true) (d : closed z ≡ true) where
+    abbrev body : Grammar
+    body = choice (separator ∷ []) (seq (word separator) (choice ks (seq g again) z)) nothing
+
+    series_guarded : guarded body ≡ true
+    series_guarded = rw (c, closed_linear z d) refl
+
+    -- what stands behind a separator
+    pub behind : List Item → Read
+    behind m = cond (passes ks (next m)) (then_pair (read t n g m) (read t n (series separator ks g z))) (read t n z m)
+
+    pub series_read : (l : List Item) → read t n (series separator ks g z) l ≡ cond (passes (separator ∷ []) (next l)) (then_pair (token_at (separator ∷ []) l) behind) (Ok (Nothing, l))
+    unfolding read behind
+    series_read l =
+        let whole = turning (reads (levels t n) body) in
+        turning_again (reads (levels t n) body) (body_guards body series_guarded) l
+        ∙ cond_same (passes (separator ∷ []) (next l)) (then_pair (token_at (separator ∷ []) l) (reads (levels t n) (choice ks (seq g again) z) whole)) (then_pair (token_at (separator ∷ []) l) behind) (Ok (Nothing, l)) (Ok (Nothing, l))
+        (then_same (token_at (separator ∷ []) l) (reads (levels t n) (choice ks (seq g again) z) whole) behind
+        (λ m. cond_same (passes ks (next m)) (then_pair (reads (levels t n) g whole m) whole) (then_pair (reads (levels t n) g unread m) whole) (reads (levels t n) z whole m) (reads (levels t n) z unread m)
+        (ap (λ (r : Read). then_pair r whole) (closed_read g c whole m)) (closed_read z d whole m))) refl
+
+    -- the next step was read
+    pub steps_on : (front : List Step) (l m : List Item) (x : Step) (rest : List Item) (total : Read) → passes (separator ∷ []) (next l) ≡ true → token_at (separator ∷ []) l ≡ Ok (x.separator, m)
+        → passes ks (next m) ≡ true → read t n g m ≡ Ok (x.part, rest) → with_steps front (read t n (series separator ks g z) l) ≡ total → with_steps (front ++ x ∷ []) (read t n (series separator ks g z) rest) ≡ total
+    unfolding behind
+    steps_on front l m x rest total h at h' e so_far =
+        let turn : read t n (series separator ks g z) l ≡ then_pair (Ok (x.separator, m)) behind = series_read l ∙ rw (h, at) refl in
+        let part : behind m ≡ then_pair (Ok (x.part, rest)) (read t n (series separator ks g z)) = rw (h', e) refl in
+        sym (step_one front x (read t n (series separator ks g z) rest))
+        ∙ sym (ap (with_steps front) (turn ∙ ap (λ (r : Read). r >>= λ y. Ok (Pair x.separator y.0, y.1)) part)) ∙ so_far
+
+    -- the part of a step was refused
+    pub steps_stop : (front : List Step) (l m : List Item) (s : Node) (r : Refusal) (total : Read) → passes (separator ∷ []) (next l) ≡ true → token_at (separator ∷ []) l ≡ Ok (s, m)
+        → passes ks (next m) ≡ true → read t n g m ≡ Err r → with_steps front (read t n (series separator ks g z) l) ≡ total → total ≡ Err r
+    unfolding behind
+    steps_stop front l m s r total h at h' e so_far =
+        let turn : read t n (series separator ks g z) l ≡ then_pair (Ok (s, m)) behind = series_read l ∙ rw (h, at) refl in
+        let part : behind m ≡ Err r = rw (h', e) refl in
+        sym so_far ∙ ap (with_steps front) (turn ∙ ap (λ (r : Read). r >>= λ y. Ok (Pair s y.0, y.1)) part)
+
+    -- the end behind a separator was read, or refused
+    pub steps_end : (front : List Step) (l m : List Item) (s : Node) (r : Read) (total : Read) → passes (separator ∷ []) (next l) ≡ true → token_at (separator ∷ []) l ≡ Ok (s, m)
+        → passes ks (next m) ≡ false → read t n z m ≡ r → with_steps front (read t n (series separator ks g z) l) ≡ total → total ≡ with_steps front (r >>= λ y. Ok (Pair s y.0, y.1))
+    unfolding behind
+    steps_end front l m s r total h at h' e so_far =
+        let turn : read t n (series separator ks g z) l ≡ then_pair (Ok (s, m)) behind = series_read l ∙ rw (h, at) refl in
+        let part : behind m ≡ r = rw h' e in
+        sym so_far ∙ ap (with_steps front) (turn ∙ ap (λ (r : Read). r >>= λ y. Ok (Pair s y.0, y.1)) part)
+
+    -- no separator comes
+    pub steps_done : (front : List Step) (l : List Item) (total : Read) → passes (separator ∷ []) (next l) ≡ false → with_steps front (read t n (series separator ks g z) l) ≡ total → total ≡ Ok (chain front Nothing, l)
+    steps_done front l total h so_far =
+        let turn : read t n (series separator ks g z) l ≡ Ok (Nothing, l) = series_read l ∙ rw h refl in
+        sym so_far ∙ ap (with_steps front) turn

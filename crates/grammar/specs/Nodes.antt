@@ -1,0 +1,46 @@
+-- Concrete trees without types: what a tree says, and not where it lies in memory.
+use Rattle.std.specs.Prelude.{ℕ, List, [], ◌∷◌, ◌++◌, Option, Some, None}
+use Rattle.grammar.specs.declared.terminals.Terminal.{Terminal}
+
+-- a token: its terminal and its number in the source
+pub record Item : Type 0 where
+  pub kind : Terminal
+  pub number : ℕ
+
+pub data Node : Type 0 where
+  Leaf : (item : Item) → Node
+  Nothing : Node
+  Pair : (first second : Node) → Node
+
+-- the tokens of a tree
+abbrev pub spell : Node → List Item
+spell (Leaf item) = item ∷ []
+spell Nothing = []
+spell (Pair a b) = spell a ++ spell b
+
+-- the terminal of the first token, or what comes after the list
+abbrev pub ahead : List Item → Option Terminal → Option Terminal
+ahead [] h = h
+ahead (x ∷ l) h = Some x.kind
+
+abbrev pub next : List Item → Option Terminal
+next l = ahead l None
+
+-- a token of a terminal, by its number
+abbrev pub leaf : Terminal → ℕ → Node
+leaf kind n = Leaf (record { kind = kind; number = n })
+
+-- parts one after the other
+abbrev pub row : List Node → Node
+row [] = Nothing
+row (x ∷ xs) = Pair x (row xs)
+
+-- a part of a series, behind its separator
+pub record Step : Type 0 where
+  pub separator : Node
+  pub part : Node
+
+-- a series of them, and what stands at its end
+abbrev pub chain : List Step → Node → Node
+chain [] end = end
+chain (s ∷ steps) end = Pair s.separator (Pair s.part (chain steps end))
