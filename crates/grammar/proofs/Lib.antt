@@ -1,11 +1,13 @@
-mod Bools
-mod Decided
-mod Every
-mod Exact
-mod Knot
-mod Larger
-mod Lists
-mod Loops
-mod Testing
-mod Texts
-mod Wholes
+pub mod Bools
+pub mod Decided
+pub mod Ending
+pub mod Every
+pub mod Exact
+pub mod Knot
+pub mod Larger
+pub mod Lists
+pub mod Loops
+pub mod Somewhere
+pub mod Testing
+pub mod Texts
+pub mod Wholes

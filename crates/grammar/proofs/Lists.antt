@@ -1,13 +1,14 @@
 -- Reading one part after the other, as a loop of a program does.
-use Rattle.std.proofs.Common.{◌≡◌, ℕ, Bool, true, false, cond, List, [], ◌∷◌, ◌++◌, Ok, Err, refl, sym, ap, ◌∙◌}
+use Rattle.std.proofs.Common.{◌≡◌, ℕ, zero, suc, Bool, true, false, cond, if◌then◌else◌, List, [], ◌∷◌, ◌++◌, Result, Ok, Err, refl, sym, ap, ◌∙◌, ◌⊎◌, inl, inr}
 use Rattle.grammar.specs.declared.terminals.Terminal.{Terminal}
-use Rattle.grammar.specs.Terminals.{passes}
-use Rattle.grammar.specs.Nodes.{Item, Node, Nothing, Pair, row, Step, chain, next}
+use Rattle.grammar.specs.Terminals.{is, passes}
+use Rattle.grammar.specs.Nodes.{Item, Node, Leaf, Nothing, Pair, row, Step, chain, next, second}
 use Rattle.grammar.specs.Grammars.{Level, Grammar, nothing, seq, choice, again, word, many, series}
 use Rattle.grammar.specs.Tested.{Within}
 use Rattle.grammar.specs.Deciding.{closed, solid, guarded, sane, Tables}
 use Rattle.grammar.specs.Reading.{Refusal, Read, ◌>>=◌, token_at, then_pair, unread, turning, reads, levels, read}
 use Rattle.grammar.proofs.Loops.{Guards, closed_same, guarded_same, closed_linear, turning_again}
+use Rattle.grammar.proofs.Exact.{bind_ok, bind_err, done, ok_is, ok_no_err}
 use Rattle.grammar.proofs.Wholes.{levels_exact, level_shortens}
 
 abbrev pub prepend : List Node → Node → Node
@@ -111,36 +112,103 @@ module _ (t : Tables) (sane_rule : (l : Level) → sane (t.rule l) ≡ true) (n 
         (λ m. cond_same (passes ks (next m)) (then_pair (reads (levels t n) g whole m) whole) (then_pair (reads (levels t n) g unread m) whole) (reads (levels t n) z whole m) (reads (levels t n) z unread m)
         (ap (λ (r : Read). then_pair r whole) (closed_read g c whole m)) (closed_read z d whole m))) refl
 
-    -- the next step was read
-    pub steps_on : (front : List Step) (l m : List Item) (x : Step) (rest : List Item) (total : Read) → passes (separator ∷ []) (next l) ≡ true → token_at (separator ∷ []) l ≡ Ok (x.separator, m)
-        → passes ks (next m) ≡ true → read t n g m ≡ Ok (x.part, rest) → with_steps front (read t n (series separator ks g z) l) ≡ total → with_steps (front ++ x ∷ []) (read t n (series separator ks g z) rest) ≡ total
+    -- whether a separator comes, and behind it what begins a part
+    abbrev pub goes_further : List Item → Bool
+    goes_further l = if passes (separator ∷ []) (next l) then passes ks (second l) else false
+
+    abbrev pub step_rule : Grammar
+    step_rule = seq (word separator) g
+
+    -- a separator and the end behind it, or nothing
+    abbrev pub end_rule : Grammar
+    end_rule = choice (separator ∷ []) (seq (word separator) z) nothing
+
+    both_true : (a b : Bool) → (if a then b else false) ≡ true → (a ≡ true) × (b ≡ true)
+    both_true true b e = (refl, e)
+    both_true false b e = absurd cc
+
+    separator_there : (l : List Item) → passes (separator ∷ []) (next l) ≡ true → (m : List Item) × (s : Node) × (token_at (separator ∷ []) l ≡ Ok (s, m)) × (second l ≡ next m)
+    separator_there [] h = absurd cc
+    separator_there (x ∷ l) h = let e : is separator x.kind ≡ true = h in (l, Leaf x, rw e refl, refl)
+
+    separate : Node → Node × List Item → Read
+    separate s y = Ok (Pair s y.0, y.1)
+
+    pair_is : (a b c d : Node) (l m : List Item) → done (Pair a b, l) ≡ done (Pair c d, m) → (a ≡ c) × (b ≡ d) × (l ≡ m)
+    pair_is a b c d l m e =
+        let p = ok_is (Pair a b, l) (Pair c d, m) e in
+        let n : Pair a b ≡ Pair c d = ap (λ (w : Node × List Item). w.0) p in
+        (cc, cc, ap (λ (w : Node × List Item). w.1) p)
+
+    led : (l : List Item) → passes (separator ∷ []) (next l) ≡ true → (x : Node × List Item) → token_at (separator ∷ []) l ≡ Ok x
+        → cond (passes (separator ∷ []) (next l)) (then_pair (token_at (separator ∷ []) l) behind) (Ok (Nothing, l)) ≡ then_pair (Ok x) behind
+    led l h x e = ap (λ (b : Bool). cond b (then_pair (token_at (separator ∷ []) l) behind) (Ok (Nothing, l))) h ∙ ap (λ (r : Read). then_pair r behind) e
+
+    led_part : (m : List Item) → passes ks (next m) ≡ true → (r : Read) → read t n g m ≡ r → behind m ≡ then_pair r (read t n (series separator ks g z))
     unfolding behind
-    steps_on front l m x rest total h at h' e so_far =
-        let turn : read t n (series separator ks g z) l ≡ then_pair (Ok (x.separator, m)) behind = series_read l ∙ rw (h, at) refl in
-        let part : behind m ≡ then_pair (Ok (x.part, rest)) (read t n (series separator ks g z)) = rw (h', e) refl in
+    led_part m h r e = ap (λ (b : Bool). cond b (then_pair (read t n g m) (read t n (series separator ks g z))) (read t n z m)) h ∙ ap (λ (r : Read). then_pair r (read t n (series separator ks g z))) e
+
+    pub steps_on : (front : List Step) (l : List Item) (x : Step) (rest : List Item) (total : Read) → goes_further l ≡ true → read t n step_rule l ≡ Ok (Pair x.separator x.part, rest)
+        → with_steps front (read t n (series separator ks g z) l) ≡ total → with_steps (front ++ x ∷ []) (read t n (series separator ks g z) rest) ≡ total
+    unfolding behind read
+    steps_on front l x rest total h e so_far =
+        let b = both_true (passes (separator ∷ []) (next l)) (passes ks (second l)) h in
+        let s = separator_there l b.0 in
+        let m = s.0 in
+        let at : token_at (separator ∷ []) l ≡ Ok (s.1, m) = s.2 in
+        let inner : (read t n g m >>= λ y. Ok (Pair s.1 y.0, y.1)) ≡ Ok (Pair x.separator x.part, rest) = sym (ap (λ (r : Read). then_pair r (read t n g)) at) ∙ e in
+        let y = bind_ok (read t n g m) (λ y. Ok (Pair s.1 y.0, y.1)) (Pair x.separator x.part, rest) inner in
+        let same = pair_is s.1 y.0.0 x.separator x.part y.0.1 rest y.2 in
+        let part : read t n g m ≡ Ok (x.part, rest) = y.1 ∙ ap (λ (w : Node). Ok (w, y.0.1)) same.1 ∙ ap (λ (w : List Item). Ok (x.part, w)) same.2 in
+        let sep : token_at (separator ∷ []) l ≡ Ok (x.separator, m) = at ∙ ap (λ (w : Node). Ok (w, m)) same.0 in
+        let leads : passes ks (next m) ≡ true = ap (passes ks) (sym s.3) ∙ b.1 in
+        let turn : read t n (series separator ks g z) l ≡ then_pair (Ok (x.separator, m)) behind = series_read l ∙ led l b.0 (x.separator, m) sep in
+        let behind_is : behind m ≡ then_pair (Ok (x.part, rest)) (read t n (series separator ks g z)) = led_part m leads (Ok (x.part, rest)) part in
         sym (step_one front x (read t n (series separator ks g z) rest))
-        ∙ sym (ap (with_steps front) (turn ∙ ap (λ (r : Read). r >>= λ y. Ok (Pair x.separator y.0, y.1)) part)) ∙ so_far
+        ∙ sym (ap (with_steps front) (turn ∙ ap (λ (r : Read). r >>= λ y. Ok (Pair x.separator y.0, y.1)) behind_is)) ∙ so_far
 
-    -- the part of a step was refused
-    pub steps_stop : (front : List Step) (l m : List Item) (s : Node) (r : Refusal) (total : Read) → passes (separator ∷ []) (next l) ≡ true → token_at (separator ∷ []) l ≡ Ok (s, m)
-        → passes ks (next m) ≡ true → read t n g m ≡ Err r → with_steps front (read t n (series separator ks g z) l) ≡ total → total ≡ Err r
-    unfolding behind
-    steps_stop front l m s r total h at h' e so_far =
-        let turn : read t n (series separator ks g z) l ≡ then_pair (Ok (s, m)) behind = series_read l ∙ rw (h, at) refl in
-        let part : behind m ≡ Err r = rw (h', e) refl in
-        sym so_far ∙ ap (with_steps front) (turn ∙ ap (λ (r : Read). r >>= λ y. Ok (Pair s y.0, y.1)) part)
+    pub steps_stop : (front : List Step) (l : List Item) (r : Refusal) (total : Read) → goes_further l ≡ true → read t n step_rule l ≡ Err r
+        → with_steps front (read t n (series separator ks g z) l) ≡ total → total ≡ Err r
+    unfolding behind read
+    steps_stop front l r total h e so_far =
+        let b = both_true (passes (separator ∷ []) (next l)) (passes ks (second l)) h in
+        let s = separator_there l b.0 in
+        let m = s.0 in
+        let at : token_at (separator ∷ []) l ≡ Ok (s.1, m) = s.2 in
+        let inner : (read t n g m >>= λ y. Ok (Pair s.1 y.0, y.1)) ≡ Err r = sym (ap (λ (r : Read). then_pair r (read t n g)) at) ∙ e in
+        let part : read t n g m ≡ Err r = elim (bind_err (read t n g m) (λ y. Ok (Pair s.1 y.0, y.1)) r inner) [ inl f ↦ f | inr f ↦ absurd (ok_no_err (Pair s.1 f.0.0, f.0.1) r f.2) ] in
+        let leads : passes ks (next m) ≡ true = ap (passes ks) (sym s.3) ∙ b.1 in
+        let turn : read t n (series separator ks g z) l ≡ then_pair (Ok (s.1, m)) behind = series_read l ∙ led l b.0 (s.1, m) at in
+        let behind_is : behind m ≡ Err r = led_part m leads (Err r) part in
+        sym so_far ∙ ap (with_steps front) (turn ∙ ap (λ (r : Read). r >>= λ y. Ok (Pair s.1 y.0, y.1)) behind_is)
 
-    -- the end behind a separator was read, or refused
-    pub steps_end : (front : List Step) (l m : List Item) (s : Node) (r : Read) (total : Read) → passes (separator ∷ []) (next l) ≡ true → token_at (separator ∷ []) l ≡ Ok (s, m)
-        → passes ks (next m) ≡ false → read t n z m ≡ r → with_steps front (read t n (series separator ks g z) l) ≡ total → total ≡ with_steps front (r >>= λ y. Ok (Pair s y.0, y.1))
-    unfolding behind
-    steps_end front l m s r total h at h' e so_far =
-        let turn : read t n (series separator ks g z) l ≡ then_pair (Ok (s, m)) behind = series_read l ∙ rw (h, at) refl in
-        let part : behind m ≡ r = rw h' e in
-        sym so_far ∙ ap (with_steps front) (turn ∙ ap (λ (r : Read). r >>= λ y. Ok (Pair s y.0, y.1)) part)
+    by_test : (b : Bool) → (b ≡ true) ⊎ (b ≡ false)
+    by_test true = inl refl
+    by_test false = inr refl
 
-    -- no separator comes
-    pub steps_done : (front : List Step) (l : List Item) (total : Read) → passes (separator ∷ []) (next l) ≡ false → with_steps front (read t n (series separator ks g z) l) ≡ total → total ≡ Ok (chain front Nothing, l)
-    steps_done front l total h so_far =
-        let turn : read t n (series separator ks g z) l ≡ Ok (Nothing, l) = series_read l ∙ rw h refl in
-        sym so_far ∙ ap (with_steps front) turn
+    -- where no further part comes, the end is read
+    series_ends : (l : List Item) → goes_further l ≡ false → read t n (series separator ks g z) l ≡ read t n end_rule l
+    unfolding behind read
+    series_ends l h = elim (by_test (passes (separator ∷ []) (next l))) [
+      | inl a ↦
+          let s = separator_there l a in
+          let m = s.0 in
+          let at : token_at (separator ∷ []) l ≡ Ok (s.1, m) = s.2 in
+          let leads : passes ks (next m) ≡ false = ap (passes ks) (sym s.3) ∙ sym (ap (λ (b : Bool). if b then passes ks (second l) else false) a) ∙ h in
+          let left : read t n (series separator ks g z) l ≡ then_pair (Ok (s.1, m)) behind = series_read l ∙ rw (a, at) refl in
+          let right : read t n end_rule l ≡ then_pair (Ok (s.1, m)) (read t n z) = rw (a, at) refl in
+          let behind_is : behind m ≡ read t n z m = rw leads refl in
+          left ∙ ap (λ (r : Read). r >>= λ y. Ok (Pair s.1 y.0, y.1)) behind_is ∙ sym right
+      | inr a ↦
+          let left : read t n (series separator ks g z) l ≡ Ok (Nothing, l) = series_read l ∙ rw a refl in
+          let right : read t n end_rule l ≡ Ok (Nothing, l) = rw a refl in
+          left ∙ sym right
+    ]
+
+    pub steps_done : (front : List Step) (l : List Item) (end : Node) (rest : List Item) (total : Read) → goes_further l ≡ false → read t n end_rule l ≡ Ok (end, rest)
+        → with_steps front (read t n (series separator ks g z) l) ≡ total → total ≡ Ok (chain front end, rest)
+    steps_done front l end rest total h e so_far = sym so_far ∙ ap (with_steps front) (series_ends l h ∙ e)
+
+    pub steps_break : (front : List Step) (l : List Item) (r : Refusal) (total : Read) → goes_further l ≡ false → read t n end_rule l ≡ Err r
+        → with_steps front (read t n (series separator ks g z) l) ≡ total → total ≡ Err r
+    steps_break front l r total h e so_far = sym so_far ∙ ap (with_steps front) (series_ends l h ∙ e)

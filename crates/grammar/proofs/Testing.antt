@@ -1,8 +1,8 @@
 -- The derived comparison of terminals is the test by their places.
-use Rattle.std.proofs.Common.{◌≡◌, ℕ, nat_eq, refl, arith}
+use Rattle.std.proofs.Common.{◌≡◌, ℕ, Bool, true, nat_eq, refl, arith, ◌∙◌}
 use Rattle.std.proofs.lemmas.Bool.Decides.{nat_tests}
 use denote.Enum.Declared.{tag_of}
-use denote.Enum.Bare.{sameb}
+use denote.Enum.Bare.{sameb, same_true}
 use Rattle.grammar.specs.declared.terminals.Terminal.{Terminal}
 use Rattle.grammar.specs.declared.terminals.Terminal.TheVariants.{WAnd, WArray, WBegin, WCase, WConst, WDiv, WDo, WDownto, WElse, WEnd, WFile, WFor, WFunction, WGoto, WIf, WIn, WLabel, WMod, WNil, WNot, WOf, WOr, WPacked, WProcedure, WProgram, WRecord, WRepeat, WSet, WThen, WTo, WType, WUntil, WVar, WWhile, WWith, Plus, Minus, Star, Equal, Less, Greater, LeftBracket, RightBracket, Dot, Comma, Colon, Semicolon, Caret, LeftParen, RightParen, NotEqual, AtMost, AtLeast, Becomes, Range, Name, Number, Text, End}
 use Rattle.grammar.specs.contracts.terminals.Terminal.{the_type}
@@ -74,3 +74,6 @@ swap m n = grind (arith, nat_tests)
 
 pub is-same : (a b : Terminal) → sameb the_type a b ≡ is b a
 is-same a b = rw (tag-place a, tag-place b) (swap (place a) (place b))
+
+pub is-equal : (a b : Terminal) → is b a ≡ true → a ≡ b
+is-equal a b e = same_true the_type tt a b (is-same a b ∙ e)

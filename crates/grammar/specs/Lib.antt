@@ -1,6 +1,8 @@
 pub mod Deciding
+pub mod Ending
 pub mod Grammars
 pub mod Laws
+pub mod Loose
 pub mod Nodes
 pub mod Reading
 pub mod Terminals

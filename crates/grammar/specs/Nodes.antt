@@ -26,6 +26,11 @@ ahead (x ∷ l) h = Some x.kind
 abbrev pub next : List Item → Option Terminal
 next l = ahead l None
 
+-- and of the second
+abbrev pub second : List Item → Option Terminal
+second [] = None
+second (x ∷ l) = next l
+
 -- a token of a terminal, by its number
 abbrev pub leaf : Terminal → ℕ → Node
 leaf kind n = Leaf (record { kind = kind; number = n })
@@ -39,6 +44,9 @@ row (x ∷ xs) = Pair x (row xs)
 pub record Step : Type 0 where
   pub separator : Node
   pub part : Node
+
+abbrev pub step_node : Step → Node
+step_node s = Pair s.separator s.part
 
 -- a series of them, and what stands at its end
 abbrev pub chain : List Step → Node → Node

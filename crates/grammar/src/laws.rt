@@ -1,5 +1,6 @@
 //! Laws of grammars and their readers, each the contract of a call that does nothing.
 
+ghost use Rattle.grammar.specs.Ending.{RefusedIsInside};
 ghost use Rattle.grammar.specs.Laws.{FormedIsFound, FoundIsFormed, OneTree, RefusedIsWrong, SurplusIsWrong};
 
 /// The reader of a grammar in which one token decides each choice gives exactly the formed trees.
@@ -13,4 +14,9 @@ pub fn reading_is_exact()
 pub fn refusals_are_right()
     ensures refused { RefusedIsWrong }
     ensures surplus { SurplusIsWrong }
+{}
+
+/// Where a terminal stands at the end of a text alone, what has it is refused at a token of its own.
+pub fn refusals_are_inside()
+    ensures { RefusedIsInside }
 {}

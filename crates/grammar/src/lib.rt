@@ -6,5 +6,5 @@
 mod laws;
 mod terminals;
 
-pub use laws::{reading_is_exact, refusals_are_right};
+pub use laws::{reading_is_exact, refusals_are_inside, refusals_are_right};
 pub use terminals::Terminal;

@@ -1,6 +1,6 @@
 //! The terminal symbols of Pascal.
 
-ghost use Rattle.std.specs.Prelude.{◌≡◌};
+ghost use Rattle.std.specs.Prelude.{◌≡◌, IsTrue};
 ghost use Rattle.grammar.specs.Terminals.{is};
 
 /// A terminal symbol of the grammar (ISO 7185 clause 6.1): what is left of a token once its value and its
@@ -95,7 +95,8 @@ pub enum Terminal {
 impl Terminal {
     /// Whether this is that terminal.
     pub fn is(self, wanted: Terminal) -> bool
-        ensures { result ≡ is wanted self }
+        ensures tests { result ≡ is wanted self }
+        ensures equal { IsTrue result → self ≡ wanted }
     {
         self == wanted
     }

@@ -1,0 +1,18 @@
+-- A grammar without the rule that a greedy part is taken where it can be.
+use Rattle.std.specs.Prelude.{ℕ, Option, None}
+use Rattle.grammar.specs.Nodes.{Node}
+use Rattle.grammar.specs.Grammars.{Level, Grammar, token, nothing, seq, choice, greedy, level, loop, again, Free, FreeWithin}
+
+abbrev pub loose : Grammar → Grammar
+loose (token ks) = token ks
+loose nothing = nothing
+loose (seq a b) = seq (loose a) (loose b)
+loose (choice ks a b) = choice ks (loose a) (loose b)
+loose (greedy ks a) = choice ks (loose a) nothing
+loose (level l) = level l
+loose (loop a) = loop (loose a)
+loose again = again
+
+-- It is a tree of the grammar at some nesting, whatever its greedy parts.
+abbrev pub IsGrammatical : (Level → Grammar) → Grammar → Node → Type 0
+IsGrammatical rule g x = (n : ℕ) × Free (FreeWithin (λ l. loose (rule l)) n) (loose g) x None

@@ -1,0 +1,14 @@
+pub mod BlockRolls
+pub mod Decided
+pub mod DenoterRolls
+pub mod ExpressionRolls
+pub mod HeadingRolls
+pub mod Parts
+pub mod StatementRolls
+pub mod TypedBase
+pub mod TypedBlocks
+pub mod TypedConstants
+pub mod TypedDenoters
+pub mod TypedExpressions
+pub mod TypedHeadings
+pub mod TypedStatements

@@ -1,0 +1,20 @@
+//! Laws of the grammar and its trees, each the contract of a call that does nothing.
+
+ghost use Rattle.std.specs.Prelude.{◌≡◌, true};
+ghost use Rattle.grammar.specs.Deciding.{IsDecided};
+ghost use Rattle.grammar.specs.Loose.{IsGrammatical};
+ghost use Rattle.pas_tree.specs.declared.blocks.Tree.{Tree};
+ghost use Rattle.pas_tree.specs.Blocks.{tree_node};
+ghost use Rattle.pas_tree.specs.Rules.{program_rule, rule};
+ghost use Rattle.pas_tree.specs.Tables.{pascal};
+
+/// In the grammar of Pascal the next token decides each choice, and the tables of what begins and
+/// follows each construct are right.
+pub fn one_token_decides()
+    ensures { IsDecided pascal program_rule ≡ true }
+{}
+
+/// Every tree's node is a tree of the grammar at some nesting, whichever if its elses belong to.
+pub fn trees_fit_the_grammar()
+    ensures { (t : Tree) → IsGrammatical rule program_rule (tree_node t) }
+{}
