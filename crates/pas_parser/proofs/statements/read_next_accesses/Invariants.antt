@@ -1,0 +1,19 @@
+use Rattle.std.proofs.Common.{◌≡◌, ◌≤◌, ◌<◌, ◌+◌, ℕ, List, ◌∷◌, [], map, length, ◌-◌, ◌*◌}
+use Rattle.grammar.specs.declared.terminals.Terminal.TheVariants as k
+use Rattle.grammar.specs.Grammars.{many}
+use Rattle.grammar.specs.Reading.{read}
+use Rattle.grammar.proofs.Lists.{with_front}
+use Rattle.pas_tree.specs.Tables.{pascal}
+use Rattle.pas_phrases.specs.Items.{items_from}
+use Rattle.pas_tree.specs.Statements.{next_access_node}
+use Rattle.pas_tree.specs.Rules.{next_access_rule}
+use Rattle.pas_parser.proofs.statements.read_next_accesses.Given as goal
+
+abbrev pub invariant-accesses : goal.invariant-accesses
+invariant-accesses l = record {
+  so_far : with_front (map next_access_node l.others.items) (read pascal l.depth (many (k.Comma ∷ []) next_access_rule) (items_from l.tokens l.next)) ≡ read pascal l.depth (many (k.Comma ∷ []) next_access_rule) (items_from l.tokens l.at);
+  forward : l.at ≤ l.next;
+}
+
+abbrev pub decreases-accesses : goal.decreases-accesses
+decreases-accesses l = length l.tokens - l.next

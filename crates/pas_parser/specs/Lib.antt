@@ -1,0 +1,3 @@
+pub mod Closers
+pub mod Formed
+pub mod Kinds

@@ -1,0 +1,4 @@
+pub mod Ahead
+pub mod Seen
+pub mod Ends
+pub mod Expected

@@ -1,0 +1,118 @@
+use Rattle.std.proofs.Common.{◌≡◌, ◌≤◌, ◌<◌, ◌+◌, ℕ, List, ◌∷◌, [], map, length, ◌-◌, ◌*◌}
+use Rattle.grammar.specs.declared.terminals.Terminal.TheVariants as k
+use Rattle.grammar.specs.Grammars.{many}
+use Rattle.grammar.specs.Reading.{read}
+use Rattle.grammar.proofs.Lists.{with_front}
+use Rattle.pas_tree.specs.Tables.{pascal}
+use Rattle.pas_phrases.specs.Items.{items_from}
+use Rattle.pas_tree.specs.Expressions.{next_term_node, next_factor_node, next_expression_node, selector_node, next_member_node}
+use Rattle.pas_tree.specs.Rules.{adding, multiplying, selector_starts, next_term_rule, next_factor_rule, next_expression_rule, selector_rule, next_member_rule, selectors_rule}
+use Rattle.pas_phrases.proofs.expressions.+expressions.Given as goal
+
+abbrev pub invariant-read_next_terms-terms : goal.invariant-read_next_terms-terms
+invariant-read_next_terms-terms l = record {
+  so_far : with_front (map next_term_node l.others.items) (read pascal l.depth (many adding next_term_rule) (items_from l.tokens l.next)) ≡ read pascal l.depth (many adding next_term_rule) (items_from l.tokens l.at);
+  forward : l.at ≤ l.next;
+}
+
+abbrev pub decreases-read_next_terms-terms : goal.decreases-read_next_terms-terms
+decreases-read_next_terms-terms l = length l.tokens - l.next
+
+abbrev pub invariant-read_next_factors-factors : goal.invariant-read_next_factors-factors
+invariant-read_next_factors-factors l = record {
+  so_far : with_front (map next_factor_node l.others.items) (read pascal l.depth (many multiplying next_factor_rule) (items_from l.tokens l.next)) ≡ read pascal l.depth (many multiplying next_factor_rule) (items_from l.tokens l.at);
+  forward : l.at ≤ l.next;
+}
+
+abbrev pub decreases-read_next_factors-factors : goal.decreases-read_next_factors-factors
+decreases-read_next_factors-factors l = length l.tokens - l.next
+
+abbrev pub invariant-read_next_expressions-expressions : goal.invariant-read_next_expressions-expressions
+invariant-read_next_expressions-expressions l = record {
+  so_far : with_front (map next_expression_node l.others.items) (read pascal l.depth (many (k.Comma ∷ []) next_expression_rule) (items_from l.tokens l.next)) ≡ read pascal l.depth (many (k.Comma ∷ []) next_expression_rule) (items_from l.tokens l.at);
+  forward : l.at ≤ l.next;
+}
+
+abbrev pub decreases-read_next_expressions-expressions : goal.decreases-read_next_expressions-expressions
+decreases-read_next_expressions-expressions l = length l.tokens - l.next
+
+abbrev pub invariant-read_selectors-selectors : goal.invariant-read_selectors-selectors
+invariant-read_selectors-selectors l = record {
+  so_far : with_front (map selector_node l.others.items) (read pascal l.depth (many selector_starts selector_rule) (items_from l.tokens l.next)) ≡ read pascal l.depth (many selector_starts selector_rule) (items_from l.tokens l.at);
+  forward : l.at ≤ l.next;
+}
+
+abbrev pub decreases-read_selectors-selectors : goal.decreases-read_selectors-selectors
+decreases-read_selectors-selectors l = length l.tokens - l.next
+
+abbrev pub invariant-read_next_members-members : goal.invariant-read_next_members-members
+invariant-read_next_members-members l = record {
+  so_far : with_front (map next_member_node l.others.items) (read pascal l.depth (many (k.Comma ∷ []) next_member_rule) (items_from l.tokens l.next)) ≡ read pascal l.depth (many (k.Comma ∷ []) next_member_rule) (items_from l.tokens l.at);
+  forward : l.at ≤ l.next;
+}
+
+abbrev pub decreases-read_next_members-members : goal.decreases-read_next_members-members
+decreases-read_next_members-members l = length l.tokens - l.next
+
+abbrev pub decreases-read_inner_factor : goal.decreases-read_inner_factor
+decreases-read_inner_factor l = 64 * l.depth + 40
+
+abbrev pub decreases-read_named_factor : goal.decreases-read_named_factor
+decreases-read_named_factor l = 64 * l.depth + 39
+
+abbrev pub decreases-read_paren : goal.decreases-read_paren
+decreases-read_paren l = 64 * l.depth + 39
+
+abbrev pub decreases-read_members : goal.decreases-read_members
+decreases-read_members l = 64 * l.depth + 39
+
+abbrev pub decreases-read_next_members : goal.decreases-read_next_members
+decreases-read_next_members l = 64 * l.depth + 38
+
+abbrev pub decreases-read_next_member : goal.decreases-read_next_member
+decreases-read_next_member l = 64 * l.depth + 37
+
+abbrev pub decreases-read_member : goal.decreases-read_member
+decreases-read_member l = 64 * l.depth + 36
+
+abbrev pub decreases-read_arguments : goal.decreases-read_arguments
+decreases-read_arguments l = 64 * l.depth + 38
+
+abbrev pub decreases-read_selectors : goal.decreases-read_selectors
+decreases-read_selectors l = 64 * l.depth + 38
+
+abbrev pub decreases-read_selector : goal.decreases-read_selector
+decreases-read_selector l = 64 * l.depth + 37
+
+abbrev pub decreases-read_index : goal.decreases-read_index
+decreases-read_index l = 64 * l.depth + 36
+
+abbrev pub decreases-read_next_expressions : goal.decreases-read_next_expressions
+decreases-read_next_expressions l = 64 * l.depth + 35
+
+abbrev pub decreases-read_next_expression : goal.decreases-read_next_expression
+decreases-read_next_expression l = 64 * l.depth + 34
+
+abbrev pub decreases-read_expression : goal.decreases-read_expression
+decreases-read_expression l = 64 * l.depth + 30
+
+abbrev pub decreases-read_simple : goal.decreases-read_simple
+decreases-read_simple l = 64 * l.depth + 25
+
+abbrev pub decreases-read_next_terms : goal.decreases-read_next_terms
+decreases-read_next_terms l = 64 * l.depth + 20
+
+abbrev pub decreases-read_next_term : goal.decreases-read_next_term
+decreases-read_next_term l = 64 * l.depth + 18
+
+abbrev pub decreases-read_term : goal.decreases-read_term
+decreases-read_term l = 64 * l.depth + 15
+
+abbrev pub decreases-read_next_factors : goal.decreases-read_next_factors
+decreases-read_next_factors l = 64 * l.depth + 10
+
+abbrev pub decreases-read_next_factor : goal.decreases-read_next_factor
+decreases-read_next_factor l = 64 * l.depth + 8
+
+abbrev pub decreases-read_factor : goal.decreases-read_factor
+decreases-read_factor l = 64 * l.depth + 0
