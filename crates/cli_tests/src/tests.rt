@@ -3,6 +3,7 @@
 use debug_cli::{SOURCE_BYTES, ask_pascal};
 use edge_ports::{Bytes, Page, Shelf, Tape};
 use std::alloc::Global;
+use std::process::Abort;
 use std::test::Fail;
 
 const ROOM: usize = 4_096;
@@ -323,179 +324,6 @@ fn many_calls(rt: HostRuntime) -> Result<(), Fail> {
     Ok(())
 }
 
-// Why and where each source is refused. The place is marked by `|`, which is taken out of it.
-const REFUSED: [(&str, &[u8]); 76] = [
-    ("Unbuilt", b"|"),
-    ("Unbuilt", b"|; program p; begin x := 1 end."),
-    ("Unbuilt", b"|p; begin end."),
-    (
-        "Unbuilt",
-        b"|x program p; var x: integer; begin x := 1 end.",
-    ),
-    ("Unbuilt", b"program |; begin x := 1 end."),
-    ("Unbuilt", b"program |begin; begin x := 1 end."),
-    ("Unbuilt", b"program |1; begin x := 1 end."),
-    ("Unbuilt", b"program p |begin x := 1 end."),
-    ("Unbuilt", b"program p|, q; begin x := 1 end."),
-    ("Unbuilt", b"program p|. var x: integer; begin x := 1 end."),
-    ("Unbuilt", b"program p; |x := 1 end."),
-    ("Unbuilt", b"program p; |end."),
-    ("Unbuilt", b"program p; |const c; begin x := 1 end."),
-    ("Unbuilt", b"program p; begin |end."),
-    ("Unbuilt", b"program p; begin |; end."),
-    ("Unbuilt", b"program p; begin |x := 1 end."),
-    ("Unbuilt", b"program p; begin |1 end."),
-    ("Unbuilt", b"program p; begin |begin end end."),
-    ("Unbuilt", b"program p; begin |p end."),
-    ("Unbuilt", b"program p; begin |integer := 1 end."),
-    ("Unbuilt", b"program p; var |begin x := 1 end."),
-    ("Unbuilt", b"program p; var |: integer; begin x := 1 end."),
-    ("Unbuilt", b"program p; var |1: integer; begin x := 1 end."),
-    (
-        "Unbuilt",
-        b"program p; var |input: integer; begin x := 1 end.",
-    ),
-    ("Unbuilt", b"program p; var x |integer; begin x := 1 end."),
-    ("Unbuilt", b"program p; var x|; begin x := 1 end."),
-    (
-        "Unbuilt",
-        b"program p; var x, |: integer; begin x := 1 end.",
-    ),
-    (
-        "Unbuilt",
-        b"program p; var x, |X: integer; begin x := 1 end.",
-    ),
-    (
-        "Unbuilt",
-        b"program p; var x, y, z, |y: integer; begin x := 1 end.",
-    ),
-    (
-        "Unbuilt",
-        b"program p; var x |y: integer; begin x := 1 end.",
-    ),
-    ("Unbuilt", b"program p; var x: |char; begin x := 1 end."),
-    ("Unbuilt", b"program p; var x: |x; begin x := 1 end."),
-    ("Unbuilt", b"program p; var x: |1; begin x := 1 end."),
-    ("Unbuilt", b"program p; var x: integer |begin x := 1 end."),
-    (
-        "Unbuilt",
-        b"program p; var x: integer; |y: integer; begin x := 1 end.",
-    ),
-    (
-        "Unbuilt",
-        b"program p; var x: integer; |var y: integer; begin x := 1 end.",
-    ),
-    ("Unbuilt", b"program p;\nvar x: integer;\nbegin x |= 1 end."),
-    ("Unbuilt", b"program p;\nvar x: integer;\nbegin x |: 1 end."),
-    ("Unbuilt", b"program p;\nvar x: integer;\nbegin x := |end."),
-    (
-        "Unbuilt",
-        b"program p;\nvar x: integer;\nbegin x := |+ 1 end.",
-    ),
-    (
-        "Unbuilt",
-        b"program p;\nvar x: integer;\nbegin x := |y + 1 end.",
-    ),
-    (
-        "Unbuilt",
-        b"program p;\nvar x: integer;\nbegin x := x |end.",
-    ),
-    (
-        "Unbuilt",
-        b"program p;\nvar x: integer;\nbegin x := x |1 end.",
-    ),
-    (
-        "Unbuilt",
-        b"program p;\nvar x: integer;\nbegin x := x + |x end.",
-    ),
-    (
-        "TooLarge",
-        b"program p;\nvar x: integer;\nbegin x := x + |2147483648 end.",
-    ),
-    (
-        "Unbuilt",
-        b"program p;\nvar x: integer;\nbegin x := 1 |+ 2 end.",
-    ),
-    (
-        "Joined",
-        b"program p;\nvar x: integer;\nbegin x := |1x end.",
-    ),
-    (
-        "Unbuilt",
-        b"program p;\nvar x: integer;\nbegin x := 1; |end.",
-    ),
-    (
-        "Unbuilt",
-        b"program p;\nvar x: integer;\nbegin x := 1 |x := 2 end.",
-    ),
-    (
-        "Unbuilt",
-        b"program p;\nvar x: integer;\nbegin x := 1 end|;",
-    ),
-    ("Unbuilt", b"program p;\nvar x: integer;\nbegin x := 1 end|"),
-    (
-        "Unbuilt",
-        b"program p;\nvar x: integer;\nbegin x := 1 end. |program",
-    ),
-    (
-        "BadByte",
-        b"program p;\nvar x: integer;\nbegin x := 1 end.\n|\0",
-    ),
-    (
-        "BadByte",
-        b"program p;\nvar x: integer;\nbegin x := 1 end.\n|\xe9",
-    ),
-    (
-        "Unbuilt",
-        b"program p; procedure |; begin x := 1 end; begin x := 1 end.",
-    ),
-    (
-        "Unbuilt",
-        b"program p; procedure q; begin q end; procedure |Q; begin q end; begin q end.",
-    ),
-    (
-        "Unbuilt",
-        b"program p; var q: integer; procedure |q; begin q := 1 end; begin q := 1 end.",
-    ),
-    (
-        "Unbuilt",
-        b"program p; procedure q; begin |r end; procedure r; begin q end; begin q end.",
-    ),
-    ("BadByte", b"program p; begin x := |# end."),
-    ("BadByte", b"program p; |} begin end."),
-    (
-        "BadByte",
-        b"program p; var x|_y: integer; begin x := 1 end.",
-    ),
-    ("OpenComment", b"program p;\n|{ begin end."),
-    ("OpenComment", b"program p; begin end.\n|(*)"),
-    ("OpenString", b"program p; begin write(|'a) end."),
-    ("OpenString", b"program p; begin write('a'|');\n end."),
-    ("EmptyString", b"program p; begin write(|'') end."),
-    ("RealWord", b"program p; begin x := |1.5 end."),
-    ("RealWord", b"program p; begin x := 1 |/ 2 end."),
-    ("RealWord", b"program p; begin x := |2147483648e5 end."),
-    ("Joined", b"program p; begin x := |1e end."),
-    (
-        "Unbuilt",
-        b"program p;\nvar x: integer;\nbegin x |: = 1 end.",
-    ),
-    (
-        "Unbuilt",
-        b"program p;\nvar x: integer;\nbegin x := 1 |.. 5 end.",
-    ),
-    (
-        "Unbuilt",
-        b"program p;\nvar x: integer;\nbegin x := |'a' end.",
-    ),
-    (
-        "Unbuilt",
-        b"program p;\nvar x: integer;\nbegin |if x = 1 then x := 2 end.",
-    ),
-    ("Unbuilt", b"program p|(output); begin x := 1 end."),
-    ("Unbuilt", b"program p; |const c = 1; begin x := 1 end."),
-];
-
 // The source without its mark, and the line of refusal that is to be printed.
 fn refusal(alloc: Global, why: &str, marked: &[u8]) -> Result<(Bytes, Bytes), Fail> {
     let place = marked
@@ -513,10 +341,9 @@ fn refusal(alloc: Global, why: &str, marked: &[u8]) -> Result<(Bytes, Bytes), Fa
     Ok((source, refused))
 }
 
-#[test]
-fn refusals(rt: HostRuntime) -> Result<(), Fail> {
-    let alloc = rt.alloc();
-    for (why, marked) in REFUSED {
+// Each source is refused for this reason, at the place that is marked by `|`, which is taken out of it.
+fn check_refusals(rt: &impl Abort, alloc: Global, rows: &[(&str, &[u8])]) -> Result<(), Fail> {
+    for (why, marked) in rows {
         let (source, refused) = refusal(alloc, why, marked)?;
         let tape = Tape::new(alloc, b"", &[])?;
         let got = session(alloc, source.as_slice(), tape, Page::new(alloc, ROOM, &[])?)?;
@@ -524,6 +351,230 @@ fn refusals(rt: HostRuntime) -> Result<(), Fail> {
         assert_eq!(rt; got.0, 3);
     }
     Ok(())
+}
+
+// Headings, and statement parts that begin with what is no step.
+#[test]
+fn refused_headings(rt: HostRuntime) -> Result<(), Fail> {
+    check_refusals(
+        &rt,
+        rt.alloc(),
+        &[
+            ("Unbuilt", b"|"),
+            ("Unbuilt", b"|; program p; begin x := 1 end."),
+            ("Unbuilt", b"|p; begin end."),
+            (
+                "Unbuilt",
+                b"|x program p; var x: integer; begin x := 1 end.",
+            ),
+            ("Unbuilt", b"program |; begin x := 1 end."),
+            ("Unbuilt", b"program |begin; begin x := 1 end."),
+            ("Unbuilt", b"program |1; begin x := 1 end."),
+            ("Unbuilt", b"program p |begin x := 1 end."),
+            ("Unbuilt", b"program p|, q; begin x := 1 end."),
+            ("Unbuilt", b"program p|. var x: integer; begin x := 1 end."),
+            ("Unbuilt", b"program p; |x := 1 end."),
+            ("Unbuilt", b"program p; |end."),
+            ("Unbuilt", b"program p; |const c; begin x := 1 end."),
+            ("Unbuilt", b"program p; begin |end."),
+            ("Unbuilt", b"program p; begin |; end."),
+            ("Unbuilt", b"program p; begin |x := 1 end."),
+            ("Unbuilt", b"program p; begin |1 end."),
+            ("Unbuilt", b"program p; begin |begin end end."),
+            ("Unbuilt", b"program p; begin |p end."),
+            ("Unbuilt", b"program p; begin |integer := 1 end."),
+            ("Unbuilt", b"program p|(output); begin x := 1 end."),
+            ("Unbuilt", b"program p; |const c = 1; begin x := 1 end."),
+        ],
+    )
+}
+
+// Variable parts.
+#[test]
+fn refused_variables(rt: HostRuntime) -> Result<(), Fail> {
+    check_refusals(
+        &rt,
+        rt.alloc(),
+        &[
+            ("Unbuilt", b"program p; var |begin x := 1 end."),
+            ("Unbuilt", b"program p; var |: integer; begin x := 1 end."),
+            ("Unbuilt", b"program p; var |1: integer; begin x := 1 end."),
+            (
+                "Unbuilt",
+                b"program p; var |input: integer; begin x := 1 end.",
+            ),
+            ("Unbuilt", b"program p; var x |integer; begin x := 1 end."),
+            ("Unbuilt", b"program p; var x|; begin x := 1 end."),
+            (
+                "Unbuilt",
+                b"program p; var x, |: integer; begin x := 1 end.",
+            ),
+            (
+                "Unbuilt",
+                b"program p; var x, |X: integer; begin x := 1 end.",
+            ),
+            (
+                "Unbuilt",
+                b"program p; var x, y, z, |y: integer; begin x := 1 end.",
+            ),
+            (
+                "Unbuilt",
+                b"program p; var x |y: integer; begin x := 1 end.",
+            ),
+            ("Unbuilt", b"program p; var x: |char; begin x := 1 end."),
+            ("Unbuilt", b"program p; var x: |x; begin x := 1 end."),
+            ("Unbuilt", b"program p; var x: |1; begin x := 1 end."),
+            ("Unbuilt", b"program p; var x: integer |begin x := 1 end."),
+            (
+                "Unbuilt",
+                b"program p; var x: integer; |y: integer; begin x := 1 end.",
+            ),
+            (
+                "Unbuilt",
+                b"program p; var x: integer; |var y: integer; begin x := 1 end.",
+            ),
+        ],
+    )
+}
+
+// Steps.
+#[test]
+fn refused_steps(rt: HostRuntime) -> Result<(), Fail> {
+    check_refusals(
+        &rt,
+        rt.alloc(),
+        &[
+            ("Unbuilt", b"program p;\nvar x: integer;\nbegin x |= 1 end."),
+            ("Unbuilt", b"program p;\nvar x: integer;\nbegin x |: 1 end."),
+            ("Unbuilt", b"program p;\nvar x: integer;\nbegin x := |end."),
+            (
+                "Unbuilt",
+                b"program p;\nvar x: integer;\nbegin x := |+ 1 end.",
+            ),
+            (
+                "Unbuilt",
+                b"program p;\nvar x: integer;\nbegin x := |y + 1 end.",
+            ),
+            (
+                "Unbuilt",
+                b"program p;\nvar x: integer;\nbegin x := x |end.",
+            ),
+            (
+                "Unbuilt",
+                b"program p;\nvar x: integer;\nbegin x := x |1 end.",
+            ),
+            (
+                "Unbuilt",
+                b"program p;\nvar x: integer;\nbegin x := x + |x end.",
+            ),
+            (
+                "Unbuilt",
+                b"program p;\nvar x: integer;\nbegin x := 1 |+ 2 end.",
+            ),
+            (
+                "Unbuilt",
+                b"program p;\nvar x: integer;\nbegin x := 1; |end.",
+            ),
+            (
+                "Unbuilt",
+                b"program p;\nvar x: integer;\nbegin x := 1 |x := 2 end.",
+            ),
+            (
+                "Unbuilt",
+                b"program p;\nvar x: integer;\nbegin x |: = 1 end.",
+            ),
+            (
+                "Unbuilt",
+                b"program p;\nvar x: integer;\nbegin x := 1 |.. 5 end.",
+            ),
+            (
+                "Unbuilt",
+                b"program p;\nvar x: integer;\nbegin x := |'a' end.",
+            ),
+            (
+                "Unbuilt",
+                b"program p;\nvar x: integer;\nbegin |if x = 1 then x := 2 end.",
+            ),
+        ],
+    )
+}
+
+// Procedures, and the end of a program.
+#[test]
+fn refused_ends_and_procedures(rt: HostRuntime) -> Result<(), Fail> {
+    check_refusals(
+        &rt,
+        rt.alloc(),
+        &[
+            (
+                "Unbuilt",
+                b"program p;\nvar x: integer;\nbegin x := 1 end|;",
+            ),
+            ("Unbuilt", b"program p;\nvar x: integer;\nbegin x := 1 end|"),
+            (
+                "Unbuilt",
+                b"program p;\nvar x: integer;\nbegin x := 1 end. |program",
+            ),
+            (
+                "Unbuilt",
+                b"program p; procedure |; begin x := 1 end; begin x := 1 end.",
+            ),
+            (
+                "Unbuilt",
+                b"program p; procedure q; begin q end; procedure |Q; begin q end; begin q end.",
+            ),
+            (
+                "Unbuilt",
+                b"program p; var q: integer; procedure |q; begin q := 1 end; begin q := 1 end.",
+            ),
+            (
+                "Unbuilt",
+                b"program p; procedure q; begin |r end; procedure r; begin q end; begin q end.",
+            ),
+        ],
+    )
+}
+
+// Pieces that do not fit.
+#[test]
+fn misfits(rt: HostRuntime) -> Result<(), Fail> {
+    check_refusals(
+        &rt,
+        rt.alloc(),
+        &[
+            (
+                "TooLarge",
+                b"program p;\nvar x: integer;\nbegin x := x + |2147483648 end.",
+            ),
+            (
+                "Joined",
+                b"program p;\nvar x: integer;\nbegin x := |1x end.",
+            ),
+            (
+                "BadByte",
+                b"program p;\nvar x: integer;\nbegin x := 1 end.\n|\0",
+            ),
+            (
+                "BadByte",
+                b"program p;\nvar x: integer;\nbegin x := 1 end.\n|\xe9",
+            ),
+            ("BadByte", b"program p; begin x := |# end."),
+            ("BadByte", b"program p; |} begin end."),
+            (
+                "BadByte",
+                b"program p; var x|_y: integer; begin x := 1 end.",
+            ),
+            ("OpenComment", b"program p;\n|{ begin end."),
+            ("OpenComment", b"program p; begin end.\n|(*)"),
+            ("OpenString", b"program p; begin write(|'a) end."),
+            ("OpenString", b"program p; begin write('a'|');\n end."),
+            ("EmptyString", b"program p; begin write(|'') end."),
+            ("RealWord", b"program p; begin x := |1.5 end."),
+            ("RealWord", b"program p; begin x := 1 |/ 2 end."),
+            ("RealWord", b"program p; begin x := |2147483648e5 end."),
+            ("Joined", b"program p; begin x := |1e end."),
+        ],
+    )
 }
 
 // A console of so many bytes of one kind.
