@@ -141,9 +141,9 @@ pub enum LexFault {
     Memory,
 }
 
-/// Why no piece fits at a place.
+/// Why no piece fits at a place: the fault without its byte.
 #[derive(Clone, Copy)]
-pub(crate) enum Reason {
+pub enum Reason {
     BadByte,
     OpenComment,
     OpenString,
@@ -155,7 +155,7 @@ pub(crate) enum Reason {
 
 impl Reason {
     /// The fault for this reason, at a byte.
-    pub(crate) fn fault(self, byte: u32) -> LexFault
+    pub fn fault(self, byte: u32) -> LexFault
         ensures { result ≡ fault_of self byte }
     {
         match self {
