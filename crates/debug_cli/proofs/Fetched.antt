@@ -21,7 +21,7 @@ use Rattle.debug_cli.specs.declared.dialog.Ending.TheVariants as ending
 use Rattle.debug_cli.specs.declared.status.Status.{Status}
 use Rattle.debug_cli.specs.declared.status.Status.TheVariants as status
 use Rattle.debug_cli.specs.declared.refusal.Reason.{Reason}
-use Rattle.debug_cli.specs.Small.{Small}
+use Rattle.small_program.specs.Small.{Small}
 use Rattle.debug_cli.specs.Program.{IsProgram, NoProgram}
 use Rattle.debug_cli.specs.History.{History, history_of}
 use Rattle.debug_cli.specs.Laws.{OneRun}

@@ -1,17 +1,7 @@
 pub mod Words
-pub mod Fronts
-pub mod Placed
-pub mod Lists
-pub mod Named
-pub mod Begins
-pub mod Sound
-pub mod Whole
-pub mod Parsed
 pub mod Talk
 pub mod Opened
 pub mod Fetched
 pub mod Codes
 pub mod Columns
-pub mod Local
-pub mod Refusals
 pub mod Best

@@ -10,9 +10,9 @@ use Rattle.core_program.specs.Tables.{Tables}
 use Rattle.debug_cli.specs.declared.run.SourceFault.{SourceFault}
 use Rattle.debug_cli.specs.declared.run.SourceFault.TheVariants.{Refused, Memory}
 use Rattle.debug_cli.specs.declared.run.TheConstants.{BUDGET}
-use Rattle.debug_cli.specs.Small.{Piece, pieces, Small, IsSmall, program_of}
-use Rattle.debug_cli.specs.Reading.{Read}
-use Rattle.debug_cli.proofs.Whole.{small_whole}
+use Rattle.small_program.specs.Small.{Piece, pieces, Small, IsSmall, program_of}
+use Rattle.small_program.specs.Reading.{Read}
+use Rattle.small_program.proofs.Whole.{small_whole}
 use Rattle.debug_cli.specs.History.{History, history_of, calls_within}
 use Rattle.debug_cli.specs.Program.{IsProgram, Keeps, Refuses, IsRefused, IsMisfit, IsUnlexed, IsUnread, TokensAre, ProgramIs}
 

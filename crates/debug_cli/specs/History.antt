@@ -10,7 +10,7 @@ use Rattle.core_program.specs.Numbering.{numbered, calls_of}
 use Rattle.plain_search.specs.Numbering.{AreIntervals}
 use Rattle.debug_cli.specs.declared.run.Run.{Run}
 use Rattle.debug_cli.specs.declared.run.TheConstants.{BUDGET}
-use Rattle.debug_cli.specs.Small.{Small, program_of}
+use Rattle.small_program.specs.Small.{Small, program_of}
 
 -- the tokens of a source, the program that they are, and the calls of its run in order of entry
 pub record History : Type 0 where

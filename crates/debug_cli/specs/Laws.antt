@@ -6,7 +6,7 @@ use Rattle.plain_search.specs.declared.state.SearchState.TheVariants.{Ask, Found
 use Rattle.plain_search.specs.declared.entries.Judgement.TheVariants as judgement
 use Rattle.plain_search.specs.State.{suspects_after}
 use Rattle.plain_search.specs.Laws.{left_after, IsAtFault}
-use Rattle.debug_cli.specs.Small.{Small}
+use Rattle.small_program.specs.Small.{Small}
 use Rattle.debug_cli.specs.Program.{IsProgram}
 use Rattle.debug_cli.specs.History.{History, history_of, lasts_of, parents_of}
 use Rattle.debug_cli.specs.Dialog.{state}

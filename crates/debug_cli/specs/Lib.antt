@@ -1,7 +1,4 @@
 pub mod Commands
-pub mod Names
-pub mod Small
-pub mod Reading
 pub mod History
 pub mod Texts
 pub mod Dialog

@@ -11,7 +11,7 @@ use Rattle.debug_cli.specs.declared.run.SourceFault.{SourceFault}
 use Rattle.debug_cli.specs.declared.run.SourceFault.TheVariants.{Refused, Memory}
 use Rattle.debug_cli.specs.declared.run.Run.{Run}
 use Rattle.debug_cli.specs.History.{History, history}
-use Rattle.debug_cli.specs.Small.{pieces, Small, IsSmall, BeginsNone}
+use Rattle.small_program.specs.Small.{pieces, Small, IsSmall, BeginsNone}
 
 -- the source has these tokens, which are this small program
 pub record IsProgram (source : List ℕ) (t : Lexed) (s : Small) : Type 0 where

@@ -6,7 +6,7 @@ ghost use Rattle.edge_ports.specs.Told.{GaveAll, GavePrefix};
 ghost use Rattle.edge_ports.specs.Lines.{whole_lines};
 ghost use Rattle.edge_ports.specs.declared.lines.TheConstants.{CONSOLE_BYTES};
 ghost use Rattle.pas_lexer.specs.Lexed.{Lexed};
-ghost use Rattle.debug_cli.specs.Small.{Small};
+ghost use Rattle.small_program.specs.Small.{Small};
 ghost use Rattle.debug_cli.specs.Program.{IsProgram, NoProgram};
 ghost use Rattle.debug_cli.specs.Texts.{usage_line, file_line, refused_line};
 ghost use Rattle.debug_cli.specs.History.{history_of};

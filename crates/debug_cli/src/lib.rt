@@ -6,14 +6,10 @@ mod commands;
 mod dialog;
 mod judging;
 mod laws;
-mod names;
 mod refusal;
-mod required;
 mod run;
 mod session;
-mod small;
 mod status;
-mod terminals;
 mod texts;
 
 pub use ask::{SOURCE_BYTES, ask_pascal};

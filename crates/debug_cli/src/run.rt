@@ -5,12 +5,12 @@ ghost use Rattle.pas_lexer.specs.declared.kinds.Token.{Token};
 ghost use Rattle.pas_lexer.specs.Lexed.{Lexed, EndsOnce};
 ghost use Rattle.pas_lexer.specs.Division.{line_at, line_feed, IsLexed, IsFault};
 ghost use Rattle.debug_cli.specs.declared.run.SourceFault.TheVariants.{Refused, Memory};
-ghost use Rattle.debug_cli.specs.Small.{Small, IsSmall, pieces, program_of};
+ghost use Rattle.small_program.specs.Small.{Small, IsSmall, pieces, program_of};
 ghost use Rattle.debug_cli.specs.Program.{IsProgram, Keeps, IsRefused, IsMisfit, IsUnlexed, IsUnread, TokensAre, ProgramIs};
 ghost use Rattle.debug_cli.specs.History.{history, history_of, calls_within, lasts_of, IsReady};
 
 use crate::refusal::Reason;
-use crate::small::{SmallFault, parse_small};
+use small_program::{SmallFault, parse_small};
 use core_program::{Calls, Program, numbers_tell_the_tree, run_calls};
 use pas_lexer::{LexFault, Tokens, lex};
 use std::alloc::{AllocError, Global};

@@ -1,4 +1,4 @@
-use Rattle.debug_cli.specs.Small.{program_of}
+use Rattle.small_program.specs.Small.{program_of}
 use Rattle.debug_cli.specs.History.{history_of, lasts_of, parents_of}
 use Rattle.debug_cli.specs.declared.run.TheConstants.{BUDGET}
 use Rattle.debug_cli.proofs.Columns.{run_numbered}

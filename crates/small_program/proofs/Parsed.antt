@@ -1,0 +1,38 @@
+-- What the answer of the parser says of the whole list of tokens.
+use Rattle.std.proofs.Common.{◌≡◌, ℕ, ◌<◌, ◌≤◌, List, [], length, drop, Ok, Err, sym, ap, ◌∙◌, arith, length-drop}
+use Rattle.std.proofs.Math.ListN.{drop_of_length-le}
+use Rattle.core_program.specs.Tables.{Tables}
+use Rattle.pas_lexer.specs.Lexed.{Lexed}
+use Rattle.small_program.specs.declared.small.SmallFault.{SmallFault}
+use Rattle.small_program.specs.declared.small.SmallFault.TheVariants.{Unbuilt, Memory}
+use Rattle.small_program.specs.Small.{Piece, pieces, Small, IsSmall, program_of}
+use Rattle.small_program.specs.Reading.{Read, small_at, Gives, IsThat}
+use Rattle.small_program.proofs.Fronts.{from_length}
+use Rattle.small_program.proofs.Whole.{whole_small, small_whole}
+
+abbrev ok : Tables → List Piece → Read Tables
+ok t l = Ok (t, l)
+
+same_read : (s t : Tables) (l m : List Piece) → ok s l ≡ ok t m → (s ≡ t) × (l ≡ m)
+same_read s t l m e = let p : (s, l) ≡ (t, m) = cc in (ap (λ (z : Tables × List Piece). z.0) p, ap (λ (z : Tables × List Piece). z.1) p)
+
+abbrev whole : Tables → Tables
+whole t = t
+
+pub refused : (ps : List Piece) (e : SmallFault) → Gives {X = Tables} ps whole (Err e) (small_at ps) → (s : Small) → IsSmall ps s → IsThat (program_of s) (Err e)
+refused ps (Unbuilt i) g s h = let x = small_whole ps s h in let y : ok (program_of s) [] ≡ Err (drop i ps) = sym x ∙ g in let z : ⊥ = cc in z
+refused ps Memory g s h = tt
+
+pieces_length : (lexed : Lexed) → length (pieces lexed) ≡ length lexed.tokens
+pieces_length lexed = from_length lexed.source 0 lexed.tokens
+
+pub too_long : (lexed : Lexed) (t : Tables) (n : ℕ) → n < length lexed.tokens → small_at (pieces lexed) ≡ Ok (t, drop n (pieces lexed)) → (s : Small) → IsSmall (pieces lexed) s → ⊥
+too_long lexed t n lt g s h =
+    let e = same_read t (program_of s) (drop n (pieces lexed)) [] (sym g ∙ small_whole (pieces lexed) s h) in
+    omega (arith, ap length e.1, length-drop n (pieces lexed), pieces_length lexed)
+
+pub found : (lexed : Lexed) (t : Tables) (n : ℕ) → length lexed.tokens ≤ n → small_at (pieces lexed) ≡ Ok (t, drop n (pieces lexed)) → (s : Small) × IsSmall (pieces lexed) s × (t ≡ program_of s)
+found lexed t n le g = whole_small (pieces lexed) t (g ∙ ap (ok t) (drop_of_length-le (pieces lexed) (omega (arith, pieces_length lexed))))
+
+pub only : (lexed : Lexed) (t : Tables) (n : ℕ) → small_at (pieces lexed) ≡ Ok (t, drop n (pieces lexed)) → (s : Small) → IsSmall (pieces lexed) s → t ≡ program_of s
+only lexed t n g s h = (same_read t (program_of s) (drop n (pieces lexed)) [] (sym g ∙ small_whole (pieces lexed) s h)).0

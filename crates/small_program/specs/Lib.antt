@@ -1,0 +1,3 @@
+pub mod Names
+pub mod Small
+pub mod Reading
