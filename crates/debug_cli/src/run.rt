@@ -10,9 +10,9 @@ ghost use Rattle.debug_cli.specs.Program.{IsProgram, Keeps, IsRefused, IsMisfit,
 ghost use Rattle.debug_cli.specs.History.{history, history_of, calls_within, lasts_of, IsReady};
 
 use crate::refusal::Reason;
-use small_program::{SmallFault, parse_small};
 use core_program::{Calls, Program, numbers_tell_the_tree, run_calls};
 use pas_lexer::{LexFault, Tokens, lex};
+use small_program::{SmallFault, parse_small};
 use std::alloc::{AllocError, Global};
 use thiserror::Error;
 
