@@ -14,10 +14,9 @@ ghost use Rattle.pas_phrases.specs.Items.{Gives, items_from};
 
 use crate::statements::read_compound;
 use grammar::Terminal;
+use pas_denoters::{read_denoter, read_heading};
 use pas_phrases::ParseFault;
 use pas_phrases::constants::{read_constant, read_names};
-use pas_phrases::denoters::read_denoter;
-use pas_phrases::headings::read_heading;
 use pas_phrases::looking::Terminals;
 use pas_tree::blocks::{
     Block, Body, ConstantDefinition, ConstantPart, LabelPart, NextLabel, Parameters, Routine, Tree,

@@ -15,12 +15,12 @@ ghost use Rattle.pas_phrases.specs.Items.{Gives, items_from};
 ghost use Rattle.pas_parser.specs.Closers.{closer_of};
 
 use grammar::Terminal;
+use pas_expressions::{read_access, read_expression, read_selectors};
 use pas_phrases::ParseFault;
 use pas_phrases::constants::read_constants;
-use pas_phrases::denoters::{is_next_case, read_last_semicolon};
-use pas_phrases::expressions::{read_access, read_expression, read_selectors};
 use pas_phrases::looking::Terminals;
 use pas_phrases::operators::expect_direction;
+use pas_phrases::separators::{is_next_case, read_last_semicolon};
 use pas_tree::expressions::Access;
 use pas_tree::statements::{
     Actual, Actuals, Branch, Case, Compound, Else, For, If, Label, NextAccess, NextActual,

@@ -1,4 +1,3 @@
 pub mod Ahead
 pub mod Seen
 pub mod Ends
-pub mod Expected

@@ -1,13 +1,11 @@
-//! The parser of Pascal: from the tokens of a source to its one concrete tree, or to the first token that
-//! fits no program.
+//! What all readers of Pascal share: the next token, why tokens are no program, operators, names, constants and
+//! separators.
 #![tactic(auto)]
 
 pub mod constants;
-pub mod denoters;
-pub mod expressions;
 pub mod fault;
-pub mod headings;
 pub mod looking;
 pub mod operators;
+pub mod separators;
 
 pub use fault::ParseFault;

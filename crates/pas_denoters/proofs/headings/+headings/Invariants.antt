@@ -7,7 +7,7 @@ use Rattle.pas_tree.specs.Tables.{pascal}
 use Rattle.pas_phrases.specs.Items.{items_from}
 use Rattle.pas_tree.specs.Headings.{next_formal_node}
 use Rattle.pas_tree.specs.Rules.{next_formal_rule}
-use Rattle.pas_phrases.proofs.headings.+headings.Given as goal
+use Rattle.pas_denoters.proofs.headings.+headings.Given as goal
 
 abbrev pub invariant-read_next_formals-formals : goal.invariant-read_next_formals-formals
 invariant-read_next_formals-formals l = record {

@@ -1,6 +1,6 @@
 //! Reading type denoters.
 
-ghost use Rattle.std.specs.Prelude.{◌≡◌, ◌≤◌, ◌<◌, [], ◌∷◌, map, length, IfOk, IsTrue};
+ghost use Rattle.std.specs.Prelude.{◌≡◌, ◌≤◌, ◌<◌, [], ◌∷◌, map, IfOk};
 ghost use Rattle.grammar.specs.declared.terminals.Terminal.TheVariants as k;
 ghost use Rattle.grammar.specs.Terminals.{passes};
 ghost use Rattle.grammar.specs.Nodes.{chain, next, row, step_node};
@@ -11,13 +11,14 @@ ghost use Rattle.pas_tree.specs.Denoters.{arm_node, arm_step, array_node, denote
 ghost use Rattle.pas_tree.specs.Operators.{token_node};
 ghost use Rattle.pas_tree.specs.Rules.{arm_rule, array_rule, constant_starts, denoter_rule, enumeration_rule, fields_rule, named_denoter_rule, next_denoter_rule, optional, record_rule, section_rule, set_rule, structure_rule, structured_rule, subrange_rule, limit_starts, fixed_rule, tag_rule, variant_part_rule, variants_rule};
 ghost use Rattle.pas_tree.specs.Tables.{first_of, pascal};
-ghost use Rattle.pas_phrases.specs.Items.{Gives, goes_further, items_from, last_semicolon, optional_token};
-ghost use Rattle.pas_phrases.specs.Ends.{sections_end_node};
+ghost use Rattle.pas_phrases.specs.Items.{Gives, items_from, optional_token};
+ghost use Rattle.pas_denoters.specs.Ends.{sections_end_node};
 
-use crate::constants::{read_constant, read_constants, read_limit, read_names};
-use crate::fault::ParseFault;
-use crate::looking::Terminals;
 use grammar::Terminal;
+use pas_phrases::ParseFault;
+use pas_phrases::constants::{read_constant, read_constants, read_limit, read_names};
+use pas_phrases::looking::Terminals;
+use pas_phrases::separators::{is_next_case, read_last_semicolon};
 use pas_tree::constants::Constant;
 use pas_tree::denoters::{
     Arm, ArrayDenoter, Denoter, Enumeration, Fields, Fixed, NextArm, NextDenoter, NextSection,
@@ -530,36 +531,6 @@ fn read_next_arm(
     let (semicolon, after) = tokens.expect(at, Terminal::Semicolon)?;
     let (arm, after) = read_arm(alloc, tokens, after, depth)?;
     Ok((NextArm { semicolon, arm }, after))
-}
-
-/// Takes the semicolon behind the last part of a series, if it is there.
-pub fn read_last_semicolon(tokens: &Terminals, at: u32) -> Result<(Option<u32>, u32), ParseFault>
-    ensures gives { Gives tokens.now last_semicolon_node result (last_semicolon (items_from tokens.now at)) }
-    ensures forward { IfOk result (λ x. at ≤ x.1) }
-{
-    if !tokens.is_next(at, Terminal::Semicolon) {
-        return Ok((None, at));
-    }
-    let (semicolon, after) = tokens.expect(at, Terminal::Semicolon)?;
-    Ok((Some(semicolon), after))
-}
-
-/// Whether a semicolon is next, and behind it what begins a constant.
-pub fn is_next_case(tokens: &Terminals, at: u32) -> bool
-    ensures tests { result ≡ goes_further k.Semicolon constant_starts (items_from tokens.now at) }
-    ensures inside { IsTrue result → at < length tokens.now }
-{
-    tokens.is_next_pair(
-        at,
-        Terminal::Semicolon,
-        &[
-            Terminal::Number,
-            Terminal::Name,
-            Terminal::Plus,
-            Terminal::Minus,
-            Terminal::Text,
-        ],
-    )
 }
 
 /// Whether a constant that is no name is next.

@@ -7,7 +7,7 @@ use Rattle.pas_tree.specs.Tables.{pascal}
 use Rattle.pas_phrases.specs.Items.{items_from}
 use Rattle.pas_tree.specs.Expressions.{next_term_node, next_factor_node, next_expression_node, selector_node, next_member_node}
 use Rattle.pas_tree.specs.Rules.{adding, multiplying, selector_starts, next_term_rule, next_factor_rule, next_expression_rule, selector_rule, next_member_rule, selectors_rule}
-use Rattle.pas_phrases.proofs.expressions.+expressions.Given as goal
+use Rattle.pas_expressions.proofs.expressions.+expressions.Given as goal
 
 abbrev pub invariant-read_next_terms-terms : goal.invariant-read_next_terms-terms
 invariant-read_next_terms-terms l = record {

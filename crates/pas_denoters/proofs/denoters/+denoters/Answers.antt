@@ -13,10 +13,10 @@ use Rattle.grammar.specs.Grammars.{nothing, series}
 use Rattle.grammar.proofs.Lists.{steps_on, steps_done}
 use Rattle.pas_tree.specs.Denoters.{next_denoter_node, section_step, arm_step, last_semicolon_node}
 use Rattle.pas_tree.specs.Rules.{constant_starts, next_denoter_rule, section_rule, variants_rule, arm_rule}
-use Rattle.pas_phrases.specs.Ends.{sections_end_node}
+use Rattle.pas_denoters.specs.Ends.{sections_end_node}
 use Rattle.pas_tree.proofs.Parts.{closed-next_denoter, solid-next_denoter, closed-section, closed-variants, closed-arm}
 use Rattle.pas_phrases.proofs.Ends.{series_part, series_end}
-use Rattle.pas_phrases.proofs.denoters.+denoters.Goals as goal
+use Rattle.pas_denoters.proofs.denoters.+denoters.Goals as goal
 
 pub read_next_denoters-denoters-preserved : goal.read_next_denoters-denoters-preserved
 read_next_denoters-denoters-preserved t c =

@@ -11,10 +11,10 @@ ghost use Rattle.pas_tree.specs.Rules.{formal_rule, formals_rule, function_rule,
 ghost use Rattle.pas_tree.specs.Tables.{first_of, pascal};
 ghost use Rattle.pas_phrases.specs.Items.{Gives, items_from};
 
-use crate::constants::read_names;
-use crate::fault::ParseFault;
-use crate::looking::Terminals;
 use grammar::Terminal;
+use pas_phrases::ParseFault;
+use pas_phrases::constants::read_names;
+use pas_phrases::looking::Terminals;
 use pas_tree::headings::{
     Formal, FormalNames, Formals, FunctionHeading, Heading, NextFormal, ProcedureHeading,
     ResultType,

@@ -4,8 +4,8 @@ use Rattle.grammar.specs.declared.terminals.Terminal.TheVariants as k
 use Rattle.grammar.specs.Nodes.{Node, Nothing, Pair, leaf}
 use Rattle.pas_tree.specs.declared.denoters.NextVariants.{NextVariants}
 use Rattle.pas_tree.specs.Denoters.{some_variants_node}
-use Rattle.pas_phrases.specs.declared.denoters.SectionsEnd.{SectionsEnd}
-use Rattle.pas_phrases.specs.declared.denoters.SectionsEnd.TheVariants as end
+use Rattle.pas_denoters.specs.declared.denoters.SectionsEnd.{SectionsEnd}
+use Rattle.pas_denoters.specs.declared.denoters.SectionsEnd.TheVariants as end
 
 abbrev pub sections_end_node : SectionsEnd → Node
 sections_end_node end.Nothing = Nothing

@@ -11,13 +11,13 @@ ghost use Rattle.pas_tree.specs.Rules.{access_rule, adding, arguments_rule, expr
 ghost use Rattle.pas_tree.specs.Tables.{first_of, pascal};
 ghost use Rattle.pas_phrases.specs.Items.{Gives, items_from};
 
-use crate::fault::ParseFault;
-use crate::looking::Terminals;
-use crate::operators::{
+use grammar::Terminal;
+use pas_phrases::ParseFault;
+use pas_phrases::looking::Terminals;
+use pas_phrases::operators::{
     expect_adding, expect_literal, expect_multiplying, expect_relational, is_next_adding,
     is_next_literal, is_next_multiplying, is_next_relational, is_next_selector, read_sign,
 };
-use grammar::Terminal;
 use pas_tree::expressions::{
     Access, Arguments, Expression, Factor, Index, Member, Members, NextExpression, NextFactor,
     NextMember, NextTerm, RangeEnd, Relation, Selector, Simple, SomeMembers, Term,

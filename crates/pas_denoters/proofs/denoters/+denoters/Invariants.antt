@@ -9,8 +9,8 @@ use Rattle.grammar.specs.Grammars.{nothing, series}
 use Rattle.grammar.proofs.Lists.{with_steps}
 use Rattle.pas_tree.specs.Denoters.{next_denoter_node, section_step, arm_step, last_semicolon_node}
 use Rattle.pas_tree.specs.Rules.{constant_starts, next_denoter_rule, section_rule, variants_rule, arm_rule}
-use Rattle.pas_phrases.specs.Ends.{sections_end_node}
-use Rattle.pas_phrases.proofs.denoters.+denoters.Given as goal
+use Rattle.pas_denoters.specs.Ends.{sections_end_node}
+use Rattle.pas_denoters.proofs.denoters.+denoters.Given as goal
 
 abbrev pub invariant-read_next_denoters-denoters : goal.invariant-read_next_denoters-denoters
 invariant-read_next_denoters-denoters l = record {

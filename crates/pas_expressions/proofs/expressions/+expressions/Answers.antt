@@ -12,7 +12,7 @@ use Rattle.pas_phrases.proofs.Ends.{ends}
 use Rattle.pas_tree.specs.Expressions.{next_term_node, next_factor_node, next_expression_node, selector_node, next_member_node}
 use Rattle.pas_tree.specs.Rules.{adding, multiplying, selector_starts, next_term_rule, next_factor_rule, next_expression_rule, selector_rule, next_member_rule, selectors_rule}
 use Rattle.pas_tree.proofs.Parts.{closed-next_term, solid-next_term, closed-next_factor, solid-next_factor, closed-next_expression, solid-next_expression, closed-selector, solid-selector, closed-next_member, solid-next_member}
-use Rattle.pas_phrases.proofs.expressions.+expressions.Goals as goal
+use Rattle.pas_expressions.proofs.expressions.+expressions.Goals as goal
 
 pub read_next_terms-terms-preserved : goal.read_next_terms-terms-preserved
 read_next_terms-terms-preserved t c =

@@ -12,7 +12,7 @@ use Rattle.pas_phrases.proofs.Ends.{ends}
 use Rattle.pas_tree.specs.Headings.{next_formal_node}
 use Rattle.pas_tree.specs.Rules.{next_formal_rule}
 use Rattle.pas_tree.proofs.Parts.{closed-next_formal, solid-next_formal}
-use Rattle.pas_phrases.proofs.headings.+headings.Goals as goal
+use Rattle.pas_denoters.proofs.headings.+headings.Goals as goal
 
 pub read_next_formals-formals-preserved : goal.read_next_formals-formals-preserved
 read_next_formals-formals-preserved t c =

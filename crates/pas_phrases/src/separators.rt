@@ -1,0 +1,41 @@
+//! The separators of a series.
+
+ghost use Rattle.std.specs.Prelude.{◌≡◌, ◌≤◌, ◌<◌, length, IfOk, IsTrue};
+ghost use Rattle.grammar.specs.declared.terminals.Terminal.TheVariants as k;
+ghost use Rattle.pas_tree.specs.Denoters.{last_semicolon_node};
+ghost use Rattle.pas_tree.specs.Rules.{constant_starts};
+ghost use Rattle.pas_phrases.specs.Items.{Gives, goes_further, items_from, last_semicolon};
+
+use crate::fault::ParseFault;
+use crate::looking::Terminals;
+use grammar::Terminal;
+
+/// Takes the semicolon behind the last part of a series, if it is there.
+pub fn read_last_semicolon(tokens: &Terminals, at: u32) -> Result<(Option<u32>, u32), ParseFault>
+    ensures gives { Gives tokens.now last_semicolon_node result (last_semicolon (items_from tokens.now at)) }
+    ensures forward { IfOk result (λ x. at ≤ x.1) }
+{
+    if !tokens.is_next(at, Terminal::Semicolon) {
+        return Ok((None, at));
+    }
+    let (semicolon, after) = tokens.expect(at, Terminal::Semicolon)?;
+    Ok((Some(semicolon), after))
+}
+
+/// Whether a semicolon is next, and behind it what begins a constant.
+pub fn is_next_case(tokens: &Terminals, at: u32) -> bool
+    ensures tests { result ≡ goes_further k.Semicolon constant_starts (items_from tokens.now at) }
+    ensures inside { IsTrue result → at < length tokens.now }
+{
+    tokens.is_next_pair(
+        at,
+        Terminal::Semicolon,
+        &[
+            Terminal::Number,
+            Terminal::Name,
+            Terminal::Plus,
+            Terminal::Minus,
+            Terminal::Text,
+        ],
+    )
+}
