@@ -1,0 +1,4 @@
+pub mod Deepest
+pub mod Goes
+pub mod Hopeless
+pub mod Local

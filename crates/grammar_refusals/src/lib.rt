@@ -1,0 +1,7 @@
+//! Why a reader of a grammar refuses, exactly: which token is the first with which no tree goes on, and which
+//! the first at which a construct begins that is nested too deep.
+#![tactic(auto)]
+
+mod laws;
+
+pub use laws::refusals_are_whole;
