@@ -25,7 +25,7 @@ Goes p x rest = (p (spell x ++ rest) ≡ Ok (x, rest)) ⊎ DeepIn p x rest
 abbrev pub AllGo : Trees → (List Item → Read) → Type 0
 AllGo V p = (x : Node) (rest : List Item) → V x (next rest) → Goes p x rest
 
-pub first_deep : (p q : List Item → Read) (a b : Node) (rest : List Item) → DeepIn p a (spell b ++ rest) → DeepIn (λ l. then_pair (p l) q) (Pair a b) rest
+unfoldable pub first_deep : (p q : List Item → Read) (a b : Node) (rest : List Item) → DeepIn p a (spell b ++ rest) → DeepIn (λ l. then_pair (p l) q) (Pair a b) rest
 first_deep p q a b rest d = (
     d.0,
     d.1 ++ spell b,
@@ -33,7 +33,7 @@ first_deep p q a b rest d = (
     ap (λ (l : List Item). then_pair (p l) q) (append_assoc (spell a) (spell b) rest) ∙ ap (λ (r : Read). then_pair r q) d.3 ∙ ap (λ (l : List Item). failed (Deep l)) (sym (append_assoc d.1 (spell b) rest)),
 )
 
-pub second_deep : (p q : List Item → Read) (a b : Node) (rest : List Item) → p (spell a ++ (spell b ++ rest)) ≡ Ok (a, spell b ++ rest) → DeepIn q b rest → DeepIn (λ l. then_pair (p l) q) (Pair a b) rest
+unfoldable pub second_deep : (p q : List Item → Read) (a b : Node) (rest : List Item) → p (spell a ++ (spell b ++ rest)) ≡ Ok (a, spell b ++ rest) → DeepIn q b rest → DeepIn (λ l. then_pair (p l) q) (Pair a b) rest
 second_deep p q a b rest e d = (
     spell a ++ d.0,
     d.1,
