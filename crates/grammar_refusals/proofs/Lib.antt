@@ -1,3 +1,4 @@
+pub mod Complete
 pub mod Deepest
 pub mod Goes
 pub mod Hopeless
