@@ -1,0 +1,6 @@
+//! The grammar of Pascal passes the checks by which the refusals of its reader are exact.
+#![tactic(auto)]
+
+mod laws;
+
+pub use laws::completed;
