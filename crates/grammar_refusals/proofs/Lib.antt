@@ -3,3 +3,4 @@ pub mod Deepest
 pub mod Goes
 pub mod Hopeless
 pub mod Local
+pub mod Starting

@@ -1,3 +1,4 @@
 pub mod Completing
 pub mod Laws
 pub mod Nesting
+pub mod Reaching
