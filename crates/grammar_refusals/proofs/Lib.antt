@@ -3,4 +3,5 @@ pub mod Deepest
 pub mod Goes
 pub mod Hopeless
 pub mod Local
+pub mod Reached
 pub mod Starting
