@@ -1,0 +1,195 @@
+-- Refusals by the numbers of tokens.
+use Rattle.std.proofs.Common.{◌≡◌, ℕ, zero, suc, ◌+◌, ◌<◌, ◌≤◌, Bool, true, false, List, [], ◌∷◌, ◌++◌, length, take, drop, Some, None, Ok, Err, refl, sym, ap, subst, ◌∙◌, append_assoc, add-one, ◌⊎◌, inl, inr, arith, length-append}
+use Rattle.std.proofs.lemmas.List.{append-nil, append_cancel_left, append_cancel_right, take_at, drop_at, length-take-le, take-append-drop}
+use Rattle.grammar.specs.declared.terminals.Terminal.{Terminal}
+use Rattle.grammar.specs.Nodes.{Item, Node, Nothing, spell, next}
+use Rattle.grammar.specs.Grammars.{Grammar, IsNone, FreeIn}
+use Rattle.grammar.specs.Tested.{Is, Within}
+use Rattle.grammar.specs.Deciding.{Tables, IsDecided}
+use Rattle.grammar.specs.Reading.{Refusal, Unfit, Deep, left_of, Read, read}
+use Rattle.grammar.specs.Laws.{NoneGoesOn}
+use Rattle.grammar_refusals.specs.Nesting.{Trees, Nested, IsShaped, BeginsDeep}
+use Rattle.grammar_refusals.specs.Completing.{IsCompleted}
+use Rattle.grammar_refusals.specs.Reaching.{IsReaching}
+use Rattle.grammar_refusals.specs.Refusals.{BeginsWith, IsTooDeep, IsHopeless, IsLeast, IsFirstTooDeep, NoneTooDeep, IsFirstHopeless, StopsAt}
+use Rattle.grammar.proofs.Exact.{done, failed, ok_is, err_is, ok_no_err, same_next}
+use Rattle.grammar.proofs.Larger.{none_in}
+use Rattle.grammar.proofs.Somewhere.{whole_nested}
+use Rattle.grammar.proofs.Knot.{whole_freed}
+use Rattle.grammar.proofs.Texts.{exact}
+use Rattle.grammar_refusals.proofs.Hopeless.{unfit_no_deep, whole_local, unfit_hopeless, surplus_hopeless}
+use Rattle.grammar_refusals.proofs.Deepest.{whole_deep, deep_shaped}
+use Rattle.grammar_refusals.proofs.Complete.{brief, has, moves, level_moves, whole_completes, whole_completed, freed_at}
+use Rattle.grammar_refusals.proofs.Reached.{whole_reached}
+
+-- ---- lists cut at a token
+
+pub record Cut (l : List Item) (i : ℕ) : Type 0 where
+  pub here : Item
+  pub rest : List Item
+  pub whole : l ≡ take i l ++ here ∷ rest
+  pub upto : take (suc i) l ≡ take i l ++ here ∷ []
+  pub from : drop i l ≡ here ∷ rest
+
+pub cut : (l : List Item) (i : ℕ) → i < length l → Cut l i
+cut [] i h = absurd (omega arith)
+cut (x ∷ l) zero h = record { here = x; rest = l; whole = refl; upto = refl; from = refl }
+cut (x ∷ l) (suc i) h =
+    let c = cut l i (omega arith) in
+    record { here = c.here; rest = c.rest; whole = ap (λ (m : List Item). x ∷ m) c.whole; upto = ap (λ (m : List Item). x ∷ m) c.upto; from = c.from }
+
+-- behind a front of so many tokens
+pub record Behind (l front : List Item) (z : Item) (rest : List Item) : Type 0 where
+  pub inside : length front < length l
+  pub front_is : take (length front) l ≡ front
+  pub upto : take (length front + 1) l ≡ front ++ z ∷ []
+  pub from : drop (length front) l ≡ z ∷ rest
+
+pub behind : (l front : List Item) (z : Item) (rest : List Item) → l ≡ front ++ z ∷ rest → Behind l front z rest
+behind l front z rest e =
+    let more : l ≡ (front ++ z ∷ []) ++ rest = e ∙ sym (append_assoc front (z ∷ []) rest) in
+    let len : length (front ++ z ∷ []) ≡ length front + 1 = omega (arith, length-append front (z ∷ [])) in
+    record {
+      inside = omega (arith, ap length e, length-append front (z ∷ rest));
+      front_is = ap (take (length front)) e ∙ take_at front (z ∷ rest) (length front) refl;
+      upto = ap (take (length front + 1)) more ∙ take_at (front ++ z ∷ []) rest (length front + 1) len;
+      from = ap (drop (length front)) e ∙ drop_at front (z ∷ rest) (length front) refl;
+    }
+
+-- what begins with a front begins with each of its tokens
+begins_before : (spelling l front left more : List Item) (j : ℕ) → spelling ≡ front ++ more → l ≡ front ++ left → j < length front → BeginsWith spelling l j
+begins_before spelling l front left more j e whole h =
+    let c = cut front j h in
+    let len : length (take j front) ≡ j = length-take-le j front (omega arith) in
+    let cuts : (w : List Item) → front ++ w ≡ (take j front ++ c.here ∷ []) ++ (c.rest ++ w) =
+    λ w. ap (λ (f : List Item). f ++ w) c.whole ∙ append_assoc (take j front) (c.here ∷ c.rest) w ∙ sym (append_assoc (take j front) (c.here ∷ []) (c.rest ++ w)) in
+    let here : take (j + 1) l ≡ take j front ++ c.here ∷ [] =
+    ap (take (j + 1)) (whole ∙ cuts left) ∙ take_at (take j front ++ c.here ∷ []) (c.rest ++ left) (j + 1) (omega (arith, length-append (take j front) (c.here ∷ []), len)) in
+    (c.rest ++ more, e ∙ cuts more ∙ ap (λ (f : List Item). f ++ (c.rest ++ more)) (sym here))
+
+-- the least number is one
+pub same_least : (P : ℕ → Type 0) (i j : ℕ) → IsLeast P i → IsLeast P j → i ≡ j
+same_least P i j p q = let a : i < j → ⊥ = λ h. q.1 i h p.0 in let b : j < i → ⊥ = λ h. p.1 j h q.0 in omega arith
+
+module _ (t : Tables) (g : Grammar) (ok : IsDecided t g ≡ true) (n : ℕ) where
+  -- ---- a token that is too deep is refused as too deep there or before
+
+  found_deep : (front : List Item) (z : Item) (rest more : List Item) (x : Node) → spell x ≡ front ++ z ∷ more → BeginsDeep t n g x front
+      → (a : List Item) × (b : List Item) × (front ≡ a ++ b) × (read t n g (front ++ z ∷ rest) ≡ Err (Deep (b ++ z ∷ rest)))
+  found_deep front z rest more x e m =
+      let d = whole_deep t g ok n x front m in
+      let a = d.0.0 in
+      let back = d.0.1 in
+      let s = whole_local t g ok n (spell x ++ []) (Deep (back ++ [])) d.0.3 in
+      let same : s.front ≡ a = append_cancel_right s.front a (back ++ []) (sym s.whole ∙ ap (λ (l : List Item). l ++ []) d.0.2 ∙ append_assoc a back []) in
+      let back_is : back ≡ d.1 ++ z ∷ more = append_cancel_left a back (d.1 ++ z ∷ more) (sym d.0.2 ∙ e ∙ ap (λ (l : List Item). l ++ z ∷ more) d.2 ∙ append_assoc a d.1 (z ∷ more)) in
+      let at : next (d.1 ++ z ∷ rest) ≡ next (back ++ []) = same_next d.1 (z ∷ rest) (z ∷ more) refl ∙ ap next (sym (append-nil back ∙ back_is)) in
+      let list : front ++ z ∷ rest ≡ s.front ++ (d.1 ++ z ∷ rest) = ap (λ (l : List Item). l ++ z ∷ rest) d.2 ∙ append_assoc a d.1 (z ∷ rest) ∙ ap (λ (l : List Item). l ++ (d.1 ++ z ∷ rest)) (sym same) in
+      (a, d.1, d.2, ap (read t n g) list ∙ s.again (d.1 ++ z ∷ rest) at)
+
+  -- the text from a token on that is refused, and is not behind token i
+  pub record DeepUpTo (l : List Item) (i : ℕ) : Type 0 where
+    pub front : List Item
+    pub here : Item
+    pub rest : List Item
+    pub whole : l ≡ front ++ here ∷ rest
+    pub before : length front ≤ i
+    pub refused : read t n g l ≡ Err (Deep (here ∷ rest))
+
+  begun_here : (b : List Item) (z : Item) (rest : List Item) → (y : Item) × (more : List Item) × (b ++ z ∷ rest ≡ y ∷ more)
+  begun_here [] z rest = (z, rest, refl)
+  begun_here (y ∷ b) z rest = (y, b ++ z ∷ rest, refl)
+
+  pub deep_up_to : (l : List Item) (i : ℕ) → IsTooDeep t n g l i → DeepUpTo l i
+  deep_up_to l i m =
+      let c = cut l i m.0 in
+      let x = m.1.0 in
+      let spells : spell x ≡ take i l ++ c.here ∷ m.1.2.0 =
+      m.1.2.1 ∙ ap (λ (k : ℕ). take k l ++ m.1.2.0) (add-one i) ∙ ap (λ (f : List Item). f ++ m.1.2.0) c.upto ∙ append_assoc (take i l) (c.here ∷ []) m.1.2.0 in
+      let f = found_deep (take i l) c.here c.rest m.1.2.0 x spells m.1.3 in
+      let y = begun_here f.1 c.here c.rest in
+      let whole : l ≡ f.0 ++ y.0 ∷ y.1 = c.whole ∙ ap (λ (p : List Item). p ++ c.here ∷ c.rest) f.2 ∙ append_assoc f.0 f.1 (c.here ∷ c.rest) ∙ ap (λ (p : List Item). f.0 ++ p) y.2 in
+      record {
+        front = f.0;
+        here = y.0;
+        rest = y.1;
+        whole = whole;
+        before = omega (arith, length-append f.0 f.1, ap length f.2, length-take-le i l (let h = m.0 in omega arith));
+        refused = ap (read t n g) c.whole ∙ f.3 ∙ ap (λ (p : List Item). failed (Deep p)) y.2;
+      }
+
+  pub read_none_deep : (l : List Item) (y : Node × List Item) → read t n g l ≡ Ok y → NoneTooDeep t n g l
+  read_none_deep l y e i m = let d = deep_up_to l i m in ok_no_err y (Deep (d.here ∷ d.rest)) (sym e ∙ d.refused)
+
+  pub unfit_none_deep : (l left : List Item) → read t n g l ≡ Err (Unfit left) → NoneTooDeep t n g l
+  unfit_none_deep l left e i m = let d = deep_up_to l i m in unfit_no_deep left (d.here ∷ d.rest) (sym e ∙ d.refused)
+
+  -- ---- a token that is unfit is hopeless
+
+  none_begins : (l : List Item) (i : ℕ) → i < length l → NoneGoesOn (IsShaped t g) l (drop i l) → IsHopeless t g l i
+  none_begins l i h r =
+      let c = cut l i h in
+      let front : r.0 ≡ take i l = append_cancel_right r.0 (take i l) (drop i l) (sym r.1 ∙ sym (take-append-drop i l)) in (
+        h,
+        λ x s b.
+            let same : spell x ≡ r.0 ++ (c.here ∷ b.0) =
+            b.1 ∙ ap (λ (k : ℕ). take k l ++ b.0) (add-one i) ∙ ap (λ (f : List Item). f ++ b.0) c.upto ∙ append_assoc (take i l) (c.here ∷ []) b.0 ∙ ap (λ (f : List Item). f ++ c.here ∷ b.0) (sym front) in
+            r.2 x (c.here ∷ b.0) s same (sym (ap next c.from)),
+      )
+
+  pub stop_hopeless : (l : List Item) (i : ℕ) → i < length l → StopsAt t n g l i → IsHopeless t g l i
+  stop_hopeless l i h s =
+      elim s [
+        | inl e ↦ none_begins l i h (unfit_hopeless t g ok n l (drop i l) e)
+        | inr e ↦
+            let c = cut l i h in
+            let e' : read t n g l ≡ Ok (e.0, c.here ∷ c.rest) = e.1 ∙ ap (λ (p : List Item). done (e.0, p)) c.from in
+            none_begins l i h (subst (NoneGoesOn (IsShaped t g) l) (sym c.from) (surplus_hopeless t g ok n l e.0 c.here c.rest e'))
+      ]
+
+  pub stop_none_deep : (l : List Item) (i : ℕ) → StopsAt t n g l i → NoneTooDeep t n g l
+  stop_none_deep l i s = elim s [ inl e ↦ unfit_none_deep l (drop i l) e | inr e ↦ read_none_deep l (e.0, drop i l) e.1 ]
+
+  module _ (calm : Terminal → Bool) (d : ℕ) (full : IsCompleted calm d t g ≡ true) where
+    -- ---- no token before the refused one is
+
+    -- what was read begins the spelling of a shaped tree
+    record Begun (l left : List Item) : Type 0 where
+      pub front : List Item
+      pub whole : l ≡ front ++ left
+      pub tree : Node
+      pub more : List Item
+      pub shaped : IsShaped t g tree
+      pub begins : spell tree ≡ front ++ more
+
+    refused_begun : (l : List Item) (r : Refusal) → read t n g l ≡ Err r → Begun l (left_of r)
+    refused_begun l r e = let s = whole_completed calm t g ok d full n l r e in record { front = s.0; whole = s.1; tree = s.2; more = s.3; shaped = s.4; begins = s.5 }
+
+    -- a tree in front of a token is one in front of the end
+    read_begun : (l : List Item) (x : Node) (rest : List Item) → read t n g l ≡ Ok (x, rest) → Begun l rest
+    read_begun l x rest e =
+        let s = (exact t g ok n).sound l x rest e in
+        let free : FreeIn (Nested t.rule) g IsNone x (next rest) = freed_at calm t g ok d full n g IsNone IsNone (none_in IsNone) x (next rest) s.1 in
+        let there = moves calm (brief calm t g ok d full) (has calm t g ok d full) (Nested t.rule) (level_moves calm t g ok d full) g Nothing false (whole_completes calm t g ok d full) IsNone (λ x h i c r. absurd r) x (next rest) None tt free in
+        record { front = spell x; whole = s.0; tree = x; more = []; shaped = whole_nested t.rule g x None there; begins = sym (append-nil (spell x)) }
+
+    begun_not : (l left : List Item) → Begun l left → (j : ℕ) → j + length left < length l → IsHopeless t g l j → ⊥
+    begun_not l left b j h m =
+        m.1 b.tree b.shaped (begins_before (spell b.tree) l b.front left b.more j b.begins b.whole (omega (arith, h, ap length b.whole, length-append b.front left)))
+
+    length-from : (l : List Item) (i : ℕ) → i < length l → i + length (drop i l) ≡ length l
+    length-from l i h = omega (arith, ap length (take-append-drop i l), length-append (take i l) (drop i l), length-take-le i l (omega arith))
+
+    stop_begun : (l : List Item) (i : ℕ) → StopsAt t n g l i → Begun l (drop i l)
+    stop_begun l i s = elim s [ inl e ↦ refused_begun l (Unfit (drop i l)) e | inr e ↦ read_begun l e.0 (drop i l) e.1 ]
+
+    pub stop_first : (l : List Item) (i : ℕ) → i < length l → StopsAt t n g l i → IsFirstHopeless t n g l i
+    stop_first l i h s =
+        (stop_none_deep l i s, (stop_hopeless l i h s, λ j less m. begun_not l (drop i l) (stop_begun l i s) j (let e = length-from l i h in omega arith) m))
+
+    -- nothing is hopeless in a text that is read
+    pub read_none_hopeless : (l : List Item) (x : Node) → read t n g l ≡ Ok (x, []) → (j : ℕ) → IsHopeless t g l j → ⊥
+    read_none_hopeless l x e j m = begun_not l [] (read_begun l x [] e) j (let h = m.0 in omega arith) m
+
+    refused_none_hopeless : (l : List Item) (r : Refusal) → read t n g l ≡ Err r → left_of r ≡ [] → (j : ℕ) → IsHopeless t g l j → ⊥
+    refused_none_hopeless l r e z j m = begun_not l (left_of r) (refused_begun l r e) j (let h = m.0 in omega (arith, ap length z)) m
