@@ -193,3 +193,66 @@ module _ (t : Tables) (g : Grammar) (ok : IsDecided t g ≡ true) (n : ℕ) wher
 
     refused_none_hopeless : (l : List Item) (r : Refusal) → read t n g l ≡ Err r → left_of r ≡ [] → (j : ℕ) → IsHopeless t g l j → ⊥
     refused_none_hopeless l r e z j m = begun_not l (left_of r) (refused_begun l r e) j (let h = m.0 in omega (arith, ap length z)) m
+
+    -- ---- and back
+
+    module _ (reaching : IsReaching t d g ≡ true) where
+      -- where reading comes too deep, the token is too deep, and none before it
+      pub deep_first : (l : List Item) (i : ℕ) → i < length l → read t n g l ≡ Err (Deep (drop i l)) → IsFirstTooDeep t n g l i
+      deep_first l i h e =
+          let c = cut l i h in
+          let e' : read t n g l ≡ Err (Deep (c.here ∷ c.rest)) = e ∙ ap (λ (p : List Item). failed (Deep p)) c.from in
+          let s = whole_reached calm t g ok d full reaching n l c.here c.rest e' in
+          let front : s.0 ≡ take i l = append_cancel_right s.0 (take i l) (c.here ∷ c.rest) (sym s.1 ∙ c.whole) in
+          let spells : spell s.2 ≡ take (i + 1) l ++ s.3 =
+          s.4 ∙ ap (λ (f : List Item). f ++ c.here ∷ s.3) front ∙ sym (append_assoc (take i l) (c.here ∷ []) s.3) ∙ ap (λ (f : List Item). f ++ s.3) (sym c.upto) ∙ ap (λ (k : ℕ). take k l ++ s.3) (sym (add-one i)) in (
+            (h, (s.2, deep_shaped t n g s.2 s.0 s.5, (s.3, spells), subst (BeginsDeep t n g s.2) front s.5)),
+            λ j less m.
+                let p = deep_up_to l j m in
+                let rests : p.here ∷ p.rest ≡ c.here ∷ c.rest = ap left_of (err_is (Deep (p.here ∷ p.rest)) (Deep (c.here ∷ c.rest)) (sym p.refused ∙ e')) in
+                let lens : length p.front ≡ length (take i l) = ap length (append_cancel_right p.front (take i l) (c.here ∷ c.rest) (sym (ap (λ (q : List Item). p.front ++ q) rests) ∙ sym p.whole ∙ c.whole)) in
+                omega (arith, p.before, length-take-le i l (omega arith), lens),
+          )
+
+      -- the place of a refused token
+      deep_at : (l front : List Item) (z : Item) (rest : List Item) → l ≡ front ++ z ∷ rest → read t n g l ≡ Err (Deep (z ∷ rest)) → IsFirstTooDeep t n g l (length front)
+      deep_at l front z rest whole e = let b = behind l front z rest whole in deep_first l (length front) b.inside (e ∙ ap (λ (p : List Item). failed (Deep p)) (sym b.from))
+
+      stop_at : (l front : List Item) (z : Item) (rest : List Item) → l ≡ front ++ z ∷ rest → ((read t n g l ≡ Err (Unfit (z ∷ rest))) ⊎ ((x : Node) × (read t n g l ≡ Ok (x, z ∷ rest)))) → StopsAt t n g l (length front)
+      stop_at l front z rest whole s =
+          let b = behind l front z rest whole in
+          elim s [ inl e ↦ inl (e ∙ ap (λ (p : List Item). failed (Unfit p)) (sym b.from)) | inr e ↦ inr (e.0, e.1 ∙ ap (λ (p : List Item). done (e.0, p)) (sym b.from)) ]
+
+      -- the first token that is too deep is refused so
+      pub first_deep : (l : List Item) (i : ℕ) → IsFirstTooDeep t n g l i → read t n g l ≡ Err (Deep (drop i l))
+      first_deep l i m =
+          let p = deep_up_to l i m.0 in
+          let b = behind l p.front p.here p.rest p.whole in
+          let same : length p.front ≡ i = same_least (IsTooDeep t n g l) (length p.front) i (deep_at l p.front p.here p.rest p.whole p.refused) m in
+          p.refused ∙ ap (λ (q : List Item). failed (Deep q)) (sym b.from) ∙ ap (λ (k : ℕ). failed (Deep (drop k l))) same
+
+      -- at the first hopeless one reading stops
+      stops_so : (l front : List Item) (z : Item) (rest : List Item) (i : ℕ) → l ≡ front ++ z ∷ rest → ((read t n g l ≡ Err (Unfit (z ∷ rest))) ⊎ ((x : Node) × (read t n g l ≡ Ok (x, z ∷ rest)))) → IsLeast (IsHopeless t g l) i → StopsAt t n g l i
+      stops_so l front z rest i whole s m =
+          let b = behind l front z rest whole in
+          let there = stop_at l front z rest whole s in
+          subst (StopsAt t n g l) (same_least (IsHopeless t g l) (length front) i (stop_first l (length front) b.inside there).1 m) there
+
+      by_rest : (l front left : List Item) (i : ℕ) → l ≡ front ++ left → ((read t n g l ≡ Err (Unfit left)) ⊎ ((x : Node) × (read t n g l ≡ Ok (x, left)))) → IsLeast (IsHopeless t g l) i → StopsAt t n g l i
+      by_rest l front [] i whole s m = elim s [
+        | inl e ↦ absurd (refused_none_hopeless l (Unfit []) e refl i m.0)
+        | inr e ↦ absurd (read_none_hopeless l e.0 e.1 i m.0)
+      ]
+      by_rest l front (z ∷ rest) i whole s m = stops_so l front z rest i whole s m
+
+      never_deep : (l front left : List Item) (i : ℕ) → l ≡ front ++ left → read t n g l ≡ Err (Deep left) → NoneTooDeep t n g l → IsHopeless t g l i → ⊥
+      never_deep l front [] i whole e no_deep m = refused_none_hopeless l (Deep []) e refl i m
+      never_deep l front (z ∷ rest) i whole e no_deep m = no_deep (length front) (deep_at l front z rest whole e).0
+
+      by_answer : (l : List Item) (i : ℕ) (r : Read) → read t n g l ≡ r → IsFirstHopeless t n g l i → StopsAt t n g l i
+      by_answer l i (Ok x) e m = let s = (exact t g ok n).sound l x.0 x.1 e in by_rest l (spell x.0) x.1 i s.0 (inr (x.0, e)) m.1
+      by_answer l i (Err (Unfit left)) e m = let s = whole_local t g ok n l (Unfit left) e in by_rest l s.front left i s.whole (inl e) m.1
+      by_answer l i (Err (Deep left)) e m = let s = whole_local t g ok n l (Deep left) e in absurd (never_deep l s.front left i s.whole e m.0 m.1.0)
+
+      pub first_stop : (l : List Item) (i : ℕ) → IsFirstHopeless t n g l i → StopsAt t n g l i
+      first_stop l i m = by_answer l i (read t n g l) refl m
