@@ -1,5 +1,6 @@
 pub mod Complete
 pub mod Deepest
+pub mod Formed
 pub mod Goes
 pub mod Hopeless
 pub mod Local
