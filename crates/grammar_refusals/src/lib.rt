@@ -4,4 +4,4 @@
 
 mod laws;
 
-pub use laws::refusals_are_whole;
+pub use laws::{deep_is_first, nesting_is_depth, refused_is_begun, refused_is_hopeless, stop_is_first};
