@@ -1,11 +1,11 @@
 -- What was read before a refusal begins the spelling of a tree.
 use Rattle.std.proofs.Common.{◌≡◌, ℕ, zero, suc, Bool, true, false, cond, not, List, [], ◌∷◌, ◌++◌, length, Option, Some, None, Ok, Err, refl, sym, ap, subst, ◌∙◌, append_assoc, ◌⊎◌, inl, inr}
 use Rattle.grammar.specs.declared.terminals.Terminal.{Terminal}
-use Rattle.grammar.specs.Terminals.{one_of, passes, every}
+use Rattle.grammar.specs.Terminals.{one_of, passes}
 use Rattle.grammar.specs.Nodes.{Item, Node, Leaf, Nothing, Pair, spell, leaf, ahead, next}
 use Rattle.grammar.specs.Grammars.{Level, Grammar, token, nothing, seq, choice, greedy, level, loop, again, IsPair, IsNone, rounds, FreeIn, FreeWithin}
 use Rattle.grammar.specs.Tested.{Is, Within}
-use Rattle.grammar.specs.Reading.{Refusal, Unfit, Deep, left_of, Read, ◌>>=◌, token_at, then_pair, unread, turns, turning, reads, levels, read}
+use Rattle.grammar.specs.Reading.{Refusal, Unfit, Deep, left_of, Read, ◌>>=◌, unread, turns, turning, reads, levels, read}
 use Rattle.grammar.specs.Deciding.{both, implies, guarded, sane, Tables, IsDecided, expects, all_levels, every_level_of}
 use Rattle.grammar_refusals.specs.Nesting.{Trees, Nested, IsShaped}
 use Rattle.grammar_refusals.specs.Completing.{first_in, ends_empty, short, begins_calm, spares, sure, completes, brief_of, has_brief, level_completes, IsCompleted}
@@ -269,7 +269,7 @@ module _ (calm : Terminal → Bool) where
           let m = both_parts (sane a) (guarded a) o in
           let k = both_parts (good a (shortest a Nothing) true) (calls a Nothing false) q in
           let around : (j : ℕ) → ((l : List Item) (r : Refusal) → turns j (reads (levels t n) a) l ≡ Err r → Completed (Loop E a) l (left_of r))
-              → Breaks (shortest a Nothing) true (Loop E a) (rounds j (Is (Within t.rule n) a)) (turns j (reads (levels t n) a)) =
+          → Breaks (shortest a Nothing) true (Loop E a) (rounds j (Is (Within t.rule n) a)) (turns j (reads (levels t n) a)) =
           λ j c. record {
             exact = rounds_exact_at n a o j;
             part = λ x h y. freed_at n (loop a) IsNone IsNone (none_in IsNone) x h (j, y);

@@ -1,12 +1,12 @@
 -- A tree in which a node begins too deep is refused as too deep at that node or before it.
-use Rattle.std.proofs.Common.{◌≡◌, ℕ, zero, suc, ◌≤◌, Bool, true, false, not, cond, List, [], ◌∷◌, ◌++◌, Option, Some, None, Ok, Err, refl, sym, ap, subst, ◌∙◌, append_assoc, ◌⊎◌, inl, inr}
+use Rattle.std.proofs.Common.{◌≡◌, ℕ, zero, suc, ◌≤◌, Bool, true, false, cond, List, [], ◌∷◌, ◌++◌, Option, Some, None, Ok, refl, sym, ap, subst, ◌∙◌, append_assoc, inl, inr}
 use Rattle.grammar.specs.declared.terminals.Terminal.{Terminal}
 use Rattle.grammar.specs.Terminals.{one_of, passes}
 use Rattle.grammar.specs.Nodes.{Item, Node, Leaf, Nothing, Pair, spell, ahead, next}
-use Rattle.grammar.specs.Grammars.{Level, Grammar, token, nothing, seq, choice, greedy, level, loop, again, IsNone, rounds, FreeIn, Free, FreeWithin}
+use Rattle.grammar.specs.Grammars.{Level, Grammar, token, nothing, seq, choice, greedy, level, loop, again, IsNone, rounds, FreeIn}
 use Rattle.grammar.specs.Tested.{Is, Within}
-use Rattle.grammar.specs.Reading.{Refusal, Unfit, Deep, left_of, Read, ◌>>=◌, token_at, then_pair, unread, turns, turning, reads, levels, read}
-use Rattle.grammar.specs.Deciding.{both, either, implies, guarded, sane, Tables, IsDecided, expects, none, nullable, first, decides}
+use Rattle.grammar.specs.Reading.{Read, then_pair, unread, turning, reads, levels, read}
+use Rattle.grammar.specs.Deciding.{both, either, guarded, sane, Tables, IsDecided, expects, none, nullable, first, decides}
 use Rattle.grammar_refusals.specs.Nesting.{Trees, Places, Nested, IsShaped, nowhere, in_rounds, BeginsIn, BeginsAt, BeginsDeep}
 use Rattle.grammar.proofs.Bools.{both_parts, both_make, either_left, either_right}
 use Rattle.grammar.proofs.Exact.{ahead_append}
@@ -14,7 +14,7 @@ use Rattle.grammar.proofs.Loops.{Guards, guarded_same, turning_again}
 use Rattle.grammar.proofs.Larger.{IsPart, rounds_map, free_up, all_in}
 use Rattle.grammar.proofs.Somewhere.{at_some, AtSome, nested, whole_nested}
 use Rattle.grammar.proofs.Wholes.{level_shortens, levels_exact}
-use Rattle.grammar.proofs.Decided.{Allows, Starts, Begun, begun, Tested, tested, allows_up, after, head, gap, seq_parts, choice_parts, greedy_parts, loop_parts, starts_up}
+use Rattle.grammar.proofs.Decided.{Allows, Starts, Begun, begun, Tested, tested, allows_up, after, head, gap, seq_parts, choice_parts, greedy_parts, loop_parts}
 use Rattle.grammar.proofs.Knot.{level_parts, whole_parts, rule_sane}
 use Rattle.grammar_refusals.proofs.Goes.{DeepIn, Goes, AllGo, first_deep, second_deep, Placed, nested_begun, nested_placed, none_begun, none_tested, expected, goes, level_goes}
 

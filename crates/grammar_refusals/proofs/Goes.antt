@@ -1,11 +1,11 @@
 -- A tree of whatever nesting is read, or reading comes too deep in it.
-use Rattle.std.proofs.Common.{◌≡◌, ℕ, zero, suc, Bool, true, false, cond, List, [], ◌∷◌, ◌++◌, Option, Some, None, Ok, Err, refl, sym, ap, subst, ◌∙◌, append_assoc, ◌⊎◌, inl, inr}
+use Rattle.std.proofs.Common.{◌≡◌, ℕ, zero, suc, Bool, true, false, cond, List, [], ◌∷◌, ◌++◌, Option, None, Ok, Err, refl, sym, ap, subst, ◌∙◌, append_assoc, ◌⊎◌, inl, inr}
 use Rattle.grammar.specs.declared.terminals.Terminal.{Terminal}
 use Rattle.grammar.specs.Terminals.{passes}
-use Rattle.grammar.specs.Nodes.{Item, Node, Leaf, Nothing, Pair, spell, ahead, next}
-use Rattle.grammar.specs.Grammars.{Level, Grammar, token, nothing, seq, choice, greedy, level, loop, again, IsNone, rounds, FreeIn, Free, FreeWithin}
+use Rattle.grammar.specs.Nodes.{Item, Node, Leaf, Nothing, Pair, spell, next}
+use Rattle.grammar.specs.Grammars.{Level, Grammar, token, nothing, seq, choice, greedy, level, loop, again, IsNone, rounds, FreeWithin}
 use Rattle.grammar.specs.Tested.{Is, Within}
-use Rattle.grammar.specs.Reading.{Refusal, Unfit, Deep, left_of, Read, ◌>>=◌, token_at, then_pair, unread, turns, turning, reads, levels, read}
+use Rattle.grammar.specs.Reading.{Deep, Read, ◌>>=◌, then_pair, unread, turning, reads, levels, read}
 use Rattle.grammar.specs.Deciding.{both, guarded, sane, Tables, IsDecided, expects, none}
 use Rattle.grammar_refusals.specs.Nesting.{Trees, Nested, IsShaped}
 use Rattle.grammar.proofs.Bools.{both_parts, both_make, either_left, either_right}
@@ -27,18 +27,18 @@ AllGo V p = (x : Node) (rest : List Item) → V x (next rest) → Goes p x rest
 
 unfoldable pub first_deep : (p q : List Item → Read) (a b : Node) (rest : List Item) → DeepIn p a (spell b ++ rest) → DeepIn (λ l. then_pair (p l) q) (Pair a b) rest
 first_deep p q a b rest d = (
-    d.0,
-    d.1 ++ spell b,
-    ap (λ (l : List Item). l ++ spell b) d.2 ∙ append_assoc d.0 d.1 (spell b),
-    ap (λ (l : List Item). then_pair (p l) q) (append_assoc (spell a) (spell b) rest) ∙ ap (λ (r : Read). then_pair r q) d.3 ∙ ap (λ (l : List Item). failed (Deep l)) (sym (append_assoc d.1 (spell b) rest)),
+  d.0,
+  d.1 ++ spell b,
+  ap (λ (l : List Item). l ++ spell b) d.2 ∙ append_assoc d.0 d.1 (spell b),
+  ap (λ (l : List Item). then_pair (p l) q) (append_assoc (spell a) (spell b) rest) ∙ ap (λ (r : Read). then_pair r q) d.3 ∙ ap (λ (l : List Item). failed (Deep l)) (sym (append_assoc d.1 (spell b) rest)),
 )
 
 unfoldable pub second_deep : (p q : List Item → Read) (a b : Node) (rest : List Item) → p (spell a ++ (spell b ++ rest)) ≡ Ok (a, spell b ++ rest) → DeepIn q b rest → DeepIn (λ l. then_pair (p l) q) (Pair a b) rest
 second_deep p q a b rest e d = (
-    spell a ++ d.0,
-    d.1,
-    ap (λ (l : List Item). spell a ++ l) d.2 ∙ sym (append_assoc (spell a) d.0 d.1),
-    ap (λ (l : List Item). then_pair (p l) q) (append_assoc (spell a) (spell b) rest) ∙ ap (λ (r : Read). then_pair r q) e ∙ ap (λ (r : Read). r >>= λ y. Ok (Pair a y.0, y.1)) d.3,
+  spell a ++ d.0,
+  d.1,
+  ap (λ (l : List Item). spell a ++ l) d.2 ∙ sym (append_assoc (spell a) d.0 d.1),
+  ap (λ (l : List Item). then_pair (p l) q) (append_assoc (spell a) (spell b) rest) ∙ ap (λ (r : Read). then_pair r q) e ∙ ap (λ (r : Read). r >>= λ y. Ok (Pair a y.0, y.1)) d.3,
 )
 
 both_read : (p q : List Item → Read) (a b : Node) (rest : List Item) → p (spell a ++ (spell b ++ rest)) ≡ Ok (a, spell b ++ rest) → q (spell b ++ rest) ≡ Ok (b, rest) → then_pair (p ((spell a ++ spell b) ++ rest)) q ≡ Ok (Pair a b, rest)

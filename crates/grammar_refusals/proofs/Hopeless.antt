@@ -1,14 +1,14 @@
 -- With a token that is refused as unfit no tree goes on, at whatever nesting.
-use Rattle.std.proofs.Common.{◌≡◌, ℕ, true, List, [], ◌∷◌, ◌++◌, Some, None, Ok, Err, sym, ap, subst, ◌∙◌, inl, inr}
+use Rattle.std.proofs.Common.{◌≡◌, ℕ, true, List, [], ◌∷◌, ◌++◌, Some, Ok, Err, sym, ap, subst, ◌∙◌, inl, inr}
 use Rattle.std.proofs.lemmas.List.{append-nil}
 use Rattle.grammar.specs.Nodes.{Item, Node, spell, next}
 use Rattle.grammar.specs.Grammars.{Grammar, IsNone}
 use Rattle.grammar.specs.Tested.{Is, Within}
 use Rattle.grammar.specs.Deciding.{Tables, IsDecided}
-use Rattle.grammar.specs.Reading.{Refusal, Unfit, Deep, Read, read}
+use Rattle.grammar.specs.Reading.{Refusal, Unfit, Deep, read}
 use Rattle.grammar.specs.Laws.{NoneGoesOn}
 use Rattle.grammar_refusals.specs.Nesting.{IsShaped}
-use Rattle.grammar.proofs.Exact.{done, failed, ok_is, err_is, ok_no_err}
+use Rattle.grammar.proofs.Exact.{failed, ok_is, err_is, ok_no_err}
 use Rattle.grammar.proofs.Knot.{rule_sane, whole_parts}
 use Rattle.grammar.proofs.Texts.{exact}
 use Rattle.grammar_refusals.proofs.Local.{Local, read_local}

@@ -1,16 +1,16 @@
 -- A refusal depends on the tokens up to the refused one alone.
-use Rattle.std.proofs.Common.{◌≡◌, ℕ, zero, suc, ◌+◌, ◌<◌, Bool, true, false, cond, List, [], ◌∷◌, ◌++◌, length, Option, Ok, Err, refl, sym, ap, subst, ◌∙◌, append_assoc, inl, inr, arith}
+use Rattle.std.proofs.Common.{◌≡◌, ℕ, zero, suc, ◌+◌, true, false, cond, List, [], ◌∷◌, ◌++◌, length, Option, Ok, Err, refl, sym, ap, subst, ◌∙◌, append_assoc, inl, inr, arith}
 use Rattle.std.proofs.lemmas.List.{append_cancel_right}
 use Rattle.grammar.specs.declared.terminals.Terminal.{Terminal}
 use Rattle.grammar.specs.Terminals.{one_of, passes}
-use Rattle.grammar.specs.Nodes.{Item, Node, Leaf, Nothing, Pair, spell, next}
+use Rattle.grammar.specs.Nodes.{Item, Node, Nothing, Pair, spell, next}
 use Rattle.grammar.specs.Grammars.{Level, Grammar, token, nothing, seq, choice, greedy, level, loop, again, IsNone, rounds}
 use Rattle.grammar.specs.Tested.{Is, Within}
 use Rattle.grammar.specs.Reading.{Refusal, Unfit, Deep, left_of, Read, ◌>>=◌, token_at, then_pair, unread, turns, turning, reads, levels, read}
 use Rattle.grammar.specs.Deciding.{guarded, sane, Tables, expects}
 use Rattle.grammar_refusals.specs.Nesting.{Trees}
 use Rattle.grammar.proofs.Bools.{both_parts}
-use Rattle.grammar.proofs.Exact.{Exact, bind_err, done, failed, err_is, ok_no_err, ok_or_err, same_next, token_fails, none_exact}
+use Rattle.grammar.proofs.Exact.{Exact, bind_err, failed, err_is, ok_no_err, ok_or_err, same_next, token_fails, none_exact}
 use Rattle.grammar.proofs.Loops.{Guards, enough, guarded_same}
 use Rattle.grammar.proofs.Larger.{is_up}
 use Rattle.grammar.proofs.Wholes.{rounds_exact, level_shortens, grammar_exact, levels_exact}

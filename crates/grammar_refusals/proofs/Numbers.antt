@@ -1,21 +1,19 @@
 -- Refusals by the numbers of tokens.
-use Rattle.std.proofs.Common.{◌≡◌, ℕ, zero, suc, ◌+◌, ◌<◌, ◌≤◌, Bool, true, false, List, [], ◌∷◌, ◌++◌, length, take, drop, Some, None, Ok, Err, refl, sym, ap, subst, ◌∙◌, append_assoc, add-one, ◌⊎◌, inl, inr, arith, length-append}
+use Rattle.std.proofs.Common.{◌≡◌, ℕ, zero, suc, ◌+◌, ◌<◌, ◌≤◌, Bool, true, false, List, [], ◌∷◌, ◌++◌, length, take, drop, None, Ok, Err, refl, sym, ap, subst, ◌∙◌, append_assoc, add-one, ◌⊎◌, inl, inr, arith, length-append}
 use Rattle.std.proofs.lemmas.List.{append-nil, append_cancel_left, append_cancel_right, take_at, drop_at, length-take-le, take-append-drop}
 use Rattle.grammar.specs.declared.terminals.Terminal.{Terminal}
 use Rattle.grammar.specs.Nodes.{Item, Node, Nothing, spell, next}
 use Rattle.grammar.specs.Grammars.{Grammar, IsNone, FreeIn}
-use Rattle.grammar.specs.Tested.{Is, Within}
 use Rattle.grammar.specs.Deciding.{Tables, IsDecided}
 use Rattle.grammar.specs.Reading.{Refusal, Unfit, Deep, left_of, Read, read}
 use Rattle.grammar.specs.Laws.{NoneGoesOn}
-use Rattle.grammar_refusals.specs.Nesting.{Trees, Nested, IsShaped, BeginsDeep}
+use Rattle.grammar_refusals.specs.Nesting.{Nested, IsShaped, BeginsDeep}
 use Rattle.grammar_refusals.specs.Completing.{IsCompleted}
 use Rattle.grammar_refusals.specs.Reaching.{IsReaching}
 use Rattle.grammar_refusals.specs.Refusals.{BeginsWith, IsTooDeep, IsHopeless, IsLeast, IsFirstTooDeep, NoneTooDeep, IsFirstHopeless, StopsAt}
-use Rattle.grammar.proofs.Exact.{done, failed, ok_is, err_is, ok_no_err, same_next}
+use Rattle.grammar.proofs.Exact.{done, failed, err_is, ok_no_err, same_next}
 use Rattle.grammar.proofs.Larger.{none_in}
 use Rattle.grammar.proofs.Somewhere.{whole_nested}
-use Rattle.grammar.proofs.Knot.{whole_freed}
 use Rattle.grammar.proofs.Texts.{exact}
 use Rattle.grammar_refusals.proofs.Hopeless.{unfit_no_deep, whole_local, unfit_hopeless, surplus_hopeless}
 use Rattle.grammar_refusals.proofs.Deepest.{whole_deep, deep_shaped}
@@ -100,23 +98,26 @@ module _ (t : Tables) (g : Grammar) (ok : IsDecided t g ≡ true) (n : ℕ) wher
   begun_here [] z rest = (z, rest, refl)
   begun_here (y ∷ b) z rest = (y, b ++ z ∷ rest, refl)
 
+  found_up_to : (l front a b : List Item) (z : Item) (rest : List Item) (i : ℕ) → l ≡ front ++ z ∷ rest → length front ≡ i → front ≡ a ++ b → read t n g (front ++ z ∷ rest) ≡ Err (Deep (b ++ z ∷ rest)) → DeepUpTo l i
+  found_up_to l front a b z rest i whole len parts e =
+      let y = begun_here b z rest in
+      record {
+        front = a;
+        here = y.0;
+        rest = y.1;
+        whole = whole ∙ ap (λ (p : List Item). p ++ z ∷ rest) parts ∙ append_assoc a b (z ∷ rest) ∙ ap (λ (p : List Item). a ++ p) y.2;
+        before = omega (arith, length-append a b, ap length parts);
+        refused = ap (read t n g) whole ∙ e ∙ ap (λ (p : List Item). failed (Deep p)) y.2;
+      }
+
   pub deep_up_to : (l : List Item) (i : ℕ) → IsTooDeep t n g l i → DeepUpTo l i
   deep_up_to l i m =
       let c = cut l i m.0 in
-      let x = m.1.0 in
-      let spells : spell x ≡ take i l ++ c.here ∷ m.1.2.0 =
-      m.1.2.1 ∙ ap (λ (k : ℕ). take k l ++ m.1.2.0) (add-one i) ∙ ap (λ (f : List Item). f ++ m.1.2.0) c.upto ∙ append_assoc (take i l) (c.here ∷ []) m.1.2.0 in
-      let f = found_deep (take i l) c.here c.rest m.1.2.0 x spells m.1.3 in
-      let y = begun_here f.1 c.here c.rest in
-      let whole : l ≡ f.0 ++ y.0 ∷ y.1 = c.whole ∙ ap (λ (p : List Item). p ++ c.here ∷ c.rest) f.2 ∙ append_assoc f.0 f.1 (c.here ∷ c.rest) ∙ ap (λ (p : List Item). f.0 ++ p) y.2 in
-      record {
-        front = f.0;
-        here = y.0;
-        rest = y.1;
-        whole = whole;
-        before = omega (arith, length-append f.0 f.1, ap length f.2, length-take-le i l (let h = m.0 in omega arith));
-        refused = ap (read t n g) c.whole ∙ f.3 ∙ ap (λ (p : List Item). failed (Deep p)) y.2;
-      }
+      let more = m.1.2.0 in
+      let spells : spell m.1.0 ≡ take i l ++ c.here ∷ more =
+      m.1.2.1 ∙ ap (λ (k : ℕ). take k l ++ more) (add-one i) ∙ ap (λ (f : List Item). f ++ more) c.upto ∙ append_assoc (take i l) (c.here ∷ []) more in
+      let f = found_deep (take i l) c.here c.rest more m.1.0 spells m.1.3 in
+      found_up_to l (take i l) f.0 f.1 c.here c.rest i c.whole (length-take-le i l (let h = m.0 in omega arith)) f.2 f.3
 
   pub read_none_deep : (l : List Item) (y : Node × List Item) → read t n g l ≡ Ok y → NoneTooDeep t n g l
   read_none_deep l y e i m = let d = deep_up_to l i m in ok_no_err y (Deep (d.here ∷ d.rest)) (sym e ∙ d.refused)

@@ -2,25 +2,24 @@
 use Rattle.std.proofs.Common.{◌≡◌, ℕ, zero, suc, Bool, true, false, not, List, [], ◌∷◌, ◌++◌, length, Option, Some, None, Ok, Err, refl, sym, ap, subst, ◌∙◌, append_assoc, ◌⊎◌, inl, inr}
 use Rattle.std.proofs.lemmas.List.{append-nil}
 use Rattle.grammar.specs.declared.terminals.Terminal.{Terminal}
-use Rattle.grammar.specs.Terminals.{one_of, passes, every}
+use Rattle.grammar.specs.Terminals.{passes, every}
 use Rattle.grammar.specs.Nodes.{Item, Node, Leaf, Nothing, Pair, spell, ahead, next}
-use Rattle.grammar.specs.Grammars.{Level, Grammar, token, nothing, seq, choice, greedy, level, loop, again, IsPair, IsNone, rounds, FreeIn, FreeWithin}
+use Rattle.grammar.specs.Grammars.{Level, Grammar, token, nothing, seq, choice, greedy, level, loop, again, IsNone, rounds, FreeIn}
 use Rattle.grammar.specs.Tested.{Is, Within}
-use Rattle.grammar.specs.Reading.{Refusal, Unfit, Deep, left_of, Read, ◌>>=◌, token_at, then_pair, unread, turns, turning, reads, levels, read}
+use Rattle.grammar.specs.Reading.{Unfit, Deep, left_of, Read, ◌>>=◌, unread, turns, turning, reads, levels, read}
 use Rattle.grammar.specs.Deciding.{both, either, implies, guarded, sane, Tables, IsDecided, expects, none, nullable, first, all_levels, every_level_of}
-use Rattle.grammar_refusals.specs.Nesting.{Trees, Places, Nested, IsShaped, nowhere, InPair, in_rounds, BeginsIn, BeginsAt, BeginsDeep}
+use Rattle.grammar_refusals.specs.Nesting.{Trees, Places, Nested, nowhere, in_rounds, BeginsIn, BeginsAt, BeginsDeep}
 use Rattle.grammar_refusals.specs.Completing.{begins_calm, spares, IsCompleted}
 use Rattle.grammar_refusals.specs.Reaching.{tables_at, leads, eager, ends, tail, goes_on, level_reaches, IsReaching}
 use Rattle.grammar.proofs.Bools.{both_parts, both_make, either_left, either_right, either_parts, implied, not_true}
 use Rattle.grammar.proofs.Every.{every_terminal}
-use Rattle.grammar.proofs.Exact.{Exact, bind_err, done, failed, err_is, ok_or_err, ok_no_err, token_fails, none_exact}
+use Rattle.grammar.proofs.Exact.{Exact, bind_err, failed, err_is, ok_or_err, ok_no_err, token_fails, none_exact}
 use Rattle.grammar.proofs.Decided.{Allows}
 use Rattle.grammar.proofs.Larger.{IsPart, none_in}
-use Rattle.grammar.proofs.Somewhere.{nested}
 use Rattle.grammar.proofs.Knot.{every_level, whole_parts, rule_sane}
 use Rattle.grammar_refusals.proofs.Hopeless.{unfit_no_deep}
-use Rattle.grammar_refusals.proofs.Deepest.{Loop, fold, deep_shaped}
-use Rattle.grammar_refusals.proofs.Complete.{Fits, calm_ahead, brief, has, good, calls, shortest, shortest_fits, has_fits, loop_fits, rule_completes, whole_completes, exact_at, freed_at, rounds_exact_at}
+use Rattle.grammar_refusals.proofs.Deepest.{Loop}
+use Rattle.grammar_refusals.proofs.Complete.{calm_ahead, brief, has, good, calls, shortest, shortest_fits, has_fits, loop_fits, rule_completes, whole_completes, exact_at, freed_at, rounds_exact_at}
 use Rattle.grammar_refusals.proofs.Starting.{Empty, Starting, Begins, by_test, empties, starting, none_begins, level_empty_at, level_starts_at}
 
 -- a place behind one part stands in one round of a loop
@@ -197,7 +196,7 @@ module _ (calm : Terminal → Bool) (t : Tables) (g : Grammar) (ok : IsDecided t
                 tree = Pair x.tree w.tree;
                 spells = ap (λ (l : List Item). spell x.tree ++ l) w.spells ∙ append-nil (spell x.tree) ∙ x.spells;
                 ends = either_right (ends t b f v c z.kind) (both (ends t a f v c z.kind) (both (nullable t b v) (not (first t b f v z.kind))))
-                  (both_make (ends t a f v c z.kind) (both (nullable t b v) (not (first t b f v z.kind))) x.ends (both_make (nullable t b v) (not (first t b f v z.kind)) gap not_first));
+                    (both_make (ends t a f v c z.kind) (both (nullable t b v) (not (first t b f v z.kind))) x.ends (both_make (nullable t b v) (not (first t b f v z.kind)) gap not_first));
                 fits = inl (subst (λ (k : Option Terminal). B a x.tree k y.front) (sym (ap (λ (l : List Item). ahead l (Some z.kind)) w.spells)) x.fits, w.fits);
               })
         ]
@@ -209,17 +208,17 @@ module _ (calm : Terminal → Bool) (t : Tables) (g : Grammar) (ok : IsDecided t
       whole = whole ∙ ap (λ (w : List Item). spell x ++ w) y.whole ∙ sym (append_assoc (spell x) y.front (z ∷ rest));
       made = elim y.made [
         | inl j ↦ inl (record {
-            tree = Pair x j.tree;
-            more = j.more;
-            begins = ap (λ (w : List Item). spell x ++ w) j.begins ∙ sym (append_assoc (spell x) y.front (z ∷ j.more));
-            fits = λ h al. inr (y.front, refl, subst (A a x) (ap next y.whole ∙ heads y.front z rest j.more h ∙ sym (ap (λ (w : List Item). ahead w h) j.begins)) fits, j.fits h al);
-          })
+          tree = Pair x j.tree;
+          more = j.more;
+          begins = ap (λ (w : List Item). spell x ++ w) j.begins ∙ sym (append_assoc (spell x) y.front (z ∷ j.more));
+          fits = λ h al. inr (y.front, refl, subst (A a x) (ap next y.whole ∙ heads y.front z rest j.more h ∙ sym (ap (λ (w : List Item). ahead w h) j.begins)) fits, j.fits h al);
+        })
         | inr j ↦ inr (record {
-            tree = Pair x j.tree;
-            spells = ap (λ (w : List Item). spell x ++ w) j.spells;
-            ends = either_left (ends t b f v c z.kind) (both (ends t a f v c z.kind) (both (nullable t b v) (not (first t b f v z.kind)))) j.ends;
-            fits = inr (y.front, refl, subst (A a x) (ap next y.whole ∙ heads_end y.front z rest ∙ sym (ap (λ (w : List Item). ahead w (Some z.kind)) j.spells)) fits, j.fits);
-          })
+          tree = Pair x j.tree;
+          spells = ap (λ (w : List Item). spell x ++ w) j.spells;
+          ends = either_left (ends t b f v c z.kind) (both (ends t a f v c z.kind) (both (nullable t b v) (not (first t b f v z.kind)))) j.ends;
+          fits = inr (y.front, refl, subst (A a x) (ap next y.whole ∙ heads_end y.front z rest ∙ sym (ap (λ (w : List Item). ahead w (Some z.kind)) j.spells)) fits, j.fits);
+        })
       ];
     }
 

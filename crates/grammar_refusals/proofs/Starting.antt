@@ -1,20 +1,19 @@
 -- Trees that begin with a token, and empty ones.
-use Rattle.std.proofs.Common.{◌≡◌, ℕ, zero, suc, Bool, true, false, not, List, [], ◌∷◌, ◌++◌, Option, Some, None, refl, sym, ap, subst, ◌∙◌, ◌⊎◌, inl, inr}
+use Rattle.std.proofs.Common.{◌≡◌, ℕ, zero, suc, Bool, true, false, List, [], ◌∷◌, ◌++◌, Option, Some, refl, sym, ap, subst, ◌∙◌, ◌⊎◌, inl, inr}
 use Rattle.grammar.specs.declared.terminals.Terminal.{Terminal}
-use Rattle.grammar.specs.Terminals.{one_of, passes, every}
+use Rattle.grammar.specs.Terminals.{one_of}
 use Rattle.grammar.specs.Nodes.{Item, Node, Leaf, Nothing, Pair, spell, ahead}
 use Rattle.grammar.specs.Grammars.{Level, Grammar, token, nothing, seq, choice, greedy, level, loop, again, IsNone, rounds, FreeIn}
 use Rattle.grammar.specs.Deciding.{both, either, implies, Tables, IsDecided, none, nullable, first}
 use Rattle.grammar_refusals.specs.Nesting.{Trees, Nested}
-use Rattle.grammar_refusals.specs.Completing.{short, begins_calm, spares, IsCompleted}
+use Rattle.grammar_refusals.specs.Completing.{begins_calm, spares, IsCompleted}
 use Rattle.grammar_refusals.specs.Reaching.{blank, tables_at, leads, eager}
 use Rattle.grammar.proofs.Bools.{both_parts, either_parts, implied}
 use Rattle.grammar.proofs.Every.{every_terminal}
-use Rattle.grammar.proofs.Decided.{Allows}
 use Rattle.grammar.proofs.Larger.{IsPart}
 use Rattle.grammar.proofs.Somewhere.{nested}
 use Rattle.grammar_refusals.proofs.Deepest.{Loop, fold}
-use Rattle.grammar_refusals.proofs.Complete.{Fits, calm_ahead, E, brief, has, good, calls, shortest, shortest_fits, has_fits, loop_fits, rule_completes}
+use Rattle.grammar_refusals.proofs.Complete.{Fits, calm_ahead, brief, has, good, calls, shortest, shortest_fits, has_fits, loop_fits, rule_completes}
 
 -- ---- tests
 

@@ -1,11 +1,11 @@
 -- The shortest trees, and the check that they complete whatever a reader took.
-use Rattle.std.specs.Prelude.{◌≡◌, ℕ, zero, suc, Bool, true, false, cond, not, List, [], ◌∷◌, ◌++◌}
+use Rattle.std.specs.Prelude.{ℕ, zero, suc, Bool, true, false, cond, not, List, [], ◌∷◌}
 use Rattle.grammar.specs.declared.terminals.Terminal.{Terminal}
 use Rattle.grammar.specs.declared.terminals.Terminal.TheVariants.{End}
 use Rattle.grammar.specs.Terminals.{one_of, every}
-use Rattle.grammar.specs.Nodes.{Item, Node, Leaf, Nothing, Pair, spell, leaf}
+use Rattle.grammar.specs.Nodes.{Item, Node, Nothing, Pair, spell, leaf}
 use Rattle.grammar.specs.Grammars.{Level, Grammar, token, nothing, seq, choice, greedy, level, loop, again}
-use Rattle.grammar.specs.Deciding.{both, either, implies, Tables, none, nullable, first, all_levels, every_level_of}
+use Rattle.grammar.specs.Deciding.{both, implies, Tables, all_levels, every_level_of}
 
 -- the first of a list of terminals
 abbrev pub first_in : List Terminal → Terminal

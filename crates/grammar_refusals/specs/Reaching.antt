@@ -1,5 +1,5 @@
 -- The check that each token in front of which a level is tried may stand there in some tree.
-use Rattle.std.specs.Prelude.{◌≡◌, ℕ, zero, suc, Bool, true, false, not, List}
+use Rattle.std.specs.Prelude.{ℕ, zero, suc, Bool, true, false, not, List}
 use Rattle.grammar.specs.declared.terminals.Terminal.{Terminal}
 use Rattle.grammar.specs.Terminals.{one_of, every}
 use Rattle.grammar.specs.Grammars.{Level, Grammar, token, nothing, seq, choice, greedy, level, loop, again}

@@ -4,4 +4,6 @@
 
 mod laws;
 
-pub use laws::{deep_is_first, nesting_is_depth, refused_is_begun, refused_is_hopeless, stop_is_first};
+pub use laws::{
+    deep_is_first, nesting_is_depth, refused_is_begun, refused_is_hopeless, stop_is_first,
+};
