@@ -1,12 +1,14 @@
-//! Laws of the grammar, each the contract of a call that does nothing.
+//! Laws of the grammar of Pascal, each the contract of a call that does nothing.
 
-ghost use Rattle.std.specs.Prelude.{◌≡◌, true};
-ghost use Rattle.grammar_refusals.specs.Completing.{IsCompleted};
-ghost use Rattle.pas_tree.specs.Rules.{program_rule};
-ghost use Rattle.pas_tree.specs.Tables.{pascal};
-ghost use Rattle.pas_refusals.specs.Calm.{calm};
+ghost use Rattle.pas_refusals.specs.Exact.{IsExactWhereRead, IsExactWhereFirst};
 
-/// Short trees complete whatever was read.
-pub fn completed()
-    ensures { IsCompleted calm 2 pascal program_rule ≡ true }
+/// What a reader's answer says of a program: which token is the first that is too deep, or else the first with which
+/// no tree goes on, or that there is neither.
+pub fn refusals_are_exact()
+    ensures { IsExactWhereRead }
+{}
+
+/// And back: such a token is the one that the reader refuses, for that reason.
+pub fn first_refusals()
+    ensures { IsExactWhereFirst }
 {}

@@ -3,4 +3,4 @@
 
 mod laws;
 
-pub use laws::completed;
+pub use laws::{first_refusals, refusals_are_exact};
