@@ -1,3 +1,4 @@
+mod Exactly
 mod Failing
 mod Steps
 mod Wholes

@@ -1,3 +1,4 @@
 pub mod Closers
+pub mod Exact
 pub mod Formed
 pub mod Kinds

@@ -3,6 +3,7 @@
 ghost use Rattle.std.specs.Prelude.{◌≡◌, IfOk};
 ghost use Rattle.grammar.specs.Nodes.{Node, spell};
 ghost use Rattle.pas_tree.specs.Blocks.{tree_node};
+ghost use Rattle.pas_parser.specs.Exact.{IsExact};
 ghost use Rattle.pas_parser.specs.Formed.{IsFormed, IsRefusal, IsThat, items_of};
 
 use crate::blocks::read_tree;
@@ -25,6 +26,9 @@ pub fn parse(alloc: Global, tokens: &Tokens) -> Result<Tree, ParseFault>
 
     // A refusal names a token such that no formed tree's spelling begins with the tokens up to it.
     ensures refused { IsRefusal tokens.now.tokens result }
+
+    // And it is the first token that is too deep, or else the first with which no shaped tree goes on.
+    ensures exact { IsExact tokens.now.tokens result }
 {
     let terminals = terminals(alloc, tokens)?;
     let (tree, after) = read_tree(alloc, &terminals, 0, 200)?;

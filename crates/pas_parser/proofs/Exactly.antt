@@ -1,0 +1,69 @@
+-- The token that is refused is exactly the one that the answer tells of.
+use Rattle.std.proofs.Common.{◌≡◌, ℕ, zero, suc, ◌+◌, ◌<◌, ◌≤◌, List, [], ◌∷◌, length, drop, Ok, Err, refl, ap, ◌∙◌, arith, inl, inr}
+use Rattle.std.proofs.lemmas.List.{length-map}
+use Rattle.grammar.specs.declared.terminals.Terminal.{Terminal}
+use Rattle.grammar.specs.Nodes.{Item, Node}
+use Rattle.grammar.specs.Reading.{Unfit, Deep, read}
+use Rattle.pas_lexer.specs.declared.kinds.Token.{Token}
+use Rattle.pas_lexer.specs.Lexed.{EndsOnce}
+use Rattle.pas_tree.specs.Rules.{program_rule}
+use Rattle.pas_tree.specs.Tables.{pascal}
+use Rattle.pas_phrases.specs.declared.fault.ParseFault.{ParseFault}
+use Rattle.pas_phrases.specs.declared.fault.ParseFault.TheVariants as faults
+use Rattle.pas_phrases.specs.Items.{numbered, items_from, Fails}
+use Rattle.pas_phrases.proofs.Ahead.{items_end}
+use Rattle.pas_refusals.specs.Exact.{HasNeither}
+use Rattle.pas_refusals.proofs.Exact.{deep_is_first, stop_is_first, whole_has_neither}
+use Rattle.pas_parser.specs.Kinds.{terminal_of, terminals_of}
+use Rattle.pas_parser.specs.Exact.{IsExact}
+use Rattle.pas_parser.proofs.Wholes.{refused_there}
+
+length-numbered : (n : ℕ) (ks : List Terminal) → length (numbered n ks) ≡ length ks
+length-numbered n [] = refl
+length-numbered n (k ∷ ks) = ap suc (length-numbered (n + 1) ks)
+
+numbered_drop : (ks : List Terminal) (i m : ℕ) → numbered (m + i) (drop i ks) ≡ drop i (numbered m ks)
+numbered_drop ks zero m = let e : m + 0 ≡ m = omega arith in ap (λ (n : ℕ). numbered n ks) e
+numbered_drop [] (suc i) m = refl
+numbered_drop (k ∷ ks) (suc i) m = let e : m + suc i ≡ (m + 1) + i = omega arith in ap (λ (n : ℕ). numbered n (drop i ks)) e ∙ numbered_drop ks i (m + 1)
+
+-- the items from a place on are what is left of all
+items_drop : (ks : List Terminal) (i : ℕ) → items_from ks i ≡ drop i (items_from ks 0)
+unfolding items_from
+items_drop ks i = let e : i ≡ 0 + i = omega arith in ap (λ (n : ℕ). numbered n (drop i ks)) e ∙ numbered_drop ks i 0
+
+length-all : (ks : List Terminal) → length (items_from ks 0) ≡ length ks
+unfolding items_from
+length-all ks = length-numbered 0 ks
+
+-- as many terminals as tokens
+length-terminals : (tokens : List Token) → length (terminals_of tokens) ≡ length tokens
+length-terminals tokens = length-map tokens (λ (t : Token). terminal_of t.kind)
+
+inside_all : (ks : List Terminal) (i : ℕ) → i < length ks → i < length (items_from ks 0)
+inside_all ks i h = omega (arith, length-all ks)
+
+inside_tokens : (tokens : List Token) (i : ℕ) → i < length (terminals_of tokens) → i < length tokens
+inside_tokens tokens i h = omega (arith, length-terminals tokens)
+
+-- a token that is refused
+pub exactly_there : (tokens : List Token) (e : ParseFault) → EndsOnce tokens → Fails (terminals_of tokens) e (read pascal 200 program_rule (items_from (terminals_of tokens) 0)) → IsExact tokens (Err e)
+exactly_there tokens (faults.NotProgram i) ended given =
+    let ks = terminals_of tokens in
+    let h = (refused_there tokens (faults.NotProgram i) ended given).0 in
+    (inside_tokens tokens i h, stop_is_first 200 (items_from ks 0) i (inside_all ks i h) (inl (given ∙ ap (λ (l : List Item). Err (Unfit l)) (items_drop ks i))))
+exactly_there tokens (faults.TooDeep i) ended given =
+    let ks = terminals_of tokens in
+    let h = (refused_there tokens (faults.TooDeep i) ended given).0 in
+    (inside_tokens tokens i h, deep_is_first 200 (items_from ks 0) i (inside_all ks i h) (given ∙ ap (λ (l : List Item). Err (Deep l)) (items_drop ks i)))
+exactly_there tokens faults.Memory ended given = tt
+
+-- one that stands behind a whole program
+pub exactly_behind : (tokens : List Token) (y : Node) (after : ℕ) → read pascal 200 program_rule (items_from (terminals_of tokens) 0) ≡ Ok (y, items_from (terminals_of tokens) after) → after < length (terminals_of tokens) → IsExact tokens (Err (faults.NotProgram after))
+exactly_behind tokens y after given h =
+    let ks = terminals_of tokens in
+    (inside_tokens tokens after h, stop_is_first 200 (items_from ks 0) after (inside_all ks after h) (inr (y, given ∙ ap (λ (l : List Item). Ok (y, l)) (items_drop ks after))))
+
+-- none
+pub exactly_none : (ks : List Terminal) (y : Node) (after : ℕ) → read pascal 200 program_rule (items_from ks 0) ≡ Ok (y, items_from ks after) → length ks ≤ after → HasNeither 200 (items_from ks 0)
+exactly_none ks y after given h = whole_has_neither 200 (items_from ks 0) y (given ∙ ap (λ (l : List Item). Ok (y, l)) (items_end ks after h))
