@@ -15,7 +15,7 @@ use Rattle.edge_ports.proofs.ToldLemmas.{gave_prefix_before, gave_prefix_whole}
 use Rattle.edge_ports.proofs.Filling.{told_still}
 use Rattle.edge_ports.proofs.WholeLines.{heard_longer}
 use Rattle.pas_lexer.specs.Lexed.{Lexed}
-use Rattle.debug_cli.specs.declared.ask.TheConstants.{SOURCE_BYTES}
+use Rattle.debug_cli.specs.Limits.{source_bytes}
 use Rattle.debug_cli.specs.declared.dialog.Ending.{Ending}
 use Rattle.debug_cli.specs.declared.dialog.Ending.TheVariants as ending
 use Rattle.debug_cli.specs.declared.status.Status.{Status}
@@ -36,7 +36,7 @@ pub record Says (fault : FetchFault) (name : List ℕ) (files : Option FileMap) 
   pub absent : fault ≡ fetch.Absent → LacksFile files name
   pub missed : fault ≡ fetch.Absent → Rose misses misses'
   pub failed : fault ≡ fetch.Failed → Rose faults faults'
-  pub longer : (bound : ℕ) → fault ≡ fetch.TooLong bound → HoldsLonger files name SOURCE_BYTES
+  pub longer : (bound : ℕ) → fault ≡ fetch.TooLong bound → HoldsLonger files name source_bytes
   pub over : (bound : ℕ) → fault ≡ fetch.TooLong bound → Rose overs overs'
 
 module _ (name : List ℕ) (files : Option FileMap) (misses misses' faults faults' overs overs' : ℕ) where
@@ -71,7 +71,7 @@ module _ (name : List ℕ) (files : Option FileMap) (misses misses' faults fault
     nothing_goes result g = subst Here (sym g.0) (inl g.1)
 
     -- a source that was fetched
-    pub source_goes : (source : List ℕ) (result : Status) → HoldsFile files name source → length source ≤ SOURCE_BYTES → SourceGoes source result left left' given given' → Here result
+    pub source_goes : (source : List ℕ) (result : Status) → HoldsFile files name source → length source ≤ source_bytes → SourceGoes source result left left' given given' → Here result
     source_goes source result held short (inl s) =
         let a : Session name files left left' = record { source = source; held = held; short = short; tokens = s.0; small = s.1; program = s.4; heard = s.2; is_heard = s.5 } in
         subst Here (sym s.6) (session_goes a s.3 s.7 s.8)
@@ -93,14 +93,14 @@ module _ (name : List ℕ) (files : Option FileMap) (misses misses' faults fault
     lacks_none : (source : List ℕ) → Finds files name source → LacksFile files name → ⊥
     lacks_none source f h = let n : file_at f.0 name ≡ None = subst (λ (o : Option FileMap). LacksFile o name) f.1 h in let x : ◌≡◌ {A = Option (List ℕ)} None (Some source) = sym n ∙ f.2 in let y : ⊥ = cc in y
 
-    longer_not : (source : List ℕ) → Finds files name source → length source ≤ SOURCE_BYTES → HoldsLonger files name SOURCE_BYTES → ⊥
+    longer_not : (source : List ℕ) → Finds files name source → length source ≤ source_bytes → HoldsLonger files name source_bytes → ⊥
     longer_not source f short h =
-        let n = subst (λ (o : Option FileMap). HoldsLonger o name SOURCE_BYTES) f.1 h in
-        let m : IsSomeAnd (Some source) (λ bytes. SOURCE_BYTES < length bytes) = subst (λ (o : Option (List ℕ)). IsSomeAnd o (λ bytes. SOURCE_BYTES < length bytes)) f.2 n in
-        let lt : SOURCE_BYTES < length source = m in omega arith
+        let n = subst (λ (o : Option FileMap). HoldsLonger o name source_bytes) f.1 h in
+        let m : IsSomeAnd (Some source) (λ bytes. source_bytes < length bytes) = subst (λ (o : Option (List ℕ)). IsSomeAnd o (λ bytes. source_bytes < length bytes)) f.2 n in
+        let lt : source_bytes < length source = m in omega arith
 
     -- a file that is there and short enough is fetched, unless the keeper fails
-    no_fault : (fault : FetchFault) (source : List ℕ) → FileFault fault name files misses misses' faults faults' overs overs' → Finds files name source → length source ≤ SOURCE_BYTES → StayedBelow faults faults' → ⊥
+    no_fault : (fault : FetchFault) (source : List ℕ) → FileFault fault name files misses misses' faults faults' overs overs' → Finds files name source → length source ≤ source_bytes → StayedBelow faults faults' → ⊥
     no_fault fetch.Absent source why f short stayed = lacks_none source f why.1
     no_fault fetch.Failed source why f short stayed = stayed why
     no_fault (fetch.TooLong bound) source why f short stayed = longer_not source f short why.1
@@ -173,7 +173,7 @@ module _ (name : List ℕ) (files : Option FileMap) (misses misses' faults fault
       whole_part : (a : Session name files left left') → GaveAll given given' (said_to a.tokens a.small a.heard) → GavePrefix given given' (transcript (history_of t s) more)
       whole_part a g = part_of a (gave_prefix_whole given given' (said_to a.tokens a.small a.heard) g)
 
-      module _ (short : length source ≤ SOURCE_BYTES) (stayed : StayedBelow faults faults') where
+      module _ (short : length source ≤ source_bytes) (stayed : StayedBelow faults faults') where
         owed_part : (text : List ℕ) → Text text → GavePrefix given given' text → GavePrefix given given' (transcript (history_of t s) more)
         owed_part text (inl o) g = part_of o.0 (subst (λ (x : List ℕ). GavePrefix given given' x) o.1 g)
         owed_part text (inr (inl o)) g = absurd (not_refused source t s o.0 o.1 o.2 f p o.3)
@@ -242,7 +242,7 @@ module _ (name : List ℕ) (files : Option FileMap) (misses misses' faults fault
         spent_or_memory status.Spent h long on console screen = inl refl
 
     -- a source that is no program
-    pub refused_or_memory : (source : List ℕ) (result : Status) → Here result → Finds files name source → length source ≤ SOURCE_BYTES → NoProgram source → StayedBelow faults faults' → (result ≡ status.Screen → ⊥)
+    pub refused_or_memory : (source : List ℕ) (result : Status) → Here result → Finds files name source → length source ≤ source_bytes → NoProgram source → StayedBelow faults faults' → (result ≡ status.Screen → ⊥)
         → (result ≡ status.Source) ⊎ (result ≡ status.Memory)
     refused_or_memory source status.Done (a, g, w) f short none stayed screen = absurd (is_refused source a f none)
     refused_or_memory source status.Words h f short none stayed screen = absurd h

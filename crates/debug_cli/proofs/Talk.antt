@@ -235,7 +235,7 @@ module _ (h : History) where
     pub talk_ends : (e : Ending) → Turned h entries old (Err e) entries' new given' given'' → Ends new e given given''
     talk_ends ending.Done (inl quit, e) = quit_ends quit.0 quit.1 quit.2 e
     talk_ends ending.Done (inr end, e) = (gave_none end.1 e, inl end.0)
-    talk_ends ending.Console (n, e) = (gave_none n.1 e, (n.0, (none_more n.1).1))
+    talk_ends ending.Console (n, e) = (gave_none n.1 e, (n.0, (none_more n.1).1, n.2))
     talk_ends ending.Spent (n, e) = (gave_none n.1 e, (n.0, (none_more n.1).1, n.2))
     talk_ends ending.Screen (reply, n, g) = (screen_ends reply n g, tt)
     talk_ends ending.Memory (n, e) = (memory_ends n.0 n.1 e, tt)

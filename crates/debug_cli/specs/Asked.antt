@@ -10,7 +10,7 @@ use Rattle.edge_ports.specs.Counts.{Rose}
 use Rattle.edge_ports.specs.Told.{GaveAll, GavePrefix}
 use Rattle.edge_ports.specs.declared.ports.FetchFault.{FetchFault}
 use Rattle.edge_ports.specs.declared.ports.FetchFault.TheVariants as fetch
-use Rattle.debug_cli.specs.declared.ask.TheConstants.{SOURCE_BYTES}
+use Rattle.debug_cli.specs.Limits.{source_bytes}
 use Rattle.debug_cli.specs.declared.dialog.Ending.{Ending}
 use Rattle.debug_cli.specs.declared.dialog.Ending.TheVariants as ending
 use Rattle.debug_cli.specs.declared.refusal.Reason.{Reason}
@@ -54,7 +54,7 @@ GivesNothing result given given' = (result ≡ status.Memory) × (given' ≡ giv
 pub record Session (name : List ℕ) (files : Option FileMap) (left left' : Option (List ℕ)) : Type 0 where
   pub source : List ℕ
   pub held : HoldsFile files name source
-  pub short : length source ≤ SOURCE_BYTES
+  pub short : length source ≤ source_bytes
   pub tokens : Lexed
   pub small : Small
   pub program : IsProgram source tokens small
@@ -71,7 +71,7 @@ said_to t s x = said (history_of t s) (lines_in x)
 pub record SourceRefused (name : List ℕ) (files : Option FileMap) (why : Reason) (line byte : ℕ) : Type 0 where
   pub source : List ℕ
   pub held : HoldsFile files name source
-  pub short : length source ≤ SOURCE_BYTES
+  pub short : length source ≤ source_bytes
   pub no_program : NoProgram source
   pub place : Refuses source why line byte
 
@@ -79,7 +79,7 @@ pub record SourceRefused (name : List ℕ) (files : Option FileMap) (why : Reaso
 abbrev pub FileFault : FetchFault → List ℕ → Option FileMap → (misses misses' faults faults' overs overs' : ℕ) → Type 0
 FileFault fetch.Absent name files misses misses' faults faults' overs overs' = Rose misses misses' × LacksFile files name
 FileFault fetch.Failed name files misses misses' faults faults' overs overs' = Rose faults faults'
-FileFault (fetch.TooLong limit) name files misses misses' faults faults' overs overs' = Rose overs overs' × HoldsLonger files name SOURCE_BYTES
+FileFault (fetch.TooLong limit) name files misses misses' faults faults' overs overs' = Rose overs overs' × HoldsLonger files name source_bytes
 FileFault fetch.Memory name files misses misses' faults faults' overs overs' = ⊥
 
 -- ---- how the command goes

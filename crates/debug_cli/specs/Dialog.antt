@@ -11,7 +11,7 @@ use Rattle.plain_search.specs.State.{state_of}
 use Rattle.plain_search.specs.Laws.{judged}
 use Rattle.debug_cli.specs.declared.commands.Command.{Command}
 use Rattle.debug_cli.specs.declared.commands.Command.TheVariants.{Nothing, Right, Wrong, Quit, Other}
-use Rattle.debug_cli.specs.declared.judging.TheConstants.{BOOK_ENTRIES}
+use Rattle.debug_cli.specs.Limits.{book_entries}
 use Rattle.debug_cli.specs.Commands.{command_of}
 use Rattle.debug_cli.specs.History.{History, lasts_of}
 use Rattle.debug_cli.specs.Texts.{card, report}
@@ -31,7 +31,7 @@ opening h = card h 0 ++ report h (state h first_entries)
 -- ---- a judgement on the call that is asked about
 
 abbrev pub is_full : List Entry → Bool
-is_full entries = if nat_lt (length entries) BOOK_ENTRIES then false else true
+is_full entries = if nat_lt (length entries) book_entries then false else true
 
 -- the entries after the judgement
 abbrev pub entries_judged : SearchState → List Entry → Judgement → List Entry

@@ -26,10 +26,11 @@ pub record IsHeard (left left' : Option (List ℕ)) (x : Heard) : Type 0 where
   pub room : IsTrue x.ended → length x.bytes < CONSOLE_BYTES
   pub at_end : IsTrue x.ended → IsAtEnd left'
 
--- why a dialog ended: at the console's end or a line that ends it, or at no such line, with all CONSOLE_BYTES taken where it was spent
+-- why a dialog ended: at the console's end or a line that ends it; or at no such line, with all CONSOLE_BYTES taken where it
+-- was spent, and fewer where the console failed
 abbrev pub EndedBy : Ending → Heard → Type 0
 EndedBy ending.Done x = IsTrue x.ended ⊎ IsTrue (ends_among (lines_in x))
-EndedBy ending.Console x = (x.ended ≡ false) × (ends_among (lines_in x) ≡ false)
+EndedBy ending.Console x = (x.ended ≡ false) × (ends_among (lines_in x) ≡ false) × (length x.bytes < CONSOLE_BYTES)
 EndedBy ending.Spent x = (x.ended ≡ false) × (ends_among (lines_in x) ≡ false) × (length x.bytes ≡ CONSOLE_BYTES)
 EndedBy ending.Screen x = Unit {0}
 EndedBy ending.Memory x = Unit {0}

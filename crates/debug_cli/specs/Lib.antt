@@ -6,5 +6,6 @@ pub mod Program
 pub mod Status
 pub mod Asked
 pub mod Laws
+pub mod Limits
 pub mod Heard
 pub mod Turned

@@ -1,9 +1,11 @@
 -- What a source is: a small program, and its run; or where it is refused.
-use Rattle.std.specs.Prelude.{◌≡◌, ℕ, List, Some, Result, Ok, Err, slice_get}
+use Rattle.std.specs.Prelude.{◌≡◌, ◌⊎◌, ℕ, List, Some, Result, Ok, Err, slice_get}
 use Rattle.pas_lexer.specs.declared.kinds.Token.{Token}
 use Rattle.pas_lexer.specs.Lexed.{Lexed}
 use Rattle.pas_lexer.specs.declared.kinds.LexFault.TheVariants as lexis
 use Rattle.pas_lexer.specs.Division.{IsLexed, IsFault, line_at}
+use Rattle.pas_phrases.specs.declared.fault.ParseFault.TheVariants as parser
+use Rattle.pas_parser.specs.Formed.{IsText, IsRefusal}
 use Rattle.core_program.specs.Tables.{Tables}
 use Rattle.debug_cli.specs.declared.refusal.Reason.{Reason}
 use Rattle.debug_cli.specs.declared.refusal.Reason.TheVariants as reason
@@ -13,10 +15,11 @@ use Rattle.debug_cli.specs.declared.run.Run.{Run}
 use Rattle.debug_cli.specs.History.{History, history}
 use Rattle.small_program.specs.Small.{pieces, Small, IsSmall, BeginsNone}
 
--- the source has these tokens, which are this small program
+-- the source has these tokens, which a formed tree spells and which are this small program
 pub record IsProgram (source : List ℕ) (t : Lexed) (s : Small) : Type 0 where
   pub kept : t.source ≡ source
   pub lexed : IsLexed source t.tokens
+  pub text : IsText t.tokens
   pub small : IsSmall (pieces t) s
 
 -- the answer keeps this history, or memory ran out
@@ -29,43 +32,71 @@ Keeps h (Err Memory) = Unit {0}
 abbrev pub NoProgram : List ℕ → Type 0
 NoProgram source = (t : Lexed) (s : Small) → IsProgram source t s → ⊥
 
--- The place of a token, its line and its first byte, where no small program begins with the tokens up to it.
-pub record IsRefusedToken (t : Lexed) (line byte : ℕ) : Type 0 where
-  pub number : ℕ
+-- ---- why and where a source is refused
+
+-- its first piece that does not fit, which begins at this byte, fails for this reason
+abbrev pub FailsFor : List ℕ → Reason → (byte : ℕ) → Type 0
+FailsFor source reason.BadByte byte = IsFault source (lexis.BadByte byte)
+FailsFor source reason.OpenComment byte = IsFault source (lexis.OpenComment byte)
+FailsFor source reason.OpenString byte = IsFault source (lexis.OpenString byte)
+FailsFor source reason.EmptyString byte = IsFault source (lexis.EmptyString byte)
+FailsFor source reason.RealWord byte = IsFault source (lexis.RealWord byte)
+FailsFor source reason.TooLarge byte = IsFault source (lexis.TooLarge byte)
+FailsFor source reason.Joined byte = IsFault source (lexis.Joined byte)
+FailsFor source _ byte = ⊥
+
+-- a piece does not fit
+abbrev pub RefusesPiece : List ℕ → Reason → (line byte : ℕ) → Type 0
+RefusesPiece source why line byte = FailsFor source why byte × (line ≡ line_at source byte)
+
+-- the token of this number begins at this byte, on this line
+pub record StandsAt (t : Lexed) (number line byte : ℕ) : Type 0 where
   pub token : Token
   pub there : slice_get t.tokens number ≡ Some token
-  pub at : (line ≡ token.line) × (byte ≡ token.start)
-  pub begins_none : BeginsNone (pieces t) number
+  pub line_is : line ≡ token.line
+  pub byte_is : byte ≡ token.start
 
--- A source is refused at the first piece that does not fit, for the reason that the lexis gives; or, where all pieces fit, at such a token.
+-- Tokens are refused at this one: by the grammar, with the fault that the parser answers; or, where a formed tree
+-- spells them, since no small program begins with the tokens up to it.
+abbrev pub RefusesAt : Lexed → Reason → (number : ℕ) → Type 0
+RefusesAt t reason.NotProgram number = IsRefusal t.tokens (Err (parser.NotProgram number))
+RefusesAt t reason.TooDeep number = IsRefusal t.tokens (Err (parser.TooDeep number))
+RefusesAt t reason.Unbuilt number = IsText t.tokens × BeginsNone (pieces t) number
+RefusesAt t _ number = ⊥
+
+-- they are refused at a token that stands there
+abbrev pub RefusesToken : Lexed → Reason → (line byte : ℕ) → Type 0
+RefusesToken t why line byte = (number : ℕ) × StandsAt t number line byte × RefusesAt t why number
+
+-- A source is refused at the first piece that does not fit; or, where all pieces fit, at a token.
 abbrev pub Refuses : List ℕ → Reason → (line byte : ℕ) → Type 0
-Refuses source reason.BadByte line byte = IsFault source (lexis.BadByte byte) × (line ≡ line_at source byte)
-Refuses source reason.OpenComment line byte = IsFault source (lexis.OpenComment byte) × (line ≡ line_at source byte)
-Refuses source reason.OpenString line byte = IsFault source (lexis.OpenString byte) × (line ≡ line_at source byte)
-Refuses source reason.EmptyString line byte = IsFault source (lexis.EmptyString byte) × (line ≡ line_at source byte)
-Refuses source reason.RealWord line byte = IsFault source (lexis.RealWord byte) × (line ≡ line_at source byte)
-Refuses source reason.TooLarge line byte = IsFault source (lexis.TooLarge byte) × (line ≡ line_at source byte)
-Refuses source reason.Joined line byte = IsFault source (lexis.Joined byte) × (line ≡ line_at source byte)
-Refuses source reason.Unbuilt line byte = (t : Lexed) × (t.source ≡ source) × IsLexed source t.tokens × IsRefusedToken t line byte
+Refuses source why line byte = RefusesPiece source why line byte ⊎ ((t : Lexed) × (t.source ≡ source) × IsLexed source t.tokens × RefusesToken t why line byte)
 
--- a refused source is no small program, and this is why and where
+-- ---- what the parts of the way answer
+
+-- a refused source is no program, and this is why and where
 abbrev pub IsRefused : List ℕ → SourceFault → Type 0
 IsRefused source (Refused why line byte) = NoProgram source × Refuses source why line byte
 IsRefused source Memory = Unit {0}
 
 -- why and where a piece does not fit
 abbrev pub IsMisfit : List ℕ → SourceFault → Type 0
-IsMisfit source (Refused why line byte) = Refuses source why line byte
+IsMisfit source (Refused why line byte) = RefusesPiece source why line byte
 IsMisfit source Memory = Unit {0}
 
 -- a source that has no division into pieces is refused at the first that does not fit
 abbrev pub IsUnlexed : List ℕ → SourceFault → Type 0
-IsUnlexed source (Refused why line byte) = ((tokens : List Token) → IsLexed source tokens → ⊥) × Refuses source why line byte
+IsUnlexed source (Refused why line byte) = ((tokens : List Token) → IsLexed source tokens → ⊥) × RefusesPiece source why line byte
 IsUnlexed source Memory = Unit {0}
 
--- tokens that are no program are refused at one of them
+-- tokens that no formed tree spells are refused at one of them
+abbrev pub IsUnparsed : Lexed → SourceFault → Type 0
+IsUnparsed t (Refused why line byte) = (IsText t.tokens → ⊥) × RefusesToken t why line byte
+IsUnparsed t Memory = Unit {0}
+
+-- tokens that are no small program are refused at one of them
 abbrev pub IsUnread : Lexed → SourceFault → Type 0
-IsUnread t (Refused why line byte) = (why ≡ reason.Unbuilt) × IsRefusedToken t line byte
+IsUnread t (Refused why line byte) = (why ≡ reason.Unbuilt) × (number : ℕ) × StandsAt t number line byte × BeginsNone (pieces t) number
 IsUnread t Memory = Unit {0}
 
 -- the answer is these tokens, or that memory ran out

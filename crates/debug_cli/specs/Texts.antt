@@ -111,6 +111,8 @@ reason_text reason.EmptyString = codes "EmptyString"
 reason_text reason.RealWord = codes "RealWord"
 reason_text reason.TooLarge = codes "TooLarge"
 reason_text reason.Joined = codes "Joined"
+reason_text reason.NotProgram = codes "NotProgram"
+reason_text reason.TooDeep = codes "TooDeep"
 reason_text reason.Unbuilt = codes "Unbuilt"
 
 -- a source that is no program of the language, at a place of it

@@ -10,7 +10,8 @@ ghost use Rattle.small_program.specs.Small.{Small};
 ghost use Rattle.debug_cli.specs.Program.{IsProgram, NoProgram};
 ghost use Rattle.debug_cli.specs.Texts.{usage_line, file_line, refused_line};
 ghost use Rattle.debug_cli.specs.History.{history_of};
-ghost use Rattle.debug_cli.specs.Laws.{AsksTheBest, FindsTheFault};
+ghost use Rattle.debug_cli.specs.Laws.{AsksTheBest, FindsTheFault, OneRun};
+ghost use Rattle.debug_cli.specs.Limits.{source_bytes};
 ghost use Rattle.debug_cli.specs.declared.status.Status.{Status};
 ghost use Rattle.debug_cli.specs.declared.refusal.Reason.{Reason};
 ghost use Rattle.debug_cli.specs.declared.dialog.Ending.TheVariants as ending;
@@ -146,33 +147,35 @@ pub fn ask_pascal<K: Keeper, I: Source, O: Sink>(
     console: &mut I,
     screen: &mut O,
 ) -> u8
-    // The words name a source that the keeper has, which is a small program, and the console tells its
+    // The words name a source that the keeper has, which is a program, and the console tells its
     // bytes: what the screen got, at status 0 and at every status.
     ensures transcript { (name source : List ℕ) (t : Lexed) (s : Small) (more : List ℕ) → source_of words.now ≡ Some name
         → Finds (K.files keeper.old) name source → IsProgram source t s → I.left console.old ≡ Some more
         → result ≡ 0 → GaveAll (O.given screen.old) (O.given screen.new) (transcript (history_of t s) more) }
     ensures prefix { (name source : List ℕ) (t : Lexed) (s : Small) (more : List ℕ) → source_of words.now ≡ Some name
-        → Finds (K.files keeper.old) name source → length source ≤ SOURCE_BYTES → IsProgram source t s → I.left console.old ≡ Some more
+        → Finds (K.files keeper.old) name source → length source ≤ source_bytes → IsProgram source t s → I.left console.old ≡ Some more
         → StayedBelow (K.faults keeper.old) (K.faults keeper.new)
         → GavePrefix (O.given screen.old) (O.given screen.new) (transcript (history_of t s) more) }
     // If besides nothing failed, the status is 0 or 7 where the console ends or says `quit` within 16,777,216
     // bytes, and 9 or 7 where it does not.
     ensures complete { (name source : List ℕ) (t : Lexed) (s : Small) (more : List ℕ) → source_of words.now ≡ Some name
-        → Finds (K.files keeper.old) name source → length source ≤ SOURCE_BYTES → IsProgram source t s → I.left console.old ≡ Some more
+        → Finds (K.files keeper.old) name source → length source ≤ source_bytes → IsProgram source t s → I.left console.old ≡ Some more
         → (length more < CONSOLE_BYTES) ⊎ IsTrue (ends_among (whole_lines (take CONSOLE_BYTES more)))
         → StayedBelow (K.faults keeper.old) (K.faults keeper.new) → StayedBelow (I.faults console.old) (I.faults console.new)
         → StayedBelow (O.faults screen.old) (O.faults screen.new) → (result ≡ 0) ⊎ (result ≡ 7) }
     ensures limit { (name source : List ℕ) (t : Lexed) (s : Small) (more : List ℕ) → source_of words.now ≡ Some name
-        → Finds (K.files keeper.old) name source → length source ≤ SOURCE_BYTES → IsProgram source t s → I.left console.old ≡ Some more
+        → Finds (K.files keeper.old) name source → length source ≤ source_bytes → IsProgram source t s → I.left console.old ≡ Some more
         → CONSOLE_BYTES ≤ length more → ends_among (whole_lines (take CONSOLE_BYTES more)) ≡ false
         → StayedBelow (K.faults keeper.old) (K.faults keeper.new) → StayedBelow (I.faults console.old) (I.faults console.new)
         → StayedBelow (O.faults screen.old) (O.faults screen.new) → (result ≡ 9) ⊎ (result ≡ 7) }
+    // A source is one program at most, and has one run.
+    ensures one_run { OneRun }
     // What a question and a verdict in that transcript say.
     ensures asks { AsksTheBest }
     ensures finds { FindsTheFault }
-    // The source is no small program, and nothing failed.
+    // The source is no program, and nothing failed.
     ensures no_program { (name source : List ℕ) → source_of words.now ≡ Some name → Finds (K.files keeper.old) name source
-        → length source ≤ SOURCE_BYTES → NoProgram source → StayedBelow (K.faults keeper.old) (K.faults keeper.new)
+        → length source ≤ source_bytes → NoProgram source → StayedBelow (K.faults keeper.old) (K.faults keeper.new)
         → StayedBelow (O.faults screen.old) (O.faults screen.new) → (result ≡ 3) ⊎ (result ≡ 7) }
     // The words are not two.
     ensures usage { source_of words.now ≡ None → (result ≡ 2) ⊎ (result ≡ 6) }
@@ -184,7 +187,7 @@ pub fn ask_pascal<K: Keeper, I: Source, O: Sink>(
         × GaveAll (O.given screen.old) (O.given screen.new) (said_to a.tokens a.small a.heard) × EndedBy ending.Done a.heard }
     // words that are not two;
     ensures words { result ≡ 2 → (source_of words.now ≡ None) × GaveAll (O.given screen.old) (O.given screen.new) usage_line }
-    // a source that is no small program, for the reason and at the place that are printed;
+    // a source that is no program, for the reason and at the place that are printed;
     ensures refused { result ≡ 3 → (name : List ℕ) × (source_of words.now ≡ Some name) × (why : Reason) × (line : ℕ) × (byte : ℕ)
         × SourceRefused name (K.files keeper.old) why line byte × GaveAll (O.given screen.old) (O.given screen.new) (refused_line why line byte) }
     // a file that could not be fetched;

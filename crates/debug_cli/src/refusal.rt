@@ -17,6 +17,10 @@ pub enum Reason {
     TooLarge,
     /// A letter directly behind a number.
     Joined,
-    /// A token at which no program of the language goes on.
+    /// A token at which no program of Pascal goes on.
+    NotProgram,
+    /// What begins at a token is nested too deep.
+    TooDeep,
+    /// A token at which no program goes on of the part of Pascal that is built.
     Unbuilt,
 }

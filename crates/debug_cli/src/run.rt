@@ -1,17 +1,19 @@
 //! From the bytes of a source to its run.
-ghost use Rattle.std.specs.Prelude.{◌≡◌, ◌<◌, ◌≤◌, ◌^◌, ℕ, List, Some, IfOk, IfErr, length, nat_eq, count_by, slice_get};
+ghost use Rattle.std.specs.Prelude.{◌≡◌, ◌<◌, ◌≤◌, ◌^◌, ℕ, List, Some, IfOk, IfErr, OnOk, length, nat_eq, count_by, slice_get};
 ghost use Rattle.core_program.specs.declared.calls.CallRow.{CallRow};
 ghost use Rattle.pas_lexer.specs.declared.kinds.Token.{Token};
 ghost use Rattle.pas_lexer.specs.Lexed.{Lexed, EndsOnce};
 ghost use Rattle.pas_lexer.specs.Division.{line_at, line_feed, IsLexed, IsFault};
+ghost use Rattle.pas_parser.specs.Formed.{IsText};
 ghost use Rattle.debug_cli.specs.declared.run.SourceFault.TheVariants.{Refused, Memory};
 ghost use Rattle.small_program.specs.Small.{Small, IsSmall, pieces, program_of};
-ghost use Rattle.debug_cli.specs.Program.{IsProgram, Keeps, IsRefused, IsMisfit, IsUnlexed, IsUnread, TokensAre, ProgramIs};
+ghost use Rattle.debug_cli.specs.Program.{IsProgram, Keeps, IsRefused, IsMisfit, IsUnlexed, IsUnparsed, IsUnread, StandsAt, TokensAre, ProgramIs};
 ghost use Rattle.debug_cli.specs.History.{history, history_of, calls_within, lasts_of, IsReady};
 
 use crate::refusal::Reason;
 use core_program::{Calls, Program, numbers_tell_the_tree, run_calls};
 use pas_lexer::{LexFault, Tokens, lex};
+use pas_parser::{ParseFault, parse};
 use small_program::{SmallFault, parse_small};
 use std::alloc::{AllocError, Global};
 use thiserror::Error;
@@ -70,11 +72,20 @@ fn line_of(source: &[u8], byte: u32) -> u32
 /// first byte.
 fn place_of(tokens: &Tokens, number: u32) -> (u32, u32)
     ensures ended { EndsOnce tokens.now.tokens }
-    ensures place { number < length tokens.now.tokens → (token : Token) × (slice_get tokens.now.tokens number ≡ Some token)
-        × (result.0 ≡ token.line) × (result.1 ≡ token.start) }
+    ensures place { number < length tokens.now.tokens → StandsAt tokens.now number result.0 result.1 }
 {
     let token = tokens.at(number.min(tokens.len() - 1));
     (token.line, token.start)
+}
+
+/// The refusal of a source at the token of this number.
+fn refused_token(tokens: &Tokens, why: Reason, number: u32) -> SourceFault
+    ensures ended { EndsOnce tokens.now.tokens }
+    ensures place { number < length tokens.now.tokens
+        → (line : ℕ) × (byte : ℕ) × (result ≡ Refused why line byte) × StandsAt tokens.now number line byte }
+{
+    let (line, byte) = place_of(tokens, number);
+    SourceFault::Refused { why, line, byte }
 }
 
 /// The refusal of a source at a piece that does not fit.
@@ -121,22 +132,33 @@ fn read_tokens(alloc: Global, source: &[u8]) -> Result<Tokens, SourceFault>
     }
 }
 
+/// Parses the tokens. The tree is let go: nothing reads it yet.
+fn check_grammar(alloc: Global, tokens: &Tokens) -> Result<(), SourceFault>
+    ensures found { OnOk result (IsText tokens.now.tokens) }
+    ensures refused { IfErr result (IsUnparsed tokens.now) }
+{
+    match parse(alloc, tokens) {
+        Ok(tree) => {
+            drop(tree);
+            Ok(())
+        }
+        Err(ParseFault::NotProgram(token)) => {
+            Err(refused_token(tokens, Reason::NotProgram, token))
+        }
+        Err(ParseFault::TooDeep(token)) => Err(refused_token(tokens, Reason::TooDeep, token)),
+        Err(ParseFault::Memory) => Err(SourceFault::Memory),
+    }
+}
+
 /// The program that the tokens are.
 fn read_program(alloc: Global, tokens: &Tokens) -> Result<Program, SourceFault>
     ensures found { IfOk result (λ p. (s : Small) × IsSmall (pieces tokens.now) s × (p ≡ program_of s)) }
     ensures only { (s : Small) → IsSmall (pieces tokens.now) s → ProgramIs (program_of s) result }
-    ensures place { IfErr result (IsUnread tokens.now) }
+    ensures refused { IfErr result (IsUnread tokens.now) }
 {
     match parse_small(alloc, tokens) {
         Ok(program) => Ok(program),
-        Err(SmallFault::Unbuilt(token)) => {
-            let (line, byte) = place_of(tokens, token);
-            Err(SourceFault::Refused {
-                why: Reason::Unbuilt,
-                line,
-                byte,
-            })
-        }
+        Err(SmallFault::Unbuilt(token)) => Err(refused_token(tokens, Reason::Unbuilt, token)),
         Err(SmallFault::Memory) => Err(SourceFault::Memory),
     }
 }
@@ -191,16 +213,17 @@ fn run_tokens(alloc: Global, tokens: Tokens, program: Program) -> Result<Run, Al
 /// The run of a source. It takes memory; a source of another language is refused.
 pub fn run_source(alloc: Global, source: &[u8]) -> Result<Run, SourceFault>
     requires { length source.now ≤ 1048576 }
-    // Each small program that the source is has this run.
+    // Each program that the source is has this run.
     ensures only { (t : Lexed) (s : Small) → IsProgram source.now t s → Keeps (history_of t s) result }
-    // A refused source is no small program, and it is told why and where: at the first piece that does not
-    // fit, or at a token such that no small program begins with the tokens up to it.
+    // A refused source is no program, and it is told why and where: at the first piece that does not fit, or
+    // at a token with which no formed tree, or no small program, goes on.
     ensures refused { IfErr result (IsRefused source.now) }
-    // A source that is no small program is refused, unless memory runs out.
+    // A source that is no program is refused, unless memory runs out.
     ensures found { IfOk result (λ run. (t : Lexed) × (s : Small) × IsProgram source.now t s × (history run ≡ history_of t s)) }
     ensures ready { IfOk result IsReady }
 {
     let tokens = read_tokens(alloc, source)?;
+    check_grammar(alloc, &tokens)?;
     let program = read_program(alloc, &tokens)?;
     let run = run_tokens(alloc, tokens, program)?;
     Ok(run)

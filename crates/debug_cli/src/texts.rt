@@ -240,6 +240,8 @@ fn reason_name(why: Reason) -> &'static str
         Reason::RealWord => "RealWord",
         Reason::TooLarge => "TooLarge",
         Reason::Joined => "Joined",
+        Reason::NotProgram => "NotProgram",
+        Reason::TooDeep => "TooDeep",
         Reason::Unbuilt => "Unbuilt",
     }
 }

@@ -22,6 +22,10 @@ IsFormed x = IsFormedBy pascal 200 program_rule x
 abbrev pub items_of : List Token → List Item
 items_of tokens = items_from (terminals_of tokens) 0
 
+-- the tokens are the text of a program: a formed tree spells them
+abbrev pub IsText : List Token → Type 0
+IsText tokens = (x : Node) × IsFormed x × (spell x ≡ items_of tokens)
+
 -- the spelling begins with the tokens 0 to i
 abbrev pub Begins : List Item → List Item → ℕ → Type 0
 Begins spelling items i = (more : List Item) × (spelling ≡ take (i + 1) items ++ more)
