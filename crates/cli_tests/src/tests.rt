@@ -1,6 +1,6 @@
 // What no clause says: that the command succeeds with ample memory, and that the definitions of the
 // transcript mean what the users of pasask type and read.
-use debug_cli::{SOURCE_BYTES, ask_pascal};
+use debug_cli::ask_pascal;
 use edge_ports::{Bytes, Page, Shelf, Tape};
 use std::alloc::Global;
 use std::process::Abort;
@@ -105,7 +105,7 @@ fn sessions(rt: HostRuntime) -> Result<(), Fail> {
             0,
             b"call 0 p\n  returned\nfound call 0 p\n  returned\nno question\nnot understood\nnot understood\nnot understood\n",
         ),
-        (b"", b"", 3, b"refused: Unbuilt, line 1, byte 0\n"),
+        (b"", b"", 3, b"refused: NotProgram, line 1, byte 0\n"),
         (
             b"program p; var x: integer;\nbegin x := 2147483648 end.",
             b"",
@@ -122,7 +122,7 @@ fn sessions(rt: HostRuntime) -> Result<(), Fail> {
             b"program p; var x: integer; begin x := 1 end.\n\n.",
             b"",
             3,
-            b"refused: Unbuilt, line 3, byte 46\n",
+            b"refused: NotProgram, line 3, byte 46\n",
         ),
     ];
     for (source, console, status, shown) in table {
@@ -134,7 +134,7 @@ fn sessions(rt: HostRuntime) -> Result<(), Fail> {
     Ok(())
 }
 
-// A program that needs 999,997 steps, and one more for each cell of its frame: 1 for the statement
+// A program that needs 999,998 steps, and one more for each cell of its frame: 1 for the statement
 // part, 4 for each `a := 1`, and 7 for each of the 142,855 sums.
 fn long_sums(alloc: Global, variables: &[u8]) -> Result<Bytes, Fail> {
     let mut source = Bytes::new(alloc);
@@ -172,12 +172,14 @@ fn budgets(rt: HostRuntime) -> Result<(), Fail> {
 fn words_and_files(rt: HostRuntime) -> Result<(), Fail> {
     let alloc = rt.alloc();
     let usage = b"usage: pasask SOURCE [--input F] [--budget N] [--load F]\n".as_slice();
-    let mut longer = Bytes::new(alloc);
-    for _ in 0..SOURCE_BYTES {
-        longer.append(b" ")?;
+    let mut longest = Bytes::new(alloc);
+    for _ in 0..1_048_576 {
+        longest.append(b" ")?;
     }
+    let mut longer = Bytes::new(alloc);
+    longer.append(longest.as_slice())?;
     longer.append(b" ")?;
-    let table: [(&[&str], &[u64], u8, &[u8]); 7] = [
+    let table: [(&[&str], &[u64], u8, &[u8]); 8] = [
         (&[], &[], 2, usage),
         (&["pasask"], &[], 2, usage),
         (&["pasask", "F", "F"], &[], 2, usage),
@@ -185,11 +187,18 @@ fn words_and_files(rt: HostRuntime) -> Result<(), Fail> {
         (&["pasask", ""], &[], 4, b"file: absent \n"),
         (&["pasask", "F"], &[0], 4, b"file: failed F\n"),
         (&["pasask", "G"], &[], 4, b"file: too long G\n"),
+        (
+            &["pasask", "H"],
+            &[],
+            3,
+            b"refused: NotProgram, line 1, byte 1048576\n",
+        ),
     ];
     for (given, fails, status, shown) in table {
         let words = words(alloc, given)?;
         let mut keeper = Shelf::new(alloc, fails)?;
         keeper.put("G", longer.as_slice())?;
+        keeper.put("H", longest.as_slice())?;
         let mut console = Tape::new(alloc, b"", &[])?;
         let mut screen = Page::new(alloc, ROOM, &[])?;
         assert_eq!(rt;
@@ -256,52 +265,61 @@ const ADDERS: &[u8] =
 #[test]
 fn questions(rt: HostRuntime) -> Result<(), Fail> {
     let alloc = rt.alloc();
-    let table: [(&[u8], &[u8], &[u8]); 8] = [
+    let table: [(&[u8], &[u8], u8, &[u8]); 8] = [
         (
             ADDERS,
             b"wrong\nright\nright\nquit\n",
+            0,
             b"call 0 p\n  returned\nask 1 suspects 3 left 2\ncall 1 b in call 0\n  returned\nentry 2\nask 2 suspects 2 left 1\ncall 2 a in call 1\n  returned\nentry 3\nask 3 suspects 1 left 0\ncall 3 a in call 1\n  returned\nentry 4\nfound call 1 b\n  returned\n",
         ),
         (
             ADDERS,
             b"why\nright\nwrong\n",
+            0,
             b"call 0 p\n  returned\nask 1 suspects 3 left 2\ncall 1 b in call 0\n  returned\nnot understood\nentry 2\nfound call 0 p\n  returned\nno question\n",
         ),
         (
             b"program c; var x: integer; procedure d; begin x := 1 end; procedure b; begin d end; begin b end.\n",
             b"",
+            0,
             b"call 0 c\n  returned\nask 1 suspects 2 left 1\ncall 1 b in call 0\n  returned\n",
         ),
         (
             b"program c; var x: integer; procedure e; begin x := 1 end; procedure d; begin e end; procedure b; begin d end; begin b end.\n",
             b"wrong\nright\n",
+            0,
             b"call 0 c\n  returned\nask 2 suspects 3 left 1\ncall 2 d in call 1\n  returned\nentry 2\nask 3 suspects 1 left 0\ncall 3 e in call 2\n  returned\nentry 3\nfound call 2 d\n  returned\n",
         ),
         (
             b"program r; procedure s; begin s end; begin s end.\n",
             b"",
+            0,
             b"call 0 r\n  limited depth\nask 50000 suspects 99999 left 49999\ncall 50000 s in call 49999\n  limited depth\n",
         ),
         (
             NESTED,
             b"",
+            0,
             b"call 0 q\n  out of steps\nask 38462 suspects 76923 left 38461\ncall 38462 s in call 38461\n  out of steps\n",
         ),
         (
             b"program f; var x: integer;\nprocedure a;\nbegin x := x + 1 end;\nprocedure B;\nbegin A end;\nbegin b end.",
             b"right\n",
+            0,
             b"call 0 f\n  faulted Undefined line 3\nask 1 suspects 2 left 1\ncall 1 B in call 0\n  faulted Undefined line 3\nentry 2\nfound call 0 f\n  faulted Undefined line 3\n",
         ),
         (
             b"program l; procedure b; begin c end; procedure c; begin b end; begin c end.",
             b"",
+            3,
             b"refused: Unbuilt, line 1, byte 30\n",
         ),
     ];
-    for (source, console, shown) in table {
+    for (source, console, status, shown) in table {
         let tape = Tape::new(alloc, console, &[])?;
         let got = session(alloc, source, tape, Page::new(alloc, ROOM, &[])?)?;
         assert_eq!(rt; got.1.as_slice(), shown);
+        assert_eq!(rt; got.0, status);
     }
     Ok(())
 }
@@ -360,26 +378,26 @@ fn refused_headings(rt: HostRuntime) -> Result<(), Fail> {
         &rt,
         rt.alloc(),
         &[
-            ("Unbuilt", b"|"),
-            ("Unbuilt", b"|; program p; begin x := 1 end."),
-            ("Unbuilt", b"|p; begin end."),
+            ("NotProgram", b"|"),
+            ("NotProgram", b"|; program p; begin x := 1 end."),
+            ("NotProgram", b"|p; begin end."),
             (
-                "Unbuilt",
+                "NotProgram",
                 b"|x program p; var x: integer; begin x := 1 end.",
             ),
-            ("Unbuilt", b"program |; begin x := 1 end."),
-            ("Unbuilt", b"program |begin; begin x := 1 end."),
-            ("Unbuilt", b"program |1; begin x := 1 end."),
-            ("Unbuilt", b"program p |begin x := 1 end."),
-            ("Unbuilt", b"program p|, q; begin x := 1 end."),
-            ("Unbuilt", b"program p|. var x: integer; begin x := 1 end."),
-            ("Unbuilt", b"program p; |x := 1 end."),
-            ("Unbuilt", b"program p; |end."),
-            ("Unbuilt", b"program p; |const c; begin x := 1 end."),
+            ("NotProgram", b"program |; begin x := 1 end."),
+            ("NotProgram", b"program |begin; begin x := 1 end."),
+            ("NotProgram", b"program |1; begin x := 1 end."),
+            ("NotProgram", b"program p |begin x := 1 end."),
+            ("NotProgram", b"program p|, q; begin x := 1 end."),
+            ("NotProgram", b"program p|. var x: integer; begin x := 1 end."),
+            ("NotProgram", b"program p; |x := 1 end."),
+            ("NotProgram", b"program p; |end."),
+            ("NotProgram", b"program p; const c|; begin x := 1 end."),
             ("Unbuilt", b"program p; begin |end."),
             ("Unbuilt", b"program p; begin |; end."),
             ("Unbuilt", b"program p; begin |x := 1 end."),
-            ("Unbuilt", b"program p; begin |1 end."),
+            ("NotProgram", b"program p; begin 1 |end."),
             ("Unbuilt", b"program p; begin |begin end end."),
             ("Unbuilt", b"program p; begin |p end."),
             ("Unbuilt", b"program p; begin |integer := 1 end."),
@@ -396,17 +414,17 @@ fn refused_variables(rt: HostRuntime) -> Result<(), Fail> {
         &rt,
         rt.alloc(),
         &[
-            ("Unbuilt", b"program p; var |begin x := 1 end."),
-            ("Unbuilt", b"program p; var |: integer; begin x := 1 end."),
-            ("Unbuilt", b"program p; var |1: integer; begin x := 1 end."),
+            ("NotProgram", b"program p; var |begin x := 1 end."),
+            ("NotProgram", b"program p; var |: integer; begin x := 1 end."),
+            ("NotProgram", b"program p; var |1: integer; begin x := 1 end."),
             (
                 "Unbuilt",
                 b"program p; var |input: integer; begin x := 1 end.",
             ),
-            ("Unbuilt", b"program p; var x |integer; begin x := 1 end."),
-            ("Unbuilt", b"program p; var x|; begin x := 1 end."),
+            ("NotProgram", b"program p; var x |integer; begin x := 1 end."),
+            ("NotProgram", b"program p; var x|; begin x := 1 end."),
             (
-                "Unbuilt",
+                "NotProgram",
                 b"program p; var x, |: integer; begin x := 1 end.",
             ),
             (
@@ -418,19 +436,19 @@ fn refused_variables(rt: HostRuntime) -> Result<(), Fail> {
                 b"program p; var x, y, z, |y: integer; begin x := 1 end.",
             ),
             (
-                "Unbuilt",
+                "NotProgram",
                 b"program p; var x |y: integer; begin x := 1 end.",
             ),
             ("Unbuilt", b"program p; var x: |char; begin x := 1 end."),
             ("Unbuilt", b"program p; var x: |x; begin x := 1 end."),
-            ("Unbuilt", b"program p; var x: |1; begin x := 1 end."),
-            ("Unbuilt", b"program p; var x: integer |begin x := 1 end."),
+            ("NotProgram", b"program p; var x: 1|; begin x := 1 end."),
+            ("NotProgram", b"program p; var x: integer |begin x := 1 end."),
             (
                 "Unbuilt",
                 b"program p; var x: integer; |y: integer; begin x := 1 end.",
             ),
             (
-                "Unbuilt",
+                "NotProgram",
                 b"program p; var x: integer; |var y: integer; begin x := 1 end.",
             ),
         ],
@@ -444,9 +462,9 @@ fn refused_steps(rt: HostRuntime) -> Result<(), Fail> {
         &rt,
         rt.alloc(),
         &[
-            ("Unbuilt", b"program p;\nvar x: integer;\nbegin x |= 1 end."),
-            ("Unbuilt", b"program p;\nvar x: integer;\nbegin x |: 1 end."),
-            ("Unbuilt", b"program p;\nvar x: integer;\nbegin x := |end."),
+            ("NotProgram", b"program p;\nvar x: integer;\nbegin x |= 1 end."),
+            ("NotProgram", b"program p;\nvar x: integer;\nbegin x |: 1 end."),
+            ("NotProgram", b"program p;\nvar x: integer;\nbegin x := |end."),
             (
                 "Unbuilt",
                 b"program p;\nvar x: integer;\nbegin x := |+ 1 end.",
@@ -460,7 +478,7 @@ fn refused_steps(rt: HostRuntime) -> Result<(), Fail> {
                 b"program p;\nvar x: integer;\nbegin x := x |end.",
             ),
             (
-                "Unbuilt",
+                "NotProgram",
                 b"program p;\nvar x: integer;\nbegin x := x |1 end.",
             ),
             (
@@ -476,15 +494,15 @@ fn refused_steps(rt: HostRuntime) -> Result<(), Fail> {
                 b"program p;\nvar x: integer;\nbegin x := 1; |end.",
             ),
             (
-                "Unbuilt",
+                "NotProgram",
                 b"program p;\nvar x: integer;\nbegin x := 1 |x := 2 end.",
             ),
             (
-                "Unbuilt",
+                "NotProgram",
                 b"program p;\nvar x: integer;\nbegin x |: = 1 end.",
             ),
             (
-                "Unbuilt",
+                "NotProgram",
                 b"program p;\nvar x: integer;\nbegin x := 1 |.. 5 end.",
             ),
             (
@@ -507,16 +525,16 @@ fn refused_ends_and_procedures(rt: HostRuntime) -> Result<(), Fail> {
         rt.alloc(),
         &[
             (
-                "Unbuilt",
+                "NotProgram",
                 b"program p;\nvar x: integer;\nbegin x := 1 end|;",
             ),
-            ("Unbuilt", b"program p;\nvar x: integer;\nbegin x := 1 end|"),
+            ("NotProgram", b"program p;\nvar x: integer;\nbegin x := 1 end|"),
             (
-                "Unbuilt",
+                "NotProgram",
                 b"program p;\nvar x: integer;\nbegin x := 1 end. |program",
             ),
             (
-                "Unbuilt",
+                "NotProgram",
                 b"program p; procedure |; begin x := 1 end; begin x := 1 end.",
             ),
             (
