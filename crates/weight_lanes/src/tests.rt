@@ -162,20 +162,45 @@ fn fill_flags(flags: &mut [u8]) {
     }
 }
 
+/// The searches over these columns.
+fn searched(rt: &impl Abort, weights: &[u32], askable: &[u8]) {
+    assert!(rt; chosen(rt, weights, askable, 500_000).is_some());
+    assert!(rt; last(rt, askable).is_some());
+    let mut value = 3;
+    for _ in 0..50u32 {
+        value = mixed(value);
+        let from = (value >> 8) as usize % 600_000;
+        let _place = next(rt, weights, from, (value >> 8) % 500_000 + 1);
+    }
+    assert_eq!(rt; next(rt, weights, 0, 500_001), None);
+}
+
+/// Columns of as many places as whole blocks have, and of one place less.
 #[test]
 fn made_columns(rt: HostRuntime) -> Result<(), Fail> {
     let mut weights = vec![in rt.alloc(); 0u32; 500_000]?;
     let mut askable = vec![in rt.alloc(); 0u8; 500_000]?;
     fill_weights(&mut weights);
     fill_flags(&mut askable);
-    assert!(rt; chosen(&rt, &weights, &askable, 500_000).is_some());
-    assert!(rt; last(&rt, &askable).is_some());
-    let mut value = 3;
-    for _ in 0..50u32 {
-        value = mixed(value);
-        let from = (value >> 8) as usize % 600_000;
-        let _place = next(&rt, &weights, from, (value >> 8) % 500_000 + 1);
+    for count in [500_000, 499_999] {
+        assert!(rt; count <= weights.len() && count <= askable.len());
+        searched(&rt, &weights[..count], &askable[..count]);
     }
-    assert_eq!(rt; next(&rt, &weights, 0, 500_001), None);
+    Ok(())
+}
+
+/// The search for the last flag goes through all blocks, to the first or to none.
+#[test]
+fn far_flags(rt: HostRuntime) -> Result<(), Fail> {
+    let mut flags = vec![in rt.alloc(); 0u8; 500_000]?;
+    for count in [500_000, 499_999] {
+        assert!(rt; count <= flags.len());
+        assert_eq!(rt; last(&rt, &flags[..count]), None);
+    }
+    flags[3] = 1;
+    for count in [500_000, 499_999] {
+        assert!(rt; count <= flags.len());
+        assert_eq!(rt; last(&rt, &flags[..count]), Some(3));
+    }
     Ok(())
 }
