@@ -75,6 +75,10 @@ pub get-map_of : {V : Type 0} (f : ℕ → Option V) (q : ℕ) → q < 1048576 �
 unfolding map_of
 get-map_of f q inside = get-map_below 1048576 f q inside
 
+pub get-map_of_past : {V : Type 0} (f : ℕ → Option V) (q : ℕ) → 1048576 ≤ q → get (map_of f) q ≡ None
+unfolding map_of
+get-map_of_past f q past = get-map_below_past 1048576 f q past
+
 pub map_of-insert : {V : Type 0} (old new : ℕ → Option V) (addr : ℕ) (value : V) → addr < 1048576 → ChangesAt old new addr (Some value) → map_of new ≡ insert (map_of old) addr value
 unfolding map_of
 map_of-insert old new addr value inside changes = map_below-insert 1048576 old new addr value inside changes

@@ -1,6 +1,6 @@
 //! The nodes of the trie: leaves with cells, and branches with nodes of the level below. Any number
 //! of stores may share a node, and one that is shared is never written to.
-ghost use Rattle.std.specs.Prelude.{◌≡◌, ◌+◌, ◌<◌, ℕ, IfOk, IfSome, Some, None, option_copied, length, replicate};
+ghost use Rattle.std.specs.Prelude.{◌≡◌, ◌+◌, ◌<◌, ℕ, IfOk, IfSome, OnOk, OnErr, Some, None, option_copied, length, replicate};
 ghost use Rattle.std.specs.Borrow.{sem};
 ghost use Rattle.persistent_store.specs.Loans.{LendsTarget};
 ghost use Rattle.persistent_store.specs.Nodes.{entry_at, target_of, targets, ChangesAt};
@@ -50,8 +50,8 @@ impl Leaf {
         }
     }
 
-    /// Makes the leaf that has this cell at the place, and elsewhere what `old` has. The leaf made is
-    /// the step taken.
+    /// Makes the leaf that has this cell at the place, and elsewhere what `old` has. Each step taken is
+    /// a leaf made.
     pub(crate) fn changed<L>(
         alloc: Global,
         old: Option<&Leaf>,
@@ -61,12 +61,14 @@ impl Leaf {
     ) -> Result<Rc<Leaf>, Memory>
         requires { place < 16 }
         ensures changed { IfOk result (λ new. ChangesAt (entry_at (option_copied old.entry)) (entry_at (Some new.value)) place cell) }
-        ensures one_node { made.new ≡ made.old + 1 }
+        ensures one_node { OnOk result (made.new ≡ made.old + 1) }
+        ensures no_node { OnErr result (made.new ≡ made.old) }
     {
-        made.tick();
         let mut cells = Leaf::cells_of(old);
         cells[place] = cell;
-        Ok(Rc::new(alloc, Leaf { cells })?)
+        let leaf = Rc::new(alloc, Leaf { cells })?;
+        made.tick();
+        Ok(leaf)
     }
 }
 
@@ -108,7 +110,7 @@ impl<T: Drop> Branch<T> {
     }
 
     /// Makes the branch that has this node at the place, and elsewhere the nodes that `old` has, which
-    /// it then shares with `old`. The branch made is the step taken.
+    /// it then shares with `old`. Each step taken is a branch made.
     pub(crate) fn changed<L>(
         alloc: Global,
         old: Option<&Branch<T>>,
@@ -118,12 +120,14 @@ impl<T: Drop> Branch<T> {
     ) -> Result<Rc<Branch<T>>, Memory>
         requires { place < 16 }
         ensures changed { IfOk result (λ new. ChangesAt (entry_at (option_copied old.entry)) (entry_at (Some new.value)) place (Some node.value)) }
-        ensures one_node { made.new ≡ made.old + 1 }
+        ensures one_node { OnOk result (made.new ≡ made.old + 1) }
+        ensures no_node { OnErr result (made.new ≡ made.old) }
     {
-        made.tick();
         let mut below = Branch::pointers_of(old)?;
         below[place] = Some(node);
-        Ok(Rc::new(alloc, Branch { below })?)
+        let branch = Rc::new(alloc, Branch { below })?;
+        made.tick();
+        Ok(branch)
     }
 }
 

@@ -1,5 +1,5 @@
 //! The map that callers see. Its trie is the root node with all that it leads to.
-ghost use Rattle.std.specs.Prelude.{◌≡◌, ◌+◌, ◌<◌, ◌≤◌, IfOk, OnOk, OnErr, IsOk, None};
+ghost use Rattle.std.specs.Prelude.{ℕ, ◌≡◌, ◌+◌, ◌<◌, ◌≤◌, IfOk, OnOk, OnErr, IsOk, None};
 ghost use Rattle.std.specs.FinMap as map;
 ghost use Rattle.persistent_store.specs.Addresses.{with_cell};
 
@@ -52,6 +52,13 @@ impl Store {
         cell_of(target(&self.root), addr)
     }
 
+    /// A law for callers: the map has nothing past the addresses.
+    pub fn lacks_what_is_no_address(&self)
+        ensures nothing_past { (addr : ℕ) → 1048576 ≤ addr → map.get self.now addr ≡ None }
+    {
+        let _root = &self.root;
+    }
+
     /// Writes a cell: in place where the store is the only owner of each node on the way to it, and
     /// else by new nodes for that way.
     fn write<L>(
@@ -77,8 +84,8 @@ impl Store {
         }
     }
 
-    /// Sets the value at the address. After `Memory` the map is as it was. Each node that is made is a
-    /// step of `made`, also before a `Memory`: five at most.
+    /// Sets the value at the address. After `Memory` the map is as it was. Each step of `made` is a node
+    /// made, also one that was made before a `Memory`: five at most.
     pub fn put<L>(
         &mut self,
         alloc: Global,
@@ -96,14 +103,15 @@ impl Store {
     }
 
     /// Takes the value at the address out of the map. Where the map has none there, nothing changes,
-    /// no node is made, and the answer is Ok. After `Memory` the map is as it was. Each node that is
-    /// made is a step of `made`, also before a `Memory`: five at most. Nodes that are left with no
-    /// value are kept.
+    /// no node is made, and the answer is Ok. After `Memory` the map is as it was. Each step of `made`
+    /// is a node made, also one that was made before a `Memory`: five at most. Nodes that are left with
+    /// no value are kept.
     pub fn remove<L>(&mut self, alloc: Global, addr: u32, made: &mut Steps<L>) -> Result<(), Memory>
         requires { addr < 1048576 }
         ensures gone { OnOk result (self.new ≡ map.remove self.old addr) }
         ensures unchanged { OnErr result (self.new ≡ self.old) }
-        ensures absent { map.get self.old addr ≡ None → IsOk result × (made.new ≡ made.old) }
+        ensures absent { map.get self.old addr ≡ None →
+            IsOk result × (self.new ≡ self.old) × (made.new ≡ made.old) }
         ensures made_rises { made.old ≤ made.new }
         ensures five_nodes { made.new ≤ made.old + 5 }
     {
@@ -114,10 +122,9 @@ impl Store {
     }
 
     /// Another store with the same map, which shares every node with this one. No later write to
-    /// one of the two changes the other. `Memory` comes only where one node would get more owners
-    /// than a `usize` counts.
+    /// one of the two changes the other. `Memory` can come since the clone of an `Rc` is a `Result`.
     pub fn snapshot(&self) -> Result<Store, Memory>
-        ensures { IfOk result (λ copy. copy ≡ self.now) }
+        ensures same { IfOk result (λ copy. copy ≡ self.now) }
     {
         Ok(Store {
             root: self.root.clone()?,
