@@ -3,4 +3,5 @@ pub mod Marks
 pub mod Numbering
 pub mod Question
 pub mod Region
+pub mod Standing
 pub mod State

@@ -1,5 +1,6 @@
 //! Laws of the search, each the contract of a call that does nothing.
 ghost use Rattle.plain_search.specs.Laws.{AnswersLeaveAtMost, FoundIsAtFault, LeftIsFewer, LeftIsTheWorse, NoneIsWrong, QuestionIsBest, RightLeavesTheRest, WrongLeavesTheSubtree};
+ghost use Rattle.plain_search.specs.Standing.{EntriesAreTheJudgements};
 
 /// The two answers on a suspect leave exactly the suspects that its measure counts.
 pub fn answers_leave_what_is_counted()
@@ -28,4 +29,10 @@ pub fn found_is_at_fault()
 /// Where nothing is wrong no call is judged wrong, and nothing is left to ask.
 pub fn nothing_wrong_is_nothing()
     ensures none { NoneIsWrong }
+{}
+
+/// The entries after a list of judgements are the first, that call 0 is wrong, and behind it the
+/// judgements in their order.
+pub fn entries_are_the_judgements()
+    ensures same { EntriesAreTheJudgements }
 {}

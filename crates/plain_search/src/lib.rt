@@ -14,8 +14,8 @@ mod state;
 
 pub use entries::{Entry, Judgement, Mark, Memory, current_mark, current_marks};
 pub use laws::{
-    answers_leave_fewer, answers_leave_what_is_counted, found_is_at_fault,
-    nothing_wrong_is_nothing, question_is_best,
+    answers_leave_fewer, answers_leave_what_is_counted, entries_are_the_judgements,
+    found_is_at_fault, nothing_wrong_is_nothing, question_is_best,
 };
 pub use numbering::are_intervals;
 pub use state::{SearchState, search};
