@@ -26,7 +26,8 @@ use Rattle.debug_cli.specs.Program.{IsProgram, NoProgram}
 use Rattle.debug_cli.specs.History.{History, history_of}
 use Rattle.debug_cli.specs.Laws.{OneRun}
 use Rattle.debug_cli.specs.Texts.{file_line, refused_line}
-use Rattle.debug_cli.specs.Dialog.{opening, first_entries, replies, ends_among}
+use Rattle.debug_cli.specs.Dialog.{opening, replies, ends_among}
+use Rattle.plain_search.specs.Standing.{first_entries}
 use Rattle.debug_cli.specs.Heard.{Heard, lines_in, IsHeard, EndedBy, GaveBy, session_status}
 use Rattle.debug_cli.specs.Asked.{said, said_to, transcript, GivesLine, GivesNothing, Session, SourceRefused, FileFault, SourceGoes, Owes, Goes, Finds, StayedBelow}
 use Rattle.debug_cli.proofs.Talk.{replies_ended, replies_front, ended_append, nothing_is_prefix}

@@ -18,7 +18,8 @@ use Rattle.debug_cli.specs.declared.commands.Command.{Command}
 use Rattle.debug_cli.specs.Status.{is_screen, is_console}
 use Rattle.debug_cli.specs.Commands.{command_of}
 use Rattle.debug_cli.specs.History.{History}
-use Rattle.debug_cli.specs.Dialog.{first_entries, state, replies, reply_of, entries_after, reply_judged, entries_judged, is_quit, reply_to, entries_behind, ends_session, ends_among, is_too_long}
+use Rattle.debug_cli.specs.Dialog.{state, replies, reply_of, entries_after, reply_judged, entries_judged, is_quit, reply_to, entries_behind, ends_session, ends_among, is_too_long}
+use Rattle.plain_search.specs.Standing.{first_entries}
 use Rattle.debug_cli.specs.Heard.{Heard, IsHeard, EndedBy, GaveBy, session_status}
 use Rattle.debug_cli.specs.Turned.{Judges, Answers, entries_through, Answered, Hands, HandsNone, NextReply, Turned, console_failed, screen_failed}
 

@@ -20,7 +20,8 @@ use Rattle.small_program.specs.Small.{Small}
 use Rattle.debug_cli.specs.Program.{IsProgram, NoProgram, Refuses}
 use Rattle.debug_cli.specs.History.{History, history_of}
 use Rattle.debug_cli.specs.Texts.{file_line, refused_line}
-use Rattle.debug_cli.specs.Dialog.{opening, first_entries, replies}
+use Rattle.debug_cli.specs.Dialog.{opening, replies}
+use Rattle.plain_search.specs.Standing.{first_entries}
 use Rattle.debug_cli.specs.Heard.{Heard, lines_in, IsHeard, EndedBy, GaveBy, session_status}
 
 -- ---- the transcript

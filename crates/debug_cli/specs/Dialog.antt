@@ -9,16 +9,13 @@ use Rattle.plain_search.specs.declared.state.SearchState.{SearchState}
 use Rattle.plain_search.specs.declared.state.SearchState.TheVariants.{Ask, Found, NothingWrong}
 use Rattle.plain_search.specs.State.{state_of}
 use Rattle.plain_search.specs.Laws.{judged}
+use Rattle.plain_search.specs.Standing.{first_entries}
 use Rattle.debug_cli.specs.declared.commands.Command.{Command}
 use Rattle.debug_cli.specs.declared.commands.Command.TheVariants.{Nothing, Right, Wrong, Quit, Other}
 use Rattle.debug_cli.specs.Limits.{book_entries}
 use Rattle.debug_cli.specs.Commands.{command_of}
 use Rattle.debug_cli.specs.History.{History, lasts_of}
 use Rattle.debug_cli.specs.Texts.{card, report}
-
--- a program is debugged because its run was wrong: the first entry says so of call 0
-abbrev pub first_entries : List Entry
-first_entries = record { call = 0; judgement = judgement.Wrong } ∷ []
 
 -- the state of the search, from scratch, after these entries
 abbrev pub state : History → List Entry → SearchState

@@ -9,7 +9,8 @@ use Rattle.debug_cli.specs.declared.dialog.Ending.{Ending}
 use Rattle.debug_cli.specs.declared.dialog.Ending.TheVariants as ending
 use Rattle.debug_cli.specs.Status.{is_screen, is_console}
 use Rattle.debug_cli.specs.History.{History}
-use Rattle.debug_cli.specs.Dialog.{first_entries, state, replies, reply_judged, entries_judged, reply_to, entries_behind, ends_session, ends_among}
+use Rattle.debug_cli.specs.Dialog.{state, replies, reply_judged, entries_judged, reply_to, entries_behind, ends_session, ends_among}
+use Rattle.plain_search.specs.Standing.{first_entries}
 use Rattle.debug_cli.specs.Heard.{session_status}
 
 -- the reply to a judgement, and the entries after it

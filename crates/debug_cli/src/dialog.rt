@@ -8,7 +8,8 @@ ghost use Rattle.edge_ports.specs.declared.lines.TheConstants.{LINE_BYTES};
 ghost use Rattle.edge_ports.specs.Turns.{IsConsistent};
 ghost use Rattle.debug_cli.specs.History.{history, IsReady};
 ghost use Rattle.debug_cli.specs.Status.{is_console, is_screen};
-ghost use Rattle.debug_cli.specs.Dialog.{first_entries, replies};
+ghost use Rattle.debug_cli.specs.Dialog.{replies};
+ghost use Rattle.plain_search.specs.Standing.{first_entries};
 ghost use Rattle.debug_cli.specs.Heard.{Heard, IsHeard, lines_in, EndedBy, GaveBy, session_status};
 ghost use Rattle.debug_cli.specs.Turned.{Answers, NextReply, Turned, console_failed, screen_failed};
 

@@ -3,7 +3,8 @@ ghost use Rattle.std.specs.Prelude.{◌≡◌, false, IfOk};
 ghost use Rattle.edge_ports.specs.Counts.{Counted};
 ghost use Rattle.debug_cli.specs.History.{history, IsReady};
 ghost use Rattle.debug_cli.specs.Status.{is_console, is_screen};
-ghost use Rattle.debug_cli.specs.Dialog.{opening, first_entries};
+ghost use Rattle.debug_cli.specs.Dialog.{opening};
+ghost use Rattle.plain_search.specs.Standing.{first_entries};
 ghost use Rattle.debug_cli.specs.Heard.{Heard, IsHeard, lines_in, EndedBy, GaveBy, session_status};
 ghost use Rattle.debug_cli.specs.Asked.{GivesLine, said};
 

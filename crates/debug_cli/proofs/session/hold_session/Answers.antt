@@ -2,7 +2,8 @@ use Rattle.std.proofs.Common.{ℕ, List, refl, subst, ◌∙◌}
 use Rattle.edge_ports.specs.Told.{GaveAll, GavePrefix}
 use Rattle.edge_ports.proofs.ToldLemmas.{gave_prefix_before}
 use Rattle.debug_cli.specs.History.{history}
-use Rattle.debug_cli.specs.Dialog.{opening, first_entries, replies}
+use Rattle.debug_cli.specs.Dialog.{opening, replies}
+use Rattle.plain_search.specs.Standing.{first_entries}
 use Rattle.debug_cli.specs.Heard.{lines_in}
 use Rattle.debug_cli.specs.Asked.{said}
 use Rattle.debug_cli.proofs.Talk.{nothing, heard_nothing, nothing_is_prefix, gave_behind}
