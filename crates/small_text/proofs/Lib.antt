@@ -1,0 +1,4 @@
+mod Makes
+mod Parts
+mod Terminals
+mod Wholes
