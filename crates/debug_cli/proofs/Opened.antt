@@ -15,6 +15,7 @@ use Rattle.small_program.specs.Reading.{Read}
 use Rattle.small_program.proofs.Whole.{small_whole}
 use Rattle.debug_cli.specs.History.{History, history_of, calls_within}
 use Rattle.pas_parser.specs.Formed.{IsText}
+use Rattle.small_text.specs.Laws.{SmallIsText}
 use Rattle.debug_cli.specs.Program.{IsProgram, Keeps, Refuses, IsRefused, IsMisfit, IsUnlexed, IsUnparsed, IsUnread, TokensAre, ProgramIs}
 
 pub take_min : (l : List ℕ) (n : ℕ) → take (min (length l) n) l ≡ take n l
@@ -53,16 +54,16 @@ pub small_of : (source : List ℕ) (tokens t : Lexed) (s : Small) → tokens.sou
 small_of source tokens t s kept p e = subst (λ (u : Lexed). IsSmall (pieces u) s) (same_tokens source tokens t s kept p e) p.small
 
 module _ (source : List ℕ) (tokens : Lexed) (kept : tokens.source ≡ source) (one : (others : List Token) → IsLexed source others → tokens.tokens ≡ others) where
-  text_is : (t : Lexed) (s : Small) → IsProgram source t s → IsText tokens.tokens
-  text_is t s p = subst IsText (sym (one t.tokens p.lexed)) p.text
+  text_is : SmallIsText → (t : Lexed) (s : Small) → IsProgram source t s → IsText tokens.tokens
+  text_is texts t s p = texts tokens s (small_of source tokens t s kept p (one t.tokens p.lexed))
 
-  pub no_text_only : (e : SourceFault) → IsUnparsed tokens e → (t : Lexed) (s : Small) → IsProgram source t s → Keeps (history_of t s) (Err e)
-  no_text_only (Refused why line byte) h t s p = h.0 (text_is t s p)
-  no_text_only Memory h t s p = tt
+  pub no_text_only : SmallIsText → (e : SourceFault) → IsUnparsed tokens e → (t : Lexed) (s : Small) → IsProgram source t s → Keeps (history_of t s) (Err e)
+  no_text_only texts (Refused why line byte) h t s p = h.0 (text_is texts t s p)
+  no_text_only texts Memory h t s p = tt
 
-  pub no_text_refused : (e : SourceFault) → IsLexed source tokens.tokens → IsUnparsed tokens e → IsRefused source e
-  no_text_refused (Refused why line byte) lexed h = ((λ t s p. h.0 (text_is t s p)), inr (tokens, kept, lexed, h.1))
-  no_text_refused Memory lexed h = tt
+  pub no_text_refused : SmallIsText → (e : SourceFault) → IsLexed source tokens.tokens → IsUnparsed tokens e → IsRefused source e
+  no_text_refused texts (Refused why line byte) lexed h = ((λ t s p. h.0 (text_is texts t s p)), inr (tokens, kept, lexed, h.1))
+  no_text_refused texts Memory lexed h = tt
 
   pub no_program_only : (e : SourceFault) → ((s : Small) → IsSmall (pieces tokens) s → ProgramIs (program_of s) (Err e)) → (t : Lexed) (s : Small) → IsProgram source t s → Keeps (history_of t s) (Err e)
   no_program_only (Refused why line byte) h t s r = h s (small_of source tokens t s kept r (one t.tokens r.lexed))
@@ -84,12 +85,12 @@ module _ (source : List ℕ) (tokens : Lexed) (kept : tokens.source ≡ source) 
       let q : program ≡ program_of s = h s (small_of source tokens t s kept p (one t.tokens p.lexed)) in
       is ∙ (λ i. record { tokens = same i; program = q i; calls = calls_within (q i) BUDGET })
 
-  pub run_found : (program : Tables) (r : History) → IsLexed source tokens.tokens → IsText tokens.tokens → ((s : Small) × IsSmall (pieces tokens) s × (program ≡ program_of s)) → r ≡ record { tokens = tokens; program = program; calls = calls_within program BUDGET }
+  pub run_found : (program : Tables) (r : History) → IsLexed source tokens.tokens → ((s : Small) × IsSmall (pieces tokens) s × (program ≡ program_of s)) → r ≡ record { tokens = tokens; program = program; calls = calls_within program BUDGET }
       → (t : Lexed) × (s : Small) × IsProgram source t s × (r ≡ history_of t s)
-  run_found program r lexed text p is = (
+  run_found program r lexed p is = (
     tokens,
     p.0,
-    record { kept = kept; lexed = lexed; text = text; small = p.1 },
+    record { kept = kept; lexed = lexed; small = p.1 },
     is ∙ (λ i. record { tokens = tokens; program = p.2 i; calls = calls_within (p.2 i) BUDGET }),
   )
 

@@ -15,11 +15,10 @@ use Rattle.debug_cli.specs.declared.run.Run.{Run}
 use Rattle.debug_cli.specs.History.{History, history}
 use Rattle.small_program.specs.Small.{pieces, Small, IsSmall, BeginsNone}
 
--- the source has these tokens, which a formed tree spells and which are this small program
+-- the source has these tokens, which are this small program
 pub record IsProgram (source : List ℕ) (t : Lexed) (s : Small) : Type 0 where
   pub kept : t.source ≡ source
   pub lexed : IsLexed source t.tokens
-  pub text : IsText t.tokens
   pub small : IsSmall (pieces t) s
 
 -- the answer keeps this history, or memory ran out

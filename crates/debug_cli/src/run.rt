@@ -15,6 +15,7 @@ use core_program::{Calls, Program, numbers_tell_the_tree, run_calls};
 use pas_lexer::{LexFault, Tokens, lex};
 use pas_parser::{ParseFault, parse};
 use small_program::{SmallFault, parse_small};
+use small_text::small_programs_are_texts;
 use std::alloc::{AllocError, Global};
 use thiserror::Error;
 
@@ -216,12 +217,13 @@ pub fn run_source(alloc: Global, source: &[u8]) -> Result<Run, SourceFault>
     // Each program that the source is has this run.
     ensures only { (t : Lexed) (s : Small) → IsProgram source.now t s → Keeps (history_of t s) result }
     // A refused source is no program, and it is told why and where: at the first piece that does not fit, or
-    // at a token with which no formed tree, or no small program, goes on.
+    // at a token with which no tree of the grammar, or no small program, goes on.
     ensures refused { IfErr result (IsRefused source.now) }
     // A source that is no program is refused, unless memory runs out.
     ensures found { IfOk result (λ run. (t : Lexed) × (s : Small) × IsProgram source.now t s × (history run ≡ history_of t s)) }
     ensures ready { IfOk result IsReady }
 {
+    small_programs_are_texts();
     let tokens = read_tokens(alloc, source)?;
     check_grammar(alloc, &tokens)?;
     let program = read_program(alloc, &tokens)?;

@@ -16,12 +16,12 @@ returns-in_err-tokens-clause-refused c =
 pub returns-in_err-check_grammar-clause-only : goal.returns-in_err-check_grammar-clause-only
 returns-in_err-check_grammar-clause-only c = λ t s r.
     let p = err_from_is_err_and c.from_residual-in_err-check_grammar.result c.from_residual-in_err-check_grammar.ensures.1 in
-    rw (p.1, p.2) (no_text_only c.args.source.now c.in_ok-tokens.tokens c.in_ok-tokens.ensures.found.0 c.in_ok-tokens.ensures.only c.in_err-check_grammar.field-0.0 c.in_err-check_grammar.ensures.refused t s r)
+    rw (p.1, p.2) (no_text_only c.args.source.now c.in_ok-tokens.tokens c.in_ok-tokens.ensures.found.0 c.in_ok-tokens.ensures.only c.small_programs_are_texts.ensures c.in_err-check_grammar.field-0.0 c.in_err-check_grammar.ensures.refused t s r)
 
 pub returns-in_err-check_grammar-clause-refused : goal.returns-in_err-check_grammar-clause-refused
 returns-in_err-check_grammar-clause-refused c =
     let p = err_from_is_err_and c.from_residual-in_err-check_grammar.result c.from_residual-in_err-check_grammar.ensures.1 in
-    rw (p.1, p.2) (no_text_refused c.args.source.now c.in_ok-tokens.tokens c.in_ok-tokens.ensures.found.0 c.in_ok-tokens.ensures.only c.in_err-check_grammar.field-0.0 c.in_ok-tokens.ensures.found.1 c.in_err-check_grammar.ensures.refused)
+    rw (p.1, p.2) (no_text_refused c.args.source.now c.in_ok-tokens.tokens c.in_ok-tokens.ensures.found.0 c.in_ok-tokens.ensures.only c.small_programs_are_texts.ensures c.in_err-check_grammar.field-0.0 c.in_ok-tokens.ensures.found.1 c.in_err-check_grammar.ensures.refused)
 
 pub returns-in_err-program-clause-only : goal.returns-in_err-program-clause-only
 returns-in_err-program-clause-only c = λ t s r.
@@ -39,4 +39,4 @@ returns-clause-only c =
 
 pub returns-clause-found : goal.returns-clause-found
 returns-clause-found c =
-    run_found c.args.source.now c.in_ok-tokens.tokens c.in_ok-tokens.ensures.found.0 c.in_ok-tokens.ensures.only c.in_ok-program.program (history c.in_ok-run.run') c.in_ok-tokens.ensures.found.1 c.in_ok-check_grammar.ensures.found c.in_ok-program.ensures.found c.in_ok-run.ensures.kept
+    run_found c.args.source.now c.in_ok-tokens.tokens c.in_ok-tokens.ensures.found.0 c.in_ok-tokens.ensures.only c.in_ok-program.program (history c.in_ok-run.run') c.in_ok-tokens.ensures.found.1 c.in_ok-program.ensures.found c.in_ok-run.ensures.kept
