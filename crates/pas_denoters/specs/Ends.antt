@@ -1,8 +1,6 @@
 -- What stands behind the sections of a fixed part, as a node.
-use Rattle.std.specs.Prelude.{ℕ}
 use Rattle.grammar.specs.declared.terminals.Terminal.TheVariants as k
 use Rattle.grammar.specs.Nodes.{Node, Nothing, Pair, leaf}
-use Rattle.pas_tree.specs.declared.denoters.NextVariants.{NextVariants}
 use Rattle.pas_tree.specs.Denoters.{some_variants_node}
 use Rattle.pas_denoters.specs.declared.denoters.SectionsEnd.{SectionsEnd}
 use Rattle.pas_denoters.specs.declared.denoters.SectionsEnd.TheVariants as end

@@ -1,5 +1,5 @@
 -- A second part that fails fails the whole.
-use Rattle.std.proofs.Common.{◌≡◌, ℕ, List, Ok, Err, ap, ◌∙◌}
+use Rattle.std.proofs.Common.{◌≡◌, List, Ok, ap, ◌∙◌}
 use Rattle.grammar.specs.declared.terminals.Terminal.{Terminal}
 use Rattle.grammar.specs.Nodes.{Item, Node, Pair}
 use Rattle.grammar.specs.Reading.{Read, ◌>>=◌, then_pair}

@@ -1,3 +1,4 @@
+mod Alternatives
 mod Exactly
 mod Failing
 mod Steps

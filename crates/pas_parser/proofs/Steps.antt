@@ -1,9 +1,8 @@
 -- The terminals of tokens, one more at a time.
-use Rattle.std.proofs.Common.{◌≡◌, ℕ, ◌+◌, ◌≤◌, List, [], ◌∷◌, ◌++◌, map, take, get_or, length, Some, ap, ◌∙◌, arith}
+use Rattle.std.proofs.Common.{◌≡◌, ℕ, ◌+◌, List, [], ◌∷◌, ◌++◌, take, get_or, Some, ap, ◌∙◌}
 use Rattle.std.specs.Prelude.{slice_get}
 use Rattle.std.proofs.lemmas.List.{map_push, take_more}
 use Rattle.std.proofs.lemmas.Option.{slice_get_within, get_or_from_slice_get}
-use Rattle.grammar.specs.declared.terminals.Terminal.{Terminal}
 use Rattle.pas_lexer.specs.declared.kinds.Token.{Token}
 use Rattle.pas_parser.specs.Kinds.{terminal_of, terminals_of}
 

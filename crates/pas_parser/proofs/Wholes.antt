@@ -1,9 +1,9 @@
 -- What reading says of whole programs.
-use Rattle.std.proofs.Common.{◌≡◌, ℕ, zero, suc, ◌+◌, ◌<◌, ◌≤◌, ◌-◌, Bool, true, false, List, [], ◌∷◌, ◌++◌, length, take, drop, get_or, Option, Some, None, Result, Ok, Err, refl, sym, ap, subst, ◌∙◌, append_assoc, arith, inl, inr, ◌⊎◌, length-append, length-drop}
+use Rattle.std.proofs.Common.{◌≡◌, ℕ, zero, suc, ◌+◌, ◌<◌, ◌≤◌, true, List, [], ◌∷◌, ◌++◌, length, take, drop, get_or, Ok, Err, refl, sym, ap, subst, ◌∙◌, append_assoc, arith, inl, inr, length-append, length-drop}
 use Rattle.std.proofs.lemmas.List.{take_at, map_push}
 use Rattle.grammar.specs.declared.terminals.Terminal.{Terminal}
 use Rattle.grammar.specs.Nodes.{Item, Node, spell, next}
-use Rattle.grammar.specs.Reading.{Read, Refusal, Unfit, Deep, left_of, read}
+use Rattle.grammar.specs.Reading.{Refusal, Unfit, Deep, left_of, read}
 use Rattle.grammar.specs.Laws.{NoneGoesOn}
 use Rattle.grammar.specs.Ending.{IsLast, Has}
 use Rattle.grammar.proofs.Ending.{refused_inside}
@@ -22,7 +22,7 @@ use Rattle.pas_phrases.specs.declared.fault.ParseFault.{ParseFault}
 use Rattle.pas_phrases.specs.declared.fault.ParseFault.TheVariants as faults
 use Rattle.pas_phrases.specs.Items.{numbered, items_from, Fails}
 use Rattle.pas_phrases.proofs.Ahead.{items_cons, items_end}
-use Rattle.pas_parser.specs.Formed.{IsFormed, Begins, IsHopeless, IsRefusedAt, IsRefusal, IsThat}
+use Rattle.pas_parser.specs.Formed.{IsFormed, IsHopeless, IsRefusedAt, IsRefusal, IsThat}
 
 length-numbered : (n : ℕ) (ks : List Terminal) → length (numbered n ks) ≡ length ks
 length-numbered n [] = refl

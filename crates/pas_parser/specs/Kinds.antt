@@ -1,5 +1,5 @@
 -- The terminal that a token is.
-use Rattle.std.specs.Prelude.{ℕ, List, map}
+use Rattle.std.specs.Prelude.{List, map}
 use Rattle.grammar.specs.declared.terminals.Terminal.{Terminal}
 use Rattle.grammar.specs.declared.terminals.Terminal.TheVariants as k
 use Rattle.pas_lexer.specs.declared.kinds.Kind.{Kind}

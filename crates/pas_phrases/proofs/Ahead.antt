@@ -1,11 +1,11 @@
 -- The next token of a list of terminals.
-use Rattle.std.proofs.Common.{◌≡◌, ℕ, zero, suc, ◌+◌, ◌<◌, ◌≤◌, Bool, true, false, cond, if◌then◌else◌, Option, Some, None, List, [], ◌∷◌, length, get_or, drop, Ok, Err, Result, refl, sym, ap, subst, ◌∙◌, arith}
+use Rattle.std.proofs.Common.{◌≡◌, ℕ, suc, ◌+◌, ◌<◌, ◌≤◌, Bool, true, false, if◌then◌else◌, Option, Some, None, List, [], ◌∷◌, length, get_or, drop, Ok, Err, refl, sym, ap, ◌∙◌, arith}
 use Rattle.std.proofs.Math.Seq.{drop-cons}
 use Rattle.std.proofs.Math.ListN.{drop_of_length-le}
 use Rattle.grammar.specs.declared.terminals.Terminal.{Terminal}
 use Rattle.grammar.specs.Terminals.{is, one_of, passes}
-use Rattle.grammar.specs.Nodes.{Item, Node, Leaf, leaf, next, second}
-use Rattle.grammar.specs.Reading.{Read, Unfit, token_at}
+use Rattle.grammar.specs.Nodes.{Item, leaf, next, second}
+use Rattle.grammar.specs.Reading.{Unfit, token_at}
 use Rattle.grammar.proofs.Testing.{is-equal}
 use Rattle.pas_phrases.specs.Items.{numbered, items_from}
 

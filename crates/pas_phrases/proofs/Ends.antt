@@ -1,5 +1,5 @@
 -- A refusal of a part is one of the whole.
-use Rattle.std.proofs.Common.{◌≡◌, ℕ, Bool, true, false, List, [], ◌∷◌, Ok, Err, Result}
+use Rattle.std.proofs.Common.{◌≡◌, ℕ, true, false, List, [], ◌∷◌}
 use Rattle.grammar.specs.declared.terminals.Terminal.{Terminal}
 use Rattle.grammar.specs.Terminals.{passes}
 use Rattle.grammar.specs.Nodes.{Item, Node, Step, next}

@@ -1,9 +1,9 @@
 -- A terminal that was seen as an operator is the operator's token.
-use Rattle.std.proofs.Common.{◌≡◌, ℕ, ◌+◌, ◌<◌, Bool, true, false, Option, Some, None, List, [], ◌∷◌, length, get_or, Ok, Err, refl, sym, ap, ◌∙◌}
+use Rattle.std.proofs.Common.{◌≡◌, ℕ, ◌+◌, ◌<◌, true, false, Option, Some, None, List, length, get_or, Ok, Err, sym, ap, ◌∙◌}
 use Rattle.grammar.specs.declared.terminals.Terminal.{Terminal}
 use Rattle.grammar.specs.Terminals.{one_of, passes}
-use Rattle.grammar.specs.Nodes.{Item, Node, leaf, next}
-use Rattle.grammar.specs.Reading.{Read, Unfit, token_at}
+use Rattle.grammar.specs.Nodes.{Node, leaf, next}
+use Rattle.grammar.specs.Reading.{Unfit, token_at}
 use Rattle.pas_phrases.specs.Items.{items_from}
 use Rattle.pas_phrases.proofs.Ahead.{items_cons, not_taken}
 

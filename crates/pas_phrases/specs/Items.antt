@@ -4,7 +4,7 @@ use Rattle.grammar.specs.declared.terminals.Terminal.{Terminal}
 use Rattle.grammar.specs.declared.terminals.Terminal.TheVariants as k
 use Rattle.grammar.specs.Terminals.{one_of, passes}
 use Rattle.grammar.specs.Nodes.{Item, Node, Nothing, Pair, leaf, next, second}
-use Rattle.grammar.specs.Reading.{Read, Refusal, Unfit, Deep, token_at, then_pair, ◌>>=◌}
+use Rattle.grammar.specs.Reading.{Read, Unfit, Deep, token_at, then_pair, ◌>>=◌}
 use Rattle.pas_tree.specs.declared.operators.Sign.{Sign}
 use Rattle.pas_tree.specs.Operators.{sign_leaf}
 use Rattle.pas_tree.specs.Rules.{plain_constants}

@@ -1,4 +1,4 @@
-use Rattle.std.proofs.Common.{◌≡◌, ◌≤◌, ◌<◌, ◌+◌, ℕ, List, ◌∷◌, [], map, length, ◌-◌, ◌*◌}
+use Rattle.std.proofs.Common.{◌≡◌, ◌≤◌, ◌+◌, ◌∷◌, [], map, length, ◌-◌, ◌*◌}
 use Rattle.grammar.specs.declared.terminals.Terminal.TheVariants as k
 use Rattle.grammar.specs.Grammars.{many}
 use Rattle.grammar.specs.Reading.{read}
@@ -7,9 +7,8 @@ use Rattle.pas_tree.specs.Tables.{pascal}
 use Rattle.pas_phrases.specs.Items.{items_from}
 use Rattle.grammar.specs.Grammars.{nothing, series}
 use Rattle.grammar.proofs.Lists.{with_steps}
-use Rattle.pas_tree.specs.Denoters.{next_denoter_node, section_step, arm_step, last_semicolon_node}
+use Rattle.pas_tree.specs.Denoters.{next_denoter_node, section_step, arm_step}
 use Rattle.pas_tree.specs.Rules.{constant_starts, next_denoter_rule, section_rule, variants_rule, arm_rule}
-use Rattle.pas_denoters.specs.Ends.{sections_end_node}
 use Rattle.pas_denoters.proofs.denoters.+denoters.Given as goal
 
 abbrev pub invariant-read_next_denoters-denoters : goal.invariant-read_next_denoters-denoters

@@ -1,4 +1,4 @@
-use Rattle.std.proofs.Common.{◌≡◌, ◌≤◌, ◌<◌, ◌+◌, ℕ, List, ◌∷◌, [], map, length, ◌-◌, ◌*◌}
+use Rattle.std.proofs.Common.{◌≡◌, ◌≤◌, ◌+◌, ◌∷◌, [], map, length, ◌-◌, ◌*◌}
 use Rattle.grammar.specs.declared.terminals.Terminal.TheVariants as k
 use Rattle.grammar.specs.Grammars.{many}
 use Rattle.grammar.specs.Reading.{read}
@@ -6,7 +6,7 @@ use Rattle.grammar.proofs.Lists.{with_front}
 use Rattle.pas_tree.specs.Tables.{pascal}
 use Rattle.pas_phrases.specs.Items.{items_from}
 use Rattle.pas_tree.specs.Expressions.{next_term_node, next_factor_node, next_expression_node, selector_node, next_member_node}
-use Rattle.pas_tree.specs.Rules.{adding, multiplying, selector_starts, next_term_rule, next_factor_rule, next_expression_rule, selector_rule, next_member_rule, selectors_rule}
+use Rattle.pas_tree.specs.Rules.{adding, multiplying, selector_starts, next_term_rule, next_factor_rule, next_expression_rule, selector_rule, next_member_rule}
 use Rattle.pas_expressions.proofs.expressions.+expressions.Given as goal
 
 abbrev pub invariant-read_next_terms-terms : goal.invariant-read_next_terms-terms

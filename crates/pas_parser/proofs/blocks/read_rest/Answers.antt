@@ -1,4 +1,3 @@
-use Rattle.std.proofs.Common.{◌∷◌, []}
 use Rattle.std.proofs.lemmas.Result.{err_from_is_err_and}
 use Rattle.grammar.specs.declared.terminals.Terminal.TheVariants as k
 use Rattle.grammar.specs.Grammars.{block, seq, word}

@@ -1,4 +1,4 @@
-use Rattle.std.proofs.Common.{◌≡◌, ◌∙◌, sym, ap, arith, take, List, ◌++◌, ◌∷◌, []}
+use Rattle.std.proofs.Common.{◌∙◌, sym, ap, arith, take, List, ◌++◌, ◌∷◌, []}
 use Rattle.grammar.specs.declared.terminals.Terminal.{Terminal}
 use Rattle.pas_parser.specs.Kinds.{terminals_of}
 use Rattle.pas_parser.proofs.Steps.{one_more}

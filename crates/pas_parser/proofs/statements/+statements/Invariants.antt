@@ -1,4 +1,4 @@
-use Rattle.std.proofs.Common.{◌≡◌, ◌≤◌, ◌<◌, ◌+◌, ℕ, List, ◌∷◌, [], map, length, ◌-◌, ◌*◌}
+use Rattle.std.proofs.Common.{◌≡◌, ◌≤◌, ◌+◌, ◌∷◌, [], map, length, ◌-◌, ◌*◌}
 use Rattle.grammar.specs.declared.terminals.Terminal.TheVariants as k
 use Rattle.grammar.specs.Grammars.{many}
 use Rattle.grammar.specs.Reading.{read}
@@ -7,9 +7,8 @@ use Rattle.pas_tree.specs.Tables.{pascal}
 use Rattle.pas_phrases.specs.Items.{items_from}
 use Rattle.grammar.specs.Grammars.{nothing, series}
 use Rattle.grammar.proofs.Lists.{with_steps}
-use Rattle.pas_tree.specs.Statements.{next_statement_node, branch_step, next_actual_node, next_access_node}
-use Rattle.pas_tree.specs.Denoters.{last_semicolon_node}
-use Rattle.pas_tree.specs.Rules.{constant_starts, next_statement_rule, branch_rule, next_actual_rule, next_access_rule}
+use Rattle.pas_tree.specs.Statements.{next_statement_node, branch_step}
+use Rattle.pas_tree.specs.Rules.{constant_starts, next_statement_rule, branch_rule}
 use Rattle.pas_parser.specs.Closers.{closer_of}
 use Rattle.pas_parser.proofs.statements.+statements.Given as goal
 
