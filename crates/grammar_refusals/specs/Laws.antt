@@ -11,8 +11,8 @@ use Rattle.grammar_refusals.specs.Completing.{IsCompleted}
 use Rattle.grammar_refusals.specs.Reaching.{IsReaching}
 use Rattle.grammar_refusals.specs.Refusals.{IsHopeless, IsFirstTooDeep, NoneTooDeep, IsFirstHopeless, StopsAt}
 
--- The grammar passes the checks: one token decides each choice, short trees complete what was read, and each token in
--- front of which a level is tried may stand there.
+-- The grammar passes the checks: one token decides each choice, short trees in which at most d levels are nested complete
+-- what was read, in front of a calm terminal, and each token in front of which a level is tried may stand there.
 pub record Checks (calm : Terminal → Bool) (d : ℕ) (t : Tables) (g : Grammar) : Type 0 where
   pub decided : IsDecided t g ≡ true
   pub completed : IsCompleted calm d t g ≡ true

@@ -10,7 +10,7 @@ use Rattle.grammar.specs.Laws.{IsFormed}
 abbrev pub Trees : Type 1
 Trees = Node → Option Terminal → Type 0
 
--- some trees, and of each some places: the tokens of its own that stand before the place
+-- some trees with a place in each, which is told by the tokens of the tree that stand before it
 abbrev pub Places : Type 1
 Places = Node → Option Terminal → List Item → Type 0
 
@@ -26,7 +26,7 @@ Nested rule l x h = (m : ℕ) × FreeWithin rule m l x h
 abbrev pub nowhere : Places
 nowhere x h f = ⊥
 
--- a place of one part of a pair, where the other part is a tree
+-- a pair with a place in one of its parts, the other part being a tree
 abbrev pub InPair : Trees → Trees → Places → Places → Places
 InPair p q m k (Leaf item) h f = ⊥
 InPair p q m k Nothing h f = ⊥
@@ -37,8 +37,8 @@ abbrev pub in_rounds : ℕ → (Places → Places) → Places
 in_rounds zero f x h at = ⊥
 in_rounds (suc k) f x h at = f (in_rounds k f) x h at
 
--- The places in the trees of a grammar, where `env` has the trees of the levels and `deep` places in them; `v` has
--- the trees that `again` stands for, and `m` the places in them.
+-- The trees of a grammar with a place in each where something begins: `env` has the trees of the levels, and `deep`
+-- those with a place; `v` and `m` have the same of what `again` stands for.
 abbrev pub BeginsIn : (Level → Trees) → (Level → Places) → Grammar → Trees → Places → Places
 BeginsIn env deep (token ks) v m x h f = ⊥
 BeginsIn env deep nothing v m x h f = ⊥
@@ -49,11 +49,11 @@ BeginsIn env deep (level l) v m x h f = deep l x h f
 BeginsIn env deep (loop a) v m x h f = (k : ℕ) × in_rounds k (BeginsIn env deep a (FreeIn env (loop a) v)) x h f
 BeginsIn env deep again v m x h f = m x h f
 
--- The tree is one of the level, and a node that n more levels are around begins in it behind these tokens.
+-- A tree of the level with a place in it where a node begins that is nested n levels deeper than its own: at 0 its own.
 unfoldable pub BeginsAt : (Level → Grammar) → ℕ → Level → Places
 BeginsAt rule zero l x h f = (f ≡ []) × Nested rule l x h
 BeginsAt rule (suc n) l x h f = BeginsIn (Nested rule) (BeginsAt rule n) (rule l) IsNone nowhere x h f
 
--- The tree is one of a whole text, and a node of nesting n + 1 begins in it behind these tokens.
+-- A tree of a whole text in which, behind these tokens, a node of nesting n + 1 begins.
 abbrev pub BeginsDeep : Tables → ℕ → Grammar → Node → List Item → Type 0
 BeginsDeep t n g x f = BeginsIn (Nested t.rule) (BeginsAt t.rule n) g IsNone nowhere x None f
