@@ -1,21 +1,11 @@
 -- What stands behind a comment's opening symbol.
 use Rattle.std.proofs.Common.{◌≡◌, ℕ, zero, suc, ◌+◌, ◌≤◌, Bool, true, false, nat_eq, List, [], ◌∷◌, ◌++◌, length, take, Option, Some, None, refl, sym, ap, subst, ◌∙◌, arith, inl, inr}
-use Rattle.std.specs.Prelude.{◌&&◌, ◌||◌}
-use Rattle.std.proofs.lemmas.Bool.{eqb-true}
+use Rattle.std.proofs.lemmas.Option.{same_Some}
+use Rattle.std.specs.Prelude.{◌&&◌}
+use Rattle.std.proofs.lemmas.Bool.{eqb-true, and_parts, or_from, or_parts}
 use Rattle.pas_lexer.specs.Lexis.{next_is, IsClosed}
 use Rattle.pas_lexer.specs.Reading.{more_by, closing}
 use Rattle.pas_lexer.proofs.Runs.{chosen}
-
-neither : (a b : Bool) → (a || b) ≡ false → (a ≡ false) × (b ≡ false)
-neither true b e = absurd cc
-neither false b e = (refl, e)
-
-both : (a b : Bool) → (a && b) ≡ true → (a ≡ true) × (b ≡ true)
-both true b e = (refl, e)
-both false b e = absurd cc
-
-not_either : (a b : Bool) → a ≡ false → b ≡ false → (a || b) ≡ false
-not_either a b e f = rw (e, f) refl
 
 -- the second byte of a closing symbol stands in what is closed
 two_same : (l rest : List ℕ) → IsClosed l → next_is 41 (l ++ rest) ≡ next_is 41 l
@@ -30,7 +20,7 @@ closing_again (c ∷ l) rest h =
       | inr g ↦ elim g [
         | inl e ↦ subst (λ (x : List ℕ). closing (x ++ rest) ≡ Some (length x)) (sym e) refl
         | inr f ↦
-            let n = neither (nat_eq c 125) (nat_eq c 42 && next_is 41 l) f.0 in
+            let n = or_parts (nat_eq c 125) (nat_eq c 42 && next_is 41 l) f.0 in
             let one : nat_eq c 125 ≡ false = n.0 in
             let two : (nat_eq c 42 && next_is 41 (l ++ rest)) ≡ false = ap (λ (b : Bool). nat_eq c 42 && b) (two_same l rest f.1) ∙ n.1 in
             rw (one, two) (ap (more_by 1) (closing_again l rest f.1) ∙ ap Some (omega arith))
@@ -42,19 +32,16 @@ pub closing_sound : (l : List ℕ) (n : ℕ) → closing l ≡ Some n → IsClos
 closing_sound [] n e = absurd cc
 closing_sound (c ∷ l) n e =
     elim (chosen (nat_eq c 125) (Some 1) _ (Some n) e) [
-      | inl h ↦ subst (λ (m : ℕ). IsClosed (take m (c ∷ l)) × (m ≤ length (c ∷ l))) (some_is 1 n h.1) (inl (ap (λ (x : ℕ). x ∷ []) (eqb-true c 125 h.0)), omega arith)
+      | inl h ↦ subst (λ (m : ℕ). IsClosed (take m (c ∷ l)) × (m ≤ length (c ∷ l))) (same_Some 1 n h.1) (inl (ap (λ (x : ℕ). x ∷ []) (eqb-true c 125 h.0)), omega arith)
       | inr h ↦ elim (chosen (nat_eq c 42 && next_is 41 l) (Some 2) (more_by 1 (closing l)) (Some n) h.1) [
-        | inl g ↦ subst (λ (m : ℕ). IsClosed (take m (c ∷ l)) × (m ≤ length (c ∷ l))) (some_is 2 n g.1) (two_closed c l (both (nat_eq c 42) (next_is 41 l) g.0).0 (both (nat_eq c 42) (next_is 41 l) g.0).1)
+        | inl g ↦ subst (λ (m : ℕ). IsClosed (take m (c ∷ l)) × (m ≤ length (c ∷ l))) (same_Some 2 n g.1) (two_closed c l (and_parts (nat_eq c 42) (next_is 41 l) g.0).0 (and_parts (nat_eq c 42) (next_is 41 l) g.0).1)
         | inr g ↦
             let m = more_is (closing l) n g.1 in
             let t = closing_sound l m.0 m.1 in
-            subst (λ (j : ℕ). IsClosed (take j (c ∷ l)) × (j ≤ length (c ∷ l))) m.2 (inr (inr (not_either (nat_eq c 125) (nat_eq c 42 && next_is 41 (take m.0 l)) h.0 (still c l m.0 g.0 t.0), t.0)), omega (arith, t.1))
+            subst (λ (j : ℕ). IsClosed (take j (c ∷ l)) × (j ≤ length (c ∷ l))) m.2 (inr (inr (or_from (nat_eq c 125) (nat_eq c 42 && next_is 41 (take m.0 l)) h.0 (still c l m.0 g.0 t.0), t.0)), omega (arith, t.1))
       ]
     ]
   where
-    some_is : (m n : ℕ) → Some m ≡ Some n → m ≡ n
-    some_is m n e = cc
-
     more_is : (o : Option ℕ) (n : ℕ) → more_by 1 o ≡ Some n → (m : ℕ) × (o ≡ Some m) × (suc m ≡ n)
     more_is None n e = absurd cc
     more_is (Some m) n e = let f : 1 + m ≡ n = cc in (m, refl, omega arith)

@@ -16,26 +16,14 @@ use Rattle.pas_lexer.specs.Lexis.{Fits, NothingFits, IsReason}
 use Rattle.pas_lexer.specs.Reading.{Reading, piece_at}
 use Rattle.pas_lexer.specs.Lexed.{Lexed, IsPlaced, EndsOnce}
 use Rattle.pas_lexer.specs.Division.{Piece, Divides, size, line_feed, line_at, token_of, tokens_from, tokens_of, IsLexed, FailsFor, FailsAt, fault_of, IsFault, IsThose, IsThat}
-use Rattle.pas_lexer.proofs.Pieces.{piece_cut, piece_again, nothing_fits}
-use Rattle.pas_lexer.proofs.Reasons.{piece_fails, reason_again}
+use Rattle.pas_lexer.proofs.Pieces.{piece_cut, piece_again, nothing_fits, failed, pair_is}
+use Rattle.pas_lexer.proofs.Reasons.{piece_fails, reason_again, reason_is}
 
 -- ---- one division
 
 pub nil_fits : NothingFits []
 unfolding piece_at
 nil_fits = nothing_fits [] reason.BadByte refl
-
-abbrev read : Option Kind × ℕ → Reading
-read x = Ok x
-
-abbrev failed : Reason → Reading
-failed r = Err r
-
-pair_is : (x y : Option Kind × ℕ) → read x ≡ Ok y → x ≡ y
-pair_is x y e = cc
-
-reason_is : (r q : Reason) → failed r ≡ Err q → r ≡ q
-reason_is r q e = cc
 
 piece_of : List ℕ → Option Kind → Piece
 piece_of text kind = record { text = text; kind = kind }

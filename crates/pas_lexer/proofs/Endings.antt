@@ -1,21 +1,16 @@
 -- The last token.
-use Rattle.std.proofs.Common.{◌≡◌, ℕ, zero, suc, ◌+◌, ◌<◌, List, [], ◌∷◌, ◌++◌, length, get_or, slice_get, Some, None, sym, ap, subst, ◌∙◌, arith, length-append}
+use Rattle.std.proofs.Common.{◌≡◌, ℕ, zero, suc, ◌+◌, ◌<◌, List, [], ◌∷◌, ◌++◌, length, get_or, slice_get, Some, sym, ap, subst, ◌∙◌, arith, length-append}
+use Rattle.std.proofs.lemmas.Option.{none-some, same_Some}
 use Rattle.std.specs.Prelude.{◌≢◌, ◌↔◌, All}
 use Rattle.pas_lexer.specs.declared.kinds.Kind.TheVariants.{End}
 use Rattle.pas_lexer.specs.declared.kinds.Token.{Token}
 use Rattle.pas_lexer.specs.Lexed.{Lexed, EndsOnce}
 
-nothing : (t : Token) → None ≡ Some t → ⊥
-nothing t e = cc
-
-some_is : (u t : Token) → Some u ≡ Some t → u ≡ t
-some_is u t e = cc
-
 last_of : (front : List Token) (last t : Token) (i : ℕ) → last.kind ≡ End → All (λ u. u.kind ≢ End) front → slice_get (front ++ last ∷ []) i ≡ Some t → (t.kind ≡ End) ↔ (i + 1 ≡ length (front ++ last ∷ []))
-last_of [] last t zero is others g = (λ e. omega arith, λ e. ap (λ (u : Token). u.kind) (sym (some_is last t g)) ∙ is)
-last_of [] last t (suc i) is others g = absurd (nothing t g)
+last_of [] last t zero is others g = (λ e. omega arith, λ e. ap (λ (u : Token). u.kind) (sym (same_Some last t g)) ∙ is)
+last_of [] last t (suc i) is others g = absurd (none-some t g)
 last_of (u ∷ front) last t zero is others g =
-    let same : u ≡ t = some_is u t g in
+    let same : u ≡ t = same_Some u t g in
     (λ e. absurd (others 0 u (omega arith) (ap (λ (v : Token). v.kind) same ∙ e)), λ e. absurd (omega (arith, e, length-append front (last ∷ []))))
 last_of (u ∷ front) last t (suc i) is others g =
     let h = last_of front last t i is (λ k d l. others (suc k) d (omega arith)) g in

@@ -1,6 +1,6 @@
 -- Identifiers, and the words and names that they spell.
-use Rattle.std.proofs.Common.{◌≡◌, ℕ, Bool, true, false, List, [], ◌∷◌, ◌++◌, Option, Some, None, refl, sym, ap, subst, ◌∙◌, arith}
-use Rattle.std.specs.Prelude.{◌&&◌}
+use Rattle.std.proofs.Common.{◌≡◌, ℕ, true, List, [], ◌∷◌, ◌++◌, Option, Some, None, refl, sym, ap, subst, ◌∙◌, arith}
+use Rattle.std.proofs.lemmas.Bool.{and_parts}
 use Rattle.std.specs.List.{AllPass, list_all}
 use Rattle.std.specs.Char.{to_ascii_lowercase}
 use Rattle.std.proofs.lemmas.List.Sums.{AllPass-from_list_all}
@@ -31,11 +31,7 @@ identifier_more (c ∷ cs) d h e = (h.0, pass_more letter_or_digit cs d h.1 e)
 
 identifier_true : (t : List ℕ) → identifier t ≡ true → IsIdentifier t
 identifier_true [] e = absurd cc
-identifier_true (c ∷ cs) e = let p = both (letter c) (list_all letter_or_digit cs) e in (p.0, AllPass-from_list_all letter_or_digit cs p.1)
-  where
-    both : (a b : Bool) → (a && b) ≡ true → (a ≡ true) × (b ≡ true)
-    both true b e = (refl, e)
-    both false b e = absurd cc
+identifier_true (c ∷ cs) e = let p = and_parts (letter c) (list_all letter_or_digit cs) e in (p.0, AllPass-from_list_all letter_or_digit cs p.1)
 
 lower_passes : (cs : List ℕ) → AllPass letter_or_digit (lower_case cs) → AllPass letter_or_digit cs
 lower_passes [] h = pass_nil letter_or_digit

@@ -1,12 +1,14 @@
 -- Bytes, and the digits that stand first.
 use Rattle.std.proofs.Common.{◌≡◌, ℕ, ◌<◌, ◌≤◌, Bool, true, false, nat_eq, nat_lt, List, [], ◌∷◌, ◌++◌, length, take, drop, Some, None, refl, sym, ap, subst, ◌∙◌, arith, inl, inr}
+use Rattle.std.proofs.lemmas.Option.{same_Some}
+use Rattle.std.proofs.lemmas.Bool.{le-ltb, lt-ltb, ltb-true, ltb-false}
 use Rattle.std.specs.List.{AllPass}
 use Rattle.std.proofs.lemmas.Bool.Decides.{nat_tests}
 use Rattle.std.proofs.lemmas.List.{take-append-drop}
 use Rattle.std.proofs.Math.Seq.{take-append_seam, drop-append_seam}
 use Rattle.pas_lexer.specs.Lexis.{letter, digit, letter_or_digit, separator, digit_first, letter_first, real_follows, next_is, opens_comment, IsDigitSequence, decimal, maxint, FirstDigits, BeginsReal, BeginsJoined}
 use Rattle.pas_lexer.specs.Reading.{run, number_in, number_before, number_at, piece_at}
-use Rattle.pas_lexer.proofs.Runs.{chosen, pass_cons, pass_more, Stops, run_again, run_passes, run_stops}
+use Rattle.pas_lexer.proofs.Runs.{chosen, pass_cons, pass_more, Stops, run_again, run_passes, run_stops, head_is}
 
 -- ---- bytes
 
@@ -97,9 +99,6 @@ rest_same l digits rest others more f g = sym (digits_are l digits rest f).1 ∙
 pub digit_here : (c : ℕ) (l digits rest : List ℕ) → FirstDigits (c ∷ l) digits rest → digit c ≡ true
 digit_here c l [] rest f = absurd f.1
 digit_here c l (d ∷ ds) rest f = ap digit (head_is c d l (ds ++ rest) f.0) ∙ f.1.0
-  where
-    head_is : (x y : ℕ) (l m : List ℕ) → x ∷ l ≡ y ∷ m → x ≡ y
-    head_is x y l m e = cc
 
 pub no_slash_first : (l digits rest : List ℕ) → FirstDigits l digits rest → next_is 47 l ≡ false
 no_slash_first [] digits rest f = refl
@@ -116,39 +115,24 @@ not_joined l digits rest f e h = both_ways (letter_first rest) (ap letter_first 
 
 pub small_number : (t : List ℕ) → decimal t ≤ maxint → number_in t ≡ Some (decimal t)
 unfolding number_in
-small_number t le = let e : nat_lt maxint (decimal t) ≡ false = not_less maxint (decimal t) le in rw e refl
-  where
-    not_less : (a b : ℕ) → b ≤ a → nat_lt a b ≡ false
-    not_less a b h = grind (arith, nat_tests)
+small_number t le = let e : nat_lt maxint (decimal t) ≡ false = le-ltb maxint (decimal t) le in rw e refl
 
 pub large_number : (t : List ℕ) → maxint < decimal t → number_in t ≡ None
 unfolding number_in
-large_number t lt = let e : nat_lt maxint (decimal t) ≡ true = less maxint (decimal t) lt in rw e refl
-  where
-    less : (a b : ℕ) → a < b → nat_lt a b ≡ true
-    less a b h = grind (arith, nat_tests)
+large_number t lt = let e : nat_lt maxint (decimal t) ≡ true = lt-ltb maxint (decimal t) lt in rw e refl
 
 pub number_small : (t : List ℕ) (n : ℕ) → number_in t ≡ Some n → (decimal t ≡ n) × (n ≤ maxint)
 unfolding number_in
 number_small t n e =
     elim (chosen (nat_lt maxint (decimal t)) None (Some (decimal t)) (Some n) e) [
       | inl h ↦ absurd (let never : None ≡ Some n = h.1 in cc)
-      | inr h ↦ let same : decimal t ≡ n = number_is (decimal t) n h.1 in (same, subst (λ (m : ℕ). m ≤ maxint) same (not_above maxint (decimal t) h.0))
+      | inr h ↦ let same : decimal t ≡ n = same_Some (decimal t) n h.1 in (same, subst (λ (m : ℕ). m ≤ maxint) same (ltb-false maxint (decimal t) h.0))
     ]
-  where
-    number_is : (m n : ℕ) → Some m ≡ Some n → m ≡ n
-    number_is m n e = cc
-
-    not_above : (a b : ℕ) → nat_lt a b ≡ false → b ≤ a
-    not_above a b h = grind (arith, nat_tests)
 
 pub number_large : (t : List ℕ) → number_in t ≡ None → maxint < decimal t
 unfolding number_in
 number_large t e =
     elim (chosen (nat_lt maxint (decimal t)) None (Some (decimal t)) None e) [
-      | inl h ↦ above maxint (decimal t) h.0
+      | inl h ↦ ltb-true maxint (decimal t) h.0
       | inr h ↦ absurd (let never : Some (decimal t) ≡ None = h.1 in cc)
     ]
-  where
-    above : (a b : ℕ) → nat_lt a b ≡ true → a < b
-    above a b h = grind (arith, nat_tests)

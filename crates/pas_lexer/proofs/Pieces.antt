@@ -1,8 +1,8 @@
 -- What is read as a piece fits, and what fits is read.
 use Rattle.std.proofs.Common.{◌≡◌, ℕ, suc, ◌+◌, ◌<◌, ◌≤◌, Bool, true, false, cond, nat_eq, nat_lt, List, [], ◌∷◌, ◌++◌, length, take, drop, Option, Some, None, Ok, Err, refl, sym, ap, subst, ◌∙◌, append_assoc, arith, length-append, length-take, inl, inr}
-use Rattle.std.specs.Prelude.{◌&&◌, ◌||◌}
-use Rattle.std.proofs.lemmas.Bool.{eqb-true}
-use Rattle.std.proofs.lemmas.Bool.Decides.{nat_tests}
+use Rattle.std.proofs.lemmas.Option.{same_Some}
+use Rattle.std.specs.Prelude.{◌&&◌}
+use Rattle.std.proofs.lemmas.Bool.{eqb-true, and_parts, or_from, or_parts, ltb-true, lt-ltb, eq-eqb}
 use Rattle.std.proofs.lemmas.List.{take-append-drop, append-nil}
 use Rattle.std.proofs.Math.Seq.{take-append_seam}
 use Rattle.pas_lexer.specs.declared.kinds.Word.{Word}
@@ -15,7 +15,7 @@ use Rattle.pas_lexer.specs.declared.symbols.Written.{Written}
 use Rattle.pas_lexer.specs.declared.symbols.Written.TheVariants.{Usual, Other}
 use Rattle.pas_lexer.specs.Lexis.{letter, digit, letter_or_digit, separator, apostrophe, letter_first, next_is, real_follows, IsIdentifier, IsDigitSequence, decimal, maxint, doubled, quoted, IsCharacters, Spells, opens_comment, IsClosed, IsOpened, IsLongest, IsAllowed, Fits, NothingFits}
 use Rattle.pas_lexer.specs.Reading.{all_symbols, symbol_among, word_in, symbol_in, written_text, symbol_of, run, Reading, word_or_name, symbol_piece, identifier_at, number_in, number_piece, number_before, comment_piece, closing, string_piece, string_end, string_at, mark_at, piece_at}
-use Rattle.pas_lexer.proofs.Runs.{chosen, fact_of, pass_head, pass_rest, Stops, stops, next_fails, run_again, run_passes, run_stops, run_len, split}
+use Rattle.pas_lexer.proofs.Runs.{chosen, fact_of, pass_head, pass_rest, Stops, stops, next_fails, run_again, run_passes, run_stops, run_len, split, head_is, tail_is}
 use Rattle.pas_lexer.proofs.Tables.{opened, symbol_is, longest_symbol, some_symbol, one_symbol}
 use Rattle.pas_lexer.proofs.Numbers.{digit_no_letter, letter_passes, separator_no_letter, separator_no_digit, letter_opens_none, digit_opens_none, both_ways, digits_more, stops_first, first_digits, number_read, small_number, number_small}
 use Rattle.pas_lexer.proofs.Names.{identifier_all, identifier_more, word_spelled, identifier_spells, word_again, name_again}
@@ -25,10 +25,10 @@ use Rattle.pas_lexer.proofs.Strings.{Ended, ended_sound, ended_found, characters
 abbrev read : Option Kind → ℕ → Reading
 read k n = Ok (k, n)
 
-abbrev found : Option Kind × ℕ → Reading
+abbrev pub found : Option Kind × ℕ → Reading
 found x = Ok x
 
-abbrev failed : Reason → Reading
+abbrev pub failed : Reason → Reading
 failed r = Err r
 
 -- ---- identifiers
@@ -64,13 +64,6 @@ pub symbol_read : (c : ℕ) (l : List ℕ) → nat_eq c apostrophe ≡ false →
 unfolding mark_at symbol_in
 symbol_read c l a b d e = rw (a, b, d, e) refl
 
-pub neither : (a b : Bool) → (a || b) ≡ false → (a ≡ false) × (b ≡ false)
-neither true b e = absurd cc
-neither false b e = (refl, e)
-
-not_either : (a b : Bool) → a ≡ false → b ≡ false → (a || b) ≡ false
-not_either a b e f = rw (e, f) refl
-
 -- a text is one of its symbol's spellings
 written_spells : (w : Written) (t : List ℕ) → t ≡ written_text w → Spells (SymbolKind (symbol_of w)) t
 written_spells (Usual s) t e = inl e
@@ -95,7 +88,7 @@ symbol_piece_again : (w : Written) (rest : List ℕ) → IsLongest (written_text
 symbol_piece_again w rest longest none =
     let o = opened w in
     let e : written_text w ++ rest ≡ o.first ∷ (o.others ++ rest) = ap (λ (l : List ℕ). l ++ rest) o.text_is in
-    let no_star = neither (nat_eq o.first 123) (nat_eq o.first 40 && next_is 42 (o.others ++ rest)) (sym (ap opens_comment e) ∙ none) in
+    let no_star = or_parts (nat_eq o.first 123) (nat_eq o.first 40 && next_is 42 (o.others ++ rest)) (sym (ap opens_comment e) ∙ none) in
     let found = symbol_again w rest longest in
     ap piece_at e
     ∙ mark_read o.first (o.others ++ rest) o.no_letter o.no_digit o.no_separator
@@ -126,10 +119,7 @@ unfolding piece_at mark_at string_at
 string_read l = refl
 
 long_string : (l : List ℕ) (n : ℕ) → 1 < n → string_piece l (Some n) ≡ read (Some Text) (1 + n)
-long_string l n lt = let e : nat_lt 1 n ≡ true = less n lt in rw e refl
-  where
-    less : (n : ℕ) → 1 < n → nat_lt 1 n ≡ true
-    less n h = grind (arith, nat_tests)
+long_string l n lt = let e : nat_lt 1 n ≡ true = lt-ltb 1 n lt in rw e refl
 
 whole_string : (text rest : List ℕ) → quoted text ++ rest ≡ apostrophe ∷ (doubled text ++ (apostrophe ∷ rest))
 whole_string text rest = ap (λ (l : List ℕ). apostrophe ∷ l) (append_assoc (doubled text) (apostrophe ∷ []) rest)
@@ -195,9 +185,6 @@ symbol_first w c cs e =
     let o = opened w in
     let first : c ≡ o.first = head_is c o.first cs o.others (e ∙ o.text_is) in
     (ap letter first ∙ o.no_letter, ap digit first ∙ o.no_digit, ap (λ (x : ℕ). nat_eq x apostrophe) first ∙ o.no_apostrophe)
-  where
-    head_is : (x y : ℕ) (l m : List ℕ) → x ∷ l ≡ y ∷ m → x ≡ y
-    head_is x y l m e = cc
 
 -- a symbol's text, as it is written
 written_of : (s : Symbol) (t : List ℕ) → Spells (SymbolKind s) t → (w : Written) × (t ≡ written_text w)
@@ -207,9 +194,6 @@ written_of s t (inr e) = (Other s, e)
 -- a string begins with an apostrophe
 quoted_first : (text : List ℕ) (c : ℕ) (cs : List ℕ) → c ∷ cs ≡ quoted text → c ≡ apostrophe
 quoted_first text c cs e = head_is c apostrophe cs (doubled text ++ apostrophe ∷ []) e
-  where
-    head_is : (x y : ℕ) (l m : List ℕ) → x ∷ l ≡ y ∷ m → x ≡ y
-    head_is x y l m e = cc
 
 no_quote : (text : List ℕ) (c : ℕ) (cs : List ℕ) → letter c ≡ true → c ∷ cs ≡ quoted text → ⊥
 no_quote text c cs h e = let f : letter apostrophe ≡ true = subst (λ (x : ℕ). letter x ≡ true) (quoted_first text c cs e) h in both_ways (letter apostrophe) f refl
@@ -245,10 +229,7 @@ symbol_spelled : (k : Kind) (c : ℕ) (cs : List ℕ) → letter c ≡ false →
 symbol_spelled (WordKind w) c cs a b d f = absurd (both_ways (letter c) (word_spelled (c ∷ cs) w f).0 a)
 symbol_spelled Name c cs a b d f = absurd (both_ways (letter c) f.0.0 a)
 symbol_spelled (Number n) c cs a b d f = absurd (both_ways (digit c) f.0.0 b)
-symbol_spelled Text c cs a b d f = absurd (both_ways (nat_eq c apostrophe) (is_eq c apostrophe (quoted_first f.0 c cs f.2)) d)
-  where
-    is_eq : (x y : ℕ) → x ≡ y → nat_eq x y ≡ true
-    is_eq x y e = grind (arith, nat_tests)
+symbol_spelled Text c cs a b d f = absurd (both_ways (nat_eq c apostrophe) (eq-eqb c apostrophe (quoted_first f.0 c cs f.2)) d)
 symbol_spelled (SymbolKind s) c cs a b d f = written_of s (c ∷ cs) f
 symbol_spelled End c cs a b d f = absurd f
 
@@ -276,14 +257,8 @@ string_longest l n e found d ds more k f spelled =
     let whole : apostrophe ∷ l ≡ apostrophe ∷ (doubled other ++ (apostrophe ∷ more)) =
     ap (λ (x : List ℕ). apostrophe ∷ x) e.whole ∙ sym (whole_string e.text e.rest) ∙ ap (λ (x : List ℕ). quoted e.text ++ x) f ∙ sym (append_assoc (quoted e.text) (d ∷ ds) more) ∙ ap (λ (x : List ℕ). x ++ more) text ∙ whole_string other more in
     let longer = ended_found other more (characters_on_line other s.1) in
-    let same : longer.0 ≡ n = some_is longer.0 n (sym longer.1 ∙ ap (string_end false) (sym (tail_is apostrophe l (doubled other ++ (apostrophe ∷ more)) whole)) ∙ found) in
+    let same : longer.0 ≡ n = same_Some longer.0 n (sym longer.1 ∙ ap (string_end false) (sym (tail_is apostrophe apostrophe l (doubled other ++ (apostrophe ∷ more)) whole)) ∙ found) in
     omega (arith, same, longer.2, e.len, quoted_length e.text, quoted_length other, ap length text, length-append (quoted e.text) (d ∷ ds))
-  where
-    tail_is : (x : ℕ) (l m : List ℕ) → x ∷ l ≡ x ∷ m → l ≡ m
-    tail_is x l m e = cc
-
-    some_is : (m n : ℕ) → Some m ≡ Some n → m ≡ n
-    some_is m n e = cc
 
 -- a piece of a length in front
 pub record Cut (l : List ℕ) (k : Option Kind) (n : ℕ) : Type 0 where
@@ -294,11 +269,11 @@ pub record Cut (l : List ℕ) (k : Option Kind) (n : ℕ) : Type 0 where
   pub some : 0 < n
   pub fits : Fits text rest k
 
+pub pair_is : (x y : Option Kind × ℕ) → found x ≡ Ok y → x ≡ y
+pair_is x y e = cc
+
 cut_same : (l : List ℕ) (k j : Option Kind) (m n : ℕ) → read k m ≡ Ok (j, n) → Cut l k m → Cut l j n
 cut_same l k j m n e c = subst (λ (x : Option Kind × ℕ). Cut l x.0 x.1) (pair_is (k, m) (j, n) e) c
-  where
-    pair_is : (x y : Option Kind × ℕ) → found x ≡ Ok y → x ≡ y
-    pair_is x y e = cc
 
 pub nothing_read : (r : Reason) (k : Option Kind) (n : ℕ) → failed r ≡ read k n → ⊥
 nothing_read r k n e = cc
@@ -356,9 +331,6 @@ number_cut c l k n h e =
 string_cut : (l : List ℕ) (k : Option Kind) (n : ℕ) → string_piece l (string_end false l) ≡ Ok (k, n) → Cut (apostrophe ∷ l) k n
 string_cut l k n e = at (string_end false l) refl e
   where
-    above : (a b : ℕ) → nat_lt a b ≡ true → a < b
-    above a b h = grind (arith, nat_tests)
-
     short : (l : List ℕ) (k : Option Kind) (n : ℕ) → cond (next_is apostrophe (drop 1 l)) (failed OpenString) (Err EmptyString) ≡ Ok (k, n) → ⊥
     short l k n e =
         elim (chosen (next_is apostrophe (drop 1 l)) (failed OpenString) (Err EmptyString) (Ok (k, n)) e) [
@@ -372,7 +344,7 @@ string_cut l k n e = at (string_end false l) refl e
         elim (chosen (nat_lt 1 m) (read (Some Text) (1 + m)) (cond (next_is apostrophe (drop 1 l)) (failed OpenString) (Err EmptyString)) (Ok (k, n)) e) [
           | inl h ↦
               let s : Ended l m = ended_sound l m g in
-              let lt : 1 < m = above 1 m h.0 in
+              let lt : 1 < m = ltb-true 1 m h.0 in
               let some : 0 < length (doubled s.text) = omega (arith, s.len, lt) in
               cut_same (apostrophe ∷ l) (Some Text) k (1 + m) n h.1 (record {
                 text = quoted s.text;
@@ -410,12 +382,8 @@ paren_front behind x = (40 ∷ (42 ∷ x), inr refl, omega arith, λ y e. ap (λ
 
 -- the second byte of an opening symbol
 pub star_there : (c : ℕ) (l : List ℕ) → (nat_eq c 40 && next_is 42 l) ≡ true → (m : List ℕ) × (c ∷ l ≡ 40 ∷ (42 ∷ m)) × (drop 1 l ≡ m)
-star_there c l e = let p = both (nat_eq c 40) (next_is 42 l) e in at l p.1 (eqb-true c 40 p.0)
+star_there c l e = let p = and_parts (nat_eq c 40) (next_is 42 l) e in at l p.1 (eqb-true c 40 p.0)
   where
-    both : (a b : Bool) → (a && b) ≡ true → (a ≡ true) × (b ≡ true)
-    both true b e = (refl, e)
-    both false b e = absurd cc
-
     at : (l : List ℕ) → next_is 42 l ≡ true → c ≡ 40 → (m : List ℕ) × (c ∷ l ≡ 40 ∷ (42 ∷ m)) × (drop 1 l ≡ m)
     at [] e f = absurd cc
     at (d ∷ m) e f = (m, ap (λ (x : ℕ). x ∷ (d ∷ m)) f ∙ ap (λ (x : ℕ). 40 ∷ (x ∷ m)) (eqb-true d 42 e), refl)
@@ -451,7 +419,7 @@ mark_cut c l k n e =
               subst (λ (x : List ℕ). Cut x k n) (sym m.1) (comment_cut (40 ∷ (42 ∷ m.0)) m.0 2 k n (inr refl) (paren_front m.0) (omega arith) e2)
           | inr f ↦ elim (chosen (nat_eq c 47) (Err RealWord) (symbol_piece (symbol_among all_symbols (c ∷ l))) (Ok (k, n)) f.1) [
             | inl a ↦ absurd (nothing_read RealWord k n a.1)
-            | inr a ↦ symbol_cut c l k n (not_either (nat_eq c 123) (nat_eq c 40 && next_is 42 l) g.0 f.0) a.1
+            | inr a ↦ symbol_cut c l k n (or_from (nat_eq c 123) (nat_eq c 40 && next_is 42 l) g.0 f.0) a.1
           ]
         ]
       ]

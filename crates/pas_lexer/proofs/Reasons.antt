@@ -1,7 +1,8 @@
 -- Why nothing fits: the reason that is read is the one, and no other is.
 use Rattle.std.proofs.Common.{◌≡◌, ℕ, suc, ◌+◌, ◌<◌, ◌≤◌, Bool, true, false, cond, nat_eq, nat_lt, List, [], ◌∷◌, ◌++◌, length, take, drop, Option, Some, None, Ok, Err, refl, sym, ap, subst, ◌∙◌, arith, inl, inr}
+use Rattle.std.proofs.lemmas.Option.{none-some, same_Some}
 use Rattle.std.specs.Prelude.{◌&&◌}
-use Rattle.std.proofs.lemmas.Bool.{eqb-true}
+use Rattle.std.proofs.lemmas.Bool.{eqb-true, lt-ltb, eq-eqb}
 use Rattle.std.proofs.lemmas.Bool.Decides.{nat_tests}
 use Rattle.std.proofs.lemmas.List.{take-append-drop}
 use Rattle.pas_lexer.specs.declared.kinds.Kind.{Kind}
@@ -13,20 +14,17 @@ use Rattle.pas_lexer.specs.declared.symbols.Written.{Written}
 use Rattle.pas_lexer.specs.declared.symbols.Written.TheVariants.{Usual}
 use Rattle.pas_lexer.specs.Lexis.{letter, digit, separator, in_line, apostrophe, ends_line, ends_first, letter_first, next_is, real_follows, decimal, maxint, doubled, IsClosed, IsOpened, IsLongest, Fits, NothingFits, FirstDigits, BeginsReal, BeginsJoined, IsReason}
 use Rattle.pas_lexer.specs.Reading.{all_symbols, symbol_among, written_text, symbol_of, run, more_by, or_else, Reading, symbol_piece, identifier_at, number_in, number_piece, number_before, comment_piece, closing, string_piece, string_end, string_at, symbol_in, mark_at, piece_at}
-use Rattle.pas_lexer.proofs.Runs.{chosen, fact_of, pass_nil, pass_cons}
+use Rattle.pas_lexer.proofs.Runs.{chosen, fact_of, pass_nil, pass_cons, head_is, tail_is}
 use Rattle.pas_lexer.proofs.Tables.{opened, symbol_is, some_symbol}
 use Rattle.pas_lexer.proofs.Numbers.{both_ways, first_digits, number_read, digit_here, not_real, not_joined, large_number, number_large, digit_opens_none}
 use Rattle.pas_lexer.proofs.Comments.{closing_sound, never_closed}
-use Rattle.pas_lexer.proofs.Strings.{Ended, ended_sound, open_found}
-use Rattle.pas_lexer.proofs.Pieces.{piece_again, piece_cut, mark_read, symbol_read, star_there}
+use Rattle.pas_lexer.proofs.Strings.{Ended, ended_sound, open_found, doubled_apostrophe, doubled_other}
+use Rattle.pas_lexer.proofs.Pieces.{piece_again, piece_cut, mark_read, symbol_read, star_there, failed}
 
 abbrev read : Option Kind × ℕ → Reading
 read x = Ok x
 
-abbrev failed : Reason → Reading
-failed r = Err r
-
-reason_is : (r q : Reason) → failed r ≡ Err q → r ≡ q
+pub reason_is : (r q : Reason) → failed r ≡ Err q → r ≡ q
 reason_is r q e = cc
 
 reason_same : (l : List ℕ) (r q : Reason) → failed r ≡ Err q → IsReason r l → IsReason q l
@@ -71,10 +69,7 @@ end_here l n e short = (e.rest, e.whole ∙ ap (λ (x : List ℕ). x ++ (apostro
     none (c ∷ x) e = absurd (omega (arith, e))
 
 not_above : (a b : ℕ) → nat_lt a b ≡ false → a < b → ⊥
-not_above a b h lt = both_ways (nat_lt a b) (less a b lt) h
-  where
-    less : (a b : ℕ) → a < b → nat_lt a b ≡ true
-    less a b h = grind (arith, nat_tests)
+not_above a b h lt = both_ways (nat_lt a b) (lt-ltb a b lt) h
 
 -- three apostrophes, and no end behind them
 third_open : (l : List ℕ) (n : ℕ) → string_end false (apostrophe ∷ (apostrophe ∷ l)) ≡ Some n → (1 < n → ⊥) → IsReason OpenString (apostrophe ∷ (apostrophe ∷ (apostrophe ∷ l)))
@@ -84,10 +79,7 @@ third_open l n e short = at (string_end false l) refl e
     at None g e =
         let o = open_found l g in
         (apostrophe ∷ o.text, o.rest, ap (λ (x : List ℕ). apostrophe ∷ (apostrophe ∷ (apostrophe ∷ x))) o.whole, pass_cons in_line apostrophe o.text refl o.on_line, o.ends)
-    at (Some m) g e = absurd (short (omega (arith, some_is (1 + (1 + m)) n e)))
-      where
-        some_is : (m n : ℕ) → Some m ≡ Some n → m ≡ n
-        some_is m n e = cc
+    at (Some m) g e = absurd (short (omega (arith, same_Some (1 + (1 + m)) n e)))
 
 string_fails : (l : List ℕ) (r : Reason) → string_piece l (string_end false l) ≡ Err r → IsReason r (apostrophe ∷ l)
 string_fails l r e = at (string_end false l) refl e
@@ -127,24 +119,15 @@ no_symbol c l m w e f =
     let first : c ≡ o.first = head_is c o.first m (o.others ++ drop (length (written_text w)) (c ∷ m)) (symbol_is all_symbols (c ∷ m) w f ∙ ap (λ (x : List ℕ). x ++ drop (length (written_text w)) (c ∷ m)) o.text_is) in
     let alone : c ∷ l ≡ written_text o.alone ++ l = ap (λ (x : ℕ). x ∷ l) first ∙ sym (ap (λ (x : List ℕ). x ++ l) o.alone_is) in
     let s = some_symbol (c ∷ l) l o.alone alone in
-    never s.0 (sym e ∙ s.1)
-  where
-    head_is : (x y : ℕ) (l m : List ℕ) → x ∷ l ≡ y ∷ m → x ≡ y
-    head_is x y l m e = cc
-
-    never : (s : Written) → None ≡ Some s → ⊥
-    never s e = cc
+    none-some s.0 (sym e ∙ s.1)
 
 -- where no symbol begins, no parenthesis stands
 no_paren : (c : ℕ) (l : List ℕ) → symbol_among all_symbols (c ∷ l) ≡ None → nat_eq c 40 ≡ false
 no_paren c l e =
     elim (fact_of (nat_eq c 40)) [
-      | inl h ↦ absurd (let s = some_symbol (c ∷ l) l (Usual LeftParen) (ap (λ (x : ℕ). x ∷ l) (eqb-true c 40 h)) in never s.0 (sym e ∙ s.1))
+      | inl h ↦ absurd (let s = some_symbol (c ∷ l) l (Usual LeftParen) (ap (λ (x : ℕ). x ∷ l) (eqb-true c 40 h)) in none-some s.0 (sym e ∙ s.1))
       | inr h ↦ h
     ]
-  where
-    never : (s : Written) → None ≡ Some s → ⊥
-    never s e = cc
 
 no_star : (c : ℕ) (l : List ℕ) → nat_eq c 40 ≡ false → (nat_eq c 40 && next_is 42 l) ≡ false
 no_star c l e = rw e refl
@@ -248,31 +231,13 @@ empty_read (d ∷ rest) e = let f : nat_eq d apostrophe ≡ false = e in rw (f, 
 second_is : (text rest more : List ℕ) → doubled text ++ rest ≡ apostrophe ∷ more → ends_first rest ≡ true → next_is apostrophe more ≡ true
 second_is [] [] more e f = absurd (let never : [] ≡ apostrophe ∷ more = e in cc)
 second_is [] (d ∷ rest) more e f = absurd (let is : d ≡ apostrophe = head_is d apostrophe rest more e in let g : ends_line apostrophe ≡ true = subst (λ (x : ℕ). ends_line x ≡ true) is f in both_ways (ends_line apostrophe) g refl)
-  where
-    head_is : (x y : ℕ) (l m : List ℕ) → x ∷ l ≡ y ∷ m → x ≡ y
-    head_is x y l m e = cc
 second_is (c ∷ cs) rest more e f =
     elim (fact_of (nat_eq c apostrophe)) [
       | inl h ↦
-          let d : c ∷ (c ∷ (doubled cs ++ rest)) ≡ apostrophe ∷ more = sym (ap (λ (x : List ℕ). x ++ rest) (twice c cs h)) ∙ e in
+          let d : c ∷ (c ∷ (doubled cs ++ rest)) ≡ apostrophe ∷ more = sym (ap (λ (x : List ℕ). x ++ rest) (doubled_apostrophe c cs h)) ∙ e in
           subst (λ (x : List ℕ). next_is apostrophe x ≡ true) (tail_is c apostrophe (c ∷ (doubled cs ++ rest)) more d) h
-      | inr h ↦ absurd (let d : c ∷ (doubled cs ++ rest) ≡ apostrophe ∷ more = sym (ap (λ (x : List ℕ). x ++ rest) (once c cs h)) ∙ e in both_ways (nat_eq c apostrophe) (is_eq c apostrophe (head_is c apostrophe (doubled cs ++ rest) more d)) h)
+      | inr h ↦ absurd (let d : c ∷ (doubled cs ++ rest) ≡ apostrophe ∷ more = sym (ap (λ (x : List ℕ). x ++ rest) (doubled_other c cs h)) ∙ e in both_ways (nat_eq c apostrophe) (eq-eqb c apostrophe (head_is c apostrophe (doubled cs ++ rest) more d)) h)
     ]
-  where
-    head_is : (x y : ℕ) (l m : List ℕ) → x ∷ l ≡ y ∷ m → x ≡ y
-    head_is x y l m e = cc
-
-    tail_is : (x y : ℕ) (l m : List ℕ) → x ∷ l ≡ y ∷ m → l ≡ m
-    tail_is x y l m e = cc
-
-    is_eq : (x y : ℕ) → x ≡ y → nat_eq x y ≡ true
-    is_eq x y e = grind (arith, nat_tests)
-
-    twice : (c : ℕ) (cs : List ℕ) → nat_eq c apostrophe ≡ true → doubled (c ∷ cs) ≡ c ∷ (c ∷ doubled cs)
-    twice c cs e = rw e refl
-
-    once : (c : ℕ) (cs : List ℕ) → nat_eq c apostrophe ≡ false → doubled (c ∷ cs) ≡ c ∷ doubled cs
-    once c cs e = rw e refl
 
 -- what nothing fits is read as some reason
 some_reason : (l : List ℕ) → NothingFits l → (r : Reason) × (piece_at l ≡ Err r)
@@ -335,9 +300,6 @@ brace_fits = inr (125 ∷ [], inl refl, inl refl)
 paren_fits : Fits (40 ∷ []) [] (Some (SymbolKind LeftParen))
 paren_fits = (inl refl, longest_end (40 ∷ []), tt, refl)
 
-first_is : (c d : ℕ) (l m : List ℕ) → c ∷ l ≡ d ∷ m → c ≡ d
-first_is c d l m e = cc
-
 digits_begin : (c : ℕ) (l digits rest : List ℕ) → ((text rest : List ℕ) (k : Option Kind) → Fits (c ∷ text) rest k → ⊥) → FirstDigits (c ∷ l) digits rest → ⊥
 digits_begin c l digits rest none f = none [] [] (Some (Number (decimal (c ∷ [])))) (digit_fits c (digit_here c l digits rest f))
 
@@ -349,12 +311,12 @@ bad_only c l BadByte none no_real is = refl
 bad_only c l RealWord none no_real is = absurd (no_real is)
 bad_only c l Joined none no_real is = absurd (digits_begin c l is.0.0 is.0.1 none is.0.2)
 bad_only c l TooLarge none no_real is = absurd (digits_begin c l is.0.0 is.0.1 none is.0.2)
-bad_only c l EmptyString none no_real is = absurd (begins_with c apostrophe (97 ∷ (apostrophe ∷ [])) [] (Some Text) (first_is c apostrophe l (apostrophe ∷ is.0) is.1) none string_fits)
-bad_only c l OpenString none no_real is = absurd (begins_with c apostrophe (97 ∷ (apostrophe ∷ [])) [] (Some Text) (first_is c apostrophe l (doubled is.0 ++ is.1) is.2) none string_fits)
+bad_only c l EmptyString none no_real is = absurd (begins_with c apostrophe (97 ∷ (apostrophe ∷ [])) [] (Some Text) (head_is c apostrophe l (apostrophe ∷ is.0) is.1) none string_fits)
+bad_only c l OpenString none no_real is = absurd (begins_with c apostrophe (97 ∷ (apostrophe ∷ [])) [] (Some Text) (head_is c apostrophe l (doubled is.0 ++ is.1) is.2) none string_fits)
 bad_only c l OpenComment none no_real is =
     elim is.1 [
-      | inl e ↦ absurd (begins_with c 123 (125 ∷ []) [] None (first_is c 123 l is.0 e) none brace_fits)
-      | inr e ↦ absurd (begins_with c 40 [] [] (Some (SymbolKind LeftParen)) (first_is c 40 l (42 ∷ is.0) e) none paren_fits)
+      | inl e ↦ absurd (begins_with c 123 (125 ∷ []) [] None (head_is c 123 l is.0 e) none brace_fits)
+      | inr e ↦ absurd (begins_with c 40 [] [] (Some (SymbolKind LeftParen)) (head_is c 40 l (42 ∷ is.0) e) none paren_fits)
     ]
 
 bad_read : (c : ℕ) (l : List ℕ) → NothingFits (c ∷ l) → ((text rest : List ℕ) (k : Option Kind) → Fits (c ∷ text) rest k → ⊥) → (BeginsReal (c ∷ l) → ⊥) → piece_at (c ∷ l) ≡ Err BadByte

@@ -1,5 +1,6 @@
 -- The source again, from its tokens and what stands between them; and a string, from its characters.
 use Rattle.std.proofs.Common.{◌≡◌, ℕ, ◌+◌, ◌-◌, ◌≤◌, true, false, nat_eq, List, [], ◌∷◌, ◌++◌, length, take, drop, Option, Some, None, refl, sym, ap, subst, ◌∙◌, append_assoc, arith, length-append, length-drop, inl, inr, ◌⊎◌}
+use Rattle.pas_lexer.proofs.Strings.{doubled_apostrophe, doubled_other}
 use Rattle.std.specs.Prelude.{◌≢◌, slice_range, All}
 use Rattle.std.proofs.lemmas.List.{append-nil, take_at, drop_at, drop-drop, take-append-drop}
 use Rattle.std.proofs.Math.Seq.{take-add}
@@ -124,16 +125,10 @@ undoubled : (text : List ℕ) → characters false (doubled text ++ apostrophe �
 undoubled [] = refl
 undoubled (c ∷ cs) =
     elim (fact_of (nat_eq c apostrophe)) [
-      | inl e ↦ ap (λ (x : List ℕ). characters false (x ++ apostrophe ∷ [])) (twice c cs e) ∙ second c (doubled cs ++ apostrophe ∷ []) e ∙ ap (λ (x : List ℕ). c ∷ x) (undoubled cs)
-      | inr e ↦ ap (λ (x : List ℕ). characters false (x ++ apostrophe ∷ [])) (once c cs e) ∙ single c (doubled cs ++ apostrophe ∷ []) e ∙ ap (λ (x : List ℕ). c ∷ x) (undoubled cs)
+      | inl e ↦ ap (λ (x : List ℕ). characters false (x ++ apostrophe ∷ [])) (doubled_apostrophe c cs e) ∙ second c (doubled cs ++ apostrophe ∷ []) e ∙ ap (λ (x : List ℕ). c ∷ x) (undoubled cs)
+      | inr e ↦ ap (λ (x : List ℕ). characters false (x ++ apostrophe ∷ [])) (doubled_other c cs e) ∙ single c (doubled cs ++ apostrophe ∷ []) e ∙ ap (λ (x : List ℕ). c ∷ x) (undoubled cs)
     ]
   where
-    twice : (c : ℕ) (cs : List ℕ) → nat_eq c apostrophe ≡ true → doubled (c ∷ cs) ≡ c ∷ (c ∷ doubled cs)
-    twice c cs e = rw e refl
-
-    once : (c : ℕ) (cs : List ℕ) → nat_eq c apostrophe ≡ false → doubled (c ∷ cs) ≡ c ∷ doubled cs
-    once c cs e = rw e refl
-
     second : (c : ℕ) (l : List ℕ) → nat_eq c apostrophe ≡ true → characters false (c ∷ (c ∷ l)) ≡ c ∷ characters false l
     second c l e = rw e refl
 

@@ -80,6 +80,12 @@ run_len p (c ∷ l) =
       | inr h ↦ let e : run p (c ∷ l) ≡ 0 = rw h refl in subst (λ (n : ℕ). length (take n (c ∷ l)) ≡ n) (sym e) refl
     ]
 
+pub head_is : (x y : ℕ) (l m : List ℕ) → x ∷ l ≡ y ∷ m → x ≡ y
+head_is x y l m e = cc
+
+pub tail_is : (x y : ℕ) (l m : List ℕ) → x ∷ l ≡ y ∷ m → l ≡ m
+tail_is x y l m e = cc
+
 -- two beginnings of one list: the longer goes on where the shorter ends
 pub split : (a r b q : List ℕ) → a ++ r ≡ b ++ q → length a ≤ length b → (m : List ℕ) × (b ≡ a ++ m) × (r ≡ m ++ q)
 split [] r b q e le = (b, refl, e)
@@ -88,12 +94,6 @@ split (x ∷ a) r (y ∷ b) q e le =
     let first : x ≡ y = head_is x y (a ++ r) (b ++ q) e in
     let more = split a r b q (tail_is x y (a ++ r) (b ++ q) e) (omega (arith, le)) in
     (more.0, ap (λ (z : ℕ). z ∷ b) (sym first) ∙ ap (λ (l : List ℕ). x ∷ l) more.1, more.2)
-  where
-    head_is : (x y : ℕ) (l m : List ℕ) → x ∷ l ≡ y ∷ m → x ≡ y
-    head_is x y l m e = cc
-
-    tail_is : (x y : ℕ) (l m : List ℕ) → x ∷ l ≡ y ∷ m → l ≡ m
-    tail_is x y l m e = cc
 
 pub rest_is : (l : List ℕ) (n : ℕ) → take (length l - n) (drop n l) ≡ drop n l
 rest_is l n = take_all (length l - n) (drop n l) (omega (arith, length-drop n l))

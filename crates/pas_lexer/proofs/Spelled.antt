@@ -2,7 +2,7 @@
 use Rattle.std.proofs.Common.{◌≡◌, ℕ, zero, suc, ◌+◌, ◌-◌, ◌<◌, ◌≤◌, List, [], ◌∷◌, ◌++◌, length, take, drop, get_or, slice_get, Option, Some, None, refl, sym, ap, subst, ◌∙◌, arith, length-append, length-drop, inl, inr, ◌⊎◌}
 use Rattle.std.specs.Prelude.{slice_range}
 use Rattle.std.proofs.lemmas.List.{take-append-le, drop-append-le, drop_at, take_all}
-use Rattle.std.proofs.lemmas.Option.{slice_get_within, slice_get_read}
+use Rattle.std.proofs.lemmas.Option.{slice_get_within, slice_get_read, none-some, same_Some}
 use Rattle.std.proofs.Math.Seq.{take-suc}
 use Rattle.pas_lexer.specs.declared.kinds.Token.{Token}
 use Rattle.pas_lexer.specs.declared.spellings.Place.{Place}
@@ -15,15 +15,9 @@ part_stays l m a b le inside = ap (take (b - a)) (drop-append-le a l m (omega ar
 part_added : (l m : List ℕ) (n : ℕ) → n ≡ length (l ++ m) → slice_range (l ++ m) (length l) n ≡ m
 part_added l m n e = ap (take (n - length l)) (drop_at l m (length l) refl) ∙ take_all (n - length l) m (omega (arith, e, length-append l m))
 
-nothing : {A : Type 0} (x : A) → None ≡ Some x → ⊥
-nothing x e = cc
-
-some_is : {A : Type 0} (x y : A) → Some x ≡ Some y → x ≡ y
-some_is x y e = cc
-
 get_last : {A : Type 0} (l : List A) (x y : A) (i : ℕ) → slice_get (l ++ x ∷ []) i ≡ Some y → (slice_get l i ≡ Some y) ⊎ ((i ≡ length l) × (x ≡ y))
-get_last [] x y zero g = inr (refl, some_is x y g)
-get_last [] x y (suc i) g = absurd (nothing y g)
+get_last [] x y zero g = inr (refl, same_Some x y g)
+get_last [] x y (suc i) g = absurd (none-some y g)
 get_last (z ∷ l) x y zero g = inl g
 get_last (z ∷ l) x y (suc i) g =
     elim (get_last l x y i g) [
@@ -42,7 +36,7 @@ stays source spellings more t p h = record {
 }
 
 pub none_spelled : (source : List ℕ) → AreSpelled source [] [] []
-none_spelled source = record { count = refl; each = λ i t p g h. absurd (nothing t g) }
+none_spelled source = record { count = refl; each = λ i t p g h. absurd (none-some t g) }
 
 -- one token more
 spelled_more : (source spellings more : List ℕ) (tokens : List Token) (places : List Place) (t : Token) (start end : ℕ) → AreSpelled source spellings tokens places → more ≡ spelling_of source t → start ≡ length spellings → end ≡ length (spellings ++ more)
@@ -110,4 +104,4 @@ found lexed i p tokens source spellings places view spelled lt e =
 
 pub found_spelling : (lexed : Lexed) (i : ℕ) (p : Place) (spellings bytes : List ℕ) (t : Token) → Found lexed i p spellings → bytes ≡ spellings → slice_get lexed.tokens i ≡ Some t → take (p.end - p.start) (drop p.start bytes) ≡ spelling_of lexed.source t
 found_spelling lexed i p spellings bytes t f e g =
-    ap (λ (l : List ℕ). take (p.end - p.start) (drop p.start l)) e ∙ f.spelled.reads ∙ ap (spelling_of lexed.source) (some_is f.token t (sym f.is ∙ g))
+    ap (λ (l : List ℕ). take (p.end - p.start) (drop p.start l)) e ∙ f.spelled.reads ∙ ap (spelling_of lexed.source) (same_Some f.token t (sym f.is ∙ g))

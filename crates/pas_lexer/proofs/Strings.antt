@@ -1,8 +1,8 @@
 -- What stands behind a string's first apostrophe.
 use Rattle.std.proofs.Common.{◌≡◌, ℕ, suc, ◌+◌, ◌<◌, Bool, true, false, cond, nat_eq, List, [], ◌∷◌, ◌++◌, length, Option, Some, None, refl, sym, ap, subst, ◌∙◌, arith, inl, inr}
-use Rattle.std.specs.Prelude.{not}
+use Rattle.std.proofs.lemmas.Option.{same_Some}
 use Rattle.std.specs.List.{AllPass}
-use Rattle.std.proofs.lemmas.Bool.{eqb-true}
+use Rattle.std.proofs.lemmas.Bool.{eqb-true, not-true, not_from_false}
 use Rattle.pas_lexer.specs.Lexis.{ends_line, in_line, apostrophe, ends_first, doubled, IsCharacters}
 use Rattle.pas_lexer.specs.Reading.{more_by, or_else, string_end}
 use Rattle.pas_lexer.proofs.Runs.{chosen, fact_of, pass_nil, pass_cons, pass_head, pass_tail}
@@ -23,17 +23,10 @@ pub record Open (l : List ℕ) : Type 0 where
   pub on_line : AllPass in_line text
   pub ends : ends_first rest ≡ true
 
-is_not : (b : Bool) → b ≡ false → not b ≡ true
-is_not b e = rw e refl
-
-not_is : (b : Bool) → not b ≡ true → b ≡ false
-not_is true e = absurd cc
-not_is false e = refl
-
-doubled_apostrophe : (c : ℕ) (cs : List ℕ) → nat_eq c apostrophe ≡ true → doubled (c ∷ cs) ≡ c ∷ (c ∷ doubled cs)
+pub doubled_apostrophe : (c : ℕ) (cs : List ℕ) → nat_eq c apostrophe ≡ true → doubled (c ∷ cs) ≡ c ∷ (c ∷ doubled cs)
 doubled_apostrophe c cs e = rw e refl
 
-doubled_other : (c : ℕ) (cs : List ℕ) → nat_eq c apostrophe ≡ false → doubled (c ∷ cs) ≡ c ∷ doubled cs
+pub doubled_other : (c : ℕ) (cs : List ℕ) → nat_eq c apostrophe ≡ false → doubled (c ∷ cs) ≡ c ∷ doubled cs
 doubled_other c cs e = rw e refl
 
 -- an apostrophe, twice
@@ -51,7 +44,7 @@ one_more c l n e f h = record {
   text = c ∷ h.text;
   rest = h.rest;
   whole = ap (λ (x : List ℕ). c ∷ x) h.whole ∙ ap (λ (x : List ℕ). x ++ (apostrophe ∷ h.rest)) (sym (doubled_other c h.text e));
-  on_line = pass_cons in_line c h.text (is_not (ends_line c) f) h.on_line;
+  on_line = pass_cons in_line c h.text (not_from_false (ends_line c) f) h.on_line;
   len = ap suc h.len ∙ ap (λ (x : List ℕ). suc (length x)) (sym (doubled_other c h.text e));
 }
 
@@ -63,9 +56,6 @@ Sound true l n = (m : ℕ) × (rest : List ℕ) × (l ≡ apostrophe ∷ rest) �
 more_is : (o : Option ℕ) (n : ℕ) → more_by 1 o ≡ Some n → (m : ℕ) × (o ≡ Some m) × (n ≡ suc m)
 more_is None n e = absurd cc
 more_is (Some m) n e = let f : 1 + m ≡ n = cc in (m, refl, omega arith)
-
-some_is : (m n : ℕ) → Some m ≡ Some n → m ≡ n
-some_is m n e = cc
 
 -- the end that is read ends characters
 sound : (b : Bool) (l : List ℕ) (n : ℕ) → string_end b l ≡ Some n → Sound b l n
@@ -86,10 +76,10 @@ sound false (c ∷ l) n e =
     ]
   where
     apart : (o : Option ℕ) (n : ℕ) → string_end true l ≡ o → or_else (more_by 1 o) (Some 1) ≡ Some n → ((m : ℕ) → string_end true l ≡ Some m → Sound true l m) → Ended (apostrophe ∷ l) n
-    apart None n g e further = record { text = []; rest = l; whole = refl; on_line = pass_nil in_line; len = sym (some_is 1 n e) }
+    apart None n g e further = record { text = []; rest = l; whole = refl; on_line = pass_nil in_line; len = sym (same_Some 1 n e) }
     apart (Some m) n g e further =
         let s = further m g in
-        let count : n ≡ suc (suc s.0) = omega (arith, some_is (1 + m) n e, s.3) in
+        let count : n ≡ suc (suc s.0) = omega (arith, same_Some (1 + m) n e, s.3) in
         subst (λ (x : List ℕ). Ended (apostrophe ∷ x) n) (sym s.2) (subst (λ (x : ℕ). Ended (apostrophe ∷ (apostrophe ∷ s.1)) x) (sym count) (two_more s.1 s.0 s.4))
 
 pub ended_sound : (l : List ℕ) (n : ℕ) → string_end false l ≡ Some n → Ended l n
@@ -111,7 +101,7 @@ ended_found (c ∷ cs) rest h =
           subst (λ (x : List ℕ). (n : ℕ) × (string_end false (x ++ (apostrophe ∷ rest)) ≡ Some n) × (length x < n)) (sym d) (suc (suc further.0), twice c l further.0 e further.1, omega (arith, further.2))
       | inr e ↦
           let d : doubled (c ∷ cs) ≡ c ∷ doubled cs = doubled_other c cs e in
-          subst (λ (x : List ℕ). (n : ℕ) × (string_end false (x ++ (apostrophe ∷ rest)) ≡ Some n) × (length x < n)) (sym d) (suc further.0, once c l further.0 e (not_is (ends_line c) (pass_head in_line c cs h)) further.1, omega (arith, further.2))
+          subst (λ (x : List ℕ). (n : ℕ) × (string_end false (x ++ (apostrophe ∷ rest)) ≡ Some n) × (length x < n)) (sym d) (suc further.0, once c l further.0 e (not-true (ends_line c) (pass_head in_line c cs h)) further.1, omega (arith, further.2))
     ]
   where
     twice : (c : ℕ) (l : List ℕ) (n : ℕ) → nat_eq c apostrophe ≡ true → string_end false l ≡ Some n → string_end false (c ∷ (c ∷ l)) ≡ Some (suc (suc n))
@@ -134,7 +124,7 @@ open_found (c ∷ l) e =
               text = c ∷ o.text;
               rest = o.rest;
               whole = ap (λ (x : List ℕ). c ∷ x) o.whole ∙ ap (λ (x : List ℕ). x ++ o.rest) (sym (doubled_other c o.text h.0));
-              on_line = pass_cons in_line c o.text (is_not (ends_line c) g.0) o.on_line;
+              on_line = pass_cons in_line c o.text (not_from_false (ends_line c) g.0) o.on_line;
               ends = o.ends;
             }
       ]

@@ -1,9 +1,11 @@
 -- The two tables: what each row has, and that what is found in a table is right.
 use Rattle.std.proofs.Common.{◌≡◌, ℕ, suc, ◌+◌, ◌<◌, ◌≤◌, Bool, true, false, nat_eq, List, [], ◌∷◌, ◌++◌, length, drop, get_or, Option, None, Some, refl, sym, ap, subst, ◌∙◌, arith, drop-cons, inl, inr, ◌⊎◌}
+use Rattle.std.proofs.lemmas.Option.{same_Some}
+use Rattle.std.proofs.lemmas.Bool.{and_parts, leb-true}
 use Rattle.std.specs.Prelude.{nat_le, ◌&&◌}
 use Rattle.std.specs.List.{starts_with, list_all}
 use Rattle.std.specs.Str.{bytes_eq}
-use Rattle.std.proofs.lemmas.Bool.Decides.{Decides-eqb, nat_tests}
+use Rattle.std.proofs.lemmas.Bool.Decides.{Decides-eqb}
 use Rattle.std.proofs.lemmas.Slice.Eq.{bytes_eq-Decides, starts_is}
 use Rattle.pas_lexer.specs.declared.kinds.Word.{Word}
 use Rattle.pas_lexer.specs.declared.kinds.Word.TheVariants.{WAnd, WArray, WBegin, WCase, WConst, WDiv, WDo, WDownto, WElse, WEnd, WFile, WFor, WFunction, WGoto, WIf, WIn, WLabel, WMod, WNil, WNot, WOf, WOr, WPacked, WProcedure, WProgram, WRecord, WRepeat, WSet, WThen, WTo, WType, WUntil, WVar, WWhile, WWith}
@@ -327,17 +329,11 @@ pub word_is : (ws : List Word) (t : List ℕ) (w : Word) → word_among ws t ≡
 word_is [] t w e = absurd cc
 word_is (v ∷ ws) t w e =
     elim (chosen (bytes_eq t (word_text v)) (Some v) (word_among ws t) (Some w) e) [
-      | inl h ↦ let same : v ≡ w = some_is v w h.1 in (bytes_eq-Decides t (word_text v)).0 h.0 ∙ ap word_text same
+      | inl h ↦ let same : v ≡ w = same_Some v w h.1 in (bytes_eq-Decides t (word_text v)).0 h.0 ∙ ap word_text same
       | inr h ↦ word_is ws t w h.1
     ]
-  where
-    some_is : (v w : Word) → Some v ≡ Some w → v ≡ w
-    some_is v w e = cc
 
 -- ---- symbols
-
-written_same : (s t : Written) → Some s ≡ Some t → s ≡ t
-written_same s t e = cc
 
 begins : (l : List ℕ) (s : Written) → starts_with nat_eq l (written_text s) ≡ true → l ≡ written_text s ++ drop (length (written_text s)) l
 begins l s h = (starts_is Decides-eqb l (written_text s) (starts_with nat_eq l (written_text s)) refl).0 h
@@ -350,7 +346,7 @@ pub symbol_is : (ss : List Written) (l : List ℕ) (s : Written) → symbol_amon
 symbol_is [] l s e = absurd cc
 symbol_is (t ∷ ss) l s e =
     elim (chosen (starts_with nat_eq l (written_text t)) (Some t) (symbol_among ss l) (Some s) e) [
-      | inl h ↦ subst (λ (x : Written). l ≡ written_text x ++ drop (length (written_text x)) l) (written_same t s h.1) (begins l t h.0)
+      | inl h ↦ subst (λ (x : Written). l ≡ written_text x ++ drop (length (written_text x)) l) (same_Some t s h.1) (begins l t h.0)
       | inr h ↦ symbol_is ss l s h.1
     ]
 
@@ -363,29 +359,22 @@ abbrev ordered : List Written → Bool
 ordered [] = true
 ordered (s ∷ ss) = no_longer (length (written_text s)) ss && ordered ss
 
-both : (a b : Bool) → (a && b) ≡ true → (a ≡ true) × (b ≡ true)
-both true b e = (refl, e)
-both false b e = absurd cc
-
 within_all : (n : ℕ) (ss : List Written) (t : Written) → no_longer n ss ≡ true → IsAmong t ss → length (written_text t) ≤ n
 within_all n [] t h m = absurd m
 within_all n (s ∷ ss) t h m =
-    let p = both (nat_le (length (written_text s)) n) (no_longer n ss) h in
+    let p = and_parts (nat_le (length (written_text s)) n) (no_longer n ss) h in
     elim m [
-      | inl e ↦ subst (λ (x : Written). length (written_text x) ≤ n) e (le_is (length (written_text s)) n p.0)
+      | inl e ↦ subst (λ (x : Written). length (written_text x) ≤ n) e (leb-true (length (written_text s)) n p.0)
       | inr g ↦ within_all n ss t p.1 g
     ]
-  where
-    le_is : (a b : ℕ) → nat_le a b ≡ true → a ≤ b
-    le_is a b h = grind (arith, nat_tests)
 
 -- the symbol that is found is the longest with which the bytes begin
 longest_among : (ss : List Written) (l rest : List ℕ) (t s : Written) → ordered ss ≡ true → IsAmong t ss → l ≡ written_text t ++ rest → symbol_among ss l ≡ Some s → length (written_text t) ≤ length (written_text s)
 longest_among [] l rest t s o m front e = absurd m
 longest_among (v ∷ ss) l rest t s o m front e =
-    let p = both (no_longer (length (written_text v)) ss) (ordered ss) o in
+    let p = and_parts (no_longer (length (written_text v)) ss) (ordered ss) o in
     elim (chosen (starts_with nat_eq l (written_text v)) (Some v) (symbol_among ss l) (Some s) e) [
-      | inl h ↦ subst (λ (x : Written). length (written_text t) ≤ length (written_text x)) (written_same v s h.1) (elim m [
+      | inl h ↦ subst (λ (x : Written). length (written_text t) ≤ length (written_text x)) (same_Some v s h.1) (elim m [
         | inl same ↦ subst (λ (x : Written). length (written_text t) ≤ length (written_text x)) (sym same) (omega arith)
         | inr g ↦ within_all (length (written_text v)) ss t p.0 g
       ])
@@ -417,7 +406,4 @@ some_symbol l rest t front = let r = listed t in some_among all_symbols l rest r
 
 -- a text is of one symbol
 pub one_symbol : (s t : Written) → written_text s ≡ written_text t → symbol_of s ≡ symbol_of t
-one_symbol s t e = symbol_same (symbol_of s) (symbol_of t) (sym (symbol_found s) ∙ ap (λ (l : List ℕ). found_in (symbol_among all_symbols l)) e ∙ symbol_found t)
-  where
-    symbol_same : (a b : Symbol) → Some a ≡ Some b → a ≡ b
-    symbol_same a b e = cc
+one_symbol s t e = same_Some (symbol_of s) (symbol_of t) (sym (symbol_found s) ∙ ap (λ (l : List ℕ). found_in (symbol_among all_symbols l)) e ∙ symbol_found t)
