@@ -1,20 +1,15 @@
 -- What the answer of the parser says of the whole list of tokens.
 use Rattle.std.proofs.Common.{◌≡◌, ℕ, ◌<◌, ◌≤◌, List, [], length, drop, Ok, Err, sym, ap, ◌∙◌, arith, length-drop}
+use Rattle.small_program.proofs.Sound.{ok, same_read}
 use Rattle.std.proofs.Math.ListN.{drop_of_length-le}
 use Rattle.core_program.specs.Tables.{Tables}
 use Rattle.pas_lexer.specs.Lexed.{Lexed}
 use Rattle.small_program.specs.declared.small.SmallFault.{SmallFault}
 use Rattle.small_program.specs.declared.small.SmallFault.TheVariants.{Unbuilt, Memory}
 use Rattle.small_program.specs.Small.{Piece, pieces, Small, IsSmall, program_of}
-use Rattle.small_program.specs.Reading.{Read, small_at, Gives, IsThat}
+use Rattle.small_program.specs.Reading.{small_at, Gives, IsThat}
 use Rattle.small_program.proofs.Fronts.{from_length}
 use Rattle.small_program.proofs.Whole.{whole_small, small_whole}
-
-abbrev ok : Tables → List Piece → Read Tables
-ok t l = Ok (t, l)
-
-same_read : (s t : Tables) (l m : List Piece) → ok s l ≡ ok t m → (s ≡ t) × (l ≡ m)
-same_read s t l m e = let p : (s, l) ≡ (t, m) = cc in (ap (λ (z : Tables × List Piece). z.0) p, ap (λ (z : Tables × List Piece). z.1) p)
 
 abbrev whole : Tables → Tables
 whole t = t

@@ -18,7 +18,7 @@ first_other : (b : Bool) (o : Option ℕ) → (if b then Some 1 else option_map 
 first_other true o e = absurd (let z : ⊥ = cc in z)
 first_other false o e = (refl, none_of o e)
 
-same_text : (a b : List ℕ) → bytes_eq a b ≡ true → a ≡ b
+pub same_text : (a b : List ℕ) → bytes_eq a b ≡ true → a ≡ b
 same_text a b e = (bytes_eq-Decides a b).0 e
 
 mapped_if : (b : Bool) (x : ℕ) (o : Option ℕ) → option_map suc (if b then Some x else o) ≡ (if b then Some (suc x) else option_map suc o)

@@ -1,5 +1,8 @@
 -- What is read is in the grammar, and what is in the grammar is read.
 use Rattle.std.proofs.Common.{◌≡◌, ℕ, Bool, true, false, ◌||◌, is_some, IsSome, if◌then◌else◌, List, [], ◌∷◌, Option, Some, None, Ok, Err, refl, sym, ap, subst, ◌∙◌, codes, unwrap_or}
+use Rattle.small_program.proofs.Placed.{same_text}
+use Rattle.small_program.proofs.Named.{none_of}
+use Rattle.std.proofs.lemmas.Bool.{or_parts}
 use Rattle.std.specs.Str.{bytes_eq}
 use Rattle.std.proofs.lemmas.Slice.Eq.{bytes_eq-Decides}
 use Rattle.pas_lexer.specs.declared.kinds.Kind.{Kind}
@@ -12,13 +15,13 @@ use Rattle.small_program.specs.Small.{Piece, Terminal, Quoted, Value, Spelled, T
 use Rattle.small_program.specs.Reading.{Read, after, fixed_at, fixed_next, named, name_at, number_next, number_read, number_at, integer_at, new_name, place_read, known_name, row, value_at, assignment_at, call_row, step_read, step_at, free_name}
 use Rattle.small_program.proofs.Begins.{Begins, begins_append, begins_split, parts, joined}
 
-abbrev ok : {A : Type 0} → A → List Piece → Read A
+abbrev pub ok : {A : Type 0} → A → List Piece → Read A
 ok x l = Ok (x, l)
 
 abbrev no : {A : Type 0} → List Piece → Read A
 no l = Err l
 
-same_read : {A : Type 0} (x y : A) (l m : List Piece) → ok x l ≡ ok y m → (x ≡ y) × (l ≡ m)
+pub same_read : {A : Type 0} (x y : A) (l m : List Piece) → ok x l ≡ ok y m → (x ≡ y) × (l ≡ m)
 same_read x y l m e = let p : (x, l) ≡ (y, m) = cc in (ap (λ (z : _ × List Piece). z.0) p, ap (λ (z : _ × List Piece). z.1) p)
 
 abbrev got : List Piece → Read (Unit {0})
@@ -78,9 +81,6 @@ number_again l n rest h = rw (h.2, h.3) (ap (λ (m : List Piece). Ok (n, m)) h.4
 -- ---- the names
 
 -- the text of a test, decided
-pub same_text : (a b : List ℕ) → bytes_eq a b ≡ true → a ≡ b
-same_text a b e = (bytes_eq-Decides a b).0 e
-
 text_same : (a b : List ℕ) → a ≡ b → bytes_eq a b ≡ true
 text_same a b e = (bytes_eq-Decides a b).1 e
 
@@ -111,15 +111,6 @@ pub record IsNew (names : List (List ℕ)) (p : Piece) : Type 0 where
   pub free : is_required p.spelling ≡ false
   pub fresh : place names p.spelling ≡ None
 
-free_of : (a b : Bool) → (a || b) ≡ false → (a ≡ false) × (b ≡ false)
-free_of false false e = (refl, refl)
-free_of false true e = absurd (let x : ⊥ = cc in x)
-free_of true b e = absurd (let x : ⊥ = cc in x)
-
-none_of : {A : Type 0} (o : Option A) → is_some o ≡ false → o ≡ None
-none_of None e = refl
-none_of (Some x) e = absurd (let y : ⊥ = cc in y)
-
 abbrev new_after : List (List ℕ) → List Piece → Piece → List Piece → Read (List ℕ)
 new_after names l p m = if is_required p.spelling || is_some (place names p.spelling) then Err l else Ok (p.spelling, m)
 
@@ -129,7 +120,7 @@ new_sound names l s rest e =
     let y = parts (name_at l) (new_after names l) s rest e in
     let n = name_sound l y.x y.m y.first in
     let z = avoided (is_required y.x.spelling || is_some (place names y.x.spelling)) (no l) (ok y.x.spelling y.m) s rest l refl y.then' in
-    let b = free_of (is_required y.x.spelling) (is_some (place names y.x.spelling)) z.0 in
+    let b = or_parts (is_required y.x.spelling) (is_some (place names y.x.spelling)) z.0 in
     let t = same_read y.x.spelling s y.m rest z.1 in
     (y.x, (n.0, n.1, n.2, n.3, n.4 ∙ t.1), record { free = b.0; fresh = none_of (place names y.x.spelling) b.1 }, sym t.0)
 
@@ -347,8 +338,8 @@ free_sound k l p rest e =
     let y = parts (name_at l) (free_after k l) p rest e in
     let n = name_sound l y.x y.m y.first in
     let z = avoided (is_required y.x.spelling || (is_some (place k.variables y.x.spelling) || is_some (place k.procedures y.x.spelling))) (no l) (ok y.x y.m) p rest l refl y.then' in
-    let b = free_of (is_required y.x.spelling) (is_some (place k.variables y.x.spelling) || is_some (place k.procedures y.x.spelling)) z.0 in
-    let c = free_of (is_some (place k.variables y.x.spelling)) (is_some (place k.procedures y.x.spelling)) b.1 in
+    let b = or_parts (is_required y.x.spelling) (is_some (place k.variables y.x.spelling) || is_some (place k.procedures y.x.spelling)) z.0 in
+    let c = or_parts (is_some (place k.variables y.x.spelling)) (is_some (place k.procedures y.x.spelling)) b.1 in
     let t = same_read y.x p y.m rest z.1 in
     let new : IsFree k y.x = record { free = b.0; no_variable = none_of (place k.variables y.x.spelling) c.0; no_procedure = none_of (place k.procedures y.x.spelling) c.1 } in
     (subst (λ (q : Piece). Begins (This q ∷ []) l rest) t.0 (n.0, n.1, n.2, n.3, n.4 ∙ t.1), subst (λ (q : Piece). IsFree k q) t.0 new)

@@ -12,14 +12,8 @@ use Rattle.small_program.specs.declared.terminals.Fixed.TheVariants as fixed
 use Rattle.small_program.specs.Small.{Piece, Terminal, Quoted, Spelled, This, Step, Body, Procedure, step_places, further_places, name_places, variable_part, body_places, procedure_places, places, spellings, place, Declares, Known, with_procedure, with_procedures, at_first, at_last, Uses, AllUse, BodyUses, IsFree, DeclaresProcedures, Small, IsSmall, row_of, body_rows, Translation, translation, translations, tables_of, program_of, is_fixed}
 use Rattle.small_program.specs.Reading.{Read, after, fixed_at, fixed_next, name_at, integer_at, new_name, step_at, free_name, further, all_further, names_at, variables_at, steps_at, body_at, known_after, translated, procedure_at, procedures_at, heading_at, block_at, small_at}
 use Rattle.small_program.proofs.Begins.{Begins, begins_append, begins_split, begins_whole, whole_begins, parts, joined}
-use Rattle.small_program.proofs.Sound.{fixed_sound, fixed_again, next_is, name_sound, name_again, integer_sound, integer_again, IsNew, new_sound, new_again, step_sound, Apart, step_again, free_sound, free_again, same_text}
-use Rattle.small_program.proofs.Placed.{place_last}
-
-abbrev ok : {A : Type 0} → A → List Piece → Read A
-ok x l = Ok (x, l)
-
-same_read : {A : Type 0} (x y : A) (l m : List Piece) → ok x l ≡ ok y m → (x ≡ y) × (l ≡ m)
-same_read x y l m e = let p : (x, l) ≡ (y, m) = cc in (ap (λ (z : _ × List Piece). z.0) p, ap (λ (z : _ × List Piece). z.1) p)
+use Rattle.small_program.proofs.Sound.{fixed_sound, fixed_again, next_is, name_sound, name_again, integer_sound, integer_again, IsNew, new_sound, new_again, step_sound, Apart, step_again, free_sound, free_again, ok, same_read}
+use Rattle.small_program.proofs.Placed.{place_last, same_text}
 
 begins_length : (ts : List Terminal) (l rest : List Piece) → Begins ts l rest → length ts ≤ length l
 begins_length [] l rest h = omega arith
