@@ -8,7 +8,7 @@ ghost use Rattle.pas_lexer.specs.declared.kinds.Token.{Token};
 ghost use Rattle.pas_lexer.specs.Lexis.{quoted, Fits};
 ghost use Rattle.pas_lexer.specs.Reading.{piece_at};
 ghost use Rattle.pas_lexer.specs.Lexed.{IsPlaced, EndsOnce, text_of, spelled_as};
-ghost use Rattle.pas_lexer.specs.Division.{Piece, Divides, token_of, line_feed, IsLexed, FailsFor, FailsAt, fault_of, IsFault, IsThose, IsThat, rejoined, InOrder};
+ghost use Rattle.pas_lexer.specs.Division.{Piece, Divides, token_of, line_feed, line_at, IsLexed, FailsFor, FailsAt, fault_of, IsFault, IsThose, IsThat, rejoined, InOrder};
 
 use crate::kinds::{Kind, LexFault, Reason, Token};
 use crate::piece::piece;
@@ -29,9 +29,19 @@ fn piece_from(bytes: &[u8], at: usize) -> Result<(Option<Kind>, usize), Reason>
 
 /// How many line feeds there are.
 fn line_feeds(bytes: &[u8]) -> usize
-    ensures { result ≡ count_by (λ c. nat_eq c line_feed) bytes.now }
+    ensures count { result ≡ count_by (λ c. nat_eq c line_feed) bytes.now }
+    ensures within { result ≤ length bytes.now }
 {
     bytes.iter().filter(|c| **c == b'\n').count()
+}
+
+/// The line on which a byte of a source stands, counted from 1.
+pub fn line_at(source: &[u8], byte: u32) -> u32
+    requires { length source.now ≤ MAX_SOURCE_BYTES }
+    ensures { result ≡ line_at source.now byte }
+{
+    let end = (byte as usize).min(source.len());
+    1 + line_feeds(&source[..end]) as u32
 }
 
 /// Adds the token of a piece, and none of a separator or a comment.

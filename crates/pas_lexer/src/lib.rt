@@ -13,5 +13,5 @@ pub mod tokens;
 mod words;
 
 pub use kinds::{Kind, LexFault, Symbol, Token, Word};
-pub use lexing::{MAX_SOURCE_BYTES, lex};
+pub use lexing::{MAX_SOURCE_BYTES, lex, line_at};
 pub use tokens::Tokens;

@@ -3,7 +3,7 @@
 ghost use Rattle.std.specs.Prelude.{◌≡◌, ◌↔◌, ◌≤◌, IsTrue, length};
 
 use crate::kinds::{Kind, LexFault, Symbol};
-use crate::lexing::{MAX_SOURCE_BYTES, lex};
+use crate::lexing::{MAX_SOURCE_BYTES, lex, line_at};
 use std::alloc::Global;
 use std::fmt::Write;
 use std::process::Abort;
@@ -539,6 +539,16 @@ fn largest_source(rt: HostRuntime) -> Result<(), Fail> {
     assert!(rt; is_same_kind(tokens.at(0).kind, Kind::Name));
     assert_eq!(rt; tokens.at(0).end, 1_048_576);
     assert_eq!(rt; tokens.spelling(0), source.as_slice());
+    Ok(())
+}
+
+/// The lines of bytes, of the line feeds that end them, and of places behind the end.
+#[test]
+fn lines(rt: HostRuntime) -> Result<(), Fail> {
+    let rows = [(0, 1), (1, 1), (2, 2), (3, 3), (5, 3), (6, 4), (7, 4)];
+    for (byte, line) in rows {
+        assert_eq!(rt; line_at(b"a\n\nb\r\n", byte), line, "at {byte}");
+    }
     Ok(())
 }
 

@@ -15,6 +15,6 @@ pieces-preserved c =
     record {
       so_far = subst (SoFar c.args.bytes.now (c.pieces.at + c.in-Ok.piece.1)) (ap (λ line. c.pieces.tokens.items ++ token_of c.pieces.at (c.pieces.at + c.in-Ok.piece.1) line c.in-Ok.piece.0) (sym c.pieces.invariant.line_is) ∙ sym pushed) (goes_on c.args.bytes.now c.pieces.at c.in-Ok.piece.1 c.pieces.tokens.items c.in-Ok.piece.0 c.pieces.invariant.so_far (sym c.in-Ok.ensures.gives));
       inside = c.in-Ok.ensures.inside.1;
-      line_is = line_more c.args.bytes.now c.pieces.at c.in-Ok.piece.1 c.pieces.line c.line_feeds-line.result c.pieces.invariant.line_is c.line_feeds-line.ensures;
+      line_is = line_more c.args.bytes.now c.pieces.at c.in-Ok.piece.1 c.pieces.line c.line_feeds-line.result c.pieces.invariant.line_is c.line_feeds-line.ensures.count;
       few = subst (λ ts. length ts ≤ c.pieces.at + c.in-Ok.piece.1) (sym pushed) (few_more c.pieces.tokens.items c.pieces.at c.in-Ok.piece.1 c.pieces.line c.in-Ok.piece.0 c.pieces.invariant.few c.in-Ok.ensures.inside.0);
     }
