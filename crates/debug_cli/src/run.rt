@@ -1,9 +1,9 @@
 //! From the bytes of a source to its run.
-ghost use Rattle.std.specs.Prelude.{◌≡◌, ◌<◌, ◌≤◌, ◌^◌, ℕ, List, Some, IfOk, IfErr, OnOk, length, nat_eq, count_by, slice_get};
+ghost use Rattle.std.specs.Prelude.{◌≡◌, ◌<◌, ◌≤◌, ◌^◌, ℕ, List, Some, IfOk, IfErr, OnOk, length, slice_get};
 ghost use Rattle.core_program.specs.declared.calls.CallRow.{CallRow};
 ghost use Rattle.pas_lexer.specs.declared.kinds.Token.{Token};
 ghost use Rattle.pas_lexer.specs.Lexed.{Lexed, EndsOnce};
-ghost use Rattle.pas_lexer.specs.Division.{line_at, line_feed, IsLexed, IsFault};
+ghost use Rattle.pas_lexer.specs.Division.{line_at, IsLexed, IsFault};
 ghost use Rattle.pas_parser.specs.Formed.{IsText};
 ghost use Rattle.debug_cli.specs.declared.run.SourceFault.TheVariants.{Refused, Memory};
 ghost use Rattle.small_program.specs.Small.{Small, IsSmall, pieces, program_of};
@@ -12,7 +12,7 @@ ghost use Rattle.debug_cli.specs.History.{history, history_of, calls_within, las
 
 use crate::refusal::Reason;
 use core_program::{Calls, Program, numbers_tell_the_tree, run_calls};
-use pas_lexer::{LexFault, Tokens, lex};
+use pas_lexer::{LexFault, Tokens, lex, line_at};
 use pas_parser::{ParseFault, parse};
 use small_program::{SmallFault, parse_small};
 use small_text::small_programs_are_texts;
@@ -52,23 +52,6 @@ impl From<AllocError> for SourceFault {
     }
 }
 
-/// How many line feeds there are.
-fn line_feeds(bytes: &[u8]) -> usize
-    ensures count { result ≡ count_by (λ c. nat_eq c line_feed) bytes.now }
-    ensures within { result ≤ length bytes.now }
-{
-    bytes.iter().filter(|c| **c == b'\n').count()
-}
-
-/// The line on which a byte of a source stands, counted from 1.
-fn line_of(source: &[u8], byte: u32) -> u32
-    requires { length source.now ≤ 1048576 }
-    ensures { result ≡ line_at source.now byte }
-{
-    let end = source.len().min(byte as usize);
-    1 + line_feeds(&source[..end]) as u32
-}
-
 /// The place of the token of this number, and of the last one where there is none: its line and its
 /// first byte.
 fn place_of(tokens: &Tokens, number: u32) -> (u32, u32)
@@ -96,7 +79,7 @@ fn refused_at(source: &[u8], why: Reason, byte: u32) -> SourceFault
 {
     SourceFault::Refused {
         why,
-        line: line_of(source, byte),
+        line: line_at(source, byte),
         byte,
     }
 }
