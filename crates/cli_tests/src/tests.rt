@@ -390,7 +390,10 @@ fn refused_headings(rt: HostRuntime) -> Result<(), Fail> {
             ("NotProgram", b"program |1; begin x := 1 end."),
             ("NotProgram", b"program p |begin x := 1 end."),
             ("NotProgram", b"program p|, q; begin x := 1 end."),
-            ("NotProgram", b"program p|. var x: integer; begin x := 1 end."),
+            (
+                "NotProgram",
+                b"program p|. var x: integer; begin x := 1 end.",
+            ),
             ("NotProgram", b"program p; |x := 1 end."),
             ("NotProgram", b"program p; |end."),
             ("NotProgram", b"program p; const c|; begin x := 1 end."),
@@ -415,13 +418,22 @@ fn refused_variables(rt: HostRuntime) -> Result<(), Fail> {
         rt.alloc(),
         &[
             ("NotProgram", b"program p; var |begin x := 1 end."),
-            ("NotProgram", b"program p; var |: integer; begin x := 1 end."),
-            ("NotProgram", b"program p; var |1: integer; begin x := 1 end."),
+            (
+                "NotProgram",
+                b"program p; var |: integer; begin x := 1 end.",
+            ),
+            (
+                "NotProgram",
+                b"program p; var |1: integer; begin x := 1 end.",
+            ),
             (
                 "Unbuilt",
                 b"program p; var |input: integer; begin x := 1 end.",
             ),
-            ("NotProgram", b"program p; var x |integer; begin x := 1 end."),
+            (
+                "NotProgram",
+                b"program p; var x |integer; begin x := 1 end.",
+            ),
             ("NotProgram", b"program p; var x|; begin x := 1 end."),
             (
                 "NotProgram",
@@ -442,7 +454,10 @@ fn refused_variables(rt: HostRuntime) -> Result<(), Fail> {
             ("Unbuilt", b"program p; var x: |char; begin x := 1 end."),
             ("Unbuilt", b"program p; var x: |x; begin x := 1 end."),
             ("NotProgram", b"program p; var x: 1|; begin x := 1 end."),
-            ("NotProgram", b"program p; var x: integer |begin x := 1 end."),
+            (
+                "NotProgram",
+                b"program p; var x: integer |begin x := 1 end.",
+            ),
             (
                 "Unbuilt",
                 b"program p; var x: integer; |y: integer; begin x := 1 end.",
@@ -462,9 +477,18 @@ fn refused_steps(rt: HostRuntime) -> Result<(), Fail> {
         &rt,
         rt.alloc(),
         &[
-            ("NotProgram", b"program p;\nvar x: integer;\nbegin x |= 1 end."),
-            ("NotProgram", b"program p;\nvar x: integer;\nbegin x |: 1 end."),
-            ("NotProgram", b"program p;\nvar x: integer;\nbegin x := |end."),
+            (
+                "NotProgram",
+                b"program p;\nvar x: integer;\nbegin x |= 1 end.",
+            ),
+            (
+                "NotProgram",
+                b"program p;\nvar x: integer;\nbegin x |: 1 end.",
+            ),
+            (
+                "NotProgram",
+                b"program p;\nvar x: integer;\nbegin x := |end.",
+            ),
             (
                 "Unbuilt",
                 b"program p;\nvar x: integer;\nbegin x := |+ 1 end.",
@@ -528,7 +552,10 @@ fn refused_ends_and_procedures(rt: HostRuntime) -> Result<(), Fail> {
                 "NotProgram",
                 b"program p;\nvar x: integer;\nbegin x := 1 end|;",
             ),
-            ("NotProgram", b"program p;\nvar x: integer;\nbegin x := 1 end|"),
+            (
+                "NotProgram",
+                b"program p;\nvar x: integer;\nbegin x := 1 end|",
+            ),
             (
                 "NotProgram",
                 b"program p;\nvar x: integer;\nbegin x := 1 end. |program",

@@ -14,10 +14,7 @@ const ROOM: usize = 65_536;
 pub enum Verdict {
     Taken,
     /// The name of the parser's fault, and the first byte of its token.
-    Refused {
-        why: &'static str,
-        byte: u32,
-    },
+    Refused { why: &'static str, byte: u32 },
     /// The source has no tokens.
     NoTokens,
 }
@@ -89,6 +86,8 @@ pub fn command_agrees(alloc: Global, verdict: &Verdict, said: &[u8]) -> Result<b
             let line = format!(in alloc; "refused: {why}, line 1, byte {byte}\n")?;
             Ok(line.as_bytes() == said)
         }
-        _ => Ok(!said.starts_with(b"refused: NotProgram") && !said.starts_with(b"refused: TooDeep")),
+        _ => Ok(
+            !said.starts_with(b"refused: NotProgram") && !said.starts_with(b"refused: TooDeep"),
+        ),
     }
 }
