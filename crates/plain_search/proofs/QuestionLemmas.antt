@@ -4,8 +4,9 @@ use Rattle.std.specs.Prelude.{All, Contains, find, nat_lt, nat_le}
 use Rattle.std.specs.List.{AllByRecursion, fold, list_all}
 use Rattle.std.proofs.lemmas.Bool.{and_left, and_right, le-leb, lt-leb, ltb-false, ltb-true}
 use Rattle.std.proofs.lemmas.List.Elements.{All-from_recursion, Contains-append_right}
-use Rattle.std.proofs.lemmas.List.Sums.{fold_more}
-use Rattle.plain_search.specs.Question.{left_of, question_of}
+use Rattle.std.proofs.lemmas.List.Sums.{count_by-le-length, fold_more}
+use Rattle.plain_search.specs.Question.{left_of, question_of, weight_of}
+use Rattle.plain_search.specs.Region.{is_in}
 
 -- the better of the best so far and the next
 abbrev pub better : (ℕ → ℕ) → Option ℕ → ℕ → Option ℕ
@@ -149,3 +150,8 @@ question_least last suspects call h =
     (both (λ other. value call ≤ value other) least.before rest
     (weaker (λ other. value call < value other) (λ other. value call ≤ value other) (λ other l. omega arith) least.before least.more)
     (omega arith, least.not_less)))
+
+-- a call weighs no more than all suspects
+pub at_most_all : (last suspects : List ℕ) (call : ℕ) → weight_of last suspects call ≤ length suspects
+unfolding weight_of
+at_most_all last suspects call = count_by-le-length (is_in last call) suspects

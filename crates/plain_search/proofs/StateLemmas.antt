@@ -5,7 +5,6 @@ use Rattle.std.specs.List.{list_all}
 use Rattle.std.specs.Prelude.{nat_le}
 use Rattle.std.proofs.lemmas.Bool.{and_from, and_parts, both_ways, cases_order, le-leb, true≢false}
 use Rattle.std.proofs.lemmas.List.Elements.{Contains-get_or}
-use Rattle.std.proofs.lemmas.List.Sums.{count_by-le-length}
 use Rattle.std.proofs.lemmas.Option.{slice_get_within}
 use Rattle.plain_search.specs.declared.entries.Entry.{Entry}
 use Rattle.plain_search.specs.declared.entries.Judgement.{Judgement}
@@ -21,7 +20,7 @@ use Rattle.plain_search.specs.Region.{is_below, is_cleared, is_in, mark_at}
 use Rattle.plain_search.specs.State.{accused_after, state_by, state_of, suspects_after}
 use Rattle.plain_search.proofs.CallLemmas.{call_found, counts_one, find_filter, first_is, last_call_is, no_last_call, none_passes}
 use Rattle.plain_search.proofs.JudgedLemmas.{accused_is, asked_of_contains, at_mark, below_from, below_parts, covers_parts, right_leaves, suspects_pass, wrong_leaves}
-use Rattle.plain_search.proofs.QuestionLemmas.{no_question, question_among, question_least}
+use Rattle.plain_search.proofs.QuestionLemmas.{no_question, question_among, question_least, at_most_all}
 use Rattle.plain_search.proofs.RegionLemmas.{covers, is_suspect}
 
 ask_cases : (last suspects : List ℕ) (accused q : Option ℕ) (call weight many left : ℕ) → state_by last suspects accused q ≡ Ask call weight many left
@@ -100,10 +99,6 @@ at_least_itself last entries call intervals among =
     let inside = (asked_of_contains last entries call among).0 in
     counts_one (is_in last call) suspects among.0 call among.1
     (ap (is_in last call) among.2 ∙ and_from (nat_le call call) (nat_le call (slice_index last call)) (le-leb call call (omega arith)) (le-leb call (slice_index last call) (intervals.from_itself call inside)))
-
-at_most_all : (last suspects : List ℕ) (call : ℕ) → weight_of last suspects call ≤ length suspects
-unfolding weight_of
-at_most_all last suspects call = count_by-le-length (is_in last call) suspects
 
 pub left_is_fewer : (last : List ℕ) (entries : List Entry) (call weight many left : ℕ) → AreIntervals last → state_of last entries ≡ Ask call weight many left → left < many
 left_is_fewer last entries call weight many left intervals h =

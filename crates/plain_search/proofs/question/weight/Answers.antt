@@ -1,10 +1,10 @@
 use Rattle.std.proofs.Common.{◌≡◌, ℕ, ◌+◌, ◌<◌, ◌≤◌, ap, ◌∙◌, get_or, length, List, arith}
 use Rattle.std.specs.Prelude.{count_by, nat_lt}
 use Rattle.std.proofs.lemmas.List.FromFn.{length-map-range_with_len, get_or-map-range_with_len}
-use Rattle.std.proofs.lemmas.List.Sums.{count_by-le-length}
-use Rattle.plain_search.specs.Region.{counts_below, is_in}
+use Rattle.plain_search.specs.Region.{counts_below}
 use Rattle.plain_search.specs.Question.{weight_of}
 use Rattle.plain_search.proofs.Lists.{count_between}
+use Rattle.plain_search.proofs.QuestionLemmas.{at_most_all}
 use Rattle.plain_search.proofs.question.weight.Goals as goal
 
 -- how many numbers are counted
@@ -32,10 +32,6 @@ overflow_sub-result c = omega (arith, counted c.args.last.now c.args.suspects.no
 
 pub returns-clause-counted : goal.returns-clause-counted
 returns-clause-counted c = omega (arith, counted c.args.last.now c.args.suspects.now c.args.below.now c.args.call c.requires.counted c.requires.inside (c.requires.intervals.from_itself c.args.call c.requires.inside) (c.requires.intervals.to_a_call c.args.call c.requires.inside))
-
-at_most_all : (last suspects : List ℕ) (call : ℕ) → weight_of last suspects call ≤ length suspects
-unfolding weight_of
-at_most_all last suspects call = count_by-le-length (is_in last call) suspects
 
 pub returns-clause-few : goal.returns-clause-few
 returns-clause-few c = omega (arith, returns-clause-counted c, at_most_all c.args.last.now c.args.suspects.now c.args.call)
