@@ -112,6 +112,18 @@ fn deepest_nodes(rt: HostRuntime) -> Result<(), Fail> {
             198,
             2_007,
         ),
+        // Statements that take the most native stack to read, each with factors one deeper.
+        (
+            Nested {
+                head: b"program p; begin ",
+                opening: b"for i := a to b do ",
+                middle: b"b",
+                closing: b"",
+                tail: b" end.",
+            },
+            198,
+            3_788,
+        ),
         // Empty statements: each begins at the token that follows it.
         (
             Nested {

@@ -87,13 +87,6 @@ inside_call c es e f = within_call c.below (belows es) (e ∙ sym (length-map es
 pub inside_none : Inside []
 inside_none = record { inside = λ k h. absurd (omega arith) }
 
-inside_of : (os : List OpenCall) (ls : Levels) → Matches os ls → Inside (belows (own_of ls).events)
-inside_of os (Bottom own) m = m.2
-inside_of os (Push under l own) m = m.1.1.1.inside
-
-counted_of : (os : List OpenCall) (ls : Levels) → Matches os ls → (es : List Call) → length (rows_of ls) ≡ length (rows_of ls)
-counted_of os ls m es = refl
-
 -- the rows that calls of the innermost statement part add
 rows_done : (os : List OpenCall) (ls : Levels) → Matches os ls → (w : List Touch) (es : List Call) (rest : Tree)
     → rows_of (done ls w es rest) ≡ rows_of ls ++ rows_at (length (rows_of ls)) (outer_of ls) (height ls) es

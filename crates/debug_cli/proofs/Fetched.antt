@@ -241,15 +241,3 @@ module _ (name : List ℕ) (files : Option FileMap) (misses misses' faults fault
         spent_or_memory status.Screen h long on console screen = absurd (screen refl)
         spent_or_memory status.Memory h long on console screen = inr refl
         spent_or_memory status.Spent h long on console screen = inl refl
-
-    -- a source that is no program
-    pub refused_or_memory : (source : List ℕ) (result : Status) → Here result → Finds files name source → length source ≤ source_bytes → NoProgram source → StayedBelow faults faults' → (result ≡ status.Screen → ⊥)
-        → (result ≡ status.Source) ⊎ (result ≡ status.Memory)
-    refused_or_memory source status.Done (a, g, w) f short none stayed screen = absurd (is_refused source a f none)
-    refused_or_memory source status.Words h f short none stayed screen = absurd h
-    refused_or_memory source status.Source h f short none stayed screen = inl refl
-    refused_or_memory source status.File h f short none stayed screen = absurd (no_fault h.0 source h.1 f short stayed)
-    refused_or_memory source status.Console (a, g, w) f short none stayed screen = absurd (is_refused source a f none)
-    refused_or_memory source status.Screen h f short none stayed screen = absurd (screen refl)
-    refused_or_memory source status.Memory h f short none stayed screen = inr refl
-    refused_or_memory source status.Spent (a, g, w) f short none stayed screen = absurd (is_refused source a f none)

@@ -1,5 +1,5 @@
 -- From the tokens and the program of a source to its run.
-use Rattle.std.proofs.Common.{◌≡◌, ℕ, zero, suc, min, List, [], ◌∷◌, length, take, Ok, Err, refl, sym, ap, subst, ◌∙◌, arith, inl, inr}
+use Rattle.std.proofs.Common.{◌≡◌, ℕ, List, [], Ok, Err, sym, ap, subst, ◌∙◌, inl, inr}
 use Rattle.pas_lexer.specs.declared.kinds.Token.{Token}
 use Rattle.pas_lexer.specs.declared.kinds.LexFault.{LexFault}
 use Rattle.pas_lexer.specs.declared.kinds.LexFault.TheVariants as lexis
@@ -17,14 +17,6 @@ use Rattle.debug_cli.specs.History.{History, history_of, calls_within}
 use Rattle.pas_parser.specs.Formed.{IsText}
 use Rattle.small_text.specs.Laws.{SmallIsText}
 use Rattle.debug_cli.specs.Program.{IsProgram, Keeps, Refuses, IsRefused, IsMisfit, IsUnlexed, IsUnparsed, IsUnread, TokensAre, ProgramIs}
-
-pub take_min : (l : List ℕ) (n : ℕ) → take (min (length l) n) l ≡ take n l
-take_min [] zero = refl
-take_min [] (suc n) = ap (λ (k : ℕ). take k []) (let e : min (length {A = ℕ} []) (suc n) ≡ zero = omega arith in e)
-take_min (x ∷ l) zero = ap (λ (k : ℕ). take k (x ∷ l)) (let e : min (length (x ∷ l)) zero ≡ zero = omega arith in e)
-take_min (x ∷ l) (suc n) =
-    let e : min (length (x ∷ l)) (suc n) ≡ suc (min (length l) n) = omega arith in
-    ap (λ (k : ℕ). take k (x ∷ l)) e ∙ ap (λ (m : List ℕ). x ∷ m) (take_min l n)
 
 -- ---- no tokens
 

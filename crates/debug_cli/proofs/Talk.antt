@@ -1,27 +1,19 @@
 -- What is answered to a console, line by line.
-use Rattle.std.proofs.Common.{◌≡◌, ◌⊎◌, inl, inr, ℕ, ◌<◌, ◌≤◌, Bool, true, false, ◌||◌, IsTrue, if◌then◌else◌, List, [], ◌∷◌, ◌++◌, length, Option, Result, Ok, Err, IfOk, IfErr, take, refl, sym, ap, subst, ◌∙◌, append_assoc, append-nil, codes, arith}
+use Rattle.std.proofs.Common.{◌≡◌, inl, inr, ℕ, Bool, true, false, ◌||◌, IsTrue, if◌then◌else◌, List, [], ◌∷◌, ◌++◌, Option, Ok, Err, refl, sym, ap, subst, ◌∙◌, append_assoc, append-nil, arith}
 use Rattle.std.specs.Io.KnownBytes.{IsAtEnd}
-use Rattle.std.proofs.Math.Seq.{take-length}
-use Rattle.std.proofs.lemmas.Bool.{lt-ltb, le-ltb}
-use Rattle.edge_ports.specs.declared.lines.TheConstants.{LINE_BYTES}
-use Rattle.edge_ports.specs.Counts.{Counted}
-use Rattle.edge_ports.specs.Lines.{LinesState, lines_of, whole_lines, lines_heard, handed_lines, unread, Moves}
-use Rattle.edge_ports.specs.Turns.{AsksNothing, IsConsistent}
+use Rattle.edge_ports.specs.Lines.{LinesState, lines_heard, handed_lines, unread, Moves}
+use Rattle.edge_ports.specs.Turns.{IsConsistent}
 use Rattle.edge_ports.specs.Told.{TookAll, GaveAll, GavePrefix}
 use Rattle.edge_ports.proofs.ToldLemmas.{gave_nothing, gave_more, gave_prefix_after, gave_prefix_before, gave_prefix_whole, took_nothing}
 use Rattle.edge_ports.proofs.WholeLines.{heard_in_order}
 use Rattle.debug_cli.specs.declared.dialog.Ending.{Ending}
 use Rattle.debug_cli.specs.declared.dialog.Ending.TheVariants as ending
 use Rattle.plain_search.specs.declared.entries.Entry.{Entry}
-use Rattle.plain_search.specs.declared.entries.Judgement.{Judgement}
-use Rattle.debug_cli.specs.declared.commands.Command.{Command}
-use Rattle.debug_cli.specs.Status.{is_screen, is_console}
-use Rattle.debug_cli.specs.Commands.{command_of}
 use Rattle.debug_cli.specs.History.{History}
-use Rattle.debug_cli.specs.Dialog.{state, replies, reply_of, entries_after, reply_judged, entries_judged, is_quit, reply_to, entries_behind, ends_session, ends_among, is_too_long}
+use Rattle.debug_cli.specs.Dialog.{replies, reply_to, entries_behind, ends_session, ends_among}
 use Rattle.plain_search.specs.Standing.{first_entries}
-use Rattle.debug_cli.specs.Heard.{Heard, IsHeard, EndedBy, GaveBy, session_status}
-use Rattle.debug_cli.specs.Turned.{Judges, Answers, entries_through, Answered, Hands, HandsNone, NextReply, Turned, console_failed, screen_failed}
+use Rattle.debug_cli.specs.Heard.{Heard, IsHeard, EndedBy, GaveBy}
+use Rattle.debug_cli.specs.Turned.{entries_through, Answered, Hands, HandsNone, NextReply, Turned}
 
 -- ---- lines
 
@@ -31,62 +23,6 @@ module _ (h : History) where
 
   quitted : (entries : List Entry) (line : List ℕ) (ls : List (List ℕ)) → ends_session line ≡ true → replies h entries (line ∷ ls) ≡ []
   quitted entries line ls e = ap (λ (b : Bool). if b then [] else reply_to h entries line ++ replies h (entries_behind h entries line) ls) e
-
-long_is : (line : List ℕ) → LINE_BYTES < length line → is_too_long line ≡ true
-long_is line h = lt-ltb LINE_BYTES (length line) h
-
-pub short_is : (line : List ℕ) → length line ≤ LINE_BYTES → is_too_long line ≡ false
-short_is line h = le-ltb LINE_BYTES (length line) h
-
--- what a line that is too long is answered
-pub record Long (h : History) (entries : List Entry) (line : List ℕ) : Type 0 where
-  pub ends : ends_session line ≡ false
-  pub reply : reply_to h entries line ≡ codes "line too long\n"
-  pub behind : entries_behind h entries line ≡ entries
-
-pub long_line : (h : History) (entries : List Entry) (line : List ℕ) → LINE_BYTES < length line → Long h entries line
-long_line h entries line k =
-    let l = long_is line k in
-    record {
-      ends = ap (λ (b : Bool). if b then false else is_quit (command_of line)) l;
-      reply = ap (λ (b : Bool). if b then codes "line too long\n" else reply_of h entries (command_of line)) l;
-      behind = ap (λ (b : Bool). if b then entries else entries_after h entries (command_of line)) l;
-    }
-
--- what a line that is not too long is answered
-pub record Short (h : History) (entries : List Entry) (line : List ℕ) (c : Command) : Type 0 where
-  pub ends : ends_session line ≡ is_quit c
-  pub reply : reply_to h entries line ≡ reply_of h entries c
-  pub behind : entries_behind h entries line ≡ entries_after h entries c
-
-pub short_line : (h : History) (entries : List Entry) (line : List ℕ) (c : Command) → length line ≤ LINE_BYTES → c ≡ command_of line → Short h entries line c
-short_line h entries line c k e =
-    let s = short_is line k in
-    record {
-      ends = ap (λ (b : Bool). if b then false else is_quit (command_of line)) s ∙ ap is_quit (sym e);
-      reply = ap (λ (b : Bool). if b then codes "line too long\n" else reply_of h entries (command_of line)) s ∙ ap (reply_of h entries) (sym e);
-      behind = ap (λ (b : Bool). if b then entries else entries_after h entries (command_of line)) s ∙ ap (entries_after h entries) (sym e);
-    }
-
--- a judgement
-pub judged_line : (h : History) (entries entries' : List Entry) (line : List ℕ) (c : Command) (j : Judgement) (r : Result (List ℕ) Ending) → Short h entries line c → is_quit c ≡ false
-    → reply_of h entries c ≡ reply_judged h (state h entries) entries j → entries_after h entries c ≡ entries_judged (state h entries) entries j → Judges h entries j r entries' → Answers h entries line r entries'
-judged_line h entries entries' line c j (Ok reply) s q f g k = (s.ends ∙ q, k.0 ∙ sym f ∙ sym s.reply, k.1 ∙ sym g ∙ sym s.behind)
-judged_line h entries entries' line c j (Err ending.Memory) s q f g k = tt
-judged_line h entries entries' line c j (Err ending.Done) s q f g k = absurd k
-judged_line h entries entries' line c j (Err ending.Console) s q f g k = absurd k
-judged_line h entries entries' line c j (Err ending.Screen) s q f g k = absurd k
-judged_line h entries entries' line c j (Err ending.Spent) s q f g k = absurd k
-
--- a text that changes no entries
-pub told_line : (h : History) (entries : List Entry) (line text : List ℕ) (c : Command) (r : Result (List ℕ) Ending) → Short h entries line c → is_quit c ≡ false → reply_of h entries c ≡ text → entries_after h entries c ≡ entries
-    → IfOk r (λ bytes. bytes ≡ text) → IfErr r (λ e. e ≡ ending.Memory) → Answers h entries line r entries
-told_line h entries line text c (Ok reply) s q f g k m = (s.ends ∙ q, k ∙ sym f ∙ sym s.reply, sym g ∙ sym s.behind)
-told_line h entries line text c (Err ending.Memory) s q f g k m = tt
-told_line h entries line text c (Err ending.Done) s q f g k m = absurd (let x : ⊥ = cc in x)
-told_line h entries line text c (Err ending.Console) s q f g k m = absurd (let x : ⊥ = cc in x)
-told_line h entries line text c (Err ending.Screen) s q f g k m = absurd (let x : ⊥ = cc in x)
-told_line h entries line text c (Err ending.Spent) s q f g k m = absurd (let x : ⊥ = cc in x)
 
 -- ---- several lines
 
@@ -152,10 +88,6 @@ module _ (h : History) where
   one_on line false e = ap (λ (c : Bool). c || false) e
 
   -- ---- one line after another
-
-  pub answered_none : (old : LinesState) (entries : List Entry) (given : Option (List ℕ)) → handed_lines old ≡ [] → entries ≡ first_entries → Answered h (handed_lines old) entries given given
-  answered_none old entries given e f =
-      subst (λ (ls : List (List ℕ)). Answered h ls entries given given) (sym e) (record { on = refl; entries_are = f; gave = gave_nothing given })
 
   pub answered_more : (old new : LinesState) (entries entries' : List Entry) (given given' given'' : Option (List ℕ)) (r : Unit {0})
       → Answered h (handed_lines old) entries given given' → Turned h entries old (Ok r) entries' new given' given'' → Answered h (handed_lines new) entries' given given''
@@ -249,58 +181,6 @@ heard_of taken new left left' none m c at_end = record {
   room = c.seen;
   at_end = at_end;
 }
-
--- ---- the next reply
-
-module _ (h : History) (entries : List Entry) (old new : LinesState) where
-  -- the reply to a line
-  pub line_reply : (line : List ℕ) (r : Result (List ℕ) Ending) (entries' : List Entry) → Hands old new line → Answers h entries line r entries' → NextReply h entries old r entries' new
-  line_reply line (Ok reply) entries' hands a = (line, hands, a.0, a.1, a.2)
-  line_reply line (Err ending.Done) entries' hands a = inl (line, hands, a)
-  line_reply line (Err ending.Memory) entries' hands a = (line ∷ [], hands)
-  line_reply line (Err ending.Console) entries' hands a = absurd a
-  line_reply line (Err ending.Screen) entries' hands a = absurd a
-  line_reply line (Err ending.Spent) entries' hands a = absurd a
-
-  pub long_reply : (line : List ℕ) (r : Result (List ℕ) Ending) → Hands old new line → LINE_BYTES < length line → IfOk r (λ bytes. bytes ≡ codes "line too long\n") → IfErr r (λ e. e ≡ ending.Memory) → NextReply h entries old r entries new
-  long_reply line (Ok reply) hands k f m = let l = long_line h entries line k in (line, hands, l.ends, f ∙ sym l.reply, sym l.behind)
-  long_reply line (Err ending.Memory) hands k f m = (line ∷ [], hands)
-  long_reply line (Err ending.Done) hands k f m = absurd (let x : ⊥ = cc in x)
-  long_reply line (Err ending.Console) hands k f m = absurd (let x : ⊥ = cc in x)
-  long_reply line (Err ending.Screen) hands k f m = absurd (let x : ⊥ = cc in x)
-  long_reply line (Err ending.Spent) hands k f m = absurd (let x : ⊥ = cc in x)
-
-  pub end_reply : IsTrue new.ended → handed_lines new ≡ handed_lines old → new.handed ≡ old.handed → old.handed ≡ length new.taken → NextReply h entries old (Err ending.Done) entries new
-  end_reply ended same handed all =
-      let whole : handed_lines new ≡ lines_of new.taken = ap (λ (n : ℕ). lines_of (take n new.taken)) (handed ∙ all) ∙ ap lines_of (take-length new.taken) in
-      inr (ended, (same, ap (λ (b : Bool). lines_heard b new.taken) ended ∙ sym whole))
-
-  pub none_handed : new.ended ≡ false → handed_lines new ≡ handed_lines old → handed_lines new ≡ whole_lines new.taken → HandsNone old new
-  none_handed on same stopped = (same, ap (λ (b : Bool). lines_heard b new.taken) on ∙ sym stopped)
-
--- an answer in which neither console nor screen failed
-pub answer_fails_not : (h : History) (entries entries' : List Entry) (line : List ℕ) (r : Result (List ℕ) Ending) → Answers h entries line r entries' → (console_failed r ≡ false) × (screen_failed r ≡ false)
-answer_fails_not h entries entries' line (Ok reply) a = (refl, refl)
-answer_fails_not h entries entries' line (Err ending.Done) a = (refl, refl)
-answer_fails_not h entries entries' line (Err ending.Memory) a = (refl, refl)
-answer_fails_not h entries entries' line (Err ending.Console) a = absurd a
-answer_fails_not h entries entries' line (Err ending.Screen) a = absurd a
-answer_fails_not h entries entries' line (Err ending.Spent) a = absurd a
-
-pub memory_fails_not : (r : Result (List ℕ) Ending) → IfErr r (λ e. e ≡ ending.Memory) → (console_failed r ≡ false) × (screen_failed r ≡ false)
-memory_fails_not (Ok x) m = (refl, refl)
-memory_fails_not (Err e) m = (ap (λ (x : Ending). is_console (session_status x)) m, ap (λ (x : Ending). is_screen (session_status x)) m)
-
-pub stays_counted : (b : Bool) (before now : ℕ) → b ≡ false → now ≡ before → Counted b before now
-stays_counted b before now e same = subst (λ (c : Bool). Counted c before now) (sym e) same
-
--- a source that was at its end is left alone
-pub still_at_end : {I : Type 0} (left : I → Option (List ℕ)) (old : LinesState) (ended : Bool) (source source' : I) → (AsksNothing old → source' ≡ source) → (IsTrue ended → IsTrue old.ended ⊎ IsAtEnd (left source'))
-    → (IsTrue old.ended → IsAtEnd (left source)) → IsTrue ended → IsAtEnd (left source')
-still_at_end left old ended source source' quiet seen was is = elim (seen is) [
-  | inl before ↦ subst (λ s. IsAtEnd (left s)) (sym (quiet (inr (inl before)))) (was before)
-  | inr now ↦ now
-]
 
 -- ---- a session
 

@@ -1,10 +1,10 @@
 -- The first of the least, found one after another.
-use Rattle.std.proofs.Common.{◌≡◌, ℕ, suc, ◌+◌, ◌<◌, ◌≤◌, Bool, true, false, cond, ◌&&◌, List, [], ◌∷◌, ◌++◌, length, get_or, take, Option, Some, None, refl, sym, subst, ap, ◌∙◌, arith, append_assoc, append-nil}
+use Rattle.std.proofs.Common.{◌≡◌, ℕ, suc, ◌+◌, ◌<◌, ◌≤◌, Bool, true, false, cond, ◌&&◌, List, [], ◌∷◌, ◌++◌, length, Option, Some, None, refl, sym, subst, ap, ◌∙◌, arith, append_assoc, append-nil}
 use Rattle.std.specs.Prelude.{All, Contains, find, nat_lt, nat_le}
 use Rattle.std.specs.List.{AllByRecursion, fold, list_all}
 use Rattle.std.proofs.lemmas.Bool.{and_left, and_right, le-leb, lt-leb, ltb-false, ltb-true}
 use Rattle.std.proofs.lemmas.List.Elements.{All-from_recursion, Contains-append_right}
-use Rattle.std.proofs.lemmas.List.Sums.{count_by-le-length, fold_more}
+use Rattle.std.proofs.lemmas.List.Sums.{count_by-le-length}
 use Rattle.plain_search.specs.Question.{left_of, question_of, weight_of}
 use Rattle.plain_search.specs.Region.{is_in}
 
@@ -115,10 +115,6 @@ found value xs (Some best) least = first_least_is_found value xs best least
 pub best_is_question : (last suspects : List ℕ) → question_of last suspects ≡ best_of (left_of last suspects) suspects
 unfolding question_of
 best_is_question last suspects = found (left_of last suspects) suspects (best_of (left_of last suspects) suspects) (along (left_of last suspects) [] suspects None refl)
-
--- the best so far and the next
-pub best_more : (value : ℕ → ℕ) (xs : List ℕ) (i : ℕ) → i < length xs → best_of value (take (i + 1) xs) ≡ better value (best_of value (take i xs)) (get_or xs i 0)
-best_more value xs i h = fold_more (better value) None xs i 0 h
 
 lit_first : (n : ℕ) → 0 < suc n
 lit_first n = omega arith

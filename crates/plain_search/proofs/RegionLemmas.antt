@@ -52,14 +52,6 @@ pub record Swept (last : List ℕ) (marks : List Mark) (accused : Option ℕ) (f
   pub all_covered : (call : ℕ) → n ≤ call → list_any (covers last marks accused call) (calls n) ≡ nat_lt call covered
   pub few : length found ≤ n
 
-pub swept_none : (last : List ℕ) (marks : List Mark) (accused : Option ℕ) → Swept last marks accused [] [] 0 0
-swept_none last marks accused = record {
-  all_found = refl;
-  all_below = refl;
-  all_covered = λ call h. sym (le-ltb call 0 (omega arith));
-  few = omega arith;
-}
-
 -- whether the next call is a suspect
 next_is : (last : List ℕ) (marks : List Mark) (accused : Option ℕ) (found below : List ℕ) (covered n : ℕ) → Swept last marks accused found below covered n → n < length last
     → is_suspect last marks accused n ≡ ((is_below last accused n && not (nat_lt n covered || covers last marks accused n n)) && is_unjudged (mark_at marks n))

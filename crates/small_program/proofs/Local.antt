@@ -222,11 +222,6 @@ next_same w [] (q ∷ m) h = absurd h
 next_same w (p ∷ l) [] h = absurd h
 next_same w (p ∷ l) (q ∷ m) h = ap (λ (x : Piece). is_fixed w x.kind) (sym h)
 
--- the token in quotes is the next one
-next_read : (w : Fixed) (l : List Piece) → fixed_next w l ≡ true → (p : Piece) × (m : List Piece) × (l ≡ p ∷ m) × (is_fixed w p.kind ≡ true)
-next_read w [] e = absurd (let y : ⊥ = cc in y)
-next_read w (p ∷ m) e = (p, m, refl, e)
-
 fixed_here : (w : Fixed) (p : Piece) (m : List Piece) → is_fixed w p.kind ≡ true → fixed_at w (p ∷ m) ≡ Ok (tt, m)
 fixed_here w p m e = ap (λ (b : Bool). if b then Ok (tt, m) else Err (p ∷ m)) e
 

@@ -7,9 +7,6 @@ use Rattle.small_program.specs.Reading.{Read, after, name_at, integer_at, new_na
 pub integer_is : (l : List Piece) (p : Piece) (m : List Piece) (b : Bool) → name_at l ≡ Ok (p, m) → bytes_eq p.spelling (codes "integer") ≡ b → integer_at l ≡ (if b then Ok (tt {0}, m) else Err l)
 integer_is l p m b e f = ap (λ (r : Read Piece). after r (λ p rest. if bytes_eq p.spelling (codes "integer") then Ok (tt, rest) else Err l)) e ∙ ap (λ (c : Bool). if c then Ok (tt, m) else Err l) f
 
-pub integer_fails : (l left : List Piece) → name_at l ≡ Err left → integer_at l ≡ Err left
-integer_fails l left e = ap (λ (r : Read Piece). after r (λ p rest. if bytes_eq p.spelling (codes "integer") then Ok (tt, rest) else Err l)) e
-
 pub new_is : (found : List (List ℕ)) (l : List Piece) (p : Piece) (m : List Piece) (s : List ℕ) → name_at l ≡ Ok (p, m) → p.spelling ≡ s → is_required s ≡ false → is_some (place found s) ≡ false → new_name found l ≡ Ok (s, m)
 new_is found l p m s e same f g =
     ap (λ (r : Read Piece). after r (λ p rest. if is_required p.spelling || is_some (place found p.spelling) then Err l else Ok (p.spelling, rest))) e
