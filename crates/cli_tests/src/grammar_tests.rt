@@ -188,7 +188,7 @@ fn deepest_nodes(rt: HostRuntime) -> Result<(), Fail> {
     for (nested, most, byte) in table {
         let taken = nested.source(alloc, most)?;
         assert!(rt; parsed(alloc, taken.as_slice())? == None);
-        let refused = nested.source(alloc, most + 1)?;
+        let refused = nested.source(alloc, most.saturating_add(1))?;
         check_refused(&rt, alloc, refused.as_slice(), "TooDeep", byte)?;
     }
     Ok(())

@@ -19,7 +19,10 @@ use Rattle.pas_lexer.proofs.Tables.{opened, symbol_is, some_symbol}
 use Rattle.pas_lexer.proofs.Numbers.{both_ways, first_digits, number_read, digit_here, not_real, not_joined, large_number, number_large, digit_opens_none}
 use Rattle.pas_lexer.proofs.Comments.{closing_sound, never_closed}
 use Rattle.pas_lexer.proofs.Strings.{Ended, ended_sound, open_found, doubled_apostrophe, doubled_other}
-use Rattle.pas_lexer.proofs.Pieces.{piece_again, piece_cut, mark_read, symbol_read, star_there, found, failed}
+use Rattle.pas_lexer.proofs.Pieces.{piece_again, piece_cut, mark_read, symbol_read, star_there, failed}
+
+abbrev read : Option Kind × ℕ → Reading
+read x = Ok x
 
 pub reason_is : (r q : Reason) → failed r ≡ Err q → r ≡ q
 reason_is r q e = cc
@@ -27,7 +30,7 @@ reason_is r q e = cc
 reason_same : (l : List ℕ) (r q : Reason) → failed r ≡ Err q → IsReason r l → IsReason q l
 reason_same l r q e h = subst (λ (x : Reason). IsReason x l) (reason_is r q e) h
 
-none_failed : (x : Option Kind × ℕ) (r : Reason) → found x ≡ Err r → ⊥
+none_failed : (x : Option Kind × ℕ) (r : Reason) → read x ≡ Err r → ⊥
 none_failed x r e = cc
 
 -- ---- what is read as a reason is one
@@ -93,7 +96,7 @@ string_fails l r e = at (string_end false l) refl e
     at : (o : Option ℕ) → string_end false l ≡ o → string_piece l o ≡ Err r → IsReason r (apostrophe ∷ l)
     at None g e = reason_same (apostrophe ∷ l) OpenString r e (string_open l g)
     at (Some n) g e =
-        elim (chosen (nat_lt 1 n) (found (Some Text, 1 + n)) (cond (next_is apostrophe (drop 1 l)) (failed OpenString) (Err EmptyString)) (Err r) e) [
+        elim (chosen (nat_lt 1 n) (read (Some Text, 1 + n)) (cond (next_is apostrophe (drop 1 l)) (failed OpenString) (Err EmptyString)) (Err r) e) [
           | inl h ↦ absurd (none_failed (Some Text, 1 + n) r h.1)
           | inr h ↦
               let short : 1 < n → ⊥ = not_above 1 n h.0 in
@@ -133,11 +136,11 @@ no_star c l e = rw e refl
 no_piece : (c : ℕ) (l : List ℕ) → letter c ≡ false → digit c ≡ false → separator c ≡ false → nat_eq c apostrophe ≡ false → nat_eq c 123 ≡ false → nat_eq c 47 ≡ false → symbol_among all_symbols (c ∷ l) ≡ None → (text rest : List ℕ) (k : Option Kind) → Fits (c ∷ text) rest k → ⊥
 no_piece c l a b d f g h none text rest k fits =
     let paren : nat_eq c 40 ≡ false = no_paren c l none in
-    let is : symbol_piece (symbol_among all_symbols (c ∷ (text ++ rest))) ≡ found (k, suc (length text)) =
+    let is : symbol_piece (symbol_among all_symbols (c ∷ (text ++ rest))) ≡ read (k, suc (length text)) =
     sym (symbol_read c (text ++ rest) f g (no_star c (text ++ rest) paren) h) ∙ sym (mark_read c (text ++ rest) a b d) ∙ piece_again k (c ∷ text) rest fits in
     at (symbol_among all_symbols (c ∷ (text ++ rest))) refl is
   where
-    at : (o : Option Written) → symbol_among all_symbols (c ∷ (text ++ rest)) ≡ o → symbol_piece o ≡ found (k, suc (length text)) → ⊥
+    at : (o : Option Written) → symbol_among all_symbols (c ∷ (text ++ rest)) ≡ o → symbol_piece o ≡ read (k, suc (length text)) → ⊥
     at None e is = none_failed (k, suc (length text)) BadByte (sym is)
     at (Some w) e is = no_symbol c l (text ++ rest) w none e
 
@@ -253,7 +256,7 @@ open_read l none text rest whole ends =
     at : (o : Option ℕ) → string_end false l ≡ o → (r : Reason) → string_piece l (string_end false l) ≡ Err r → failed r ≡ Err OpenString
     at None g r e = sym e ∙ ap (string_piece l) g
     at (Some n) g r e =
-        elim (chosen (nat_lt 1 n) (found (Some Text, 1 + n)) (cond (next_is apostrophe (drop 1 l)) (failed OpenString) (Err EmptyString)) (Err r) (sym (ap (string_piece l) g) ∙ e)) [
+        elim (chosen (nat_lt 1 n) (read (Some Text, 1 + n)) (cond (next_is apostrophe (drop 1 l)) (failed OpenString) (Err EmptyString)) (Err r) (sym (ap (string_piece l) g) ∙ e)) [
           | inl h ↦ absurd (none_failed (Some Text, 1 + n) r h.1)
           | inr h ↦
               let m = end_here l n (ended_sound l n g) (not_above 1 n h.0) in

@@ -35,6 +35,9 @@ stays source spellings more t p h = record {
   reads = part_stays spellings more p.start p.end h.forward h.inside ∙ h.reads;
 }
 
+pub none_spelled : (source : List ℕ) → AreSpelled source [] [] []
+none_spelled source = record { count = refl; each = λ i t p g h. absurd (none-some t g) }
+
 -- one token more
 spelled_more : (source spellings more : List ℕ) (tokens : List Token) (places : List Place) (t : Token) (start end : ℕ) → AreSpelled source spellings tokens places → more ≡ spelling_of source t → start ≡ length spellings → end ≡ length (spellings ++ more)
     → AreSpelled source (spellings ++ more) (tokens ++ t ∷ []) (places ++ record { start = start; end = end } ∷ [])
