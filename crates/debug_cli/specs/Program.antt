@@ -5,7 +5,8 @@ use Rattle.pas_lexer.specs.Lexed.{Lexed}
 use Rattle.pas_lexer.specs.declared.kinds.LexFault.TheVariants as lexis
 use Rattle.pas_lexer.specs.Division.{IsLexed, IsFault, line_at}
 use Rattle.pas_phrases.specs.declared.fault.ParseFault.TheVariants as parser
-use Rattle.pas_parser.specs.Formed.{IsText, IsRefusal}
+use Rattle.pas_parser.specs.Exact.{IsExact}
+use Rattle.pas_parser.specs.Formed.{IsText}
 use Rattle.core_program.specs.Tables.{Tables}
 use Rattle.debug_cli.specs.declared.refusal.Reason.{Reason}
 use Rattle.debug_cli.specs.declared.refusal.Reason.TheVariants as reason
@@ -55,11 +56,11 @@ pub record StandsAt (t : Lexed) (number line byte : ℕ) : Type 0 where
   pub line_is : line ≡ token.line
   pub byte_is : byte ≡ token.start
 
--- Tokens are refused at this one: by the grammar, with the fault that the parser answers; or, where a formed tree
--- spells them, since no small program begins with the tokens up to it.
+-- Tokens are refused at this one: it is the first that is too deep, or else the first with which no tree of the grammar goes
+-- on; or, where a formed tree spells them, no small program begins with the tokens up to it.
 abbrev pub RefusesAt : Lexed → Reason → (number : ℕ) → Type 0
-RefusesAt t reason.NotProgram number = IsRefusal t.tokens (Err (parser.NotProgram number))
-RefusesAt t reason.TooDeep number = IsRefusal t.tokens (Err (parser.TooDeep number))
+RefusesAt t reason.NotProgram number = IsExact t.tokens (Err (parser.NotProgram number))
+RefusesAt t reason.TooDeep number = IsExact t.tokens (Err (parser.TooDeep number))
 RefusesAt t reason.Unbuilt number = IsText t.tokens × BeginsNone (pieces t) number
 RefusesAt t _ number = ⊥
 
