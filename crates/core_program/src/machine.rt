@@ -1,5 +1,5 @@
 //! A run's state with the log so far, and the acts on it.
-ghost use Rattle.std.specs.Prelude.{◌≡◌, ◌+◌, OnOk};
+ghost use Rattle.std.specs.Prelude.{◌≡◌, ◌+◌, Err, OnOk};
 ghost use Rattle.core_program.specs.Acts.{Does, HasRoom, moment_of, state_of};
 ghost use Rattle.core_program.specs.State.{MayCall, ReadCell, Spend, WriteCell, perform};
 
@@ -74,9 +74,10 @@ pub struct Machine {
     pub log: Vec<Touch>,
 }
 
-/// Takes a step.
+/// Takes a step. It takes no memory.
 pub fn spend(machine: &mut Machine) -> Result<(), Halt>
     ensures act { Does (λ _. tt) (perform Spend (state_of machine.old)) result (moment_of machine.old) (moment_of machine.new) }
+    ensures no_memory { result ≡ Err Halt.NoMemory → ⊥ }
 {
     if machine.steps == 0 {
         return Err(Halt::Why(Trouble::OutOfSteps));
@@ -120,10 +121,11 @@ pub fn write_cell(machine: &mut Machine, line: u32, addr: u32, value: Value) -> 
     }
 }
 
-/// Asks leave for one call more, with a frame of so many cells.
+/// Asks leave for one call more, with a frame of so many cells. It takes no memory.
 pub fn may_call(machine: &mut Machine, cells: u32) -> Result<(), Halt>
     ensures act { Does (λ _. tt) (perform (MayCall cells) (state_of machine.old)) result (moment_of machine.old) (moment_of machine.new) }
     ensures room { OnOk result (HasRoom machine.new) }
+    ensures no_memory { result ≡ Err Halt.NoMemory → ⊥ }
 {
     if machine.calls >= MOST_CALLS {
         return Err(Halt::Why(Trouble::Limited(Which::Calls)));

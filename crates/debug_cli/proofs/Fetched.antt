@@ -1,11 +1,11 @@
 -- How the command goes once the words name a source.
 use Rattle.std.proofs.Common.{◌≡◌, ◌⊎◌, inl, inr, ℕ, ◌+◌, ◌<◌, ◌≤◌, Bool, true, false, IsTrue, List, [], ◌++◌, Option, Some, None, length, take, refl, sym, ap, subst, ◌∙◌, arith, append_assoc, ◌-◌}
-use Rattle.std.specs.Prelude.{IsSomeAnd}
+use Rattle.std.specs.Prelude.{IsSomeAnd, Err}
 use Rattle.std.specs.Io.KnownBytes.{IsAtEnd}
 use Rattle.std.proofs.lemmas.List.{append-nil, take_at, length-append}
 use Rattle.std.proofs.Math.Seq.{take-append-add}
-use Rattle.edge_ports.specs.declared.lines.TheConstants.{CONSOLE_BYTES}
-use Rattle.edge_ports.specs.Counts.{Rose}
+use Rattle.edge_ports.specs.Limits.{console_bytes}
+use Rattle.edge_ports.specs.Counts.{CountsFetch}
 use Rattle.edge_ports.specs.Told.{GaveAll, GavePrefix}
 use Rattle.edge_ports.specs.Files.{FileMap, file_at, HoldsFile, LacksFile, HoldsLonger}
 use Rattle.edge_ports.specs.Lines.{lines_of, whole_lines, lines_heard}
@@ -15,7 +15,7 @@ use Rattle.edge_ports.proofs.ToldLemmas.{gave_prefix_before, gave_prefix_whole}
 use Rattle.edge_ports.proofs.Filling.{told_still}
 use Rattle.edge_ports.proofs.WholeLines.{heard_longer}
 use Rattle.pas_lexer.specs.Lexed.{Lexed}
-use Rattle.debug_cli.specs.Limits.{source_bytes}
+use Rattle.pas_lexer.specs.Limits.{source_bytes}
 use Rattle.debug_cli.specs.declared.dialog.Ending.{Ending}
 use Rattle.debug_cli.specs.declared.dialog.Ending.TheVariants as ending
 use Rattle.debug_cli.specs.declared.status.Status.{Status}
@@ -35,16 +35,14 @@ use Rattle.debug_cli.proofs.Talk.{replies_ended, replies_front, ended_append, no
 -- what a fetch says of the fault that it answers
 pub record Says (fault : FetchFault) (name : List ℕ) (files : Option FileMap) (misses misses' faults faults' overs overs' : ℕ) : Type 0 where
   pub absent : fault ≡ fetch.Absent → LacksFile files name
-  pub missed : fault ≡ fetch.Absent → Rose misses misses'
-  pub failed : fault ≡ fetch.Failed → Rose faults faults'
+  pub counts : CountsFetch (Err fault) faults faults' misses misses' overs overs'
   pub longer : (bound : ℕ) → fault ≡ fetch.TooLong bound → HoldsLonger files name source_bytes
-  pub over : (bound : ℕ) → fault ≡ fetch.TooLong bound → Rose overs overs'
 
 module _ (name : List ℕ) (files : Option FileMap) (misses misses' faults faults' overs overs' : ℕ) where
   pub fault_of : (fault : FetchFault) → Says fault name files misses misses' faults faults' overs overs' → (fault ≡ fetch.Memory → ⊥) → FileFault fault name files misses misses' faults faults' overs overs'
-  fault_of fetch.Absent says other = (says.missed refl, says.absent refl)
-  fault_of fetch.Failed says other = says.failed refl
-  fault_of (fetch.TooLong bound) says other = (says.over bound refl, says.longer bound refl)
+  fault_of fetch.Absent says other = (says.counts.1, says.absent refl)
+  fault_of fetch.Failed says other = says.counts.0
+  fault_of (fetch.TooLong bound) says other = (says.counts.2, says.longer bound refl)
   fault_of fetch.Memory says other = absurd (other refl)
 
   module _ (left left' given given' : Option (List ℕ)) where
@@ -193,16 +191,16 @@ module _ (name : List ℕ) (files : Option FileMap) (misses misses' faults fault
 
         -- ---- which status comes
 
-        not_spent : (a : Session name files left left') → EndedBy ending.Spent a.heard → (length more < CONSOLE_BYTES) ⊎ IsTrue (ends_among (whole_lines (take CONSOLE_BYTES more))) → ⊥
+        not_spent : (a : Session name files left left') → EndedBy ending.Spent a.heard → (length more < console_bytes) ⊎ IsTrue (ends_among (whole_lines (take console_bytes more))) → ⊥
         not_spent a w (inl less) = let k = front a.heard a.is_heard in omega (arith, ap length k.2, length-append a.heard.bytes k.0, w.2)
         not_spent a w (inr quit) =
             let k = front a.heard a.is_heard in
-            let same : take CONSOLE_BYTES more ≡ a.heard.bytes = ap (take CONSOLE_BYTES) k.2 ∙ take_at a.heard.bytes k.0 CONSOLE_BYTES w.2 in
-            let lines : lines_in a.heard ≡ whole_lines (take CONSOLE_BYTES more) = ap (λ (b : Bool). lines_heard b a.heard.bytes) w.0 ∙ sym (ap whole_lines same) in
+            let same : take console_bytes more ≡ a.heard.bytes = ap (take console_bytes) k.2 ∙ take_at a.heard.bytes k.0 console_bytes w.2 in
+            let lines : lines_in a.heard ≡ whole_lines (take console_bytes more) = ap (λ (b : Bool). lines_heard b a.heard.bytes) w.0 ∙ sym (ap whole_lines same) in
             let both : true ≡ false = sym quit ∙ ap ends_among (sym lines) ∙ w.1 in
             let x : ⊥ = cc in x
 
-        not_done : (a : Session name files left left') → EndedBy ending.Done a.heard → CONSOLE_BYTES ≤ length more → ends_among (whole_lines (take CONSOLE_BYTES more)) ≡ false → ⊥
+        not_done : (a : Session name files left left') → EndedBy ending.Done a.heard → console_bytes ≤ length more → ends_among (whole_lines (take console_bytes more)) ≡ false → ⊥
         not_done a w long on = by w a.heard.ended refl
           where
             ended_not : IsTrue a.heard.ended → ⊥
@@ -213,14 +211,14 @@ module _ (name : List ℕ) (files : Option FileMap) (misses misses' faults fault
             by (inr quit) true e = ended_not e
             by (inr quit) false e =
                 let k = front a.heard a.is_heard in
-                let n : ℕ = CONSOLE_BYTES - length a.heard.bytes in
-                let reach : take CONSOLE_BYTES more ≡ a.heard.bytes ++ take n k.0 = ap (take CONSOLE_BYTES) k.2 ∙ ap (λ (m : ℕ). take m (a.heard.bytes ++ k.0)) (let e : CONSOLE_BYTES ≡ length a.heard.bytes + n = omega (arith, a.is_heard.within) in e) ∙ take-append-add a.heard.bytes k.0 n in
+                let n : ℕ = console_bytes - length a.heard.bytes in
+                let reach : take console_bytes more ≡ a.heard.bytes ++ take n k.0 = ap (take console_bytes) k.2 ∙ ap (λ (m : ℕ). take m (a.heard.bytes ++ k.0)) (let e : console_bytes ≡ length a.heard.bytes + n = omega (arith, a.is_heard.within) in e) ∙ take-append-add a.heard.bytes k.0 n in
                 let l = heard_longer false a.heard.bytes (take n k.0) in
                 let quit' : ends_among (whole_lines a.heard.bytes) ≡ true = ap (λ (b : Bool). ends_among (lines_heard b a.heard.bytes)) (sym e) ∙ quit in
                 let both : true ≡ false = sym (ended_append (whole_lines a.heard.bytes) l.0 quit') ∙ ap ends_among (sym l.1) ∙ ap (λ (bytes : List ℕ). ends_among (whole_lines bytes)) (sym reach) ∙ on in
                 let x : ⊥ = cc in x
 
-        pub done_or_memory : (result : Status) → Here result → (length more < CONSOLE_BYTES) ⊎ IsTrue (ends_among (whole_lines (take CONSOLE_BYTES more))) → (result ≡ status.Console → ⊥) → (result ≡ status.Screen → ⊥)
+        pub done_or_memory : (result : Status) → Here result → (length more < console_bytes) ⊎ IsTrue (ends_among (whole_lines (take console_bytes more))) → (result ≡ status.Console → ⊥) → (result ≡ status.Screen → ⊥)
             → (result ≡ status.Done) ⊎ (result ≡ status.Memory)
         done_or_memory status.Done h ends console screen = inl refl
         done_or_memory status.Words h ends console screen = absurd h
@@ -231,7 +229,7 @@ module _ (name : List ℕ) (files : Option FileMap) (misses misses' faults fault
         done_or_memory status.Memory h ends console screen = inr refl
         done_or_memory status.Spent (a, g, w) ends console screen = absurd (not_spent a w ends)
 
-        pub spent_or_memory : (result : Status) → Here result → CONSOLE_BYTES ≤ length more → ends_among (whole_lines (take CONSOLE_BYTES more)) ≡ false → (result ≡ status.Console → ⊥) → (result ≡ status.Screen → ⊥)
+        pub spent_or_memory : (result : Status) → Here result → console_bytes ≤ length more → ends_among (whole_lines (take console_bytes more)) ≡ false → (result ≡ status.Console → ⊥) → (result ≡ status.Screen → ⊥)
             → (result ≡ status.Spent) ⊎ (result ≡ status.Memory)
         spent_or_memory status.Done (a, g, w) long on console screen = absurd (not_done a w long on)
         spent_or_memory status.Words h long on console screen = absurd h

@@ -9,7 +9,7 @@ use Rattle.pas_lexer.specs.Division.{IsLexed}
 use Rattle.core_program.specs.Tables.{Tables}
 use Rattle.debug_cli.specs.declared.run.SourceFault.{SourceFault}
 use Rattle.debug_cli.specs.declared.run.SourceFault.TheVariants.{Refused, Memory}
-use Rattle.debug_cli.specs.declared.run.TheConstants.{BUDGET}
+use Rattle.debug_cli.specs.Limits.{default_budget}
 use Rattle.small_program.specs.Small.{Piece, pieces, Small, IsSmall, program_of}
 use Rattle.small_program.specs.Reading.{Read}
 use Rattle.small_program.proofs.Whole.{small_whole}
@@ -70,20 +70,20 @@ module _ (source : List ℕ) (tokens : Lexed) (kept : tokens.source ≡ source) 
 
   -- ---- a program
 
-  pub run_only : (program : Tables) (r : History) → ((s : Small) → IsSmall (pieces tokens) s → program ≡ program_of s) → r ≡ record { tokens = tokens; program = program; calls = calls_within program BUDGET }
+  pub run_only : (program : Tables) (r : History) → ((s : Small) → IsSmall (pieces tokens) s → program ≡ program_of s) → r ≡ record { tokens = tokens; program = program; calls = calls_within program default_budget }
       → (t : Lexed) (s : Small) → IsProgram source t s → r ≡ history_of t s
   run_only program r h is t s p =
       let same : tokens ≡ t = sym (same_tokens source tokens t s kept p (one t.tokens p.lexed)) in
       let q : program ≡ program_of s = h s (small_of source tokens t s kept p (one t.tokens p.lexed)) in
-      is ∙ (λ i. record { tokens = same i; program = q i; calls = calls_within (q i) BUDGET })
+      is ∙ (λ i. record { tokens = same i; program = q i; calls = calls_within (q i) default_budget })
 
-  pub run_found : (program : Tables) (r : History) → IsLexed source tokens.tokens → ((s : Small) × IsSmall (pieces tokens) s × (program ≡ program_of s)) → r ≡ record { tokens = tokens; program = program; calls = calls_within program BUDGET }
+  pub run_found : (program : Tables) (r : History) → IsLexed source tokens.tokens → ((s : Small) × IsSmall (pieces tokens) s × (program ≡ program_of s)) → r ≡ record { tokens = tokens; program = program; calls = calls_within program default_budget }
       → (t : Lexed) × (s : Small) × IsProgram source t s × (r ≡ history_of t s)
   run_found program r lexed p is = (
     tokens,
     p.0,
     record { kept = kept; lexed = lexed; small = p.1 },
-    is ∙ (λ i. record { tokens = tokens; program = p.2 i; calls = calls_within (p.2 i) BUDGET }),
+    is ∙ (λ i. record { tokens = tokens; program = p.2 i; calls = calls_within (p.2 i) default_budget }),
   )
 
 -- ---- one program of a source
@@ -98,4 +98,4 @@ pub one_run : (source : List ℕ) (t t' : Lexed) (s s' : Small) → IsProgram so
 one_run source t t' s s' p q e =
     let same : t' ≡ t = same_tokens source t t' s' p.kept q e in
     let program : program_of s ≡ program_of s' = same_program (pieces t) s s' p.small (small_of source t t' s' p.kept q e) in
-    λ i. record { tokens = sym same i; program = program i; calls = calls_within (program i) BUDGET }
+    λ i. record { tokens = sym same i; program = program i; calls = calls_within (program i) default_budget }

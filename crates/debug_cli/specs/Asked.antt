@@ -1,16 +1,16 @@
 -- What the command gives to the screen, by how it ends.
-use Rattle.std.specs.Prelude.{◌≡◌, ◌⊎◌, ◌≤◌, ℕ, List, [], ◌∷◌, ◌++◌, Option, Some, None, length}
+use Rattle.std.specs.Prelude.{◌≡◌, ◌⊎◌, ◌≤◌, ℕ, List, [], ◌∷◌, ◌++◌, Option, Some, None, length, Err}
 use Rattle.std.specs.String.{string_bytes}
 use Rattle.std.specs.declared.alloc.Global.{Global}
 use Rattle.std.specs.declared.string.String.{String}
 use Rattle.pas_lexer.specs.Lexed.{Lexed}
 use Rattle.edge_ports.specs.Lines.{lines_of}
 use Rattle.edge_ports.specs.Files.{FileMap, file_at, HoldsFile, LacksFile, HoldsLonger}
-use Rattle.edge_ports.specs.Counts.{Rose}
+use Rattle.edge_ports.specs.Counts.{Rose, CountsStay, CountsFetch}
 use Rattle.edge_ports.specs.Told.{GaveAll, GavePrefix}
 use Rattle.edge_ports.specs.declared.ports.FetchFault.{FetchFault}
 use Rattle.edge_ports.specs.declared.ports.FetchFault.TheVariants as fetch
-use Rattle.debug_cli.specs.Limits.{source_bytes}
+use Rattle.pas_lexer.specs.Limits.{source_bytes}
 use Rattle.debug_cli.specs.declared.dialog.Ending.{Ending}
 use Rattle.debug_cli.specs.declared.dialog.Ending.TheVariants as ending
 use Rattle.debug_cli.specs.declared.refusal.Reason.{Reason}
@@ -82,6 +82,12 @@ FileFault fetch.Absent name files misses misses' faults faults' overs overs' = R
 FileFault fetch.Failed name files misses misses' faults faults' overs overs' = Rose faults faults'
 FileFault (fetch.TooLong limit) name files misses misses' faults faults' overs overs' = Rose overs overs' × HoldsLonger files name source_bytes
 FileFault fetch.Memory name files misses misses' faults faults' overs overs' = ⊥
+
+-- the keeper's counts behind the command, which fetches one file at most: they stay, or the one rises that says why it was not fetched
+abbrev pub CountsOneFetch : (faults faults' misses misses' overs overs' : ℕ) → Type 0
+CountsOneFetch faults faults' misses misses' overs overs' =
+    CountsStay faults faults' misses misses' overs overs'
+    ⊎ ((fault : FetchFault) × CountsFetch (Err fault) faults faults' misses misses' overs overs')
 
 -- ---- how the command goes
 

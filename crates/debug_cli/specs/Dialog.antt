@@ -1,7 +1,7 @@
 -- The dialog: what each line of the console is replied, up to `quit`.
 use Rattle.std.specs.Prelude.{ℕ, Bool, true, false, nat_lt, if◌then◌else◌, length, List, [], ◌∷◌, ◌++◌, codes, decimal}
 use Rattle.std.specs.List.{list_any}
-use Rattle.edge_ports.specs.declared.lines.TheConstants.{LINE_BYTES}
+use Rattle.edge_ports.specs.Limits.{line_bytes}
 use Rattle.plain_search.specs.declared.entries.Entry.{Entry}
 use Rattle.plain_search.specs.declared.entries.Judgement.{Judgement}
 use Rattle.plain_search.specs.declared.entries.Judgement.TheVariants as judgement
@@ -69,7 +69,7 @@ is_quit _ = false
 -- ---- a line
 
 abbrev pub is_too_long : List ℕ → Bool
-is_too_long line = nat_lt LINE_BYTES (length line)
+is_too_long line = nat_lt line_bytes (length line)
 
 -- the session ends here
 abbrev pub ends_session : List ℕ → Bool

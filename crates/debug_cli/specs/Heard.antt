@@ -1,7 +1,7 @@
 -- What is heard of a console, and what a dialog gives by how it ends.
 use Rattle.std.specs.Prelude.{◌≡◌, ◌⊎◌, ◌<◌, ◌≤◌, ℕ, Bool, false, IsTrue, List, Option, length}
 use Rattle.std.specs.Io.KnownBytes.{IsAtEnd}
-use Rattle.edge_ports.specs.declared.lines.TheConstants.{CONSOLE_BYTES}
+use Rattle.edge_ports.specs.Limits.{console_bytes}
 use Rattle.edge_ports.specs.Lines.{lines_heard}
 use Rattle.edge_ports.specs.Told.{TookAll, GaveAll, GavePrefix}
 use Rattle.debug_cli.specs.declared.dialog.Ending.{Ending}
@@ -19,19 +19,19 @@ pub record Heard : Type 0 where
 abbrev pub lines_in : Heard → List (List ℕ)
 lines_in x = lines_heard x.ended x.bytes
 
--- These bytes were taken, at most CONSOLE_BYTES; fewer where the end was seen, and then none is left.
+-- These bytes were taken, at most console_bytes; fewer where the end was seen, and then none is left.
 pub record IsHeard (left left' : Option (List ℕ)) (x : Heard) : Type 0 where
   pub took : TookAll left left' x.bytes
-  pub within : length x.bytes ≤ CONSOLE_BYTES
-  pub room : IsTrue x.ended → length x.bytes < CONSOLE_BYTES
+  pub within : length x.bytes ≤ console_bytes
+  pub room : IsTrue x.ended → length x.bytes < console_bytes
   pub at_end : IsTrue x.ended → IsAtEnd left'
 
--- why a dialog ended: at the console's end or a line that ends it; or at no such line, with all CONSOLE_BYTES taken where it
+-- why a dialog ended: at the console's end or a line that ends it; or at no such line, with all console_bytes taken where it
 -- was spent, and fewer where the console failed
 abbrev pub EndedBy : Ending → Heard → Type 0
 EndedBy ending.Done x = IsTrue x.ended ⊎ IsTrue (ends_among (lines_in x))
-EndedBy ending.Console x = (x.ended ≡ false) × (ends_among (lines_in x) ≡ false) × (length x.bytes < CONSOLE_BYTES)
-EndedBy ending.Spent x = (x.ended ≡ false) × (ends_among (lines_in x) ≡ false) × (length x.bytes ≡ CONSOLE_BYTES)
+EndedBy ending.Console x = (x.ended ≡ false) × (ends_among (lines_in x) ≡ false) × (length x.bytes < console_bytes)
+EndedBy ending.Spent x = (x.ended ≡ false) × (ends_among (lines_in x) ≡ false) × (length x.bytes ≡ console_bytes)
 EndedBy ending.Screen x = Unit {0}
 EndedBy ending.Memory x = Unit {0}
 

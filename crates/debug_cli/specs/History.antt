@@ -9,7 +9,7 @@ use Rattle.core_program.specs.Run.{run}
 use Rattle.core_program.specs.Numbering.{numbered, calls_of}
 use Rattle.plain_search.specs.Numbering.{AreIntervals}
 use Rattle.debug_cli.specs.declared.run.Run.{Run}
-use Rattle.debug_cli.specs.declared.run.TheConstants.{BUDGET}
+use Rattle.debug_cli.specs.Limits.{default_budget}
 use Rattle.small_program.specs.Small.{Small, program_of}
 
 -- the tokens of a source, the program that they are, and the calls of its run in order of entry
@@ -24,7 +24,7 @@ calls_within p budget = numbered (calls_of (run p budget))
 
 -- the run of a small program
 abbrev pub history_of : Lexed → Small → History
-history_of t s = record { tokens = t; program = program_of s; calls = calls_within (program_of s) BUDGET }
+history_of t s = record { tokens = t; program = program_of s; calls = calls_within (program_of s) default_budget }
 
 -- the text of a token, and nothing where there is none
 abbrev pub text_at : List ℕ → Option Token → List ℕ

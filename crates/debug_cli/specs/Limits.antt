@@ -1,9 +1,9 @@
 -- The largest sizes.
 use Rattle.std.specs.Prelude.{ℕ}
 
--- the most bytes of a source
-abbrev pub source_bytes : ℕ
-source_bytes = 1048576
+-- the steps that a run may take
+abbrev pub default_budget : ℕ
+default_budget = 1000000
 
 -- the most entries of a session
 abbrev pub book_entries : ℕ

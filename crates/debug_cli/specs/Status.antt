@@ -13,6 +13,13 @@ code_of Screen = 6
 code_of Memory = 7
 code_of Spent = 9
 
+-- a source was fetched, or none was asked for: no file's fault, no failing screen and no want of memory ended the command
+abbrev pub is_after_fetch : Status → Bool
+is_after_fetch File = false
+is_after_fetch Screen = false
+is_after_fetch Memory = false
+is_after_fetch _ = true
+
 -- the screen failed
 abbrev pub is_screen : Status → Bool
 is_screen Screen = true

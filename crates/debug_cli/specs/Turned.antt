@@ -1,6 +1,6 @@
 -- What the code of the dialog does with one line.
 use Rattle.std.specs.Prelude.{◌≡◌, ◌⊎◌, ◌<◌, ℕ, Bool, true, false, IsTrue, List, [], ◌∷◌, ◌++◌, Option, Result, Ok, Err, length}
-use Rattle.edge_ports.specs.declared.lines.TheConstants.{CONSOLE_BYTES}
+use Rattle.edge_ports.specs.Limits.{console_bytes}
 use Rattle.edge_ports.specs.Lines.{LinesState, lines_heard, handed_lines}
 use Rattle.edge_ports.specs.Told.{GaveAll, GavePrefix}
 use Rattle.plain_search.specs.declared.entries.Entry.{Entry}
@@ -54,8 +54,8 @@ HandsNone old new = (handed_lines new ≡ handed_lines old) × (lines_heard new.
 abbrev pub NextReply : History → List Entry → LinesState → Result (List ℕ) Ending → List Entry → LinesState → Type 0
 NextReply h entries old (Ok reply) entries' new = (line : List ℕ) × Hands old new line × (ends_session line ≡ false) × (reply ≡ reply_to h entries line) × (entries' ≡ entries_behind h entries line)
 NextReply h entries old (Err ending.Done) entries' new = ((line : List ℕ) × Hands old new line × (ends_session line ≡ true)) ⊎ (IsTrue new.ended × HandsNone old new)
-NextReply h entries old (Err ending.Console) entries' new = (new.ended ≡ false) × HandsNone old new × (length new.taken < CONSOLE_BYTES)
-NextReply h entries old (Err ending.Spent) entries' new = (new.ended ≡ false) × HandsNone old new × (length new.taken ≡ CONSOLE_BYTES)
+NextReply h entries old (Err ending.Console) entries' new = (new.ended ≡ false) × HandsNone old new × (length new.taken < console_bytes)
+NextReply h entries old (Err ending.Spent) entries' new = (new.ended ≡ false) × HandsNone old new × (length new.taken ≡ console_bytes)
 NextReply h entries old (Err ending.Memory) entries' new = (more : List (List ℕ)) × (handed_lines new ≡ handed_lines old ++ more)
 NextReply h entries old (Err ending.Screen) entries' new = ⊥
 

@@ -1,24 +1,24 @@
 //! The command: from its words to its exit status.
-ghost use Rattle.std.specs.Prelude.{◌≡◌, ◌⊎◌, ◌<◌, ◌≤◌, ℕ, List, Some, None, Err, false, IsTrue, take, length, IfOk, alloc_error};
+ghost use Rattle.std.specs.Prelude.{◌≡◌, ◌⊎◌, ◌<◌, ◌≤◌, ℕ, List, Some, None, Err, true, false, IsTrue, take, length, IfOk, alloc_error};
 ghost use Rattle.std.specs.Option.{option_map};
-ghost use Rattle.edge_ports.specs.Counts.{Rose, Counted};
-ghost use Rattle.edge_ports.specs.Told.{GaveAll, GavePrefix};
+ghost use Rattle.edge_ports.specs.Counts.{Rose, Counted, CountsStay};
+ghost use Rattle.edge_ports.specs.Told.{GaveAll, GavePrefix, FailedLast};
 ghost use Rattle.edge_ports.specs.Lines.{whole_lines};
-ghost use Rattle.edge_ports.specs.declared.lines.TheConstants.{CONSOLE_BYTES};
+ghost use Rattle.edge_ports.specs.Limits.{console_bytes};
 ghost use Rattle.pas_lexer.specs.Lexed.{Lexed};
 ghost use Rattle.small_program.specs.Small.{Small};
 ghost use Rattle.debug_cli.specs.Program.{IsProgram, NoProgram};
 ghost use Rattle.debug_cli.specs.Texts.{usage_line, file_line, refused_line};
 ghost use Rattle.debug_cli.specs.History.{history_of};
 ghost use Rattle.debug_cli.specs.Laws.{AsksTheBest, FindsTheFault, OneRun};
-ghost use Rattle.debug_cli.specs.Limits.{source_bytes};
+ghost use Rattle.pas_lexer.specs.Limits.{source_bytes};
 ghost use Rattle.debug_cli.specs.declared.status.Status.{Status};
 ghost use Rattle.debug_cli.specs.declared.refusal.Reason.{Reason};
 ghost use Rattle.debug_cli.specs.declared.dialog.Ending.TheVariants as ending;
-ghost use Rattle.debug_cli.specs.Status.{code_of, is_console, is_screen};
+ghost use Rattle.debug_cli.specs.Status.{code_of, is_after_fetch, is_console, is_screen};
 ghost use Rattle.debug_cli.specs.Dialog.{ends_among};
 ghost use Rattle.debug_cli.specs.Heard.{EndedBy};
-ghost use Rattle.debug_cli.specs.Asked.{source_of, transcript, said_to, GivesLine, GivesNothing, Session, SourceRefused, FileFault, SourceGoes, Owes, Goes, Finds, StayedBelow};
+ghost use Rattle.debug_cli.specs.Asked.{source_of, transcript, said_to, GivesLine, GivesNothing, Session, SourceRefused, FileFault, SourceGoes, Owes, Goes, Finds, StayedBelow, CountsOneFetch};
 
 use crate::laws::{one_run, search_is_sound};
 use crate::refusal::Reason;
@@ -57,6 +57,7 @@ fn refuse_source<O: Sink>(
         ⊎ GivesNothing result (O.given screen.old) (O.given screen.new) }
     ensures not_console { is_console result ≡ false }
     ensures faults { Counted (is_screen result) (O.faults screen.old) (O.faults screen.new) }
+    ensures last { FailedLast O.given O.faults (is_screen result) screen.old screen.new }
 {
     match refused_text(alloc, why, line, byte) {
         Ok(text) => give_line(screen, text.as_slice(), Status::Source),
@@ -71,10 +72,11 @@ fn ask_source<I: Source, O: Sink>(
     console: &mut I,
     screen: &mut O,
 ) -> Status
-    requires { length source.now ≤ 1048576 }
+    requires { length source.now ≤ source_bytes }
     ensures goes { SourceGoes source.now result (I.left console.old) (I.left console.new) (O.given screen.old) (O.given screen.new) }
     ensures console_faults { Counted (is_console result) (I.faults console.old) (I.faults console.new) }
     ensures screen_faults { Counted (is_screen result) (O.faults screen.old) (O.faults screen.new) }
+    ensures last { FailedLast O.given O.faults (is_screen result) screen.old screen.new }
 {
     match run_source(alloc, source) {
         Ok(run) => status_of(hold_session(alloc, &run, console, screen)),
@@ -104,6 +106,7 @@ fn refuse_file<O: Sink>(alloc: Global, fault: FetchFault, name: &[u8], screen: &
         ⊎ GivesNothing result (O.given screen.old) (O.given screen.new) }
     ensures not_console { is_console result ≡ false }
     ensures faults { Counted (is_screen result) (O.faults screen.old) (O.faults screen.new) }
+    ensures last { FailedLast O.given O.faults (is_screen result) screen.old screen.new }
 {
     match file_text(alloc, fault, name) {
         Ok(text) => give_line(screen, text.as_slice(), Status::File),
@@ -123,6 +126,10 @@ fn ask_file<K: Keeper, I: Source, O: Sink>(
         (K.overs keeper.old) (K.overs keeper.new) (I.left console.old) (I.left console.new) (O.given screen.old) (O.given screen.new) result }
     ensures console_faults { Counted (is_console result) (I.faults console.old) (I.faults console.new) }
     ensures screen_faults { Counted (is_screen result) (O.faults screen.old) (O.faults screen.new) }
+    ensures last { FailedLast O.given O.faults (is_screen result) screen.old screen.new }
+    ensures one_fetch { CountsOneFetch (K.faults keeper.old) (K.faults keeper.new) (K.misses keeper.old) (K.misses keeper.new) (K.overs keeper.old) (K.overs keeper.new) }
+    ensures fetched { IsTrue (is_after_fetch result)
+        → CountsStay (K.faults keeper.old) (K.faults keeper.new) (K.misses keeper.old) (K.misses keeper.new) (K.overs keeper.old) (K.overs keeper.new) }
     ensures files { K.files keeper.new ≡ K.files keeper.old }
 {
     match keeper.fetch(alloc, name, SOURCE_BYTES) {
@@ -160,12 +167,12 @@ pub fn ask_pascal<K: Keeper, I: Source, O: Sink>(
     // bytes, and 9 or 7 where it does not.
     ensures complete { (name source : List ℕ) (t : Lexed) (s : Small) (more : List ℕ) → source_of words.now ≡ Some name
         → Finds (K.files keeper.old) name source → length source ≤ source_bytes → IsProgram source t s → I.left console.old ≡ Some more
-        → (length more < CONSOLE_BYTES) ⊎ IsTrue (ends_among (whole_lines (take CONSOLE_BYTES more)))
+        → (length more < console_bytes) ⊎ IsTrue (ends_among (whole_lines (take console_bytes more)))
         → StayedBelow (K.faults keeper.old) (K.faults keeper.new) → StayedBelow (I.faults console.old) (I.faults console.new)
         → StayedBelow (O.faults screen.old) (O.faults screen.new) → (result ≡ 0) ⊎ (result ≡ 7) }
     ensures limit { (name source : List ℕ) (t : Lexed) (s : Small) (more : List ℕ) → source_of words.now ≡ Some name
         → Finds (K.files keeper.old) name source → length source ≤ source_bytes → IsProgram source t s → I.left console.old ≡ Some more
-        → CONSOLE_BYTES ≤ length more → ends_among (whole_lines (take CONSOLE_BYTES more)) ≡ false
+        → console_bytes ≤ length more → ends_among (whole_lines (take console_bytes more)) ≡ false
         → StayedBelow (K.faults keeper.old) (K.faults keeper.new) → StayedBelow (I.faults console.old) (I.faults console.new)
         → StayedBelow (O.faults screen.old) (O.faults screen.new) → (result ≡ 9) ⊎ (result ≡ 7) }
     // A source is one program at most, and has one run.
@@ -219,8 +226,16 @@ pub fn ask_pascal<K: Keeper, I: Source, O: Sink>(
     // A console or a screen that fails ends the call with its status.
     ensures failing_console { I.faults console.old < I.faults console.new → result ≡ 5 }
     ensures failing_screen { O.faults screen.old < O.faults screen.new → result ≡ 6 }
-    // The keeper's files stay.
+    // No call of the screen comes behind one that failed.
+    ensures last { result ≡ 6 → FailedLast O.given O.faults true screen.old screen.new }
+    // The keeper's files stay. Its counts stay too, but for the one that says why the source was not fetched.
     ensures files { K.files keeper.new ≡ K.files keeper.old }
+    ensures one_fetch { CountsOneFetch (K.faults keeper.old) (K.faults keeper.new) (K.misses keeper.old) (K.misses keeper.new)
+        (K.overs keeper.old) (K.overs keeper.new) }
+    ensures fetched { (result ≡ 4 → ⊥) → (result ≡ 6 → ⊥) → (result ≡ 7 → ⊥)
+        → CountsStay (K.faults keeper.old) (K.faults keeper.new) (K.misses keeper.old) (K.misses keeper.new) (K.overs keeper.old) (K.overs keeper.new) }
+    ensures no_fetch { source_of words.now ≡ None
+        → CountsStay (K.faults keeper.old) (K.faults keeper.new) (K.misses keeper.old) (K.misses keeper.new) (K.overs keeper.old) (K.overs keeper.new) }
 {
     search_is_sound();
     one_run();

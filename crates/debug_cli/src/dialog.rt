@@ -2,9 +2,9 @@
 ghost use Rattle.std.specs.Prelude.{◌≡◌, ◌<◌, ◌≤◌, [], false, IsTrue, length, IfErr, OnOk, OnErr};
 ghost use Rattle.std.specs.Io.KnownBytes.{IsAtEnd};
 ghost use Rattle.edge_ports.specs.Counts.{Counted};
-ghost use Rattle.edge_ports.specs.Told.{GaveAll, GavePrefix};
+ghost use Rattle.edge_ports.specs.Told.{GaveAll, GavePrefix, FailedLast};
 ghost use Rattle.edge_ports.specs.Lines.{Moves};
-ghost use Rattle.edge_ports.specs.declared.lines.TheConstants.{LINE_BYTES};
+ghost use Rattle.edge_ports.specs.Limits.{line_bytes};
 ghost use Rattle.edge_ports.specs.Turns.{IsConsistent};
 ghost use Rattle.debug_cli.specs.History.{history, IsReady};
 ghost use Rattle.debug_cli.specs.Status.{is_console, is_screen};
@@ -60,7 +60,7 @@ impl<T: Drop> From<AllocFailed<T>> for Ending {
 /// The reply to a line of the console. `Done` says that it ends the session.
 fn answer(alloc: Global, run: &Run, entries: &mut Vec<Entry>, line: &[u8]) -> Result<Bytes, Ending>
     requires ready { IsReady run.now }
-    requires short { length line.now ≤ LINE_BYTES }
+    requires short { length line.now ≤ line_bytes }
     ensures { Answers (history run.now) entries.old.items line.now result entries.new.items }
 {
     match command_in(line) {
@@ -104,6 +104,7 @@ fn give_reply<O: Sink>(screen: &mut O, reply: &[u8]) -> Result<(), Ending>
     ensures failed { OnErr result (GavePrefix (O.given screen.old) (O.given screen.new) reply.now) }
     ensures ending { IfErr result (λ e. e ≡ Ending.Screen) }
     ensures faults { Counted (screen_failed result) (O.faults screen.old) (O.faults screen.new) }
+    ensures last { FailedLast O.given O.faults (screen_failed result) screen.old screen.new }
 {
     match write_all(screen, reply) {
         Ok(()) => Ok(()),
@@ -126,6 +127,7 @@ fn turn<I: Source, O: Sink>(
     ensures at_end { (IsTrue lines.old.ended → IsAtEnd (I.left console.old)) → IsTrue lines.new.ended → IsAtEnd (I.left console.new) }
     ensures console_faults { Counted (console_failed result) (I.faults console.old) (I.faults console.new) }
     ensures screen_faults { Counted (screen_failed result) (O.faults screen.old) (O.faults screen.new) }
+    ensures last { FailedLast O.given O.faults (screen_failed result) screen.old screen.new }
     ensures consistent { IsConsistent lines.new }
     ensures handed { OnOk result (lines.old.handed < lines.new.handed) }
 {
@@ -154,6 +156,8 @@ pub fn converse<I: Source, O: Sink>(
     // A count rises where its object failed, and there alone.
     ensures console_faults { Counted (is_console (session_status result)) (I.faults console.old) (I.faults console.new) }
     ensures screen_faults { Counted (is_screen (session_status result)) (O.faults screen.old) (O.faults screen.new) }
+    // No call of the screen comes behind one that failed.
+    ensures last { FailedLast O.given O.faults (is_screen (session_status result)) screen.old screen.new }
 {
     'lines: loop {
         match turn(alloc, run, entries, lines, console, screen) {

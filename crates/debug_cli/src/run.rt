@@ -2,6 +2,7 @@
 ghost use Rattle.std.specs.Prelude.{◌≡◌, ◌<◌, ◌≤◌, ◌^◌, ℕ, List, Some, IfOk, IfErr, OnOk, length, slice_get};
 ghost use Rattle.core_program.specs.declared.calls.CallRow.{CallRow};
 ghost use Rattle.pas_lexer.specs.declared.kinds.Token.{Token};
+ghost use Rattle.pas_lexer.specs.Limits.{source_bytes};
 ghost use Rattle.pas_lexer.specs.Lexed.{Lexed, EndsOnce};
 ghost use Rattle.pas_lexer.specs.Division.{line_at, IsLexed, IsFault};
 ghost use Rattle.pas_parser.specs.Formed.{IsText};
@@ -9,6 +10,7 @@ ghost use Rattle.debug_cli.specs.declared.run.SourceFault.TheVariants.{Refused, 
 ghost use Rattle.small_program.specs.Small.{Small, IsSmall, pieces, program_of};
 ghost use Rattle.debug_cli.specs.Program.{IsProgram, Keeps, IsRefused, IsMisfit, IsUnlexed, IsUnparsed, IsUnread, StandsAt, TokensAre, ProgramIs};
 ghost use Rattle.debug_cli.specs.History.{history, history_of, calls_within, lasts_of, IsReady};
+ghost use Rattle.debug_cli.specs.Limits.{default_budget};
 
 use crate::refusal::Reason;
 use core_program::{Calls, Program, numbers_tell_the_tree, run_calls};
@@ -74,7 +76,7 @@ fn refused_token(tokens: &Tokens, why: Reason, number: u32) -> SourceFault
 
 /// The refusal of a source at a piece that does not fit.
 fn refused_at(source: &[u8], why: Reason, byte: u32) -> SourceFault
-    requires { length source.now ≤ 1048576 }
+    requires { length source.now ≤ source_bytes }
     ensures { result ≡ Refused why (line_at source.now byte) byte }
 {
     SourceFault::Refused {
@@ -86,7 +88,7 @@ fn refused_at(source: &[u8], why: Reason, byte: u32) -> SourceFault
 
 /// The refusal for what the lexer says of a source.
 fn misfit(source: &[u8], fault: LexFault) -> SourceFault
-    requires short { length source.now ≤ 1048576 }
+    requires short { length source.now ≤ source_bytes }
     requires fault { IsFault source.now fault }
     ensures misfit { IsMisfit source.now result }
     ensures memory { fault ≡ LexFault.Memory → result ≡ Memory }
@@ -105,7 +107,7 @@ fn misfit(source: &[u8], fault: LexFault) -> SourceFault
 
 /// The tokens of a source.
 fn read_tokens(alloc: Global, source: &[u8]) -> Result<Tokens, SourceFault>
-    requires { length source.now ≤ 1048576 }
+    requires { length source.now ≤ source_bytes }
     ensures found { IfOk result (λ t. (t.source ≡ source.now) × IsLexed source.now t.tokens) }
     ensures only { (tokens : List Token) → IsLexed source.now tokens → TokensAre tokens result }
     ensures fault { IfErr result (IsUnlexed source.now) }
@@ -180,7 +182,7 @@ fn last_calls(alloc: Global, calls: &Calls) -> Result<Vec<u32>, AllocError>
 
 /// The run of a program, whose tokens these are.
 fn run_tokens(alloc: Global, tokens: Tokens, program: Program) -> Result<Run, AllocError>
-    ensures kept { IfOk result (λ run. history run ≡ record { tokens = tokens; program = program; calls = calls_within program BUDGET }) }
+    ensures kept { IfOk result (λ run. history run ≡ record { tokens = tokens; program = program; calls = calls_within program default_budget }) }
     ensures ready { IfOk result IsReady }
 {
     numbers_tell_the_tree();
@@ -196,7 +198,7 @@ fn run_tokens(alloc: Global, tokens: Tokens, program: Program) -> Result<Run, Al
 
 /// The run of a source. It takes memory; a source of another language is refused.
 pub fn run_source(alloc: Global, source: &[u8]) -> Result<Run, SourceFault>
-    requires { length source.now ≤ 1048576 }
+    requires { length source.now ≤ source_bytes }
     // Each program that the source is has this run.
     ensures only { (t : Lexed) (s : Small) → IsProgram source.now t s → Keeps (history_of t s) result }
     // A refused source is no program, and it is told why and where: at the first piece that does not fit, or

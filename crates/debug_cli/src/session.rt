@@ -1,6 +1,7 @@
 //! A session on the console: what it opens with, and the dialog.
 ghost use Rattle.std.specs.Prelude.{◌≡◌, false, IfOk};
 ghost use Rattle.edge_ports.specs.Counts.{Counted};
+ghost use Rattle.edge_ports.specs.Told.{FailedLast};
 ghost use Rattle.debug_cli.specs.History.{history, IsReady};
 ghost use Rattle.debug_cli.specs.Status.{is_console, is_screen};
 ghost use Rattle.debug_cli.specs.Dialog.{opening};
@@ -22,6 +23,7 @@ pub fn give_line<O: Sink>(screen: &mut O, line: &[u8], status: Status) -> Status
     requires { is_screen status ≡ false }
     ensures gives { GivesLine result status line.now (O.given screen.old) (O.given screen.new) }
     ensures faults { Counted (is_screen result) (O.faults screen.old) (O.faults screen.new) }
+    ensures last { FailedLast O.given O.faults (is_screen result) screen.old screen.new }
 {
     match write_all(screen, line) {
         Ok(()) => status,
@@ -66,6 +68,7 @@ pub fn hold_session<I: Source, O: Sink>(
         × GaveBy result (O.given screen.old) (O.given screen.new) (said (history run.now) (lines_in x)) × EndedBy result x }
     ensures console_faults { Counted (is_console (session_status result)) (I.faults console.old) (I.faults console.new) }
     ensures screen_faults { Counted (is_screen (session_status result)) (O.faults screen.old) (O.faults screen.new) }
+    ensures last { FailedLast O.given O.faults (is_screen (session_status result)) screen.old screen.new }
 {
     let Ok(mut lines) = Lines::new(alloc) else {
         return Ending::Memory;

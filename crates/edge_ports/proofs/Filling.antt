@@ -1,7 +1,7 @@
 -- What `Lines::fill` keeps while it takes from the source.
 use Rattle.std.proofs.Common.{◌≡◌, ℕ, ◌<◌, ◌≤◌, ◌⊎◌, inl, inr, Bool, true, false, IsTrue, List, [], ◌∷◌, ◌++◌, take, drop, length, Option, None, Some, IsSome, is_some, Result, Ok, Err, is_ok, OnOk, refl, ap, sym, subst, ◌∙◌, append_assoc, arith}
 use Rattle.std.specs.Io.KnownBytes.{IsAtEnd}
-use Rattle.edge_ports.specs.declared.lines.TheConstants.{CONSOLE_BYTES}
+use Rattle.edge_ports.specs.Limits.{console_bytes}
 use Rattle.edge_ports.specs.declared.lines.Turn.{Turn}
 use Rattle.edge_ports.specs.declared.lines.LineFault.{LineFault}
 use Rattle.edge_ports.specs.Told.{TookAll}
@@ -35,7 +35,7 @@ moves_more a b c k0 k1 k2 p q = record {
 
 -- where the source is asked, it was not to be left alone
 pub asks_something : (old now : LinesState) → now.taken ≡ old.taken → now.handed ≡ old.handed → now.ended ≡ old.ended
-    → line_end_of (unread now) ≡ None → now.ended ≡ false → (length now.taken ≡ CONSOLE_BYTES → ⊥) → AsksNothing old → ⊥
+    → line_end_of (unread now) ≡ None → now.ended ≡ false → (length now.taken ≡ console_bytes → ⊥) → AsksNothing old → ⊥
 asks_something old now taken handed ended none not_ended room (inl whole) =
     let same : unread now ≡ unread old = ap (λ k. drop k now.taken) handed ∙ ap (drop old.handed) taken in
     let no_line : line_end_of (unread old) ≡ None = ap line_end_of (sym same) ∙ none in
@@ -62,7 +62,7 @@ end_of_either old now new at_end at_end' grows seen not_ended (inr same) ended =
 
 -- one more call of the source
 pub filled_more : {I : Type 0} (left : I → Option (List ℕ)) (faults : I → ℕ) (old now new : LinesState) (source source' source'' : I) (looked count : ℕ)
-    → Filled left faults old now source source' looked → line_end_of (unread now) ≡ None → now.ended ≡ false → (length now.taken ≡ CONSOLE_BYTES → ⊥) → IsConsistent now
+    → Filled left faults old now source source' looked → line_end_of (unread now) ≡ None → now.ended ≡ false → (length now.taken ≡ console_bytes → ⊥) → IsConsistent now
     → Moves now.taken new.taken (left source') (left source'') → new.handed ≡ now.handed → new.line ≡ now.line
     → (IsTrue new.ended × IsAtEnd (left source'')) ⊎ ((length now.taken < length new.taken) × (new.ended ≡ now.ended))
     → faults source'' ≡ faults source' → count ≡ length (unread now)

@@ -1,6 +1,7 @@
 pub mod Counts
 pub mod Told
 pub mod States
+pub mod Limits
 pub mod Lines
 pub mod Turns
 pub mod Files

@@ -1,12 +1,25 @@
--- What std tells of the reader or the writer behind a port.
+-- What stands behind a port, and what std tells of it.
 use Rattle.std.specs.Prelude.{ℕ, List, Option}
 use Rattle.edge_ports.specs.declared.streams.StdSource.{StdSource}
 use Rattle.edge_ports.specs.declared.streams.StdSink.{StdSink}
+use Rattle.edge_ports.specs.declared.disk.FileKeeper.{FileKeeper}
+
+-- the reader behind the port
+abbrev pub reader_of : {R : Type 0} → StdSource R → R
+reader_of source = source.reader
+
+-- the writer behind the port
+abbrev pub writer_of : {W : Type 0} → StdSink W → W
+writer_of sink = sink.writer
+
+-- what opens files for the keeper
+abbrev pub opener_of : {R : Type 0} → FileKeeper R → R
+opener_of keeper = keeper.files
 
 -- the bytes that the reader has left
 abbrev pub reader_left : {R : Type 0} → (R → Option (List ℕ)) → StdSource R → Option (List ℕ)
-reader_left remaining source = remaining source.reader
+reader_left remaining source = remaining (reader_of source)
 
 -- the bytes that the writer holds
 abbrev pub writer_holds : {W : Type 0} → (W → Option (List ℕ)) → StdSink W → Option (List ℕ)
-writer_holds contents sink = contents sink.writer
+writer_holds contents sink = contents (writer_of sink)

@@ -1,6 +1,6 @@
 -- What a call of `Lines::next` does, by what it answers.
 use Rattle.std.specs.Prelude.{◌≡◌, ℕ, ◌<◌, ◌≤◌, ◌⊎◌, List, [], ◌∷◌, ◌++◌, length, Result, Ok, Err, Option, Some, None, nat_le, if◌then◌else◌, IsTrue}
-use Rattle.edge_ports.specs.declared.lines.TheConstants.{CONSOLE_BYTES, LINE_BYTES}
+use Rattle.edge_ports.specs.Limits.{console_bytes, line_bytes}
 use Rattle.edge_ports.specs.declared.lines.Turn.{Turn}
 use Rattle.edge_ports.specs.declared.lines.Turn.TheVariants.{Line, TooLong, End}
 use Rattle.edge_ports.specs.declared.lines.LineFault.{LineFault}
@@ -8,18 +8,18 @@ use Rattle.edge_ports.specs.Lines.{LinesState, unread, HasWholeLine, IsCutAtLine
 
 -- nothing more is asked of the source: a whole line is left in the bytes taken, or the end was seen, or all room is used
 abbrev pub AsksNothing : LinesState → Type 0
-AsksNothing lines = HasWholeLine (unread lines) ⊎ IsTrue lines.ended ⊎ (length lines.taken ≡ CONSOLE_BYTES)
+AsksNothing lines = HasWholeLine (unread lines) ⊎ IsTrue lines.ended ⊎ (length lines.taken ≡ console_bytes)
 
 -- no more was handed out than taken, no more taken than there is room for, and less where the end was seen; what was handed out is cut at lines
 pub record IsConsistent (lines : LinesState) : Type 0 where
   pub handed : lines.handed ≤ length lines.taken
-  pub taken : length lines.taken ≤ CONSOLE_BYTES
-  pub seen : IsTrue lines.ended → length lines.taken < CONSOLE_BYTES
+  pub taken : length lines.taken ≤ console_bytes
+  pub seen : IsTrue lines.ended → length lines.taken < console_bytes
   pub cut : IsCutAtLines lines
 
 -- the line that is shown of the next line: itself, if it is not too long
 abbrev pub shown_line : Option (List ℕ × List ℕ) → List ℕ
-shown_line (Some next) = if nat_le (length next.0) LINE_BYTES then next.0 else []
+shown_line (Some next) = if nat_le (length next.0) line_bytes then next.0 else []
 shown_line None = []
 
 -- more was handed out exactly where a line came, long or not
@@ -31,14 +31,14 @@ HandsOut (Err fault) old new = new ≡ old
 
 -- what the answer says of the console's lines, those before the call and those after it; `line` is the one that is shown
 abbrev pub TurnsTo : Result Turn LineFault → List ℕ → List (List ℕ) → List (List ℕ) → Type 0
-TurnsTo (Ok Line) line old new = (old ≡ line ∷ new) × (length line ≤ LINE_BYTES)
-TurnsTo (Ok TooLong) line old new = (long : List ℕ) × (old ≡ long ∷ new) × (LINE_BYTES < length long)
+TurnsTo (Ok Line) line old new = (old ≡ line ∷ new) × (length line ≤ line_bytes)
+TurnsTo (Ok TooLong) line old new = (long : List ℕ) × (old ≡ long ∷ new) × (line_bytes < length long)
 TurnsTo (Ok End) line old new = (old ≡ []) × (new ≡ [])
 TurnsTo (Err fault) line old new = new ≡ old
 
 -- what the answer says of the lines handed out
 abbrev pub HandedBy : Result Turn LineFault → List ℕ → List (List ℕ) → List (List ℕ) → Type 0
 HandedBy (Ok Line) line old new = new ≡ old ++ line ∷ []
-HandedBy (Ok TooLong) line old new = (long : List ℕ) × (new ≡ old ++ long ∷ []) × (LINE_BYTES < length long)
+HandedBy (Ok TooLong) line old new = (long : List ℕ) × (new ≡ old ++ long ∷ []) × (line_bytes < length long)
 HandedBy (Ok End) line old new = new ≡ old
 HandedBy (Err fault) line old new = new ≡ old

@@ -2,6 +2,7 @@
 ghost use Rattle.std.specs.Prelude.{◌≡◌, ◌<◌, ◌≤◌, ◌+◌, ℕ, List, length, Err, IfOk, IfSome, None};
 ghost use Rattle.std.specs.Io.KnownBytes.{Consumes};
 ghost use Rattle.edge_ports.specs.Counts.{Rose, NotFallen};
+ghost use Rattle.edge_ports.specs.Streams.{opener_of};
 
 use crate::plan::count_on;
 use crate::{Bytes, FetchFault, Keeper};
@@ -22,6 +23,7 @@ pub struct FileKeeper<R> {
 impl<R: Files> FileKeeper<R> {
     /// The files that the runtime opens. Nothing has failed yet.
     pub fn new(files: R) -> FileKeeper<R>
+        ensures kept { opener_of result ≡ files }
         ensures faults { ⟦<FileKeeper<R> as Keeper>⟧.faults result ≡ 0 }
         ensures misses { ⟦<FileKeeper<R> as Keeper>⟧.misses result ≡ 0 }
         ensures overs { ⟦<FileKeeper<R> as Keeper>⟧.overs result ≡ 0 }

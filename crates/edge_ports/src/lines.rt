@@ -31,7 +31,7 @@ pub enum Turn {
 /// Why no line came.
 #[derive(Clone, Copy, Debug, PartialEq, Eq, Drop, Error)]
 pub enum LineFault {
-    /// The source failed. The bytes taken are kept, and the next call goes on with them.
+    /// The source failed. Nothing that was taken is lost: the next call reads on behind it.
     #[error("the console failed")]
     Failed,
     /// [`CONSOLE_BYTES`] bytes were taken, and all whole lines in them handed out.
@@ -52,7 +52,7 @@ pub struct Lines {
 
 impl Model for Lines {
     ghost use Rattle.std.specs.Prelude.{◌≡◌, ◌<◌, ◌≤◌, IsTrue, [], take, drop, length};
-    ghost use Rattle.edge_ports.specs.declared.lines.TheConstants.{CONSOLE_BYTES};
+    ghost use Rattle.edge_ports.specs.Limits.{console_bytes};
     ghost use Rattle.edge_ports.specs.Lines.{LinesState, IsCutAtLines};
 
     ghost Value = { LinesState };
@@ -64,9 +64,9 @@ impl Model for Lines {
       line = drop l.line_start (take l.line_end l.room.items);
     } };
 
-    ghost invariant = { λ l. (length l.room.items ≡ CONSOLE_BYTES) × (l.taken ≤ CONSOLE_BYTES)
+    ghost invariant = { λ l. (length l.room.items ≡ console_bytes) × (l.taken ≤ console_bytes)
         × (l.handed ≤ l.taken) × (l.line_start ≤ l.line_end) × (l.line_end ≤ l.taken)
-        × (IsTrue l.ended → l.taken < CONSOLE_BYTES)
+        × (IsTrue l.ended → l.taken < console_bytes)
         × IsCutAtLines (record { taken = take l.taken l.room.items; handed = l.handed; ended = l.ended; line = [] }) };
 }
 
@@ -151,6 +151,7 @@ impl Lines {
     ghost use Rattle.std.specs.Prelude.{◌≡◌, ◌<◌, ◌≤◌, ◌↔◌, ◌⊎◌, ◌+◌, ℕ, List, [], ◌++◌, Ok, Err, Some, None, Option, length, take, drop, IsTrue, IsOk, OnOk, OnErr, IfOk, IfErr, IsSomeAnd, MatchOption, true, false};
     ghost use Rattle.std.specs.Io.KnownBytes.{IsAtEnd};
     ghost use Rattle.edge_ports.specs.Counts.{Rose, NotFallen};
+    ghost use Rattle.edge_ports.specs.Limits.{console_bytes, line_bytes};
     ghost use Rattle.edge_ports.specs.Lines.{line_end_of, HasWholeLine, next_line, lines_of, Moves, unread, reach, upcoming, handed_lines, whole_lines, IsUsed, StillComes};
     ghost use Rattle.edge_ports.specs.Turns.{AsksNothing, IsConsistent, shown_line, HandsOut, HandedBy, TurnsTo};
 
@@ -172,10 +173,10 @@ impl Lines {
     /// part with no LF is a line, unless it is empty. A line of more than [`LINE_BYTES`] bytes is skipped
     /// whole. It takes no memory.
     ///
-    /// After a fault of the source the bytes taken are kept, and the next call goes on with them. After the
+    /// A fault of the source loses nothing that was taken: the next call reads on behind it. After the
     /// end, and after [`LineFault::Spent`], each further call answers the same.
     pub fn next<I: Source>(&mut self, source: &mut I) -> Result<Turn, LineFault>
-        // What moved. The source is asked only where no whole line is left in the bytes taken.
+        // What moved. As long as a whole line lies in the bytes taken, the source is not asked.
         ensures moved { Moves self.old.taken self.new.taken (I.left source.old) (I.left source.new) }
         ensures consistent { IsConsistent self.new }
         ensures quiet { AsksNothing self.old → (source.new ≡ source.old) × (self.new.taken ≡ self.old.taken)
@@ -183,10 +184,10 @@ impl Lines {
         ensures end_seen { IsTrue self.new.ended → IsTrue self.old.ended ⊎ IsAtEnd (I.left source.new) }
 
         // The answer, by the bytes that were to be handed out.
-        ensures line { (result ≡ Ok Turn.Line) ↔ IsSomeAnd (upcoming self.old self.new) (λ next. length next.0 ≤ LINE_BYTES) }
-        ensures too_long { (result ≡ Ok Turn.TooLong) ↔ IsSomeAnd (upcoming self.old self.new) (λ next. LINE_BYTES < length next.0) }
+        ensures line { (result ≡ Ok Turn.Line) ↔ IsSomeAnd (upcoming self.old self.new) (λ next. length next.0 ≤ line_bytes) }
+        ensures too_long { (result ≡ Ok Turn.TooLong) ↔ IsSomeAnd (upcoming self.old self.new) (λ next. line_bytes < length next.0) }
         ensures end { (result ≡ Ok Turn.End) ↔ (IsTrue self.new.ended × (self.old.handed ≡ length self.new.taken)) }
-        ensures spent { (result ≡ Err LineFault.Spent) ↔ ((length self.new.taken ≡ CONSOLE_BYTES)
+        ensures spent { (result ≡ Err LineFault.Spent) ↔ ((length self.new.taken ≡ console_bytes)
             × (upcoming self.old self.new ≡ None) × (self.new.ended ≡ false)) }
         ensures failed { result ≡ Err LineFault.Failed → (upcoming self.old self.new ≡ None) × (self.new.ended ≡ false) }
         ensures cause { result ≡ Err LineFault.Failed → Rose (I.faults source.old) (I.faults source.new) }
@@ -195,7 +196,7 @@ impl Lines {
 
         // After the end, and after Spent, the answer stays.
         ensures end_again { IsTrue self.old.ended → self.old.handed ≡ length self.old.taken → result ≡ Ok Turn.End }
-        ensures spent_again { length self.old.taken ≡ CONSOLE_BYTES → self.old.ended ≡ false
+        ensures spent_again { length self.old.taken ≡ console_bytes → self.old.ended ≡ false
             → line_end_of (unread self.old) ≡ None → result ≡ Err LineFault.Spent }
 
         // What is shown, and what is handed out.
@@ -244,7 +245,7 @@ impl Lines {
 
     // Whether all room is used.
     fn is_full(&self) -> bool
-        ensures full { IsTrue result ↔ (length self.now.taken ≡ CONSOLE_BYTES) }
+        ensures full { IsTrue result ↔ (length self.now.taken ≡ console_bytes) }
         ensures consistent { IsConsistent self.now }
     {
         self.taken == CONSOLE_BYTES
@@ -280,7 +281,7 @@ impl Lines {
 
     // Takes more from the source, or sees its end.
     fn take_more<I: Source>(&mut self, source: &mut I) -> Result<(), Failed>
-        requires room { length self.old.taken < CONSOLE_BYTES }
+        requires room { length self.old.taken < console_bytes }
         requires not_ended { self.old.ended ≡ false }
         ensures moved { Moves self.old.taken self.new.taken (I.left source.old) (I.left source.new) }
         ensures handed { self.new.handed ≡ self.old.handed }
@@ -319,9 +320,9 @@ impl Lines {
         ensures place { IfOk result (λ place. place ≡ line_end_of (unread self.new)) }
         ensures none { result ≡ Ok None → IsTrue self.new.ended }
         ensures err { OnErr result ((line_end_of (unread self.new) ≡ None) × (self.new.ended ≡ false)) }
-        ensures spent { result ≡ Err LineFault.Spent → length self.new.taken ≡ CONSOLE_BYTES }
+        ensures spent { result ≡ Err LineFault.Spent → length self.new.taken ≡ console_bytes }
         ensures failed { result ≡ Err LineFault.Failed → Rose (I.faults source.old) (I.faults source.new)
-            × (length self.new.taken < CONSOLE_BYTES) }
+            × (length self.new.taken < console_bytes) }
         ensures calm { (result ≡ Err LineFault.Failed → ⊥) → I.faults source.new ≡ I.faults source.old }
         ensures faults { NotFallen (I.faults source.old) (I.faults source.new) }
     {
@@ -349,8 +350,8 @@ impl Lines {
         ensures taken { self.new.taken ≡ self.old.taken }
         ensures ended { self.new.ended ≡ self.old.ended }
         ensures consistent { IsConsistent self.new }
-        ensures line { (result ≡ Turn.Line) ↔ IsSomeAnd (upcoming self.old self.old) (λ next. length next.0 ≤ LINE_BYTES) }
-        ensures too_long { (result ≡ Turn.TooLong) ↔ IsSomeAnd (upcoming self.old self.old) (λ next. LINE_BYTES < length next.0) }
+        ensures line { (result ≡ Turn.Line) ↔ IsSomeAnd (upcoming self.old self.old) (λ next. length next.0 ≤ line_bytes) }
+        ensures too_long { (result ≡ Turn.TooLong) ↔ IsSomeAnd (upcoming self.old self.old) (λ next. line_bytes < length next.0) }
         ensures end { (result ≡ Turn.End) ↔ (IsTrue self.old.ended × (self.old.handed ≡ length self.old.taken)) }
         ensures shown { self.new.line ≡ shown_line (upcoming self.old self.old) }
         ensures behind { MatchOption (upcoming self.old self.old) (self.new.handed ≡ self.old.handed) (λ next. unread self.new ≡ next.1) }

@@ -1,8 +1,8 @@
 // A keeper in memory.
 ghost use Rattle.std.specs.Prelude.{◌≡◌, ◌<◌, ◌≤◌, ◌↔◌, ℕ, List, length, Option, Some, None, Ok, Err, IfOk, OnOk, OnErr, IsSomeAnd};
 ghost use Rattle.std.specs.Option.{option_map};
-ghost use Rattle.std.specs.FinMap.{insert};
-ghost use Rattle.edge_ports.specs.Counts.{Rose, NotFallen};
+ghost use Rattle.std.specs.FinMap.{empty, insert};
+ghost use Rattle.edge_ports.specs.Counts.{NotFallen, CountsFetch};
 ghost use Rattle.edge_ports.specs.States.{IsListed};
 ghost use Rattle.edge_ports.specs.Files.{file_at, HoldsFile, LacksFile, HoldsLonger};
 ghost use Rattle.edge_ports.specs.Shelves.{empty_shelf, shelf_after};
@@ -46,7 +46,11 @@ impl Model for Shelf {
 impl Shelf {
     /// A shelf with no files. `fails` lists the numbers, from 0, of the calls of `fetch` that are to fail.
     pub fn new(alloc: Global, fails: &[u64]) -> Result<Shelf, Memory>
-        ensures { IfOk result (λ shelf. shelf ≡ empty_shelf fails.now) }
+        ensures empty { IfOk result (λ shelf. shelf ≡ empty_shelf fails.now) }
+        ensures files { IfOk result (λ shelf. ⟦<Shelf as Keeper>⟧.files shelf ≡ Some empty) }
+        ensures faults { IfOk result (λ shelf. ⟦<Shelf as Keeper>⟧.faults shelf ≡ 0) }
+        ensures misses { IfOk result (λ shelf. ⟦<Shelf as Keeper>⟧.misses shelf ≡ 0) }
+        ensures overs { IfOk result (λ shelf. ⟦<Shelf as Keeper>⟧.overs shelf ≡ 0) }
     {
         Ok(Shelf {
             alloc,
@@ -61,6 +65,7 @@ impl Shelf {
     /// memory is wanting.
     pub fn put(&mut self, name: &str, bytes: &[u8]) -> Result<(), Memory>
         ensures ok { OnOk result (self.new ≡ record self.old { files = insert self.old.files name.now bytes.now }) }
+        ensures files { OnOk result (⟦<Shelf as Keeper>⟧.files self.new ≡ Some (insert self.old.files name.now bytes.now)) }
         ensures err { OnErr result (self.new ≡ self.old) }
     {
         let name = name.as_bytes().to_vec(self.alloc)?;
@@ -127,11 +132,10 @@ impl Keeper for Shelf {
         ensures fits { IfOk result (λ bytes. length bytes ≤ limit) }
         ensures found { IfOk result (λ bytes. HoldsFile (Some self.old.files) name.now bytes) }
         ensures absent { result ≡ Err FetchFault.Absent → LacksFile (Some self.old.files) name.now }
-        ensures absent_cause { result ≡ Err FetchFault.Absent → Rose self.old.misses self.new.misses }
-        ensures failed_cause { result ≡ Err FetchFault.Failed → Rose self.old.plan.faults self.new.plan.faults }
         ensures too_long { (bound : ℕ) → result ≡ Err (FetchFault.TooLong bound) → (bound ≡ limit)
             × HoldsLonger (Some self.old.files) name.now limit }
-        ensures too_long_cause { (bound : ℕ) → result ≡ Err (FetchFault.TooLong bound) → Rose self.old.overs self.new.overs }
+        ensures counts { CountsFetch result self.old.plan.faults self.new.plan.faults self.old.misses self.new.misses
+            self.old.overs self.new.overs }
         ensures files { Some self.new.files ≡ Some self.old.files }
         ensures faults { NotFallen self.old.plan.faults self.new.plan.faults }
         ensures misses { NotFallen self.old.misses self.new.misses }

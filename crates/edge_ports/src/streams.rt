@@ -1,6 +1,7 @@
 // std's readers and writers as ports. They tell nothing of their bytes.
 ghost use Rattle.std.specs.Prelude.{◌≡◌, ◌<◌, ◌≤◌, length, take, IfOk};
 ghost use Rattle.std.specs.Io.KnownBytes.{Appends};
+ghost use Rattle.edge_ports.specs.Streams.{reader_of, writer_of};
 
 use crate::plan::count_on;
 use crate::{Failed, Sink, Source};
@@ -16,7 +17,8 @@ pub struct StdSource<R> {
 impl<R: Read> StdSource<R> {
     /// The reader, which has not failed yet.
     pub fn new(reader: R) -> StdSource<R>
-        ensures { ⟦<StdSource<R> as Source>⟧.faults result ≡ 0 }
+        ensures kept { reader_of result ≡ reader }
+        ensures faults { ⟦<StdSource<R> as Source>⟧.faults result ≡ 0 }
     {
         StdSource { reader, faults: 0 }
     }
@@ -65,7 +67,8 @@ pub struct StdSink<W> {
 impl<W: Write> StdSink<W> {
     /// The writer, which has not failed yet.
     pub fn new(writer: W) -> StdSink<W>
-        ensures { ⟦<StdSink<W> as Sink>⟧.faults result ≡ 0 }
+        ensures kept { writer_of result ≡ writer }
+        ensures faults { ⟦<StdSink<W> as Sink>⟧.faults result ≡ 0 }
     {
         StdSink { writer, faults: 0 }
     }

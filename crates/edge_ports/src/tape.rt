@@ -67,6 +67,7 @@ impl Source for Tape {
         ensures plan { self.new.plan ≡ plan_after (is_err result) self.old.plan }
         ensures fits { IfOk result (λ n. n ≡ min (length self.old.left) (length room.old)) }
         ensures same { OnErr result (self.new.left ≡ self.old.left) }
+        ensures room { OnErr result (room.new ≡ room.old) }
         ensures count { IfOk result (λ n. n ≤ length room.new) }
         ensures moved { IfOk result (λ n. TookAll (Some self.old.left) (Some self.new.left) (take n room.new)) }
         ensures end { result ≡ Ok 0 → IsAtEnd (Some self.new.left) }

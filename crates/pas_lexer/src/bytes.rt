@@ -128,7 +128,7 @@ pub fn comment_end(bytes: &[u8]) -> Option<usize>
 }
 
 /// How far the last apostrophe goes that can end a string, whose first apostrophe stands in front, clause
-/// 6.1.7. A string stands on one line.
+/// 6.1.7. No string goes beyond its line.
 pub fn last_apostrophe(bytes: &[u8]) -> Option<usize>
     ensures last { result ≡ string_end false bytes.now }
     ensures inside { IfSome result (λ n. (0 < n) × (n ≤ length bytes.now)) }

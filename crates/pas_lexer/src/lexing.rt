@@ -5,6 +5,7 @@ ghost use Rattle.pas_lexer.specs.declared.kinds.Kind.TheVariants.{Text, End};
 ghost use Rattle.pas_lexer.specs.declared.kinds.LexFault.TheVariants.{Memory};
 ghost use Rattle.pas_lexer.specs.declared.kinds.Reason.{Reason};
 ghost use Rattle.pas_lexer.specs.declared.kinds.Token.{Token};
+ghost use Rattle.pas_lexer.specs.Limits.{source_bytes};
 ghost use Rattle.pas_lexer.specs.Lexis.{quoted, Fits};
 ghost use Rattle.pas_lexer.specs.Reading.{piece_at};
 ghost use Rattle.pas_lexer.specs.Lexed.{IsPlaced, EndsOnce, text_of, spelled_as};
@@ -37,7 +38,7 @@ fn line_feeds(bytes: &[u8]) -> usize
 
 /// The line on which a byte of a source stands, counted from 1.
 pub fn line_at(source: &[u8], byte: u32) -> u32
-    requires { length source.now ≤ MAX_SOURCE_BYTES }
+    requires { length source.now ≤ source_bytes }
     ensures { result ≡ line_at source.now byte }
 {
     let end = (byte as usize).min(source.len());
@@ -71,9 +72,9 @@ fn push_piece(
 
 /// The tokens of a source.
 fn scan(alloc: Global, bytes: &[u8]) -> Result<Vec<Token>, LexFault>
-    requires { length bytes.now ≤ MAX_SOURCE_BYTES }
+    requires { length bytes.now ≤ source_bytes }
     ensures found { IfOk result (λ v. IsLexed bytes.now v.items) }
-    ensures few { IfOk result (λ v. vec_len v ≤ MAX_SOURCE_BYTES + 1) }
+    ensures few { IfOk result (λ v. vec_len v ≤ source_bytes + 1) }
     ensures fault { IfErr result (IsFault bytes.now) }
 {
     let mut tokens = Vec::new(alloc);
@@ -96,7 +97,7 @@ fn scan(alloc: Global, bytes: &[u8]) -> Result<Vec<Token>, LexFault>
 /// The tokens of a source of at most `MAX_SOURCE_BYTES` bytes, and `End` behind them. Where pieces fit up to
 /// byte n and none fits there, the fault has this n and the reason.
 pub fn lex(alloc: Global, bytes: &[u8]) -> Result<Tokens, LexFault>
-    requires { length bytes.now ≤ MAX_SOURCE_BYTES }
+    requires { length bytes.now ≤ source_bytes }
 
     // The tokens are those of a division of the source into pieces, and the source is kept.
     ensures found { IfOk result (λ t. IsLexed bytes.now t.tokens) }

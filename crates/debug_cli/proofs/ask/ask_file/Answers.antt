@@ -22,10 +22,8 @@ returns-in-Err-clause-goes g c =
     let k = g.K.Keeper in
     let says : Says c.in-Err.fault c.args.name.now (k.files c.args.keeper.now) (k.misses c.args.keeper.now) (k.misses c.fetch.new.self) (k.faults c.args.keeper.now) (k.faults c.fetch.new.self) (k.overs c.args.keeper.now) (k.overs c.fetch.new.self) = record {
       absent = λ x. c.in-Err.ensures.absent (ap Err x);
-      missed = λ x. c.in-Err.ensures.absent_cause (ap Err x);
-      failed = λ x. c.in-Err.ensures.failed_cause (ap Err x);
+      counts = c.in-Err.ensures.counts;
       longer = λ b x. (c.in-Err.ensures.too_long b (ap Err x)).1;
-      over = λ b x. c.in-Err.ensures.too_long_cause b (ap Err x);
     } in
     fault_goes c.args.name.now (k.files c.args.keeper.now) (k.misses c.args.keeper.now) (k.misses c.fetch.new.self) (k.faults c.args.keeper.now) (k.faults c.fetch.new.self) (k.overs c.args.keeper.now) (k.overs c.fetch.new.self)
     (left c.args.console.now) (left c.args.console.now) (given c.args.screen.now) (given c.refuse_file.new.screen) c.in-Err.fault c.refuse_file.result says

@@ -1,7 +1,7 @@
 use Rattle.std.proofs.Common.{◌≡◌, ◌-◌, IsTrue}
 use Rattle.std.specs.Io.KnownBytes.{IsAtEnd}
 use Rattle.edge_ports.specs.Lines.{Moves, handed_lines}
-use Rattle.edge_ports.specs.declared.lines.TheConstants.{CONSOLE_BYTES}
+use Rattle.edge_ports.specs.Limits.{console_bytes}
 use Rattle.debug_cli.specs.History.{history}
 use Rattle.debug_cli.specs.Turned.{Answered}
 use Rattle.debug_cli.proofs.dialog.converse.Given as goal
@@ -19,4 +19,4 @@ invariant-lines g l =
     }
 
 abbrev pub decreases-lines : goal.decreases-lines
-decreases-lines g l = CONSOLE_BYTES - l.lines.handed
+decreases-lines g l = console_bytes - l.lines.handed

@@ -1,5 +1,5 @@
 use Rattle.std.proofs.Common.{◌+◌, ◌-◌, cond, length}
-use Rattle.edge_ports.specs.declared.lines.TheConstants.{CONSOLE_BYTES}
+use Rattle.edge_ports.specs.Limits.{console_bytes}
 use Rattle.edge_ports.proofs.Filling.{Filled}
 use Rattle.edge_ports.proofs.lines.Lines.fill.Given as goal
 
@@ -7,4 +7,4 @@ abbrev pub invariant-filling : goal.invariant-filling
 invariant-filling g l = Filled g.I.Source.left g.I.Source.faults l.fn.self l.self l.fn.source l.source l.looked
 
 abbrev pub decreases-filling : goal.decreases-filling
-decreases-filling g l = CONSOLE_BYTES - length l.self.taken + cond l.self.ended 0 1
+decreases-filling g l = console_bytes - length l.self.taken + cond l.self.ended 0 1
