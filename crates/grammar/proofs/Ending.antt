@@ -1,14 +1,14 @@
 -- Reading does not pass a terminal that stands at the end alone.
-use Rattle.std.proofs.Common.{◌≡◌, ℕ, zero, suc, Bool, true, false, cond, not, List, [], ◌∷◌, length, Result, Ok, Err, refl, sym, ap, subst, ◌∙◌, ◌⊎◌, inl, inr}
+use Rattle.std.proofs.Common.{◌≡◌, ℕ, zero, suc, Bool, true, false, cond, List, [], ◌∷◌, length, Ok, Err, refl, sym, ap, subst, ◌∙◌, inl, inr}
 use Rattle.grammar.specs.declared.terminals.Terminal.{Terminal}
 use Rattle.grammar.specs.Terminals.{one_of, passes}
 use Rattle.grammar.specs.Nodes.{Item, Node, Leaf, Nothing, Pair, next}
 use Rattle.grammar.specs.Grammars.{Level, Grammar, token, nothing, seq, choice, greedy, level, loop, again}
 use Rattle.grammar.specs.Reading.{Refusal, Unfit, Deep, left_of, Read, ◌>>=◌, token_at, then_pair, unread, turns, turning, reads, levels, read}
-use Rattle.grammar.specs.Deciding.{both, Tables, expects, all_levels, every_level_of}
+use Rattle.grammar.specs.Deciding.{Tables, expects, all_levels, every_level_of}
 use Rattle.grammar.specs.Ending.{lacks, ends_in, IsLast, Has}
 use Rattle.grammar.proofs.Bools.{both_parts, not_true}
-use Rattle.grammar.proofs.Exact.{bind_err, err_is, ok_no_err, token_fails, done, failed}
+use Rattle.grammar.proofs.Exact.{bind_err, err_is, ok_no_err, token_fails}
 use Rattle.grammar.proofs.Knot.{every_level}
 
 module _ (k : Terminal) where

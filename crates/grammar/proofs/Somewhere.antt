@@ -1,8 +1,7 @@
 -- Trees whose levels are each nested at some depth are nested at one.
-use Rattle.std.proofs.Common.{◌≡◌, ℕ, zero, suc, ◌+◌, ◌≤◌, Bool, true, List, [], ◌∷◌, Option, Some, None, refl, arith, inl, inr, ◌⊎◌}
+use Rattle.std.proofs.Common.{ℕ, zero, suc, ◌+◌, ◌≤◌, List, [], ◌∷◌, Option, arith, inl, inr}
 use Rattle.grammar.specs.declared.terminals.Terminal.{Terminal}
-use Rattle.grammar.specs.Terminals.{one_of, is}
-use Rattle.grammar.specs.Nodes.{Item, Node, Leaf, Nothing, Pair, spell, ahead}
+use Rattle.grammar.specs.Nodes.{Node, Leaf, Nothing, Pair, spell, ahead}
 use Rattle.grammar.specs.Grammars.{Level, Grammar, token, nothing, seq, choice, greedy, level, loop, again, word, many, series, IsLeaf, IsNone, rounds, FreeIn, FreeWithin}
 use Rattle.grammar.proofs.Larger.{IsPart, rounds_map, free_up, none_in, all_in, free_within_up}
 

@@ -1,5 +1,5 @@
 -- The derived comparison of terminals is the test by their places.
-use Rattle.std.proofs.Common.{◌≡◌, ℕ, Bool, true, nat_eq, refl, arith, ◌∙◌}
+use Rattle.std.proofs.Common.{◌≡◌, ℕ, true, nat_eq, refl, arith, ◌∙◌}
 use Rattle.std.proofs.lemmas.Bool.Decides.{nat_tests}
 use denote.Enum.Declared.{tag_of}
 use denote.Enum.Bare.{sameb, same_true}

@@ -3,7 +3,7 @@ use Rattle.std.specs.Prelude.{◌≡◌, ℕ, Bool, true, false, not, List, [], 
 use Rattle.grammar.specs.declared.terminals.Terminal.{Terminal}
 use Rattle.grammar.specs.Terminals.{one_of}
 use Rattle.grammar.specs.Nodes.{Item}
-use Rattle.grammar.specs.Grammars.{Level, Grammar, token, nothing, seq, choice, greedy, level, loop, again}
+use Rattle.grammar.specs.Grammars.{Grammar, token, nothing, seq, choice, greedy, level, loop, again}
 use Rattle.grammar.specs.Deciding.{both, Tables, all_levels, every_level_of}
 use Rattle.grammar.specs.Reading.{Refusal, left_of, read}
 

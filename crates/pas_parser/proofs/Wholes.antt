@@ -22,7 +22,7 @@ use Rattle.pas_phrases.specs.declared.fault.ParseFault.{ParseFault}
 use Rattle.pas_phrases.specs.declared.fault.ParseFault.TheVariants as faults
 use Rattle.pas_phrases.specs.Items.{numbered, items_from, Fails}
 use Rattle.pas_phrases.proofs.Ahead.{items_cons, items_end}
-use Rattle.pas_parser.specs.Formed.{IsFormed, IsHopeless, IsRefusedAt, IsRefusal, IsThat}
+use Rattle.pas_parser.specs.Formed.{IsFormed, IsRefusedAt, IsRefusal, IsThat, NoFormedGoesOn}
 
 length-numbered : (n : ℕ) (ks : List Terminal) → length (numbered n ks) ≡ length ks
 length-numbered n [] = refl
@@ -69,9 +69,9 @@ ends_there tokens e =
     let same : terminals_of tokens ≡ terminals_of e.0 ++ k.End ∷ [] = ap terminals_of e.2 ∙ map_push f e.0 e.1 ∙ ap (λ (x : Kind). terminals_of e.0 ++ terminal_of x ∷ []) e.3 in
     subst (λ (l : List Terminal). Has k.End (numbered 0 l)) (sym same) (has_numbered (terminals_of e.0) 0)
 
-hopeless : (ks : List Terminal) (i : ℕ) → i < length ks → NoneGoesOn IsFormed (items_from ks 0) (items_from ks i) → IsHopeless ks i
-hopeless [] i h r = λ x formed b. omega arith
-hopeless (d ∷ ks') i h r = λ x formed b.
+no_formed_goes_on : (ks : List Terminal) (i : ℕ) → i < length ks → NoneGoesOn IsFormed (items_from ks 0) (items_from ks i) → NoFormedGoesOn ks i
+no_formed_goes_on [] i h r = λ x formed b. omega arith
+no_formed_goes_on (d ∷ ks') i h r = λ x formed b.
     let ks = d ∷ ks' in
     let here : Item = record { kind = get_or ks i d; number = i } in
     let same : spell x ≡ r.0 ++ (here ∷ b.0) = b.1 ∙ ap (λ (l : List Item). l ++ b.0) (begins_at ks r.0 i d h r.1) ∙ append_assoc r.0 (here ∷ []) b.0 in
@@ -81,7 +81,7 @@ at_token : (ks : List Terminal) (i : ℕ) (r : Refusal) → left_of r ≡ items_
 at_token ks i r left h given =
     let there = subst (Has k.End) left (refused_inside k.End pascal program_rule pascal_ends 200 (items_from ks 0) r h given) in
     let inside = has_inside ks i there in
-    (inside, hopeless ks i inside (subst (NoneGoesOn IsFormed (items_from ks 0)) left (refused_wrong pascal program_rule pascal_decided 200 (items_from ks 0) r given)))
+    (inside, no_formed_goes_on ks i inside (subst (NoneGoesOn IsFormed (items_from ks 0)) left (refused_wrong pascal program_rule pascal_decided 200 (items_from ks 0) r given)))
 
 pub refused_there : (tokens : List Token) (e : ParseFault) → EndsOnce tokens → Fails (terminals_of tokens) e (read pascal 200 program_rule (items_from (terminals_of tokens) 0)) → IsRefusal tokens (Err e)
 refused_there tokens (faults.NotProgram i) ended given = at_token (terminals_of tokens) i (Unfit (items_from (terminals_of tokens) i)) refl (ends_there tokens ended) given
@@ -102,14 +102,14 @@ that ks y x after given formed same = ap (λ (z : Node × List Item). z.0) (ok_i
 pub whole : (ks : List Terminal) (y : Node) (after : ℕ) → read pascal 200 program_rule (items_from ks 0) ≡ Ok (y, items_from ks after) → length ks ≤ after → IsFormed y × (spell y ≡ items_from ks 0)
 whole ks y after given h = found pascal program_rule pascal_decided 200 (items_from ks 0) y (given ∙ ap (λ (l : List Item). Ok (y, l)) (items_end ks after h))
 
-pub too_long : (ks : List Terminal) (y : Node) (after : ℕ) → read pascal 200 program_rule (items_from ks 0) ≡ Ok (y, items_from ks after) → after < length ks → IsHopeless ks after
+pub too_long : (ks : List Terminal) (y : Node) (after : ℕ) → read pascal 200 program_rule (items_from ks 0) ≡ Ok (y, items_from ks after) → after < length ks → NoFormedGoesOn ks after
 too_long [] y after given h = λ x formed b. omega arith
 too_long (d ∷ ks') y after given h =
     let ks = d ∷ ks' in
     let here : Item = record { kind = get_or ks after d; number = after } in
     let left : items_from ks after ≡ here ∷ items_from ks (after + 1) = items_cons ks after d h in
     let none = surplus_wrong pascal program_rule pascal_decided 200 (items_from ks 0) y here (items_from ks (after + 1)) (given ∙ ap (λ (l : List Item). Ok (y, l)) left) in
-    hopeless ks after h (subst (NoneGoesOn IsFormed (items_from ks 0)) (sym left) none)
+    no_formed_goes_on ks after h (subst (NoneGoesOn IsFormed (items_from ks 0)) (sym left) none)
 
 pub not_that_either : (ks : List Terminal) (y x : Node) (after : ℕ) → read pascal 200 program_rule (items_from ks 0) ≡ Ok (y, items_from ks after) → after < length ks → IsFormed x → spell x ≡ items_from ks 0 → ⊥
 not_that_either [] y x after given h formed same = absurd (omega arith)

@@ -1,5 +1,5 @@
 -- What an answer of the parser says of the tokens: exactly which one is refused, and why.
-use Rattle.std.specs.Prelude.{ℕ, ◌<◌, List, length, Result, Ok, Err}
+use Rattle.std.specs.Prelude.{◌<◌, List, length, Result, Ok, Err}
 use Rattle.pas_lexer.specs.declared.kinds.Token.{Token}
 use Rattle.pas_tree.specs.declared.blocks.Tree.{Tree}
 use Rattle.pas_phrases.specs.declared.fault.ParseFault.{ParseFault}

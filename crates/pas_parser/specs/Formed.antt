@@ -31,12 +31,12 @@ abbrev pub Begins : List Item → List Item → ℕ → Type 0
 Begins spelling items i = (more : List Item) × (spelling ≡ take (i + 1) items ++ more)
 
 -- no formed tree's spelling begins with the tokens 0 to i
-abbrev pub IsHopeless : List Terminal → ℕ → Type 0
-IsHopeless ks i = (x : Node) → IsFormed x → Begins (spell x) (items_from ks 0) i → ⊥
+abbrev pub NoFormedGoesOn : List Terminal → ℕ → Type 0
+NoFormedGoesOn ks i = (x : Node) → IsFormed x → Begins (spell x) (items_from ks 0) i → ⊥
 
 -- a token of the source is refused, and rightly
 abbrev pub IsRefusedAt : List Terminal → ℕ → Type 0
-IsRefusedAt ks i = (i < length ks) × IsHopeless ks i
+IsRefusedAt ks i = (i < length ks) × NoFormedGoesOn ks i
 
 abbrev pub IsRefusal : List Token → Result Tree ParseFault → Type 0
 IsRefusal tokens (Ok t) = Unit {0}

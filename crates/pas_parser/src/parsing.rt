@@ -31,7 +31,7 @@ pub fn parse(alloc: Global, tokens: &Tokens) -> Result<Tree, ParseFault>
     ensures exact { IsExact tokens.now.tokens result }
 {
     let terminals = terminals(alloc, tokens)?;
-    let (tree, after) = read_tree(alloc, &terminals, 0, 200)?;
+    let (tree, after) = read_tree(alloc, &terminals, 0, MAX_NESTING)?;
     if after < terminals.len() {
         return Err(ParseFault::NotProgram(after));
     }

@@ -23,8 +23,9 @@ use pas_phrases::operators::expect_direction;
 use pas_phrases::separators::{is_next_case, read_last_semicolon};
 use pas_tree::expressions::Access;
 use pas_tree::statements::{
-    Actual, Actuals, Branch, Case, Compound, Else, For, If, Label, NextAccess, NextActual,
-    NextBranch, NextStatement, Plain, Repeat, Statement, Statements, While, Width, With,
+    Actual, Actuals, Assignment, Branch, Case, Compound, Else, For, If, Label, NextAccess,
+    NextActual, NextBranch, NextStatement, Plain, Repeat, Statement, Statements, While, Width,
+    With,
 };
 use std::alloc::Global;
 
@@ -251,14 +252,19 @@ fn read_named(
     let (name, after) = tokens.expect(at, Terminal::Name)?;
     if tokens.is_next(after, Terminal::LeftParen) {
         let (actuals, after) = read_actuals(alloc, tokens, after, depth)?;
+        let actuals = Box::new(alloc, actuals)?;
         return Ok((Plain::Call(name, Some(actuals)), after));
     }
     if is_next_assignment(tokens, after) {
         let (selectors, after) = read_selectors(alloc, tokens, after, depth)?;
         let (becomes, after) = tokens.expect(after, Terminal::Becomes)?;
         let (value, after) = read_expression(alloc, tokens, after, depth)?;
-        let target = Access { name, selectors };
-        return Ok((Plain::Assignment(target, becomes, value), after));
+        let assignment = Assignment {
+            target: Access { name, selectors },
+            becomes,
+            value,
+        };
+        return Ok((Plain::Assignment(Box::new(alloc, assignment)?), after));
     }
     Ok((Plain::Call(name, None), after))
 }

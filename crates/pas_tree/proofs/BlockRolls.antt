@@ -1,12 +1,11 @@
 -- The nodes of blocks.
-use Rattle.std.proofs.Common.{◌≡◌, ℕ, List, [], ◌∷◌, map, refl, sym, ap, ◌∙◌, Vec, Global, Option}
-use mathlib.Core.Former.{Count}
+use Rattle.std.proofs.Common.{◌≡◌, List, map, refl, ap, ◌∙◌, Vec, Global, Option}
 use denote.Hole.Carrier.{roll}
 use Rattle.grammar.specs.declared.terminals.Terminal.TheVariants as k
-use Rattle.grammar.specs.Nodes.{Node, Nothing, Pair, leaf, row, Step, chain}
+use Rattle.grammar.specs.Nodes.{Node, Pair, leaf, row}
 use Rattle.pas_tree.specs.declared.statements.Compound.{Compound}
 use Rattle.pas_tree.specs.declared.blocks.Body.TheBlock.{hidden-the_row-Routine-0}
-use Rattle.pas_tree.specs.declared.blocks.Block.{Block, Row_of-Routine, end_of-Routine, more_of-Routine, items-the_row-Routine, roll-Block, items_hidden-the_row-Routine-0}
+use Rattle.pas_tree.specs.declared.blocks.Block.{Row_of-Routine, end_of-Routine, more_of-Routine, items-the_row-Routine, roll-Block, items_hidden-the_row-Routine-0}
 use Rattle.pas_tree.specs.declared.blocks.LabelPart.{LabelPart}
 use Rattle.pas_tree.specs.declared.blocks.ConstantPart.{ConstantPart}
 use Rattle.pas_tree.specs.declared.blocks.TypePart.{TypePart}

@@ -1,18 +1,16 @@
 -- The nodes of type denoters that hold a vector.
-use Rattle.std.proofs.Common.{◌≡◌, ℕ, List, [], ◌∷◌, map, refl, sym, ap, ◌∙◌, Vec, Global, Option}
-use mathlib.Core.Former.{Count}
+use Rattle.std.proofs.Common.{◌≡◌, ℕ, List, map, refl, ap, ◌∙◌, Vec, Global, Option}
 use denote.Hole.Carrier.{roll}
 use Rattle.grammar.specs.declared.terminals.Terminal.TheVariants as k
-use Rattle.grammar.specs.Nodes.{Node, Nothing, Pair, leaf, row, Step, chain}
-use Rattle.pas_tree.specs.declared.constants.Constants.{Constants}
+use Rattle.grammar.specs.Nodes.{Node, Pair, leaf, row, chain}
 use Rattle.pas_tree.specs.declared.denoters.Denoter.{Denoter}
 use Rattle.pas_tree.specs.declared.denoters.Denoter.TheBlock.{hidden-the_row-NextDenoter-0, hidden-the_row-NextSection-1, hidden-the_row-NextArm-2}
-use Rattle.pas_tree.specs.declared.denoters.ArrayDenoter.{ArrayDenoter, Row_of-NextDenoter, end_of-NextDenoter, more_of-NextDenoter, items-the_row-NextDenoter, roll-ArrayDenoter, items_hidden-the_row-NextDenoter-0}
+use Rattle.pas_tree.specs.declared.denoters.ArrayDenoter.{Row_of-NextDenoter, end_of-NextDenoter, more_of-NextDenoter, items-the_row-NextDenoter, roll-ArrayDenoter, items_hidden-the_row-NextDenoter-0}
 use Rattle.pas_tree.specs.declared.denoters.NextDenoter.{NextDenoter}
-use Rattle.pas_tree.specs.declared.denoters.Fixed.{Fixed, Row_of-NextSection, end_of-NextSection, more_of-NextSection, items-the_row-NextSection, roll-Fixed, items_hidden-the_row-NextSection-1}
+use Rattle.pas_tree.specs.declared.denoters.Fixed.{Row_of-NextSection, end_of-NextSection, more_of-NextSection, items-the_row-NextSection, roll-Fixed, items_hidden-the_row-NextSection-1}
 use Rattle.pas_tree.specs.declared.denoters.Section.{Section}
 use Rattle.pas_tree.specs.declared.denoters.NextSection.{NextSection}
-use Rattle.pas_tree.specs.declared.denoters.Variants.{Variants, Row_of-NextArm, end_of-NextArm, more_of-NextArm, items-the_row-NextArm, roll-Variants, items_hidden-the_row-NextArm-2}
+use Rattle.pas_tree.specs.declared.denoters.Variants.{Row_of-NextArm, end_of-NextArm, more_of-NextArm, items-the_row-NextArm, roll-Variants, items_hidden-the_row-NextArm-2}
 use Rattle.pas_tree.specs.declared.denoters.Tag.{Tag}
 use Rattle.pas_tree.specs.declared.denoters.Arm.{Arm}
 use Rattle.pas_tree.specs.declared.denoters.NextArm.{NextArm}

@@ -1,13 +1,13 @@
 -- The nodes of expressions that hold a vector.
-use Rattle.std.proofs.Common.{◌≡◌, ℕ, List, [], ◌∷◌, map, refl, sym, ap, ◌∙◌, Vec, Global, Option}
+use Rattle.std.proofs.Common.{◌≡◌, ℕ, List, map, refl, ap, ◌∙◌, Vec, Global, Option}
 use mathlib.Core.Former.{Count}
 use denote.Hole.Carrier.{roll}
 use Rattle.grammar.specs.declared.terminals.Terminal.TheVariants as k
-use Rattle.grammar.specs.Nodes.{Node, Nothing, Pair, leaf, row}
+use Rattle.grammar.specs.Nodes.{Node, Pair, leaf, row}
 use Rattle.pas_tree.specs.declared.operators.Sign.{Sign}
-use Rattle.pas_tree.specs.declared.expressions.Factor.{Factor, Access}
-use Rattle.pas_tree.specs.declared.expressions.Factor.TheBlock.{Access', hidden-the_row-NextFactor-4, hidden-the_row-NextTerm-2, hidden-the_row-NextExpression-1, hidden-the_row-NextMember-3, hidden-the_row-Selector-0}
-use Rattle.pas_tree.specs.declared.expressions.Access.{Access as AccessTree, Row_of-Selector, end_of-Selector, more_of-Selector, items-the_row-Selector, items_hidden-the_row-Selector-0}
+use Rattle.pas_tree.specs.declared.expressions.Factor.{Factor}
+use Rattle.pas_tree.specs.declared.expressions.Factor.TheBlock.{hidden-the_row-NextFactor-4, hidden-the_row-NextTerm-2, hidden-the_row-NextExpression-1, hidden-the_row-NextMember-3, hidden-the_row-Selector-0}
+use Rattle.pas_tree.specs.declared.expressions.Access.{Row_of-Selector, end_of-Selector, more_of-Selector, items-the_row-Selector, items_hidden-the_row-Selector-0}
 use Rattle.pas_tree.specs.declared.expressions.Selector.{Selector}
 use Rattle.pas_tree.specs.declared.expressions.Index.{Index, Index', roll-Index}
 use Rattle.pas_tree.specs.declared.expressions.Arguments.{Arguments, Arguments', Row_of-NextExpression, end_of-NextExpression, more_of-NextExpression, items-the_row-NextExpression, roll-Arguments, items_hidden-the_row-NextExpression-1}
@@ -17,12 +17,12 @@ use Rattle.pas_tree.specs.declared.expressions.Simple.{Simple, Simple', Row_of-N
 use Rattle.pas_tree.specs.declared.expressions.NextTerm.{NextTerm, NextTerm'}
 use Rattle.pas_tree.specs.declared.expressions.Term.{Term, Term', Row_of-NextFactor, end_of-NextFactor, more_of-NextFactor, items-the_row-NextFactor, roll-Term, items_hidden-the_row-NextFactor-4}
 use Rattle.pas_tree.specs.declared.expressions.NextFactor.{NextFactor}
-use Rattle.pas_tree.specs.declared.expressions.Members.{Members, Some}
+use Rattle.pas_tree.specs.declared.expressions.Members.{Some}
 use Rattle.pas_tree.specs.declared.expressions.SomeMembers.{SomeMembers, SomeMembers', Row_of-NextMember, end_of-NextMember, more_of-NextMember, items-the_row-NextMember, roll-SomeMembers, items_hidden-the_row-NextMember-3}
 use Rattle.pas_tree.specs.declared.expressions.NextMember.{NextMember, NextMember'}
 use Rattle.pas_tree.specs.declared.expressions.Member.{Member}
 use Rattle.pas_tree.specs.Operators.{sign_node, adding_node, multiplying_node}
-use Rattle.pas_tree.specs.Expressions.{expression_node, simple_node, terms_node, term_node, factors_node, factor_node, selectors_node, selector_node, index_node, arguments_node, expressions_node, members_node, more_members_node, member_node, next_factor_node, next_term_node, next_expression_node, next_member_node, access_node}
+use Rattle.pas_tree.specs.Expressions.{expression_node, simple_node, terms_node, term_node, factors_node, factor_node, selectors_node, selector_node, index_node, arguments_node, expressions_node, members_node, more_members_node, member_node, next_factor_node, next_term_node, next_expression_node, next_member_node}
 
 factors_row : (n : _) (r : Row_of-NextFactor n) → factors_node r ≡ row (map next_factor_node (items-the_row-NextFactor n r))
 factors_row _ end_of-NextFactor = refl

@@ -1,12 +1,11 @@
 -- The nodes of formal parameter lists.
-use Rattle.std.proofs.Common.{◌≡◌, ℕ, List, [], ◌∷◌, map, refl, sym, ap, ◌∙◌, Vec, Global, Option}
-use mathlib.Core.Former.{Count}
+use Rattle.std.proofs.Common.{◌≡◌, ℕ, List, map, refl, ap, ◌∙◌, Vec, Global}
 use denote.Hole.Carrier.{roll}
 use Rattle.grammar.specs.declared.terminals.Terminal.TheVariants as k
-use Rattle.grammar.specs.Nodes.{Node, Nothing, Pair, leaf, row, Step, chain}
+use Rattle.grammar.specs.Nodes.{Node, Pair, leaf, row}
 use Rattle.pas_tree.specs.declared.headings.Formal.{Formal}
 use Rattle.pas_tree.specs.declared.headings.Formal.TheBlock.{hidden-the_row-NextFormal-0}
-use Rattle.pas_tree.specs.declared.headings.Formals.{Formals, Row_of-NextFormal, end_of-NextFormal, more_of-NextFormal, items-the_row-NextFormal, roll-Formals, items_hidden-the_row-NextFormal-0}
+use Rattle.pas_tree.specs.declared.headings.Formals.{Row_of-NextFormal, end_of-NextFormal, more_of-NextFormal, items-the_row-NextFormal, roll-Formals, items_hidden-the_row-NextFormal-0}
 use Rattle.pas_tree.specs.declared.headings.NextFormal.{NextFormal}
 use Rattle.pas_tree.specs.Headings.{formals_node, more_formals_node, formal_node, next_formal_node}
 

@@ -1,6 +1,6 @@
 -- What is repeated does not speak of the loop around it, and takes a token.
 use Rattle.std.proofs.Common.{◌≡◌, true, refl}
-use Rattle.grammar.specs.Grammars.{Closer, by_end, by_until}
+use Rattle.grammar.specs.Grammars.{Closer}
 use Rattle.grammar.specs.Deciding.{closed, solid}
 use Rattle.pas_tree.specs.Rules as r
 

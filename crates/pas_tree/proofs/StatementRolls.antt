@@ -1,15 +1,14 @@
 -- The nodes of statements that hold a vector.
-use Rattle.std.proofs.Common.{◌≡◌, ℕ, List, [], ◌∷◌, map, refl, sym, ap, ◌∙◌, Vec, Global, Option}
-use mathlib.Core.Former.{Count}
+use Rattle.std.proofs.Common.{◌≡◌, ℕ, List, map, refl, ap, ◌∙◌, Vec, Global, Option}
 use denote.Hole.Carrier.{roll}
 use Rattle.grammar.specs.declared.terminals.Terminal.TheVariants as k
-use Rattle.grammar.specs.Nodes.{Node, Nothing, Pair, leaf, row, Step, chain}
+use Rattle.grammar.specs.Nodes.{Node, Pair, leaf, row, chain}
 use Rattle.pas_tree.specs.declared.expressions.Expression.{Expression}
 use Rattle.pas_tree.specs.declared.statements.Plain.TheBlock.{hidden-the_row-NextBranch-0, hidden-the_row-NextStatement-1}
 use Rattle.pas_tree.specs.declared.statements.Statement.{Statement}
-use Rattle.pas_tree.specs.declared.statements.Statements.{Statements, Row_of-NextStatement, end_of-NextStatement, more_of-NextStatement, items-the_row-NextStatement, roll-Statements, items_hidden-the_row-NextStatement-1}
+use Rattle.pas_tree.specs.declared.statements.Statements.{Row_of-NextStatement, end_of-NextStatement, more_of-NextStatement, items-the_row-NextStatement, roll-Statements, items_hidden-the_row-NextStatement-1}
 use Rattle.pas_tree.specs.declared.statements.NextStatement.{NextStatement}
-use Rattle.pas_tree.specs.declared.statements.Case.{Case, Row_of-NextBranch, end_of-NextBranch, more_of-NextBranch, items-the_row-NextBranch, roll-Case, items_hidden-the_row-NextBranch-0}
+use Rattle.pas_tree.specs.declared.statements.Case.{Row_of-NextBranch, end_of-NextBranch, more_of-NextBranch, items-the_row-NextBranch, roll-Case, items_hidden-the_row-NextBranch-0}
 use Rattle.pas_tree.specs.declared.statements.Branch.{Branch}
 use Rattle.pas_tree.specs.declared.statements.NextBranch.{NextBranch}
 use Rattle.pas_tree.specs.Constants.{constants_node}

@@ -1,8 +1,7 @@
 -- What it is to fit a rule, whatever the else parts and the nesting.
-use Rattle.std.proofs.Common.{◌≡◌, ℕ, true, List, Option, Some, None, refl, inl, inr, ◌⊎◌}
+use Rattle.std.proofs.Common.{Option, Some, None, refl, inl, inr}
 use Rattle.grammar.specs.declared.terminals.Terminal.{Terminal}
-use Rattle.grammar.specs.declared.terminals.Terminal.TheVariants as k
-use Rattle.grammar.specs.Nodes.{Node, spell, ahead}
+use Rattle.grammar.specs.Nodes.{Node}
 use Rattle.grammar.specs.Grammars.{Level, Grammar, IsLeaf, IsNone, FreeIn}
 use Rattle.grammar.specs.Loose.{loose}
 use Rattle.grammar.proofs.Somewhere.{Nested, nested}

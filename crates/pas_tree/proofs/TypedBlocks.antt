@@ -1,11 +1,11 @@
 -- Every program's node is a tree of the grammar, at some nesting.
-use Rattle.std.proofs.Common.{◌≡◌, ℕ, Bool, true, false, [], ◌∷◌, Option, Some, None, refl, inl, inr, map, List}
+use Rattle.std.proofs.Common.{[], ◌∷◌, Option, Some, None, refl, inl, inr, map, List}
 use Rattle.grammar.specs.declared.terminals.Terminal.{Terminal}
 use Rattle.grammar.specs.declared.terminals.Terminal.TheVariants as k
-use Rattle.grammar.specs.Nodes.{Node, Nothing, Pair, leaf, spell, ahead, row}
-use Rattle.grammar.specs.Grammars.{Closer, by_end, by_until, block, heading, statement, denoter, IsLeaf, nothing, token, seq, choice, many, series}
+use Rattle.grammar.specs.Nodes.{Pair, leaf, row}
+use Rattle.grammar.specs.Grammars.{block, heading, denoter, many}
 use Rattle.grammar.specs.Loose.{loose}
-use Rattle.grammar.proofs.Somewhere.{many_nil, many_cons, series_nil, series_end, series_cons}
+use Rattle.grammar.proofs.Somewhere.{many_nil, many_cons}
 use Rattle.pas_tree.specs.Rules as r
 use Rattle.pas_tree.specs.declared.blocks.Tree.{Tree}
 use Rattle.pas_tree.specs.declared.blocks.Parameters.{Parameters}
@@ -18,14 +18,12 @@ use Rattle.pas_tree.specs.declared.blocks.TypePart.{TypePart}
 use Rattle.pas_tree.specs.declared.blocks.TypeDefinition.{TypeDefinition}
 use Rattle.pas_tree.specs.declared.blocks.VariablePart.{VariablePart}
 use Rattle.pas_tree.specs.declared.blocks.VariableDeclaration.{VariableDeclaration}
-use Rattle.pas_tree.specs.declared.blocks.Routine.{Routine}
 use Rattle.pas_tree.specs.declared.blocks.Body.{Body, Directive, Block'}
 use Rattle.grammar.specs.Loose.{IsGrammatical}
 use Rattle.grammar.proofs.Somewhere.{whole_nested}
 use Rattle.pas_tree.specs.Headings.{heading_node}
 use Rattle.pas_tree.specs.Denoters.{denoter_node}
-use Rattle.pas_tree.specs.Statements.{compound_node}
-use Rattle.pas_tree.specs.Blocks.{next_label_node, label_part_node, constant_definition_node, constant_part_node, type_definition_node, type_part_node, variable_declaration_node, variable_part_node, block_node, routines_node, body_node, routine_node, parameters_node, tree_node}
+use Rattle.pas_tree.specs.Blocks.{next_label_node, label_part_node, constant_definition_node, constant_part_node, type_definition_node, type_part_node, variable_declaration_node, variable_part_node, block_node, routines_node, body_node, parameters_node, tree_node}
 use Rattle.pas_tree.proofs.TypedBase.{Deep, Fits, deeper, loose_rule}
 use Rattle.pas_tree.proofs.TypedConstants.{names_fits, constant_fits}
 use Rattle.pas_tree.proofs.TypedDenoters.{denoter_fits}

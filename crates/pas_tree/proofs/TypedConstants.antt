@@ -1,20 +1,19 @@
 -- Every constant's node fits its rule.
-use Rattle.std.proofs.Common.{◌≡◌, ℕ, [], ◌∷◌, Option, Some, None, refl, inl, inr, map, List}
+use Rattle.std.proofs.Common.{[], ◌∷◌, Option, Some, None, refl, inl, inr, map, List}
 use Rattle.grammar.specs.declared.terminals.Terminal.{Terminal}
 use Rattle.grammar.specs.declared.terminals.Terminal.TheVariants as k
-use Rattle.grammar.specs.Nodes.{Node, Nothing, Pair, leaf, spell, ahead, row}
-use Rattle.grammar.specs.Grammars.{Closer, by_end, by_until, block, heading, statement, denoter, variant_part, factor, IsLeaf, nothing, seq, choice, word, many, series}
+use Rattle.grammar.specs.Nodes.{row}
+use Rattle.grammar.specs.Grammars.{many}
 use Rattle.grammar.specs.Loose.{loose}
-use Rattle.grammar.proofs.Somewhere.{many_nil, many_cons, series_nil, series_end, series_cons}
+use Rattle.grammar.proofs.Somewhere.{many_nil, many_cons}
 use Rattle.pas_tree.specs.Rules as r
-use Rattle.pas_tree.specs.declared.operators.Sign.{Sign}
 use Rattle.pas_tree.specs.declared.constants.Names.{Names}
 use Rattle.pas_tree.specs.declared.constants.NextName.{NextName}
 use Rattle.pas_tree.specs.declared.constants.Constant.{Constant}
 use Rattle.pas_tree.specs.declared.constants.Constant.TheVariants as constant
 use Rattle.pas_tree.specs.declared.constants.Constants.{Constants}
 use Rattle.pas_tree.specs.declared.constants.NextConstant.{NextConstant}
-use Rattle.pas_tree.specs.Constants.{next_name_node, names_node, signed_node, constant_node, next_constant_node, constants_node}
+use Rattle.pas_tree.specs.Constants.{next_name_node, names_node, constant_node, next_constant_node, constants_node}
 use Rattle.pas_tree.proofs.TypedBase.{Deep, Fits, sign_leaf_fits}
 
 name_list_fits : (l : List NextName) (h : Option Terminal) → Fits (many (k.Comma ∷ []) r.next_name_rule) (row (map next_name_node l)) h

@@ -1,9 +1,9 @@
 -- Every type denoter's node fits its rule.
-use Rattle.std.proofs.Common.{◌≡◌, ℕ, [], ◌∷◌, Option, Some, None, refl, inl, inr, map, List}
+use Rattle.std.proofs.Common.{ℕ, [], ◌∷◌, Option, Some, None, refl, inl, inr}
 use Rattle.grammar.specs.declared.terminals.Terminal.{Terminal}
 use Rattle.grammar.specs.declared.terminals.Terminal.TheVariants as k
-use Rattle.grammar.specs.Nodes.{Node, Nothing, Pair, leaf, spell, ahead, row}
-use Rattle.grammar.specs.Grammars.{Closer, by_end, by_until, block, heading, statement, denoter, variant_part, factor, IsLeaf, nothing, seq, choice, word, many, series}
+use Rattle.grammar.specs.Nodes.{Node, Nothing, Pair, leaf, spell, ahead}
+use Rattle.grammar.specs.Grammars.{denoter, variant_part, nothing, word, many, series}
 use Rattle.grammar.specs.Loose.{loose}
 use Rattle.grammar.proofs.Somewhere.{many_nil, many_cons, series_nil, series_end, series_cons}
 use Rattle.pas_tree.specs.Rules as r
@@ -11,24 +11,16 @@ use Rattle.pas_tree.specs.declared.denoters.Denoter.{Denoter, Name, Enumeration,
 use Rattle.pas_tree.specs.declared.denoters.Structure.{Structure, Array, Record', Set'}
 use Rattle.pas_tree.specs.declared.denoters.Enumeration.{Enumeration as EnumerationTree}
 use Rattle.pas_tree.specs.declared.denoters.ArrayDenoter.{ArrayDenoter, ArrayDenoter', Row_of-NextDenoter, end_of-NextDenoter, more_of-NextDenoter}
-use Rattle.pas_tree.specs.declared.denoters.NextDenoter.{NextDenoter}
-use Rattle.pas_tree.specs.declared.denoters.RecordDenoter.{RecordDenoter}
-use Rattle.pas_tree.specs.declared.denoters.SetDenoter.{SetDenoter}
 use Rattle.pas_tree.specs.declared.denoters.Fields.{Fields, Empty, Fixed', Variants' as FieldsVariants', Held-Fields-Fixed-1, None', Some'}
 use Rattle.pas_tree.specs.declared.denoters.Fixed.{Fixed as FixedTree, Fixed' as FixedTree', Row_of-NextSection, end_of-NextSection, more_of-NextSection}
-use Rattle.pas_tree.specs.declared.denoters.Section.{Section}
-use Rattle.pas_tree.specs.declared.denoters.NextSection.{NextSection}
-use Rattle.pas_tree.specs.declared.denoters.NextVariants.{NextVariants, NextVariants'}
+use Rattle.pas_tree.specs.declared.denoters.NextVariants.{NextVariants'}
 use Rattle.pas_tree.specs.declared.denoters.Variants.{Variants as VariantsTree, Variants', Row_of-NextArm, end_of-NextArm, more_of-NextArm}
-use Rattle.pas_tree.specs.declared.denoters.Tag.{Tag}
 use Rattle.pas_tree.specs.declared.denoters.TagField.{TagField}
-use Rattle.pas_tree.specs.declared.denoters.Arm.{Arm}
-use Rattle.pas_tree.specs.declared.denoters.NextArm.{NextArm}
 use Rattle.pas_tree.specs.declared.constants.Constant.{Constant}
 use Rattle.pas_tree.specs.declared.constants.Constant.TheVariants as constant
 use Rattle.pas_tree.specs.Operators.{token_node}
 use Rattle.pas_tree.specs.Constants.{constant_node}
-use Rattle.pas_tree.specs.Denoters.{enumeration_node, tag_rest_node, tag_node, last_semicolon_node, denoter_node, structure_node, array_node, denoters_node, fields_node, fixed_node, sections_node, next_variants_node, variants_node, arms_node, arm_node, next_denoter_node, section_node, section_step, arm_step, some_variants_node, record_node, set_node}
+use Rattle.pas_tree.specs.Denoters.{enumeration_node, tag_rest_node, last_semicolon_node, denoter_node, structure_node, array_node, denoters_node, fields_node, fixed_node, sections_node, next_variants_node, variants_node, arms_node}
 use Rattle.pas_tree.proofs.TypedBase.{Deep, Fits, deeper, sign_leaf_fits}
 use Rattle.pas_tree.proofs.TypedConstants.{names_fits, constant_fits, constants_fits}
 

@@ -1,8 +1,8 @@
 -- Every expression's node fits its rule.
-use Rattle.std.proofs.Common.{◌≡◌, ℕ, [], ◌∷◌, Option, refl, inl, inr, map, List}
+use Rattle.std.proofs.Common.{[], ◌∷◌, Option, refl, inl, inr, map, List}
 use Rattle.grammar.specs.declared.terminals.Terminal.{Terminal}
 use Rattle.grammar.specs.declared.terminals.Terminal.TheVariants as k
-use Rattle.grammar.specs.Nodes.{Node, spell, ahead, row}
+use Rattle.grammar.specs.Nodes.{spell, ahead, row}
 use Rattle.grammar.specs.Grammars.{factor, many, seq, word}
 use Rattle.grammar.specs.Loose.{loose}
 use Rattle.grammar.proofs.Somewhere.{many_nil, many_cons}
@@ -11,18 +11,17 @@ use Rattle.pas_tree.specs.declared.expressions.Access.{Access, Row_of-Selector, 
 use Rattle.pas_tree.specs.declared.expressions.Selector.{Selector, Index, Field, Dereference}
 use Rattle.pas_tree.specs.declared.expressions.Index.{Index as IndexTree, Index'}
 use Rattle.pas_tree.specs.declared.expressions.Arguments.{Arguments, Arguments', Row_of-NextExpression, end_of-NextExpression, more_of-NextExpression}
-use Rattle.pas_tree.specs.declared.expressions.NextExpression.{NextExpression, NextExpression'}
+use Rattle.pas_tree.specs.declared.expressions.NextExpression.{NextExpression'}
 use Rattle.pas_tree.specs.declared.expressions.Expression.{Expression, Expression', Held-Expression-relation, Expression-relation-None', Expression-relation-Some'}
-use Rattle.pas_tree.specs.declared.expressions.Relation.{Relation, Relation'}
+use Rattle.pas_tree.specs.declared.expressions.Relation.{Relation'}
 use Rattle.pas_tree.specs.declared.expressions.Simple.{Simple, Simple', Row_of-NextTerm, end_of-NextTerm, more_of-NextTerm}
-use Rattle.pas_tree.specs.declared.expressions.NextTerm.{NextTerm, NextTerm'}
+use Rattle.pas_tree.specs.declared.expressions.NextTerm.{NextTerm'}
 use Rattle.pas_tree.specs.declared.expressions.Term.{Term, Term', Row_of-NextFactor, end_of-NextFactor, more_of-NextFactor}
-use Rattle.pas_tree.specs.declared.expressions.NextFactor.{NextFactor}
 use Rattle.pas_tree.specs.declared.expressions.Members.{Members, Empty, Some}
-use Rattle.pas_tree.specs.declared.expressions.SomeMembers.{SomeMembers, SomeMembers', Row_of-NextMember, end_of-NextMember, more_of-NextMember}
-use Rattle.pas_tree.specs.declared.expressions.NextMember.{NextMember, NextMember'}
+use Rattle.pas_tree.specs.declared.expressions.SomeMembers.{SomeMembers', Row_of-NextMember, end_of-NextMember, more_of-NextMember}
+use Rattle.pas_tree.specs.declared.expressions.NextMember.{NextMember'}
 use Rattle.pas_tree.specs.declared.expressions.Member.{Member, Member', Held-Member-last, Member-last-None', Member-last-Some'}
-use Rattle.pas_tree.specs.declared.expressions.RangeEnd.{RangeEnd, RangeEnd'}
+use Rattle.pas_tree.specs.declared.expressions.RangeEnd.{RangeEnd'}
 use Rattle.pas_tree.specs.Expressions.{expression_node, relation_node, simple_node, terms_node, term_node, factors_node, factor_node, selectors_node, selector_node, index_node, arguments_node, expressions_node, members_node, more_members_node, member_node, range_end_node, access_node}
 use Rattle.pas_tree.specs.Rules as r
 use Rattle.pas_tree.proofs.TypedBase.{Deep, Fits, deeper, sign_fits, adding_fits, multiplying_fits, relational_fits}

@@ -1,21 +1,19 @@
 -- Every heading's node fits its rule.
-use Rattle.std.proofs.Common.{◌≡◌, ℕ, [], ◌∷◌, Option, Some, None, refl, inl, inr, map, List}
+use Rattle.std.proofs.Common.{[], ◌∷◌, Option, Some, None, refl, inl, inr}
 use Rattle.grammar.specs.declared.terminals.Terminal.{Terminal}
 use Rattle.grammar.specs.declared.terminals.Terminal.TheVariants as k
-use Rattle.grammar.specs.Nodes.{Node, Nothing, Pair, leaf, spell, ahead, row}
-use Rattle.grammar.specs.Grammars.{Closer, by_end, by_until, block, heading, statement, denoter, variant_part, factor, IsLeaf, nothing, seq, choice, word, many, series}
+use Rattle.grammar.specs.Grammars.{heading, word, many}
 use Rattle.grammar.specs.Loose.{loose}
-use Rattle.grammar.proofs.Somewhere.{many_nil, many_cons, series_nil, series_end, series_cons}
+use Rattle.grammar.proofs.Somewhere.{many_nil, many_cons}
 use Rattle.pas_tree.specs.Rules as r
 use Rattle.pas_tree.specs.declared.headings.Heading.{Heading, Procedure, Function}
 use Rattle.pas_tree.specs.declared.headings.ProcedureHeading.{ProcedureHeading, ProcedureHeading'}
 use Rattle.pas_tree.specs.declared.headings.FunctionHeading.{FunctionHeading, FunctionHeading', Held-FunctionHeading-formals, None', Some'}
 use Rattle.pas_tree.specs.declared.headings.ResultType.{ResultType}
 use Rattle.pas_tree.specs.declared.headings.Formals.{Formals, Formals', Row_of-NextFormal, end_of-NextFormal, more_of-NextFormal}
-use Rattle.pas_tree.specs.declared.headings.NextFormal.{NextFormal}
 use Rattle.pas_tree.specs.declared.headings.Formal.{Formal, Value, Variable, Routine'}
 use Rattle.pas_tree.specs.declared.headings.FormalNames.{FormalNames}
-use Rattle.pas_tree.specs.Headings.{formal_names_node, result_node, heading_node, procedure_node, function_node, held_formals_node, formals_node, more_formals_node, formal_node, next_formal_node}
+use Rattle.pas_tree.specs.Headings.{formal_names_node, result_node, heading_node, procedure_node, function_node, held_formals_node, formals_node, more_formals_node, formal_node}
 use Rattle.pas_tree.proofs.TypedBase.{Deep, Fits, deeper}
 use Rattle.pas_tree.proofs.TypedConstants.{names_fits}
 

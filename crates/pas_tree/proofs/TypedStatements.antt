@@ -1,38 +1,29 @@
 -- Every statement's node fits its rule.
-use Rattle.std.proofs.Common.{◌≡◌, ℕ, Bool, true, false, [], ◌∷◌, Option, Some, None, refl, inl, inr, map, List}
+use Rattle.std.proofs.Common.{ℕ, Bool, true, false, [], ◌∷◌, Option, Some, None, refl, inl, inr, map, List}
+use Rattle.std.specs.Global.{Box}
 use Rattle.grammar.specs.declared.terminals.Terminal.{Terminal}
 use Rattle.grammar.specs.declared.terminals.Terminal.TheVariants as k
-use Rattle.grammar.specs.Nodes.{Node, Nothing, Pair, leaf, spell, ahead, row}
-use Rattle.grammar.specs.Grammars.{Closer, by_end, by_until, block, heading, statement, denoter, IsLeaf, nothing, token, seq, choice, many, series}
+use Rattle.grammar.specs.Nodes.{Nothing, Pair, leaf, spell, ahead, row}
+use Rattle.grammar.specs.Grammars.{Closer, by_end, by_until, statement, nothing, token, seq, many, series}
 use Rattle.grammar.specs.Loose.{loose}
 use Rattle.grammar.proofs.Somewhere.{many_nil, many_cons, series_nil, series_end, series_cons}
 use Rattle.pas_tree.specs.Rules as r
-use Rattle.pas_tree.specs.declared.statements.Plain.{Plain, Empty, Assignment, Call, Goto, Compound', If', Case', Repeat', While', For', With'}
+use Rattle.pas_tree.specs.declared.statements.Plain.{Plain, Empty, Assignment as Assignment', Call, Goto, Compound', If', Case', Repeat', While', For', With'}
 use Rattle.pas_tree.specs.declared.statements.Compound.{Compound, Compound' as CompoundTree'}
 use Rattle.pas_tree.specs.declared.statements.Statements.{Statements, Statements', Row_of-NextStatement, end_of-NextStatement, more_of-NextStatement}
-use Rattle.pas_tree.specs.declared.statements.NextStatement.{NextStatement}
-use Rattle.pas_tree.specs.declared.statements.Statement.{Statement}
 use Rattle.pas_tree.specs.declared.statements.Label.{Label}
+use Rattle.pas_tree.specs.declared.statements.Assignment.{Assignment}
 use Rattle.pas_tree.specs.declared.statements.Actuals.{Actuals}
 use Rattle.pas_tree.specs.declared.statements.NextActual.{NextActual}
 use Rattle.pas_tree.specs.declared.statements.Actual.{Actual}
 use Rattle.pas_tree.specs.declared.statements.Width.{Width}
 use Rattle.pas_tree.specs.declared.statements.If.{If, If' as IfTree', Held-If-alternative, None', Some'}
-use Rattle.pas_tree.specs.declared.statements.Else.{Else}
 use Rattle.pas_tree.specs.declared.statements.Case.{Case, Case' as CaseTree', Row_of-NextBranch, end_of-NextBranch, more_of-NextBranch}
-use Rattle.pas_tree.specs.declared.statements.NextBranch.{NextBranch}
-use Rattle.pas_tree.specs.declared.statements.Branch.{Branch}
 use Rattle.pas_tree.specs.declared.statements.Repeat.{Repeat, Repeat' as RepeatTree'}
-use Rattle.pas_tree.specs.declared.statements.While.{While}
-use Rattle.pas_tree.specs.declared.statements.For.{For}
-use Rattle.pas_tree.specs.declared.statements.With.{With}
 use Rattle.pas_tree.specs.declared.statements.NextAccess.{NextAccess}
-use Rattle.pas_tree.specs.declared.expressions.Access.{Access}
-use Rattle.pas_tree.specs.Operators.{direction_node}
 use Rattle.pas_tree.specs.Constants.{constants_node}
-use Rattle.pas_tree.specs.Expressions.{expression_node, selector_node, access_node}
 use Rattle.pas_tree.specs.Denoters.{last_semicolon_node}
-use Rattle.pas_tree.specs.Statements.{label_node, width_node, actual_node, next_actual_node, actuals_node, call_node, next_access_node, plain_node, compound_node, statements_node, more_statements_node, if_node, else_node, case_node, branches_node, repeat_node, statement_node, next_statement_node, branch_node, branch_step, alternative_node, while_node, for_node, with_node}
+use Rattle.pas_tree.specs.Statements.{label_node, width_node, actual_node, next_actual_node, actuals_node, call_node, assignment_node, next_access_node, plain_node, compound_node, statements_node, more_statements_node, if_node, else_node, case_node, branches_node, repeat_node}
 use Rattle.pas_tree.proofs.TypedBase.{Deep, Fits, deeper, direction_fits}
 use Rattle.pas_tree.proofs.TypedConstants.{constants_fits}
 use Rattle.pas_tree.proofs.TypedExpressions.{expression_fits, selector_list_fits, access_fits}
@@ -59,15 +50,14 @@ actuals_fits : (a : Actuals) (h : Option Terminal) → Fits r.actuals_rule (actu
 unfolding r.actuals_rule
 actuals_fits a h = (refl, (actual_fits a.first _, (actual_list_fits a.others.items _, refl)))
 
-call_fits : (n : ℕ) (a : Option Actuals) (h : Option Terminal) → Fits r.named_statement_rule (Pair (leaf k.Name n) (call_node a)) h
+call_fits : (n : ℕ) (a : Option (Box Actuals)) (h : Option Terminal) → Fits r.named_statement_rule (Pair (leaf k.Name n) (call_node a)) h
 unfolding r.named_statement_rule
 call_fits n None h = (refl, inr (inr tt))
-call_fits n (Some a) h = (refl, inl (actuals_fits a h))
+call_fits n (Some a) h = (refl, inl (actuals_fits a.value h))
 
-assignment_fits : (a : Access) (n : ℕ) (e : Node) (h : Option Terminal) → Fits r.expression_rule e h
-    → Fits r.named_statement_rule (Pair (leaf k.Name a.name) (Pair (row (map selector_node a.selectors.items)) (Pair (leaf k.Becomes n) e))) h
+assignment_fits : (a : Assignment) (h : Option Terminal) → Fits r.named_statement_rule (assignment_node a) h
 unfolding r.named_statement_rule r.assignment_rule
-assignment_fits a n e h f = (refl, inr (inl (selector_list_fits a.selectors.items _, (refl, f))))
+assignment_fits a h = (refl, inr (inl (selector_list_fits a.target.selectors.items _, (refl, expression_fits a.value h))))
 
 access_list_fits : (l : List NextAccess) (h : Option Terminal) → Fits (many (k.Comma ∷ []) r.next_access_rule) (row (map next_access_node l)) h
 unfolding r.next_access_rule
@@ -83,7 +73,7 @@ mutual
 
   plain_fits : (p : Plain) (inner : Bool) (closer : Closer) (h : Option Terminal) → Fits (r.plain_rule inner closer) (plain_node p) h
   plain_fits Empty inner closer h = inr (inr (inr (inr (inr (inr (inr (inr (inr tt))))))))
-  plain_fits (Assignment access becomes e) inner closer h = inl (assignment_fits access becomes (expression_node e) h (expression_fits e h))
+  plain_fits (Assignment' a) inner closer h = inl (assignment_fits a.value h)
   plain_fits (Call name actuals) inner closer h = inl (call_fits name actuals h)
   plain_fits (Goto word label) inner closer h = inr (inl (refl, refl))
   plain_fits (Compound' _ c) inner closer h = inr (inr (inl (compound_fits c h)))

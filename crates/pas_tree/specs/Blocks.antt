@@ -1,5 +1,5 @@
 -- Blocks and programs as nodes.
-use Rattle.std.specs.Prelude.{ℕ, map, Option, Some, None}
+use Rattle.std.specs.Prelude.{map, Option, Some, None}
 use Rattle.grammar.specs.declared.terminals.Terminal.TheVariants as k
 use Rattle.grammar.specs.Nodes.{Node, Nothing, Pair, leaf, row}
 use Rattle.pas_tree.specs.declared.blocks.Tree.{Tree}

@@ -1,7 +1,7 @@
 -- Names and constants as nodes.
-use Rattle.std.specs.Prelude.{ℕ, map, Option, Some, None}
+use Rattle.std.specs.Prelude.{map, Option, Some, None}
 use Rattle.grammar.specs.declared.terminals.Terminal.TheVariants as k
-use Rattle.grammar.specs.Nodes.{Node, Nothing, Pair, leaf, row}
+use Rattle.grammar.specs.Nodes.{Node, Pair, leaf, row}
 use Rattle.pas_tree.specs.declared.operators.Sign.{Sign}
 use Rattle.pas_tree.specs.declared.constants.Names.{Names}
 use Rattle.pas_tree.specs.declared.constants.NextName.{NextName}

@@ -1,5 +1,5 @@
 -- Expressions and accesses as nodes: what they say, without where they lie in memory.
-use Rattle.std.specs.Prelude.{ℕ, map}
+use Rattle.std.specs.Prelude.{map}
 use Rattle.grammar.specs.declared.terminals.Terminal.TheVariants as k
 use Rattle.grammar.specs.Nodes.{Node, Nothing, Pair, leaf, row}
 use Rattle.pas_tree.specs.declared.expressions.Factor.{Factor, Number, Text, Nil, Access', Call', Paren', Set', Not'}
@@ -9,16 +9,16 @@ use Rattle.pas_tree.specs.declared.expressions.Index.{Index as IndexTree, Index'
 use Rattle.pas_tree.specs.declared.expressions.Arguments.{Arguments, Arguments', Row_of-NextExpression, end_of-NextExpression, more_of-NextExpression}
 use Rattle.pas_tree.specs.declared.expressions.NextExpression.{NextExpression, NextExpression'}
 use Rattle.pas_tree.specs.declared.expressions.Expression.{Expression, Expression', Held-Expression-relation, Expression-relation-None', Expression-relation-Some'}
-use Rattle.pas_tree.specs.declared.expressions.Relation.{Relation, Relation'}
+use Rattle.pas_tree.specs.declared.expressions.Relation.{Relation'}
 use Rattle.pas_tree.specs.declared.expressions.Simple.{Simple, Simple', Row_of-NextTerm, end_of-NextTerm, more_of-NextTerm}
 use Rattle.pas_tree.specs.declared.expressions.NextTerm.{NextTerm, NextTerm'}
 use Rattle.pas_tree.specs.declared.expressions.Term.{Term, Term', Row_of-NextFactor, end_of-NextFactor, more_of-NextFactor}
 use Rattle.pas_tree.specs.declared.expressions.NextFactor.{NextFactor}
 use Rattle.pas_tree.specs.declared.expressions.Members.{Members, Empty, Some}
-use Rattle.pas_tree.specs.declared.expressions.SomeMembers.{SomeMembers, SomeMembers', Row_of-NextMember, end_of-NextMember, more_of-NextMember}
+use Rattle.pas_tree.specs.declared.expressions.SomeMembers.{SomeMembers', Row_of-NextMember, end_of-NextMember, more_of-NextMember}
 use Rattle.pas_tree.specs.declared.expressions.NextMember.{NextMember, NextMember'}
 use Rattle.pas_tree.specs.declared.expressions.Member.{Member, Member', Held-Member-last, Member-last-None', Member-last-Some'}
-use Rattle.pas_tree.specs.declared.expressions.RangeEnd.{RangeEnd, RangeEnd'}
+use Rattle.pas_tree.specs.declared.expressions.RangeEnd.{RangeEnd'}
 use Rattle.pas_tree.specs.Operators.{sign_node, adding_node, multiplying_node, relational_node}
 
 abbrev mutual

@@ -1,5 +1,5 @@
 -- Headings and formal parameters as nodes.
-use Rattle.std.specs.Prelude.{ℕ, map, Option, Some, None}
+use Rattle.std.specs.Prelude.{Option, Some, None}
 use Rattle.grammar.specs.declared.terminals.Terminal.TheVariants as k
 use Rattle.grammar.specs.Nodes.{Node, Nothing, Pair, leaf}
 use Rattle.pas_tree.specs.declared.headings.Heading.{Heading, Procedure, Function}

@@ -1,6 +1,6 @@
 -- The grammar of Pascal, ISO 7185 clauses 6.2 to 6.10. Rules that begin alike are one rule up to where they part,
 -- and the token there leads on.
-use Rattle.std.specs.Prelude.{Bool, true, false, List, [], ◌∷◌, ◌++◌}
+use Rattle.std.specs.Prelude.{Bool, true, false, List, [], ◌∷◌}
 use Rattle.grammar.specs.declared.terminals.Terminal.{Terminal}
 use Rattle.grammar.specs.declared.terminals.Terminal.TheVariants as k
 use Rattle.grammar.specs.Grammars.{Closer, by_end, by_until, Level, block, heading, statement, denoter, variant_part, factor, Grammar, token, nothing, seq, choice, greedy, level, word, many, series}

@@ -1,13 +1,15 @@
 -- Statements as nodes.
-use Rattle.std.specs.Prelude.{ℕ, map, Option, Some, None}
+use Rattle.std.specs.Prelude.{map, Option, Some, None}
+use Rattle.std.specs.Global.{Box}
 use Rattle.grammar.specs.declared.terminals.Terminal.TheVariants as k
 use Rattle.grammar.specs.Nodes.{Node, Nothing, Pair, leaf, row, Step}
-use Rattle.pas_tree.specs.declared.statements.Plain.{Plain, Empty, Assignment, Call, Goto, Compound', If', Case', Repeat', While', For', With'}
+use Rattle.pas_tree.specs.declared.statements.Plain.{Plain, Empty, Assignment as Assignment', Call, Goto, Compound', If', Case', Repeat', While', For', With'}
 use Rattle.pas_tree.specs.declared.statements.Compound.{Compound, Compound' as CompoundTree'}
 use Rattle.pas_tree.specs.declared.statements.Statements.{Statements, Statements', Row_of-NextStatement, end_of-NextStatement, more_of-NextStatement}
 use Rattle.pas_tree.specs.declared.statements.NextStatement.{NextStatement}
 use Rattle.pas_tree.specs.declared.statements.Statement.{Statement}
 use Rattle.pas_tree.specs.declared.statements.Label.{Label}
+use Rattle.pas_tree.specs.declared.statements.Assignment.{Assignment}
 use Rattle.pas_tree.specs.declared.statements.Actuals.{Actuals}
 use Rattle.pas_tree.specs.declared.statements.NextActual.{NextActual}
 use Rattle.pas_tree.specs.declared.statements.Actual.{Actual}
@@ -44,9 +46,13 @@ next_actual_node n = Pair (leaf k.Comma n.comma) (actual_node n.actual)
 abbrev pub actuals_node : Actuals → Node
 actuals_node a = Pair (leaf k.LeftParen a.«open») (Pair (actual_node a.first) (Pair (row (map next_actual_node a.others.items)) (leaf k.RightParen a.close)))
 
-abbrev pub call_node : Option Actuals → Node
+abbrev pub call_node : Option (Box Actuals) → Node
 call_node None = Nothing
-call_node (Some a) = actuals_node a
+call_node (Some a) = actuals_node a.value
+
+abbrev pub assignment_node : Assignment → Node
+assignment_node a =
+    Pair (leaf k.Name a.target.name) (Pair (row (map selector_node a.target.selectors.items)) (Pair (leaf k.Becomes a.becomes) (expression_node a.value)))
 
 abbrev pub next_access_node : NextAccess → Node
 next_access_node n = Pair (leaf k.Comma n.comma) (access_node n.access)
@@ -54,8 +60,7 @@ next_access_node n = Pair (leaf k.Comma n.comma) (access_node n.access)
 abbrev mutual
   pub plain_node : Plain → Node
   plain_node Empty = Nothing
-  plain_node (Assignment access becomes e) =
-      Pair (leaf k.Name access.name) (Pair (row (map selector_node access.selectors.items)) (Pair (leaf k.Becomes becomes) (expression_node e)))
+  plain_node (Assignment' a) = assignment_node a.value
   plain_node (Call name actuals) = Pair (leaf k.Name name) (call_node actuals)
   plain_node (Goto word label) = Pair (leaf k.WGoto word) (leaf k.Number label)
   plain_node (Compound' _ c) = compound_node c

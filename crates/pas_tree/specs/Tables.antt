@@ -1,5 +1,5 @@
 -- What begins and follows the constructs that count as nesting.
-use Rattle.std.specs.Prelude.{Bool, true, false, cond, List, [], ◌∷◌}
+use Rattle.std.specs.Prelude.{Bool, true, false, [], ◌∷◌}
 use Rattle.grammar.specs.declared.terminals.Terminal.{Terminal}
 use Rattle.grammar.specs.declared.terminals.Terminal.TheVariants as k
 use Rattle.grammar.specs.Terminals.{is, one_of}

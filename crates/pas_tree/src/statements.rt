@@ -44,10 +44,9 @@ pub struct Label {
 #[cycle(statements)]
 pub enum Plain {
     Empty,
-    /// The target, the `:=` and the value.
-    Assignment(Access, u32, Expression),
+    Assignment(Box<Assignment>),
     /// The procedure's name and its actual parameters.
-    Call(u32, Option<Actuals>),
+    Call(u32, Option<Box<Actuals>>),
     /// The word `goto` and the label.
     Goto(u32, u32),
     Compound(Box<Compound>),
@@ -57,6 +56,13 @@ pub enum Plain {
     While(Box<While>),
     For(Box<For>),
     With(Box<With>),
+}
+
+#[derive(Drop)]
+pub struct Assignment {
+    pub target: Access,
+    pub becomes: u32,
+    pub value: Expression,
 }
 
 #[derive(Drop)]
