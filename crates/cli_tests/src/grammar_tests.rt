@@ -1,5 +1,5 @@
-// What no clause says of the parser: that a refused token is not refused too late, on the edges of nesting, and
-// that lists of any length are read without native recursion.
+// What no clause says of the parser: that the native stack suffices for the deepest trees and for lists of any
+// length, that it succeeds with ample memory, and that the definitions of its clauses mean what users type.
 use debug_cli::ask_pascal;
 use edge_ports::{Bytes, Page, Shelf, Tape};
 use pas_lexer::lex;
@@ -8,30 +8,23 @@ use std::alloc::Global;
 use std::process::Abort;
 use std::test::Fail;
 
-// A source of nested parts: `head`, so many times `opening`, `middle`, as many times `closing`, and `tail`.
-#[derive(Drop)]
-struct Nested {
-    head: &'static [u8],
-    opening: &'static [u8],
-    middle: &'static [u8],
-    closing: &'static [u8],
-    tail: &'static [u8],
+// Appends this part so many times.
+fn append_times(source: &mut Bytes, part: &[u8], times: usize) -> Result<(), Fail> {
+    for _ in 0..times {
+        source.append(part)?;
+    }
+    Ok(())
 }
 
-impl Nested {
-    fn source(&self, alloc: Global, count: usize) -> Result<Bytes, Fail> {
-        let mut source = Bytes::new(alloc);
-        source.append(self.head)?;
-        for _ in 0..count {
-            source.append(self.opening)?;
-        }
-        source.append(self.middle)?;
-        for _ in 0..count {
-            source.append(self.closing)?;
-        }
-        source.append(self.tail)?;
-        Ok(source)
+// The source of a pattern: parts with bars between them, of which each second one stands so many times.
+fn nested(alloc: Global, pattern: &[u8], count: usize) -> Result<Bytes, Fail> {
+    let mut source = Bytes::new(alloc);
+    let mut times = 1;
+    for part in pattern.split(|byte| *byte == b'|') {
+        append_times(&mut source, part, times)?;
+        times = if times == 1 { count } else { 1 };
     }
+    Ok(source)
 }
 
 // What the parser answers: nothing where it takes the source, else its fault and the first byte of its token.
@@ -84,184 +77,195 @@ fn check_refused(
 
 // A node of nesting 200 is taken, and one of nesting 201 refused where it begins. The numbers are how often
 // the part may be repeated, and the byte that is refused where it is repeated once more.
-#[test]
-fn deepest_nodes(rt: HostRuntime) -> Result<(), Fail> {
-    let alloc = rt.alloc();
-    let table = [
-        // Factors.
-        (
-            Nested {
-                head: b"program p; var x: integer; begin x := ",
-                opening: b"(",
-                middle: b"1",
-                closing: b")",
-                tail: b" end.",
-            },
-            197,
-            236,
-        ),
-        // Statements.
-        (
-            Nested {
-                head: b"program p; begin ",
-                opening: b"with a do ",
-                middle: b"b",
-                closing: b"",
-                tail: b" end.",
-            },
-            198,
-            2_007,
-        ),
-        // Statements that take the most native stack to read, each with factors one deeper.
-        (
-            Nested {
-                head: b"program p; begin ",
-                opening: b"for i := a to b do ",
-                middle: b"b",
-                closing: b"",
-                tail: b" end.",
-            },
-            198,
-            3_788,
-        ),
-        // Empty statements: each begins at the token that follows it.
-        (
-            Nested {
-                head: b"program p; begin ",
-                opening: b"begin ",
-                middle: b"",
-                closing: b"end ",
-                tail: b"end.",
-            },
-            198,
-            1_211,
-        ),
-        // Blocks. Each has a statement, one deeper.
-        (
-            Nested {
-                head: b"program p; ",
-                opening: b"procedure a; ",
-                middle: b"",
-                closing: b"begin end; ",
-                tail: b"begin end.",
-            },
-            198,
-            2_604,
-        ),
-        // Headings.
-        (
-            Nested {
-                head: b"program p; procedure a",
-                opening: b"(procedure a",
-                middle: b"",
-                closing: b")",
-                tail: b"; begin end; begin end.",
-            },
-            198,
-            2_399,
-        ),
-        // Types.
-        (
-            Nested {
-                head: b"program p; type t = ",
-                opening: b"set of ",
-                middle: b"a",
-                closing: b"",
-                tail: b"; begin end.",
-            },
-            198,
-            1_413,
-        ),
-        // Variant parts.
-        (
-            Nested {
-                head: b"program p; type t = record ",
-                opening: b"case a of 1: (",
-                middle: b"",
-                closing: b")",
-                tail: b" end; begin end.",
-            },
-            198,
-            2_799,
-        ),
-    ];
-    for (nested, most, byte) in table {
-        let taken = nested.source(alloc, most)?;
+fn check_deepest(rt: &impl Abort, alloc: Global, rows: &[(&[u8], usize, u32)]) -> Result<(), Fail> {
+    for (pattern, most, byte) in rows {
+        let taken = nested(alloc, pattern, *most)?;
         assert!(rt; parsed(alloc, taken.as_slice())? == None);
-        let refused = nested.source(alloc, most.saturating_add(1))?;
-        check_refused(&rt, alloc, refused.as_slice(), "TooDeep", byte)?;
+        let refused = nested(alloc, pattern, most.saturating_add(1))?;
+        check_refused(rt, alloc, refused.as_slice(), "TooDeep", *byte)?;
     }
     Ok(())
 }
 
-// What begins nothing is refused as such, however deep it stands.
-#[test]
-fn deep_misfits(rt: HostRuntime) -> Result<(), Fail> {
-    let alloc = rt.alloc();
-    let table = [
-        (
-            Nested {
-                head: b"program p; var x: integer; begin x := ",
-                opening: b"(",
-                middle: b";",
-                closing: b")",
-                tail: b" end.",
-            },
-            198,
-            236,
-        ),
-        (
-            Nested {
-                head: b"program p; begin ",
-                opening: b"begin ",
-                middle: b"until x",
-                closing: b"end ",
-                tail: b"end.",
-            },
-            199,
-            1_211,
-        ),
-        (
-            Nested {
-                head: b"program p; type t = ",
-                opening: b"set of ",
-                middle: b"file of a",
-                closing: b"",
-                tail: b"; begin end.",
-            },
-            199,
-            1_413,
-        ),
-    ];
-    for (nested, count, byte) in table {
-        let source = nested.source(alloc, count)?;
-        check_refused(&rt, alloc, source.as_slice(), "NotProgram", byte)?;
+// With so many parts each source is refused for this reason, at this byte.
+fn check_all_refused(
+    rt: &impl Abort,
+    alloc: Global,
+    rows: &[(&[u8], usize, &str, u32)],
+) -> Result<(), Fail> {
+    for (pattern, count, why, byte) in rows {
+        let source = nested(alloc, pattern, *count)?;
+        check_refused(rt, alloc, source.as_slice(), why, *byte)?;
     }
     Ok(())
+}
+
+#[test]
+fn deepest_nodes(rt: HostRuntime) -> Result<(), Fail> {
+    check_deepest(
+        &rt,
+        rt.alloc(),
+        &[
+            // Factors.
+            (
+                b"program p; var x: integer; begin x := |(|1|)| end.",
+                197,
+                236,
+            ),
+            // Statements.
+            (b"program p; begin |with a do |b end.", 198, 2_007),
+            // Statements that take the most native stack to read, each with factors one deeper.
+            (b"program p; begin |for i := a to b do |b end.", 198, 3_788),
+            // Empty statements: each begins at the token that follows it.
+            (b"program p; begin |begin ||end |end.", 198, 1_211),
+            // Blocks. Each has a statement, one deeper.
+            (
+                b"program p; |procedure a; ||begin end; |begin end.",
+                198,
+                2_604,
+            ),
+            // Headings.
+            (
+                b"program p; procedure a|(procedure a||)|; begin end; begin end.",
+                198,
+                2_399,
+            ),
+            // Types.
+            (b"program p; type t = |set of |a; begin end.", 198, 1_413),
+            // Variant parts.
+            (
+                b"program p; type t = record |case a of 1: (||)| end; begin end.",
+                198,
+                2_799,
+            ),
+        ],
+    )
+}
+
+// Statements that begin at the token that follows them, or at a label.
+#[test]
+fn deepest_empty_and_labelled(rt: HostRuntime) -> Result<(), Fail> {
+    check_deepest(
+        &rt,
+        rt.alloc(),
+        &[
+            // Empty statements in front of a `;`, an `until` and an `else`.
+            (b"program p; begin |begin |; |end |end.", 198, 1_211),
+            (b"program p; begin |repeat ||until a |end.", 198, 1_410),
+            (
+                b"program p; begin if a then |with a do |else end.",
+                197,
+                2_007,
+            ),
+            // The inner if has its else, so the last one belongs to the outer if.
+            (
+                b"program p; begin if a then if a then b else |with a do |else end.",
+                196,
+                2_014,
+            ),
+            // Labelled statements begin at the label, empty ones too.
+            (b"program p; begin |begin |1: b |end |end.", 198, 1_211),
+            (b"program p; begin |1: begin |1: |end |end.", 198, 1_808),
+        ],
+    )
+}
+
+// What fits nothing is refused as such, however deep it stands.
+#[test]
+fn deep_misfits(rt: HostRuntime) -> Result<(), Fail> {
+    check_all_refused(
+        &rt,
+        rt.alloc(),
+        &[
+            (
+                b"program p; var x: integer; begin x := |(|;|)| end.",
+                198,
+                "NotProgram",
+                236,
+            ),
+            (
+                b"program p; begin |begin |until x|end |end.",
+                199,
+                "NotProgram",
+                1_211,
+            ),
+            (
+                b"program p; type t = |set of |file of a; begin end.",
+                199,
+                "NotProgram",
+                1_413,
+            ),
+            // An empty statement in a repeat, in front of an `end`.
+            (
+                b"program p; begin |repeat |end |until a |end.",
+                199,
+                "NotProgram",
+                1_410,
+            ),
+            // One in front of an `else`: without an if, in a compound inside the if, and where the if has its else.
+            (
+                b"program p; begin |with a do |else end.",
+                199,
+                "NotProgram",
+                2_007,
+            ),
+            (
+                b"program p; begin if a then |begin |else |end |end.",
+                198,
+                "NotProgram",
+                1_215,
+            ),
+            (
+                b"program p; begin if a then b else |with a do |else end.",
+                198,
+                "NotProgram",
+                2_014,
+            ),
+        ],
+    )
+}
+
+// Nothing behind the refused token is needed: here nothing stands there.
+#[test]
+fn deep_and_cut_off(rt: HostRuntime) -> Result<(), Fail> {
+    check_all_refused(
+        &rt,
+        rt.alloc(),
+        &[
+            (
+                b"program p; var x: integer; begin x := |(|1",
+                198,
+                "TooDeep",
+                236,
+            ),
+            // The last heading has nesting 201; without it a block of nesting 200 is wanting.
+            (b"program p; |procedure a; ", 200, "TooDeep", 2_598),
+            (b"program p; |procedure a; ", 199, "NotProgram", 2_598),
+            // A label without its colon; and an empty statement, which the end can't follow.
+            (b"program p; begin |begin |1", 199, "TooDeep", 1_211),
+            (b"program p; begin |begin ", 199, "NotProgram", 1_211),
+            // Empty statements in front of an `until` and an `else`.
+            (b"program p; begin |repeat |until", 199, "TooDeep", 1_410),
+            (
+                b"program p; begin if a then |with a do |else",
+                198,
+                "TooDeep",
+                2_007,
+            ),
+        ],
+    )
 }
 
 // Lists are read by loops: 200,000 statements, and an expression of 200,000 terms.
 #[test]
 fn long_lists(rt: HostRuntime) -> Result<(), Fail> {
     let alloc = rt.alloc();
-    let table = [
-        Nested {
-            head: b"program p; begin a",
-            opening: b";a",
-            middle: b"",
-            closing: b"",
-            tail: b" end.",
-        },
-        Nested {
-            head: b"program p; begin a := 1",
-            opening: b"+1",
-            middle: b"",
-            closing: b"",
-            tail: b" end.",
-        },
+    let table: [&[u8]; 2] = [
+        b"program p; begin a|;a| end.",
+        b"program p; begin a := 1|+1| end.",
     ];
-    for flat in table {
-        let source = flat.source(alloc, 199_999)?;
+    for pattern in table {
+        let source = nested(alloc, pattern, 199_999)?;
         assert!(rt; parsed(alloc, source.as_slice())? == None);
     }
     Ok(())

@@ -324,6 +324,44 @@ fn questions(rt: HostRuntime) -> Result<(), Fail> {
     Ok(())
 }
 
+// Each proper prefix of this source is refused, on one line. Only the one that lacks no more than the last line
+// feed is taken, and opens like this.
+fn check_prefixes(
+    rt: &impl Abort,
+    alloc: Global,
+    whole: &[u8],
+    opening: &[u8],
+) -> Result<(), Fail> {
+    for length in 0..whole.len() {
+        let (source, lacking) = whole.split_at(length);
+        let tape = Tape::new(alloc, b"", &[])?;
+        let (status, shown) = session(alloc, source, tape, Page::new(alloc, ROOM, &[])?)?;
+        let text = shown.as_slice();
+        if lacking == b"\n".as_slice() {
+            assert_eq!(rt; text, opening);
+            assert_eq!(rt; status, 0);
+        } else {
+            assert!(rt; text.starts_with(b"refused: "));
+            assert!(rt; text.ends_with(b"\n"));
+            assert_eq!(rt; text.iter().filter(|byte| **byte == b'\n').count(), 1);
+            assert_eq!(rt; status, 3);
+        }
+    }
+    Ok(())
+}
+
+#[test]
+fn prefixes(rt: HostRuntime) -> Result<(), Fail> {
+    let alloc = rt.alloc();
+    let opening =
+        b"call 0 p\n  returned\nask 1 suspects 3 left 2\ncall 1 b in call 0\n  returned\n".as_slice();
+    let tape = Tape::new(alloc, b"", &[])?;
+    let (status, shown) = session(alloc, ADDERS, tape, Page::new(alloc, ROOM, &[])?)?;
+    assert_eq!(rt; shown.as_slice(), opening);
+    assert_eq!(rt; status, 0);
+    check_prefixes(&rt, alloc, ADDERS, opening)
+}
+
 #[test]
 fn many_calls(rt: HostRuntime) -> Result<(), Fail> {
     let alloc = rt.alloc();

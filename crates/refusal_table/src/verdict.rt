@@ -11,7 +11,7 @@ const ROOM: usize = 65_536;
 
 /// What the parser makes of a source.
 #[derive(Drop)]
-pub enum Verdict {
+pub(crate) enum Verdict {
     Taken,
     /// The name of the parser's fault, and the first byte of its token.
     Refused { why: &'static str, byte: u32 },
@@ -21,7 +21,7 @@ pub enum Verdict {
 
 impl Verdict {
     /// The word for it.
-    pub fn name(&self) -> &'static [u8] {
+    pub(crate) fn name(&self) -> &'static [u8] {
         match self {
             Verdict::Taken => b"taken",
             Verdict::Refused { why, .. } => why.as_bytes(),
@@ -29,7 +29,7 @@ impl Verdict {
         }
     }
 
-    pub fn is_refused(&self) -> bool {
+    pub(crate) fn is_refused(&self) -> bool {
         matches!(self, Verdict::Refused { .. })
     }
 }
@@ -44,7 +44,7 @@ fn refused_at(tokens: &Tokens, why: &'static str, number: u32) -> Verdict {
 }
 
 /// What the parser makes of a source.
-pub fn verdict_of(alloc: Global, source: &[u8]) -> Result<Verdict, AllocError> {
+pub(crate) fn verdict_of(alloc: Global, source: &[u8]) -> Result<Verdict, AllocError> {
     if source.len() as u64 > SOURCE_BYTES {
         return Ok(Verdict::NoTokens);
     }
@@ -65,7 +65,7 @@ pub fn verdict_of(alloc: Global, source: &[u8]) -> Result<Verdict, AllocError> {
 }
 
 /// What the command says of a source, on a console without lines.
-pub fn said_of(alloc: Global, source: &[u8]) -> Result<Bytes, AllocError> {
+pub(crate) fn said_of(alloc: Global, source: &[u8]) -> Result<Bytes, AllocError> {
     let mut words = Vec::new(alloc);
     words.push("pasask".to_string(alloc)?)?;
     words.push("F".to_string(alloc)?)?;
@@ -80,7 +80,11 @@ pub fn said_of(alloc: Global, source: &[u8]) -> Result<Bytes, AllocError> {
 }
 
 /// Whether the command says of a source on one line what the parser made of it.
-pub fn command_agrees(alloc: Global, verdict: &Verdict, said: &[u8]) -> Result<bool, AllocError> {
+pub(crate) fn command_agrees(
+    alloc: Global,
+    verdict: &Verdict,
+    said: &[u8],
+) -> Result<bool, AllocError> {
     match verdict {
         Verdict::Refused { why, byte } => {
             let line = format!(in alloc; "refused: {why}, line 1, byte {byte}\n")?;
