@@ -7,9 +7,9 @@ use Rattle.edge_ports.specs.declared.ports.FetchFault.TheVariants.{Absent, Faile
 abbrev pub next_count : ℕ → ℕ
 next_count before = min (before + 1) (2 ^ 64 - 1)
 
--- the count rose, or stands at its last value
+-- the count rose by one, or stands at its last value
 abbrev pub Rose : ℕ → ℕ → Type 0
-Rose before now = next_count before ≤ now
+Rose before now = now ≡ next_count before
 
 -- the count has not fallen
 abbrev pub NotFallen : ℕ → ℕ → Type 0
