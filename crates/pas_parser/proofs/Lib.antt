@@ -1,4 +1,3 @@
-mod Alternatives
 mod Exactly
 mod Failing
 mod Steps

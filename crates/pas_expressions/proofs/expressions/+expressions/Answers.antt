@@ -12,10 +12,6 @@ use Rattle.pas_phrases.proofs.Ends.{ends}
 use Rattle.pas_tree.specs.Expressions.{next_term_node, next_factor_node, next_expression_node, selector_node, next_member_node}
 use Rattle.pas_tree.specs.Rules.{adding, multiplying, selector_starts, next_term_rule, next_factor_rule, next_expression_rule, selector_rule, next_member_rule, selectors_rule}
 use Rattle.pas_tree.proofs.Parts.{closed-next_term, solid-next_term, closed-next_factor, solid-next_factor, closed-next_expression, solid-next_expression, closed-selector, solid-selector, closed-next_member, solid-next_member}
-use denote.Hole.Carrier.{roll}
-use Rattle.pas_tree.specs.declared.expressions.Expression.{roll-Expression}
-use Rattle.pas_tree.specs.declared.expressions.Relation.{roll-Relation}
-use Rattle.pas_expressions.proofs.Relations.{related}
 use Rattle.pas_expressions.proofs.expressions.+expressions.Goals as goal
 
 pub read_next_terms-terms-preserved : goal.read_next_terms-terms-preserved
@@ -100,8 +96,3 @@ read_next_members-returns-in_err-other-clause-gives t c =
 
 pub read_next_members-returns-clause-gives : goal.read_next_members-returns-clause-gives
 read_next_members-returns-clause-gives t c = is_done pascal pascal_sane c.args.depth (k.Comma ∷ []) next_member_rule closed-next_member solid-next_member (map next_member_node c.members.others.items) (items_from c.args.tokens.now c.members.next) (read pascal c.args.depth (many (k.Comma ∷ []) next_member_rule) (items_from c.args.tokens.now c.args.at)) (sym c.is_next.ensures.tests ∙ c.members-test.false) c.members.invariant.so_far
-
-pub read_expression-returns-then-is_next_relational-clause-gives : goal.read_expression-returns-then-is_next_relational-clause-gives
-unfolding roll-Expression roll-Relation roll
-read_expression-returns-then-is_next_relational-clause-gives t c =
-    related c.args.depth _ _ _ _ _ _ _ c.in_ok-left.ensures.gives (sym c.is_next_relational.ensures.tests ∙ c.if-is_next_relational.true) c.in_ok-operator.ensures.gives c.in_ok-right.ensures.gives

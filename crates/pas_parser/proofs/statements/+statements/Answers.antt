@@ -17,9 +17,6 @@ use Rattle.pas_tree.specs.Rules.{constant_starts, next_statement_rule, branch_ru
 use Rattle.pas_parser.specs.Closers.{closer_of}
 use Rattle.pas_tree.proofs.Parts.{closed-next_statement, solid-next_statement, closed-branch}
 use Rattle.pas_phrases.proofs.Ends.{series_part, series_end}
-use denote.Hole.Carrier.{roll}
-use Rattle.pas_tree.specs.declared.statements.If.{roll-If}
-use Rattle.pas_parser.proofs.Alternatives.{with_else, without_else}
 use Rattle.pas_parser.proofs.statements.+statements.Goals as goal
 
 pub read_next_statements-statements-preserved : goal.read_next_statements-statements-preserved
@@ -61,13 +58,3 @@ pub read_branches-returns-clause-gives : goal.read_branches-returns-clause-gives
 unfolding read
 read_branches-returns-clause-gives t c =
     steps_done pascal pascal_sane c.args.depth k.Semicolon constant_starts branch_rule nothing closed-branch refl (map branch_step c.branches.others.items) (items_from c.args.tokens.now c.branches.next) (last_semicolon_node c.in_ok-end.end) (items_from c.args.tokens.now c.in_ok-end.after) (read pascal c.args.depth (series k.Semicolon constant_starts branch_rule nothing) (items_from c.args.tokens.now c.args.at)) (sym c.is_next_case.ensures.tests ∙ c.branches-test.false) c.in_ok-end.ensures.gives c.branches.invariant.so_far
-
-pub read_if-returns-then-is_next-clause-gives : goal.read_if-returns-then-is_next-clause-gives
-unfolding roll-If roll
-read_if-returns-then-is_next-clause-gives t c =
-    with_else c.args.depth c.args.inner (closer_of c.args.closer) _ _ _ _ _ _ _ _ _ _ _ c.in_ok-word.ensures.gives c.in_ok-condition.ensures.gives c.in_ok-then.ensures.gives c.in_ok-statement.ensures.gives (sym c.is_next.ensures.tests ∙ c.if-is_next.true) c.in_ok-other.ensures.gives
-
-pub read_if-returns-clause-gives : goal.read_if-returns-clause-gives
-unfolding roll-If roll
-read_if-returns-clause-gives t c =
-    without_else c.args.depth c.args.inner (closer_of c.args.closer) _ _ _ _ _ _ _ _ _ c.in_ok-word.ensures.gives c.in_ok-condition.ensures.gives c.in_ok-then.ensures.gives c.in_ok-statement.ensures.gives (sym c.is_next.ensures.tests ∙ c.if-is_next.false)
