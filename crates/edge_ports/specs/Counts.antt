@@ -15,19 +15,29 @@ Rose before now = now ≡ next_count before
 abbrev pub NotFallen : ℕ → ℕ → Type 0
 NotFallen before now = before ≤ now
 
--- the count behind some calls of which the last one failed, or none did: it rose, or is what it was
+-- the count after some calls of which the last one failed, or none did: it rose, or is what it was
 abbrev pub Counted : Bool → ℕ → ℕ → Type 0
 Counted true before now = Rose before now
 Counted false before now = now ≡ before
 
--- no count of a keeper changed
-abbrev pub CountsStay : (faults faults' misses misses' overs overs' : ℕ) → Type 0
-CountsStay faults faults' misses misses' overs overs' = (faults' ≡ faults) × (misses' ≡ misses) × (overs' ≡ overs)
+-- how often a keeper's calls went wrong, by reason
+pub record KeeperCounts : Type 0 where
+  pub faults : ℕ  -- calls that failed
+  pub misses : ℕ  -- files that were absent
+  pub overs : ℕ  -- files that were too long
 
--- a keeper's counts behind a fetch: the one that says why it failed rose, and the others stay
-abbrev pub CountsFetch : Result (List ℕ) FetchFault → (faults faults' misses misses' overs overs' : ℕ) → Type 0
-CountsFetch (Ok bytes) faults faults' misses misses' overs overs' = CountsStay faults faults' misses misses' overs overs'
-CountsFetch (Err Failed) faults faults' misses misses' overs overs' = Rose faults faults' × (misses' ≡ misses) × (overs' ≡ overs)
-CountsFetch (Err Absent) faults faults' misses misses' overs overs' = (faults' ≡ faults) × Rose misses misses' × (overs' ≡ overs)
-CountsFetch (Err (TooLong limit)) faults faults' misses misses' overs overs' = (faults' ≡ faults) × (misses' ≡ misses) × Rose overs overs'
-CountsFetch (Err Memory) faults faults' misses misses' overs overs' = CountsStay faults faults' misses misses' overs overs'
+-- nothing has gone wrong yet
+abbrev pub no_counts : KeeperCounts
+no_counts = record { faults = 0; misses = 0; overs = 0 }
+
+-- none of a keeper's counts has fallen
+abbrev pub NoneFallen : KeeperCounts → KeeperCounts → Type 0
+NoneFallen before now = NotFallen before.faults now.faults × NotFallen before.misses now.misses × NotFallen before.overs now.overs
+
+-- a keeper's counts after a fetch: the one that says why it failed rose, and the others stay
+abbrev pub CountsFetch : Result (List ℕ) FetchFault → KeeperCounts → KeeperCounts → Type 0
+CountsFetch (Ok bytes) before now = now ≡ before
+CountsFetch (Err Failed) before now = now ≡ record before { faults = next_count before.faults }
+CountsFetch (Err Absent) before now = now ≡ record before { misses = next_count before.misses }
+CountsFetch (Err (TooLong limit)) before now = now ≡ record before { overs = next_count before.overs }
+CountsFetch (Err Memory) before now = now ≡ before

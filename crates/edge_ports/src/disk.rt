@@ -1,10 +1,10 @@
 // Real files as a keeper. It tells nothing of its files.
 ghost use Rattle.std.specs.Prelude.{◌≡◌, ◌<◌, ◌≤◌, ◌+◌, ℕ, List, length, Err, IfOk, IfSome, None};
 ghost use Rattle.std.specs.Io.KnownBytes.{Consumes};
-ghost use Rattle.edge_ports.specs.Counts.{Rose, NotFallen};
+ghost use Rattle.edge_ports.specs.Counts.{no_counts};
 ghost use Rattle.edge_ports.specs.Streams.{opener_of};
 
-use crate::plan::count_on;
+use crate::counts::Counts;
 use crate::{Bytes, FetchFault, Keeper};
 use std::alloc::Global;
 use std::fs;
@@ -15,24 +15,18 @@ use std::rt::Files;
 #[derive(Debug, Drop)]
 pub struct FileKeeper<R> {
     files: R,
-    faults: u64,
-    misses: u64,
-    overs: u64,
+    counts: Counts,
 }
 
 impl<R: Files> FileKeeper<R> {
     /// The files that the runtime opens. Nothing has failed yet.
     pub fn new(files: R) -> FileKeeper<R>
         ensures kept { opener_of result ≡ files }
-        ensures faults { ⟦<FileKeeper<R> as Keeper>⟧.faults result ≡ 0 }
-        ensures misses { ⟦<FileKeeper<R> as Keeper>⟧.misses result ≡ 0 }
-        ensures overs { ⟦<FileKeeper<R> as Keeper>⟧.overs result ≡ 0 }
+        ensures counts { ⟦<FileKeeper<R> as Keeper>⟧.counts result ≡ no_counts }
     {
         FileKeeper {
             files,
-            faults: 0,
-            misses: 0,
-            overs: 0,
+            counts: Counts::new(),
         }
     }
 }
@@ -103,24 +97,11 @@ fn read_file<R: Files>(
 impl<R: Files> Keeper for FileKeeper<R> {
     ghost files = { λ _. None };
 
-    ghost faults = { λ k. k.faults };
-
-    ghost misses = { λ k. k.misses };
-
-    ghost overs = { λ k. k.overs };
+    ghost counts = { λ k. k.counts };
 
     fn fetch(&mut self, alloc: Global, name: &str, limit: u64) -> Result<Bytes, FetchFault> {
-        match read_file(&self.files, alloc, name, limit) {
-            Ok(bytes) => Ok(bytes),
-            Err(fault) => {
-                match fault {
-                    FetchFault::Absent => self.misses = count_on(self.misses),
-                    FetchFault::Failed => self.faults = count_on(self.faults),
-                    FetchFault::TooLong(_) => self.overs = count_on(self.overs),
-                    FetchFault::Memory => {}
-                }
-                Err(fault)
-            }
-        }
+        let answer = read_file(&self.files, alloc, name, limit);
+        self.counts.count(&answer);
+        answer
     }
 }

@@ -4,6 +4,7 @@
 #![tactic(auto)]
 
 mod bytes;
+mod counts;
 mod disk;
 mod lines;
 mod page;

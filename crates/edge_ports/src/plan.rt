@@ -1,19 +1,12 @@
 // Which calls of an object in memory are to fail.
 ghost use Rattle.std.specs.Prelude.{◌≡◌, ◌↔◌, IsTrue, IfOk};
-ghost use Rattle.edge_ports.specs.Counts.{NotFallen, next_count};
+ghost use Rattle.edge_ports.specs.Counts.{NotFallen};
 ghost use Rattle.edge_ports.specs.States.{IsListed, plan_after, plan_of};
 
 use crate::Memory;
+use crate::counts::count_on;
 use std::alloc::Global;
 use std::marker::Model;
-
-/// One more, unless the count stands at its last value.
-pub fn count_on(count: u64) -> u64
-    ensures next { result ≡ next_count count }
-    ensures not_fallen { NotFallen count result }
-{
-    count.saturating_add(1)
-}
 
 /// Numbers the calls of an object, and counts those that failed.
 #[derive(Debug, Drop)]

@@ -1,7 +1,7 @@
 // What the program asks of the outside.
 ghost use Rattle.std.specs.Prelude.{◌≡◌, ◌<◌, ◌≤◌, ℕ, List, Ok, Err, Option, length, take, is_err, IfOk, OnOk, OnErr};
 ghost use Rattle.std.specs.Io.KnownBytes.{IsAtEnd};
-ghost use Rattle.edge_ports.specs.Counts.{Rose, NotFallen, CountsFetch};
+ghost use Rattle.edge_ports.specs.Counts.{Rose, NotFallen, KeeperCounts, CountsFetch, NoneFallen};
 ghost use Rattle.edge_ports.specs.Told.{GaveAll, GavePrefix, TookAll, FailedLast};
 ghost use Rattle.edge_ports.specs.Files.{FileMap, HoldsFile, LacksFile, HoldsLonger};
 
@@ -78,15 +78,9 @@ pub trait Keeper {
     /// The files, where the object tells them. A name stands for its bytes.
     ghost files: { Self → Option FileMap };
 
-    /// How often the object failed. This count and the two below rise with a fetch that fails for that
-    /// reason and with no other, and stand still at the last number of 64 bits.
-    ghost faults: { Self → ℕ };
-
-    /// How often a file was absent.
-    ghost misses: { Self → ℕ };
-
-    /// How often a file was too long.
-    ghost overs: { Self → ℕ };
+    /// How often calls went wrong, by reason. A count rises with each call that goes wrong for its reason
+    /// and with no other, and stands still at the last number of 64 bits.
+    ghost counts: { Self → KeeperCounts };
 
     /// All the bytes of the file of this name, if they are at most `limit`.
     fn fetch(&mut self, alloc: Global, name: &str, limit: u64) -> Result<Bytes, FetchFault>
@@ -94,11 +88,9 @@ pub trait Keeper {
         ensures found { IfOk result (λ bytes. HoldsFile (files self.old) name.now bytes) }
         ensures absent { result ≡ Err FetchFault.Absent → LacksFile (files self.old) name.now }
         ensures too_long { (bound : ℕ) → result ≡ Err (FetchFault.TooLong bound) → (bound ≡ limit) × HoldsLonger (files self.old) name.now limit }
-        ensures counts { CountsFetch result (faults self.old) (faults self.new) (misses self.old) (misses self.new) (overs self.old) (overs self.new) }
+        ensures counts { CountsFetch result (counts self.old) (counts self.new) }
         ensures files { files self.new ≡ files self.old }
-        ensures faults { NotFallen (faults self.old) (faults self.new) }
-        ensures misses { NotFallen (misses self.old) (misses self.new) }
-        ensures overs { NotFallen (overs self.old) (overs self.new) };
+        ensures not_fallen { NoneFallen (counts self.old) (counts self.new) };
 }
 
 /// Gives all the bytes, piece by piece. It takes no memory.
@@ -106,7 +98,7 @@ pub fn write_all<O: Sink>(sink: &mut O, bytes: &[u8]) -> Result<(), Failed>
     ensures ok { OnOk result (GaveAll (O.given sink.old) (O.given sink.new) bytes.now) }
     ensures failed { OnErr result (GavePrefix (O.given sink.old) (O.given sink.new) bytes.now) }
     ensures cause { OnErr result (Rose (O.faults sink.old) (O.faults sink.new)) }
-    // No call comes behind the one that failed.
+    // No call comes after the one that failed.
     ensures last { FailedLast O.given O.faults (is_err result) sink.old sink.new }
     ensures calm { OnOk result (O.faults sink.new ≡ O.faults sink.old) }
     ensures faults { NotFallen (O.faults sink.old) (O.faults sink.new) }

@@ -2,13 +2,14 @@
 ghost use Rattle.std.specs.Prelude.{◌≡◌, ◌<◌, ◌≤◌, ◌↔◌, ℕ, List, length, Option, Some, None, Ok, Err, IfOk, OnOk, OnErr, IsSomeAnd};
 ghost use Rattle.std.specs.Option.{option_map};
 ghost use Rattle.std.specs.FinMap.{empty, insert};
-ghost use Rattle.edge_ports.specs.Counts.{NotFallen, CountsFetch};
+ghost use Rattle.edge_ports.specs.Counts.{no_counts, NoneFallen, CountsFetch};
 ghost use Rattle.edge_ports.specs.States.{IsListed};
 ghost use Rattle.edge_ports.specs.Files.{file_at, HoldsFile, LacksFile, HoldsLonger};
 ghost use Rattle.edge_ports.specs.Shelves.{empty_shelf, shelf_after};
 ghost use Rattle.edge_ports.specs.Entries.{files_of};
 
-use crate::plan::{Plan, count_on};
+use crate::counts::Counts;
+use crate::plan::Plan;
 use crate::{Bytes, FetchFault, Keeper, Memory};
 use std::alloc::Global;
 use std::collections::VecDeque;
@@ -27,8 +28,7 @@ pub struct Shelf {
     alloc: Global,
     entries: VecDeque<Entry>,
     plan: Plan,
-    misses: u64,
-    overs: u64,
+    counts: Counts,
 }
 
 impl Model for Shelf {
@@ -40,7 +40,7 @@ impl Model for Shelf {
 
     ghost use Rattle.edge_ports.specs.Entries.{files_of};
 
-    ghost view = { λ s. record { files = files_of s.entries.items; plan = s.plan; misses = s.misses; overs = s.overs } };
+    ghost view = { λ s. record { files = files_of s.entries.items; plan = s.plan; counts = s.counts } };
 }
 
 impl Shelf {
@@ -48,16 +48,13 @@ impl Shelf {
     pub fn new(alloc: Global, fails: &[u64]) -> Result<Shelf, Memory>
         ensures empty { IfOk result (λ shelf. shelf ≡ empty_shelf fails.now) }
         ensures files { IfOk result (λ shelf. ⟦<Shelf as Keeper>⟧.files shelf ≡ Some empty) }
-        ensures faults { IfOk result (λ shelf. ⟦<Shelf as Keeper>⟧.faults shelf ≡ 0) }
-        ensures misses { IfOk result (λ shelf. ⟦<Shelf as Keeper>⟧.misses shelf ≡ 0) }
-        ensures overs { IfOk result (λ shelf. ⟦<Shelf as Keeper>⟧.overs shelf ≡ 0) }
+        ensures counts { IfOk result (λ shelf. ⟦<Shelf as Keeper>⟧.counts shelf ≡ no_counts) }
     {
         Ok(Shelf {
             alloc,
             entries: VecDeque::new(alloc),
             plan: Plan::new(alloc, fails)?,
-            misses: 0,
-            overs: 0,
+            counts: Counts::new(),
         })
     }
 
@@ -110,14 +107,28 @@ fn fetched(alloc: Global, bytes: Option<&[u8]>, limit: u64) -> Result<Bytes, Fet
     }
 }
 
+impl Shelf {
+    // What a fetch answers.
+    fn answer_to(&self, alloc: Global, name: &str, limit: u64) -> Result<Bytes, FetchFault>
+        ensures listed { (result ≡ Err FetchFault.Failed) ↔ IsListed self.now.plan }
+        ensures lacking { (result ≡ Err FetchFault.Absent) ↔
+            ((IsListed self.now.plan → ⊥) × (file_at self.now.files name.now ≡ None)) }
+        ensures over { (result ≡ Err (FetchFault.TooLong limit)) ↔
+            ((IsListed self.now.plan → ⊥) × IsSomeAnd (file_at self.now.files name.now) (λ bytes. limit < length bytes)) }
+        ensures copy { IfOk result (λ bytes. (file_at self.now.files name.now ≡ Some bytes) × (length bytes ≤ limit)) }
+        ensures limit { (bound : ℕ) → result ≡ Err (FetchFault.TooLong bound) → bound ≡ limit }
+    {
+        if self.plan.is_listed() {
+            return Err(FetchFault::Failed);
+        }
+        fetched(alloc, find(&self.entries, name.as_bytes()), limit)
+    }
+}
+
 impl Keeper for Shelf {
     ghost files = { λ s. Some s.files };
 
-    ghost faults = { λ s. s.plan.faults };
-
-    ghost misses = { λ s. s.misses };
-
-    ghost overs = { λ s. s.overs };
+    ghost counts = { λ s. s.counts };
 
     /// Fails exactly where the call is listed. Else the file is absent exactly where there is none of that
     /// name, and too long exactly where it has more than `limit` bytes.
@@ -134,30 +145,14 @@ impl Keeper for Shelf {
         ensures absent { result ≡ Err FetchFault.Absent → LacksFile (Some self.old.files) name.now }
         ensures too_long { (bound : ℕ) → result ≡ Err (FetchFault.TooLong bound) → (bound ≡ limit)
             × HoldsLonger (Some self.old.files) name.now limit }
-        ensures counts { CountsFetch result self.old.plan.faults self.new.plan.faults self.old.misses self.new.misses
-            self.old.overs self.new.overs }
+        ensures counts { CountsFetch result self.old.counts self.new.counts }
         ensures files { Some self.new.files ≡ Some self.old.files }
-        ensures faults { NotFallen self.old.plan.faults self.new.plan.faults }
-        ensures misses { NotFallen self.old.misses self.new.misses }
-        ensures overs { NotFallen self.old.overs self.new.overs }
+        ensures not_fallen { NoneFallen self.old.counts self.new.counts }
     {
+        let answer = self.answer_to(alloc, name, limit);
         let failed = self.plan.is_listed();
         self.plan.count(failed);
-        if failed {
-            return Err(FetchFault::Failed);
-        }
-        match fetched(alloc, find(&self.entries, name.as_bytes()), limit) {
-            Ok(copy) => Ok(copy),
-            Err(FetchFault::Absent) => {
-                self.misses = count_on(self.misses);
-                Err(FetchFault::Absent)
-            }
-            Err(FetchFault::TooLong(bound)) => {
-                self.overs = count_on(self.overs);
-                Err(FetchFault::TooLong(bound))
-            }
-            Err(FetchFault::Failed) => Err(FetchFault::Failed),
-            Err(FetchFault::Memory) => Err(FetchFault::Memory),
-        }
+        self.counts.count(&answer);
+        answer
     }
 }

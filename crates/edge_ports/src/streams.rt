@@ -3,7 +3,7 @@ ghost use Rattle.std.specs.Prelude.{◌≡◌, ◌<◌, ◌≤◌, length, take,
 ghost use Rattle.std.specs.Io.KnownBytes.{Appends};
 ghost use Rattle.edge_ports.specs.Streams.{reader_of, writer_of};
 
-use crate::plan::count_on;
+use crate::counts::count_on;
 use crate::{Failed, Sink, Source};
 use std::io::{Read, Write};
 

@@ -1,0 +1,56 @@
+// Counts of what went wrong.
+ghost use Rattle.std.specs.Prelude.{◌≡◌};
+ghost use Rattle.edge_ports.specs.Counts.{NotFallen, next_count, no_counts, CountsFetch, NoneFallen};
+
+use crate::{Bytes, FetchFault};
+use std::marker::Model;
+
+/// One more, unless the count stands at its last value.
+pub fn count_on(count: u64) -> u64
+    ensures next { result ≡ next_count count }
+    ensures not_fallen { NotFallen count result }
+{
+    count.saturating_add(1)
+}
+
+/// How often a keeper's calls went wrong, by reason.
+#[derive(Debug, Drop)]
+pub struct Counts {
+    faults: u64,
+    misses: u64,
+    overs: u64,
+}
+
+impl Model for Counts {
+    ghost use Rattle.edge_ports.specs.Counts.{KeeperCounts};
+
+    ghost Value = { KeeperCounts };
+
+    ghost view = { λ c. record { faults = c.faults; misses = c.misses; overs = c.overs } };
+}
+
+impl Counts {
+    /// Nothing has gone wrong yet.
+    pub fn new() -> Counts
+        ensures { result ≡ no_counts }
+    {
+        Counts {
+            faults: 0,
+            misses: 0,
+            overs: 0,
+        }
+    }
+
+    /// Counts a fetch with this answer.
+    pub fn count(&mut self, answer: &Result<Bytes, FetchFault>)
+        ensures counts { CountsFetch answer.now self.old self.new }
+        ensures not_fallen { NoneFallen self.old self.new }
+    {
+        match answer {
+            Err(FetchFault::Failed) => self.faults = count_on(self.faults),
+            Err(FetchFault::Absent) => self.misses = count_on(self.misses),
+            Err(FetchFault::TooLong(_)) => self.overs = count_on(self.overs),
+            Err(FetchFault::Memory) | Ok(_) => {}
+        }
+    }
+}
