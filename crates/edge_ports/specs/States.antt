@@ -29,8 +29,9 @@ pub record TapeState : Type 0 where
   pub left : List ℕ
   pub plan : PlanState
 
--- the bytes given so far, how many fit in all, and the plan
+-- the bytes given so far, how many fit in all, the plan, and whether the last call failed
 pub record PageState : Type 0 where
   pub given : List ℕ
   pub room : ℕ
   pub plan : PlanState
+  pub failed : Bool

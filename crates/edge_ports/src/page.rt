@@ -1,5 +1,5 @@
 // A sink in memory.
-ghost use Rattle.std.specs.Prelude.{◌≡◌, ◌<◌, ◌≤◌, ◌↔◌, ◌⊎◌, ◌-◌, [], Some, length, take, min, is_err, IfOk, IsErr, OnErr, OnOk};
+ghost use Rattle.std.specs.Prelude.{◌≡◌, ◌<◌, ◌≤◌, ◌↔◌, ◌⊎◌, ◌-◌, [], false, Some, length, take, min, is_err, IfOk, IsErr, OnErr, OnOk};
 ghost use Rattle.edge_ports.specs.Counts.{Rose, NotFallen};
 ghost use Rattle.edge_ports.specs.Told.{GaveAll};
 ghost use Rattle.edge_ports.specs.States.{IsListed, plan_after, plan_of};
@@ -15,6 +15,7 @@ pub struct Page {
     bytes: Vec<u8>,
     room: usize,
     plan: Plan,
+    failed: bool,
 }
 
 impl Model for Page {
@@ -23,7 +24,7 @@ impl Model for Page {
 
     ghost Value = { PageState };
 
-    ghost view = { λ p. record { given = p.bytes.items; room = p.room; plan = p.plan } };
+    ghost view = { λ p. record { given = p.bytes.items; room = p.room; plan = p.plan; failed = p.failed } };
 
     ghost invariant = { λ p. (length p.bytes.items ≤ p.room) × (p.room ≤ vec_capacity p.bytes) };
 }
@@ -36,11 +37,13 @@ impl Page {
         ensures plan { IfOk result (λ page. page.plan ≡ plan_of fails.now) }
         ensures given { IfOk result (λ page. ⟦<Page as Sink>⟧.given page ≡ Some []) }
         ensures faults { IfOk result (λ page. ⟦<Page as Sink>⟧.faults page ≡ 0) }
+        ensures last { IfOk result (λ page. ⟦<Page as Sink>⟧.last_failed page ≡ false) }
     {
         Ok(Page {
             bytes: Vec::with_capacity(alloc, room)?,
             room,
             plan: Plan::new(alloc, fails)?,
+            failed: false,
         })
     }
 
@@ -57,6 +60,8 @@ impl Sink for Page {
 
     ghost faults = { λ p. p.plan.faults };
 
+    ghost last_failed = { λ p. p.failed };
+
     /// Fails exactly where the call is listed or no byte of room is left, and else appends as many bytes
     /// of the piece as fit.
     fn give(&mut self, piece: &[u8]) -> Result<usize, Failed>
@@ -69,6 +74,7 @@ impl Sink for Page {
         ensures some { IfOk result (λ n. 0 < n) }
         ensures gave { IfOk result (λ n. GaveAll (Some self.old.given) (Some self.new.given) (take n piece.now)) }
         ensures failed { OnErr result (Some self.new.given ≡ Some self.old.given) }
+        ensures last { self.new.failed ≡ is_err result }
         ensures cause { OnErr result (Rose self.old.plan.faults self.new.plan.faults) }
         ensures calm { OnOk result (self.new.plan.faults ≡ self.old.plan.faults) }
         ensures faults { NotFallen self.old.plan.faults self.new.plan.faults }
@@ -76,6 +82,7 @@ impl Sink for Page {
         let left = self.room - self.bytes.len();
         let failed = self.plan.is_listed() || left == 0;
         self.plan.count(failed);
+        self.failed = failed;
         if failed {
             return Err(Failed);
         }

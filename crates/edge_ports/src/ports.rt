@@ -1,8 +1,8 @@
 // What the program asks of the outside.
-ghost use Rattle.std.specs.Prelude.{◌≡◌, ◌<◌, ◌≤◌, ℕ, List, Ok, Err, Option, length, take, is_err, IfOk, OnOk, OnErr};
+ghost use Rattle.std.specs.Prelude.{◌≡◌, ◌<◌, ◌≤◌, ℕ, Bool, true, List, Ok, Err, Option, length, take, is_err, IfOk, OnOk, OnErr};
 ghost use Rattle.std.specs.Io.KnownBytes.{IsAtEnd};
 ghost use Rattle.edge_ports.specs.Counts.{Rose, NotFallen, KeeperCounts, CountsFetch, NoneFallen};
-ghost use Rattle.edge_ports.specs.Told.{GaveAll, GavePrefix, TookAll, FailedLast};
+ghost use Rattle.edge_ports.specs.Told.{GaveAll, GavePrefix, TookAll};
 ghost use Rattle.edge_ports.specs.Files.{FileMap, HoldsFile, LacksFile, HoldsLonger};
 
 use crate::Bytes;
@@ -44,6 +44,9 @@ pub trait Sink {
     /// at the last number of 64 bits.
     ghost faults: { Self → ℕ };
 
+    /// Whether the last call failed. Before the first call it is false.
+    ghost last_failed: { Self → Bool };
+
     /// Appends bytes from the front of the piece to what was given, and answers how many, at least 1.
     fn give(&mut self, piece: &[u8]) -> Result<usize, Failed>
         requires { 0 < length piece.now }
@@ -51,6 +54,7 @@ pub trait Sink {
         ensures some { IfOk result (λ n. 0 < n) }
         ensures gave { IfOk result (λ n. GaveAll (given self.old) (given self.new) (take n piece.now)) }
         ensures failed { OnErr result (given self.new ≡ given self.old) }
+        ensures last { last_failed self.new ≡ is_err result }
         ensures cause { OnErr result (Rose (faults self.old) (faults self.new)) }
         ensures calm { OnOk result (faults self.new ≡ faults self.old) }
         ensures faults { NotFallen (faults self.old) (faults self.new) };
@@ -99,7 +103,7 @@ pub fn write_all<O: Sink>(sink: &mut O, bytes: &[u8]) -> Result<(), Failed>
     ensures failed { OnErr result (GavePrefix (O.given sink.old) (O.given sink.new) bytes.now) }
     ensures cause { OnErr result (Rose (O.faults sink.old) (O.faults sink.new)) }
     // No call comes after the one that failed.
-    ensures last { FailedLast O.given O.faults (is_err result) sink.old sink.new }
+    ensures last { OnErr result (O.last_failed sink.new ≡ true) }
     ensures calm { OnOk result (O.faults sink.new ≡ O.faults sink.old) }
     ensures faults { NotFallen (O.faults sink.old) (O.faults sink.new) }
 {

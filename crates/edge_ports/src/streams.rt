@@ -1,5 +1,5 @@
 // std's readers and writers as ports. They tell nothing of their bytes.
-ghost use Rattle.std.specs.Prelude.{◌≡◌, ◌<◌, ◌≤◌, length, take, IfOk};
+ghost use Rattle.std.specs.Prelude.{◌≡◌, ◌<◌, ◌≤◌, false, length, take, IfOk};
 ghost use Rattle.std.specs.Io.KnownBytes.{Appends};
 ghost use Rattle.edge_ports.specs.Streams.{reader_of, writer_of};
 
@@ -62,6 +62,7 @@ impl<R: Read> Source for StdSource<R> {
 pub struct StdSink<W> {
     writer: W,
     faults: u64,
+    failed: bool,
 }
 
 impl<W: Write> StdSink<W> {
@@ -69,8 +70,13 @@ impl<W: Write> StdSink<W> {
     pub fn new(writer: W) -> StdSink<W>
         ensures kept { writer_of result ≡ writer }
         ensures faults { ⟦<StdSink<W> as Sink>⟧.faults result ≡ 0 }
+        ensures last { ⟦<StdSink<W> as Sink>⟧.last_failed result ≡ false }
     {
-        StdSink { writer, faults: 0 }
+        StdSink {
+            writer,
+            faults: 0,
+            failed: false,
+        }
     }
 }
 
@@ -91,7 +97,7 @@ fn write_flushed<W: Write>(writer: &mut W, piece: &[u8]) -> Result<usize, Failed
 }
 
 impl<W: Write> Sink for StdSink<W> {
-    ghost use Rattle.std.specs.Prelude.{◌≡◌, ◌≤◌, ◌<◌, None, length, take, IfOk, OnErr, OnOk};
+    ghost use Rattle.std.specs.Prelude.{◌≡◌, ◌≤◌, ◌<◌, None, length, take, is_err, IfOk, OnErr, OnOk};
     ghost use Rattle.std.specs.Io.KnownBytes.{Appends};
     ghost use Rattle.edge_ports.specs.Counts.{Rose, NotFallen};
     ghost use Rattle.edge_ports.specs.Told.{GaveAll};
@@ -101,6 +107,8 @@ impl<W: Write> Sink for StdSink<W> {
 
     ghost faults = { λ s. s.faults };
 
+    ghost last_failed = { λ s. s.failed };
+
     /// One write and a flush, as std says of the writer.
     fn give(&mut self, piece: &[u8]) -> Result<usize, Failed>
         requires { 0 < length piece.now }
@@ -108,13 +116,18 @@ impl<W: Write> Sink for StdSink<W> {
         ensures count { IfOk result (λ n. n ≤ length piece.now) }
         ensures some { IfOk result (λ n. 0 < n) }
         ensures gave { IfOk result (λ n. GaveAll None None (take n piece.now)) }
+        ensures last { self.new.failed ≡ is_err result }
         ensures cause { OnErr result (Rose self.old.faults self.new.faults) }
         ensures calm { OnOk result (self.new.faults ≡ self.old.faults) }
         ensures faults { NotFallen self.old.faults self.new.faults }
     {
         match write_flushed(&mut self.writer, piece) {
-            Ok(count) => Ok(count),
+            Ok(count) => {
+                self.failed = false;
+                Ok(count)
+            }
             Err(failed) => {
+                self.failed = true;
                 self.faults = count_on(self.faults);
                 Err(failed)
             }
