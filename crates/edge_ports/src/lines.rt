@@ -1,9 +1,10 @@
 // The lines of a console.
-ghost use Rattle.std.specs.Prelude.{◌≡◌, ◌<◌, ◌≤◌, ◌↔◌, ◌⊎◌, ◌+◌, ℕ, List, [], ◌++◌, Ok, Err, Some, None, Option, length, take, drop, position, IsTrue, IsOk, OnOk, OnErr, IfOk, IfErr, IsSomeAnd, MatchOption, true, false, IfSome, ◌-◌, slice_index};
+ghost use Rattle.std.specs.Prelude.{◌≡◌, ◌<◌, ◌≤◌, ◌⊎◌, ◌+◌, ◌-◌, Ok, None, length, take, drop, slice_index, vec_capacity, IsTrue, OnOk, OnErr, IfOk, IfSome};
 ghost use Rattle.std.specs.Option.{option_map};
 ghost use Rattle.std.specs.Str.Lines.{strip_carriage_return};
 ghost use Rattle.std.specs.Io.KnownBytes.{IsAtEnd};
 ghost use Rattle.edge_ports.specs.Counts.{Rose, NotFallen};
+ghost use Rattle.edge_ports.specs.Limits.{console_bytes};
 ghost use Rattle.edge_ports.specs.Lines.{is_line_end, line_end_of, HasWholeLine, next_line, lines_of, Moves};
 
 use crate::{Failed, Memory, Source};
@@ -39,42 +40,34 @@ pub enum LineFault {
     Spent,
 }
 
-/// Hands out the lines of a console. All bytes taken are kept, in room that is taken at the start.
+/// Hands out the lines of a console. All bytes taken are kept, in memory that is reserved at the start.
 #[derive(Debug, Drop)]
 pub struct Lines {
-    room: Vec<u8>,
+    taken: Vec<u8>,
     handed: usize,
-    taken: usize,
     ended: bool,
     line_start: usize,
     line_end: usize,
 }
 
 impl Model for Lines {
-    ghost use Rattle.std.specs.Prelude.{◌≡◌, ◌<◌, ◌≤◌, IsTrue, [], take, drop, length};
+    ghost use Rattle.std.specs.Prelude.{◌≡◌, ◌<◌, ◌≤◌, IsTrue, [], take, drop, length, vec_capacity};
     ghost use Rattle.edge_ports.specs.Limits.{console_bytes};
     ghost use Rattle.edge_ports.specs.Lines.{LinesState, IsCutAtLines};
 
     ghost Value = { LinesState };
 
     ghost view = { λ l. record {
-      taken = take l.taken l.room.items;
+      taken = l.taken.items;
       handed = l.handed;
       ended = l.ended;
-      line = drop l.line_start (take l.line_end l.room.items);
+      line = drop l.line_start (take l.line_end l.taken.items);
     } };
 
-    ghost invariant = { λ l. (length l.room.items ≡ console_bytes) × (l.taken ≤ console_bytes)
-        × (l.handed ≤ l.taken) × (l.line_start ≤ l.line_end) × (l.line_end ≤ l.taken)
-        × (IsTrue l.ended → l.taken < console_bytes)
-        × IsCutAtLines (record { taken = take l.taken l.room.items; handed = l.handed; ended = l.ended; line = [] }) };
-}
-
-// So many zeros.
-fn zeros(alloc: Global, count: usize) -> Result<Vec<u8>, Memory>
-    ensures { IfOk result (λ room. length room.items ≡ count) }
-{
-    vec![in alloc; 0; count]
+    ghost invariant = { λ l. (length l.taken.items ≤ console_bytes) × (console_bytes ≤ vec_capacity l.taken)
+        × (l.handed ≤ length l.taken.items) × (l.line_start ≤ l.line_end) × (l.line_end ≤ length l.taken.items)
+        × (IsTrue l.ended → length l.taken.items < console_bytes)
+        × IsCutAtLines (record { taken = l.taken.items; handed = l.handed; ended = l.ended; line = [] }) };
 }
 
 // Where the first LF stands, if there is one.
@@ -131,20 +124,34 @@ fn next_range(bytes: &[u8], ended: bool, line_end: Option<usize>) -> Option<(usi
     }
 }
 
-// Takes bytes into the room behind those that are there, and answers how many.
-fn take_behind<I: Source>(source: &mut I, room: &mut [u8], taken: usize) -> Result<usize, Failed>
-    requires { taken < length room.old }
-    ensures count { IfOk result (λ n. taken + n ≤ length room.new) }
-    ensures moved { IfOk result (λ n. Moves (take taken room.old) (take (taken + n) room.new)
-        (I.left source.old) (I.left source.new)) }
-    ensures kept { take taken room.new ≡ take taken room.old }
+// The most bytes that are taken of a source at once.
+const PIECE_BYTES: usize = 4_096;
+
+// Takes bytes from the source to the end of these, and answers how many. It takes no memory: there is
+// room for all bytes of a console.
+fn take_piece<I: Source>(source: &mut I, bytes: &mut Vec<u8>) -> Result<usize, Failed>
+    requires some { length bytes.old.items < console_bytes }
+    requires room { console_bytes ≤ vec_capacity bytes.old }
+    ensures room { console_bytes ≤ vec_capacity bytes.new }
+    ensures fits { length bytes.new.items ≤ console_bytes }
+    ensures count { IfOk result (λ n. length bytes.new.items ≡ length bytes.old.items + n) }
+    ensures moved { IfOk result (λ _. Moves bytes.old.items bytes.new.items (I.left source.old) (I.left source.new)) }
     ensures end { result ≡ Ok 0 → IsAtEnd (I.left source.new) }
+    ensures kept { OnErr result (bytes.new.items ≡ bytes.old.items) }
     ensures failed { OnErr result (I.left source.new ≡ I.left source.old) }
     ensures cause { OnErr result (Rose (I.faults source.old) (I.faults source.new)) }
     ensures calm { OnOk result (I.faults source.new ≡ I.faults source.old) }
     ensures faults { NotFallen (I.faults source.old) (I.faults source.new) }
 {
-    source.take(&mut room[taken..])
+    let mut piece = [0u8; PIECE_BYTES];
+    let most = PIECE_BYTES.min(CONSOLE_BYTES - bytes.len());
+    match source.take(&mut piece[..most]) {
+        Ok(count) => {
+            bytes.extend_from_slice(&piece[..count]).unwrap();
+            Ok(count)
+        }
+        Err(failed) => Err(failed),
+    }
 }
 
 impl Lines {
@@ -155,14 +162,13 @@ impl Lines {
     ghost use Rattle.edge_ports.specs.Lines.{line_end_of, HasWholeLine, next_line, lines_of, Moves, unread, reach, upcoming, handed_lines, whole_lines, IsUsed, StillComes};
     ghost use Rattle.edge_ports.specs.Turns.{AsksNothing, IsConsistent, shown_line, HandsOut, HandedBy, TurnsTo};
 
-    /// A reader that has taken nothing. It takes the room for all [`CONSOLE_BYTES`] bytes at once.
+    /// A reader that has taken nothing. It reserves the memory for all [`CONSOLE_BYTES`] bytes at once.
     pub fn new(alloc: Global) -> Result<Lines, Memory>
         ensures { IfOk result (λ lines. lines ≡ record { taken = []; handed = 0; ended = false; line = [] }) }
     {
         Ok(Lines {
-            room: zeros(alloc, CONSOLE_BYTES)?,
+            taken: Vec::with_capacity(alloc, CONSOLE_BYTES)?,
             handed: 0,
-            taken: 0,
             ended: false,
             line_start: 0,
             line_end: 0,
@@ -225,7 +231,7 @@ impl Lines {
     pub fn line(&self) -> &[u8]
         ensures { result.now ≡ self.now.line }
     {
-        &self.room[self.line_start..self.line_end]
+        &self.taken[self.line_start..self.line_end]
     }
 
     // The bytes taken and not handed out.
@@ -233,7 +239,7 @@ impl Lines {
         ensures bytes { result.now ≡ unread self.now }
         ensures consistent { IsConsistent self.now }
     {
-        &self.room[self.handed..self.taken]
+        &self.taken[self.handed..]
     }
 
     // Whether the end was seen.
@@ -248,7 +254,7 @@ impl Lines {
         ensures full { IsTrue result ↔ (length self.now.taken ≡ console_bytes) }
         ensures consistent { IsConsistent self.now }
     {
-        self.taken == CONSOLE_BYTES
+        self.taken.len() == CONSOLE_BYTES
     }
 
     // Shows no line.
@@ -294,15 +300,12 @@ impl Lines {
         ensures calm { OnOk result (I.faults source.new ≡ I.faults source.old) }
         ensures faults { NotFallen (I.faults source.old) (I.faults source.new) }
     {
-        match take_behind(source, &mut self.room, self.taken) {
+        match take_piece(source, &mut self.taken) {
             Ok(0) => {
                 self.ended = true;
                 Ok(())
             }
-            Ok(count) => {
-                self.taken += count;
-                Ok(())
-            }
+            Ok(_) => Ok(()),
             Err(failed) => Err(failed),
         }
     }
