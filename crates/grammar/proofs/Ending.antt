@@ -52,8 +52,10 @@ module _ (k : Terminal) where
     unfolding turning
     keeps (token ks) ok u s l h = kept_token ks (not_true (one_of ks k) ok) l h
     keeps nothing ok u s l h = h
-    keeps (seq a b) ok u s l h = let o = both_parts (lacks k a) (lacks k b) ok in kept_then (reads p a u l) (reads p b u) (keeps a o.0 u s l h) (keeps b o.1 u s)
-    keeps (choice ks a b) ok u s l h = let o = both_parts (lacks k a) (lacks k b) ok in kept_cond (passes ks (next l)) (reads p a u l) (reads p b u l) (keeps a o.0 u s l h) (keeps b o.1 u s l h)
+    keeps (seq a b) ok u s l h = let o = both_parts (lacks k a) (lacks k b) ok in kept_then (reads p a u l) (reads p b u) (keeps a o.0 u s l h)
+        (keeps b o.1 u s)
+    keeps (choice ks a b) ok u s l h = let o = both_parts (lacks k a) (lacks k b) ok in kept_cond (passes ks (next l)) (reads p a u l) (reads p b u l)
+        (keeps a o.0 u s l h) (keeps b o.1 u s l h)
     keeps (greedy ks a) ok u s l h = kept_cond (passes ks (next l)) (reads p a u l) (Ok (Nothing, l)) (keeps a ok u s l h) h
     keeps (level v) ok u s l h = level_keeps v l h
     keeps (loop a) ok u s l h = kept_turns (reads p a) (keeps a ok) (suc (length l)) l h
@@ -62,7 +64,8 @@ module _ (k : Terminal) where
     kept_err : (r : Read) (d : Refusal) → r ≡ Err d → Kept r → Has k (left_of d)
     kept_err r d e h = subst Kept e h
 
-    last_keeps : (g : Grammar) → ends_in k g ≡ true → (u : List Item → Read) → Keeps u → (l : List Item) (r : Refusal) → Has k l → reads p g u l ≡ Err r → Has k (left_of r)
+    last_keeps : (g : Grammar) → ends_in k g ≡ true → (u : List Item → Read) → Keeps u → (l : List Item) (r : Refusal) → Has k l → reads p g u l ≡ Err r
+        → Has k (left_of r)
     last_keeps (token ks) ok u s l r h e = subst (Has k) (ap left_of (err_is (Unfit l) r (token_fails ks l r e).0)) h
     last_keeps nothing ok u s l r h e = absurd cc
     last_keeps (seq a b) ok u s l r h e =

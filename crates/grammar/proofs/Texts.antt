@@ -38,7 +38,8 @@ module _ (t : LevelTables) (g : Grammar) (ok : IsDecided t g ≡ true) (n : ℕ)
         λ y more f same at.
             let one = exact.again y [] (whole_tested t g ok n y f) in
             let two : read t n g (spell x ++ more) ≡ Ok (x, more) = exact.again x more (subst (Is (Within t.rule n) g IsNone x) (sym at) s.1) in
-            let rests : [] ≡ more = ap (λ (z : Node × List Item). z.1) (ok_is (y, []) (x, more) (sym one ∙ ap (read t n g) (append-nil (spell y) ∙ same) ∙ two)) in
+            let rests : [] ≡ more = ap (λ (z : Node × List Item). z.1)
+            (ok_is (y, []) (x, more) (sym one ∙ ap (read t n g) (append-nil (spell y) ∙ same) ∙ two)) in
             let end : next [] ≡ Some z.kind = ap next rests ∙ at in
             cc,
       )

@@ -40,4 +40,5 @@ Has k (x ∷ l) = (x.kind ≡ k) ⊎ Has k l
 
 -- A list that has such a terminal is refused before its last token or at it.
 abbrev pub RefusedIsInside : Type 0
-RefusedIsInside = (k : Terminal) (t : LevelTables) (g : Grammar) → IsLast k t g ≡ true → (n : ℕ) (l : List Item) (r : Refusal) → Has k l → read t n g l ≡ Err r → Has k (left_of r)
+RefusedIsInside = (k : Terminal) (t : LevelTables) (g : Grammar) → IsLast k t g ≡ true
+    → (n : ℕ) (l : List Item) (r : Refusal) → Has k l → read t n g l ≡ Err r → Has k (left_of r)

@@ -3,7 +3,7 @@ use Rattle.std.proofs.Common.{◌≡◌, List, map, refl, ap, ◌∙◌, Vec, Gl
 use denote.Hole.Carrier.{roll}
 use Rattle.grammar.specs.Nodes.{Pair, row}
 use Rattle.pas_tree.specs.declared.statements.Compound.{Compound}
-use Rattle.pas_tree.specs.declared.blocks.Body.TheBlock as block
+use Rattle.pas_tree.specs.declared.blocks.Body.TheBlock as b
 use Rattle.pas_tree.specs.declared.blocks.Block.{roll-Block}
 use Rattle.pas_tree.specs.declared.blocks.LabelPart.{LabelPart}
 use Rattle.pas_tree.specs.declared.blocks.ConstantPart.{ConstantPart}
@@ -13,12 +13,9 @@ use Rattle.pas_tree.specs.declared.blocks.Routine.{Routine}
 use Rattle.pas_tree.specs.Statements.{compound_node}
 use Rattle.pas_tree.specs.Blocks as node
 
-routines_row : (n : _) (r : block.Row_of-Routine n) → node.routines_node r ≡ row (map node.routine_node (block.items-the_row-Routine n r))
-routines_row _ block.end_of-Routine = refl
-routines_row _ (block.more_of-Routine heading semicolon body last_semicolon rest) = rw (routines_row _ rest)
-
-routines_hidden : (routines : Vec Routine Global) → node.routines_node (block.hidden-the_row-Routine-0 routines) ≡ row (map node.routine_node routines.items)
-routines_hidden routines = routines_row _ (block.hidden-the_row-Routine-0 routines) ∙ ap (λ (l : List Routine). row (map node.routine_node l)) (block.items_hidden-the_row-Routine-0 routines)
+routines_row : (n : _) (r : b.Row_of-Routine n) → node.routines_node r ≡ row (map node.routine_node (b.items-the_row-Routine n r))
+routines_row _ b.end_of-Routine = refl
+routines_row _ (b.more_of-Routine heading semicolon body last_semicolon rest) = rw (routines_row _ rest)
 
 pub block_rolled : (labels : Option LabelPart) (constants : Option ConstantPart) (types : Option TypePart) (variables : Option VariablePart)
     (routines : Vec Routine Global) (body : Compound)
@@ -33,4 +30,4 @@ pub block_rolled : (labels : Option LabelPart) (constants : Option ConstantPart)
     ≡ Pair (node.label_part_node labels) (Pair (node.constant_part_node constants) (Pair (node.type_part_node types) (Pair (node.variable_part_node variables)
     (Pair (row (map node.routine_node routines.items)) (compound_node body)))))
 unfolding roll-Block roll
-block_rolled labels constants types variables routines body = rw (routines_hidden routines)
+block_rolled labels constants types variables routines body = rw (routines_row _ (b.hidden-the_row-Routine-0 routines), b.items_hidden-the_row-Routine-0)

@@ -4,7 +4,7 @@ use denote.Hole.Carrier.{roll}
 use Rattle.grammar.specs.declared.terminals.Terminal.TheVariants as k
 use Rattle.grammar.specs.Nodes.{Node, Pair, leaf, row, chain}
 use Rattle.pas_tree.specs.declared.expressions.Expression.{Expression}
-use Rattle.pas_tree.specs.declared.statements.Plain.TheBlock as block
+use Rattle.pas_tree.specs.declared.statements.Plain.TheBlock as b
 use Rattle.pas_tree.specs.declared.statements.Statement.{Statement}
 use Rattle.pas_tree.specs.declared.statements.Statements.{roll-Statements}
 use Rattle.pas_tree.specs.declared.statements.NextStatement.{NextStatement}
@@ -15,26 +15,19 @@ use Rattle.pas_tree.specs.Expressions.{expression_node}
 use Rattle.pas_tree.specs.Denoters.{last_semicolon_node}
 use Rattle.pas_tree.specs.Statements as node
 
-statements_row : (n : _) (r : block.Row_of-NextStatement n) → node.more_statements_node r ≡ row (map node.next_statement_node (block.items-the_row-NextStatement n r))
-statements_row _ block.end_of-NextStatement = refl
-statements_row _ (block.more_of-NextStatement semicolon label plain rest) = rw (statements_row _ rest)
+statements_row : (n : _) (r : b.Row_of-NextStatement n) → node.more_statements_node r ≡ row (map node.next_statement_node (b.items-the_row-NextStatement n r))
+statements_row _ b.end_of-NextStatement = refl
+statements_row _ (b.more_of-NextStatement semicolon label plain rest) = rw (statements_row _ rest)
 
-statements_hidden : (others : Vec NextStatement Global) → node.more_statements_node (block.hidden-the_row-NextStatement-1 others) ≡ row (map node.next_statement_node others.items)
-statements_hidden others = statements_row _ (block.hidden-the_row-NextStatement-1 others) ∙ ap (λ (l : List NextStatement). row (map node.next_statement_node l)) (block.items_hidden-the_row-NextStatement-1 others)
-
-branches_row : (n : _) (r : block.Row_of-NextBranch n) (end : Node) → node.branches_node r end ≡ chain (map node.branch_step (block.items-the_row-NextBranch n r)) end
-branches_row _ block.end_of-NextBranch end = refl
-branches_row _ (block.more_of-NextBranch semicolon constants colon label plain rest) end = rw (branches_row _ rest end)
-
-branches_hidden : (others : Vec NextBranch Global) (end : Node) → node.branches_node (block.hidden-the_row-NextBranch-0 others) end ≡ chain (map node.branch_step others.items) end
-branches_hidden others end =
-    branches_row _ (block.hidden-the_row-NextBranch-0 others) end ∙ ap (λ (l : List NextBranch). chain (map node.branch_step l) end) (block.items_hidden-the_row-NextBranch-0 others)
+branches_row : (n : _) (r : b.Row_of-NextBranch n) (end : Node) → node.branches_node r end ≡ chain (map node.branch_step (b.items-the_row-NextBranch n r)) end
+branches_row _ b.end_of-NextBranch end = refl
+branches_row _ (b.more_of-NextBranch semicolon constants colon label plain rest) end = rw (branches_row _ rest end)
 
 pub statements_rolled : (first : Statement) (others : Vec NextStatement Global)
     → node.statements_node (roll-Statements (record { first = first; others = others }))
     ≡ Pair (node.statement_node first) (row (map node.next_statement_node others.items))
 unfolding roll-Statements roll
-statements_rolled first others = rw (statements_hidden others)
+statements_rolled first others = rw (statements_row _ (b.hidden-the_row-NextStatement-1 others), b.items_hidden-the_row-NextStatement-1)
 
 pub case_rolled : (word : ℕ) (selector : Expression) (of : ℕ) (first : Branch) (others : Vec NextBranch Global) (semicolon : Option ℕ) (end : ℕ)
     → node.case_node (roll-Case (record {
@@ -49,4 +42,4 @@ pub case_rolled : (word : ℕ) (selector : Expression) (of : ℕ) (first : Branc
     ≡ Pair (leaf k.WCase word) (Pair (expression_node selector) (Pair (leaf k.WOf of) (Pair (node.branch_node first)
     (Pair (chain (map node.branch_step others.items) (last_semicolon_node semicolon)) (leaf k.WEnd end)))))
 unfolding roll-Case roll
-case_rolled word selector of first others semicolon end = rw (branches_hidden others (last_semicolon_node semicolon))
+case_rolled word selector of first others semicolon end = rw (branches_row _ (b.hidden-the_row-NextBranch-0 others), b.items_hidden-the_row-NextBranch-0)
