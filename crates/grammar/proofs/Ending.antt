@@ -5,7 +5,7 @@ use Rattle.grammar.specs.Terminals.{one_of, passes}
 use Rattle.grammar.specs.Nodes.{Item, Node, Leaf, Nothing, Pair, next}
 use Rattle.grammar.specs.Grammars.{Level, Grammar, token, nothing, seq, choice, greedy, level, loop, again}
 use Rattle.grammar.specs.Reading.{Refusal, Unfit, Deep, left_of, Read, ◌>>=◌, token_at, then_pair, unread, turns, turning, reads, levels, read}
-use Rattle.grammar.specs.Deciding.{Tables, expects, all_levels, every_level_of}
+use Rattle.grammar.specs.Deciding.{LevelTables, expects, all_levels, every_level_of}
 use Rattle.grammar.specs.Ending.{lacks, ends_in, IsLast, Has}
 use Rattle.grammar.proofs.Bools.{both_parts, not_true}
 use Rattle.grammar.proofs.Exact.{bind_err, err_is, ok_no_err, token_fails}
@@ -52,8 +52,10 @@ module _ (k : Terminal) where
     unfolding turning
     keeps (token ks) ok u s l h = kept_token ks (not_true (one_of ks k) ok) l h
     keeps nothing ok u s l h = h
-    keeps (seq a b) ok u s l h = let o = both_parts (lacks k a) (lacks k b) ok in kept_then (reads p a u l) (reads p b u) (keeps a o.0 u s l h) (keeps b o.1 u s)
-    keeps (choice ks a b) ok u s l h = let o = both_parts (lacks k a) (lacks k b) ok in kept_cond (passes ks (next l)) (reads p a u l) (reads p b u l) (keeps a o.0 u s l h) (keeps b o.1 u s l h)
+    keeps (seq a b) ok u s l h = let o = both_parts (lacks k a) (lacks k b) ok in kept_then (reads p a u l) (reads p b u) (keeps a o.0 u s l h)
+        (keeps b o.1 u s)
+    keeps (choice ks a b) ok u s l h = let o = both_parts (lacks k a) (lacks k b) ok in kept_cond (passes ks (next l)) (reads p a u l) (reads p b u l)
+        (keeps a o.0 u s l h) (keeps b o.1 u s l h)
     keeps (greedy ks a) ok u s l h = kept_cond (passes ks (next l)) (reads p a u l) (Ok (Nothing, l)) (keeps a ok u s l h) h
     keeps (level v) ok u s l h = level_keeps v l h
     keeps (loop a) ok u s l h = kept_turns (reads p a) (keeps a ok) (suc (length l)) l h
@@ -62,7 +64,8 @@ module _ (k : Terminal) where
     kept_err : (r : Read) (d : Refusal) → r ≡ Err d → Kept r → Has k (left_of d)
     kept_err r d e h = subst Kept e h
 
-    last_keeps : (g : Grammar) → ends_in k g ≡ true → (u : List Item → Read) → Keeps u → (l : List Item) (r : Refusal) → Has k l → reads p g u l ≡ Err r → Has k (left_of r)
+    last_keeps : (g : Grammar) → ends_in k g ≡ true → (u : List Item → Read) → Keeps u → (l : List Item) (r : Refusal) → Has k l → reads p g u l ≡ Err r
+        → Has k (left_of r)
     last_keeps (token ks) ok u s l r h e = subst (Has k) (ap left_of (err_is (Unfit l) r (token_fails ks l r e).0)) h
     last_keeps nothing ok u s l r h e = absurd cc
     last_keeps (seq a b) ok u s l r h e =
@@ -83,7 +86,7 @@ module _ (k : Terminal) where
   unread_keeps : Keeps unread
   unread_keeps l h = h
 
-  module _ (t : Tables) (g : Grammar) (ok : IsLast k t g ≡ true) where
+  module _ (t : LevelTables) (g : Grammar) (ok : IsLast k t g ≡ true) where
     level_keeps : (n : ℕ) (v : Level) → Keeps (levels t n v)
     unfolding levels
     level_keeps zero v l h = kept_cond (expects t v (next l)) (Err (Deep l)) (Err (Unfit l)) h h

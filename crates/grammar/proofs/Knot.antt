@@ -5,7 +5,8 @@ use Rattle.grammar.specs.Terminals.{every}
 use Rattle.grammar.specs.Nodes.{Node, spell}
 use Rattle.grammar.specs.Grammars.{by_end, by_until, Level, block, heading, statement, denoter, variant_part, factor, Grammar, IsNone, Free, FreeWithin}
 use Rattle.grammar.specs.Tested.{Is, Within}
-use Rattle.grammar.specs.Deciding.{both, implies, closed, sane, Tables, none, nullable, first, decides, level_is_decided, all_levels, every_level_of, IsDecided}
+use Rattle.grammar.specs.Deciding.{both, implies, closed, sane, LevelTables, none, nullable, first, decides, level_is_decided, all_levels, every_level_of}
+use Rattle.grammar.specs.Deciding.{IsDecided}
 use Rattle.grammar.proofs.Bools.{both_parts}
 use Rattle.grammar.proofs.Larger.{IsPart, none_in}
 use Rattle.grammar.proofs.Decided.{Begun, starts_up, begun, Tested, tested, freed}
@@ -32,26 +33,31 @@ every_level t e denoter = every_at t 6 all_levels e
 every_level t e variant_part = every_at t 7 all_levels e
 every_level t e factor = every_at t 8 all_levels e
 
-pub record LevelParts (t : Tables) (l : Level) : Type 0 where
+pub record LevelParts (t : LevelTables) (l : Level) : Type 0 where
   pub sound : sane (t.rule l) ≡ true
   pub whole : closed (t.rule l) ≡ true
   pub decided : decides t (t.rule l) none false none (t.follow_of l) ≡ true
   pub heads : every (λ k. implies (first t (t.rule l) none false k) (t.first_of l k)) ≡ true
   pub gaps : implies (nullable t (t.rule l) false) (t.nullable_of l) ≡ true
 
-pub record WholeParts (t : Tables) (g : Grammar) : Type 0 where
+pub record WholeParts (t : LevelTables) (g : Grammar) : Type 0 where
   pub sound : sane g ≡ true
   pub whole : closed g ≡ true
   pub decided : decides t g none false none none ≡ true
 
-module _ (t : Tables) (g : Grammar) (ok : IsDecided t g ≡ true) where
+module _ (t : LevelTables) (g : Grammar) (ok : IsDecided t g ≡ true) where
   pub level_parts : (l : Level) → LevelParts t l
   level_parts l =
-      let at = every_level (level_is_decided t) (both_parts (every_level_of (level_is_decided t) all_levels) (both (both (sane g) (closed g)) (decides t g none false none none)) ok).0 l in
-      let p = both_parts (both (sane (t.rule l)) (closed (t.rule l))) (both (decides t (t.rule l) none false none (t.follow_of l)) (both (every (λ k. implies (first t (t.rule l) none false k) (t.first_of l k))) (implies (nullable t (t.rule l) false) (t.nullable_of l)))) at in
+      let at = every_level (level_is_decided t) (both_parts (every_level_of (level_is_decided t) all_levels)
+      (both (both (sane g) (closed g)) (decides t g none false none none)) ok).0 l in
+      let p = both_parts (both (sane (t.rule l)) (closed (t.rule l)))
+      (both (decides t (t.rule l) none false none (t.follow_of l))
+      (both (every (λ k. implies (first t (t.rule l) none false k) (t.first_of l k))) (implies (nullable t (t.rule l) false) (t.nullable_of l)))) at in
       let q = both_parts (sane (t.rule l)) (closed (t.rule l)) p.0 in
-      let r = both_parts (decides t (t.rule l) none false none (t.follow_of l)) (both (every (λ k. implies (first t (t.rule l) none false k) (t.first_of l k))) (implies (nullable t (t.rule l) false) (t.nullable_of l))) p.1 in
-      let s = both_parts (every (λ k. implies (first t (t.rule l) none false k) (t.first_of l k))) (implies (nullable t (t.rule l) false) (t.nullable_of l)) r.1 in
+      let r = both_parts (decides t (t.rule l) none false none (t.follow_of l))
+      (both (every (λ k. implies (first t (t.rule l) none false k) (t.first_of l k))) (implies (nullable t (t.rule l) false) (t.nullable_of l))) p.1 in
+      let s = both_parts (every (λ k. implies (first t (t.rule l) none false k) (t.first_of l k)))
+      (implies (nullable t (t.rule l) false) (t.nullable_of l)) r.1 in
       record { sound = q.0; whole = q.1; decided = r.0; heads = s.0; gaps = s.1 }
 
   pub whole_parts : WholeParts t g
@@ -82,7 +88,8 @@ module _ (t : Tables) (g : Grammar) (ok : IsDecided t g ≡ true) where
   unfolding FreeWithin Within
   tested_within zero l x h al r = r
   tested_within (suc n) l x h al r =
-      tested t (FreeWithin t.rule n) (Within t.rule n) (free_begun n) (tested_within n) (t.rule l) none false none (t.follow_of l) (level_parts l).decided IsNone IsNone none_begun none_tested x h al r
+      tested t (FreeWithin t.rule n) (Within t.rule n) (free_begun n) (tested_within n) (t.rule l) none false none (t.follow_of l)
+      (level_parts l).decided IsNone IsNone none_begun none_tested x h al r
 
   pub free_within : (n : ℕ) (l : Level) → IsPart (Within t.rule n l) (FreeWithin t.rule n l)
   unfolding FreeWithin Within
@@ -90,7 +97,8 @@ module _ (t : Tables) (g : Grammar) (ok : IsDecided t g ≡ true) where
   free_within (suc n) l x h r = freed (Within t.rule n) (FreeWithin t.rule n) (free_within n) (t.rule l) IsNone IsNone (none_in IsNone) x h r
 
   pub whole_tested : (n : ℕ) (x : Node) → Free (FreeWithin t.rule n) g x None → Is (Within t.rule n) g IsNone x None
-  whole_tested n x r = tested t (FreeWithin t.rule n) (Within t.rule n) (free_begun n) (tested_within n) g none false none none whole_parts.decided IsNone IsNone none_begun none_tested x None tt r
+  whole_tested n x r = tested t (FreeWithin t.rule n) (Within t.rule n) (free_begun n)
+      (tested_within n) g none false none none whole_parts.decided IsNone IsNone none_begun none_tested x None tt r
 
   pub whole_freed : (n : ℕ) (x : Node) (h : Option Terminal) → Is (Within t.rule n) g IsNone x h → Free (FreeWithin t.rule n) g x h
   whole_freed n x h r = freed (Within t.rule n) (FreeWithin t.rule n) (free_within n) g IsNone IsNone (none_in IsNone) x h r

@@ -40,7 +40,14 @@ pub pair_read : (p q : List Item → Read) (l : List Item) (x : Node) (rest : Li
 pair_read p q l x rest e =
     let a = bind_ok (p l) (λ x. q x.1 >>= λ y. Ok (Pair x.0 y.0, y.1)) (x, rest) e in
     let b = bind_ok (q a.0.1) (λ y. Ok (Pair a.0.0 y.0, y.1)) (x, rest) a.2 in
-    record { first = a.0; second = b.0; first_is = a.1; second_is = b.1; rest_is = ap (λ (z : Node × List Item). z.1) (ok_is (Pair a.0.0 b.0.0, b.0.1) (x, rest) b.2) }
+    record {
+      first = a.0;
+      second = b.0;
+      first_is = a.1;
+      second_is = b.1;
+      rest_is =
+          ap (λ (z : Node × List Item). z.1) (ok_is (Pair a.0.0 b.0.0, b.0.1) (x, rest) b.2);
+    }
 
 rest_of : (x y : Node × List Item) → done x ≡ Ok y → x.1 ≡ y.1
 rest_of x y e = ap (λ (z : Node × List Item). z.1) (ok_is x y e)
@@ -58,7 +65,8 @@ module _ (p : Level → List Item → Read) (shortens : (v : Level) → Shortens
       let r = pair_read (reads p a u) (reads p b u) l x rest e in
       omega (arith, no_longer a u s l r.first.0 r.first.1 r.first_is, no_longer b u s r.first.1 r.second.0 r.second.1 r.second_is, ap length r.rest_is)
   no_longer (choice ks a b) u s l x rest e =
-      elim (ok_or_err (passes ks (next l)) (reads p a u l) (reads p b u l) (Ok (x, rest)) e) [ inl h ↦ no_longer a u s l x rest h.1 | inr h ↦ no_longer b u s l x rest h.1 ]
+      elim (ok_or_err (passes ks (next l)) (reads p a u l) (reads p b u l) (Ok (x, rest)) e)
+      [ inl h ↦ no_longer a u s l x rest h.1 | inr h ↦ no_longer b u s l x rest h.1 ]
   no_longer (greedy ks a) u s l x rest e =
       elim (ok_or_err (passes ks (next l)) (reads p a u l) (Ok (Nothing, l)) (Ok (x, rest)) e) [
         | inl h ↦ no_longer a u s l x rest h.1
@@ -81,7 +89,8 @@ module _ (p : Level → List Item → Read) (shortens : (v : Level) → Shortens
       ]
   takes (choice ks a b) u s ok l x rest e =
       let o = both_parts (solid a) (solid b) ok in
-      elim (ok_or_err (passes ks (next l)) (reads p a u l) (reads p b u l) (Ok (x, rest)) e) [ inl h ↦ takes a u s o.0 l x rest h.1 | inr h ↦ takes b u s o.1 l x rest h.1 ]
+      elim (ok_or_err (passes ks (next l)) (reads p a u l) (reads p b u l) (Ok (x, rest)) e)
+      [ inl h ↦ takes a u s o.0 l x rest h.1 | inr h ↦ takes b u s o.1 l x rest h.1 ]
   takes (greedy ks a) u s ok l x rest e = absurd cc
   takes (level v) u s ok l x rest e = absurd cc
   takes (loop a) u s ok l x rest e = absurd cc
@@ -104,11 +113,13 @@ module _ (p : Level → List Item → Read) (shortens : (v : Level) → Shortens
   closed_same nothing ok u w l = refl
   closed_same (seq a b) ok u w l =
       let o = both_parts (closed a) (closed b) ok in
-      ap (λ (r : Read). then_pair r (reads p b u)) (closed_same a o.0 u w l) ∙ then_same (reads p a w l) (reads p b u) (reads p b w) (λ x m e. closed_same b o.1 u w m)
+      ap (λ (r : Read). then_pair r (reads p b u)) (closed_same a o.0 u w l) ∙ then_same (reads p a w l) (reads p b u) (reads p b w)
+      (λ x m e. closed_same b o.1 u w m)
   closed_same (choice ks a b) ok u w l =
       let o = both_parts (closed a) (closed b) ok in
       cond_same (passes ks (next l)) (reads p a u l) (reads p a w l) (reads p b u l) (reads p b w l) (closed_same a o.0 u w l) (closed_same b o.1 u w l)
-  closed_same (greedy ks a) ok u w l = cond_same (passes ks (next l)) (reads p a u l) (reads p a w l) (Ok (Nothing, l)) (Ok (Nothing, l)) (closed_same a ok u w l) refl
+  closed_same (greedy ks a) ok u w l = cond_same (passes ks (next l)) (reads p a u l) (reads p a w l) (Ok (Nothing, l)) (Ok (Nothing, l))
+      (closed_same a ok u w l) refl
   closed_same (level v) ok u w l = refl
   closed_same (loop a) ok u w l = refl
   closed_same again ok u w l = absurd cc
@@ -120,23 +131,27 @@ module _ (p : Level → List Item → Read) (shortens : (v : Level) → Shortens
   closed_takes g ok s u l x rest e = takes p shortens g unread unread_shortens s l x rest (closed_same g ok unread u l ∙ e)
 
   -- what it reads of the tokens that are left
-  linear_same : (g : Grammar) → linear g ≡ true → (u w : List Item → Read) (l : List Item) → ((m : List Item) → length m ≤ length l → u m ≡ w m) → reads p g u l ≡ reads p g w l
+  linear_same : (g : Grammar) → linear g ≡ true → (u w : List Item → Read) (l : List Item) → ((m : List Item) → length m ≤ length l → u m ≡ w m)
+      → reads p g u l ≡ reads p g w l
   linear_same (token ks) ok u w l h = refl
   linear_same nothing ok u w l h = refl
   linear_same (seq a b) ok u w l h =
       let o = both_parts (closed a) (linear b) ok in
       ap (λ (r : Read). then_pair r (reads p b u)) (closed_same a o.0 u w l)
-      ∙ then_same (reads p a w l) (reads p b u) (reads p b w) (λ x m e. let le : length m ≤ length l = closed_shortens a o.0 w l x m e in linear_same b o.1 u w m (λ n f. h n (omega (arith, f, le))))
+      ∙ then_same (reads p a w l) (reads p b u) (reads p b w)
+      (λ x m e. let le : length m ≤ length l = closed_shortens a o.0 w l x m e in linear_same b o.1 u w m (λ n f. h n (omega (arith, f, le))))
   linear_same (choice ks a b) ok u w l h =
       let o = both_parts (linear a) (linear b) ok in
       cond_same (passes ks (next l)) (reads p a u l) (reads p a w l) (reads p b u l) (reads p b w l) (linear_same a o.0 u w l h) (linear_same b o.1 u w l h)
-  linear_same (greedy ks a) ok u w l h = cond_same (passes ks (next l)) (reads p a u l) (reads p a w l) (Ok (Nothing, l)) (Ok (Nothing, l)) (linear_same a ok u w l h) refl
+  linear_same (greedy ks a) ok u w l h = cond_same (passes ks (next l)) (reads p a u l) (reads p a w l) (Ok (Nothing, l)) (Ok (Nothing, l))
+      (linear_same a ok u w l h) refl
   linear_same (level v) ok u w l h = refl
   linear_same (loop a) ok u w l h = refl
   linear_same again ok u w l h = h l (omega arith)
 
   -- and of fewer
-  pub guarded_same : (g : Grammar) → guarded g ≡ true → (u w : List Item → Read) (l : List Item) → ((m : List Item) → length m < length l → u m ≡ w m) → reads p g u l ≡ reads p g w l
+  pub guarded_same : (g : Grammar) → guarded g ≡ true → (u w : List Item → Read) (l : List Item) → ((m : List Item) → length m < length l → u m ≡ w m)
+      → reads p g u l ≡ reads p g w l
   guarded_same (token ks) ok u w l h = refl
   guarded_same nothing ok u w l h = refl
   guarded_same (seq a b) ok u w l h =
@@ -154,7 +169,8 @@ module _ (p : Level → List Item → Read) (shortens : (v : Level) → Shortens
   guarded_same (choice ks a b) ok u w l h =
       let o = both_parts (guarded a) (guarded b) ok in
       cond_same (passes ks (next l)) (reads p a u l) (reads p a w l) (reads p b u l) (reads p b w l) (guarded_same a o.0 u w l h) (guarded_same b o.1 u w l h)
-  guarded_same (greedy ks a) ok u w l h = cond_same (passes ks (next l)) (reads p a u l) (reads p a w l) (Ok (Nothing, l)) (Ok (Nothing, l)) (guarded_same a ok u w l h) refl
+  guarded_same (greedy ks a) ok u w l h = cond_same (passes ks (next l)) (reads p a u l) (reads p a w l) (Ok (Nothing, l)) (Ok (Nothing, l))
+      (guarded_same a ok u w l h) refl
   guarded_same (level v) ok u w l h = refl
   guarded_same (loop a) ok u w l h = refl
   guarded_same again ok u w l h = absurd cc

@@ -2,7 +2,8 @@
 use Rattle.std.specs.Prelude.{Bool, true, false, cond, not, List, [], ◌∷◌, Option, Some, None}
 use Rattle.grammar.specs.declared.terminals.Terminal.{Terminal}
 use Rattle.grammar.specs.Terminals.{one_of, every}
-use Rattle.grammar.specs.Grammars.{by_end, by_until, Level, block, heading, statement, denoter, variant_part, factor, Grammar, token, nothing, seq, choice, greedy, level, loop, again}
+use Rattle.grammar.specs.Grammars.{by_end, by_until, Level, block, heading, statement, denoter, variant_part, factor}
+use Rattle.grammar.specs.Grammars.{Grammar, token, nothing, seq, choice, greedy, level, loop, again}
 
 abbrev pub both : Bool → Bool → Bool
 both a b = cond a b false
@@ -15,14 +16,14 @@ implies a b = cond a b true
 
 -- The rules of the levels, and of each level the terminals that begin its trees, whether it has an empty tree,
 -- and the terminals that may follow it.
-pub record Tables : Type 0 where
+pub record LevelTables : Type 0 where
   pub rule : Level → Grammar
   pub first_of : Level → Terminal → Bool
   pub nullable_of : Level → Bool
   pub follow_of : Level → Terminal → Bool
 
 -- whether a tree of the level may begin in front of the next token
-abbrev pub expects : Tables → Level → Option Terminal → Bool
+abbrev pub expects : LevelTables → Level → Option Terminal → Bool
 expects t l None = t.nullable_of l
 expects t l (Some k) = either (t.first_of l k) (both (t.nullable_of l) (t.follow_of l k))
 
@@ -88,7 +89,7 @@ sane again = true
 abbrev pub none : Terminal → Bool
 none k = false
 
-module _ (t : Tables) where
+module _ (t : LevelTables) where
   -- whether there is an empty tree, if `v` says so of the loop around it
   abbrev pub nullable : Grammar → Bool → Bool
   nullable (token ks) v = false
@@ -121,12 +122,16 @@ module _ (t : Tables) where
   decides (choice ks a b) f v w after =
       both (both (decides a f v w after) (decides b f v w after))
       (both (not (nullable a v))
-      (every (λ k. both (implies (first a f v k) (one_of ks k)) (both (implies (first b f v k) (not (one_of ks k))) (implies (both (nullable b v) (after k)) (not (one_of ks k)))))))
-  decides (greedy ks a) f v w after = both (decides a f v w after) (both (not (nullable a v)) (every (λ k. implies (first a f v k) (one_of ks k))))
+      (every (λ k. both (implies (first a f v k) (one_of ks k))
+      (both (implies (first b f v k) (not (one_of ks k)))
+      (implies (both (nullable b v) (after k)) (not (one_of ks k)))))))
+  decides (greedy ks a) f v w after = both (decides a f v w after)
+      (both (not (nullable a v)) (every (λ k. implies (first a f v k) (one_of ks k))))
   decides (level l) f v w after = every (λ k. implies (after k) (t.follow_of l k))
   decides (loop a) f v w after =
       both (decides a (first a none false) (nullable a false) after after)
-      (both (every (λ k. implies (first a (first a none false) (nullable a false) k) (first a none false k))) (implies (nullable a (nullable a false)) (nullable a false)))
+      (both (every (λ k. implies (first a (first a none false) (nullable a false) k) (first a none false k)))
+      (implies (nullable a (nullable a false)) (nullable a false)))
   decides again f v w after = every (λ k. implies (after k) (w k))
 
   -- a level's rule is decided, and the tables are right of it
@@ -134,11 +139,13 @@ module _ (t : Tables) where
   level_is_decided l =
       both (both (sane (t.rule l)) (closed (t.rule l)))
       (both (decides (t.rule l) none false none (t.follow_of l))
-      (both (every (λ k. implies (first (t.rule l) none false k) (t.first_of l k))) (implies (nullable (t.rule l) false) (t.nullable_of l))))
+      (both (every (λ k. implies (first (t.rule l) none false k) (t.first_of l k)))
+      (implies (nullable (t.rule l) false) (t.nullable_of l))))
 
 abbrev pub all_levels : List Level
 all_levels =
-    block ∷ heading ∷ statement false by_end ∷ statement true by_end ∷ statement false by_until ∷ statement true by_until
+    block ∷ heading ∷ statement false by_end ∷ statement true by_end ∷ statement false by_until
+    ∷ statement true by_until
     ∷ denoter ∷ variant_part ∷ factor ∷ []
 
 abbrev pub every_level_of : (Level → Bool) → List Level → Bool
@@ -146,6 +153,7 @@ every_level_of t [] = true
 every_level_of t (l ∷ ls) = both (t l) (every_level_of t ls)
 
 -- One token decides each choice, in the grammar of whole texts and in the rules of all levels.
-abbrev pub IsDecided : Tables → Grammar → Bool
+abbrev pub IsDecided : LevelTables → Grammar → Bool
 IsDecided t g =
-    both (every_level_of (level_is_decided t) all_levels) (both (both (sane g) (closed g)) (decides t g none false none none))
+    both (every_level_of (level_is_decided t) all_levels)
+    (both (both (sane g) (closed g)) (decides t g none false none none))

@@ -7,7 +7,7 @@ use Rattle.grammar.specs.Grammars.{Grammar, nothing, seq, choice, word, many, se
 use Rattle.grammar.specs.Deciding.{closed, solid}
 use Rattle.grammar.specs.Reading.{Read, Unfit, Deep, read}
 use Rattle.grammar.proofs.Lists.{with_front, stops, with_steps, steps_stop, steps_break}
-use Rattle.pas_tree.specs.Tables.{pascal}
+use Rattle.pas_tree.specs.FirstFollow.{pascal}
 use Rattle.pas_tree.proofs.Decided.{pascal_sane}
 use Rattle.pas_phrases.specs.declared.fault.ParseFault.{ParseFault}
 use Rattle.pas_phrases.specs.declared.fault.ParseFault.TheVariants as faults

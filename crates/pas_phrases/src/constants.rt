@@ -7,7 +7,7 @@ ghost use Rattle.grammar.specs.Grammars.{many};
 ghost use Rattle.grammar.specs.Reading.{read};
 ghost use Rattle.pas_tree.specs.Constants.{constant_node, constants_node, names_node, next_constant_node, next_name_node, signed_node};
 ghost use Rattle.pas_tree.specs.Rules.{constant_rule, constants_rule, limit_rule, names_rule, next_constant_rule, next_name_rule};
-ghost use Rattle.pas_tree.specs.Tables.{pascal};
+ghost use Rattle.pas_tree.specs.FirstFollow.{pascal};
 ghost use Rattle.pas_phrases.specs.Items.{Gives, items_from, signed_plain};
 
 use crate::fault::ParseFault;
