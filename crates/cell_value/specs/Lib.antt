@@ -1,2 +1,3 @@
 pub mod Arithmetic
 pub mod Chains
+pub mod Effects

@@ -1,6 +1,6 @@
 //! The values that a cell of a running Pascal program holds, the arithmetic on them, and the small
-//! types that the crates above share: ways out of a call, entries of the log, lists of cells,
-//! and a counter of steps that takes no memory.
+//! types that the crates above share: ways out of a call, entries of the log and what a list of
+//! them says, lists of cells, and a counter of steps that takes no memory.
 #![tactic(auto)]
 
 mod arithmetic;
@@ -13,7 +13,7 @@ mod ways_out;
 
 pub use arithmetic::{ArithOp, arith, in_range, negate};
 pub use cell_list::{Cells, Memory};
-pub use entries::Touch;
+pub use entries::{Change, Seen, Touch};
 pub use faults::OpFault;
 pub use steps_taken::Steps;
 pub use values::{SetBits, Value};

@@ -1,0 +1,4 @@
+mod EnteringKeepsNesting
+mod LeavingKeepsNesting
+mod OpenCalls
+mod Places

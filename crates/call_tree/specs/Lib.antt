@@ -1,0 +1,4 @@
+pub mod Recording
+pub mod Numbering
+pub mod Nesting
+pub mod Kept
