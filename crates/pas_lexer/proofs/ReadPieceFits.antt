@@ -1,5 +1,41 @@
 -- What is read as a piece fits, and what fits is read.
-use Rattle.std.proofs.Common.{◌≡◌, ℕ, suc, ◌+◌, ◌<◌, ◌≤◌, Bool, true, false, cond, nat_eq, nat_lt, List, [], ◌∷◌, ◌++◌, length, take, drop, Option, Some, None, Ok, Err, refl, sym, ap, subst, ◌∙◌, append_assoc, arith, length-append, length-take, inl, inr}
+use Rattle.std.proofs.Common.{
+  ◌≡◌,
+  ℕ,
+  suc,
+  ◌+◌,
+  ◌<◌,
+  ◌≤◌,
+  Bool,
+  true,
+  false,
+  cond,
+  nat_eq,
+  nat_lt,
+  List,
+  [],
+  ◌∷◌,
+  ◌++◌,
+  length,
+  take,
+  drop,
+  Option,
+  Some,
+  None,
+  Ok,
+  Err,
+  refl,
+  sym,
+  ap,
+  subst,
+  ◌∙◌,
+  append_assoc,
+  arith,
+  length-append,
+  length-take,
+  inl,
+  inr,
+}
 use Rattle.std.proofs.lemmas.Option.{same_Some}
 use Rattle.std.specs.Prelude.{◌&&◌}
 use Rattle.std.proofs.lemmas.Bool.{eqb-true, and_parts, or_from, or_parts, ltb-true, lt-ltb, eq-eqb}
@@ -9,18 +45,93 @@ use Rattle.pas_lexer.specs.declared.kinds.Word.{Word}
 use Rattle.pas_lexer.specs.declared.kinds.Symbol.{Symbol}
 use Rattle.pas_lexer.specs.declared.kinds.Kind.{Kind}
 use Rattle.pas_lexer.specs.declared.kinds.Kind.TheVariants.{Word as WordKind, Name, Number, Text, Symbol as SymbolKind, End}
-use Rattle.pas_lexer.specs.declared.kinds.Reason.{Reason}
-use Rattle.pas_lexer.specs.declared.kinds.Reason.TheVariants.{BadByte, OpenComment, OpenString, EmptyString, RealWord, TooLarge, Joined}
+use Rattle.pas_lexer.specs.declared.kinds.LexReason.{LexReason}
+use Rattle.pas_lexer.specs.declared.kinds.LexReason.TheVariants.{BadByte, OpenComment, OpenString, EmptyString, RealWord, TooLarge, Joined}
 use Rattle.pas_lexer.specs.declared.symbols.Written.{Written}
 use Rattle.pas_lexer.specs.declared.symbols.Written.TheVariants.{Usual, Other}
-use Rattle.pas_lexer.specs.Lexis.{letter, digit, letter_or_digit, separator, apostrophe, letter_first, next_is, real_follows, IsIdentifier, IsDigitSequence, decimal, maxint, doubled, quoted, IsCharacters, Spells, opens_comment, IsClosed, IsOpened, IsLongest, IsAllowed, Fits, NothingFits}
-use Rattle.pas_lexer.specs.Reading.{all_symbols, symbol_among, word_in, symbol_in, written_text, symbol_of, run, Reading, word_or_name, symbol_piece, identifier_at, number_in, number_piece, number_before, comment_piece, closing, string_piece, string_end, string_at, mark_at, piece_at}
-use Rattle.pas_lexer.proofs.Runs.{chosen, fact_of, pass_head, pass_rest, Stops, stops, next_fails, run_again, run_passes, run_stops, run_len, split, head_is, tail_is}
-use Rattle.pas_lexer.proofs.Tables.{opened, symbol_is, longest_symbol, some_symbol, one_symbol}
-use Rattle.pas_lexer.proofs.Numbers.{digit_no_letter, letter_passes, separator_no_letter, separator_no_digit, letter_opens_none, digit_opens_none, both_ways, digits_more, stops_first, first_digits, number_read, small_number, number_small}
-use Rattle.pas_lexer.proofs.Names.{identifier_all, identifier_more, word_spelled, identifier_spells, word_again, name_again}
-use Rattle.pas_lexer.proofs.Comments.{closing_again, closing_sound}
-use Rattle.pas_lexer.proofs.Strings.{Ended, ended_sound, ended_found, characters_are, characters_on_line, characters_some}
+use Rattle.pas_lexer.specs.Lexis.{
+  letter,
+  digit,
+  letter_or_digit,
+  separator,
+  apostrophe,
+  letter_first,
+  next_is,
+  real_follows,
+  IsIdentifier,
+  IsDigitSequence,
+  decimal,
+  maxint,
+  doubled,
+  quoted,
+  IsCharacters,
+  Spells,
+  opens_comment,
+  IsClosed,
+  IsOpened,
+  IsLongest,
+  IsAllowed,
+  Fits,
+  NothingFits,
+}
+use Rattle.pas_lexer.specs.Reading.{
+  all_symbols,
+  symbol_among,
+  word_in,
+  symbol_in,
+  written_text,
+  symbol_of,
+  run,
+  Reading,
+  word_or_name,
+  symbol_piece,
+  identifier_at,
+  number_in,
+  number_piece,
+  number_before,
+  comment_piece,
+  closing,
+  string_piece,
+  string_end,
+  string_at,
+  mark_at,
+  piece_at,
+}
+use Rattle.pas_lexer.proofs.LongestRun.{
+  chosen,
+  fact_of,
+  pass_head,
+  pass_rest,
+  Stops,
+  stops,
+  next_fails,
+  run_again,
+  run_passes,
+  run_stops,
+  run_len,
+  split,
+  head_is,
+  tail_is,
+}
+use Rattle.pas_lexer.proofs.LongestInTable.{opened, symbol_is, longest_symbol, some_symbol, one_symbol}
+use Rattle.pas_lexer.proofs.AllDigitsFirst.{
+  digit_no_letter,
+  letter_passes,
+  separator_no_letter,
+  separator_no_digit,
+  letter_opens_none,
+  digit_opens_none,
+  both_ways,
+  digits_more,
+  stops_first,
+  first_digits,
+  number_read,
+  small_number,
+  number_small,
+}
+use Rattle.pas_lexer.proofs.WordsBeforeNames.{identifier_all, identifier_more, word_spelled, identifier_spells, word_again, name_again}
+use Rattle.pas_lexer.proofs.FirstClosingSymbol.{closing_again, closing_sound}
+use Rattle.pas_lexer.proofs.LastApostrophe.{Ended, ended_sound, ended_found, characters_are, characters_on_line, characters_some}
 
 abbrev read : Option Kind → ℕ → Reading
 read k n = Ok (k, n)
@@ -28,7 +139,7 @@ read k n = Ok (k, n)
 abbrev pub found : Option Kind × ℕ → Reading
 found x = Ok x
 
-abbrev pub failed : Reason → Reading
+abbrev pub failed : LexReason → Reading
 failed r = Err r
 
 -- ---- identifiers
@@ -37,30 +148,35 @@ identifier_again : (t rest : List ℕ) → IsIdentifier t → IsLongest t rest �
 unfolding piece_at identifier_at
 identifier_again [] rest h longest = absurd h
 identifier_again (c ∷ cs) rest h longest =
-    let s : Stops letter_or_digit rest = stops letter_or_digit rest (λ d more e p. longest d [] more (word_or_name (word_in ((c ∷ cs) ++ d ∷ []))) e (identifier_spells ((c ∷ cs) ++ d ∷ []) (identifier_more (c ∷ cs) d h p))) in
+    let s : Stops letter_or_digit rest = stops letter_or_digit rest (λ d more e p. longest d [] more (word_or_name (word_in ((c ∷ cs) ++ d ∷ []))) e
+    (identifier_spells ((c ∷ cs) ++ d ∷ []) (identifier_more (c ∷ cs) d h p))) in
     let n : run letter_or_digit ((c ∷ cs) ++ rest) ≡ length (c ∷ cs) = run_again letter_or_digit (c ∷ cs) rest (identifier_all (c ∷ cs) h) s in
     let f : letter c ≡ true = h.0 in
     let at : piece_at ((c ∷ cs) ++ rest) ≡ identifier_at ((c ∷ cs) ++ rest) = rw f refl in
-    at ∙ ap (λ (m : ℕ). read (Some (word_or_name (word_in (take m ((c ∷ cs) ++ rest))))) m) n ∙ ap (λ (t : List ℕ). read (Some (word_or_name (word_in t))) (length (c ∷ cs))) (take-append_seam (c ∷ cs) rest)
+    at ∙ ap (λ (m : ℕ). read (Some (word_or_name (word_in (take m ((c ∷ cs) ++ rest))))) m) n
+    ∙ ap (λ (t : List ℕ). read (Some (word_or_name (word_in t))) (length (c ∷ cs))) (take-append_seam (c ∷ cs) rest)
 
 -- ---- numbers
 
-number_again : (t rest : List ℕ) → IsDigitSequence t → IsLongest t rest → real_follows rest ≡ false → letter_first rest ≡ false → decimal t ≤ maxint → piece_at (t ++ rest) ≡ read (Some (Number (decimal t))) (length t)
+number_again : (t rest : List ℕ) → IsDigitSequence t → IsLongest t rest → real_follows rest ≡ false → letter_first rest ≡ false → decimal t ≤ maxint
+    → piece_at (t ++ rest) ≡ read (Some (Number (decimal t))) (length t)
 number_again t rest h longest no_real no_letter small =
     let s : Stops digit rest = stops digit rest (λ d more e p. longest d [] more (Number (decimal (t ++ d ∷ []))) e (digits_more t d h p, refl)) in
-    number_read (t ++ rest) t rest (refl, h, stops_first rest s) ∙ plain (length t) t rest no_real no_letter ∙ ap (number_piece (length t)) (small_number t small)
+    number_read (t ++ rest) t rest (refl, h, stops_first rest s) ∙ plain (length t) t rest no_real no_letter
+    ∙ ap (number_piece (length t)) (small_number t small)
   where
     plain : (n : ℕ) (t rest : List ℕ) → real_follows rest ≡ false → letter_first rest ≡ false → number_before rest n t ≡ number_piece n (number_in t)
     plain n t rest e f = rw (e, f) refl
 
 -- ---- marks
 
--- behind the bytes that no name, number or separator begins with
+-- after the bytes that no name, number or separator begins with
 pub mark_read : (c : ℕ) (l : List ℕ) → letter c ≡ false → digit c ≡ false → separator c ≡ false → piece_at (c ∷ l) ≡ mark_at c l
 unfolding piece_at
 mark_read c l a b d = rw (a, b, d) refl
 
-pub symbol_read : (c : ℕ) (l : List ℕ) → nat_eq c apostrophe ≡ false → nat_eq c 123 ≡ false → (nat_eq c 40 && next_is 42 l) ≡ false → nat_eq c 47 ≡ false → mark_at c l ≡ symbol_piece (symbol_among all_symbols (c ∷ l))
+pub symbol_read : (c : ℕ) (l : List ℕ) → nat_eq c apostrophe ≡ false → nat_eq c 123 ≡ false → (nat_eq c 40 && next_is 42 l) ≡ false → nat_eq c 47 ≡ false
+    → mark_at c l ≡ symbol_piece (symbol_among all_symbols (c ∷ l))
 unfolding mark_at symbol_in
 symbol_read c l a b d e = rw (a, b, d, e) refl
 
@@ -70,7 +186,8 @@ written_spells (Usual s) t e = inl e
 written_spells (Other s) t e = inr e
 
 -- the symbol of the longest text is found
-symbol_again : (w : Written) (rest : List ℕ) → IsLongest (written_text w) rest → (v : Written) × (symbol_among all_symbols (written_text w ++ rest) ≡ Some v) × (written_text v ≡ written_text w)
+symbol_again : (w : Written) (rest : List ℕ) → IsLongest (written_text w) rest → (v : Written) × (symbol_among all_symbols (written_text w ++ rest) ≡ Some v)
+    × (written_text v ≡ written_text w)
 symbol_again w rest longest =
     let whole : List ℕ = written_text w ++ rest in
     let found = some_symbol whole rest w refl in
@@ -84,7 +201,8 @@ symbol_again w rest longest =
     same v [] e q f = e ∙ append-nil (written_text w)
     same v (d ∷ ds) e q f = absurd (longest d ds q (SymbolKind (symbol_of v)) f (written_spells v (written_text w ++ (d ∷ ds)) (sym e)))
 
-symbol_piece_again : (w : Written) (rest : List ℕ) → IsLongest (written_text w) rest → opens_comment (written_text w ++ rest) ≡ false → piece_at (written_text w ++ rest) ≡ read (Some (SymbolKind (symbol_of w))) (length (written_text w))
+symbol_piece_again : (w : Written) (rest : List ℕ) → IsLongest (written_text w) rest → opens_comment (written_text w ++ rest) ≡ false
+    → piece_at (written_text w ++ rest) ≡ read (Some (SymbolKind (symbol_of w))) (length (written_text w))
 symbol_piece_again w rest longest none =
     let o = opened w in
     let e : written_text w ++ rest ≡ o.first ∷ (o.others ++ rest) = ap (λ (l : List ℕ). l ++ rest) o.text_is in
@@ -100,17 +218,17 @@ symbol_piece_again w rest longest none =
 
 -- ---- comments
 
-brace_again : (behind rest : List ℕ) → IsClosed behind → piece_at (123 ∷ (behind ++ rest)) ≡ read None (suc (length behind))
+brace_again : (after rest : List ℕ) → IsClosed after → piece_at (123 ∷ (after ++ rest)) ≡ read None (suc (length after))
 unfolding piece_at mark_at
-brace_again behind rest h = rw (closing_again behind rest h) (ap (read None) (omega arith))
+brace_again after rest h = rw (closing_again after rest h) (ap (read None) (omega arith))
 
-paren_again : (behind rest : List ℕ) → IsClosed behind → piece_at (40 ∷ (42 ∷ (behind ++ rest))) ≡ read None (suc (suc (length behind)))
+paren_again : (after rest : List ℕ) → IsClosed after → piece_at (40 ∷ (42 ∷ (after ++ rest))) ≡ read None (suc (suc (length after)))
 unfolding piece_at mark_at
-paren_again behind rest h = rw (closing_again behind rest h) (ap (read None) (omega arith))
+paren_again after rest h = rw (closing_again after rest h) (ap (read None) (omega arith))
 
-comment_again : (text behind rest : List ℕ) → IsOpened text behind → IsClosed behind → piece_at (text ++ rest) ≡ read None (length text)
-comment_again text behind rest (inl e) h = subst (λ (t : List ℕ). piece_at (t ++ rest) ≡ read None (length t)) (sym e) (brace_again behind rest h)
-comment_again text behind rest (inr e) h = subst (λ (t : List ℕ). piece_at (t ++ rest) ≡ read None (length t)) (sym e) (paren_again behind rest h)
+comment_again : (text after rest : List ℕ) → IsOpened text after → IsClosed after → piece_at (text ++ rest) ≡ read None (length text)
+comment_again text after rest (inl e) h = subst (λ (t : List ℕ). piece_at (t ++ rest) ≡ read None (length t)) (sym e) (brace_again after rest h)
+comment_again text after rest (inr e) h = subst (λ (t : List ℕ). piece_at (t ++ rest) ≡ read None (length t)) (sym e) (paren_again after rest h)
 
 -- ---- strings
 
@@ -128,7 +246,8 @@ quoted_length : (text : List ℕ) → length (quoted text) ≡ suc (suc (length 
 quoted_length text = omega (arith, length-append (doubled text) (apostrophe ∷ []))
 
 -- a string that is read is no longer than the longest text
-string_again : (text rest : List ℕ) → IsCharacters text → IsLongest (quoted text) rest → piece_at (quoted text ++ rest) ≡ read (Some Text) (length (quoted text))
+string_again : (text rest : List ℕ) → IsCharacters text → IsLongest (quoted text) rest
+    → piece_at (quoted text ++ rest) ≡ read (Some Text) (length (quoted text))
 string_again text rest h longest =
     let l : List ℕ = doubled text ++ (apostrophe ∷ rest) in
     let found = ended_found text rest (characters_on_line text h) in
@@ -136,12 +255,14 @@ string_again text rest h longest =
     let e : Ended l n = ended_sound l n found.1 in
     let some : 0 < length (doubled text) = characters_some text h in
     let le : length (quoted text) ≤ length (quoted e.text) = omega (arith, quoted_length text, quoted_length e.text, e.len, found.2) in
-    let whole : quoted text ++ rest ≡ quoted e.text ++ e.rest = whole_string text rest ∙ ap (λ (x : List ℕ). apostrophe ∷ x) e.whole ∙ sym (whole_string e.text e.rest) in
+    let whole : quoted text ++ rest ≡ quoted e.text ++ e.rest = whole_string text rest ∙ ap (λ (x : List ℕ). apostrophe ∷ x) e.whole
+    ∙ sym (whole_string e.text e.rest) in
     let more = split (quoted text) rest (quoted e.text) e.rest whole le in
     let more_some : 0 < length (doubled e.text) = omega (arith, e.len, found.2, some) in
     let same : quoted e.text ≡ quoted text = alike e.text e.rest (characters_are e.text e.on_line more_some) more.0 more.1 more.2 in
     let count : 1 + n ≡ length (quoted text) = omega (arith, ap length same, quoted_length e.text, e.len) in
-    ap piece_at (whole_string text rest) ∙ string_read l ∙ ap (string_piece l) found.1 ∙ long_string l n (omega (arith, found.2, some)) ∙ ap (read (Some Text)) count
+    ap piece_at (whole_string text rest) ∙ string_read l ∙ ap (string_piece l) found.1 ∙ long_string l n (omega (arith, found.2, some))
+    ∙ ap (read (Some Text)) count
   where
     alike : (other others : List ℕ) → IsCharacters other → (m : List ℕ) → quoted other ≡ quoted text ++ m → rest ≡ m ++ others → quoted other ≡ quoted text
     alike other others is [] e f = e ∙ append-nil (quoted text)
@@ -156,7 +277,8 @@ separator_again c rest h =
     let b : digit c ≡ false = separator_no_digit c h in
     rw (a, b, h) refl
 
-written_again : (w : Written) (text rest : List ℕ) → text ≡ written_text w → IsLongest text rest → opens_comment (text ++ rest) ≡ false → piece_at (text ++ rest) ≡ read (Some (SymbolKind (symbol_of w))) (length text)
+written_again : (w : Written) (text rest : List ℕ) → text ≡ written_text w → IsLongest text rest → opens_comment (text ++ rest) ≡ false
+    → piece_at (text ++ rest) ≡ read (Some (SymbolKind (symbol_of w))) (length text)
 written_again w text rest e longest none =
     subst (λ (t : List ℕ). piece_at (t ++ rest) ≡ read (Some (SymbolKind (symbol_of w))) (length t)) (sym e)
     (symbol_piece_again w rest (subst (λ (t : List ℕ). IsLongest t rest) e longest) (subst (λ (t : List ℕ). opens_comment (t ++ rest) ≡ false) e none))
@@ -164,12 +286,16 @@ written_again w text rest e longest none =
 pub piece_again : (k : Option Kind) (text rest : List ℕ) → Fits text rest k → piece_at (text ++ rest) ≡ Ok (k, length text)
 piece_again None text rest (inl h) = subst (λ (t : List ℕ). piece_at (t ++ rest) ≡ read None (length t)) (sym h.1) (separator_again h.0 rest h.2)
 piece_again None text rest (inr h) = comment_again text h.0 rest h.1 h.2
-piece_again (Some (WordKind w)) text rest h = identifier_again text rest (word_spelled text w h.0) h.1 ∙ ap (λ (o : Option Word). read (Some (word_or_name o)) (length text)) (word_again text w h.0)
-piece_again (Some Name) text rest h = identifier_again text rest h.0.0 h.1 ∙ ap (λ (o : Option Word). read (Some (word_or_name o)) (length text)) (name_again text h.0.1)
-piece_again (Some (Number n)) text rest h = number_again text rest h.0.0 h.1 h.2.0 h.2.1 (omega (arith, h.0.1, h.2.2)) ∙ ap (λ (m : ℕ). read (Some (Number m)) (length text)) h.0.1
+piece_again (Some (WordKind w)) text rest h = identifier_again text rest (word_spelled text w h.0) h.1
+    ∙ ap (λ (o : Option Word). read (Some (word_or_name o)) (length text)) (word_again text w h.0)
+piece_again (Some Name) text rest h = identifier_again text rest h.0.0 h.1 ∙ ap (λ (o : Option Word). read (Some (word_or_name o)) (length text))
+    (name_again text h.0.1)
+piece_again (Some (Number n)) text rest h = number_again text rest h.0.0 h.1 h.2.0 h.2.1 (omega (arith, h.0.1, h.2.2))
+    ∙ ap (λ (m : ℕ). read (Some (Number m)) (length text)) h.0.1
 piece_again (Some Text) text rest h =
     let e : text ≡ quoted h.0.0 = h.0.2 in
-    subst (λ (t : List ℕ). piece_at (t ++ rest) ≡ read (Some Text) (length t)) (sym e) (string_again h.0.0 rest h.0.1 (subst (λ (t : List ℕ). IsLongest t rest) e h.1))
+    subst (λ (t : List ℕ). piece_at (t ++ rest) ≡ read (Some Text) (length t)) (sym e)
+    (string_again h.0.0 rest h.0.1 (subst (λ (t : List ℕ). IsLongest t rest) e h.1))
 piece_again (Some (SymbolKind s)) text rest h =
     elim h.0 [
       | inl e ↦ written_again (Usual s) text rest e h.1 h.3
@@ -196,10 +322,12 @@ quoted_first : (text : List ℕ) (c : ℕ) (cs : List ℕ) → c ∷ cs ≡ quot
 quoted_first text c cs e = head_is c apostrophe cs (doubled text ++ apostrophe ∷ []) e
 
 no_quote : (text : List ℕ) (c : ℕ) (cs : List ℕ) → letter c ≡ true → c ∷ cs ≡ quoted text → ⊥
-no_quote text c cs h e = let f : letter apostrophe ≡ true = subst (λ (x : ℕ). letter x ≡ true) (quoted_first text c cs e) h in both_ways (letter apostrophe) f refl
+no_quote text c cs h e = let f : letter apostrophe ≡ true = subst (λ (x : ℕ). letter x ≡ true) (quoted_first text c cs e) h in
+    both_ways (letter apostrophe) f refl
 
 no_quote_digit : (text : List ℕ) (c : ℕ) (cs : List ℕ) → digit c ≡ true → c ∷ cs ≡ quoted text → ⊥
-no_quote_digit text c cs h e = let f : digit apostrophe ≡ true = subst (λ (x : ℕ). digit x ≡ true) (quoted_first text c cs e) h in both_ways (digit apostrophe) f refl
+no_quote_digit text c cs h e = let f : digit apostrophe ≡ true = subst (λ (x : ℕ). digit x ≡ true) (quoted_first text c cs e) h in
+    both_ways (digit apostrophe) f refl
 
 identifier_spelled : (k : Kind) (c : ℕ) (cs : List ℕ) → letter c ≡ true → Spells k (c ∷ cs) → IsIdentifier (c ∷ cs)
 identifier_spelled (WordKind w) c cs h f = word_spelled (c ∷ cs) w f
@@ -222,10 +350,12 @@ string_spelled (WordKind w) cs f = absurd (both_ways (letter apostrophe) (word_s
 string_spelled Name cs f = absurd (both_ways (letter apostrophe) f.0.0 refl)
 string_spelled (Number n) cs f = absurd (both_ways (digit apostrophe) f.0.0 refl)
 string_spelled Text cs f = f
-string_spelled (SymbolKind s) cs f = let w = written_of s (apostrophe ∷ cs) f in absurd (both_ways (nat_eq apostrophe apostrophe) refl (symbol_first w.0 apostrophe cs w.1).2)
+string_spelled (SymbolKind s) cs f = let w = written_of s (apostrophe ∷ cs) f in
+    absurd (both_ways (nat_eq apostrophe apostrophe) refl (symbol_first w.0 apostrophe cs w.1).2)
 string_spelled End cs f = absurd f
 
-symbol_spelled : (k : Kind) (c : ℕ) (cs : List ℕ) → letter c ≡ false → digit c ≡ false → nat_eq c apostrophe ≡ false → Spells k (c ∷ cs) → (w : Written) × (c ∷ cs ≡ written_text w)
+symbol_spelled : (k : Kind) (c : ℕ) (cs : List ℕ) → letter c ≡ false → digit c ≡ false → nat_eq c apostrophe ≡ false → Spells k (c ∷ cs)
+    → (w : Written) × (c ∷ cs ≡ written_text w)
 symbol_spelled (WordKind w) c cs a b d f = absurd (both_ways (letter c) (word_spelled (c ∷ cs) w f).0 a)
 symbol_spelled Name c cs a b d f = absurd (both_ways (letter c) f.0.0 a)
 symbol_spelled (Number n) c cs a b d f = absurd (both_ways (digit c) f.0.0 b)
@@ -234,10 +364,12 @@ symbol_spelled (SymbolKind s) c cs a b d f = written_of s (c ∷ cs) f
 symbol_spelled End c cs a b d f = absurd f
 
 identifier_longest : (c : ℕ) (t rest : List ℕ) → letter c ≡ true → Stops letter_or_digit rest → IsLongest (c ∷ t) rest
-identifier_longest c t rest h s d ds more k e f = next_fails letter_or_digit rest d ds more s e (pass_head letter_or_digit d ds (pass_rest letter_or_digit t (d ∷ ds) (identifier_spelled k c (t ++ (d ∷ ds)) h f).1))
+identifier_longest c t rest h s d ds more k e f = next_fails letter_or_digit rest d ds more s e
+    (pass_head letter_or_digit d ds (pass_rest letter_or_digit t (d ∷ ds) (identifier_spelled k c (t ++ (d ∷ ds)) h f).1))
 
 digits_longest : (c : ℕ) (t rest : List ℕ) → digit c ≡ true → Stops digit rest → IsLongest (c ∷ t) rest
-digits_longest c t rest h s d ds more k e f = next_fails digit rest d ds more s e (pass_head digit d ds (pass_rest digit t (d ∷ ds) (digits_spelled k c (t ++ (d ∷ ds)) h f).1))
+digits_longest c t rest h s d ds more k e f = next_fails digit rest d ds more s e
+    (pass_head digit d ds (pass_rest digit t (d ∷ ds) (digits_spelled k c (t ++ (d ∷ ds)) h f).1))
 
 symbol_longest : (w : Written) (rest : List ℕ) → symbol_among all_symbols (written_text w ++ rest) ≡ Some w → IsLongest (written_text w) rest
 symbol_longest w rest found d ds more k e f =
@@ -245,7 +377,8 @@ symbol_longest w rest found d ds more k e f =
     let spelled : Spells k (o.first ∷ (o.others ++ (d ∷ ds))) = subst (λ (l : List ℕ). Spells k (l ++ (d ∷ ds))) o.text_is f in
     let t = symbol_spelled k o.first (o.others ++ (d ∷ ds)) o.no_letter o.no_digit o.no_apostrophe spelled in
     let text : written_text w ++ (d ∷ ds) ≡ written_text t.0 = ap (λ (l : List ℕ). l ++ (d ∷ ds)) o.text_is ∙ t.1 in
-    let front : written_text w ++ rest ≡ written_text t.0 ++ more = ap (λ (l : List ℕ). written_text w ++ l) e ∙ sym (append_assoc (written_text w) (d ∷ ds) more) ∙ ap (λ (l : List ℕ). l ++ more) text in
+    let front : written_text w ++ rest ≡ written_text t.0 ++ more = ap (λ (l : List ℕ). written_text w ++ l) e
+    ∙ sym (append_assoc (written_text w) (d ∷ ds) more) ∙ ap (λ (l : List ℕ). l ++ more) text in
     omega (arith, longest_symbol (written_text w ++ rest) more t.0 w front found, ap length text, length-append (written_text w) (d ∷ ds))
 
 -- no string is longer than to the end that is read
@@ -255,9 +388,11 @@ string_longest l n e found d ds more k f spelled =
     let other : List ℕ = s.0 in
     let text : quoted e.text ++ (d ∷ ds) ≡ quoted other = s.2 in
     let whole : apostrophe ∷ l ≡ apostrophe ∷ (doubled other ++ (apostrophe ∷ more)) =
-    ap (λ (x : List ℕ). apostrophe ∷ x) e.whole ∙ sym (whole_string e.text e.rest) ∙ ap (λ (x : List ℕ). quoted e.text ++ x) f ∙ sym (append_assoc (quoted e.text) (d ∷ ds) more) ∙ ap (λ (x : List ℕ). x ++ more) text ∙ whole_string other more in
+    ap (λ (x : List ℕ). apostrophe ∷ x) e.whole ∙ sym (whole_string e.text e.rest) ∙ ap (λ (x : List ℕ). quoted e.text ++ x) f
+    ∙ sym (append_assoc (quoted e.text) (d ∷ ds) more) ∙ ap (λ (x : List ℕ). x ++ more) text ∙ whole_string other more in
     let longer = ended_found other more (characters_on_line other s.1) in
-    let same : longer.0 ≡ n = same_Some longer.0 n (sym longer.1 ∙ ap (string_end false) (sym (tail_is apostrophe apostrophe l (doubled other ++ (apostrophe ∷ more)) whole)) ∙ found) in
+    let same : longer.0 ≡ n = same_Some longer.0 n (sym longer.1 ∙ ap (string_end false)
+    (sym (tail_is apostrophe apostrophe l (doubled other ++ (apostrophe ∷ more)) whole)) ∙ found) in
     omega (arith, same, longer.2, e.len, quoted_length e.text, quoted_length other, ap length text, length-append (quoted e.text) (d ∷ ds))
 
 -- a piece of a length in front
@@ -275,7 +410,7 @@ pair_is x y e = cc
 cut_same : (l : List ℕ) (k j : Option Kind) (m n : ℕ) → read k m ≡ Ok (j, n) → Cut l k m → Cut l j n
 cut_same l k j m n e c = subst (λ (x : Option Kind × ℕ). Cut l x.0 x.1) (pair_is (k, m) (j, n) e) c
 
-pub nothing_read : (r : Reason) (k : Option Kind) (n : ℕ) → failed r ≡ read k n → ⊥
+pub nothing_read : (r : LexReason) (k : Option Kind) (n : ℕ) → failed r ≡ read k n → ⊥
 nothing_read r k n e = cc
 
 word_or_name_allowed : (o : Option Word) (rest : List ℕ) → IsAllowed (word_or_name o) rest
@@ -292,14 +427,20 @@ identifier_cut c l k n h e =
     let one : run letter_or_digit (c ∷ l) ≡ suc (run letter_or_digit l) = run_one letter_or_digit c l (letter_passes c h) in
     let t : List ℕ = take (run letter_or_digit l) l in
     let is : IsIdentifier (c ∷ t) = (h, run_passes letter_or_digit l) in
-    let e2 : read (Some (word_or_name (word_in (c ∷ t)))) (suc (run letter_or_digit l)) ≡ Ok (k, n) = sym (ap (λ (m : ℕ). read (Some (word_or_name (word_in (take m (c ∷ l))))) m) one) ∙ e in
+    let e2 : read (Some (word_or_name (word_in (c ∷ t)))) (suc (run letter_or_digit l)) ≡ Ok (k, n) =
+    sym (ap (λ (m : ℕ). read (Some (word_or_name (word_in (take m (c ∷ l))))) m) one) ∙ e in
     cut_same (c ∷ l) (Some (word_or_name (word_in (c ∷ t)))) k (suc (run letter_or_digit l)) n e2 (record {
       text = c ∷ t;
       rest = drop (run letter_or_digit l) l;
       whole = ap (λ (x : List ℕ). c ∷ x) (sym (take-append-drop (run letter_or_digit l) l));
       len = ap suc (run_len letter_or_digit l);
       some = omega arith;
-      fits = (identifier_spells (c ∷ t) is, identifier_longest c t (drop (run letter_or_digit l) l) h (run_stops letter_or_digit l), word_or_name_allowed (word_in (c ∷ t)) (drop (run letter_or_digit l) l), letter_opens_none c (t ++ drop (run letter_or_digit l) l) h);
+      fits = (
+        identifier_spells (c ∷ t) is,
+        identifier_longest c t (drop (run letter_or_digit l) l) h (run_stops letter_or_digit l),
+        word_or_name_allowed (word_in (c ∷ t)) (drop (run letter_or_digit l) l),
+        letter_opens_none c (t ++ drop (run letter_or_digit l) l) h,
+      );
     })
 
 number_cut : (c : ℕ) (l : List ℕ) (k : Option Kind) (n : ℕ) → digit c ≡ true → piece_at (c ∷ l) ≡ Ok (k, n) → Cut (c ∷ l) k n
@@ -315,7 +456,8 @@ number_cut c l k n h e =
       ]
     ]
   where
-    at : (o : Option ℕ) → number_in (c ∷ take (run digit l) l) ≡ o → real_follows (drop (run digit l) l) ≡ false → letter_first (drop (run digit l) l) ≡ false → number_piece (length (c ∷ take (run digit l) l)) o ≡ Ok (k, n) → Cut (c ∷ l) k n
+    at : (o : Option ℕ) → number_in (c ∷ take (run digit l) l) ≡ o → real_follows (drop (run digit l) l) ≡ false → letter_first (drop (run digit l) l) ≡ false
+        → number_piece (length (c ∷ take (run digit l) l)) o ≡ Ok (k, n) → Cut (c ∷ l) k n
     at None g no_real no_letter e = absurd (nothing_read TooLarge k n e)
     at (Some value) g no_real no_letter e =
         let v = number_small (c ∷ take (run digit l) l) value g in
@@ -325,7 +467,12 @@ number_cut c l k n h e =
           whole = ap (λ (x : List ℕ). c ∷ x) (sym (take-append-drop (run digit l) l));
           len = refl;
           some = omega arith;
-          fits = (((h, run_passes digit l), v.0), digits_longest c (take (run digit l) l) (drop (run digit l) l) h (run_stops digit l), (no_real, no_letter, v.1), digit_opens_none c (take (run digit l) l ++ drop (run digit l) l) h);
+          fits = (
+            ((h, run_passes digit l), v.0),
+            digits_longest c (take (run digit l) l) (drop (run digit l) l) h (run_stops digit l),
+            (no_real, no_letter, v.1),
+            digit_opens_none c (take (run digit l) l ++ drop (run digit l) l) h,
+          );
         })
 
 string_cut : (l : List ℕ) (k : Option Kind) (n : ℕ) → string_piece l (string_end false l) ≡ Ok (k, n) → Cut (apostrophe ∷ l) k n
@@ -357,28 +504,30 @@ string_cut l k n e = at (string_end false l) refl e
           | inr h ↦ absurd (short l k n h.1)
         ]
 
-comment_cut : (whole behind : List ℕ) (opened : ℕ) (k : Option Kind) (n : ℕ) → IsOpened whole behind → ((x : List ℕ) → (t : List ℕ) × IsOpened t x × (length t ≡ opened + length x) × ((y : List ℕ) → behind ≡ x ++ y → whole ≡ t ++ y)) → 0 < opened → comment_piece opened (closing behind) ≡ Ok (k, n) → Cut whole k n
-comment_cut whole behind opened k n is front some e = at (closing behind) refl e
+comment_cut : (whole after : List ℕ) (opened : ℕ) (k : Option Kind) (n : ℕ) → IsOpened whole after
+    → ((x : List ℕ) → (t : List ℕ) × IsOpened t x × (length t ≡ opened + length x) × ((y : List ℕ) → after ≡ x ++ y → whole ≡ t ++ y)) → 0 < opened
+    → comment_piece opened (closing after) ≡ Ok (k, n) → Cut whole k n
+comment_cut whole after opened k n is front some e = at (closing after) refl e
   where
-    at : (o : Option ℕ) → closing behind ≡ o → comment_piece opened o ≡ Ok (k, n) → Cut whole k n
+    at : (o : Option ℕ) → closing after ≡ o → comment_piece opened o ≡ Ok (k, n) → Cut whole k n
     at None g e = absurd (nothing_read OpenComment k n e)
     at (Some m) g e =
-        let s = closing_sound behind m g in
-        let t = front (take m behind) in
+        let s = closing_sound after m g in
+        let t = front (take m after) in
         cut_same whole None k (opened + m) n e (record {
           text = t.0;
-          rest = drop m behind;
-          whole = t.3 (drop m behind) (sym (take-append-drop m behind));
-          len = omega (arith, t.2, length-take m behind, s.1);
+          rest = drop m after;
+          whole = t.3 (drop m after) (sym (take-append-drop m after));
+          len = omega (arith, t.2, length-take m after, s.1);
           some = omega (arith, some);
-          fits = inr (take m behind, t.1, s.0);
+          fits = inr (take m after, t.1, s.0);
         })
 
-brace_front : (behind x : List ℕ) → (t : List ℕ) × IsOpened t x × (length t ≡ 1 + length x) × ((y : List ℕ) → behind ≡ x ++ y → 123 ∷ behind ≡ t ++ y)
-brace_front behind x = (123 ∷ x, inl refl, omega arith, λ y e. ap (λ (l : List ℕ). 123 ∷ l) e)
+brace_front : (after x : List ℕ) → (t : List ℕ) × IsOpened t x × (length t ≡ 1 + length x) × ((y : List ℕ) → after ≡ x ++ y → 123 ∷ after ≡ t ++ y)
+brace_front after x = (123 ∷ x, inl refl, omega arith, λ y e. ap (λ (l : List ℕ). 123 ∷ l) e)
 
-paren_front : (behind x : List ℕ) → (t : List ℕ) × IsOpened t x × (length t ≡ 2 + length x) × ((y : List ℕ) → behind ≡ x ++ y → 40 ∷ (42 ∷ behind) ≡ t ++ y)
-paren_front behind x = (40 ∷ (42 ∷ x), inr refl, omega arith, λ y e. ap (λ (l : List ℕ). 40 ∷ (42 ∷ l)) e)
+paren_front : (after x : List ℕ) → (t : List ℕ) × IsOpened t x × (length t ≡ 2 + length x) × ((y : List ℕ) → after ≡ x ++ y → 40 ∷ (42 ∷ after) ≡ t ++ y)
+paren_front after x = (40 ∷ (42 ∷ x), inr refl, omega arith, λ y e. ap (λ (l : List ℕ). 40 ∷ (42 ∷ l)) e)
 
 -- the second byte of an opening symbol
 pub star_there : (c : ℕ) (l : List ℕ) → (nat_eq c 40 && next_is 42 l) ≡ true → (m : List ℕ) × (c ∷ l ≡ 40 ∷ (42 ∷ m)) × (drop 1 l ≡ m)
@@ -388,7 +537,8 @@ star_there c l e = let p = and_parts (nat_eq c 40) (next_is 42 l) e in at l p.1 
     at [] e f = absurd cc
     at (d ∷ m) e f = (m, ap (λ (x : ℕ). x ∷ (d ∷ m)) f ∙ ap (λ (x : ℕ). 40 ∷ (x ∷ m)) (eqb-true d 42 e), refl)
 
-symbol_cut : (c : ℕ) (l : List ℕ) (k : Option Kind) (n : ℕ) → opens_comment (c ∷ l) ≡ false → symbol_piece (symbol_among all_symbols (c ∷ l)) ≡ Ok (k, n) → Cut (c ∷ l) k n
+symbol_cut : (c : ℕ) (l : List ℕ) (k : Option Kind) (n : ℕ) → opens_comment (c ∷ l) ≡ false → symbol_piece (symbol_among all_symbols (c ∷ l)) ≡ Ok (k, n)
+    → Cut (c ∷ l) k n
 symbol_cut c l k n none e = at (symbol_among all_symbols (c ∷ l)) refl e
   where
     at : (o : Option Written) → symbol_among all_symbols (c ∷ l) ≡ o → symbol_piece o ≡ Ok (k, n) → Cut (c ∷ l) k n
@@ -402,7 +552,12 @@ symbol_cut c l k n none e = at (symbol_among all_symbols (c ∷ l)) refl e
           whole = whole;
           len = refl;
           some = omega (arith, ap length (opened w).text_is);
-          fits = (written_spells w (written_text w) refl, symbol_longest w rest (ap (symbol_among all_symbols) (sym whole) ∙ g), tt, ap opens_comment (sym whole) ∙ none);
+          fits = (
+            written_spells w (written_text w) refl,
+            symbol_longest w rest (ap (symbol_among all_symbols) (sym whole) ∙ g),
+            tt,
+            ap opens_comment (sym whole) ∙ none,
+          );
         })
 
 mark_cut : (c : ℕ) (l : List ℕ) (k : Option Kind) (n : ℕ) → mark_at c l ≡ Ok (k, n) → Cut (c ∷ l) k n
@@ -434,7 +589,8 @@ piece_cut (c ∷ l) k n e =
       | inr d ↦ elim (chosen (letter c) (identifier_at (c ∷ l)) _ (Ok (k, n)) e) [
         | inl h ↦ identifier_cut c l k n h.0 h.1
         | inr h ↦ elim (fact_of (separator c)) [
-          | inl f ↦ cut_same (c ∷ l) None k 1 n (sym (separator_again c l f) ∙ e) (record { text = c ∷ []; rest = l; whole = refl; len = refl; some = omega arith; fits = inl (c, refl, f) })
+          | inl f ↦ cut_same (c ∷ l) None k 1 n (sym (separator_again c l f) ∙ e)
+              (record { text = c ∷ []; rest = l; whole = refl; len = refl; some = omega arith; fits = inl (c, refl, f) })
           | inr f ↦ mark_cut c l k n (sym (mark_read c l h.0 d f) ∙ e)
         ]
       ]
@@ -442,5 +598,5 @@ piece_cut (c ∷ l) k n e =
 
 -- ---- what is not read does not fit
 
-pub nothing_fits : (l : List ℕ) (r : Reason) → piece_at l ≡ Err r → NothingFits l
+pub nothing_fits : (l : List ℕ) (r : LexReason) → piece_at l ≡ Err r → NothingFits l
 nothing_fits l r e text rest k whole fits = nothing_read r k (length text) (sym e ∙ ap piece_at whole ∙ piece_again k text rest fits)

@@ -9,9 +9,9 @@ use Rattle.pas_lexer.specs.declared.kinds.Word.{Word}
 use Rattle.pas_lexer.specs.Lexicon.{word_text}
 use Rattle.pas_lexer.specs.Lexis.{letter, letter_or_digit, lower_case, IsIdentifier, Spells}
 use Rattle.pas_lexer.specs.Reading.{all_words, word_among, word_in, word_or_name}
-use Rattle.pas_lexer.proofs.Runs.{pass_nil, pass_cons, pass_head, pass_tail, pass_more}
-use Rattle.pas_lexer.proofs.Tables.{word_found, identifier, word_identifier, word_is}
-use Rattle.pas_lexer.proofs.Numbers.{letter_passes}
+use Rattle.pas_lexer.proofs.LongestRun.{pass_nil, pass_cons, pass_head, pass_tail, pass_more}
+use Rattle.pas_lexer.proofs.LongestInTable.{word_found, identifier, word_identifier, word_is}
+use Rattle.pas_lexer.proofs.AllDigitsFirst.{letter_passes}
 
 lower_letter : (c : ℕ) → letter (to_ascii_lowercase c) ≡ true → letter c ≡ true
 lower_letter c h = grind (arith, nat_tests)
@@ -35,7 +35,8 @@ identifier_true (c ∷ cs) e = let p = and_parts (letter c) (list_all letter_or_
 
 lower_passes : (cs : List ℕ) → AllPass letter_or_digit (lower_case cs) → AllPass letter_or_digit cs
 lower_passes [] h = pass_nil letter_or_digit
-lower_passes (c ∷ cs) h = pass_cons letter_or_digit c cs (lower_letter_or_digit c (pass_head letter_or_digit (to_ascii_lowercase c) (lower_case cs) h)) (lower_passes cs (pass_tail letter_or_digit (to_ascii_lowercase c) (lower_case cs) h))
+lower_passes (c ∷ cs) h = pass_cons letter_or_digit c cs (lower_letter_or_digit c (pass_head letter_or_digit (to_ascii_lowercase c) (lower_case cs) h))
+    (lower_passes cs (pass_tail letter_or_digit (to_ascii_lowercase c) (lower_case cs) h))
 
 lower_identifier : (t : List ℕ) → IsIdentifier (lower_case t) → IsIdentifier t
 lower_identifier [] h = absurd h

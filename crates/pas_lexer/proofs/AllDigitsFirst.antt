@@ -1,14 +1,57 @@
 -- Bytes, and the digits that stand first.
-use Rattle.std.proofs.Common.{◌≡◌, ℕ, ◌<◌, ◌≤◌, Bool, true, false, nat_eq, nat_lt, List, [], ◌∷◌, ◌++◌, length, take, drop, Some, None, refl, sym, ap, subst, ◌∙◌, arith, inl, inr}
+use Rattle.std.proofs.Common.{
+  ◌≡◌,
+  ℕ,
+  ◌<◌,
+  ◌≤◌,
+  Bool,
+  true,
+  false,
+  nat_eq,
+  nat_lt,
+  List,
+  [],
+  ◌∷◌,
+  ◌++◌,
+  length,
+  take,
+  drop,
+  Some,
+  None,
+  refl,
+  sym,
+  ap,
+  subst,
+  ◌∙◌,
+  arith,
+  inl,
+  inr,
+}
 use Rattle.std.proofs.lemmas.Option.{same_Some}
 use Rattle.std.proofs.lemmas.Bool.{le-ltb, lt-ltb, ltb-true, ltb-false}
 use Rattle.std.specs.List.{AllPass}
 use Rattle.std.proofs.lemmas.Bool.Decides.{nat_tests}
 use Rattle.std.proofs.lemmas.List.{take-append-drop}
 use Rattle.std.proofs.Math.Seq.{take-append_seam, drop-append_seam}
-use Rattle.pas_lexer.specs.Lexis.{letter, digit, letter_or_digit, separator, digit_first, letter_first, real_follows, next_is, opens_comment, IsDigitSequence, decimal, maxint, FirstDigits, BeginsReal, BeginsJoined}
+use Rattle.pas_lexer.specs.Lexis.{
+  letter,
+  digit,
+  letter_or_digit,
+  separator,
+  digit_first,
+  letter_first,
+  real_follows,
+  next_is,
+  opens_comment,
+  IsDigitSequence,
+  decimal,
+  maxint,
+  FirstDigits,
+  BeginsReal,
+  BeginsJoined,
+}
 use Rattle.pas_lexer.specs.Reading.{run, number_in, number_before, number_at, piece_at}
-use Rattle.pas_lexer.proofs.Runs.{chosen, pass_cons, pass_more, Stops, run_again, run_passes, run_stops, head_is}
+use Rattle.pas_lexer.proofs.LongestRun.{chosen, pass_cons, pass_more, Stops, run_again, run_passes, run_stops, head_is}
 
 -- ---- bytes
 
@@ -71,7 +114,11 @@ first_stops (c ∷ l) e = e
 
 -- where digits stand first, these are all of them
 pub first_digits : (c : ℕ) (l : List ℕ) → digit c ≡ true → FirstDigits (c ∷ l) (c ∷ take (run digit l) l) (drop (run digit l) l)
-first_digits c l h = (ap (λ (x : List ℕ). c ∷ x) (sym (take-append-drop (run digit l) l)), (h, run_passes digit l), stops_first (drop (run digit l) l) (run_stops digit l))
+first_digits c l h = (
+  ap (λ (x : List ℕ). c ∷ x) (sym (take-append-drop (run digit l) l)),
+  (h, run_passes digit l),
+  stops_first (drop (run digit l) l) (run_stops digit l),
+)
 
 -- with what is read of them
 pub number_read : (l digits rest : List ℕ) → FirstDigits l digits rest → piece_at l ≡ number_before rest (length digits) digits
@@ -89,8 +136,11 @@ number_read l (c ∷ cs) rest f =
 
 digits_are : (l digits rest : List ℕ) → FirstDigits l digits rest → (take (run digit l) l ≡ digits) × (drop (run digit l) l ≡ rest)
 digits_are l digits rest f =
-    let n : run digit l ≡ length digits = ap (run digit) f.0 ∙ run_again digit digits rest (digits_all digits f.1) (first_stops rest f.2) in
-    (ap (λ (m : ℕ). take m l) n ∙ ap (take (length digits)) f.0 ∙ take-append_seam digits rest, ap (λ (m : ℕ). drop m l) n ∙ ap (drop (length digits)) f.0 ∙ drop-append_seam digits rest)
+    let n : run digit l ≡ length digits = ap (run digit) f.0 ∙ run_again digit digits rest (digits_all digits f.1) (first_stops rest f.2) in (
+      ap (λ (m : ℕ). take m l) n ∙ ap (take (length digits)) f.0 ∙ take-append_seam digits rest,
+      ap (λ (m : ℕ). drop m l) n ∙ ap (drop (length digits)) f.0
+          ∙ drop-append_seam digits rest,
+    )
 
 rest_same : (l digits rest others more : List ℕ) → FirstDigits l digits rest → FirstDigits l others more → rest ≡ more
 rest_same l digits rest others more f g = sym (digits_are l digits rest f).1 ∙ (digits_are l others more g).1

@@ -1,5 +1,37 @@
--- The spellings of tokens, one behind the other.
-use Rattle.std.proofs.Common.{◌≡◌, ℕ, zero, suc, ◌+◌, ◌-◌, ◌<◌, ◌≤◌, List, [], ◌∷◌, ◌++◌, length, take, drop, get_or, slice_get, Option, Some, None, refl, sym, ap, subst, ◌∙◌, arith, length-append, length-drop, inl, inr, ◌⊎◌}
+-- The spellings of tokens, one after the other.
+use Rattle.std.proofs.Common.{
+  ◌≡◌,
+  ℕ,
+  zero,
+  suc,
+  ◌+◌,
+  ◌-◌,
+  ◌<◌,
+  ◌≤◌,
+  List,
+  [],
+  ◌∷◌,
+  ◌++◌,
+  length,
+  take,
+  drop,
+  get_or,
+  slice_get,
+  Option,
+  Some,
+  None,
+  refl,
+  sym,
+  ap,
+  subst,
+  ◌∙◌,
+  arith,
+  length-append,
+  length-drop,
+  inl,
+  inr,
+  ◌⊎◌,
+}
 use Rattle.std.specs.Prelude.{slice_range}
 use Rattle.std.proofs.lemmas.List.{take-append-le, drop-append-le, drop_at, take_all}
 use Rattle.std.proofs.lemmas.Option.{slice_get_within, slice_get_read, none-some, same_Some}
@@ -35,11 +67,9 @@ stays source spellings more t p h = record {
   reads = part_stays spellings more p.start p.end h.forward h.inside ∙ h.reads;
 }
 
-pub none_spelled : (source : List ℕ) → AreSpelled source [] [] []
-none_spelled source = record { count = refl; each = λ i t p g h. absurd (none-some t g) }
-
 -- one token more
-spelled_more : (source spellings more : List ℕ) (tokens : List Token) (places : List Place) (t : Token) (start end : ℕ) → AreSpelled source spellings tokens places → more ≡ spelling_of source t → start ≡ length spellings → end ≡ length (spellings ++ more)
+spelled_more : (source spellings more : List ℕ) (tokens : List Token) (places : List Place) (t : Token) (start end : ℕ)
+    → AreSpelled source spellings tokens places → more ≡ spelling_of source t → start ≡ length spellings → end ≡ length (spellings ++ more)
     → AreSpelled source (spellings ++ more) (tokens ++ t ∷ []) (places ++ record { start = start; end = end } ∷ [])
 spelled_more source spellings more tokens places t start end so_far is s e = record {
   count = omega (arith, length-append tokens (t ∷ []), length-append places (place_of start end ∷ []), so_far.count);
@@ -53,7 +83,8 @@ spelled_more source spellings more tokens places t start end so_far is s e = rec
       reads = ap (λ (n : ℕ). slice_range (spellings ++ more) n end) s ∙ part_added spellings more end e ∙ is;
     }
 
-    each : (i : ℕ) (u : Token) (p : Place) → slice_get (tokens ++ t ∷ []) i ≡ Some u → slice_get (places ++ place_of start end ∷ []) i ≡ Some p → IsSpelled source (spellings ++ more) u p
+    each : (i : ℕ) (u : Token) (p : Place) → slice_get (tokens ++ t ∷ []) i ≡ Some u → slice_get (places ++ place_of start end ∷ []) i ≡ Some p
+        → IsSpelled source (spellings ++ more) u p
     each i u p g h =
         elim (get_last tokens t u i g) [
           | inl a ↦ elim (get_last places (place_of start end) p i h) [
@@ -62,12 +93,15 @@ spelled_more source spellings more tokens places t start end so_far is s e = rec
           ]
           | inr a ↦ elim (get_last places (place_of start end) p i h) [
             | inl b ↦ absurd (omega (arith, slice_get_within places i p b, a.0, so_far.count))
-            | inr b ↦ subst (λ (x : Token). IsSpelled source (spellings ++ more) x p) a.1 (subst (λ (x : Place). IsSpelled source (spellings ++ more) t x) b.1 added)
+            | inr b ↦ subst (λ (x : Token). IsSpelled source (spellings ++ more) x p) a.1
+                (subst (λ (x : Place). IsSpelled source (spellings ++ more) t x) b.1 added)
           ]
         ]
 
-pub spelled_next : (source spellings all : List ℕ) (tokens : List Token) (i : ℕ) (d : Token) (places after : List Place) (start end : ℕ) → i < length tokens → AreSpelled source spellings (take i tokens) places
-    → all ≡ spellings ++ spelling_of source (get_or tokens i d) → after ≡ places ++ record { start = start; end = end } ∷ [] → start ≡ length spellings → end ≡ length all → AreSpelled source all (take (i + 1) tokens) after
+pub spelled_next : (source spellings all : List ℕ) (tokens : List Token) (i : ℕ) (d : Token) (places after : List Place) (start end : ℕ) → i < length tokens
+    → AreSpelled source spellings (take i tokens) places
+    → all ≡ spellings ++ spelling_of source (get_or tokens i d) → after ≡ places ++ record { start = start; end = end } ∷ [] → start ≡ length spellings
+    → end ≡ length all → AreSpelled source all (take (i + 1) tokens) after
 spelled_next source spellings all tokens i d places after start end lt so_far all_is after_is s e =
     let t : Token = get_or tokens i d in
     let next : i + 1 ≡ suc i = omega arith in
@@ -83,7 +117,9 @@ pub record Found (lexed : Lexed) (i : ℕ) (p : Place) (spellings : List ℕ) : 
   pub is : slice_get lexed.tokens i ≡ Some token
   pub spelled : IsSpelled lexed.source spellings token p
 
-pub found : (lexed : Lexed) (i : ℕ) (p : Place) (tokens : List Token) (source spellings : List ℕ) (places : List Place) → record { tokens = tokens; source = source } ≡ lexed → AreSpelled source spellings tokens places → i < length lexed.tokens → p ≡ get_or places i p → Found lexed i p spellings
+pub found : (lexed : Lexed) (i : ℕ) (p : Place) (tokens : List Token) (source spellings : List ℕ) (places : List Place)
+    → record { tokens = tokens; source = source } ≡ lexed → AreSpelled source spellings tokens places → i < length lexed.tokens → p ≡ get_or places i p
+    → Found lexed i p spellings
 found lexed i p tokens source spellings places view spelled lt e =
     let count : length tokens ≡ length lexed.tokens = ap (λ (l : Lexed). length l.tokens) view in
     let here : slice_get places i ≡ Some p = slice_get_read places (length places) i p refl (omega (arith, lt, count, spelled.count)) e in
@@ -102,6 +138,7 @@ found lexed i p tokens source spellings places view spelled lt e =
       spelled = subst (λ (l : Lexed). IsSpelled l.source spellings t p) view (spelled.each i t p g here);
     }
 
-pub found_spelling : (lexed : Lexed) (i : ℕ) (p : Place) (spellings bytes : List ℕ) (t : Token) → Found lexed i p spellings → bytes ≡ spellings → slice_get lexed.tokens i ≡ Some t → take (p.end - p.start) (drop p.start bytes) ≡ spelling_of lexed.source t
+pub found_spelling : (lexed : Lexed) (i : ℕ) (p : Place) (spellings bytes : List ℕ) (t : Token) → Found lexed i p spellings → bytes ≡ spellings
+    → slice_get lexed.tokens i ≡ Some t → take (p.end - p.start) (drop p.start bytes) ≡ spelling_of lexed.source t
 found_spelling lexed i p spellings bytes t f e g =
     ap (λ (l : List ℕ). take (p.end - p.start) (drop p.start l)) e ∙ f.spelled.reads ∙ ap (spelling_of lexed.source) (same_Some f.token t (sym f.is ∙ g))

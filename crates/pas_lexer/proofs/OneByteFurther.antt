@@ -19,7 +19,8 @@ more_more n (Some m) = ap Some (omega arith)
 no_closing : (c : ℕ) (l : List ℕ) → nat_eq c 125 ≡ false → (nat_eq c 42 && next_is 41 l) ≡ false → closing (c ∷ l) ≡ more_by 1 (closing l)
 no_closing c l e f = rw (e, f) refl
 
-pub comment_goes_on : (l : List ℕ) (at : ℕ) (total : Option ℕ) → at < length l → (get_or l at 0 ≡ 125 → ⊥) → (nat_eq (get_or l at 0) 42 && next_is 41 (drop (at + 1) l)) ≡ false
+pub comment_goes_on : (l : List ℕ) (at : ℕ) (total : Option ℕ) → at < length l → (get_or l at 0 ≡ 125 → ⊥)
+    → (nat_eq (get_or l at 0) 42 && next_is 41 (drop (at + 1) l)) ≡ false
     → more_by at (closing (drop at l)) ≡ total → more_by (at + 1) (closing (drop (at + 1) l)) ≡ total
 comment_goes_on l at total lt one two so_far =
     sym (more_more at (closing (drop (at + 1) l)))
@@ -30,4 +31,4 @@ comment_goes_on l at total lt one two so_far =
 
 -- what is found from a place on, and what was found before it
 abbrev pub last_from : List ℕ → ℕ → Bool → Option ℕ → Option ℕ
-last_from l at behind last = or_else (more_by at (string_end behind (drop at l))) last
+last_from l at after last = or_else (more_by at (string_end after (drop at l))) last

@@ -1,5 +1,36 @@
 -- The two tables: what each row has, and that what is found in a table is right.
-use Rattle.std.proofs.Common.{◌≡◌, ℕ, suc, ◌+◌, ◌<◌, ◌≤◌, Bool, true, false, nat_eq, List, [], ◌∷◌, ◌++◌, length, drop, get_or, Option, None, Some, refl, sym, ap, subst, ◌∙◌, arith, drop-cons, inl, inr, ◌⊎◌}
+use Rattle.std.proofs.Common.{
+  ◌≡◌,
+  ℕ,
+  suc,
+  ◌+◌,
+  ◌<◌,
+  ◌≤◌,
+  Bool,
+  true,
+  false,
+  nat_eq,
+  List,
+  [],
+  ◌∷◌,
+  ◌++◌,
+  length,
+  drop,
+  get_or,
+  Option,
+  None,
+  Some,
+  refl,
+  sym,
+  ap,
+  subst,
+  ◌∙◌,
+  arith,
+  drop-cons,
+  inl,
+  inr,
+  ◌⊎◌,
+}
 use Rattle.std.proofs.lemmas.Option.{same_Some}
 use Rattle.std.proofs.lemmas.Bool.{and_parts, leb-true}
 use Rattle.std.specs.Prelude.{nat_le, ◌&&◌}
@@ -8,15 +39,72 @@ use Rattle.std.specs.Str.{bytes_eq}
 use Rattle.std.proofs.lemmas.Bool.Decides.{Decides-eqb}
 use Rattle.std.proofs.lemmas.Slice.Eq.{bytes_eq-Decides, starts_is}
 use Rattle.pas_lexer.specs.declared.kinds.Word.{Word}
-use Rattle.pas_lexer.specs.declared.kinds.Word.TheVariants.{WAnd, WArray, WBegin, WCase, WConst, WDiv, WDo, WDownto, WElse, WEnd, WFile, WFor, WFunction, WGoto, WIf, WIn, WLabel, WMod, WNil, WNot, WOf, WOr, WPacked, WProcedure, WProgram, WRecord, WRepeat, WSet, WThen, WTo, WType, WUntil, WVar, WWhile, WWith}
+use Rattle.pas_lexer.specs.declared.kinds.Word.TheVariants.{
+  WAnd,
+  WArray,
+  WBegin,
+  WCase,
+  WConst,
+  WDiv,
+  WDo,
+  WDownto,
+  WElse,
+  WEnd,
+  WFile,
+  WFor,
+  WFunction,
+  WGoto,
+  WIf,
+  WIn,
+  WLabel,
+  WMod,
+  WNil,
+  WNot,
+  WOf,
+  WOr,
+  WPacked,
+  WProcedure,
+  WProgram,
+  WRecord,
+  WRepeat,
+  WSet,
+  WThen,
+  WTo,
+  WType,
+  WUntil,
+  WVar,
+  WWhile,
+  WWith,
+}
 use Rattle.pas_lexer.specs.declared.kinds.Symbol.{Symbol}
-use Rattle.pas_lexer.specs.declared.kinds.Symbol.TheVariants.{Plus, Minus, Star, Equal, Less, Greater, LeftBracket, RightBracket, Dot, Comma, Colon, Semicolon, Caret, LeftParen, RightParen, NotEqual, AtMost, AtLeast, Becomes, Range}
+use Rattle.pas_lexer.specs.declared.kinds.Symbol.TheVariants.{
+  Plus,
+  Minus,
+  Star,
+  Equal,
+  Less,
+  Greater,
+  LeftBracket,
+  RightBracket,
+  Dot,
+  Comma,
+  Colon,
+  Semicolon,
+  Caret,
+  LeftParen,
+  RightParen,
+  NotEqual,
+  AtMost,
+  AtLeast,
+  Becomes,
+  Range,
+}
 use Rattle.pas_lexer.specs.declared.symbols.Written.{Written}
 use Rattle.pas_lexer.specs.declared.symbols.Written.TheVariants.{Usual, Other}
 use Rattle.pas_lexer.specs.Lexicon.{word_text, symbol_text}
 use Rattle.pas_lexer.specs.Lexis.{letter, digit, letter_or_digit, separator, apostrophe, lower_case}
 use Rattle.pas_lexer.specs.Reading.{all_words, all_symbols, word_among, symbol_among, written_text, symbol_of}
-use Rattle.pas_lexer.proofs.Runs.{chosen}
+use Rattle.pas_lexer.proofs.LongestRun.{chosen}
 
 -- ---- the rows
 
@@ -200,32 +288,331 @@ pub record Opened (text : List ℕ) : Type 0 where
   pub no_slash : nat_eq first 47 ≡ false
 
 usual_opened : (s : Symbol) → Opened (symbol_text s)
-usual_opened NotEqual = record { first = 60; others = 62 ∷ []; alone = Usual Less; text_is = refl; alone_is = refl; no_letter = refl; no_digit = refl; no_separator = refl; no_apostrophe = refl; no_brace = refl; no_slash = refl }
-usual_opened AtMost = record { first = 60; others = 61 ∷ []; alone = Usual Less; text_is = refl; alone_is = refl; no_letter = refl; no_digit = refl; no_separator = refl; no_apostrophe = refl; no_brace = refl; no_slash = refl }
-usual_opened AtLeast = record { first = 62; others = 61 ∷ []; alone = Usual Greater; text_is = refl; alone_is = refl; no_letter = refl; no_digit = refl; no_separator = refl; no_apostrophe = refl; no_brace = refl; no_slash = refl }
-usual_opened Becomes = record { first = 58; others = 61 ∷ []; alone = Usual Colon; text_is = refl; alone_is = refl; no_letter = refl; no_digit = refl; no_separator = refl; no_apostrophe = refl; no_brace = refl; no_slash = refl }
-usual_opened Range = record { first = 46; others = 46 ∷ []; alone = Usual Dot; text_is = refl; alone_is = refl; no_letter = refl; no_digit = refl; no_separator = refl; no_apostrophe = refl; no_brace = refl; no_slash = refl }
-usual_opened Plus = record { first = 43; others = []; alone = Usual Plus; text_is = refl; alone_is = refl; no_letter = refl; no_digit = refl; no_separator = refl; no_apostrophe = refl; no_brace = refl; no_slash = refl }
-usual_opened Minus = record { first = 45; others = []; alone = Usual Minus; text_is = refl; alone_is = refl; no_letter = refl; no_digit = refl; no_separator = refl; no_apostrophe = refl; no_brace = refl; no_slash = refl }
-usual_opened Star = record { first = 42; others = []; alone = Usual Star; text_is = refl; alone_is = refl; no_letter = refl; no_digit = refl; no_separator = refl; no_apostrophe = refl; no_brace = refl; no_slash = refl }
-usual_opened Equal = record { first = 61; others = []; alone = Usual Equal; text_is = refl; alone_is = refl; no_letter = refl; no_digit = refl; no_separator = refl; no_apostrophe = refl; no_brace = refl; no_slash = refl }
-usual_opened Less = record { first = 60; others = []; alone = Usual Less; text_is = refl; alone_is = refl; no_letter = refl; no_digit = refl; no_separator = refl; no_apostrophe = refl; no_brace = refl; no_slash = refl }
-usual_opened Greater = record { first = 62; others = []; alone = Usual Greater; text_is = refl; alone_is = refl; no_letter = refl; no_digit = refl; no_separator = refl; no_apostrophe = refl; no_brace = refl; no_slash = refl }
-usual_opened LeftBracket = record { first = 91; others = []; alone = Usual LeftBracket; text_is = refl; alone_is = refl; no_letter = refl; no_digit = refl; no_separator = refl; no_apostrophe = refl; no_brace = refl; no_slash = refl }
-usual_opened RightBracket = record { first = 93; others = []; alone = Usual RightBracket; text_is = refl; alone_is = refl; no_letter = refl; no_digit = refl; no_separator = refl; no_apostrophe = refl; no_brace = refl; no_slash = refl }
-usual_opened Dot = record { first = 46; others = []; alone = Usual Dot; text_is = refl; alone_is = refl; no_letter = refl; no_digit = refl; no_separator = refl; no_apostrophe = refl; no_brace = refl; no_slash = refl }
-usual_opened Comma = record { first = 44; others = []; alone = Usual Comma; text_is = refl; alone_is = refl; no_letter = refl; no_digit = refl; no_separator = refl; no_apostrophe = refl; no_brace = refl; no_slash = refl }
-usual_opened Colon = record { first = 58; others = []; alone = Usual Colon; text_is = refl; alone_is = refl; no_letter = refl; no_digit = refl; no_separator = refl; no_apostrophe = refl; no_brace = refl; no_slash = refl }
-usual_opened Semicolon = record { first = 59; others = []; alone = Usual Semicolon; text_is = refl; alone_is = refl; no_letter = refl; no_digit = refl; no_separator = refl; no_apostrophe = refl; no_brace = refl; no_slash = refl }
-usual_opened Caret = record { first = 94; others = []; alone = Usual Caret; text_is = refl; alone_is = refl; no_letter = refl; no_digit = refl; no_separator = refl; no_apostrophe = refl; no_brace = refl; no_slash = refl }
-usual_opened LeftParen = record { first = 40; others = []; alone = Usual LeftParen; text_is = refl; alone_is = refl; no_letter = refl; no_digit = refl; no_separator = refl; no_apostrophe = refl; no_brace = refl; no_slash = refl }
-usual_opened RightParen = record { first = 41; others = []; alone = Usual RightParen; text_is = refl; alone_is = refl; no_letter = refl; no_digit = refl; no_separator = refl; no_apostrophe = refl; no_brace = refl; no_slash = refl }
+usual_opened NotEqual = record {
+  first = 60;
+  others = 62 ∷ [];
+  alone = Usual Less;
+  text_is = refl;
+  alone_is = refl;
+  no_letter = refl;
+  no_digit =
+      refl;
+  no_separator = refl;
+  no_apostrophe = refl;
+  no_brace = refl;
+  no_slash = refl;
+}
+usual_opened AtMost = record {
+  first = 60;
+  others = 61 ∷ [];
+  alone = Usual Less;
+  text_is = refl;
+  alone_is = refl;
+  no_letter = refl;
+  no_digit =
+      refl;
+  no_separator = refl;
+  no_apostrophe = refl;
+  no_brace = refl;
+  no_slash = refl;
+}
+usual_opened AtLeast = record {
+  first = 62;
+  others = 61 ∷ [];
+  alone = Usual Greater;
+  text_is = refl;
+  alone_is = refl;
+  no_letter = refl;
+  no_digit =
+      refl;
+  no_separator = refl;
+  no_apostrophe = refl;
+  no_brace = refl;
+  no_slash = refl;
+}
+usual_opened Becomes = record {
+  first = 58;
+  others = 61 ∷ [];
+  alone = Usual Colon;
+  text_is = refl;
+  alone_is = refl;
+  no_letter = refl;
+  no_digit =
+      refl;
+  no_separator = refl;
+  no_apostrophe = refl;
+  no_brace = refl;
+  no_slash = refl;
+}
+usual_opened Range = record {
+  first = 46;
+  others = 46 ∷ [];
+  alone = Usual Dot;
+  text_is = refl;
+  alone_is = refl;
+  no_letter = refl;
+  no_digit =
+      refl;
+  no_separator = refl;
+  no_apostrophe = refl;
+  no_brace = refl;
+  no_slash = refl;
+}
+usual_opened Plus = record {
+  first = 43;
+  others = [];
+  alone = Usual Plus;
+  text_is = refl;
+  alone_is = refl;
+  no_letter = refl;
+  no_digit = refl;
+  no_separator =
+      refl;
+  no_apostrophe = refl;
+  no_brace = refl;
+  no_slash = refl;
+}
+usual_opened Minus = record {
+  first = 45;
+  others = [];
+  alone = Usual Minus;
+  text_is = refl;
+  alone_is = refl;
+  no_letter = refl;
+  no_digit = refl;
+  no_separator =
+      refl;
+  no_apostrophe = refl;
+  no_brace = refl;
+  no_slash = refl;
+}
+usual_opened Star = record {
+  first = 42;
+  others = [];
+  alone = Usual Star;
+  text_is = refl;
+  alone_is = refl;
+  no_letter = refl;
+  no_digit = refl;
+  no_separator =
+      refl;
+  no_apostrophe = refl;
+  no_brace = refl;
+  no_slash = refl;
+}
+usual_opened Equal = record {
+  first = 61;
+  others = [];
+  alone = Usual Equal;
+  text_is = refl;
+  alone_is = refl;
+  no_letter = refl;
+  no_digit = refl;
+  no_separator =
+      refl;
+  no_apostrophe = refl;
+  no_brace = refl;
+  no_slash = refl;
+}
+usual_opened Less = record {
+  first = 60;
+  others = [];
+  alone = Usual Less;
+  text_is = refl;
+  alone_is = refl;
+  no_letter = refl;
+  no_digit = refl;
+  no_separator =
+      refl;
+  no_apostrophe = refl;
+  no_brace = refl;
+  no_slash = refl;
+}
+usual_opened Greater = record {
+  first = 62;
+  others = [];
+  alone = Usual Greater;
+  text_is = refl;
+  alone_is = refl;
+  no_letter = refl;
+  no_digit =
+      refl;
+  no_separator = refl;
+  no_apostrophe = refl;
+  no_brace = refl;
+  no_slash = refl;
+}
+usual_opened LeftBracket = record {
+  first = 91;
+  others = [];
+  alone = Usual LeftBracket;
+  text_is = refl;
+  alone_is = refl;
+  no_letter = refl;
+  no_digit =
+      refl;
+  no_separator = refl;
+  no_apostrophe = refl;
+  no_brace = refl;
+  no_slash = refl;
+}
+usual_opened RightBracket = record {
+  first = 93;
+  others = [];
+  alone = Usual RightBracket;
+  text_is = refl;
+  alone_is = refl;
+  no_letter = refl;
+  no_digit =
+      refl;
+  no_separator = refl;
+  no_apostrophe = refl;
+  no_brace = refl;
+  no_slash = refl;
+}
+usual_opened Dot = record {
+  first = 46;
+  others = [];
+  alone = Usual Dot;
+  text_is = refl;
+  alone_is = refl;
+  no_letter = refl;
+  no_digit = refl;
+  no_separator =
+      refl;
+  no_apostrophe = refl;
+  no_brace = refl;
+  no_slash = refl;
+}
+usual_opened Comma = record {
+  first = 44;
+  others = [];
+  alone = Usual Comma;
+  text_is = refl;
+  alone_is = refl;
+  no_letter = refl;
+  no_digit = refl;
+  no_separator =
+      refl;
+  no_apostrophe = refl;
+  no_brace = refl;
+  no_slash = refl;
+}
+usual_opened Colon = record {
+  first = 58;
+  others = [];
+  alone = Usual Colon;
+  text_is = refl;
+  alone_is = refl;
+  no_letter = refl;
+  no_digit = refl;
+  no_separator =
+      refl;
+  no_apostrophe = refl;
+  no_brace = refl;
+  no_slash = refl;
+}
+usual_opened Semicolon = record {
+  first = 59;
+  others = [];
+  alone = Usual Semicolon;
+  text_is = refl;
+  alone_is = refl;
+  no_letter = refl;
+  no_digit =
+      refl;
+  no_separator = refl;
+  no_apostrophe = refl;
+  no_brace = refl;
+  no_slash = refl;
+}
+usual_opened Caret = record {
+  first = 94;
+  others = [];
+  alone = Usual Caret;
+  text_is = refl;
+  alone_is = refl;
+  no_letter = refl;
+  no_digit = refl;
+  no_separator =
+      refl;
+  no_apostrophe = refl;
+  no_brace = refl;
+  no_slash = refl;
+}
+usual_opened LeftParen = record {
+  first = 40;
+  others = [];
+  alone = Usual LeftParen;
+  text_is = refl;
+  alone_is = refl;
+  no_letter = refl;
+  no_digit =
+      refl;
+  no_separator = refl;
+  no_apostrophe = refl;
+  no_brace = refl;
+  no_slash = refl;
+}
+usual_opened RightParen = record {
+  first = 41;
+  others = [];
+  alone = Usual RightParen;
+  text_is = refl;
+  alone_is = refl;
+  no_letter = refl;
+  no_digit =
+      refl;
+  no_separator = refl;
+  no_apostrophe = refl;
+  no_brace = refl;
+  no_slash = refl;
+}
 
 pub opened : (w : Written) → Opened (written_text w)
 opened (Usual s) = usual_opened s
-opened (Other LeftBracket) = record { first = 40; others = 46 ∷ []; alone = Usual LeftParen; text_is = refl; alone_is = refl; no_letter = refl; no_digit = refl; no_separator = refl; no_apostrophe = refl; no_brace = refl; no_slash = refl }
-opened (Other RightBracket) = record { first = 46; others = 41 ∷ []; alone = Usual Dot; text_is = refl; alone_is = refl; no_letter = refl; no_digit = refl; no_separator = refl; no_apostrophe = refl; no_brace = refl; no_slash = refl }
-opened (Other Caret) = record { first = 64; others = []; alone = Other Caret; text_is = refl; alone_is = refl; no_letter = refl; no_digit = refl; no_separator = refl; no_apostrophe = refl; no_brace = refl; no_slash = refl }
+opened (Other LeftBracket) = record {
+  first = 40;
+  others = 46 ∷ [];
+  alone = Usual LeftParen;
+  text_is = refl;
+  alone_is = refl;
+  no_letter = refl;
+  no_digit =
+      refl;
+  no_separator = refl;
+  no_apostrophe = refl;
+  no_brace = refl;
+  no_slash = refl;
+}
+opened (Other RightBracket) = record {
+  first = 46;
+  others = 41 ∷ [];
+  alone = Usual Dot;
+  text_is = refl;
+  alone_is = refl;
+  no_letter = refl;
+  no_digit =
+      refl;
+  no_separator = refl;
+  no_apostrophe = refl;
+  no_brace = refl;
+  no_slash = refl;
+}
+opened (Other Caret) = record {
+  first = 64;
+  others = [];
+  alone = Other Caret;
+  text_is = refl;
+  alone_is = refl;
+  no_letter = refl;
+  no_digit = refl;
+  no_separator =
+      refl;
+  no_apostrophe = refl;
+  no_brace = refl;
+  no_slash = refl;
+}
 opened (Other NotEqual) = usual_opened NotEqual
 opened (Other AtMost) = usual_opened AtMost
 opened (Other AtLeast) = usual_opened AtLeast
@@ -287,13 +674,47 @@ listed (Other Less) = record { row = Usual Less; among = inr (inr (inr (inr (inr
 listed (Other Greater) = record { row = Usual Greater; among = inr (inr (inr (inr (inr (inr (inr (inr (inr (inr (inr (inr (inl refl)))))))))))); text = refl }
 listed (Other LeftBracket) = record { row = Other LeftBracket; among = inr (inr (inr (inr (inr (inl refl))))); text = refl }
 listed (Other RightBracket) = record { row = Other RightBracket; among = inr (inr (inr (inr (inr (inr (inl refl)))))); text = refl }
-listed (Other Dot) = record { row = Usual Dot; among = inr (inr (inr (inr (inr (inr (inr (inr (inr (inr (inr (inr (inr (inr (inr (inl refl))))))))))))))); text = refl }
-listed (Other Comma) = record { row = Usual Comma; among = inr (inr (inr (inr (inr (inr (inr (inr (inr (inr (inr (inr (inr (inr (inr (inr (inl refl)))))))))))))))); text = refl }
-listed (Other Colon) = record { row = Usual Colon; among = inr (inr (inr (inr (inr (inr (inr (inr (inr (inr (inr (inr (inr (inr (inr (inr (inr (inl refl))))))))))))))))); text = refl }
-listed (Other Semicolon) = record { row = Usual Semicolon; among = inr (inr (inr (inr (inr (inr (inr (inr (inr (inr (inr (inr (inr (inr (inr (inr (inr (inr (inl refl)))))))))))))))))); text = refl }
-listed (Other Caret) = record { row = Other Caret; among = inr (inr (inr (inr (inr (inr (inr (inr (inr (inr (inr (inr (inr (inr (inr (inr (inr (inr (inr (inr (inr (inr (inl refl)))))))))))))))))))))); text = refl }
-listed (Other LeftParen) = record { row = Usual LeftParen; among = inr (inr (inr (inr (inr (inr (inr (inr (inr (inr (inr (inr (inr (inr (inr (inr (inr (inr (inr (inr (inl refl)))))))))))))))))))); text = refl }
-listed (Other RightParen) = record { row = Usual RightParen; among = inr (inr (inr (inr (inr (inr (inr (inr (inr (inr (inr (inr (inr (inr (inr (inr (inr (inr (inr (inr (inr (inl refl))))))))))))))))))))); text = refl }
+listed (Other Dot) = record {
+  row = Usual Dot;
+  among = inr (inr (inr (inr (inr (inr (inr (inr (inr (inr (inr (inr (inr (inr (inr (inl refl)))))))))))))));
+  text = refl;
+}
+listed (Other Comma) = record {
+  row = Usual Comma;
+  among = inr (inr (inr (inr (inr
+      (inr (inr (inr (inr (inr (inr (inr (inr (inr (inr (inr (inl refl))))))))))))))));
+  text = refl;
+}
+listed (Other Colon) = record {
+  row = Usual Colon;
+  among = inr (inr (inr (inr (inr
+      (inr (inr (inr (inr (inr (inr (inr (inr (inr (inr (inr (inr (inl refl)))))))))))))))));
+  text = refl;
+}
+listed (Other Semicolon) = record {
+  row = Usual Semicolon;
+  among = inr (inr (inr
+      (inr (inr (inr (inr (inr (inr (inr (inr (inr (inr (inr (inr (inr (inr (inr (inl refl))))))))))))))))));
+  text = refl;
+}
+listed (Other Caret) = record {
+  row = Other Caret;
+  among = inr (inr (inr (inr (inr
+      (inr (inr (inr (inr (inr (inr (inr (inr (inr (inr (inr (inr (inr (inr (inr (inr (inr (inl refl))))))))))))))))))))));
+  text = refl;
+}
+listed (Other LeftParen) = record {
+  row = Usual LeftParen;
+  among = inr (inr (inr
+      (inr (inr (inr (inr (inr (inr (inr (inr (inr (inr (inr (inr (inr (inr (inr (inr (inr (inl refl))))))))))))))))))));
+  text = refl;
+}
+listed (Other RightParen) = record {
+  row = Usual RightParen;
+  among = inr (inr (inr
+      (inr (inr (inr (inr (inr (inr (inr (inr (inr (inr (inr (inr (inr (inr (inr (inr (inr (inr (inl refl)))))))))))))))))))));
+  text = refl;
+}
 listed (Other NotEqual) = record { row = Usual NotEqual; among = inl refl; text = refl }
 listed (Other AtMost) = record { row = Usual AtMost; among = inr (inl refl); text = refl }
 listed (Other AtLeast) = record { row = Usual AtLeast; among = inr (inr (inl refl)); text = refl }
@@ -303,14 +724,16 @@ listed (Other Range) = record { row = Usual Range; among = inr (inr (inr (inr (i
 -- ---- words
 
 -- the first word of the rest is the text
-pub word_here : (ws : List Word) (i : ℕ) (d : Word) (t : List ℕ) → i < length ws → t ≡ word_text (get_or ws i d) → word_among (drop i ws) t ≡ word_among ws t → Some (get_or ws i d) ≡ word_among ws t
+pub word_here : (ws : List Word) (i : ℕ) (d : Word) (t : List ℕ) → i < length ws → t ≡ word_text (get_or ws i d) → word_among (drop i ws) t ≡ word_among ws t
+    → Some (get_or ws i d) ≡ word_among ws t
 word_here ws i d t lt e so_far =
     let b : bytes_eq t (word_text (get_or ws i d)) ≡ true = (bytes_eq-Decides t (word_text (get_or ws i d))).1 e in
     let here : word_among (get_or ws i d ∷ drop (suc i) ws) t ≡ Some (get_or ws i d) = rw b refl in
     sym here ∙ ap (λ (l : List Word). word_among l t) (sym (drop-cons ws i d lt)) ∙ so_far
 
 -- it is not, so go on
-pub word_later : (ws : List Word) (i : ℕ) (d : Word) (t : List ℕ) → i < length ws → (t ≡ word_text (get_or ws i d) → ⊥) → word_among (drop i ws) t ≡ word_among ws t → word_among (drop (i + 1) ws) t ≡ word_among ws t
+pub word_later : (ws : List Word) (i : ℕ) (d : Word) (t : List ℕ) → i < length ws → (t ≡ word_text (get_or ws i d) → ⊥)
+    → word_among (drop i ws) t ≡ word_among ws t → word_among (drop (i + 1) ws) t ≡ word_among ws t
 word_later ws i d t lt other so_far =
     elim (chosen (bytes_eq t (word_text (get_or ws i d))) (Some (get_or ws i d)) (word_among (drop (suc i) ws) t) _ refl) [
       | inl h ↦ absurd (other ((bytes_eq-Decides t (word_text (get_or ws i d))).0 h.0))
@@ -369,7 +792,8 @@ within_all n (s ∷ ss) t h m =
     ]
 
 -- the symbol that is found is the longest with which the bytes begin
-longest_among : (ss : List Written) (l rest : List ℕ) (t s : Written) → ordered ss ≡ true → IsAmong t ss → l ≡ written_text t ++ rest → symbol_among ss l ≡ Some s → length (written_text t) ≤ length (written_text s)
+longest_among : (ss : List Written) (l rest : List ℕ) (t s : Written) → ordered ss ≡ true → IsAmong t ss → l ≡ written_text t ++ rest
+    → symbol_among ss l ≡ Some s → length (written_text t) ≤ length (written_text s)
 longest_among [] l rest t s o m front e = absurd m
 longest_among (v ∷ ss) l rest t s o m front e =
     let p = and_parts (no_longer (length (written_text v)) ss) (ordered ss) o in
@@ -379,15 +803,19 @@ longest_among (v ∷ ss) l rest t s o m front e =
         | inr g ↦ within_all (length (written_text v)) ss t p.0 g
       ])
       | inr h ↦ elim m [
-        | inl same ↦ absurd (let yes : starts_with nat_eq l (written_text v) ≡ true = begun l rest v (front ∙ ap (λ (x : Written). written_text x ++ rest) (sym same)) in let no : starts_with nat_eq l (written_text v) ≡ false = h.0 in cc)
+        | inl same ↦ absurd (let yes : starts_with nat_eq l (written_text v) ≡ true =
+            begun l rest v (front ∙ ap (λ (x : Written). written_text x ++ rest) (sym same)) in let no : starts_with nat_eq l (written_text v) ≡ false = h.0 in
+            cc)
         | inr g ↦ longest_among ss l rest t s p.1 g front h.1
       ]
     ]
 
-pub longest_symbol : (l rest : List ℕ) (t s : Written) → l ≡ written_text t ++ rest → symbol_among all_symbols l ≡ Some s → length (written_text t) ≤ length (written_text s)
+pub longest_symbol : (l rest : List ℕ) (t s : Written) → l ≡ written_text t ++ rest → symbol_among all_symbols l ≡ Some s
+    → length (written_text t) ≤ length (written_text s)
 longest_symbol l rest t s front e =
     let r = listed t in
-    subst (λ (x : List ℕ). length x ≤ length (written_text s)) (sym r.text) (longest_among all_symbols l rest r.row s refl r.among (front ∙ ap (λ (x : List ℕ). x ++ rest) r.text) e)
+    subst (λ (x : List ℕ). length x ≤ length (written_text s)) (sym r.text) (longest_among all_symbols l rest r.row s refl r.among (front
+    ∙ ap (λ (x : List ℕ). x ++ rest) r.text) e)
 
 -- where the bytes begin with a symbol, some symbol is found
 some_among : (ss : List Written) (l rest : List ℕ) (t : Written) → IsAmong t ss → l ≡ written_text t ++ rest → (s : Written) × (symbol_among ss l ≡ Some s)
@@ -396,7 +824,9 @@ some_among (v ∷ ss) l rest t m front =
     elim (chosen (starts_with nat_eq l (written_text v)) (Some v) (symbol_among ss l) (symbol_among (v ∷ ss) l) refl) [
       | inl h ↦ (v, sym h.1)
       | inr h ↦ elim m [
-        | inl same ↦ absurd (let yes : starts_with nat_eq l (written_text v) ≡ true = begun l rest v (front ∙ ap (λ (x : Written). written_text x ++ rest) (sym same)) in let no : starts_with nat_eq l (written_text v) ≡ false = h.0 in cc)
+        | inl same ↦ absurd (let yes : starts_with nat_eq l (written_text v) ≡ true =
+            begun l rest v (front ∙ ap (λ (x : Written). written_text x ++ rest) (sym same)) in let no : starts_with nat_eq l (written_text v) ≡ false = h.0 in
+            cc)
         | inr g ↦ let r = some_among ss l rest t g front in (r.0, sym h.1 ∙ r.1)
       ]
     ]

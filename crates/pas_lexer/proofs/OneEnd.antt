@@ -6,7 +6,8 @@ use Rattle.pas_lexer.specs.declared.kinds.Kind.TheVariants.{End}
 use Rattle.pas_lexer.specs.declared.kinds.Token.{Token}
 use Rattle.pas_lexer.specs.Lexed.{Lexed, EndsOnce}
 
-last_of : (front : List Token) (last t : Token) (i : ℕ) → last.kind ≡ End → All (λ u. u.kind ≢ End) front → slice_get (front ++ last ∷ []) i ≡ Some t → (t.kind ≡ End) ↔ (i + 1 ≡ length (front ++ last ∷ []))
+last_of : (front : List Token) (last t : Token) (i : ℕ) → last.kind ≡ End → All (λ u. u.kind ≢ End) front → slice_get (front ++ last ∷ []) i ≡ Some t
+    → (t.kind ≡ End) ↔ (i + 1 ≡ length (front ++ last ∷ []))
 last_of [] last t zero is others g = (λ e. omega arith, λ e. ap (λ (u : Token). u.kind) (sym (same_Some last t g)) ∙ is)
 last_of [] last t (suc i) is others g = absurd (none-some t g)
 last_of (u ∷ front) last t zero is others g =
@@ -22,9 +23,11 @@ get_is (u ∷ tokens) zero t lt e = ap Some (sym e)
 get_is (u ∷ tokens) (suc i) t lt e = get_is tokens i t (omega (arith, lt)) e
 
 -- of the tokens that end once, the token of a number is `End` where the number is the last
-pub is_last : (lexed : Lexed) (tokens : List Token) (source : List ℕ) (i : ℕ) (t : Token) → record { tokens = tokens; source = source } ≡ lexed → EndsOnce tokens → i < length lexed.tokens → t ≡ get_or tokens i t → (t.kind ≡ End) ↔ (i + 1 ≡ length lexed.tokens)
+pub is_last : (lexed : Lexed) (tokens : List Token) (source : List ℕ) (i : ℕ) (t : Token) → record { tokens = tokens; source = source } ≡ lexed
+    → EndsOnce tokens → i < length lexed.tokens → t ≡ get_or tokens i t → (t.kind ≡ End) ↔ (i + 1 ≡ length lexed.tokens)
 is_last lexed tokens source i t view ended lt e =
     let same : tokens ≡ lexed.tokens = ap (λ (l : Lexed). l.tokens) view in
     let whole : tokens ≡ ended.0 ++ ended.1 ∷ [] = ended.2 in
     let got : slice_get tokens i ≡ Some t = get_is tokens i t (omega (arith, lt, ap length same)) e in
-    subst (λ (ts : List Token). (t.kind ≡ End) ↔ (i + 1 ≡ length ts)) (sym whole ∙ same) (last_of ended.0 ended.1 t i ended.3 ended.4 (ap (λ (ts : List Token). slice_get ts i) (sym whole) ∙ got))
+    subst (λ (ts : List Token). (t.kind ≡ End) ↔ (i + 1 ≡ length ts)) (sym whole
+    ∙ same) (last_of ended.0 ended.1 t i ended.3 ended.4 (ap (λ (ts : List Token). slice_get ts i) (sym whole) ∙ got))

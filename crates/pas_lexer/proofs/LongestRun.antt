@@ -1,5 +1,33 @@
 -- Choices, and how far bytes pass a test.
-use Rattle.std.proofs.Common.{◌≡◌, ℕ, zero, suc, ◌-◌, ◌≤◌, Bool, true, false, cond, List, [], ◌∷◌, ◌++◌, length, take, drop, refl, sym, ap, subst, ◌∙◌, arith, length-drop, inl, inr, ◌⊎◌}
+use Rattle.std.proofs.Common.{
+  ◌≡◌,
+  ℕ,
+  zero,
+  suc,
+  ◌-◌,
+  ◌≤◌,
+  Bool,
+  true,
+  false,
+  cond,
+  List,
+  [],
+  ◌∷◌,
+  ◌++◌,
+  length,
+  take,
+  drop,
+  refl,
+  sym,
+  ap,
+  subst,
+  ◌∙◌,
+  arith,
+  length-drop,
+  inl,
+  inr,
+  ◌⊎◌,
+}
 use Rattle.std.proofs.lemmas.List.{take_all}
 use Rattle.std.specs.List.{AllPass}
 use Rattle.pas_lexer.specs.Reading.{run}
@@ -60,7 +88,8 @@ pub run_passes : (p : ℕ → Bool) (l : List ℕ) → AllPass p (take (run p l)
 run_passes p [] = pass_nil p
 run_passes p (c ∷ l) =
     elim (fact_of (p c)) [
-      | inl h ↦ let e : run p (c ∷ l) ≡ suc (run p l) = rw h refl in subst (λ (n : ℕ). AllPass p (take n (c ∷ l))) (sym e) (pass_cons p c (take (run p l) l) h (run_passes p l))
+      | inl h ↦ let e : run p (c ∷ l) ≡ suc (run p l) = rw h refl in subst (λ (n : ℕ). AllPass p (take n (c ∷ l))) (sym e)
+          (pass_cons p c (take (run p l) l) h (run_passes p l))
       | inr h ↦ let e : run p (c ∷ l) ≡ 0 = rw h refl in subst (λ (n : ℕ). AllPass p (take n (c ∷ l))) (sym e) (pass_nil p)
     ]
 

@@ -1,11 +1,38 @@
--- What stands behind a string's first apostrophe.
-use Rattle.std.proofs.Common.{◌≡◌, ℕ, suc, ◌+◌, ◌<◌, Bool, true, false, cond, nat_eq, List, [], ◌∷◌, ◌++◌, length, Option, Some, None, refl, sym, ap, subst, ◌∙◌, arith, inl, inr}
+-- What stands after a string's first apostrophe.
+use Rattle.std.proofs.Common.{
+  ◌≡◌,
+  ℕ,
+  suc,
+  ◌+◌,
+  ◌<◌,
+  Bool,
+  true,
+  false,
+  cond,
+  nat_eq,
+  List,
+  [],
+  ◌∷◌,
+  ◌++◌,
+  length,
+  Option,
+  Some,
+  None,
+  refl,
+  sym,
+  ap,
+  subst,
+  ◌∙◌,
+  arith,
+  inl,
+  inr,
+}
 use Rattle.std.proofs.lemmas.Option.{same_Some}
 use Rattle.std.specs.List.{AllPass}
 use Rattle.std.proofs.lemmas.Bool.{eqb-true, not-true, not_from_false}
 use Rattle.pas_lexer.specs.Lexis.{ends_line, in_line, apostrophe, ends_first, doubled, IsCharacters}
 use Rattle.pas_lexer.specs.Reading.{more_by, or_else, string_end}
-use Rattle.pas_lexer.proofs.Runs.{chosen, fact_of, pass_nil, pass_cons, pass_head, pass_tail}
+use Rattle.pas_lexer.proofs.LongestRun.{chosen, fact_of, pass_nil, pass_cons, pass_head, pass_tail}
 
 -- characters end at an apostrophe, so many bytes on
 pub record Ended (l : List ℕ) (n : ℕ) : Type 0 where
@@ -48,7 +75,7 @@ one_more c l n e f h = record {
   len = ap suc h.len ∙ ap (λ (x : List ℕ). suc (length x)) (sym (doubled_other c h.text e));
 }
 
--- behind an apostrophe that has no other yet, another stands
+-- after an apostrophe that has no other yet, another stands
 abbrev Sound : Bool → List ℕ → ℕ → Type 0
 Sound false l n = Ended l n
 Sound true l n = (m : ℕ) × (rest : List ℕ) × (l ≡ apostrophe ∷ rest) × (n ≡ suc m) × Ended rest m
@@ -67,7 +94,8 @@ sound true (c ∷ l) n e =
       | inr h ↦ absurd (let never : None ≡ Some n = h.1 in cc)
     ]
 sound false (c ∷ l) n e =
-    elim (chosen (nat_eq c apostrophe) (or_else (more_by 1 (string_end true l)) (Some 1)) (cond (ends_line c) None (more_by 1 (string_end false l))) (Some n) e) [
+    elim (chosen (nat_eq c apostrophe) (or_else (more_by 1 (string_end true l)) (Some 1))
+    (cond (ends_line c) None (more_by 1 (string_end false l))) (Some n) e) [
       | inl h ↦ subst (λ (x : ℕ). Ended (x ∷ l) n) (sym (eqb-true c apostrophe h.0)) (apart (string_end true l) n refl h.1 (λ m g. sound true l m g))
       | inr h ↦ elim (chosen (ends_line c) None (more_by 1 (string_end false l)) (Some n) h.1) [
         | inl g ↦ absurd (let never : None ≡ Some n = g.1 in cc)
@@ -75,18 +103,21 @@ sound false (c ∷ l) n e =
       ]
     ]
   where
-    apart : (o : Option ℕ) (n : ℕ) → string_end true l ≡ o → or_else (more_by 1 o) (Some 1) ≡ Some n → ((m : ℕ) → string_end true l ≡ Some m → Sound true l m) → Ended (apostrophe ∷ l) n
+    apart : (o : Option ℕ) (n : ℕ) → string_end true l ≡ o → or_else (more_by 1 o) (Some 1) ≡ Some n → ((m : ℕ) → string_end true l ≡ Some m → Sound true l m)
+        → Ended (apostrophe ∷ l) n
     apart None n g e further = record { text = []; rest = l; whole = refl; on_line = pass_nil in_line; len = sym (same_Some 1 n e) }
     apart (Some m) n g e further =
         let s = further m g in
         let count : n ≡ suc (suc s.0) = omega (arith, same_Some (1 + m) n e, s.3) in
-        subst (λ (x : List ℕ). Ended (apostrophe ∷ x) n) (sym s.2) (subst (λ (x : ℕ). Ended (apostrophe ∷ (apostrophe ∷ s.1)) x) (sym count) (two_more s.1 s.0 s.4))
+        subst (λ (x : List ℕ). Ended (apostrophe ∷ x) n) (sym s.2) (subst (λ (x : ℕ). Ended (apostrophe ∷ (apostrophe ∷ s.1)) x) (sym count)
+        (two_more s.1 s.0 s.4))
 
 pub ended_sound : (l : List ℕ) (n : ℕ) → string_end false l ≡ Some n → Ended l n
 ended_sound l n e = sound false l n e
 
 -- where characters end, an end is read that is no nearer
-pub ended_found : (text rest : List ℕ) → AllPass in_line text → (n : ℕ) × (string_end false (doubled text ++ (apostrophe ∷ rest)) ≡ Some n) × (length (doubled text) < n)
+pub ended_found : (text rest : List ℕ) → AllPass in_line text → (n : ℕ) × (string_end false (doubled text ++ (apostrophe ∷ rest)) ≡ Some n)
+    × (length (doubled text) < n)
 ended_found [] rest h = at (string_end true rest) refl
   where
     at : (o : Option ℕ) → string_end true rest ≡ o → (n : ℕ) × (or_else (more_by 1 o) (Some 1) ≡ Some n) × (0 < n)
@@ -98,16 +129,23 @@ ended_found (c ∷ cs) rest h =
     elim (fact_of (nat_eq c apostrophe)) [
       | inl e ↦
           let d : doubled (c ∷ cs) ≡ c ∷ (c ∷ doubled cs) = doubled_apostrophe c cs e in
-          subst (λ (x : List ℕ). (n : ℕ) × (string_end false (x ++ (apostrophe ∷ rest)) ≡ Some n) × (length x < n)) (sym d) (suc (suc further.0), twice c l further.0 e further.1, omega (arith, further.2))
+          subst (λ (x : List ℕ). (n : ℕ) × (string_end false (x ++ (apostrophe ∷ rest)) ≡ Some n)
+          × (length x < n)) (sym d) (suc (suc further.0), twice c l further.0 e further.1, omega (arith, further.2))
       | inr e ↦
           let d : doubled (c ∷ cs) ≡ c ∷ doubled cs = doubled_other c cs e in
-          subst (λ (x : List ℕ). (n : ℕ) × (string_end false (x ++ (apostrophe ∷ rest)) ≡ Some n) × (length x < n)) (sym d) (suc further.0, once c l further.0 e (not-true (ends_line c) (pass_head in_line c cs h)) further.1, omega (arith, further.2))
+          subst (λ (x : List ℕ). (n : ℕ) × (string_end false (x ++ (apostrophe ∷ rest)) ≡ Some n)
+          × (length x < n)) (sym d) (
+            suc further.0,
+            once c l further.0 e (not-true (ends_line c) (pass_head in_line c cs h)) further.1,
+            omega (arith, further.2),
+          )
     ]
   where
     twice : (c : ℕ) (l : List ℕ) (n : ℕ) → nat_eq c apostrophe ≡ true → string_end false l ≡ Some n → string_end false (c ∷ (c ∷ l)) ≡ Some (suc (suc n))
     twice c l n e f = rw (e, f) (ap Some (omega arith))
 
-    once : (c : ℕ) (l : List ℕ) (n : ℕ) → nat_eq c apostrophe ≡ false → ends_line c ≡ false → string_end false l ≡ Some n → string_end false (c ∷ l) ≡ Some (suc n)
+    once : (c : ℕ) (l : List ℕ) (n : ℕ) → nat_eq c apostrophe ≡ false → ends_line c ≡ false → string_end false l ≡ Some n
+        → string_end false (c ∷ l) ≡ Some (suc n)
     once c l n e g f = rw (e, g, f) (ap Some (omega arith))
 
 -- where no end is read, characters go on to the end of the line
