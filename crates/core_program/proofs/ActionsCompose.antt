@@ -4,8 +4,8 @@ use Rattle.cell_value.specs.declared.entries.Touch.{Touch}
 use Rattle.core_program.specs.declared.machine.Halt.{Halt}
 use Rattle.core_program.specs.declared.machine.Halt.TheVariants.{Why, NoMemory}
 use Rattle.core_program.specs.State.{State, Act, Answer, Done, Went, Stops, perform}
-use Rattle.core_program.specs.Acts.{Moment, WentSo}
-use Rattle.core_program.specs.Actions.{Action, Give, Fail, Perform, ◌>>=◌, Performed, Finished, Stopped, before, follow, performs, FinishedSo, DoesAll}
+use Rattle.core_program.specs.Acts.{Moment, ActDone}
+use Rattle.core_program.specs.Actions.{Action, Give, Fail, Perform, ◌>>=◌, Performed, Finished, Stopped, before, follow, performs, ActionFinished, DoesAll}
 
 pub before_nothing : {A : Type 0} (x : Performed A) → before [] x ≡ x
 before_nothing (Finished x w σ) = refl
@@ -37,7 +37,8 @@ performs_bind (Perform act next) f σ = follow_then (perform act σ) _ _ f (λ x
 
 -- after an act that was done, what the next action does is what the whole does
 pub does_act : {A X : Type 0} (seen : X → A) (a : Act) (next : Answer a → Action A) (x : Answer a) (old mid new : Moment) (r : Result X Halt)
-    → WentSo (perform a old.state) x old mid → DoesAll seen (performs (next x) mid.state) r mid new → DoesAll seen (performs (Perform a next) old.state) r old new
+    → ActDone (perform a old.state) x old mid → DoesAll seen (performs (next x) mid.state) r mid new
+    → DoesAll seen (performs (Perform a next) old.state) r old new
 does_act seen a next x old mid new (Ok y) w d =
     (w.0 ++ d.0, ap (λ z. follow z (λ x τ. performs (next x) τ)) w.1 ∙ ap (before w.0) d.1, d.2 ∙ ap (λ l. l ++ d.0) w.2 ∙ append_assoc old.log w.0 d.0)
 does_act seen a next x old mid new (Err (Why why)) w d =
@@ -46,11 +47,20 @@ does_act seen a next x old mid new (Err NoMemory) w d = tt
 
 -- the same after an action
 pub does_bind : {A B X : Type 0} (seen : X → B) (a : Action A) (f : A → Action B) (x : A) (old mid new : Moment) (r : Result X Halt)
-    → FinishedSo (performs a old.state) x old mid → DoesAll seen (performs (f x) mid.state) r mid new → DoesAll seen (performs (a >>= f) old.state) r old new
-does_bind seen a f x old mid new (Ok y) w d =
-    (w.0 ++ d.0, performs_bind a f old.state ∙ ap (λ z. then_performs z f) w.1 ∙ ap (before w.0) d.1, d.2 ∙ ap (λ l. l ++ d.0) w.2 ∙ append_assoc old.log w.0 d.0)
-does_bind seen a f x old mid new (Err (Why why)) w d =
-    (w.0 ++ d.0, performs_bind a f old.state ∙ ap (λ z. then_performs z f) w.1 ∙ ap (before w.0) d.1, d.2 ∙ ap (λ l. l ++ d.0) w.2 ∙ append_assoc old.log w.0 d.0)
+    → ActionFinished (performs a old.state) x old mid → DoesAll seen (performs (f x) mid.state) r mid new
+    → DoesAll seen (performs (a >>= f) old.state) r old new
+does_bind seen a f x old mid new (Ok y) w d = (
+  w.0 ++ d.0,
+  performs_bind a f old.state ∙ ap (λ z. then_performs z f) w.1 ∙ ap (before w.0) d.1,
+  d.2 ∙ ap (λ l. l ++ d.0) w.2
+      ∙ append_assoc old.log w.0 d.0,
+)
+does_bind seen a f x old mid new (Err (Why why)) w d = (
+  w.0 ++ d.0,
+  performs_bind a f old.state ∙ ap (λ z. then_performs z f) w.1 ∙ ap (before w.0) d.1,
+  d.2 ∙ ap (λ l. l ++ d.0) w.2
+      ∙ append_assoc old.log w.0 d.0,
+)
 does_bind seen a f x old mid new (Err NoMemory) w d = tt
 
 -- an action that stopped stops what it is part of

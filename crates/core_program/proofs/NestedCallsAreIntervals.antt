@@ -1,12 +1,39 @@
 -- Calls that lie in one another as in a forest, and what follows of their numbers.
-use Rattle.std.proofs.Common.{◌≡◌, ℕ, zero, suc, ◌+◌, ◌-◌, ◌<◌, ◌≤◌, Bool, true, false, cond, List, [], ◌∷◌, ◌++◌, Some, length, get_or, refl, sym, ap, subst, ◌∙◌, arith, length-append}
+use Rattle.std.proofs.Common.{
+  ◌≡◌,
+  ℕ,
+  zero,
+  suc,
+  ◌+◌,
+  ◌-◌,
+  ◌<◌,
+  ◌≤◌,
+  Bool,
+  true,
+  false,
+  cond,
+  List,
+  [],
+  ◌∷◌,
+  ◌++◌,
+  Some,
+  length,
+  get_or,
+  refl,
+  sym,
+  ap,
+  subst,
+  ◌∙◌,
+  arith,
+  length-append,
+}
 use Rattle.std.proofs.Math.Dec.{leb}
 use Rattle.std.proofs.Math.ListN.{get_or-append}
 use Rattle.std.proofs.Math.Seq.{get_or-append_right}
 use Rattle.std.proofs.lemmas.Bool.{le-leb, leb-true, leb-false}
 use Rattle.core_program.specs.Numbering.{greatest, count, last_of, is_below, parent_of, depth_of, InSubtree, Root, Child}
 use Rattle.core_program.specs.Tower.{Inside}
-use Rattle.core_program.proofs.Numbers.{same_test, count_same}
+use Rattle.core_program.proofs.RowsInParts.{same_test, count_same}
 
 pub record Forest (bs : List ℕ) : Type 0 where
   pub inside : (k : ℕ) → k < length bs → last_of bs k < length bs
@@ -19,7 +46,8 @@ left_last : (bs cs : List ℕ) (k : ℕ) → k < length bs → last_of (bs ++ cs
 left_last bs cs k h = ap (λ g. k + g) (get_or-append bs cs 0 k h)
 
 right_last : (bs cs : List ℕ) (k : ℕ) → length bs ≤ k → last_of (bs ++ cs) k ≡ length bs + last_of cs (k - length bs)
-right_last bs cs k h = ap (λ g. k + g) (get_or-append_right bs cs k 0 h) ∙ (let x : k + get_or cs (k - length bs) 0 ≡ length bs + (k - length bs + get_or cs (k - length bs) 0) = omega arith in x)
+right_last bs cs k h = ap (λ g. k + g) (get_or-append_right bs cs k 0 h) ∙ (let x : k + get_or cs (k - length bs) 0
+    ≡ length bs + (k - length bs + get_or cs (k - length bs) 0) = omega arith in x)
 
 pub within_append : (bs cs : List ℕ) → Inside bs → Inside cs → Inside (bs ++ cs)
 within_append bs cs f g = record { inside = λ k h. in_k k h (leb (length bs) k) refl }
@@ -28,7 +56,8 @@ within_append bs cs f g = record { inside = λ k h. in_k k h (leb (length bs) k)
     size = length-append bs cs
 
     in_k : (k : ℕ) → k < length (bs ++ cs) → (t : Bool) → leb (length bs) k ≡ t → last_of (bs ++ cs) k < length (bs ++ cs)
-    in_k k h true e = let m = leb-true _ _ e in let l = right_last bs cs k m in let x = g.inside (k - length bs) (omega (arith, size)) in omega (arith, size, l, x)
+    in_k k h true e = let m = leb-true _ _ e in let l = right_last bs cs k m in let x = g.inside (k - length bs) (omega (arith, size)) in
+        omega (arith, size, l, x)
     in_k k h false e = let m = leb-false _ _ e in let l = left_last bs cs k m in let x = f.inside k m in omega (arith, size, l, x)
 
 pub within_call : (b : ℕ) (bs : List ℕ) → b ≡ length bs → Inside bs → Inside (b ∷ bs)
@@ -39,7 +68,11 @@ within_call b bs e f = record { inside = in_k }
     in_k (suc k) h = let x = f.inside k (omega arith) in omega (arith, x)
 
 pub forest_append : (bs cs : List ℕ) → Forest bs → Forest cs → Forest (bs ++ cs)
-forest_append bs cs f g = record { inside = λ k h. (within_append bs cs (within f) (within g)).inside k h; nested = λ j k h a b. nest j k h a b (leb (length bs) j) refl (leb (length bs) k) refl }
+forest_append bs cs f g = record {
+  inside = λ k h. (within_append bs cs (within f) (within g)).inside k h;
+  nested =
+      λ j k h a b. nest j k h a b (leb (length bs) j) refl (leb (length bs) k) refl;
+}
   where
     size : length (bs ++ cs) ≡ length bs + length cs
     size = length-append bs cs
@@ -47,7 +80,8 @@ forest_append bs cs f g = record { inside = λ k h. (within_append bs cs (within
     within : {ds : List ℕ} → Forest ds → Inside ds
     within f = record { inside = λ k h. f.inside k h }
 
-    nest : (j k : ℕ) → k < length (bs ++ cs) → j ≤ k → k ≤ last_of (bs ++ cs) j → (t : Bool) → leb (length bs) j ≡ t → (u : Bool) → leb (length bs) k ≡ u → last_of (bs ++ cs) k ≤ last_of (bs ++ cs) j
+    nest : (j k : ℕ) → k < length (bs ++ cs) → j ≤ k → k ≤ last_of (bs ++ cs) j → (t : Bool) → leb (length bs) j ≡ t → (u : Bool) → leb (length bs) k ≡ u
+        → last_of (bs ++ cs) k ≤ last_of (bs ++ cs) j
     nest j k h a b true e u e' =
         let m = leb-true _ _ e in
         let lj = right_last bs cs j m in
@@ -82,7 +116,8 @@ pub greatest_is : (p : ℕ → Bool) (n m : ℕ) → greatest p n ≡ Some m →
 greatest_is p zero m e = absurd (let x : ⊥ = cc in x)
 greatest_is p (suc n) m e = go (greatest_is p n m) (p n) refl e
   where
-    go : (greatest p n ≡ Some m → (m < n) × (p m ≡ true) × ((i : ℕ) → m < i → i < n → p i ≡ false)) → (b : Bool) → p n ≡ b → cond b (Some n) (greatest p n) ≡ Some m → (m < suc n) × (p m ≡ true) × ((i : ℕ) → m < i → i < suc n → p i ≡ false)
+    go : (greatest p n ≡ Some m → (m < n) × (p m ≡ true) × ((i : ℕ) → m < i → i < n → p i ≡ false)) → (b : Bool) → p n ≡ b
+        → cond b (Some n) (greatest p n) ≡ Some m → (m < suc n) × (p m ≡ true) × ((i : ℕ) → m < i → i < suc n → p i ≡ false)
     go ih true q e = let x : n ≡ m = cc in (omega arith, ap p (sym x) ∙ q, λ i a b. absurd (omega arith))
     go ih false q e =
         let x = ih e in
@@ -147,7 +182,8 @@ module _ (bs : List ℕ) (f : Forest bs) where
   subtree_of k j a b = upward j k j (omega arith) a b
 
   -- each call but the first has a parent before it, one less deep
-  pub parent_is : (k : ℕ) → 0 < k → k < length bs → last_of bs 0 + 1 ≡ length bs → (j : ℕ) × ((parent_of bs k ≡ Some j) × (j < k) × (depth_of bs k ≡ depth_of bs j + 1))
+  pub parent_is : (k : ℕ) → 0 < k → k < length bs → last_of bs 0 + 1 ≡ length bs
+      → (j : ℕ) × ((parent_of bs k ≡ Some j) × (j < k) × (depth_of bs k ≡ depth_of bs j + 1))
   parent_is k a h r =
       let x = greatest_from (is_below bs k) k 0 a (le-leb k (last_of bs 0) (omega arith)) in
       let y = greatest_is (is_below bs k) k x.0 x.1.0 in

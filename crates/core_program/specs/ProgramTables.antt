@@ -3,7 +3,7 @@ use Rattle.std.specs.Prelude.{List}
 use Rattle.core_program.specs.declared.tables.Row.{Row}
 use Rattle.core_program.specs.declared.tables.Routine.{Routine}
 
-pub record Tables : Type 0 where
+pub record ProgramTables : Type 0 where
   -- the statements, each with its line
   pub rows : List Row
   -- routine 0 is the program block
