@@ -1,5 +1,31 @@
 -- What the operations on vectors of 16 lanes hold, lane by lane.
-use Rattle.std.proofs.Common.{◌≡◌, ℕ, ◌+◌, ◌-◌, ◌^◌, ◌<◌, ◌≤◌, List, Bool, true, false, cond, ltb, length, get_or, map, min, max, refl, sym, ap, subst, ◌∙◌, arith, w32}
+use Rattle.std.proofs.Common.{
+  ◌≡◌,
+  ℕ,
+  ◌+◌,
+  ◌-◌,
+  ◌^◌,
+  ◌<◌,
+  ◌≤◌,
+  List,
+  Bool,
+  true,
+  false,
+  cond,
+  ltb,
+  length,
+  get_or,
+  map,
+  min,
+  max,
+  refl,
+  sym,
+  ap,
+  subst,
+  ◌∙◌,
+  arith,
+  w32,
+}
 use Rattle.std.specs.Simd.Lanes.{zip2, sel_l, top, chunk}
 use Rattle.std.proofs.lemmas.Simd.{length-zip2, get_or-zip2, length-sel_l, get_or-sel_l, length-chunk, get_or-chunk, tops_compared}
 use Rattle.std.proofs.lemmas.List.{get_or-map, length-map}
@@ -36,7 +62,8 @@ HasLanes-select t a b x y p q r s =
           get_or-sel_l (zip2 t a b) x y lane 0 (omega arith) (omega arith) (omega arith)
           ∙ ap (λ (m : Bool). cond m (get_or x lane 0) (get_or y lane 0)) (get_or-zip2 t a b lane 0 0 false (omega arith) (omega arith));
     } in
-    subst (λ ms. HasLanes (λ lane. cond (t (get_or a lane 0) (get_or b lane 0)) (get_or x lane 0) (get_or y lane 0)) (sel_l ms x y)) (sym (tops_compared w32 t a b)) bare
+    subst (λ ms. HasLanes (λ lane. cond (t (get_or a lane 0) (get_or b lane 0)) (get_or x lane 0) (get_or y lane 0)) (sel_l ms x y))
+    (sym (tops_compared w32 t a b)) bare
 
 -- the same lanes by another rule
 pub HasLanes-along : (f g : ℕ → ℕ) (lanes : List ℕ) → ((lane : ℕ) → lane < 16 → f lane ≡ g lane) → HasLanes f lanes → HasLanes g lanes

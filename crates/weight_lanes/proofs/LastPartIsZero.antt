@@ -1,5 +1,28 @@
 -- Flags of which a last part has been found to be 0.
-use Rattle.std.proofs.Common.{◌≡◌, ◌≢◌, ℕ, zero, suc, ◌≤◌, ◌↔◌, List, length, get_or, take, refl, sym, ◌∙◌, arith, ⊎_elim, Option, Some, None, All, IsNone, IfSome}
+use Rattle.std.proofs.Common.{
+  ◌≡◌,
+  ◌≢◌,
+  ℕ,
+  zero,
+  suc,
+  ◌≤◌,
+  ◌↔◌,
+  List,
+  length,
+  get_or,
+  take,
+  refl,
+  sym,
+  ◌∙◌,
+  arith,
+  ⊎_elim,
+  Option,
+  Some,
+  None,
+  All,
+  IsNone,
+  IfSome,
+}
 use Rattle.std.proofs.lemmas.Bool.{cases_lt}
 use Rattle.std.proofs.lemmas.List.{get_or-take, get_or_default, length-take-le}
 use Rattle.std.proofs.lemmas.List.Elements.{All-take}

@@ -1,7 +1,6 @@
 -- The least of the numbers below a bound, in a variable and in the lanes of a vector.
-use Rattle.std.proofs.Common.{◌≡◌, ℕ, ◌+◌, ◌-◌, ◌<◌, ◌≤◌, inl, inr, List, length, get_or, min, replicate, refl, sym, ap, subst, arith, ⊎_elim}
+use Rattle.std.proofs.Common.{◌≡◌, ℕ, ◌+◌, ◌-◌, ◌<◌, ◌≤◌, inl, inr, List, length, get_or, min, sym, ap, subst, arith, ⊎_elim}
 use Rattle.std.proofs.lemmas.Bool.{cases_lt}
-use Rattle.std.proofs.lemmas.Simd.{length-replicate, get_or-replicate}
 use Rattle.weight_lanes.specs.Lanes.{HasLanes, IsLeast, IsTaken}
 
 -- the least lane of a vector is the least of 2 ^ 32 - 1 and the numbers that f gives below `count`
@@ -19,10 +18,6 @@ taken_min f count a b first second =
     ⊎_elim (λ l. let e : a ≡ min a b = omega arith in subst (IsTaken f count) e first)
     (λ ge. let e : b ≡ min a b = omega arith in subst (IsTaken f count) e second) (cases_lt a b)
 
--- before the first number
-pub IsLeast-none : (f : ℕ → ℕ) → IsLeast f 0 4294967295
-IsLeast-none f = record { below = λ place l. absurd (omega arith); taken = inl refl }
-
 -- with one number more
 pub IsLeast-more : (f : ℕ → ℕ) (count least next result : ℕ) → IsLeast f count least → next ≡ f count → result ≡ min least next → IsLeast f (count + 1) result
 IsLeast-more f count least next result is here smaller = record {
@@ -33,14 +28,6 @@ IsLeast-more f count least next result is here smaller = record {
       let before = taken_below_more f count (count + 1) least (omega arith) is.taken in
       let at : IsTaken f (count + 1) next = inr (count, omega arith, sym here) in
       subst (IsTaken f (count + 1)) (sym smaller) (taken_min f (count + 1) least next before at);
-}
-
--- a vector of the largest number
-pub HasLeast-none : (f : ℕ → ℕ) → HasLeast f 0 (replicate 16 4294967295)
-HasLeast-none f = record {
-  long = length-replicate {A = ℕ} 16 4294967295;
-  below = λ place l. absurd (omega arith);
-  taken = λ lane l. inl (get_or-replicate 16 lane 4294967295 0 l);
 }
 
 -- with one block more
@@ -70,7 +57,8 @@ HasLeast-more f at lanes block result has numbers smaller = record {
 }
 
 -- the least lane
-pub IsLeast-lanes : (f : ℕ → ℕ) (count least : ℕ) (lanes : List ℕ) → HasLeast f count lanes → IsLeast (λ lane. get_or lanes lane 0) 16 least → IsLeast f count least
+pub IsLeast-lanes : (f : ℕ → ℕ) (count least : ℕ) (lanes : List ℕ) → HasLeast f count lanes → IsLeast (λ lane. get_or lanes lane 0) 16 least
+    → IsLeast f count least
 IsLeast-lanes f count least lanes has is = record {
   below = λ place l.
       let low = has.below place l in

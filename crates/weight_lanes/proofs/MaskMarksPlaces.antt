@@ -1,5 +1,33 @@
 -- What the bits of a mask say of the places of a block.
-use Rattle.std.proofs.Common.{◌≡◌, ℕ, ◌+◌, ◌-◌, ◌<◌, ◌≤◌, ◌^◌, Bool, true, false, cond, not, eqb, eq-eqb, ◌≢◌, ◌↔◌, List, length, get_or, map, refl, sym, ap, subst, ◌∙◌, arith, ⊎_elim}
+use Rattle.std.proofs.Common.{
+  ◌≡◌,
+  ℕ,
+  ◌+◌,
+  ◌-◌,
+  ◌<◌,
+  ◌≤◌,
+  ◌^◌,
+  Bool,
+  true,
+  false,
+  cond,
+  not,
+  eqb,
+  eq-eqb,
+  ◌≢◌,
+  ◌↔◌,
+  List,
+  length,
+  get_or,
+  map,
+  refl,
+  sym,
+  ap,
+  subst,
+  ◌∙◌,
+  arith,
+  ⊎_elim,
+}
 use Rattle.std.specs.Int.{bit_at}
 use Rattle.std.specs.Simd.Lanes.{mask_l}
 use Rattle.std.proofs.lemmas.Simd.{bit_mask_l, mask_l-lt}
@@ -7,9 +35,6 @@ use Rattle.std.proofs.lemmas.Bool.{cases_lt, eqb-true}
 use Rattle.std.proofs.lemmas.List.{get_or-map, length-map}
 use Rattle.std.proofs.lemmas.Nat.Bits.{bit_at_above, bit_at-zero}
 use Rattle.weight_lanes.specs.Lanes.{Marks, NoneIn}
-
-pub NoneIn-empty : (Q : ℕ → Type 0) (from to : ℕ) → to ≤ from → NoneIn Q from to
-NoneIn-empty Q from to empty = record { none = λ place low high. absurd (omega arith) }
 
 pub NoneIn-join : (Q : ℕ → Type 0) (a b c : ℕ) → NoneIn Q a b → NoneIn Q b c → NoneIn Q a c
 NoneIn-join Q a b c first second = record {
