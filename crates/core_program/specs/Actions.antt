@@ -42,15 +42,15 @@ performs (Fail why) σ = Stopped why [] σ
 performs (Perform act next) σ = follow (perform act σ) (λ x τ. performs (next x) τ)
 
 -- the action was done, with this answer
-abbrev pub FinishedSo : {A : Type 0} → Performed A → A → Moment → Moment → Type 0
-FinishedSo {A} did x old new = (w : List Touch) × (did ≡ Finished x w new.state) × (new.log ≡ old.log ++ w)
+abbrev pub ActionFinished : {A : Type 0} → Performed A → A → Moment → Moment → Type 0
+ActionFinished {A} did x old new = (w : List Touch) × (did ≡ Finished x w new.state) × (new.log ≡ old.log ++ w)
 
 -- the action stopped, for this reason
-abbrev pub StoppedSo : {A : Type 0} → Performed A → Trouble → Moment → Moment → Type 0
-StoppedSo {A} did why old new = (w : List Touch) × (did ≡ Stopped why w new.state) × (new.log ≡ old.log ++ w)
+abbrev pub ActionStopped : {A : Type 0} → Performed A → Trouble → Moment → Moment → Type 0
+ActionStopped {A} did why old new = (w : List Touch) × (did ≡ Stopped why w new.state) × (new.log ≡ old.log ++ w)
 
 -- a call on the machine is the action, unless memory runs out
 abbrev pub DoesAll : {A X : Type 0} → (X → A) → Performed A → Result X Halt → Moment → Moment → Type 0
-DoesAll seen did (Ok x) old new = FinishedSo did (seen x) old new
-DoesAll seen did (Err (Why why)) old new = StoppedSo did why old new
+DoesAll seen did (Ok x) old new = ActionFinished did (seen x) old new
+DoesAll seen did (Err (Why why)) old new = ActionStopped did why old new
 DoesAll seen did (Err NoMemory) old new = Unit {0}

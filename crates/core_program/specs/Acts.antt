@@ -15,11 +15,11 @@ pub record Moment : Type 0 where
   pub log : List Touch
 
 -- what a machine stands for
-abbrev pub state_of : Machine → State
-state_of m = record { cells = m.store; top = m.top; steps = m.steps; calls = m.calls; depth = m.depth }
+abbrev pub machine_state : Machine → State
+machine_state m = record { cells = m.store; top = m.top; steps = m.steps; calls = m.calls; depth = m.depth }
 
 abbrev pub moment_of : Machine → Moment
-moment_of m = record { state = state_of m; log = m.log.items }
+moment_of m = record { state = machine_state m; log = m.log.items }
 
 -- one call more can be counted
 abbrev pub HasRoom : Machine → Type 0
@@ -31,15 +31,15 @@ RoomAfter (Assign target e) m = Unit {0}
 RoomAfter (Call routine) m = HasRoom m
 
 -- the act was done, with this answer
-abbrev pub WentSo : {A : Type 0} → Done A → A → Moment → Moment → Type 0
-WentSo {A} did x old new = (w : List Touch) × (did ≡ Went x w new.state) × (new.log ≡ old.log ++ w)
+abbrev pub ActDone : {A : Type 0} → Done A → A → Moment → Moment → Type 0
+ActDone {A} did x old new = (w : List Touch) × (did ≡ Went x w new.state) × (new.log ≡ old.log ++ w)
 
 -- the act was not done, for this reason
-abbrev pub StoppedSo : {A : Type 0} → Done A → Trouble → Moment → Moment → Type 0
-StoppedSo did why old new = (did ≡ Stops why new.state) × (new.log ≡ old.log)
+abbrev pub ActRefused : {A : Type 0} → Done A → Trouble → Moment → Moment → Type 0
+ActRefused did why old new = (did ≡ Stops why new.state) × (new.log ≡ old.log)
 
 -- a call on the machine is the act, unless memory runs out
 abbrev pub Does : {A X : Type 0} → (X → A) → Done A → Result X Halt → Moment → Moment → Type 0
-Does seen did (Ok x) old new = WentSo did (seen x) old new
-Does seen did (Err (Why why)) old new = StoppedSo did why old new
+Does seen did (Ok x) old new = ActDone did (seen x) old new
+Does seen did (Err (Why why)) old new = ActRefused did why old new
 Does seen did (Err NoMemory) old new = Unit {0}

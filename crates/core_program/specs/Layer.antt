@@ -6,7 +6,7 @@ use Rattle.core_program.specs.declared.tables.Block.{Block}
 use Rattle.core_program.specs.declared.tables.Statement.{Statement}
 use Rattle.core_program.specs.declared.tables.Statement.TheVariants.{Assign, Call}
 use Rattle.core_program.specs.declared.machine.Trouble.TheVariants.{NoRow}
-use Rattle.core_program.specs.Tables.{Tables}
+use Rattle.core_program.specs.ProgramTables.{ProgramTables}
 use Rattle.core_program.specs.State.{Spend}
 use Rattle.core_program.specs.Tree.{Out, Normal, Jump, Part, Exec, Body, Tree, Ret, Halt, Do, Sub, Enter, doing}
 use Rattle.core_program.specs.Statements.{block_of, statement_action}
@@ -24,7 +24,7 @@ on_normal next (Jump label base) = Ret (Jump label base)
 abbrev pub spend : Tree → Tree
 spend next = Do Spend (λ _. next)
 
--- so many statements in order, from a row on (ISO 7185, clause 6.8.3.2)
+-- this many statements in order, from a row on (ISO 7185, clause 6.8.3.2)
 abbrev pub in_order : Block → (base row count : ℕ) → Tree
 in_order b base row zero = Ret Normal
 in_order b base row (suc n) = Sub (Exec row b base) (on_normal (in_order b base (row + 1) n))
@@ -35,7 +35,7 @@ afterwards (Assign target e) = Ret Normal
 afterwards (Call routine) = Enter routine [] Ret
 
 -- the statement of a row
-abbrev pub of_row : Tables → Block → ℕ → Row → Tree
+abbrev pub of_row : ProgramTables → Block → ℕ → Row → Tree
 of_row p b base r = doing (statement_action p r.line b base r.statement) (λ _. afterwards r.statement)
 
 -- the statement part of a routine, which is itself a statement and takes a step
@@ -43,6 +43,6 @@ abbrev pub of_body : Block → ℕ → Routine → Tree
 of_body b base r = spend (in_order b base r.first r.count)
 
 -- what a part does, by the program's tables
-abbrev pub layer : Tables → Part → Tree
+abbrev pub layer : ProgramTables → Part → Tree
 layer p (Exec row b base) = or_no_row (of_row p b base) (slice_get p.rows row)
 layer p (Body routine base) = or_no_row (of_body (block_of routine) base) (slice_get p.routines routine)

@@ -1,4 +1,4 @@
-pub mod Tables
+pub mod ProgramTables
 pub mod State
 pub mod Acts
 pub mod Actions

@@ -1,6 +1,23 @@
 -- How the calls of a run are numbered: in order of entry, from 0. A call is told from the numbers of
 -- calls that each has below it.
-use Rattle.std.specs.Prelude.{◌≡◌, ℕ, zero, suc, ◌+◌, Bool, List, [], ◌∷◌, Option, Some, None, map, cond, nat_le, slice_index}
+use Rattle.std.specs.Prelude.{
+  ◌≡◌,
+  ℕ,
+  zero,
+  suc,
+  ◌+◌,
+  Bool,
+  List,
+  [],
+  ◌∷◌,
+  Option,
+  Some,
+  None,
+  map,
+  cond,
+  nat_le,
+  slice_index,
+}
 use Rattle.core_program.specs.declared.calls.CallRow.{CallRow}
 use Rattle.core_program.specs.Run.{Call, Outcome}
 
@@ -41,7 +58,14 @@ each_from f k (x ∷ xs) = f k x ∷ each_from f (suc k) xs
 
 -- call k, as a table of calls keeps it
 abbrev pub row_of : List ℕ → ℕ → Call → CallRow
-row_of bs k c = record { routine = c.routine; parent = parent_of bs k; depth = depth_of bs k; last = last_of bs k; way = c.way }
+row_of bs k c = record {
+  routine = c.routine;
+  parent = parent_of bs k;
+  depth = depth_of bs k;
+  last = last_of bs k;
+  way =
+      c.way;
+}
 
 -- the table of these calls
 abbrev pub numbered : List Call → List CallRow

@@ -1,5 +1,25 @@
 -- The meaning of a tree, of a call and of a run.
-use Rattle.std.specs.Prelude.{ℕ, zero, suc, ◌+◌, ◌-◌, ◌*◌, List, [], ◌∷◌, ◌++◌, Option, Some, None, length, take, replicate, nat_lt, if◌then◌else◌, slice_get}
+use Rattle.std.specs.Prelude.{
+  ℕ,
+  zero,
+  suc,
+  ◌+◌,
+  ◌-◌,
+  ◌*◌,
+  List,
+  [],
+  ◌∷◌,
+  ◌++◌,
+  Option,
+  Some,
+  None,
+  length,
+  take,
+  replicate,
+  nat_lt,
+  if◌then◌else◌,
+  slice_get,
+}
 use Rattle.std.specs.Ordering.{nat_cmp}
 use Rattle.std.specs.FinMap.{FinMap, insert, remove, empty}
 use Rattle.cell_value.specs.declared.values.Value.{Value}
@@ -14,7 +34,7 @@ use Rattle.core_program.specs.declared.tables.Block.{Block}
 use Rattle.core_program.specs.declared.tables.Block.TheVariants.{Program, Procedure}
 use Rattle.core_program.specs.declared.machine.Trouble.{Trouble}
 use Rattle.core_program.specs.declared.machine.Trouble.TheVariants.{Fault, OutOfSteps, Limited, NoRow}
-use Rattle.core_program.specs.Tables.{Tables}
+use Rattle.core_program.specs.ProgramTables.{ProgramTables}
 use Rattle.core_program.specs.State.{State, Done, Went, Stops, perform, stack_end}
 use Rattle.core_program.specs.Tree.{Out, Normal, Jump, Part, Body, Tree, Ret, Halt, Do, Sub, Enter}
 use Rattle.core_program.specs.Statements.{block_of}
@@ -35,7 +55,13 @@ pub record Result (S E : Type 0) : Type 0 where
 module _ {S E : Type 0} where
   abbrev pub in_front : List Touch → List E → Option (Result S E) → Option (Result S E)
   in_front log events None = None
-  in_front log events (Some r) = Some (record { end = r.end; after = r.after; log = log ++ r.log; events = events ++ r.events })
+  in_front log events (Some r) = Some (record {
+    end = r.end;
+    after = r.after;
+    log = log ++ r.log;
+    events =
+        events ++ r.events;
+  })
 
   abbrev pub ends : End → S → Option (Result S E)
   ends e σ = Some (record { end = e; after = σ; log = []; events = [] })
@@ -61,17 +87,21 @@ module _ {S E : Type 0} where
   on_done rules σ (Stops why τ) go = ends (Halted why) (rules.with_state σ τ)
 
   -- a tree from a state, with its parts and its calls left open
-  abbrev pub walk : Rules S E → (Part → S → Option (Result S E)) → (ℕ → List Value → S → Option (Result S E)) → Tree → S → Option (Result S E)
+  abbrev pub walk : Rules S E → (Part → S → Option (Result S E)) → (ℕ → List Value → S → Option (Result S E)) → Tree → S
+      → Option (Result S E)
   walk rules sub call (Ret out) σ = ends (Ended out) σ
   walk rules sub call (Halt why) σ = ends (Halted why) σ
-  walk rules sub call (Do act next) σ = on_done rules σ (perform act (rules.state_of σ)) (λ x τ. walk rules sub call (next x) τ)
+  walk rules sub call (Do act next) σ = on_done rules σ (perform act (rules.state_of σ))
+      (λ x τ. walk rules sub call (next x) τ)
   walk rules sub call (Sub part next) σ = joined (sub part σ) (λ out τ. walk rules sub call (next out) τ)
-  walk rules sub call (Enter routine args next) σ = joined (call routine args σ) (λ out τ. walk rules sub call (next out) τ)
+  walk rules sub call (Enter routine args next) σ = joined (call routine args σ)
+      (λ out τ. walk rules sub call (next out) τ)
 
   -- a tree from a state, where parts and calls stand at most n deep in one another
-  abbrev pub within : Rules S E → Tables → ℕ → Tree → S → Option (Result S E)
+  abbrev pub within : Rules S E → ProgramTables → ℕ → Tree → S → Option (Result S E)
   within rules p zero t σ = None
-  within rules p (suc n) t σ = walk rules (λ part τ. within rules p n (layer p part) τ) (rules.call (λ u τ. within rules p n u τ)) t σ
+  within rules p (suc n) t σ = walk rules (λ part τ. within rules p n (layer p part) τ)
+      (rules.call (λ u τ. within rules p n u τ)) t σ
 
 -- the end of a call that a runner tells by its trouble, if it had one
 abbrev pub end_of : Option Trouble → End
@@ -92,7 +122,7 @@ abbrev pub framed : ℕ → List Value → FinMap nat_cmp Value → FinMap nat_c
 framed base [] m = m
 framed base (v ∷ vs) m = framed (base + 1) vs (insert m base v)
 
--- no cells at so many addresses from an address on
+-- no cells at this many addresses, from an address on
 abbrev pub unframed : ℕ → ℕ → FinMap nat_cmp Value → FinMap nat_cmp Value
 unframed base zero m = m
 unframed base (suc n) m = unframed (base + 1) n (remove m base)
@@ -117,7 +147,12 @@ closed depth σ = record σ { depth = depth }
 
 -- a frame of n cells is made at the top, with a step for each cell
 abbrev pub with_frame : ℕ → Value → List Value → State → State
-with_frame n link args σ = record σ { cells = framed σ.top (frame_cells n link args) σ.cells; top = σ.top + n; steps = σ.steps - n }
+with_frame n link args σ = record σ {
+  cells = framed σ.top (frame_cells n link args) σ.cells;
+  top = σ.top + n;
+  steps =
+      σ.steps - n;
+}
 
 -- the frame of n cells at a base is removed
 abbrev pub without_frame : ℕ → ℕ → State → State
@@ -127,7 +162,7 @@ without_frame base n σ = record σ { cells = unframed base n σ.cells; top = ba
 abbrev pub spent : State → State
 spent σ = record σ { steps = 0 }
 
--- a call, with the calls below it behind it in order of entry
+-- a call; the calls below it come after it, in order of entry
 pub record Call : Type 0 where
   pub routine : ℕ
   pub args : List Value
@@ -183,23 +218,24 @@ abbrev pub in_frame : (Tree → State → Outcome) → ℕ → Routine → List 
 in_frame run routine r args σ =
     if nat_lt stack_end (σ.top + r.cells) then ends (Halted (Limited Stack)) σ
     else if nat_lt σ.steps r.cells then ends (Halted OutOfSteps) (spent σ)
-    else after_all (without_frame σ.top r.cells) (run (whole routine σ.top) (with_frame r.cells (link_of (block_of routine)) args σ))
+    else after_all (without_frame σ.top r.cells) (run (whole routine σ.top)
+    (with_frame r.cells (link_of (block_of routine)) args σ))
 
 abbrev pub with_routine : Option Routine → (Routine → Outcome) → State → Outcome
 with_routine None go σ = ends (Halted NoRow) σ
 with_routine (Some r) go σ = go r
 
 -- a call of a routine
-abbrev pub call_of : Tables → (Tree → State → Outcome) → ℕ → List Value → State → Outcome
+abbrev pub call_of : ProgramTables → (Tree → State → Outcome) → ℕ → List Value → State → Outcome
 call_of p run routine args σ =
     recorded routine args σ (after_all (closed σ.depth)
     (with_routine (slice_get p.routines routine) (λ r. in_frame run routine r args (opened σ)) (opened σ)))
 
 -- a plain run: a call runs the routine
-abbrev pub plain : Tables → Rules State Call
+abbrev pub plain : ProgramTables → Rules State Call
 plain p = record { state_of = λ σ. σ; with_state = λ _ τ. τ; call = call_of p }
 
-abbrev pub run_of : Tables → ℕ → Tree → State → Outcome
+abbrev pub run_of : ProgramTables → ℕ → Tree → State → Outcome
 run_of p = within (plain p) p
 
 -- no cells, and a budget of steps
@@ -208,7 +244,7 @@ start budget = record { cells = empty; top = 0; steps = budget; calls = 0; depth
 
 -- The run of a program with a budget of steps: the call of routine 0. Parts and calls stand no
 -- deeper in one another than this, since each second one takes a step first.
-abbrev pub run : Tables → ℕ → Outcome
+abbrev pub run : ProgramTables → ℕ → Outcome
 run p budget = run_of p (2 * budget + 3) (Enter 0 [] Ret) (start budget)
 
 -- the way out of the first call of a run

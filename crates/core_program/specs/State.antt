@@ -35,7 +35,7 @@ most_calls = 500000
 abbrev pub most_depth : ℕ
 most_depth = 99999
 
--- The first limit that one call more, with a frame of so many cells, would pass. The call would stand
+-- The first limit that one call more, with a frame of this many cells, would pass. The call would stand
 -- at the depth that is the number of open calls.
 abbrev pub limit_passed : State → ℕ → Option Which
 limit_passed σ cells =
@@ -51,7 +51,7 @@ pub data Act : Type 0 where
   Spend : Act
   ReadCell : (line addr : ℕ) → Act
   WriteCell : (line addr : ℕ) (value : Value) → Act
-  -- asks leave for one call more, with a frame of so many cells
+  -- asks leave for one call more, with a frame of this many cells
   MayCall : (cells : ℕ) → Act
 
 -- what an act answers

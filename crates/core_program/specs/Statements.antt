@@ -5,7 +5,13 @@ use Rattle.cell_value.specs.declared.arithmetic.ArithOp.TheVariants.{Plus}
 use Rattle.cell_value.specs.declared.values.Value.{Value}
 use Rattle.cell_value.specs.declared.values.Value.TheVariants as value
 use Rattle.cell_value.specs.declared.faults.OpFault.{OpFault}
-use Rattle.cell_value.specs.declared.faults.OpFault.TheVariants.{Overflow, ZeroDivisor, BadModulus, OutOfRange, UndefinedValue}
+use Rattle.cell_value.specs.declared.faults.OpFault.TheVariants.{
+  Overflow,
+  ZeroDivisor,
+  BadModulus,
+  OutOfRange,
+  UndefinedValue,
+}
 use Rattle.cell_value.specs.declared.ways_out.Kind.{Kind}
 use Rattle.cell_value.specs.declared.ways_out.Kind.TheVariants as kind
 use Rattle.core_program.specs.declared.tables.Expression.{Expression}
@@ -15,7 +21,7 @@ use Rattle.core_program.specs.declared.tables.Statement.TheVariants.{Assign, Cal
 use Rattle.core_program.specs.declared.tables.Block.{Block}
 use Rattle.core_program.specs.declared.tables.Block.TheVariants as block
 use Rattle.core_program.specs.declared.tables.Routine.{Routine}
-use Rattle.core_program.specs.Tables.{Tables}
+use Rattle.core_program.specs.ProgramTables.{ProgramTables}
 use Rattle.core_program.specs.declared.machine.Trouble.TheVariants.{Fault, NoRow}
 use Rattle.core_program.specs.State.{Spend, ReadCell, WriteCell, MayCall}
 use Rattle.core_program.specs.Actions.{Action, Give, Fail, ◌>>=◌, act}
@@ -98,7 +104,7 @@ assignment line b base target e = do
 -- What a statement on this line does itself, in a block whose frame is at this base. The statement takes
 -- a step. A call finds the frame in which the procedure was declared, and then asks leave of the limits
 -- (ISO 7185, clause 6.8.2.3).
-abbrev pub statement_action : Tables → (line : ℕ) → Block → (base : ℕ) → Statement → Action (Unit {0})
+abbrev pub statement_action : ProgramTables → (line : ℕ) → Block → (base : ℕ) → Statement → Action (Unit {0})
 statement_action p line b base (Assign target e) = assignment line b base target e
 statement_action p line b base (Call routine) = do
   statement ← act Spend

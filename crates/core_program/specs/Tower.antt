@@ -1,5 +1,26 @@
 -- Open calls over one another, and the run that they are part of.
-use Rattle.std.specs.Prelude.{◌≡◌, ◌<◌, ℕ, suc, ◌+◌, ◌-◌, List, [], ◌∷◌, ◌++◌, Bool, true, false, IsTrue, Option, Some, None, length, slice_get}
+use Rattle.std.specs.Prelude.{
+  ◌≡◌,
+  ◌<◌,
+  ℕ,
+  suc,
+  ◌+◌,
+  ◌-◌,
+  ◌*◌,
+  List,
+  [],
+  ◌∷◌,
+  ◌++◌,
+  Bool,
+  true,
+  false,
+  IsTrue,
+  Option,
+  Some,
+  None,
+  length,
+  slice_get,
+}
 use Rattle.std.specs.Prelude as std
 use Rattle.cell_value.specs.declared.entries.Touch.{Touch}
 use Rattle.core_program.specs.declared.machine.Halt as halt
@@ -11,12 +32,32 @@ use Rattle.core_program.specs.declared.tables.Statement.TheVariants.{Assign, Cal
 use Rattle.core_program.specs.declared.open_call.OpenCall.{OpenCall}
 use Rattle.core_program.specs.declared.runner.Runner.{Runner}
 use Rattle.core_program.specs.declared.runner.PlainRun.{PlainRun}
-use Rattle.core_program.specs.Tables.{Tables}
+use Rattle.core_program.specs.ProgramTables.{ProgramTables}
 use Rattle.core_program.specs.State.{State}
-use Rattle.core_program.specs.Acts.{Moment, moment_of, state_of}
+use Rattle.core_program.specs.Acts.{Moment, moment_of, machine_state}
 use Rattle.core_program.specs.Tree.{Normal, Tree, Ret, Enter}
 use Rattle.core_program.specs.Layer.{on_normal, in_order}
-use Rattle.core_program.specs.Run.{End, Halted, Result, Outcome, Call, in_front, ends, joined, recorded, after_all, in_frame, with_routine, call_of, closed, without_frame, run_of, start, run, end_of}
+use Rattle.core_program.specs.Run.{
+  End,
+  Halted,
+  Result,
+  Outcome,
+  Call,
+  in_front,
+  ends,
+  joined,
+  recorded,
+  after_all,
+  in_frame,
+  with_routine,
+  call_of,
+  closed,
+  without_frame,
+  run_of,
+  start,
+  run,
+  end_of,
+}
 use Rattle.core_program.specs.Numbering.{belows, last_of, parent_of, depth_of, each_from, numbered}
 use Rattle.core_program.specs.Rows.{opened_row}
 
@@ -43,17 +84,19 @@ own_of (Bottom own) = own
 own_of (Push under call own) = own
 
 -- a call, and what the statement part that made it does after it
-abbrev pub followed : Tables → ℕ → Tree → Outcome → Outcome
+abbrev pub followed : ProgramTables → ℕ → Tree → Outcome → Outcome
 followed p n rest x = joined x (λ out τ. run_of p n (on_normal rest out) τ)
 
 -- a call, from what its statement part gave
 abbrev pub called : Level → Outcome → Outcome
-called l x = recorded l.routine [] l.entry (after_all (closed l.entry.depth) (after_all (without_frame l.entry.top l.cells) x))
+called l x = recorded l.routine [] l.entry (after_all (closed l.entry.depth)
+    (after_all (without_frame l.entry.top l.cells) x))
 
 -- the whole run, from what is left of the innermost statement part
-abbrev pub whole_from : Tables → ℕ → Levels → Outcome → Outcome
+abbrev pub whole_from : ProgramTables → ℕ → Levels → Outcome → Outcome
 whole_from p n (Bottom own) x = in_front own.log own.events x
-whole_from p n (Push under l own) x = whole_from p n under (followed p n (own_of under).rest (called l (in_front own.log own.events x)))
+whole_from p n (Push under l own) x = whole_from p n under (followed p n (own_of under).rest
+    (called l (in_front own.log own.events x)))
 
 -- where the innermost statement part is: between two statements, at its end, or at a call
 pub data Stage : Type 0 where
@@ -61,14 +104,15 @@ pub data Stage : Type 0 where
   Ends : (end : End) → Stage
   Calls : (routine : ℕ) → Stage
 
-abbrev pub left_at : Tables → ℕ → Tree → Stage → State → Outcome
+abbrev pub left_at : ProgramTables → ℕ → Tree → Stage → State → Outcome
 left_at p n rest Rests σ = run_of p n rest σ
 left_at p n rest (Ends end) σ = ends end σ
 left_at p n rest (Calls routine) σ = followed p n rest (call_of p (run_of p n) routine [] σ)
 
 -- what is left of a run, once known, gives the run
-pub record Leads (p : Tables) (budget : ℕ) (rest : ℕ → Outcome) : Type 0 where
-  pub leads : (n : ℕ) (r : Result State Call) → rest n ≡ Some r → (k : ℕ) × (run_of p k (Enter 0 [] Ret) (start budget) ≡ Some r)
+pub record Leads (p : ProgramTables) (budget : ℕ) (rest : ℕ → Outcome) : Type 0 where
+  pub leads : (n : ℕ) (r : Result State Call) → rest n ≡ Some r
+      → (k : ℕ) × (run_of p k (Enter 0 [] Ret) (start budget) ≡ Some r)
 
 -- the rows of calls that have a number and a parent in common, the first with this number
 abbrev pub parent_at : ℕ → Option ℕ → Option ℕ → Option ℕ
@@ -76,7 +120,14 @@ parent_at number outer None = outer
 parent_at number outer (Some j) = Some (number + j)
 
 abbrev pub row_at : ℕ → Option ℕ → ℕ → List ℕ → ℕ → Call → CallRow
-row_at number outer depth bs k c = record { routine = c.routine; parent = parent_at number outer (parent_of bs k); depth = depth + depth_of bs k; last = number + last_of bs k; way = c.way }
+row_at number outer depth bs k c = record {
+  routine = c.routine;
+  parent =
+      parent_at number outer (parent_of bs k);
+  depth = depth + depth_of bs k;
+  last = number + last_of bs k;
+  way = c.way;
+}
 
 abbrev pub rows_at : ℕ → Option ℕ → ℕ → List Call → List CallRow
 rows_at number outer depth cs = each_from (row_at number outer depth (belows cs)) 0 cs
@@ -93,7 +144,8 @@ outer_of (Push under l own) = Some l.number
 -- the rows of all calls so far; a call that is open has no end yet
 abbrev pub rows_of : Levels → List CallRow
 rows_of (Bottom own) = rows_at 0 None 0 own.events
-rows_of (Push under l own) = rows_of under ++ opened_row l.routine (outer_of under) (height under) l.number ∷ rows_at (suc l.number) (Some l.number) (height under + 1) own.events
+rows_of (Push under l own) = rows_of under ++ opened_row l.routine (outer_of under) (height under) l.number
+    ∷ rows_at (suc l.number) (Some l.number) (height under + 1) own.events
 
 -- the log so far
 abbrev pub logs_of : Levels → List Touch
@@ -121,10 +173,12 @@ pub record MatchesOne (o : OpenCall) (under : Levels) (l : Level) (own : Own) : 
 
 abbrev pub Matches : List OpenCall → Levels → Type 0
 Matches os (Bottom own) = (os ≡ []) × (own.rest ≡ Ret Normal) × Inside (belows own.events)
-Matches os (Push under l own) = (outer : List OpenCall) × ((o : OpenCall) × ((os ≡ outer ++ o ∷ []) × MatchesOne o under l own × Matches outer under))
+Matches os (Push under l own) = (outer : List OpenCall) × ((o : OpenCall)
+    × ((os ≡ outer ++ o ∷ []) × MatchesOne o under l own × Matches outer under))
 
 -- the open calls, with what is left inside the innermost, are on the way to the whole run
-pub record TowerAt (p : Tables) (budget : ℕ) (stage : Stage) (keeps_log : Bool) (opens : List OpenCall) (m : Moment) (calls : List CallRow) : Type 0 where
+pub record TowerAt (p : ProgramTables) (budget : ℕ) (stage : Stage) (keeps_log : Bool) (opens : List OpenCall)
+    (m : Moment) (calls : List CallRow) : Type 0 where
   pub levels : Levels
   pub matches : Matches opens levels
   pub logs : IsTrue keeps_log → m.log ≡ logs_of levels
@@ -132,8 +186,12 @@ pub record TowerAt (p : Tables) (budget : ℕ) (stage : Stage) (keeps_log : Bool
   pub height : m.state.depth ≡ height levels
   pub leads : Leads p budget (λ n. whole_from p n levels (left_at p n (own_of levels).rest stage m.state))
 
-abbrev pub At : Tables → ℕ → Stage → Runner → Type 0
+abbrev pub At : ProgramTables → ℕ → Stage → Runner → Type 0
 At p budget stage r = TowerAt p budget stage r.keeps_log r.opens.items (moment_of r.machine) r.calls
+
+-- A measure of what a run may still do: each of its turns takes a step and enters a call at most, or ends a call.
+abbrev pub work_left : Runner → ℕ
+work_left r = 2 * r.machine.steps + length r.opens.items
 
 -- the number of an open call, if there is one
 abbrev pub number_of : Option OpenCall → Option ℕ
@@ -162,57 +220,62 @@ stage_after None = Rests
 stage_after (Some why) = Ends (Halted why)
 
 -- a step comes to this stage, or a trouble stops the run
-abbrev pub StepsTo : Tables → ℕ → Stage → std.Result (Unit {0}) halt.Halt → Runner → Type 0
+abbrev pub StepsTo : ProgramTables → ℕ → Stage → std.Result (Unit {0}) halt.Halt → Runner → Type 0
 StepsTo p budget stage (std.Ok x) r = At p budget stage r
 StepsTo p budget stage (std.Err (Why why)) r = At p budget (Ends (Halted why)) r
 StepsTo p budget stage (std.Err NoMemory) r = Unit {0}
 
 -- the run is over: it ended as a runner tells
-pub record IsOver (p : Tables) (budget : ℕ) (trouble : Option Trouble) (keeps_log : Bool) (m : Moment) (calls : List CallRow) : Type 0 where
+pub record IsOver (p : ProgramTables) (budget : ℕ) (trouble : Option Trouble) (keeps_log : Bool) (m : Moment)
+    (calls : List CallRow) : Type 0 where
   pub log : List Touch
   pub events : List Call
   pub logs : IsTrue keeps_log → m.log ≡ log
   pub rows : calls ≡ numbered events
   pub is : run p budget ≡ Some (record { end = end_of trouble; after = m.state; log = log; events = events })
 
-abbrev pub Over : Tables → ℕ → Option Trouble → Runner → Type 0
+abbrev pub Over : ProgramTables → ℕ → Option Trouble → Runner → Type 0
 Over p budget trouble r = IsOver p budget trouble r.keeps_log (moment_of r.machine) r.calls
 
 -- the same of what a run left
-abbrev pub OverWith : Tables → ℕ → Bool → PlainRun → Type 0
+abbrev pub OverWith : ProgramTables → ℕ → Bool → PlainRun → Type 0
 OverWith p budget keeps_log r = IsOver p budget r.trouble keeps_log (moment_of r.machine) r.calls
 
 -- the run with this budget begins
-abbrev pub Begins : ℕ → Runner → Type 0
-Begins budget r = (state_of r.machine ≡ start budget) × (r.machine.log.items ≡ []) × (r.opens.items ≡ []) × (r.calls ≡ [])
+abbrev pub BeginsRun : ℕ → Runner → Type 0
+BeginsRun budget r = (machine_state r.machine ≡ start budget) × (r.machine.log.items ≡ []) × (r.opens.items ≡ [])
+    × (r.calls ≡ [])
 
 -- a call of a routine that was just entered
-abbrev pub entered_call : Tables → ℕ → ℕ → State → Outcome
+abbrev pub entered_call : ProgramTables → ℕ → ℕ → State → Outcome
 entered_call p n routine σ = with_routine (slice_get p.routines routine) (λ r. in_frame (run_of p n) routine r [] σ) σ
 
 -- its frame was made, or not, and this is left then
-pub record Begun (p : Tables) (routine : ℕ) (old : OpenCall) (m : Moment) (left : ℕ → Outcome) (new : OpenCall) (m' : Moment) : Type 0 where
+pub record Begun (p : ProgramTables) (routine : ℕ) (old : OpenCall) (m : Moment) (left : ℕ
+    → Outcome) (new : OpenCall) (m' : Moment) : Type 0 where
   pub number : new.number ≡ old.number
   pub depth : new.depth ≡ old.depth
   pub base : new.base ≡ m.state.top
   pub log : m'.log ≡ m.log
   pub height : m'.state.depth ≡ m.state.depth
-  pub is : (n : ℕ) → entered_call p (suc (suc n)) routine m.state ≡ after_all (without_frame m.state.top new.cells) (left n)
+  pub is : (n : ℕ) → entered_call p (suc (suc n)) routine m.state
+      ≡ after_all (without_frame m.state.top new.cells) (left n)
 
-abbrev pub BeginsTo : Tables → ℕ → OpenCall → Moment → std.Result (Unit {0}) halt.Halt → OpenCall → Moment → Type 0
+abbrev pub BeginsTo : ProgramTables → ℕ → OpenCall → Moment → std.Result (Unit {0}) halt.Halt → OpenCall → Moment
+    → Type 0
 BeginsTo p routine old m (std.Ok x) new m' = Begun p routine old m (λ n. run_of p (suc n) (rest_of new) m'.state) new m'
 BeginsTo p routine old m (std.Err (Why why)) new m' = Begun p routine old m (λ _. ends (Halted why) m'.state) new m'
 BeginsTo p routine old m (std.Err NoMemory) new m' = Unit {0}
 
 -- the same as a step, or no call is open and the run is over
-abbrev pub StepsOn : Tables → ℕ → std.Result Bool halt.Halt → Runner → Type 0
+abbrev pub StepsOn : ProgramTables → ℕ → std.Result Bool halt.Halt → Runner → Type 0
 StepsOn p budget (std.Ok true) r = At p budget Rests r
 StepsOn p budget (std.Ok false) r = Over p budget None r
 StepsOn p budget (std.Err (Why why)) r = At p budget (Ends (Halted why)) r
 StepsOn p budget (std.Err NoMemory) r = Unit {0}
 
 -- the run is over, or a trouble stops it
-abbrev pub StepsOver : Tables → ℕ → std.Result (Unit {0}) halt.Halt → Runner → Type 0
+abbrev pub StepsOver : ProgramTables → ℕ → std.Result (Unit {0}) halt.Halt → Runner → Type 0
 StepsOver p budget (std.Ok x) r = Over p budget None r
 StepsOver p budget (std.Err (Why why)) r = At p budget (Ends (Halted why)) r
 StepsOver p budget (std.Err NoMemory) r = Unit {0}

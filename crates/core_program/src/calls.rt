@@ -1,4 +1,5 @@
 //! The calls of a run, in order of entry.
+
 ghost use Rattle.std.specs.Prelude.{◌≡◌, ◌∷◌, ◌++◌, [], length, slice_get, slice_set, IfOk, OnErr};
 ghost use Rattle.core_program.specs.declared.calls.CallRow.{CallRow as Row};
 ghost use Rattle.core_program.specs.Rows.{opened_row, row_ended};
@@ -49,9 +50,9 @@ impl Calls {
         }
     }
 
-    /// Puts a call that is entered behind the others, and gives its number. Until it ends it has the
+    /// Puts a call that is entered after the others, and gives its number. Until it ends it has the
     /// way out `Returned` and no call below it. A table that has 4,294,967,295 calls takes no more,
-    /// which counts as want of memory.
+    /// which counts as out of memory.
     pub(crate) fn add(
         &mut self,
         routine: u32,
@@ -79,7 +80,8 @@ impl Calls {
     /// Ends the call of this number in this way: the last call is the last one below it. A call that
     /// is not in the table is not ended.
     pub(crate) fn end(&mut self, number: u32, way: WayOut)
-        ensures ended { (row : Row) → slice_get self.old number ≡ Some row → self.new ≡ slice_set self.old number (row_ended row (length self.old) way) }
+        ensures ended { (row : Row) → slice_get self.old number ≡ Some row
+            → self.new ≡ slice_set self.old number (row_ended row (length self.old) way) }
         ensures missing { slice_get self.old number ≡ None → self.new ≡ self.old }
     {
         let count = self.table.len() as u32;

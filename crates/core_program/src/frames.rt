@@ -1,6 +1,7 @@
 //! Frames of calls.
+
 ghost use Rattle.std.specs.Prelude.{◌≡◌, [], ◌∷◌, ◌≤◌, ◌<◌, ◌+◌, ◌^◌, length, IfOk, OnOk};
-ghost use Rattle.core_program.specs.Acts.{moment_of, state_of};
+ghost use Rattle.core_program.specs.Acts.{moment_of, machine_state};
 ghost use Rattle.core_program.specs.Run.{frame_cells, framed, link_of, unframed, with_frame, without_frame};
 ghost use Rattle.core_program.specs.State.{stack_end};
 
@@ -10,7 +11,7 @@ use crate::tables::Block;
 use cell_value::{Memory, Value};
 use std::alloc::Global;
 
-/// The cells of a frame of so many cells with this link and no parameters.
+/// The values of a frame of this many cells, with this link and no parameters.
 fn first_values(alloc: Global, cells: u32, link: Value) -> Result<Vec<Value>, Memory>
     ensures { IfOk result (λ v. v.items ≡ frame_cells cells link []) }
 {
@@ -33,7 +34,7 @@ fn put_all(store: &mut Store, base: u32, values: &[Value]) -> Result<(), Memory>
     Ok(())
 }
 
-/// Removes so many cells from an address on.
+/// Removes this many cells from an address on.
 fn remove_all(store: &mut Store, base: u32, cells: u32)
     requires { base + cells < 2 ^ 32 }
     ensures { store.new ≡ unframed base cells store.old }
@@ -53,7 +54,7 @@ pub fn link(block: Block) -> Value
     }
 }
 
-/// Makes a frame of so many cells with this link at the machine's top, with a step for each cell.
+/// Makes a frame of this many cells, with this link, at the machine's top, with a step for each cell.
 pub fn make_frame(
     alloc: Global,
     machine: &mut Machine,
@@ -62,7 +63,11 @@ pub fn make_frame(
 ) -> Result<(), Memory>
     requires room { machine.old.top + cells ≤ stack_end }
     requires paid { cells ≤ machine.old.steps }
-    ensures made { OnOk result (moment_of machine.new ≡ record { state = with_frame cells link [] (state_of machine.old); log = machine.old.log.items }) }
+    ensures made { OnOk result (moment_of machine.new ≡ record {
+      state =
+          with_frame cells link [] (machine_state machine.old);
+      log = machine.old.log.items;
+    }) }
 {
     let values = first_values(alloc, cells, link)?;
     put_all(&mut machine.store, machine.top, &values)?;
@@ -71,10 +76,14 @@ pub fn make_frame(
     Ok(())
 }
 
-/// Removes the frame of so many cells at a base, which is the last one.
+/// Removes the frame of this many cells at a base, which is the last one.
 pub fn remove_frame(machine: &mut Machine, base: u32, cells: u32)
     requires { base + cells < 2 ^ 32 }
-    ensures removed { moment_of machine.new ≡ record { state = without_frame base cells (state_of machine.old); log = machine.old.log.items } }
+    ensures removed { moment_of machine.new ≡ record {
+      state =
+          without_frame base cells (machine_state machine.old);
+      log = machine.old.log.items;
+    } }
 {
     remove_all(&mut machine.store, base, cells);
     machine.top = base;

@@ -1,5 +1,14 @@
 //! Laws of the definitions, each the contract of a call that does nothing.
-ghost use Rattle.core_program.specs.Laws.{DepthIsEnough, EveryProgramRuns, EveryRunHasACall, FirstHasNoParent, LastIsACall, OthersHaveAParent, SubtreeIsInterval};
+
+ghost use Rattle.core_program.specs.Laws.{
+  DepthIsEnough,
+  EveryProgramRuns,
+  EveryRunHasACall,
+  FirstHasNoParent,
+  LastIsACall,
+  OthersHaveAParent,
+  SubtreeIsInterval,
+};
 
 /// Every program has a run with every budget, also one whose tables miss a row.
 pub fn every_program_runs()

@@ -4,7 +4,7 @@
 
 mod calls;
 mod frames;
-mod laws;
+pub mod laws;
 mod machine;
 mod open_call;
 mod runner;

@@ -1,6 +1,7 @@
 //! A run's state with the log so far, and the acts on it.
+
 ghost use Rattle.std.specs.Prelude.{◌≡◌, ◌+◌, Err, OnOk};
-ghost use Rattle.core_program.specs.Acts.{Does, HasRoom, moment_of, state_of};
+ghost use Rattle.core_program.specs.Acts.{Does, HasRoom, moment_of, machine_state};
 ghost use Rattle.core_program.specs.State.{MayCall, ReadCell, Spend, WriteCell, perform};
 
 use crate::store::Store;
@@ -10,7 +11,7 @@ use std::alloc::{AllocError, AllocFailed};
 /// The first address above the stack.
 pub const STACK_END: u32 = 524_288;
 
-/// How many calls a run may enter.
+/// The most calls that a run may enter.
 pub const MOST_CALLS: u32 = 500_000;
 
 /// The greatest depth at which a call may stand.
@@ -71,12 +72,14 @@ pub struct Machine {
     pub calls: u32,
     /// The calls that are open.
     pub depth: u32,
+    /// What was read and written so far.
     pub log: Vec<Touch>,
 }
 
 /// Takes a step. It takes no memory.
 pub fn spend(machine: &mut Machine) -> Result<(), Halt>
-    ensures act { Does (λ _. tt) (perform Spend (state_of machine.old)) result (moment_of machine.old) (moment_of machine.new) }
+    ensures act { Does (λ _. tt) (perform Spend (machine_state machine.old)) result (moment_of machine.old)
+        (moment_of machine.new) }
     ensures no_memory { result ≡ Err Halt.NoMemory → ⊥ }
 {
     if machine.steps == 0 {
@@ -88,7 +91,8 @@ pub fn spend(machine: &mut Machine) -> Result<(), Halt>
 
 /// Takes a step and reads the cell at this address, in a statement on this line.
 pub fn read_cell(machine: &mut Machine, line: u32, addr: u32) -> Result<Value, Halt>
-    ensures act { Does (λ x. x) (perform (ReadCell line addr) (state_of machine.old)) result (moment_of machine.old) (moment_of machine.new) }
+    ensures act { Does (λ x. x) (perform (ReadCell line addr) (machine_state machine.old)) result
+        (moment_of machine.old) (moment_of machine.new) }
 {
     match machine.store.get(addr) {
         None => Err(Halt::Why(Trouble::Fault(Kind::Undefined, line))),
@@ -105,7 +109,8 @@ pub fn read_cell(machine: &mut Machine, line: u32, addr: u32) -> Result<Value, H
 
 /// Takes a step and writes the cell at this address, in a statement on this line.
 pub fn write_cell(machine: &mut Machine, line: u32, addr: u32, value: Value) -> Result<(), Halt>
-    ensures act { Does (λ _. tt) (perform (WriteCell line addr value) (state_of machine.old)) result (moment_of machine.old) (moment_of machine.new) }
+    ensures act { Does (λ _. tt) (perform (WriteCell line addr value) (machine_state machine.old)) result
+        (moment_of machine.old) (moment_of machine.new) }
 {
     match machine.store.get(addr) {
         None => Err(Halt::Why(Trouble::Fault(Kind::Undefined, line))),
@@ -121,9 +126,10 @@ pub fn write_cell(machine: &mut Machine, line: u32, addr: u32, value: Value) -> 
     }
 }
 
-/// Asks leave for one call more, with a frame of so many cells. It takes no memory.
+/// Asks leave for one call more, whose frame has this many cells. It takes no memory.
 pub fn may_call(machine: &mut Machine, cells: u32) -> Result<(), Halt>
-    ensures act { Does (λ _. tt) (perform (MayCall cells) (state_of machine.old)) result (moment_of machine.old) (moment_of machine.new) }
+    ensures act { Does (λ _. tt) (perform (MayCall cells) (machine_state machine.old)) result (moment_of machine.old)
+        (moment_of machine.new) }
     ensures room { OnOk result (HasRoom machine.new) }
     ensures no_memory { result ≡ Err Halt.NoMemory → ⊥ }
 {

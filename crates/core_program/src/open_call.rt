@@ -1,4 +1,5 @@
 //! A call that is open.
+
 ghost use Rattle.std.specs.Prelude.{◌≡◌, ◌≤◌, ◌<◌, ◌+◌, ◌^◌};
 ghost use Rattle.core_program.specs.Statements as statements;
 

@@ -1,12 +1,50 @@
 //! The runner: it runs a program with the open calls in a list, so that a call of the program is no
 //! call of the runner.
-ghost use Rattle.std.specs.Prelude.{◌≡◌, ℕ, ◌+◌, ◌-◌, ◌≤◌, ◌++◌, ◌∷◌, [], List, Option, IfOk, OnOk, Some, true, length, slice_get};
+
+ghost use Rattle.std.specs.Prelude.{
+  ◌≡◌,
+  ℕ,
+  ◌+◌,
+  ◌-◌,
+  ◌<◌,
+  ◌≤◌,
+  ◌++◌,
+  ◌∷◌,
+  [],
+  List,
+  Option,
+  IfOk,
+  OnOk,
+  IsTrue,
+  Some,
+  true,
+  length,
+  slice_get,
+};
 ghost use Rattle.core_program.specs.declared.open_call.OpenCall.{OpenCall as OpenRow};
-ghost use Rattle.core_program.specs.Acts.{HasRoom, RoomAfter, moment_of, state_of};
+ghost use Rattle.core_program.specs.Acts.{HasRoom, RoomAfter, moment_of, machine_state};
 ghost use Rattle.core_program.specs.Numbering.{calls_of, numbered};
 ghost use Rattle.core_program.specs.Run.{Call, Halted, end_of, run, way_of};
-ghost use Rattle.core_program.specs.Tables.{Tables};
-ghost use Rattle.core_program.specs.Tower.{At, Begins, BeginsTo, Calls as Calling, Ends, Next, Over, OverWith, Rests, StepsOn, StepsOver, StepsTo, TowerAt, number_of, stage_after, stage_of};
+ghost use Rattle.core_program.specs.ProgramTables.{ProgramTables};
+ghost use Rattle.core_program.specs.Tower.{
+  At,
+  BeginsRun,
+  BeginsTo,
+  Calls as Calling,
+  Ends,
+  Next,
+  Over,
+  OverWith,
+  Rests,
+  StepsOn,
+  StepsOver,
+  StepsTo,
+  TowerAt,
+  number_of,
+  stage_after,
+  stage_of,
+  work_left,
+};
 
 use crate::calls::Calls;
 use crate::frames::{link, make_frame, remove_frame};
@@ -64,7 +102,9 @@ fn begin(
 ) -> Result<(), Halt>
     requires base { call.old.base ≡ machine.old.top }
     requires cells { call.old.cells ≡ 0 }
-    ensures { BeginsTo program.now routine call.old (moment_of machine.old) result call.new (moment_of machine.new) }
+    ensures begins { BeginsTo program.now routine call.old (moment_of machine.old) result call.new
+        (moment_of machine.new) }
+    ensures paid { OnOk result (machine.new.steps ≤ machine.old.steps) }
 {
     let Some(found) = program.routine(routine) else {
         return Err(Halt::Why(Trouble::NoRow));
@@ -106,7 +146,9 @@ impl Runner {
     /// Enters a call of a routine.
     fn enter(&mut self, alloc: Global, program: &Program, routine: u32) -> Result<(), Halt>
         requires { HasRoom self.old.machine }
-        ensures steps { (budget : ℕ) → At program.now budget (Calling routine) self.old → StepsTo program.now budget Rests result self.new }
+        ensures steps { (budget : ℕ) → At program.now budget (Calling routine) self.old
+            → StepsTo program.now budget Rests result self.new }
+        ensures entered { OnOk result (work_left self.new ≤ work_left self.old + 1) }
         ensures kept { self.new.keeps_log ≡ self.old.keeps_log }
     {
         let parent = self.innermost();
@@ -123,8 +165,11 @@ impl Runner {
 
     /// Ends an open call, which was the innermost one: it came to its end, or a trouble stops it.
     fn close(&mut self, call: OpenCall, trouble: Option<Trouble>)
-        ensures closed { (p : Tables) (budget : ℕ) → TowerAt p budget (Ends (end_of trouble)) self.old.keeps_log (self.old.opens.items ++ call ∷ []) (moment_of self.old.machine) self.old.calls → At p budget (stage_after trouble) self.new }
+        ensures closed { (p : ProgramTables) (budget : ℕ) → TowerAt p budget (Ends (end_of trouble)) self.old.keeps_log
+            (self.old.opens.items ++ call ∷ []) (moment_of self.old.machine) self.old.calls
+            → At p budget (stage_after trouble) self.new }
         ensures opens { self.new.opens ≡ self.old.opens }
+        ensures steps { self.new.machine.steps ≡ self.old.machine.steps }
         ensures kept { self.new.keeps_log ≡ self.old.keeps_log }
     {
         remove_frame(&mut self.machine, call.base, call.cells);
@@ -134,8 +179,13 @@ impl Runner {
 
     /// Does what the statement of a row does itself, in an open call.
     fn execute(&mut self, program: &Program, call: OpenCall, row: Row) -> Result<(), Halt>
-        ensures steps { (budget : ℕ) (before : List OpenRow) (next : OpenRow) → self.old.opens.items ≡ before ++ next ∷ [] → Next call next → slice_get program.now.rows (call.first + call.done) ≡ Some row → call.done + 1 ≤ call.count → TowerAt program.now budget Rests self.old.keeps_log (before ++ call ∷ []) (moment_of self.old.machine) self.old.calls → StepsTo program.now budget (stage_of row.statement) result self.new }
+        ensures steps { (budget : ℕ) (before : List OpenRow) (next : OpenRow)
+            → self.old.opens.items ≡ before ++ next ∷ [] → Next call next
+            → slice_get program.now.rows (call.first + call.done) ≡ Some row → call.done + 1 ≤ call.count
+            → TowerAt program.now budget Rests self.old.keeps_log (before ++ call ∷ []) (moment_of self.old.machine)
+            self.old.calls → StepsTo program.now budget (stage_of row.statement) result self.new }
         ensures room { OnOk result (RoomAfter row.statement self.new.machine) }
+        ensures paid { OnOk result (work_left self.new + 2 ≤ work_left self.old) }
         ensures kept { self.new.keeps_log ≡ self.old.keeps_log }
     {
         execute(
@@ -160,7 +210,12 @@ impl Runner {
         call: OpenCall,
         row: Row,
     ) -> Result<(), Halt>
-        ensures steps { (budget : ℕ) (before : List OpenRow) (next : OpenRow) → self.old.opens.items ≡ before ++ next ∷ [] → Next call next → slice_get program.now.rows (call.first + call.done) ≡ Some row → call.done + 1 ≤ call.count → TowerAt program.now budget Rests self.old.keeps_log (before ++ call ∷ []) (moment_of self.old.machine) self.old.calls → StepsTo program.now budget Rests result self.new }
+        ensures steps { (budget : ℕ) (before : List OpenRow) (next : OpenRow)
+            → self.old.opens.items ≡ before ++ next ∷ [] → Next call next
+            → slice_get program.now.rows (call.first + call.done) ≡ Some row → call.done + 1 ≤ call.count
+            → TowerAt program.now budget Rests self.old.keeps_log (before ++ call ∷ []) (moment_of self.old.machine)
+            self.old.calls → StepsTo program.now budget Rests result self.new }
+        ensures paid { OnOk result (work_left self.new + 1 ≤ work_left self.old) }
         ensures kept { self.new.keeps_log ≡ self.old.keeps_log }
     {
         self.execute(program, call, row)?;
@@ -173,7 +228,10 @@ impl Runner {
     /// Does the next statement of an open call, which was the innermost one and has a statement left.
     fn go_on(&mut self, alloc: Global, program: &Program, call: OpenCall) -> Result<(), Halt>
         requires { call.done + 1 ≤ call.count }
-        ensures steps { (budget : ℕ) → TowerAt program.now budget Rests self.old.keeps_log (self.old.opens.items ++ call ∷ []) (moment_of self.old.machine) self.old.calls → StepsTo program.now budget Rests result self.new }
+        ensures steps { (budget : ℕ) → TowerAt program.now budget Rests self.old.keeps_log
+            (self.old.opens.items ++ call ∷ []) (moment_of self.old.machine) self.old.calls
+            → StepsTo program.now budget Rests result self.new }
+        ensures paid { OnOk result (work_left self.new ≤ work_left self.old) }
         ensures kept { self.new.keeps_log ≡ self.old.keeps_log }
     {
         self.opens.push(OpenCall {
@@ -195,7 +253,9 @@ impl Runner {
 
     /// Goes on in the innermost open call, and says whether there was one.
     fn step(&mut self, alloc: Global, program: &Program) -> Result<bool, Halt>
-        ensures steps { (budget : ℕ) → At program.now budget Rests self.old → StepsOn program.now budget result self.new }
+        ensures steps { (budget : ℕ) → At program.now budget Rests self.old
+            → StepsOn program.now budget result self.new }
+        ensures less { IfOk result (λ goes_on. IsTrue goes_on → work_left self.new < work_left self.old) }
         ensures kept { self.new.keeps_log ≡ self.old.keeps_log }
     {
         let Some(call) = self.opens.pop() else {
@@ -211,7 +271,8 @@ impl Runner {
 
     /// Stops each open call, the innermost first.
     fn halt(&mut self, why: Trouble)
-        ensures over { (p : Tables) (budget : ℕ) → At p budget (Ends (Halted why)) self.old → Over p budget (Some why) self.new }
+        ensures over { (p : ProgramTables) (budget : ℕ) → At p budget (Ends (Halted why)) self.old
+            → Over p budget (Some why) self.new }
         ensures kept { self.new.keeps_log ≡ self.old.keeps_log }
     {
         while let Some(call) = self.opens.pop() {
@@ -222,23 +283,22 @@ impl Runner {
     /// Calls routine 0 and goes on until no call is open.
     fn go(&mut self, alloc: Global, program: &Program) -> Result<(), Halt>
         requires { HasRoom self.old.machine }
-        ensures goes { (budget : ℕ) → Begins budget self.old → StepsOver program.now budget result self.new }
+        ensures goes { (budget : ℕ) → BeginsRun budget self.old → StepsOver program.now budget result self.new }
         ensures kept { self.new.keeps_log ≡ self.old.keeps_log }
     {
         self.enter(alloc, program, 0)?;
-        // Each turn takes a step or ends a call, so no run has so many.
-        for _ in 0..u64::MAX {
+        'turns: loop {
             if !self.step(alloc, program)? {
                 return Ok(());
             }
         }
-        Err(Halt::NoMemory)
     }
 
     /// Runs the program, and says why it stopped where it did not come to its end.
     fn finish(&mut self, alloc: Global, program: &Program) -> Result<Option<Trouble>, Memory>
         requires { HasRoom self.old.machine }
-        ensures over { IfOk result (λ trouble. (budget : ℕ) → Begins budget self.old → Over program.now budget trouble self.new) }
+        ensures over { IfOk result (λ trouble. (budget : ℕ) → BeginsRun budget self.old
+            → Over program.now budget trouble self.new) }
         ensures kept { self.new.keeps_log ≡ self.old.keeps_log }
     {
         match self.go(alloc, program) {
@@ -284,16 +344,23 @@ fn run_with(
 }
 
 /// Runs a program with a budget of steps. It takes memory for frames, for the calls and for the whole
-/// log; want of it is the only error.
+/// log; that memory ran out is the only error.
 pub fn run_plain(alloc: Global, program: &Program, budget: u32) -> Result<PlainRun, Memory>
-    ensures computes { IfOk result (λ r. (cs : List Call) × ((run program.now budget ≡ Some (record { end = end_of r.trouble; after = state_of r.machine; log = r.machine.log.items; events = cs })) × (r.calls ≡ numbered cs))) }
+    ensures computes { IfOk result (λ r. (cs : List Call) × ((run program.now budget
+        ≡ Some (record {
+          end = end_of r.trouble;
+          after = machine_state r.machine;
+          log = r.machine.log.items;
+          events =
+              cs;
+        })) × (r.calls ≡ numbered cs))) }
 {
     let run = run_with(alloc, program, budget, true)?;
     Ok(run)
 }
 
 /// Runs a program with a budget of steps, and keeps its calls and no log. It takes memory for frames
-/// and for the calls; want of it is the only error.
+/// and for the calls; that memory ran out is the only error.
 pub fn run_calls(alloc: Global, program: &Program, budget: u32) -> Result<Calls, Memory>
     ensures calls { IfOk result (λ calls. calls ≡ numbered (calls_of (run program.now budget))) }
 {

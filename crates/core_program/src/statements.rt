@@ -1,8 +1,18 @@
 //! The statements at work on a machine.
+
 ghost use Rattle.std.specs.Prelude.{◌≡◌, OnOk};
-ghost use Rattle.core_program.specs.Acts.{HasRoom, RoomAfter, moment_of, state_of};
+ghost use Rattle.core_program.specs.Acts.{HasRoom, RoomAfter, moment_of, machine_state};
 ghost use Rattle.core_program.specs.Actions.{DoesAll, performs};
-ghost use Rattle.core_program.specs.Statements.{address_of, assigned, assignment, kind_of, leave_to_call, program_base, statement_action, value_in};
+ghost use Rattle.core_program.specs.Statements.{
+  address_of,
+  assigned,
+  assignment,
+  kind_of,
+  leave_to_call,
+  program_base,
+  statement_action,
+  value_in,
+};
 
 use crate::machine::{Halt, Machine, Trouble, may_call, read_cell, spend, write_cell};
 use crate::tables::{Block, Expression, Program, Routine, Statement};
@@ -31,7 +41,8 @@ pub fn fault_kind(fault: OpFault) -> Kind
 
 /// The base of the program block's frame, found from the frame of a block at this base.
 pub fn program_frame(machine: &mut Machine, line: u32, block: Block, base: u32) -> Result<u32, Halt>
-    ensures { DoesAll (λ b. b) (performs (program_base line block base) (state_of machine.old)) result (moment_of machine.old) (moment_of machine.new) }
+    ensures { DoesAll (λ b. b) (performs (program_base line block base) (machine_state machine.old)) result
+        (moment_of machine.old) (moment_of machine.new) }
 {
     match block {
         Block::Program => Ok(base),
@@ -53,7 +64,8 @@ pub fn evaluate(
     base: u32,
     value: Expression,
 ) -> Result<Value, Halt>
-    ensures { DoesAll (λ v. v) (performs (value_in line block base value) (state_of machine.old)) result (moment_of machine.old) (moment_of machine.new) }
+    ensures { DoesAll (λ v. v) (performs (value_in line block base value) (machine_state machine.old)) result
+        (moment_of machine.old) (moment_of machine.new) }
 {
     match value {
         Expression::Number(number) => {
@@ -86,7 +98,8 @@ fn give(
     target: u32,
     new: Value,
 ) -> Result<(), Halt>
-    ensures { DoesAll (λ _. tt) (performs (assigned line block base target new) (state_of machine.old)) result (moment_of machine.old) (moment_of machine.new) }
+    ensures { DoesAll (λ _. tt) (performs (assigned line block base target new) (machine_state machine.old)) result
+        (moment_of machine.old) (moment_of machine.new) }
 {
     spend(machine)?;
     let program = program_frame(machine, line, block, base)?;
@@ -103,7 +116,8 @@ fn assign(
     target: u32,
     value: Expression,
 ) -> Result<(), Halt>
-    ensures { DoesAll (λ _. tt) (performs (assignment line block base target value) (state_of machine.old)) result (moment_of machine.old) (moment_of machine.new) }
+    ensures { DoesAll (λ _. tt) (performs (assignment line block base target value) (machine_state machine.old)) result
+        (moment_of machine.old) (moment_of machine.new) }
 {
     spend(machine)?;
     let new = evaluate(machine, line, block, base, value)?;
@@ -113,7 +127,8 @@ fn assign(
 
 /// Asks leave to call a routine, which may be one that the tables do not have.
 fn ask_leave(machine: &mut Machine, routine: Option<Routine>) -> Result<(), Halt>
-    ensures act { DoesAll (λ _. tt) (performs (leave_to_call routine) (state_of machine.old)) result (moment_of machine.old) (moment_of machine.new) }
+    ensures act { DoesAll (λ _. tt) (performs (leave_to_call routine) (machine_state machine.old)) result
+        (moment_of machine.old) (moment_of machine.new) }
     ensures room { OnOk result (HasRoom machine.new) }
 {
     match routine {
@@ -135,7 +150,8 @@ pub fn execute(
     base: u32,
     statement: Statement,
 ) -> Result<(), Halt>
-    ensures action { DoesAll (λ _. tt) (performs (statement_action program.now line block base statement) (state_of machine.old)) result (moment_of machine.old) (moment_of machine.new) }
+    ensures action { DoesAll (λ _. tt) (performs (statement_action program.now line block base statement)
+        (machine_state machine.old)) result (moment_of machine.old) (moment_of machine.new) }
     ensures room { OnOk result (RoomAfter statement machine.new) }
 {
     match statement {

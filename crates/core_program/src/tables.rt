@@ -1,4 +1,5 @@
 //! A program as tables: its statements in rows, and its routines.
+
 ghost use Rattle.std.specs.Prelude.{◌≡◌, ◌+◌, [], ◌∷◌, ◌++◌, length, slice_get, OnOk, OnErr};
 ghost use Rattle.core_program.specs.Statements as statements;
 
@@ -49,6 +50,7 @@ pub fn block_of(routine: u32) -> Block
 pub struct Row {
     /// The line of the source on which the statement's first token stands.
     pub line: u32,
+    /// What it does.
     pub statement: Statement,
 }
 
@@ -78,9 +80,9 @@ pub struct Program {
 
 impl Model for Program {
     ghost use Rattle.std.specs.Prelude.{◌<◌, ◌^◌, vec_len};
-    ghost use Rattle.core_program.specs.Tables.{Tables};
+    ghost use Rattle.core_program.specs.ProgramTables.{ProgramTables};
 
-    ghost Value = { Tables };
+    ghost Value = { ProgramTables };
 
     ghost view = { λ p. record { rows = p.statement_rows.items; routines = p.blocks.items } };
 
@@ -99,8 +101,8 @@ impl Program {
         }
     }
 
-    /// Puts a row behind the others. A table that has 4,294,967,295 rows takes no more, which counts
-    /// as want of memory.
+    /// Puts a row after the others. A table that has 4,294,967,295 rows takes no more, which counts
+    /// as out of memory.
     pub fn add_row(&mut self, row: Row) -> Result<(), Memory>
         ensures added { OnOk result (self.new ≡ record self.old { rows = self.old.rows ++ row ∷ [] }) }
         ensures unchanged { OnErr result (self.new ≡ self.old) }
@@ -112,8 +114,8 @@ impl Program {
         Ok(())
     }
 
-    /// Puts a routine behind the others. A table that has 4,294,967,295 routines takes no more, which
-    /// counts as want of memory.
+    /// Puts a routine after the others. A table that has 4,294,967,295 routines takes no more, which
+    /// counts as out of memory.
     pub fn add_routine(&mut self, routine: Routine) -> Result<(), Memory>
         ensures added { OnOk result (self.new ≡ record self.old { routines = self.old.routines ++ routine ∷ [] }) }
         ensures unchanged { OnErr result (self.new ≡ self.old) }
@@ -132,7 +134,7 @@ impl Program {
         self.statement_rows.get(i as usize).copied()
     }
 
-    /// The row that stands so many rows behind the first one, and None where there is none.
+    /// The row that stands `offset` rows after the first one, and None where there is none.
     pub fn row_after(&self, first: u32, offset: u32) -> Option<Row>
         ensures { result ≡ slice_get self.now.rows (first + offset) }
     {

@@ -1,12 +1,42 @@
 -- A source as a row of pieces, and the tokens of a source: ISO 7185 clause 6.1.
-use Rattle.std.specs.Prelude.{◌≡◌, ℕ, ◌+◌, ◌≤◌, nat_eq, List, [], ◌∷◌, ◌++◌, length, take, slice_range, count_by, Option, Some, None, Result, Ok, Err, ◌⊎◌}
+use Rattle.std.specs.Prelude.{
+  ◌≡◌,
+  ℕ,
+  ◌+◌,
+  ◌≤◌,
+  nat_eq,
+  List,
+  [],
+  ◌∷◌,
+  ◌++◌,
+  length,
+  take,
+  slice_range,
+  count_by,
+  Option,
+  Some,
+  None,
+  Result,
+  Ok,
+  Err,
+  ◌⊎◌,
+}
 use Rattle.pas_lexer.specs.declared.kinds.Kind.{Kind}
 use Rattle.pas_lexer.specs.declared.kinds.Kind.TheVariants.{End}
 use Rattle.pas_lexer.specs.declared.kinds.Token.{Token}
-use Rattle.pas_lexer.specs.declared.kinds.Reason.{Reason}
-use Rattle.pas_lexer.specs.declared.kinds.Reason.TheVariants as reason
+use Rattle.pas_lexer.specs.declared.kinds.LexReason.{LexReason}
+use Rattle.pas_lexer.specs.declared.kinds.LexReason.TheVariants as reason
 use Rattle.pas_lexer.specs.declared.kinds.LexFault.{LexFault}
-use Rattle.pas_lexer.specs.declared.kinds.LexFault.TheVariants.{BadByte, OpenComment, OpenString, EmptyString, RealWord, TooLarge, Joined, Memory}
+use Rattle.pas_lexer.specs.declared.kinds.LexFault.TheVariants.{
+  BadByte,
+  OpenComment,
+  OpenString,
+  EmptyString,
+  RealWord,
+  TooLarge,
+  Joined,
+  Memory,
+}
 use Rattle.pas_lexer.specs.Lexis.{Fits, NothingFits, IsReason, IsSeparator, IsComment}
 use Rattle.pas_lexer.specs.Lexed.{Lexed, text_of}
 
@@ -18,7 +48,8 @@ pub record Piece : Type 0 where
 -- The source is these pieces and then what is left, and each piece fits at its place.
 abbrev pub Divides : List Piece → List ℕ → List ℕ → Type 0
 Divides [] source left = source ≡ left
-Divides (p ∷ ps) source left = (rest : List ℕ) × (source ≡ p.text ++ rest) × Fits p.text rest p.kind × Divides ps rest left
+Divides (p ∷ ps) source left = (rest : List ℕ) × (source ≡ p.text ++ rest) × Fits p.text rest p.kind
+    × Divides ps rest left
 
 -- how many bytes the pieces have
 abbrev pub size : List Piece → ℕ
@@ -41,28 +72,31 @@ token_of start end line (Some k) = record { kind = k; start = start; end = end; 
 -- the tokens of the pieces that stand in the source from a place on
 abbrev pub tokens_from : List ℕ → ℕ → List Piece → List Token
 tokens_from source at [] = []
-tokens_from source at (p ∷ ps) = token_of at (at + length p.text) (line_at source at) p.kind ++ tokens_from source (at + length p.text) ps
+tokens_from source at (p ∷ ps) = token_of at (at + length p.text) (line_at source at) p.kind
+    ++ tokens_from source (at + length p.text) ps
 
 -- all of them, and the end of the source
 abbrev pub tokens_of : List ℕ → List Piece → List Token
-tokens_of source ps = tokens_from source 0 ps ++ token_of (length source) (length source) (line_at source (length source)) (Some End)
+tokens_of source ps = tokens_from source 0 ps ++ token_of (length source) (length source)
+    (line_at source (length source)) (Some End)
 
 -- The source can be divided into pieces, and these are its tokens.
 abbrev pub IsLexed : List ℕ → List Token → Type 0
 IsLexed source tokens = (ps : List Piece) × Divides ps source [] × (tokens ≡ tokens_of source ps)
 
 -- The pieces go well up to this byte, and there no piece fits, for this reason.
-abbrev pub FailsFor : List ℕ → Reason → ℕ → Type 0
-FailsFor source r n = (ps : List Piece) × (left : List ℕ) × Divides ps source left × NothingFits left × IsReason r left × (n ≡ size ps)
+abbrev pub FailsFor : List ℕ → LexReason → ℕ → Type 0
+FailsFor source r n = (ps : List Piece) × (left : List ℕ) × Divides ps source left × NothingFits left × IsReason r left
+    × (n ≡ size ps)
 
 -- for some reason
 abbrev pub FailsAt : List ℕ → ℕ → Type 0
-FailsAt source n = (r : Reason) × FailsFor source r n
+FailsAt source n = (r : LexReason) × FailsFor source r n
 
 -- ---- answers
 
 -- the fault for a reason, at a byte
-abbrev pub fault_of : Reason → ℕ → LexFault
+abbrev pub fault_of : LexReason → ℕ → LexFault
 fault_of reason.BadByte n = BadByte n
 fault_of reason.OpenComment n = OpenComment n
 fault_of reason.OpenString n = OpenString n
@@ -83,14 +117,14 @@ IsFault source (Joined n) = FailsFor source reason.Joined n
 IsFault source Memory = Unit {0}
 
 -- the answer is these tokens, or that memory ran out
-abbrev pub IsThose : List Token → Result Lexed LexFault → Type 0
-IsThose tokens (Ok lexed) = lexed.tokens ≡ tokens
-IsThose tokens (Err e) = e ≡ Memory
+abbrev pub GivesTokens : List Token → Result Lexed LexFault → Type 0
+GivesTokens tokens (Ok lexed) = lexed.tokens ≡ tokens
+GivesTokens tokens (Err e) = e ≡ Memory
 
 -- the answer is this fault, or that memory ran out
-abbrev pub IsThat : LexFault → Result Lexed LexFault → Type 0
-IsThat fault (Ok lexed) = ⊥
-IsThat fault (Err e) = (e ≡ fault) ⊎ (e ≡ Memory)
+abbrev pub RefusesWith : LexFault → Result Lexed LexFault → Type 0
+RefusesWith fault (Ok lexed) = ⊥
+RefusesWith fault (Err e) = (e ≡ fault) ⊎ (e ≡ Memory)
 
 -- ---- the source again
 
@@ -99,7 +133,7 @@ abbrev pub rejoined : List ℕ → ℕ → List Token → List ℕ
 rejoined source at [] = []
 rejoined source at (t ∷ ts) = slice_range source at t.start ++ text_of source t ++ rejoined source t.end ts
 
--- separators and comments, one behind the other
+-- separators and comments, one after the other
 abbrev pub Gaps : List (List ℕ) → List ℕ → Type 0
 Gaps [] text = text ≡ []
 Gaps (g ∷ gs) text = (rest : List ℕ) × (text ≡ g ++ rest) × (IsSeparator g ⊎ IsComment g) × Gaps gs rest
@@ -107,7 +141,8 @@ Gaps (g ∷ gs) text = (rest : List ℕ) × (text ≡ g ++ rest) × (IsSeparator
 abbrev pub IsGap : List ℕ → Type 0
 IsGap text = (gs : List (List ℕ)) × Gaps gs text
 
--- The tokens stand in the source one behind the other, from a place on, with separators and comments between them.
+-- The tokens stand in the source one after the other, from a place on, with separators and comments between them.
 abbrev pub InOrder : List ℕ → ℕ → List Token → Type 0
 InOrder source at [] = Unit {0}
-InOrder source at (t ∷ ts) = (at ≤ t.start) × (t.start ≤ t.end) × (t.end ≤ length source) × IsGap (slice_range source at t.start) × InOrder source t.end ts
+InOrder source at (t ∷ ts) = (at ≤ t.start) × (t.start ≤ t.end) × (t.end ≤ length source)
+    × IsGap (slice_range source at t.start) × InOrder source t.end ts

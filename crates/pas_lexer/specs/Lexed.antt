@@ -1,5 +1,29 @@
 -- A source with its tokens, as callers see it.
-use Rattle.std.specs.Prelude.{◌≡◌, ◌≢◌, ℕ, ◌<◌, ◌≤◌, ◌^◌, Bool, true, false, not, nat_eq, ◌&&◌, if◌then◌else◌, List, [], ◌∷◌, ◌++◌, length, drop, slice_range, slice_get, Some, All}
+use Rattle.std.specs.Prelude.{
+  ◌≡◌,
+  ◌≢◌,
+  ℕ,
+  ◌<◌,
+  ◌≤◌,
+  ◌^◌,
+  Bool,
+  true,
+  false,
+  not,
+  nat_eq,
+  ◌&&◌,
+  if◌then◌else◌,
+  List,
+  [],
+  ◌∷◌,
+  ◌++◌,
+  length,
+  drop,
+  slice_range,
+  slice_get,
+  Some,
+  All,
+}
 use Rattle.pas_lexer.specs.declared.kinds.Kind.{Kind}
 use Rattle.pas_lexer.specs.declared.kinds.Kind.TheVariants.{Name, Text, End}
 use Rattle.pas_lexer.specs.declared.kinds.Token.{Token}
@@ -14,11 +38,12 @@ pub record Lexed : Type 0 where
 abbrev pub text_of : List ℕ → Token → List ℕ
 text_of source t = slice_range source t.start t.end
 
--- The characters in what follows a string's first apostrophe: of two apostrophes in a row one, and none of a single one.
--- `behind` says that an apostrophe stands in front that has no other yet.
+-- The characters in what follows a string's first apostrophe: of two apostrophes in a row one, and none of a single
+-- one.
+-- `pending` says that an apostrophe stands in front that has no other yet.
 abbrev pub characters : Bool → List ℕ → List ℕ
-characters behind [] = []
-characters behind (c ∷ l) = if nat_eq c apostrophe && not behind then characters true l else c ∷ characters false l
+characters pending [] = []
+characters pending (c ∷ l) = if nat_eq c apostrophe && not pending then characters true l else c ∷ characters false l
 
 -- Of a name the text in lower case, since the case of a letter does not matter (6.1.1), of a string its characters, and
 -- of any other token the text.
@@ -36,7 +61,8 @@ IsPlaced source t = (t.start ≤ t.end) × (t.end ≤ length source)
 
 -- the last token, and only the last, is `End`
 abbrev pub EndsOnce : List Token → Type 0
-EndsOnce tokens = (front : List Token) × (last : Token) × (tokens ≡ front ++ last ∷ []) × (last.kind ≡ End) × All (λ t. t.kind ≢ End) front
+EndsOnce tokens = (front : List Token) × (last : Token) × (tokens ≡ front ++ last ∷ []) × (last.kind ≡ End)
+    × All (λ t. t.kind ≢ End) front
 
 -- a token's spelling stands at this place of the spellings
 pub record IsSpelled (source spellings : List ℕ) (t : Token) (p : Place) : Type 0 where
@@ -47,7 +73,8 @@ pub record IsSpelled (source spellings : List ℕ) (t : Token) (p : Place) : Typ
 -- each token's spelling stands at the place of the token's number
 pub record AreSpelled (source spellings : List ℕ) (tokens : List Token) (places : List Place) : Type 0 where
   pub count : length places ≡ length tokens
-  pub each : (i : ℕ) (t : Token) (p : Place) → slice_get tokens i ≡ Some t → slice_get places i ≡ Some p → IsSpelled source spellings t p
+  pub each : (i : ℕ) (t : Token) (p : Place) → slice_get tokens i ≡ Some t → slice_get places i ≡ Some p
+      → IsSpelled source spellings t p
 
 -- What each `Tokens` keeps: tokens that stand in the source, their spellings, one `End`, and fewer tokens than a `u32`
 -- can count.

@@ -1,13 +1,57 @@
 -- The lexis of Pascal, ISO 7185 clause 6.1: which texts are tokens and separators, where each of them fits, and why
 -- nothing fits.
-use Rattle.std.specs.Prelude.{◌≡◌, ◌≢◌, ℕ, ◌+◌, ◌-◌, ◌*◌, ◌^◌, ◌<◌, ◌≤◌, Bool, true, false, not, nat_eq, ◌&&◌, ◌||◌, if◌then◌else◌, List, [], ◌∷◌, ◌++◌, length, map, codes, Option, Some, None, ◌⊎◌}
+use Rattle.std.specs.Prelude.{
+  ◌≡◌,
+  ◌≢◌,
+  ℕ,
+  ◌+◌,
+  ◌-◌,
+  ◌*◌,
+  ◌^◌,
+  ◌<◌,
+  ◌≤◌,
+  Bool,
+  true,
+  false,
+  not,
+  nat_eq,
+  ◌&&◌,
+  ◌||◌,
+  if◌then◌else◌,
+  List,
+  [],
+  ◌∷◌,
+  ◌++◌,
+  length,
+  map,
+  codes,
+  Option,
+  Some,
+  None,
+  ◌⊎◌,
+}
 use Rattle.std.specs.List.{AllPass}
 use Rattle.std.specs.Char.{is_ascii_digit, is_ascii_alphabetic, is_ascii_alphanumeric, to_ascii_lowercase}
 use Rattle.pas_lexer.specs.declared.kinds.Word.{Word}
 use Rattle.pas_lexer.specs.declared.kinds.Kind.{Kind}
-use Rattle.pas_lexer.specs.declared.kinds.Kind.TheVariants.{Word as WordKind, Name, Number, Text, Symbol as SymbolKind, End}
-use Rattle.pas_lexer.specs.declared.kinds.Reason.{Reason}
-use Rattle.pas_lexer.specs.declared.kinds.Reason.TheVariants.{BadByte, OpenComment, OpenString, EmptyString, RealWord, TooLarge, Joined}
+use Rattle.pas_lexer.specs.declared.kinds.Kind.TheVariants.{
+  Word as WordKind,
+  Name,
+  Number,
+  Text,
+  Symbol as SymbolKind,
+  End,
+}
+use Rattle.pas_lexer.specs.declared.kinds.LexReason.{LexReason}
+use Rattle.pas_lexer.specs.declared.kinds.LexReason.TheVariants.{
+  BadByte,
+  OpenComment,
+  OpenString,
+  EmptyString,
+  RealWord,
+  TooLarge,
+  Joined,
+}
 use Rattle.pas_lexer.specs.Lexicon.{word_text, symbol_text, other_text}
 
 -- ---- bytes
@@ -112,17 +156,17 @@ abbrev pub closes_comment : List ℕ → Bool
 closes_comment [] = false
 closes_comment (c ∷ l) = nat_eq c 125 || (nat_eq c 42 && next_is 41 l)
 
--- what stands behind an opening symbol: a closing symbol, or a byte at which none begins and then the same
+-- what stands after an opening symbol: a closing symbol, or a byte at which none begins and then the same
 abbrev pub IsClosed : List ℕ → Type 0
 IsClosed [] = ⊥
 IsClosed (c ∷ l) = (c ∷ l ≡ codes "}") ⊎ (c ∷ l ≡ codes "*)") ⊎ ((closes_comment (c ∷ l) ≡ false) × IsClosed l)
 
--- an opening symbol, and what stands behind it
+-- an opening symbol, and what stands after it
 abbrev pub IsOpened : List ℕ → List ℕ → Type 0
-IsOpened text behind = (text ≡ codes "{" ++ behind) ⊎ (text ≡ codes "(*" ++ behind)
+IsOpened text after = (text ≡ codes "{" ++ after) ⊎ (text ≡ codes "(*" ++ after)
 
 abbrev pub IsComment : List ℕ → Type 0
-IsComment text = (behind : List ℕ) × IsOpened text behind × IsClosed behind
+IsComment text = (after : List ℕ) × IsOpened text after × IsClosed after
 
 abbrev pub IsSeparator : List ℕ → Type 0
 IsSeparator text = (c : ℕ) × (text ≡ c ∷ []) × (separator c ≡ true)
@@ -141,17 +185,20 @@ scale_first (c ∷ l) = if nat_eq c 43 || nat_eq c 45 then digit_first l else di
 -- 6.1.5: digits in front of this begin a real number: a point and a digit follow, or `e` and a scale factor
 abbrev pub real_follows : List ℕ → Bool
 real_follows [] = false
-real_follows (c ∷ l) = if nat_eq c 46 then digit_first l else (if nat_eq c 101 || nat_eq c 69 then scale_first l else false)
+real_follows (c ∷ l) = if nat_eq c 46 then digit_first l else (if nat_eq c 101 || nat_eq c 69 then scale_first l
+    else false)
 
 -- a number is no part of a real one, no letter follows it (6.1.8), and it is not too large
 abbrev pub IsAllowed : Kind → List ℕ → Type 0
 IsAllowed (Number n) rest = (real_follows rest ≡ false) × (letter_first rest ≡ false) × (n ≤ maxint)
 IsAllowed _ rest = Unit {0}
 
--- A piece in front of a rest: a separator or a comment, which have no kind, or the longest token, where no comment opens.
+-- A piece in front of a rest: a separator or a comment, which have no kind, or the longest token, where no comment
+-- opens.
 abbrev pub Fits : List ℕ → List ℕ → Option Kind → Type 0
 Fits text rest None = IsSeparator text ⊎ IsComment text
-Fits text rest (Some k) = Spells k text × IsLongest text rest × IsAllowed k rest × (opens_comment (text ++ rest) ≡ false)
+Fits text rest (Some k) = Spells k text × IsLongest text rest × IsAllowed k rest
+    × (opens_comment (text ++ rest) ≡ false)
 
 -- no piece fits in front
 abbrev pub NothingFits : List ℕ → Type 0
@@ -165,7 +212,8 @@ FirstDigits left digits rest = (left ≡ digits ++ rest) × IsDigitSequence digi
 
 -- real division, or a real number
 abbrev pub BeginsReal : List ℕ → Type 0
-BeginsReal left = (next_is 47 left ≡ true) ⊎ ((digits rest : List ℕ) × FirstDigits left digits rest × (real_follows rest ≡ true))
+BeginsReal left = (next_is 47 left ≡ true) ⊎ ((digits rest : List ℕ) × FirstDigits left digits rest
+    × (real_follows rest ≡ true))
 
 -- a number and a letter
 abbrev pub BeginsJoined : List ℕ → Type 0
@@ -181,19 +229,22 @@ BeginsEmptyString left = (rest : List ℕ) × (left ≡ codes "''" ++ rest) × (
 
 -- an apostrophe and the characters of a string, and then the end of the line or of the source
 abbrev pub BeginsOpenString : List ℕ → Type 0
-BeginsOpenString left = (characters rest : List ℕ) × (left ≡ (apostrophe ∷ doubled characters) ++ rest) × AllPass in_line characters × (ends_first rest ≡ true)
+BeginsOpenString left = (characters rest : List ℕ) × (left ≡ (apostrophe ∷ doubled characters) ++ rest)
+    × AllPass in_line characters × (ends_first rest ≡ true)
 
 -- an opening symbol, and no closing symbol follows
 abbrev pub BeginsOpenComment : List ℕ → Type 0
-BeginsOpenComment left = (behind : List ℕ) × IsOpened left behind × ((front more : List ℕ) → behind ≡ front ++ more → IsClosed front → ⊥)
+BeginsOpenComment left = (after : List ℕ) × IsOpened left after
+    × ((front more : List ℕ) → after ≡ front ++ more → IsClosed front → ⊥)
 
 -- a byte with which no piece begins, whatever follows it
 abbrev pub BeginsBadByte : List ℕ → Type 0
-BeginsBadByte left = (c : ℕ) × (more : List ℕ) × (left ≡ c ∷ more) × ((text rest : List ℕ) (k : Option Kind) → Fits (c ∷ text) rest k → ⊥)
+BeginsBadByte left = (c : ℕ) × (more : List ℕ) × (left ≡ c ∷ more)
+    × ((text rest : List ℕ) (k : Option Kind) → Fits (c ∷ text) rest k → ⊥)
 
--- The reason for which nothing fits. Of several, a real number goes first, then a letter behind a number, and then a
+-- The reason for which nothing fits. Of several, a real number goes first, then a letter after a number, and then a
 -- number that is too large. The others exclude one another.
-abbrev pub IsReason : Reason → List ℕ → Type 0
+abbrev pub IsReason : LexReason → List ℕ → Type 0
 IsReason RealWord left = BeginsReal left
 IsReason Joined left = BeginsJoined left × ¬ BeginsReal left
 IsReason TooLarge left = BeginsTooLarge left × ¬ BeginsReal left × ¬ BeginsJoined left

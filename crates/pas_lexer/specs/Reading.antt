@@ -1,24 +1,127 @@
 -- Reading one piece: what stands first, and how many bytes it takes. Only the private readers speak of it; the public
 -- contracts speak of Lexis and Division, and proofs show that what is read fits and what fits is read.
-use Rattle.std.specs.Prelude.{ℕ, suc, ◌+◌, Bool, true, false, nat_eq, nat_lt, ◌&&◌, if◌then◌else◌, List, [], ◌∷◌, length, Option, Some, None, Result, Ok, Err, take, drop}
+use Rattle.std.specs.Prelude.{
+  ℕ,
+  suc,
+  ◌+◌,
+  Bool,
+  true,
+  false,
+  nat_eq,
+  nat_lt,
+  ◌&&◌,
+  if◌then◌else◌,
+  List,
+  [],
+  ◌∷◌,
+  length,
+  Option,
+  Some,
+  None,
+  Result,
+  Ok,
+  Err,
+  take,
+  drop,
+}
 use Rattle.std.specs.List.{starts_with}
 use Rattle.std.specs.Str.{bytes_eq}
 use Rattle.pas_lexer.specs.declared.kinds.Word.{Word}
-use Rattle.pas_lexer.specs.declared.kinds.Word.TheVariants.{WAnd, WArray, WBegin, WCase, WConst, WDiv, WDo, WDownto, WElse, WEnd, WFile, WFor, WFunction, WGoto, WIf, WIn, WLabel, WMod, WNil, WNot, WOf, WOr, WPacked, WProcedure, WProgram, WRecord, WRepeat, WSet, WThen, WTo, WType, WUntil, WVar, WWhile, WWith}
+use Rattle.pas_lexer.specs.declared.kinds.Word.TheVariants.{
+  WAnd,
+  WArray,
+  WBegin,
+  WCase,
+  WConst,
+  WDiv,
+  WDo,
+  WDownto,
+  WElse,
+  WEnd,
+  WFile,
+  WFor,
+  WFunction,
+  WGoto,
+  WIf,
+  WIn,
+  WLabel,
+  WMod,
+  WNil,
+  WNot,
+  WOf,
+  WOr,
+  WPacked,
+  WProcedure,
+  WProgram,
+  WRecord,
+  WRepeat,
+  WSet,
+  WThen,
+  WTo,
+  WType,
+  WUntil,
+  WVar,
+  WWhile,
+  WWith,
+}
 use Rattle.pas_lexer.specs.declared.kinds.Symbol.{Symbol}
-use Rattle.pas_lexer.specs.declared.kinds.Symbol.TheVariants.{Plus, Minus, Star, Equal, Less, Greater, LeftBracket, RightBracket, Dot, Comma, Colon, Semicolon, Caret, LeftParen, RightParen, NotEqual, AtMost, AtLeast, Becomes, Range}
+use Rattle.pas_lexer.specs.declared.kinds.Symbol.TheVariants.{
+  Plus,
+  Minus,
+  Star,
+  Equal,
+  Less,
+  Greater,
+  LeftBracket,
+  RightBracket,
+  Dot,
+  Comma,
+  Colon,
+  Semicolon,
+  Caret,
+  LeftParen,
+  RightParen,
+  NotEqual,
+  AtMost,
+  AtLeast,
+  Becomes,
+  Range,
+}
 use Rattle.pas_lexer.specs.declared.kinds.Kind.{Kind}
 use Rattle.pas_lexer.specs.declared.kinds.Kind.TheVariants.{Word as WordKind, Name, Number, Text, Symbol as SymbolKind}
-use Rattle.pas_lexer.specs.declared.kinds.Reason.{Reason}
-use Rattle.pas_lexer.specs.declared.kinds.Reason.TheVariants.{BadByte, OpenComment, OpenString, EmptyString, RealWord, TooLarge, Joined}
+use Rattle.pas_lexer.specs.declared.kinds.LexReason.{LexReason}
+use Rattle.pas_lexer.specs.declared.kinds.LexReason.TheVariants.{
+  BadByte,
+  OpenComment,
+  OpenString,
+  EmptyString,
+  RealWord,
+  TooLarge,
+  Joined,
+}
 use Rattle.pas_lexer.specs.declared.symbols.Written.{Written}
 use Rattle.pas_lexer.specs.declared.symbols.Written.TheVariants.{Usual, Other}
 use Rattle.pas_lexer.specs.Lexicon.{word_text, symbol_text, other_text}
-use Rattle.pas_lexer.specs.Lexis.{letter, digit, letter_or_digit, separator, ends_line, apostrophe, next_is, letter_first, real_follows, lower_case, decimal, maxint}
+use Rattle.pas_lexer.specs.Lexis.{
+  letter,
+  digit,
+  letter_or_digit,
+  separator,
+  ends_line,
+  apostrophe,
+  next_is,
+  letter_first,
+  real_follows,
+  lower_case,
+  decimal,
+  maxint,
+}
 
 -- each word symbol, in the order of `WORDS`
 abbrev pub all_words : List Word
-all_words = WAnd ∷ WArray ∷ WBegin ∷ WCase ∷ WConst ∷ WDiv ∷ WDo ∷ WDownto ∷ WElse ∷ WEnd ∷ WFile ∷ WFor ∷ WFunction ∷ WGoto ∷ WIf ∷ WIn ∷ WLabel ∷ WMod ∷ WNil ∷ WNot ∷ WOf ∷ WOr ∷ WPacked ∷ WProcedure ∷ WProgram ∷ WRecord ∷ WRepeat ∷ WSet ∷ WThen ∷ WTo ∷ WType ∷ WUntil ∷ WVar ∷ WWhile ∷ WWith ∷ []
+all_words = WAnd ∷ WArray ∷ WBegin ∷ WCase ∷ WConst ∷ WDiv ∷ WDo ∷ WDownto ∷ WElse ∷ WEnd ∷ WFile ∷ WFor ∷ WFunction
+    ∷ WGoto ∷ WIf ∷ WIn ∷ WLabel ∷ WMod ∷ WNil ∷ WNot ∷ WOf ∷ WOr ∷ WPacked ∷ WProcedure ∷ WProgram ∷ WRecord ∷ WRepeat
+    ∷ WSet ∷ WThen ∷ WTo ∷ WType ∷ WUntil ∷ WVar ∷ WWhile ∷ WWith ∷ []
 
 -- a special symbol as it is written
 abbrev pub written_text : Written → List ℕ
@@ -31,7 +134,10 @@ symbol_of (Other s) = s
 
 -- each special symbol as it is written, in the order of `SYMBOLS`: the longer ones first
 abbrev pub all_symbols : List Written
-all_symbols = Usual NotEqual ∷ Usual AtMost ∷ Usual AtLeast ∷ Usual Becomes ∷ Usual Range ∷ Other LeftBracket ∷ Other RightBracket ∷ Usual Plus ∷ Usual Minus ∷ Usual Star ∷ Usual Equal ∷ Usual Less ∷ Usual Greater ∷ Usual LeftBracket ∷ Usual RightBracket ∷ Usual Dot ∷ Usual Comma ∷ Usual Colon ∷ Usual Semicolon ∷ Usual Caret ∷ Usual LeftParen ∷ Usual RightParen ∷ Other Caret ∷ []
+all_symbols = Usual NotEqual ∷ Usual AtMost ∷ Usual AtLeast ∷ Usual Becomes ∷ Usual Range ∷ Other LeftBracket
+    ∷ Other RightBracket ∷ Usual Plus ∷ Usual Minus ∷ Usual Star ∷ Usual Equal ∷ Usual Less ∷ Usual Greater
+    ∷ Usual LeftBracket ∷ Usual RightBracket ∷ Usual Dot ∷ Usual Comma ∷ Usual Colon ∷ Usual Semicolon ∷ Usual Caret
+    ∷ Usual LeftParen ∷ Usual RightParen ∷ Other Caret ∷ []
 
 -- the first of the words that the text is
 abbrev pub word_among : List Word → List ℕ → Option Word
@@ -61,23 +167,25 @@ more_by n (Some m) = Some (n + m)
 -- how far the first closing symbol of a comment goes
 abbrev pub closing : List ℕ → Option ℕ
 closing [] = None
-closing (c ∷ l) = if nat_eq c 125 then Some 1 else (if nat_eq c 42 && next_is 41 l then Some 2 else more_by 1 (closing l))
+closing (c ∷ l) = if nat_eq c 125 then Some 1 else (if nat_eq c 42 && next_is 41 l then Some 2 else more_by 1
+    (closing l))
 
 -- the first if there is one, or else the second
 abbrev pub or_else : Option ℕ → Option ℕ → Option ℕ
 or_else None second = second
 or_else (Some n) second = Some n
 
--- How far the last apostrophe goes that can end a string, whose first apostrophe stands in front. `behind` says that
+-- How far the last apostrophe goes that can end a string, whose first apostrophe stands in front. `pending` says that
 -- an apostrophe stands in front that ends the string unless another follows.
 abbrev pub string_end : Bool → List ℕ → Option ℕ
-string_end behind [] = None
+string_end pending [] = None
 string_end true (c ∷ l) = if nat_eq c apostrophe then more_by 1 (string_end false l) else None
-string_end false (c ∷ l) = if nat_eq c apostrophe then or_else (more_by 1 (string_end true l)) (Some 1) else (if ends_line c then None else more_by 1 (string_end false l))
+string_end false (c ∷ l) = if nat_eq c apostrophe then or_else (more_by 1 (string_end true l)) (Some 1)
+    else (if ends_line c then None else more_by 1 (string_end false l))
 
 -- a piece's kind, or none for a separator or a comment, and its length; or the reason for which no piece fits
 abbrev pub Reading : Type 0
-Reading = Result (Option Kind × ℕ) Reason
+Reading = Result (Option Kind × ℕ) LexReason
 
 abbrev pub word_or_name : Option Word → Kind
 word_or_name None = Name
@@ -100,7 +208,8 @@ number_piece n (Some value) = Ok (Some (Number value), n)
 
 -- the number of these digits, in front of a rest
 abbrev pub number_before : List ℕ → ℕ → List ℕ → Reading
-number_before rest n digits = if real_follows rest then Err RealWord else (if letter_first rest then Err Joined else number_piece n (number_in digits))
+number_before rest n digits = if real_follows rest then Err RealWord
+    else (if letter_first rest then Err Joined else number_piece n (number_in digits))
 
 unfoldable pub number_at : List ℕ → Reading
 number_at l = let n = run digit l in number_before (drop n l) n (take n l)
@@ -111,7 +220,8 @@ comment_piece opened (Some n) = Ok (None, opened + n)
 
 abbrev pub string_piece : List ℕ → Option ℕ → Reading
 string_piece l None = Err OpenString
-string_piece l (Some n) = if nat_lt 1 n then Ok (Some Text, 1 + n) else (if next_is apostrophe (drop 1 l) then Err OpenString else Err EmptyString)
+string_piece l (Some n) = if nat_lt 1 n then Ok (Some Text, 1 + n)
+    else (if next_is apostrophe (drop 1 l) then Err OpenString else Err EmptyString)
 
 -- the string whose first apostrophe stands in front
 unfoldable pub string_at : List ℕ → Reading

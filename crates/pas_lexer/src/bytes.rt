@@ -1,7 +1,17 @@
 //! The bytes of a source, ISO 7185 clause 6.1.
 
 ghost use Rattle.std.specs.Prelude.{◌≡◌, ◌+◌, ◌<◌, ◌≤◌, ◌&&◌, length, false, nat_eq, IfSome, IsTrue};
-ghost use Rattle.pas_lexer.specs.Lexis.{letter, digit, letter_or_digit, separator, letter_first, digit_first, next_is, scale_first, real_follows};
+ghost use Rattle.pas_lexer.specs.Lexis.{
+  letter,
+  digit,
+  letter_or_digit,
+  separator,
+  letter_first,
+  digit_first,
+  next_is,
+  scale_first,
+  real_follows,
+};
 ghost use Rattle.pas_lexer.specs.Reading.{run, closing, string_end};
 
 /// A tab, a line feed, a form feed, a carriage return or a space.
@@ -134,14 +144,14 @@ pub fn last_apostrophe(bytes: &[u8]) -> Option<usize>
     ensures inside { IfSome result (λ n. (0 < n) × (n ≤ length bytes.now)) }
 {
     let mut last = None;
-    let mut behind = false;
+    let mut pending = false;
     'characters: for (n, c) in bytes.iter().enumerate() {
         if *c == b'\'' {
-            behind = !behind;
-            if behind {
+            pending = !pending;
+            if pending {
                 last = Some(n + 1);
             }
-        } else if behind || *c == b'\n' {
+        } else if pending || *c == b'\n' {
             return last;
         }
     }

@@ -100,7 +100,7 @@ pub enum Kind {
     Number(u32),
     Text,
     Symbol(Symbol),
-    /// Behind the last piece of the source.
+    /// After the last piece of the source.
     End,
 }
 
@@ -127,6 +127,7 @@ pub enum LexFault {
     /// The end of the line or of the source comes first.
     #[error("the string at byte {0} is open")]
     OpenString(u32),
+    /// A string has at least one character.
     #[error("the string at byte {0} is empty")]
     EmptyString(u32),
     /// Digits that go on as a real number, or the `/` of real division.
@@ -135,15 +136,17 @@ pub enum LexFault {
     /// The number is above maxint, which is 2147483647.
     #[error("the number at byte {0} is too large")]
     TooLarge(u32),
+    /// A letter stands directly after a number.
     #[error("a letter follows the number at byte {0}")]
     Joined(u32),
+    /// Memory ran out.
     #[error("out of memory")]
     Memory,
 }
 
 /// Why no piece fits at a place: the fault without its byte.
 #[derive(Clone, Copy)]
-pub enum Reason {
+pub enum LexReason {
     BadByte,
     OpenComment,
     OpenString,
@@ -153,19 +156,19 @@ pub enum Reason {
     Joined,
 }
 
-impl Reason {
+impl LexReason {
     /// The fault for this reason, at a byte.
     pub fn fault(self, byte: u32) -> LexFault
         ensures { result ≡ fault_of self byte }
     {
         match self {
-            Reason::BadByte => LexFault::BadByte(byte),
-            Reason::OpenComment => LexFault::OpenComment(byte),
-            Reason::OpenString => LexFault::OpenString(byte),
-            Reason::EmptyString => LexFault::EmptyString(byte),
-            Reason::RealWord => LexFault::RealWord(byte),
-            Reason::TooLarge => LexFault::TooLarge(byte),
-            Reason::Joined => LexFault::Joined(byte),
+            LexReason::BadByte => LexFault::BadByte(byte),
+            LexReason::OpenComment => LexFault::OpenComment(byte),
+            LexReason::OpenString => LexFault::OpenString(byte),
+            LexReason::EmptyString => LexFault::EmptyString(byte),
+            LexReason::RealWord => LexFault::RealWord(byte),
+            LexReason::TooLarge => LexFault::TooLarge(byte),
+            LexReason::Joined => LexFault::Joined(byte),
         }
     }
 }

@@ -1,17 +1,53 @@
 //! A whole source.
 
-ghost use Rattle.std.specs.Prelude.{◌≡◌, ◌≢◌, ◌⊎◌, ℕ, ◌+◌, ◌<◌, ◌≤◌, ◌^◌, ◌++◌, List, [], IfOk, IfErr, OnOk, All, length, drop, nat_eq, count_by, vec_len};
+ghost use Rattle.std.specs.Prelude.{
+  ◌≡◌,
+  ◌≢◌,
+  ◌⊎◌,
+  ℕ,
+  ◌+◌,
+  ◌<◌,
+  ◌≤◌,
+  ◌^◌,
+  ◌++◌,
+  List,
+  [],
+  IfOk,
+  IfErr,
+  OnOk,
+  All,
+  length,
+  drop,
+  nat_eq,
+  count_by,
+  vec_len,
+};
 ghost use Rattle.pas_lexer.specs.declared.kinds.Kind.TheVariants.{Text, End};
 ghost use Rattle.pas_lexer.specs.declared.kinds.LexFault.TheVariants.{Memory};
-ghost use Rattle.pas_lexer.specs.declared.kinds.Reason.{Reason};
+ghost use Rattle.pas_lexer.specs.declared.kinds.LexReason.{LexReason};
 ghost use Rattle.pas_lexer.specs.declared.kinds.Token.{Token};
 ghost use Rattle.pas_lexer.specs.Limits.{source_bytes};
 ghost use Rattle.pas_lexer.specs.Lexis.{quoted, Fits};
 ghost use Rattle.pas_lexer.specs.Reading.{piece_at};
 ghost use Rattle.pas_lexer.specs.Lexed.{IsPlaced, EndsOnce, text_of, spelled_as};
-ghost use Rattle.pas_lexer.specs.Division.{Piece, Divides, token_of, line_feed, line_at, IsLexed, FailsFor, FailsAt, fault_of, IsFault, IsThose, IsThat, rejoined, InOrder};
+ghost use Rattle.pas_lexer.specs.Division.{
+  Piece,
+  Divides,
+  token_of,
+  line_feed,
+  line_at,
+  IsLexed,
+  FailsFor,
+  FailsAt,
+  fault_of,
+  IsFault,
+  GivesTokens,
+  RefusesWith,
+  rejoined,
+  InOrder,
+};
 
-use crate::kinds::{Kind, LexFault, Reason, Token};
+use crate::kinds::{Kind, LexFault, LexReason, Token};
 use crate::piece::piece;
 use crate::tokens::Tokens;
 use std::alloc::Global;
@@ -20,7 +56,7 @@ use std::alloc::Global;
 pub const MAX_SOURCE_BYTES: usize = 1_048_576;
 
 /// The piece at a place, or the reason for which none fits.
-fn piece_from(bytes: &[u8], at: usize) -> Result<(Option<Kind>, usize), Reason>
+fn piece_from(bytes: &[u8], at: usize) -> Result<(Option<Kind>, usize), LexReason>
     requires { at ≤ length bytes.now }
     ensures gives { result ≡ piece_at (drop at bytes.now) }
     ensures inside { IfOk result (λ x. (0 < x.1) × (at + x.1 ≤ length bytes.now)) }
@@ -94,7 +130,7 @@ fn scan(alloc: Global, bytes: &[u8]) -> Result<Vec<Token>, LexFault>
     Ok(tokens)
 }
 
-/// The tokens of a source of at most `MAX_SOURCE_BYTES` bytes, and `End` behind them. Where pieces fit up to
+/// The tokens of a source of at most `MAX_SOURCE_BYTES` bytes, and `End` after them. Where pieces fit up to
 /// byte n and none fits there, the fault has this n and the reason.
 pub fn lex(alloc: Global, bytes: &[u8]) -> Result<Tokens, LexFault>
     requires { length bytes.now ≤ source_bytes }
@@ -104,12 +140,12 @@ pub fn lex(alloc: Global, bytes: &[u8]) -> Result<Tokens, LexFault>
     ensures source { IfOk result (λ t. t.source ≡ bytes.now) }
 
     // A source with such a division has its tokens for an answer, unless memory runs out.
-    ensures only { (tokens : List Token) → IsLexed bytes.now tokens → IsThose tokens result }
+    ensures only { (tokens : List Token) → IsLexed bytes.now tokens → GivesTokens tokens result }
 
     // The fault names the first piece that does not fit, and why; and a source with such a piece is refused
     // there and for that reason, unless memory runs out.
     ensures fault { IfErr result (IsFault bytes.now) }
-    ensures refused { (r : Reason) (n : ℕ) → FailsFor bytes.now r n → IsThat (fault_of r n) result }
+    ensures refused { (r : LexReason) (n : ℕ) → FailsFor bytes.now r n → RefusesWith (fault_of r n) result }
 
     // Each token stands in the source, and the last, and only the last, is `End`.
     ensures placed { IfOk result (λ t. All (IsPlaced bytes.now) t.tokens) }
@@ -122,11 +158,13 @@ pub fn lex(alloc: Global, bytes: &[u8]) -> Result<Tokens, LexFault>
 /// The laws of divisions, for proofs. A source has one division into pieces, or it fails at one byte and for
 /// one reason, and never both; and what each list of tokens keeps. It does nothing.
 pub fn division_laws()
-    ensures one_division { (source : List ℕ) (ps qs : List Piece) → Divides ps source [] → Divides qs source [] → ps ≡ qs }
+    ensures one_division { (source : List ℕ) (ps qs : List Piece) → Divides ps source [] → Divides qs source []
+        → ps ≡ qs }
     ensures one_list { (source : List ℕ) (tokens others : List Token)
         → IsLexed source tokens → IsLexed source others → tokens ≡ others }
     ensures one_fault { (source : List ℕ) (m n : ℕ) → FailsAt source m → FailsAt source n → m ≡ n }
-    ensures one_reason { (source : List ℕ) (r q : Reason) (m n : ℕ) → FailsFor source r m → FailsFor source q n → r ≡ q }
+    ensures one_reason { (source : List ℕ) (r q : LexReason) (m n : ℕ) → FailsFor source r m → FailsFor source q n
+        → r ≡ q }
     ensures lexed_or_fails { (source : List ℕ)
         → ((tokens : List Token) × IsLexed source tokens) ⊎ ((n : ℕ) × FailsAt source n) }
     ensures never_both { (source : List ℕ) (tokens : List Token) (n : ℕ)
@@ -135,7 +173,8 @@ pub fn division_laws()
     ensures ended { (source : List ℕ) (tokens : List Token) → IsLexed source tokens → EndsOnce tokens }
 
     // The tokens' texts and what stands between them make the source again, whole and in order.
-    ensures whole { (source : List ℕ) (tokens : List Token) → IsLexed source tokens → rejoined source 0 tokens ≡ source }
+    ensures whole { (source : List ℕ) (tokens : List Token) → IsLexed source tokens
+        → rejoined source 0 tokens ≡ source }
     ensures in_order { (source : List ℕ) (tokens : List Token) → IsLexed source tokens → InOrder source 0 tokens }
 
     // Each token but the last fits at its place.

@@ -3,13 +3,22 @@
 ghost use Rattle.std.specs.Prelude.{◌≡◌, ◌∷◌, ◌≤◌};
 ghost use Rattle.std.specs.List.{AllPass};
 ghost use Rattle.pas_lexer.specs.Lexis.{digit};
-ghost use Rattle.pas_lexer.specs.Reading.{identifier_at, number_in, number_at, comment_piece, closing, string_at, mark_at, piece_at};
+ghost use Rattle.pas_lexer.specs.Reading.{
+  identifier_at,
+  number_in,
+  number_at,
+  comment_piece,
+  closing,
+  string_at,
+  mark_at,
+  piece_at,
+};
 
 use crate::bytes::{
     begins_with, begins_with_letter, comment_end, digits_length, identifier_length, is_pair,
     is_separator, last_apostrophe, real_goes_on,
 };
-use crate::kinds::{Kind, Reason};
+use crate::kinds::{Kind, LexReason};
 use crate::symbols::symbol_begun;
 use crate::words::word_of;
 
@@ -19,11 +28,11 @@ const MAXINT: u64 = 2_147_483_647;
 /// The first piece: its kind, or none for a separator or a comment, and its length in bytes. The error is
 /// the reason for which no piece fits.
 #[tactic(auto, unfolding(crate::specs::Reading::piece_at))]
-pub fn piece(bytes: &[u8]) -> Result<(Option<Kind>, usize), Reason>
+pub fn piece(bytes: &[u8]) -> Result<(Option<Kind>, usize), LexReason>
     ensures { result ≡ piece_at bytes.now }
 {
     match bytes {
-        [] => Err(Reason::BadByte),
+        [] => Err(LexReason::BadByte),
         [first, rest @ ..] => {
             let c = *first;
             if c.is_ascii_alphabetic() {
@@ -42,7 +51,7 @@ pub fn piece(bytes: &[u8]) -> Result<(Option<Kind>, usize), Reason>
 
 /// The string, the comment or the symbol that stands first.
 #[tactic(auto, unfolding(crate::specs::Reading::mark_at))]
-fn mark(c: u8, bytes: &[u8], rest: &[u8]) -> Result<(Option<Kind>, usize), Reason>
+fn mark(c: u8, bytes: &[u8], rest: &[u8]) -> Result<(Option<Kind>, usize), LexReason>
     requires { bytes.now ≡ c ∷ rest.now }
     ensures { result ≡ mark_at c rest.now }
 {
@@ -56,10 +65,10 @@ fn mark(c: u8, bytes: &[u8], rest: &[u8]) -> Result<(Option<Kind>, usize), Reaso
         return comment(2, &rest[1..]);
     }
     if c == b'/' {
-        return Err(Reason::RealWord);
+        return Err(LexReason::RealWord);
     }
     match symbol_begun(bytes) {
-        None => Err(Reason::BadByte),
+        None => Err(LexReason::BadByte),
         Some(written) => Ok((Some(Kind::Symbol(written.symbol())), written.text().len())),
     }
 }
@@ -79,18 +88,18 @@ fn identifier(bytes: &[u8]) -> (Option<Kind>, usize)
 /// The number that stands first, if it goes on as no real one, no letter follows it, and it is not too
 /// large.
 #[tactic(auto, unfolding(crate::specs::Reading::number_at))]
-fn number(bytes: &[u8]) -> Result<(Option<Kind>, usize), Reason>
+fn number(bytes: &[u8]) -> Result<(Option<Kind>, usize), LexReason>
     ensures { result ≡ number_at bytes.now }
 {
     let n = digits_length(bytes);
     if real_goes_on(&bytes[n..]) {
-        return Err(Reason::RealWord);
+        return Err(LexReason::RealWord);
     }
     if begins_with_letter(&bytes[n..]) {
-        return Err(Reason::Joined);
+        return Err(LexReason::Joined);
     }
     match number_of(&bytes[..n]) {
-        None => Err(Reason::TooLarge),
+        None => Err(LexReason::TooLarge),
         Some(value) => Ok((Some(Kind::Number(value)), n)),
     }
 }
@@ -111,32 +120,32 @@ fn number_of(digits: &[u8]) -> Option<u32>
     Some(value as u32)
 }
 
-/// The comment behind whose opening symbol, of so many bytes, these stand.
-fn comment(opened: usize, behind: &[u8]) -> Result<(Option<Kind>, usize), Reason>
+/// The comment after whose opening symbol, of `opened` bytes, these stand.
+fn comment(opened: usize, after: &[u8]) -> Result<(Option<Kind>, usize), LexReason>
     requires { opened ≤ 2 }
-    ensures { result ≡ comment_piece opened (closing behind.now) }
+    ensures { result ≡ comment_piece opened (closing after.now) }
 {
-    match comment_end(behind) {
-        None => Err(Reason::OpenComment),
+    match comment_end(after) {
+        None => Err(LexReason::OpenComment),
         Some(n) => Ok((None, opened + n)),
     }
 }
 
-/// The string behind whose first apostrophe these stand.
+/// The string after whose first apostrophe these stand.
 #[tactic(auto, unfolding(crate::specs::Reading::string_at))]
-fn string(behind: &[u8]) -> Result<(Option<Kind>, usize), Reason>
-    ensures { result ≡ string_at behind.now }
+fn string(after: &[u8]) -> Result<(Option<Kind>, usize), LexReason>
+    ensures { result ≡ string_at after.now }
 {
-    match last_apostrophe(behind) {
-        None => Err(Reason::OpenString),
+    match last_apostrophe(after) {
+        None => Err(LexReason::OpenString),
         Some(n) => {
             if n > 1 {
                 return Ok((Some(Kind::Text), 1 + n));
             }
-            if begins_with(&behind[1..], b'\'') {
-                return Err(Reason::OpenString);
+            if begins_with(&after[1..], b'\'') {
+                return Err(LexReason::OpenString);
             }
-            Err(Reason::EmptyString)
+            Err(LexReason::EmptyString)
         }
     }
 }

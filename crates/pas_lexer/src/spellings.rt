@@ -24,14 +24,14 @@ fn push_lower_case(spellings: &mut Vec<u8>, text: &[u8]) -> Result<(), AllocErro
     Ok(())
 }
 
-/// Appends the characters of a string, behind whose first apostrophe these bytes stand, clause 6.1.7.
+/// Appends the characters of a string, after whose first apostrophe these bytes stand, clause 6.1.7.
 fn push_characters(spellings: &mut Vec<u8>, text: &[u8]) -> Result<(), AllocError>
     ensures { OnOk result (spellings.new.items ≡ spellings.old.items ++ characters false text.now) }
 {
-    let mut behind = false;
+    let mut pending = false;
     for c in text {
-        behind = *c == b'\'' && !behind;
-        if !behind {
+        pending = *c == b'\'' && !pending;
+        if !pending {
             spellings.push(*c)?;
         }
     }
@@ -46,13 +46,13 @@ fn push_spelling(spellings: &mut Vec<u8>, kind: Kind, text: &[u8]) -> Result<(),
         Kind::Name => push_lower_case(spellings, text),
         Kind::Text => match text {
             [] => Ok(()),
-            [_, behind @ ..] => push_characters(spellings, behind),
+            [_, after @ ..] => push_characters(spellings, after),
         },
         _ => spellings.extend_from_slice(text),
     }
 }
 
-/// The spellings of all tokens, one behind the other, and the place of each.
+/// The spellings of all tokens, one after the other, and the place of each.
 pub fn spell(
     alloc: Global,
     source: &[u8],

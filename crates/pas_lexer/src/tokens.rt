@@ -16,7 +16,7 @@ use std::marker::Model;
 pub struct Tokens {
     source: Vec<u8>,
     tokens: Vec<Token>,
-    /// The spellings of the tokens, one behind the other.
+    /// The spellings of the tokens, one after the other.
     spellings: Vec<u8>,
     /// Where the spelling of each token stands.
     places: Vec<Place>,

@@ -6,7 +6,7 @@ use Rattle.small_program.specs.declared.terminals.Fixed.{Fixed}
 use Rattle.small_program.specs.declared.terminals.Fixed.TheVariants as fixed
 use Rattle.core_program.specs.declared.tables.Row.{Row}
 use Rattle.core_program.specs.declared.tables.Routine.{Routine}
-use Rattle.core_program.specs.Tables.{Tables}
+use Rattle.core_program.specs.ProgramTables.{ProgramTables}
 use Rattle.small_program.specs.declared.names.Names.{Names}
 use Rattle.small_program.specs.declared.names.Scope.{Scope}
 use Rattle.small_program.specs.declared.small.SmallFault.{SmallFault}
@@ -93,13 +93,13 @@ pub record NamesSoFar (ps : List Piece) (whole : Read (List (List ℕ))) (names 
   pub leads : all_further fixed.Comma new_name found (drop at ps) ≡ whole
 
 -- the rows found so far, behind those that were there
-pub record RowsSoFar (k : Known) (ps : List Piece) (whole : Read (List Row)) (old now : Tables) (at : ℕ) : Type 0 where
+pub record RowsSoFar (k : Known) (ps : List Piece) (whole : Read (List Row)) (old now : ProgramTables) (at : ℕ) : Type 0 where
   pub found : List Row
   pub is : now ≡ record old { rows = old.rows ++ found }
   pub leads : all_further fixed.Semicolon (λ _ l. step_at k l) found (drop at ps) ≡ whole
 
 -- the procedures found so far
-pub record ProceduresSoFar (variables : List (List ℕ)) (ps : List Piece) (whole : Read (List Translation)) (old now : Tables) (scope : Scope) (routines : List Routine) (at : ℕ) : Type 0 where
+pub record ProceduresSoFar (variables : List (List ℕ)) (ps : List Piece) (whole : Read (List Translation)) (old now : ProgramTables) (scope : Scope) (routines : List Routine) (at : ℕ) : Type 0 where
   pub found : List Translation
   pub is : now ≡ record old { rows = old.rows ++ all_rows found }
   pub routines_are : routines ≡ routines_from (length old.rows) found
@@ -141,22 +141,22 @@ module _ (ps : List Piece) where
   pub names_end : (whole : Read (List (List ℕ))) (names : Names) (at : ℕ) (s : NamesSoFar ps whole names at) → Skips ps at fixed.Comma None → NamesRead ps names (Ok at) whole
   names_end whole names at s k = (s.found, sym s.leads ∙ is_done fixed.Comma new_name new_shrinks s.found (drop at ps) k.0, s.tabled)
 
-abbrev with_rows : Tables → List Row → Tables
+abbrev with_rows : ProgramTables → List Row → ProgramTables
 with_rows t rows = record t { rows = t.rows ++ rows }
 
 -- rows behind rows
-rows_behind : (t : Tables) (a b : List Row) → with_rows (with_rows t a) b ≡ with_rows t (a ++ b)
+rows_behind : (t : ProgramTables) (a b : List Row) → with_rows (with_rows t a) b ≡ with_rows t (a ++ b)
 rows_behind t a b = ap (λ (rs : List Row). record t { rows = rs }) (append_assoc t.rows a b)
 
-pub grows : (t u : Tables) (rows : List Row) → u ≡ with_rows t rows → length t.rows ≤ length u.rows
-grows t u rows e = omega (arith, ap (λ (v : Tables). length v.rows) e, length-append t.rows rows)
+pub grows : (t u : ProgramTables) (rows : List Row) → u ≡ with_rows t rows → length t.rows ≤ length u.rows
+grows t u rows e = omega (arith, ap (λ (v : ProgramTables). length v.rows) e, length-append t.rows rows)
 
 module _ (ps : List Piece) (k : Known) where
   abbrev step_item : List Row → List Piece → Read Row
   step_item _ l = step_at k l
 
   -- the first step
-  pub rows_begin : (l : List Piece) (r : Row) (old now : Tables) (n : ℕ) → step_at k l ≡ Ok (r, drop n ps) → now ≡ with_rows old (r ∷ []) → RowsSoFar k ps (steps_at k l) old now n
+  pub rows_begin : (l : List Piece) (r : Row) (old now : ProgramTables) (n : ℕ) → step_at k l ≡ Ok (r, drop n ps) → now ≡ with_rows old (r ∷ []) → RowsSoFar k ps (steps_at k l) old now n
   unfolding steps_at
   rows_begin l r old now n e f = record {
     found = r ∷ [];
@@ -164,26 +164,26 @@ module _ (ps : List Piece) (k : Known) where
     leads = sym (ap (λ (s : Read Row). after s (λ x l. all_further fixed.Semicolon step_item (x ∷ []) l)) e);
   }
 
-  pub rows_begin_fails : {X : Type 0} (view : X → Row) (old now : Tables) (l : List Piece) (e : SmallFault) → Gives ps view (Err e) (step_at k l) → RowsRead ps old now (Err e) (steps_at k l)
+  pub rows_begin_fails : {X : Type 0} (view : X → Row) (old now : ProgramTables) (l : List Piece) (e : SmallFault) → Gives ps view (Err e) (step_at k l) → RowsRead ps old now (Err e) (steps_at k l)
   unfolding steps_at
   rows_begin_fails view old now l (Unbuilt i) d = ap (λ (s : Read Row). after s (λ x l. all_further fixed.Semicolon step_item (x ∷ []) l)) d
   rows_begin_fails view old now l Memory d = tt
 
   -- one more step
-  pub rows_more : (whole : Read (List Row)) (old now new : Tables) (at behind n : ℕ) (r : Row) (s : RowsSoFar k ps whole old now at) → Skips ps at fixed.Semicolon (Some behind)
+  pub rows_more : (whole : Read (List Row)) (old now new : ProgramTables) (at behind n : ℕ) (r : Row) (s : RowsSoFar k ps whole old now at) → Skips ps at fixed.Semicolon (Some behind)
       → step_at k (drop behind ps) ≡ Ok (r, drop n ps) → new ≡ with_rows now (r ∷ []) → RowsSoFar k ps whole old new n
   rows_more whole old now new at behind n r s skips d f = record {
     found = s.found ++ r ∷ [];
-    is = f ∙ ap (λ (t : Tables). with_rows t (r ∷ [])) s.is ∙ rows_behind old s.found (r ∷ []);
+    is = f ∙ ap (λ (t : ProgramTables). with_rows t (r ∷ [])) s.is ∙ rows_behind old s.found (r ∷ []);
     leads = sym (goes_on fixed.Semicolon step_item (step_shrinks k) s.found (drop at ps) (drop behind ps) (drop n ps) r skips.0 skips.1 d) ∙ s.leads;
   }
 
-  pub rows_more_fails : {X : Type 0} (view : X → Row) (whole : Read (List Row)) (old now new : Tables) (at behind : ℕ) (e : SmallFault) (s : RowsSoFar k ps whole old now at) → Skips ps at fixed.Semicolon (Some behind)
+  pub rows_more_fails : {X : Type 0} (view : X → Row) (whole : Read (List Row)) (old now new : ProgramTables) (at behind : ℕ) (e : SmallFault) (s : RowsSoFar k ps whole old now at) → Skips ps at fixed.Semicolon (Some behind)
       → Gives ps view (Err e) (step_at k (drop behind ps)) → RowsRead ps old new (Err e) whole
   rows_more_fails view whole old now new at behind (Unbuilt i) s skips d = sym s.leads ∙ ends fixed.Semicolon step_item (step_shrinks k) s.found (drop at ps) (drop behind ps) (drop i ps) skips.0 skips.1 d
   rows_more_fails view whole old now new at behind Memory s skips d = tt
 
-  pub rows_end : (whole : Read (List Row)) (old now : Tables) (at : ℕ) (s : RowsSoFar k ps whole old now at) → Skips ps at fixed.Semicolon None → RowsRead ps old now (Ok at) whole
+  pub rows_end : (whole : Read (List Row)) (old now : ProgramTables) (at : ℕ) (s : RowsSoFar k ps whole old now at) → Skips ps at fixed.Semicolon None → RowsRead ps old now (Ok at) whole
   rows_end whole old now at s skips = (s.found, sym s.leads ∙ is_done fixed.Semicolon step_item (step_shrinks k) s.found (drop at ps) skips.0, s.is)
 
 all_rows_last : (ts : List Translation) (t : Translation) → all_rows (ts ++ t ∷ []) ≡ all_rows ts ++ t.rows
@@ -199,7 +199,7 @@ routines_last first (u ∷ ts) t =
 
 module _ (ps : List Piece) (variables : List (List ℕ)) where
   -- no procedure yet
-  pub procedures_begin : (old : Tables) (scope : Scope) (routines : List Routine) (at : ℕ) → routines ≡ [] → IsScope (known_after variables []) scope
+  pub procedures_begin : (old : ProgramTables) (scope : Scope) (routines : List Routine) (at : ℕ) → routines ≡ [] → IsScope (known_after variables []) scope
       → ProceduresSoFar variables ps (procedures_at variables (drop at ps)) old old scope routines at
   unfolding procedures_at
   procedures_begin old scope routines at none scoped = record {
@@ -211,23 +211,23 @@ module _ (ps : List Piece) (variables : List (List ℕ)) where
   }
 
   -- one more procedure
-  pub procedures_more : (whole : Read (List Translation)) (old now new : Tables) (scope scope' : Scope) (routines more : List Routine) (at behind n : ℕ) (x : Routine)
+  pub procedures_more : (whole : Read (List Translation)) (old now new : ProgramTables) (scope scope' : Scope) (routines more : List Routine) (at behind n : ℕ) (x : Routine)
       (s : ProceduresSoFar variables ps whole old now scope routines at) → Skips ps at fixed.Procedure (Some behind)
       → ((found : List Translation) → IsScope (known_after variables found) scope → ProcedureRead ps variables found now new scope' (Ok (x, n)) (procedure_at variables found (drop behind ps)))
       → more ≡ routines ++ x ∷ [] → ProceduresSoFar variables ps whole old new scope' more n
   procedures_more whole old now new scope scope' routines more at behind n x s skips d grown =
       let y = d s.found s.scoped in
       let t : Translation = y.0 in
-      let lengths : length now.rows ≡ length old.rows + length (all_rows s.found) = ap (λ (u : Tables). length u.rows) s.is ∙ length-append old.rows (all_rows s.found) in
+      let lengths : length now.rows ≡ length old.rows + length (all_rows s.found) = ap (λ (u : ProgramTables). length u.rows) s.is ∙ length-append old.rows (all_rows s.found) in
       record {
         found = s.found ++ t ∷ [];
-        is = y.2 ∙ ap (λ (u : Tables). with_rows u t.rows) s.is ∙ rows_behind old (all_rows s.found) t.rows ∙ ap (with_rows old) (sym (all_rows_last s.found t));
+        is = y.2 ∙ ap (λ (u : ProgramTables). with_rows u t.rows) s.is ∙ rows_behind old (all_rows s.found) t.rows ∙ ap (with_rows old) (sym (all_rows_last s.found t));
         routines_are = grown ∙ (λ i. s.routines_are i ++ (y.3 ∙ ap (λ (f : ℕ). routine t.name f (length t.rows)) lengths) i ∷ []) ∙ sym (routines_last (length old.rows) s.found t);
         scoped = y.4;
         leads = sym (goes_on fixed.Procedure (procedure_at variables) (procedure_shrinks variables) s.found (drop at ps) (drop behind ps) (drop n ps) t skips.0 skips.1 y.1) ∙ s.leads;
       }
 
-  pub procedures_more_fails : (whole : Read (List Translation)) (old now new : Tables) (scope scope' : Scope) (routines : List Routine) (at behind : ℕ) (e : SmallFault)
+  pub procedures_more_fails : (whole : Read (List Translation)) (old now new : ProgramTables) (scope scope' : Scope) (routines : List Routine) (at behind : ℕ) (e : SmallFault)
       (s : ProceduresSoFar variables ps whole old now scope routines at) → Skips ps at fixed.Procedure (Some behind)
       → ((found : List Translation) → IsScope (known_after variables found) scope → ProcedureRead ps variables found now new scope' (Err e) (procedure_at variables found (drop behind ps)))
       → ProceduresRead ps variables old new scope' (Err e) whole
@@ -235,7 +235,7 @@ module _ (ps : List Piece) (variables : List (List ℕ)) where
       sym s.leads ∙ ends fixed.Procedure (procedure_at variables) (procedure_shrinks variables) s.found (drop at ps) (drop behind ps) (drop i ps) skips.0 skips.1 (d s.found s.scoped)
   procedures_more_fails whole old now new scope scope' routines at behind Memory s skips d = tt
 
-  pub procedures_end : (whole : Read (List Translation)) (old now : Tables) (scope : Scope) (routines : Vec Routine Global) (at : ℕ) (s : ProceduresSoFar variables ps whole old now scope routines.items at) → Skips ps at fixed.Procedure None
+  pub procedures_end : (whole : Read (List Translation)) (old now : ProgramTables) (scope : Scope) (routines : Vec Routine Global) (at : ℕ) (s : ProceduresSoFar variables ps whole old now scope routines.items at) → Skips ps at fixed.Procedure None
       → ProceduresRead ps variables old now scope (Ok (routines, at)) whole
   procedures_end whole old now scope routines at s skips =
       (s.found, sym s.leads ∙ is_done fixed.Procedure (procedure_at variables) (procedure_shrinks variables) s.found (drop at ps) skips.0, s.is, s.routines_are, s.scoped)
@@ -244,7 +244,7 @@ known_last : (variables : List (List ℕ)) (found : List Translation) (t : Trans
 known_last variables found t = ap (λ (ns : List (List ℕ)). record { variables = variables; procedures = ns }) (sym (names_last found t))
 
 -- a procedure, by its parts
-pub procedure_read : (ps : List Piece) (variables : List (List ℕ)) (found : List Translation) (old new : Tables) (scope : Scope) (at named colon done end : ℕ) (x : Piece) (rows : List Row) (number first count : ℕ)
+pub procedure_read : (ps : List Piece) (variables : List (List ℕ)) (found : List Translation) (old new : ProgramTables) (scope : Scope) (at named colon done end : ℕ) (x : Piece) (rows : List Row) (number first count : ℕ)
     → IsScope (with_procedure (known_after variables found) x) scope → free_name (known_after variables found) (drop at ps) ≡ Ok (x, drop named ps) → fixed_at fixed.Semicolon (drop named ps) ≡ Ok (tt, drop colon ps)
     → body_at (with_procedure (known_after variables found) x) (drop colon ps) ≡ Ok (rows, drop done ps) → fixed_at fixed.Semicolon (drop done ps) ≡ Ok (tt, drop end ps)
     → new ≡ with_rows old rows → x.number ≡ number → first ≡ length old.rows → count ≡ length new.rows - first
@@ -253,7 +253,7 @@ unfolding procedure_at
 procedure_read ps variables found old new scope at named colon done end x rows number first count scoped a b c d is numbered begins counted =
     let k : Known = with_procedure (known_after variables found) x in
     let t : Translation = translated x rows in
-    let so_many : count ≡ length rows = omega (arith, counted, begins, ap (λ (v : Tables). length v.rows) is, length-append old.rows rows) in (
+    let so_many : count ≡ length rows = omega (arith, counted, begins, ap (λ (v : ProgramTables). length v.rows) is, length-append old.rows rows) in (
       t,
       joined (free_name (known_after variables found) (drop at ps)) (λ p l. after (fixed_at fixed.Semicolon l) (λ _ l. after (body_at (with_procedure (known_after variables found) p) l) (λ rows l. after (fixed_at fixed.Semicolon l) (λ _ l. Ok (translated p rows, l)))))
           x (drop named ps) (Ok (t, drop end ps)) a

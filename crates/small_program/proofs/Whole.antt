@@ -6,7 +6,7 @@ use Rattle.pas_lexer.specs.declared.kinds.Kind.TheVariants.{Word, Symbol}
 use Rattle.pas_lexer.specs.declared.kinds.Word.TheVariants as word
 use Rattle.pas_lexer.specs.declared.kinds.Symbol.TheVariants as symbol
 use Rattle.core_program.specs.declared.tables.Row.{Row}
-use Rattle.core_program.specs.Tables.{Tables}
+use Rattle.core_program.specs.ProgramTables.{ProgramTables}
 use Rattle.small_program.specs.declared.terminals.Fixed.{Fixed}
 use Rattle.small_program.specs.declared.terminals.Fixed.TheVariants as fixed
 use Rattle.small_program.specs.Small.{Piece, Terminal, Quoted, Spelled, This, Step, Body, Procedure, step_places, further_places, name_places, variable_part, body_places, procedure_places, places, spellings, place, Declares, Known, with_procedure, with_procedures, at_first, at_last, Uses, AllUse, BodyUses, IsFree, DeclaresProcedures, Small, IsSmall, row_of, body_rows, Translation, translation, translations, tables_of, program_of, is_fixed}
@@ -521,19 +521,19 @@ heading_again name l rest h =
     joined (fixed_at fixed.Program l) (λ _ l. after (name_at l) (λ _ l. fixed_at fixed.Semicolon l)) tt a.0 (ok tt rest) (fixed_again fixed.Program l a.0 a.1)
     (joined (name_at a.0) (λ _ l. fixed_at fixed.Semicolon l) name b.0 (ok tt rest) (name_again a.0 name b.0 b.1) (fixed_again fixed.Semicolon b.0 rest b.2))
 
-abbrev finish_after : List (List ℕ) → List Translation → List Row → List Piece → Read Tables
+abbrev finish_after : List (List ℕ) → List Translation → List Row → List Piece → Read ProgramTables
 finish_after names ts rows l = after (fixed_at fixed.Dot l) (λ _ l. after (fixed_at fixed.Finish l) (λ _ l. Ok (tables_of (length names) ts rows, l)))
 
-abbrev procedures_after : List (List ℕ) → List Piece → Read Tables
+abbrev procedures_after : List (List ℕ) → List Piece → Read ProgramTables
 procedures_after names l = after (procedures_at names l) (block_at names)
 
-abbrev variables_after : Unit {0} → List Piece → Read Tables
+abbrev variables_after : Unit {0} → List Piece → Read ProgramTables
 variables_after _ l = after (variables_at l) procedures_after
 
 abbrev end_places : List Terminal
 end_places = Quoted fixed.Dot ∷ Quoted fixed.Finish ∷ []
 
-finish_sound : (names : List (List ℕ)) (ts : List Translation) (rows : List Row) (l : List Piece) (t : Tables) (rest : List Piece) → finish_after names ts rows l ≡ Ok (t, rest) → Begins end_places l rest × (t ≡ tables_of (length names) ts rows)
+finish_sound : (names : List (List ℕ)) (ts : List Translation) (rows : List Row) (l : List Piece) (t : ProgramTables) (rest : List Piece) → finish_after names ts rows l ≡ Ok (t, rest) → Begins end_places l rest × (t ≡ tables_of (length names) ts rows)
 finish_sound names ts rows l t rest h =
     let y = parts (fixed_at fixed.Dot l) (λ _ l. after (fixed_at fixed.Finish l) (λ _ l. Ok (tables_of (length names) ts rows, l))) t rest h in
     let z = parts (fixed_at fixed.Finish y.m) (λ _ l. Ok (tables_of (length names) ts rows, l)) t rest y.then' in
@@ -545,19 +545,19 @@ finish_sound names ts rows l t rest h =
 
 finish_again : (names : List (List ℕ)) (ts : List Translation) (rows : List Row) (l rest : List Piece) → Begins end_places l rest → finish_after names ts rows l ≡ Ok (tables_of (length names) ts rows, rest)
 finish_again names ts rows l rest h =
-    let t : Tables = tables_of (length names) ts rows in
+    let t : ProgramTables = tables_of (length names) ts rows in
     let a = begins_split (Quoted fixed.Dot ∷ []) (Quoted fixed.Finish ∷ []) l rest h in
     joined (fixed_at fixed.Dot l) (λ _ l. after (fixed_at fixed.Finish l) (λ _ l. Ok (t, l))) tt a.0 (ok t rest) (fixed_again fixed.Dot l a.0 a.1)
     (joined (fixed_at fixed.Finish a.0) (λ _ l. Ok (t, l)) tt rest (ok t rest) (fixed_again fixed.Finish a.0 rest a.2) refl)
 
 -- the statement part of the program and the end
-record Block (names : List (List ℕ)) (ts : List Translation) (l : List Piece) (t : Tables) (rest : List Piece) : Type 0 where
+record Block (names : List (List ℕ)) (ts : List Translation) (l : List Piece) (t : ProgramTables) (rest : List Piece) : Type 0 where
   body : Body
   begins : Begins (body_places body ++ end_places) l rest
   uses : BodyUses (known_after names ts) body
   tables_are : t ≡ tables_of (length names) ts (body_rows (known_after names ts) body)
 
-block_sound : (names : List (List ℕ)) (ts : List Translation) (l : List Piece) (t : Tables) (rest : List Piece) → block_at names ts l ≡ Ok (t, rest) → Block names ts l t rest
+block_sound : (names : List (List ℕ)) (ts : List Translation) (l : List Piece) (t : ProgramTables) (rest : List Piece) → block_at names ts l ≡ Ok (t, rest) → Block names ts l t rest
 unfolding block_at
 block_sound names ts l t rest h =
     let y = parts (body_at (known_after names ts) l) (finish_after names ts) t rest h in
@@ -584,7 +584,7 @@ spellings_length [] = refl
 spellings_length (x ∷ xs) = omega (arith, spellings_length xs)
 
 -- a small program in front of a rest
-pub record SmallBefore (l : List Piece) (t : Tables) (rest : List Piece) : Type 0 where
+pub record SmallBefore (l : List Piece) (t : ProgramTables) (rest : List Piece) : Type 0 where
   pub small : Small
   pub begins : Begins (places small) l rest
   pub variables : Declares [] small.variables
@@ -599,7 +599,7 @@ program_is s names ts k e f g =
     let n : length names ≡ length s.variables = ap length e ∙ spellings_length s.variables in
     λ i. tables_of (n i) (f i) (body_rows (g i) s.body)
 
-pub small_sound : (l : List Piece) (t : Tables) (rest : List Piece) → small_at l ≡ Ok (t, rest) → SmallBefore l t rest
+pub small_sound : (l : List Piece) (t : ProgramTables) (rest : List Piece) → small_at l ≡ Ok (t, rest) → SmallBefore l t rest
 unfolding small_at
 small_sound l t rest h =
     let y = parts (heading_at l) variables_after t rest h in
@@ -642,11 +642,11 @@ small_again s l rest h vars procs uses =
     (joined (variables_at a.0) procedures_after names b.0 (ok (program_of s) rest) (variables_again s.variables a.0 b.0 b.1 vars no_var)
     (joined (procedures_at names b.0) (block_at names) ts c.0 (ok (program_of s) rest) (procedures_again names s.procedures b.0 c.0 c.1 procs no_procedure)
     (block_again names ts s.body c.0 rest apart c.2 (subst (λ (k : Known). BodyUses k s.body) (sym last) uses)
-    ∙ ap (λ (t : Tables). ok t rest) (program_is s names ts (known_after names ts) refl refl last))))
+    ∙ ap (λ (t : ProgramTables). ok t rest) (program_is s names ts (known_after names ts) refl refl last))))
 
 -- ---- all the tokens
 
-pub whole_small : (l : List Piece) (t : Tables) → small_at l ≡ Ok (t, []) → (s : Small) × IsSmall l s × (t ≡ program_of s)
+pub whole_small : (l : List Piece) (t : ProgramTables) → small_at l ≡ Ok (t, []) → (s : Small) × IsSmall l s × (t ≡ program_of s)
 whole_small l t h =
     let b = small_sound l t [] h in
     (b.small, record { spelled = begins_whole (places b.small) l b.begins; variables = b.variables; procedures = b.procedures; body = b.body }, b.tables_are)

@@ -10,7 +10,7 @@ use Rattle.core_program.specs.declared.tables.Expression.TheVariants as expressi
 use Rattle.core_program.specs.declared.tables.Statement.TheVariants.{Assign, Call}
 use Rattle.core_program.specs.declared.tables.Row.{Row}
 use Rattle.core_program.specs.declared.tables.Routine.{Routine}
-use Rattle.core_program.specs.Tables.{Tables}
+use Rattle.core_program.specs.ProgramTables.{ProgramTables}
 use Rattle.small_program.specs.declared.terminals.Fixed.{Fixed}
 use Rattle.small_program.specs.declared.terminals.Fixed.TheVariants as fixed
 use Rattle.small_program.specs.declared.names.Names.{Names}
@@ -152,10 +152,10 @@ unfoldable pub heading_at : List Piece → Read (Unit {0})
 heading_at l = after (fixed_at fixed.Program l) (λ _ l. after (name_at l) (λ _ l. fixed_at fixed.Semicolon l))
 
 -- the statement part of the program behind these procedures, and the end
-unfoldable pub block_at : List (List ℕ) → List Translation → List Piece → Read Tables
+unfoldable pub block_at : List (List ℕ) → List Translation → List Piece → Read ProgramTables
 block_at names ts l = after (body_at (known_after names ts) l) (λ rows l. after (fixed_at fixed.Dot l) (λ _ l. after (fixed_at fixed.Finish l) (λ _ l. Ok (tables_of (length names) ts rows, l))))
 
-unfoldable pub small_at : List Piece → Read Tables
+unfoldable pub small_at : List Piece → Read ProgramTables
 small_at l = after (heading_at l) (λ _ l. after (variables_at l) (λ names l. after (procedures_at names l) (λ ts l. block_at names ts l)))
 
 -- what stands at a place of the tokens
@@ -198,7 +198,7 @@ VariablesRead ps (Err (Unbuilt i)) r = r ≡ Err (drop i ps)
 VariablesRead ps (Err Memory) r = Unit {0}
 
 -- these rows were read and put behind the others
-abbrev pub RowsRead : List Piece → Tables → Tables → Result ℕ SmallFault → Read (List Row) → Type 0
+abbrev pub RowsRead : List Piece → ProgramTables → ProgramTables → Result ℕ SmallFault → Read (List Row) → Type 0
 RowsRead ps old new (Ok n) r = (rows : List Row) × (r ≡ Ok (rows, drop n ps)) × (new ≡ record old { rows = old.rows ++ rows })
 RowsRead ps old new (Err (Unbuilt i)) r = r ≡ Err (drop i ps)
 RowsRead ps old new (Err Memory) r = Unit {0}
@@ -215,21 +215,21 @@ ProcedureDeclared ps k at scope (Err (Unbuilt i)) r = r ≡ Err (drop i ps)
 ProcedureDeclared ps k at scope (Err Memory) r = Unit {0}
 
 -- a procedure was read: its rows were put behind the others, and its name was declared
-abbrev pub ProcedureRead : List Piece → List (List ℕ) → List Translation → Tables → Tables → Scope → Result (Routine × ℕ) SmallFault → Read Translation → Type 0
+abbrev pub ProcedureRead : List Piece → List (List ℕ) → List Translation → ProgramTables → ProgramTables → Scope → Result (Routine × ℕ) SmallFault → Read Translation → Type 0
 ProcedureRead ps variables found old new scope (Ok x) r = (t : Translation) × (r ≡ Ok (t, drop x.1 ps)) × (new ≡ record old { rows = old.rows ++ t.rows })
     × (x.0 ≡ routine t.name (length old.rows) (length t.rows)) × IsScope (known_after variables (found ++ t ∷ [])) scope
 ProcedureRead ps variables found old new scope (Err (Unbuilt i)) r = r ≡ Err (drop i ps)
 ProcedureRead ps variables found old new scope (Err Memory) r = Unit {0}
 
 -- these procedures were read
-abbrev pub ProceduresRead : List Piece → List (List ℕ) → Tables → Tables → Scope → Result (Vec Routine Global × ℕ) SmallFault → Read (List Translation) → Type 0
+abbrev pub ProceduresRead : List Piece → List (List ℕ) → ProgramTables → ProgramTables → Scope → Result (Vec Routine Global × ℕ) SmallFault → Read (List Translation) → Type 0
 ProceduresRead ps variables old new scope (Ok x) r = (ts : List Translation) × (r ≡ Ok (ts, drop x.1 ps)) × (new ≡ record old { rows = old.rows ++ all_rows ts })
     × (x.0.items ≡ routines_from (length old.rows) ts) × IsScope (known_after variables ts) scope
 ProceduresRead ps variables old new scope (Err (Unbuilt i)) r = r ≡ Err (drop i ps)
 ProceduresRead ps variables old new scope (Err Memory) r = Unit {0}
 
 -- the tables are those read
-abbrev pub TablesRead : List Piece → Tables → Result ℕ SmallFault → Read Tables → Type 0
+abbrev pub TablesRead : List Piece → ProgramTables → Result ℕ SmallFault → Read ProgramTables → Type 0
 TablesRead ps new (Ok n) r = r ≡ Ok (new, drop n ps)
 TablesRead ps new (Err (Unbuilt i)) r = r ≡ Err (drop i ps)
 TablesRead ps new (Err Memory) r = Unit {0}
@@ -240,7 +240,7 @@ RefusedThere lexed (Unbuilt i) = EndsOnce lexed.tokens → (i < length lexed.tok
 RefusedThere lexed Memory = Unit {0}
 
 -- the answer is this program, or that memory ran out
-abbrev pub IsThat : Tables → Result Tables SmallFault → Type 0
+abbrev pub IsThat : ProgramTables → Result ProgramTables SmallFault → Type 0
 IsThat t (Ok p) = p ≡ t
 IsThat t (Err (Unbuilt i)) = ⊥
 IsThat t (Err Memory) = Unit {0}

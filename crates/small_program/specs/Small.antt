@@ -18,7 +18,7 @@ use Rattle.core_program.specs.declared.tables.Expression.TheVariants as expressi
 use Rattle.core_program.specs.declared.tables.Statement.TheVariants.{Assign, Call}
 use Rattle.core_program.specs.declared.tables.Row.{Row}
 use Rattle.core_program.specs.declared.tables.Routine.{Routine}
-use Rattle.core_program.specs.Tables.{Tables}
+use Rattle.core_program.specs.ProgramTables.{ProgramTables}
 use Rattle.small_program.specs.declared.terminals.Fixed.{Fixed}
 use Rattle.small_program.specs.declared.terminals.Fixed.TheVariants as fixed
 
@@ -291,11 +291,11 @@ abbrev pub block : ℕ → ℕ → ℕ → Routine
 block variables first count = record { name = 1; cells = 1 + variables; first = first; count = count }
 
 -- the rows of the procedures stand in front of those of the program block, which is routine 0
-abbrev pub tables_of : ℕ → List Translation → List Row → Tables
+abbrev pub tables_of : ℕ → List Translation → List Row → ProgramTables
 tables_of variables ts rows = record {
   rows = all_rows ts ++ rows;
   routines = block variables (length (all_rows ts)) (length rows) ∷ routines_from 0 ts;
 }
 
-abbrev pub program_of : Small → Tables
+abbrev pub program_of : Small → ProgramTables
 program_of s = tables_of (length s.variables) (translations (at_first s) s.procedures) (body_rows (at_last s) s.body)

@@ -1,4 +1,5 @@
 //! The variables that a program declares.
+
 ghost use Rattle.std.specs.Prelude.{◌≡◌, ◌+◌, ◌++◌, ◌∷◌, ℕ, List, [], OnOk, OnErr, Some, None};
 ghost use Rattle.small_program.specs.Small.{place};
 ghost use Rattle.small_program.specs.Names.{Tabled};

@@ -1,4 +1,5 @@
 //! The required names.
+
 ghost use Rattle.std.specs.Prelude.{◌≡◌, map};
 ghost use Rattle.small_program.specs.Small.{is_among, is_required, required_types, required_constants, required_functions, required_procedures, required_files};
 

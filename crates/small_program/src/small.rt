@@ -1,4 +1,5 @@
 //! The parser of small programs.
+
 ghost use Rattle.std.specs.Prelude.{◌≡◌, ◌+◌, ◌≤◌, ◌<◌, ℕ, List, [], ◌++◌, ◌∷◌, drop, length, IfOk, IfErr, OnOk, IsTrue, MatchResult, Some, slice_get};
 ghost use Rattle.pas_lexer.specs.Lexed.{Lexed};
 ghost use Rattle.small_program.specs.declared.terminals.Fixed.TheVariants as fixed;

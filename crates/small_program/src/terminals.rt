@@ -1,4 +1,5 @@
 //! The tokens that the grammar of small programs writes in quotes.
+
 ghost use Rattle.std.specs.Prelude.{◌≡◌};
 ghost use Rattle.small_program.specs.Small.{is_fixed};
 

@@ -1,6 +1,6 @@
 pub mod BestSoFar
-pub mod FlagLemmas
-pub mod LaneLemmas
-pub mod LeastLemmas
-pub mod MarkLemmas
-pub mod UniqueLemmas
+pub mod LastPartIsZero
+pub mod LanesOfOperations
+pub mod LeastBelowBound
+pub mod MaskMarksPlaces
+pub mod AnswersAreUnique

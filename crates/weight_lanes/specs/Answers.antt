@@ -9,7 +9,8 @@ pub record IsBest (weights askable : List ℕ) (total : ℕ) (answer : Option Ch
   pub at_askable : IfSome answer (λ choice. IsSet askable choice.at)
   pub left : IfSome answer (λ choice. choice.left ≡ left_at weights total choice.at)
   pub least : IfSome answer (λ choice. (place : ℕ) → IsSet askable place → choice.left ≤ left_at weights total place)
-  pub first : IfSome answer (λ choice. (place : ℕ) → place < choice.at → IsSet askable place → left_at weights total place ≢ choice.left)
+  pub first : IfSome answer (λ choice. (place : ℕ) → place < choice.at → IsSet askable place
+      → left_at weights total place ≢ choice.left)
 
 -- the least place of at least `from` that holds the value
 pub record IsNext (column : List ℕ) (from value : ℕ) (answer : Option ℕ) : Type 0 where

@@ -12,7 +12,8 @@ pub record IsSet (flags : List ℕ) (place : ℕ) : Type 0 where
   pub nonzero : slice_index flags place ≢ 0
 
 -- Of `total` suspects, of which `weight` stand in the subtree of a call, the worse of the two answers on that call
--- leaves so many: `wrong` leaves those of the subtree but the call itself, `right` leaves those outside it. It is this
+-- leaves this many: `wrong` leaves those of the subtree but the call itself, `right` leaves those outside it. It is
+-- this
 -- project's measure for divide and query (Shapiro, "Algorithmic Program Debugging", 1983).
 abbrev pub left_of : ℕ → ℕ → ℕ
 left_of total weight = max (weight - 1) (total - weight)

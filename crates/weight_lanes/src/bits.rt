@@ -1,7 +1,9 @@
 //! The lowest and the highest bit of a mask.
+
 ghost use Rattle.std.specs.Prelude.{◌≡◌, ◌≢◌, ℕ, ◌<◌};
 ghost use Rattle.std.specs.Int.{bit_at};
 
+/// The place of the lowest bit that is set.
 #[inline(always)]
 pub(crate) fn lowest(mask: u64) -> usize
     requires { mask ≢ 0 }
@@ -12,6 +14,7 @@ pub(crate) fn lowest(mask: u64) -> usize
     mask.trailing_zeros() as usize
 }
 
+/// The place of the highest bit that is set.
 #[inline(always)]
 pub(crate) fn highest(mask: u64) -> usize
     requires { mask ≢ 0 }

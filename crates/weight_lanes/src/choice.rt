@@ -1,11 +1,14 @@
 //! A choice of a place, and the number by which places are compared.
+
 ghost use Rattle.std.specs.Prelude.{◌≡◌, ◌≤◌, MatchOption, nat_le, if◌then◌else◌};
 ghost use Rattle.weight_lanes.specs.Places.{left_of};
 
 /// A place, and how many suspects the worse answer on the call there leaves.
 #[derive(Clone, Copy, Debug, PartialEq, Eq)]
 pub struct Choice {
+    /// How many suspects the worse answer leaves.
     pub left: u32,
+    /// The place.
     pub at: usize,
 }
 

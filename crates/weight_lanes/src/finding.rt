@@ -1,4 +1,5 @@
 //! The next place that holds a value, and the last place whose flag is set.
+
 ghost use Rattle.std.specs.Prelude.{◌≡◌, ℕ, ◌≤◌, ◌↔◌, All, IsNone, IfSome};
 ghost use Rattle.weight_lanes.specs.Places.{Holds, IsSet};
 

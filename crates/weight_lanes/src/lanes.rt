@@ -1,4 +1,5 @@
 //! One block of a column as a vector.
+
 ghost use Rattle.std.specs.Prelude.{◌≡◌, ◌≢◌, ◌+◌, ◌-◌, ◌%◌, ◌≤◌, ◌==◌, if◌then◌else◌, max, min, length, slice_index};
 ghost use Rattle.weight_lanes.specs.Lanes.{HasLanes, HasNumber, Marks, number_at};
 ghost use Rattle.weight_lanes.specs.Places.{AreWeighed};

@@ -1,4 +1,5 @@
 //! Each search and its plain loop give one answer.
+
 ghost use Rattle.std.specs.Prelude.{◌≡◌, length};
 ghost use Rattle.weight_lanes.specs.Answers.{IsBest, IsLast, IsNext};
 ghost use Rattle.weight_lanes.specs.Places.{AreWeighed};

@@ -9,7 +9,7 @@ mod choice;
 mod choosing;
 mod finding;
 mod lanes;
-mod laws;
+pub mod laws;
 pub mod plain;
 
 pub use choice::Choice;

@@ -1,4 +1,5 @@
 //! The searches as plain loops.
+
 ghost use Rattle.std.specs.Prelude.{◌≡◌, ◌≢◌, ℕ, ◌<◌, ◌≤◌, ◌↔◌, All, IsNone, IfSome, length};
 ghost use Rattle.weight_lanes.specs.Places.{AreWeighed, Holds, IsSet, left_at};
 

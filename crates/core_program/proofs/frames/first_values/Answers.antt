@@ -1,6 +1,6 @@
 use Rattle.std.proofs.Common.{◌∙◌, ◌-◌, arith, ap}
 use Rattle.std.proofs.Math.ListN.{set}
-use Rattle.core_program.proofs.FrameCells.{first_cells}
+use Rattle.core_program.proofs.FramesByCell.{first_cells}
 use Rattle.core_program.proofs.frames.first_values.Goals as goal
 
 pub returns : goal.returns

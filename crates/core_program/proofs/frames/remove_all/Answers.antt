@@ -1,6 +1,6 @@
 use Rattle.std.proofs.Common.{◌∙◌, ◌+◌, ◌-◌, arith, sym, ap}
 use Rattle.core_program.specs.Run.{unframed}
-use Rattle.core_program.proofs.FrameCells.{unframed_more}
+use Rattle.core_program.proofs.FramesByCell.{unframed_more}
 use Rattle.core_program.proofs.frames.remove_all.Goals as goal
 
 pub loop-i-preserved : goal.loop-i-preserved

@@ -1,4 +1,4 @@
-use Rattle.core_program.proofs.Whole.{has_call}
+use Rattle.core_program.proofs.RunAtAnyDepth.{has_call}
 use Rattle.core_program.proofs.laws.every_run_has_a_call.Goals as goal
 
 pub returns : goal.returns

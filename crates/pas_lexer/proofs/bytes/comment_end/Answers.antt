@@ -2,12 +2,14 @@ use Rattle.std.proofs.Common.{◌∙◌, ◌+◌, nat_eq, get_or, sym, ap, arith
 use Rattle.std.specs.Prelude.{◌&&◌}
 use Rattle.pas_lexer.specs.Lexis.{next_is}
 use Rattle.pas_lexer.specs.Reading.{closing}
-use Rattle.pas_lexer.proofs.Runs.{rest_is}
-use Rattle.pas_lexer.proofs.Steps.{comment_goes_on}
+use Rattle.pas_lexer.proofs.LongestRun.{rest_is}
+use Rattle.pas_lexer.proofs.OneByteFurther.{comment_goes_on}
 use Rattle.pas_lexer.proofs.bytes.comment_end.Goals as goal
 
 pub body-preserved : goal.body-preserved
 body-preserved c = record {
-  so_far = comment_goes_on c.args.bytes.now c.body.at (closing c.args.bytes.now) c.body-test.true c.if-bytes-at-eq125.false (ap (λ l. nat_eq (get_or c.args.bytes.now c.body.at 0) 42 && next_is 41 l) (sym (rest_is c.args.bytes.now (c.body.at + 1))) ∙ sym c.is_pair.ensures.pair ∙ c.if-is_pair.false) c.body.invariant.so_far;
+  so_far = comment_goes_on c.args.bytes.now c.body.at (closing c.args.bytes.now) c.body-test.true c.if-bytes-at-eq125.false
+      (ap (λ l. nat_eq (get_or c.args.bytes.now c.body.at 0) 42 && next_is 41 l) (sym (rest_is c.args.bytes.now (c.body.at + 1))) ∙ sym c.is_pair.ensures.pair
+      ∙ c.if-is_pair.false) c.body.invariant.so_far;
   inside = omega arith;
 }

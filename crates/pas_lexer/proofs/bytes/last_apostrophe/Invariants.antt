@@ -1,10 +1,10 @@
 use Rattle.std.proofs.Common.{◌≡◌, ◌<◌, ◌≤◌, length, false, IfSome}
 use Rattle.pas_lexer.specs.Reading.{string_end}
-use Rattle.pas_lexer.proofs.Steps.{last_from}
+use Rattle.pas_lexer.proofs.OneByteFurther.{last_from}
 use Rattle.pas_lexer.proofs.bytes.last_apostrophe.Given as goal
 
 abbrev pub invariant-characters : goal.invariant-characters
 invariant-characters l = record {
-  so_far : last_from l.bytes l.n l.behind l.last ≡ string_end false l.bytes;
+  so_far : last_from l.bytes l.n l.pending l.last ≡ string_end false l.bytes;
   inside : IfSome l.last (λ m. (0 < m) × (m ≤ length l.bytes));
 }

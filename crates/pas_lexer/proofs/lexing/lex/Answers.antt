@@ -1,7 +1,7 @@
 use Rattle.std.proofs.Common.{Err, ap, ◌∙◌}
 use Rattle.std.proofs.lemmas.Result.{err_from_is_err_and}
 use Rattle.pas_lexer.specs.Lexed.{Lexed}
-use Rattle.pas_lexer.proofs.Divided.{only, refused, placed, ended, same_tokens, never_for}
+use Rattle.pas_lexer.proofs.OneDivision.{only, refused, placed, ended, same_tokens, never_for}
 use Rattle.pas_lexer.proofs.lexing.lex.Goals as goal
 
 pub new-requires-clause-placed : goal.new-requires-clause-placed
@@ -21,7 +21,8 @@ returns-in_err-tokens-clause-refused c =
     rw (p.1, p.2) (refused c.args.bytes.now (Err c.in_err-tokens.field-0.0) tt c.in_err-tokens.ensures.fault)
 
 pub returns-clause-only : goal.returns-clause-only
-returns-clause-only c = λ tokens is. ap (λ (t : Lexed). t.tokens) c.in_ok-new.ensures ∙ same_tokens c.args.bytes.now c.in_ok-tokens.tokens.items tokens c.in_ok-tokens.ensures.found is
+returns-clause-only c = λ tokens is. ap (λ (t : Lexed). t.tokens) c.in_ok-new.ensures
+    ∙ same_tokens c.args.bytes.now c.in_ok-tokens.tokens.items tokens c.in_ok-tokens.ensures.found is
 
 pub returns-clause-refused : goal.returns-clause-refused
 returns-clause-refused c = λ r n fails. never_for c.args.bytes.now c.in_ok-tokens.tokens.items r n c.in_ok-tokens.ensures.found fails

@@ -1,7 +1,7 @@
 use Rattle.std.proofs.Common.{◌∙◌, ap}
 use Rattle.pas_lexer.specs.Reading.{piece_at}
-use Rattle.pas_lexer.proofs.Runs.{rest_is}
-use Rattle.pas_lexer.proofs.Divided.{inside}
+use Rattle.pas_lexer.proofs.LongestRun.{rest_is}
+use Rattle.pas_lexer.proofs.OneDivision.{inside}
 use Rattle.pas_lexer.proofs.lexing.piece_from.Goals as goal
 
 pub returns-clause-gives : goal.returns-clause-gives

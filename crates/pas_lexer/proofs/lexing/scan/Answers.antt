@@ -1,6 +1,6 @@
 use Rattle.std.proofs.Common.{◌∙◌, ◌+◌, ◌++◌, ◌≤◌, length, sym, ap, subst}
 use Rattle.pas_lexer.specs.Division.{token_of, IsFault}
-use Rattle.pas_lexer.proofs.Divided.{SoFar, goes_on, fails, fault_is, few_more, line_more}
+use Rattle.pas_lexer.proofs.OneDivision.{SoFar, goes_on, fails, fault_is, few_more, line_more}
 use Rattle.pas_lexer.proofs.lexing.scan.Goals as goal
 
 pub returns-in-Err-clause-fault : goal.returns-in-Err-clause-fault
@@ -13,8 +13,13 @@ pub pieces-preserved : goal.pieces-preserved
 pieces-preserved c =
     let pushed = c.in_ok-push_piece.ensures.pushed in
     record {
-      so_far = subst (SoFar c.args.bytes.now (c.pieces.at + c.in-Ok.piece.1)) (ap (λ line. c.pieces.tokens.items ++ token_of c.pieces.at (c.pieces.at + c.in-Ok.piece.1) line c.in-Ok.piece.0) (sym c.pieces.invariant.line_is) ∙ sym pushed) (goes_on c.args.bytes.now c.pieces.at c.in-Ok.piece.1 c.pieces.tokens.items c.in-Ok.piece.0 c.pieces.invariant.so_far (sym c.in-Ok.ensures.gives));
+      so_far = subst (SoFar c.args.bytes.now (c.pieces.at + c.in-Ok.piece.1)) (ap
+          (λ line. c.pieces.tokens.items ++ token_of c.pieces.at (c.pieces.at + c.in-Ok.piece.1) line c.in-Ok.piece.0) (sym c.pieces.invariant.line_is)
+          ∙ sym pushed) (goes_on c.args.bytes.now c.pieces.at c.in-Ok.piece.1 c.pieces.tokens.items c.in-Ok.piece.0 c.pieces.invariant.so_far
+          (sym c.in-Ok.ensures.gives));
       inside = c.in-Ok.ensures.inside.1;
-      line_is = line_more c.args.bytes.now c.pieces.at c.in-Ok.piece.1 c.pieces.line c.line_feeds-line.result c.pieces.invariant.line_is c.line_feeds-line.ensures.count;
-      few = subst (λ ts. length ts ≤ c.pieces.at + c.in-Ok.piece.1) (sym pushed) (few_more c.pieces.tokens.items c.pieces.at c.in-Ok.piece.1 c.pieces.line c.in-Ok.piece.0 c.pieces.invariant.few c.in-Ok.ensures.inside.0);
+      line_is = line_more c.args.bytes.now c.pieces.at c.in-Ok.piece.1 c.pieces.line c.line_feeds-line.result c.pieces.invariant.line_is
+          c.line_feeds-line.ensures.count;
+      few = subst (λ ts. length ts ≤ c.pieces.at + c.in-Ok.piece.1) (sym pushed)
+          (few_more c.pieces.tokens.items c.pieces.at c.in-Ok.piece.1 c.pieces.line c.in-Ok.piece.0 c.pieces.invariant.few c.in-Ok.ensures.inside.0);
     }

@@ -1,6 +1,6 @@
 use Rattle.std.proofs.Common.{◌≡◌, ◌≤◌, ◌-◌, length}
 use Rattle.pas_lexer.specs.Division.{line_at}
-use Rattle.pas_lexer.proofs.Divided.{SoFar}
+use Rattle.pas_lexer.proofs.OneDivision.{SoFar}
 use Rattle.pas_lexer.proofs.lexing.scan.Given as goal
 
 abbrev pub invariant-pieces : goal.invariant-pieces

@@ -1,7 +1,7 @@
 use Rattle.std.proofs.Common.{subst, sym, take}
 use Rattle.std.specs.List.{AllPass}
 use Rattle.pas_lexer.specs.Lexis.{digit}
-use Rattle.pas_lexer.proofs.Runs.{run_passes}
+use Rattle.pas_lexer.proofs.LongestRun.{run_passes}
 use Rattle.pas_lexer.proofs.piece.number.Goals as goal
 
 pub number_of-requires : goal.number_of-requires

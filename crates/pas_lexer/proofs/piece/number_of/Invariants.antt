@@ -1,6 +1,6 @@
 use Rattle.std.proofs.Common.{◌≡◌, ◌≤◌, drop}
 use Rattle.pas_lexer.specs.Lexis.{decimal, maxint}
-use Rattle.pas_lexer.proofs.Decimals.{then_digits}
+use Rattle.pas_lexer.proofs.DecimalByDigit.{then_digits}
 use Rattle.pas_lexer.proofs.piece.number_of.Given as goal
 
 abbrev pub invariant-loop-c : goal.invariant-loop-c

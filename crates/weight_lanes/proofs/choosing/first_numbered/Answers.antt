@@ -1,6 +1,6 @@
 use Rattle.std.proofs.Common.{◌≡◌, ℕ, ◌+◌, refl, arith}
 use Rattle.weight_lanes.specs.Lanes.{number_at}
-use Rattle.weight_lanes.proofs.MarkLemmas.{NoneIn-join, none_marked, none_before}
+use Rattle.weight_lanes.proofs.MaskMarksPlaces.{NoneIn-join, none_marked, none_before}
 use Rattle.weight_lanes.proofs.choosing.first_numbered.Goals as goal
 
 pub returns-then-hits-ne0-clause-first : goal.returns-then-hits-ne0-clause-first
@@ -13,7 +13,8 @@ returns-then-hits-ne0-clause-first c =
     record {
       inside = omega arith;
       holds = marks.holds lane c.lowest.ensures.set;
-      before = NoneIn-join Q 0 at (at + lane) c.search.invariant.none (none_before Q at 16 c.numbered_at-hits.result lane marks c.lowest.ensures.set c.lowest.ensures.below);
+      before = NoneIn-join Q 0 at (at + lane) c.search.invariant.none (none_before Q at 16 c.numbered_at-hits.result lane marks c.lowest.ensures.set
+          c.lowest.ensures.below);
     }
 
 pub search-preserved : goal.search-preserved
@@ -22,5 +23,6 @@ search-preserved c =
     let Q : ℕ → Type 0 = λ place. number_at c.args.weights.now c.args.askable.now c.args.total place ≡ c.args.sought in
     record {
       high = omega arith;
-      none = NoneIn-join Q 0 at (at + 16) c.search.invariant.none (none_marked Q at (at + 16) 16 c.numbered_at-hits.result refl c.numbered_at-hits.ensures c.if-hits-ne0.false);
+      none = NoneIn-join Q 0 at (at + 16) c.search.invariant.none (none_marked Q at (at + 16) 16 c.numbered_at-hits.result refl c.numbered_at-hits.ensures
+          c.if-hits-ne0.false);
     }

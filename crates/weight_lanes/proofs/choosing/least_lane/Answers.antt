@@ -1,5 +1,5 @@
 use Rattle.std.proofs.Common.{get_or, refl}
-use Rattle.weight_lanes.proofs.LeastLemmas.{IsLeast-more}
+use Rattle.weight_lanes.proofs.LeastBelowBound.{IsLeast-more}
 use Rattle.weight_lanes.proofs.choosing.least_lane.Goals as goal
 
 pub loop-number-preserved : goal.loop-number-preserved

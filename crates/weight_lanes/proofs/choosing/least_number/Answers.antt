@@ -1,6 +1,6 @@
 use Rattle.std.proofs.Common.{arith}
 use Rattle.weight_lanes.specs.Lanes.{number_at}
-use Rattle.weight_lanes.proofs.LeastLemmas.{HasLeast-more, IsLeast-lanes}
+use Rattle.weight_lanes.proofs.LeastBelowBound.{HasLeast-more, IsLeast-lanes}
 use Rattle.weight_lanes.proofs.choosing.least_number.Goals as goal
 
 pub search-preserved : goal.search-preserved
@@ -12,4 +12,5 @@ search-preserved c = record {
 
 pub least_of_rest-requires-clause-before : goal.least_of_rest-requires-clause-before
 least_of_rest-requires-clause-before c =
-    IsLeast-lanes (number_at c.args.weights.now c.args.askable.now c.args.total) c.search.seen c.least_lane-least.result c.search.lanes c.search.invariant.least c.least_lane-least.ensures
+    IsLeast-lanes (number_at c.args.weights.now c.args.askable.now c.args.total) c.search.seen c.least_lane-least.result c.search.lanes c.search.invariant.least
+    c.least_lane-least.ensures

@@ -1,6 +1,6 @@
 use Rattle.std.proofs.Common.{◌-◌, ◌≤◌, length}
 use Rattle.weight_lanes.specs.Lanes.{number_at}
-use Rattle.weight_lanes.proofs.LeastLemmas.{HasLeast}
+use Rattle.weight_lanes.proofs.LeastBelowBound.{HasLeast}
 use Rattle.weight_lanes.proofs.choosing.least_number.Given as goal
 
 abbrev pub invariant-search : goal.invariant-search

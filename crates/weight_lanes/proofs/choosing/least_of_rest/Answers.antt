@@ -1,5 +1,5 @@
 use Rattle.weight_lanes.specs.Lanes.{number_at}
-use Rattle.weight_lanes.proofs.LeastLemmas.{IsLeast-more}
+use Rattle.weight_lanes.proofs.LeastBelowBound.{IsLeast-more}
 use Rattle.weight_lanes.proofs.choosing.least_of_rest.Goals as goal
 
 pub loop-place-preserved : goal.loop-place-preserved

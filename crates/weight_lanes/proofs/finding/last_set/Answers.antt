@@ -1,7 +1,7 @@
 use Rattle.std.proofs.Common.{◌≢◌, ℕ, ◌+◌, ◌-◌, length, get_or, arith, ⊎_elim}
 use Rattle.std.proofs.lemmas.Bool.{cases_lt}
-use Rattle.weight_lanes.proofs.FlagLemmas.{none_set, greatest_set}
-use Rattle.weight_lanes.proofs.MarkLemmas.{NoneIn-join, none_marked, none_after}
+use Rattle.weight_lanes.proofs.LastPartIsZero.{none_set, greatest_set}
+use Rattle.weight_lanes.proofs.MaskMarksPlaces.{NoneIn-join, none_marked, none_after}
 use Rattle.weight_lanes.proofs.finding.last_set.Goals as goal
 
 pub returns-then-hits-ne0-clause-greatest : goal.returns-then-hits-ne0-clause-greatest
@@ -23,11 +23,13 @@ search-preserved c =
     let Q : ℕ → Type 0 = λ place. get_or flags place 0 ≢ 0 in
     record {
       high = omega arith;
-      none = NoneIn-join Q at end (length flags) (none_marked Q at end 32 c.set_at-hits.result (omega arith) c.set_at-hits.ensures c.if-hits-ne0.false) c.search.invariant.none;
+      none = NoneIn-join Q at end (length flags) (none_marked Q at end 32 c.set_at-hits.result (omega arith) c.set_at-hits.ensures c.if-hits-ne0.false)
+          c.search.invariant.none;
     }
 
 pub returns-clause-none : goal.returns-clause-none
 returns-clause-none c = none_set c.args.flags.now c.search.end c.last_set.result c.search.invariant.high c.search.invariant.none c.last_set.ensures.none
 
 pub returns-clause-greatest : goal.returns-clause-greatest
-returns-clause-greatest c = greatest_set c.args.flags.now c.search.end c.last_set.result c.search.invariant.high c.search.invariant.none c.last_set.ensures.greatest
+returns-clause-greatest c = greatest_set c.args.flags.now c.search.end c.last_set.result c.search.invariant.high c.search.invariant.none
+    c.last_set.ensures.greatest

@@ -1,6 +1,6 @@
 use Rattle.std.proofs.Common.{◌≡◌, ℕ, ◌+◌, get_or, refl, arith, ⊎_elim}
 use Rattle.std.proofs.lemmas.Bool.{cases_lt}
-use Rattle.weight_lanes.proofs.MarkLemmas.{NoneIn-join, none_marked, none_before}
+use Rattle.weight_lanes.proofs.MaskMarksPlaces.{NoneIn-join, none_marked, none_before}
 use Rattle.weight_lanes.proofs.finding.next_of.Goals as goal
 
 pub returns-then-hits-ne0-clause-least : goal.returns-then-hits-ne0-clause-least
@@ -19,5 +19,6 @@ search-preserved c =
     record {
       low = omega arith;
       high = omega arith;
-      none = NoneIn-join Q c.args.from at (at + 16) c.search.invariant.none (none_marked Q at (at + 16) 16 c.equal_at-hits.result refl c.equal_at-hits.ensures c.if-hits-ne0.false);
+      none = NoneIn-join Q c.args.from at (at + 16) c.search.invariant.none (none_marked Q at (at + 16) 16 c.equal_at-hits.result refl c.equal_at-hits.ensures
+          c.if-hits-ne0.false);
     }

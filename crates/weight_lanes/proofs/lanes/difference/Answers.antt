@@ -1,5 +1,5 @@
 use Rattle.std.proofs.Common.{◌+◌, ◌-◌, ◌%◌}
-use Rattle.weight_lanes.proofs.LaneLemmas.{HasLanes-zip2}
+use Rattle.weight_lanes.proofs.LanesOfOperations.{HasLanes-zip2}
 use Rattle.weight_lanes.proofs.lanes.difference.Goals as goal
 
 pub returns : goal.returns

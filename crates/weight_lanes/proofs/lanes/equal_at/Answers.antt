@@ -3,7 +3,7 @@ use Rattle.std.specs.Simd.Lanes.{chunk}
 use Rattle.std.proofs.lemmas.Bool.{eqb-true}
 use Rattle.std.proofs.lemmas.Simd.{length-chunk, get_or-chunk, bitmask_splat}
 use Rattle.weight_lanes.specs.Lanes.{Marks}
-use Rattle.weight_lanes.proofs.MarkLemmas.{Marks-mask_l}
+use Rattle.weight_lanes.proofs.MaskMarksPlaces.{Marks-mask_l}
 use Rattle.weight_lanes.proofs.lanes.equal_at.Goals as goal
 
 pub returns : goal.returns

@@ -1,11 +1,12 @@
 use Rattle.std.proofs.Common.{cond, ltb, get_or, max}
-use Rattle.weight_lanes.proofs.LaneLemmas.{HasLanes-select, HasLanes-along, larger_is_max}
+use Rattle.weight_lanes.proofs.LanesOfOperations.{HasLanes-select, HasLanes-along, larger_is_max}
 use Rattle.weight_lanes.proofs.lanes.larger.Goals as goal
 
 pub returns : goal.returns
 returns c =
     let a = c.args.a in
     let b = c.args.b in
-    HasLanes-along (λ lane. cond (ltb (get_or a lane 0) (get_or b lane 0)) (get_or b lane 0) (get_or a lane 0)) (λ lane. max (get_or a lane 0) (get_or b lane 0)) _
+    HasLanes-along (λ lane. cond (ltb (get_or a lane 0) (get_or b lane 0)) (get_or b lane 0) (get_or a lane 0))
+    (λ lane. max (get_or a lane 0) (get_or b lane 0)) _
     (λ lane l. larger_is_max (get_or a lane 0) (get_or b lane 0))
     (HasLanes-select ltb a b b a c.fits-a.0 c.fits-b.0 c.fits-b.0 c.fits-a.0)

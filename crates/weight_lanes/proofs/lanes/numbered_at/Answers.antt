@@ -2,7 +2,7 @@ use Rattle.std.proofs.Common.{◌≡◌, ◌+◌, eqb, eq-eqb, get_or, sym, subs
 use Rattle.std.proofs.lemmas.Bool.{eqb-true}
 use Rattle.std.proofs.lemmas.Simd.{bitmask_splat}
 use Rattle.weight_lanes.specs.Lanes.{Marks, number_at}
-use Rattle.weight_lanes.proofs.MarkLemmas.{Marks-mask_l}
+use Rattle.weight_lanes.proofs.MaskMarksPlaces.{Marks-mask_l}
 use Rattle.weight_lanes.proofs.lanes.numbered_at.Goals as goal
 
 pub returns : goal.returns

@@ -2,7 +2,7 @@ use Rattle.std.proofs.Common.{◌≢◌, ◌+◌, get_or, sym, subst, ◌∙◌,
 use Rattle.std.specs.Simd.Lanes.{chunk}
 use Rattle.std.proofs.lemmas.Simd.{length-chunk, get_or-chunk, bitmask_splat}
 use Rattle.weight_lanes.specs.Lanes.{Marks}
-use Rattle.weight_lanes.proofs.MarkLemmas.{Marks-mask_l, differs, differs-true}
+use Rattle.weight_lanes.proofs.MaskMarksPlaces.{Marks-mask_l, differs, differs-true}
 use Rattle.weight_lanes.proofs.lanes.set_at.Goals as goal
 
 pub returns : goal.returns

@@ -1,4 +1,4 @@
-use Rattle.weight_lanes.proofs.LaneLemmas.{HasLanes-chunk}
+use Rattle.weight_lanes.proofs.LanesOfOperations.{HasLanes-chunk}
 use Rattle.weight_lanes.proofs.lanes.weights_from.Goals as goal
 
 pub returns : goal.returns

@@ -1,4 +1,4 @@
-use Rattle.weight_lanes.proofs.UniqueLemmas.{one_best}
+use Rattle.weight_lanes.proofs.AnswersAreUnique.{one_best}
 use Rattle.weight_lanes.proofs.laws.best_both_ways.Goals as goal
 
 pub returns-clause-same : goal.returns-clause-same

@@ -1,4 +1,4 @@
-use Rattle.weight_lanes.proofs.UniqueLemmas.{one_next}
+use Rattle.weight_lanes.proofs.AnswersAreUnique.{one_next}
 use Rattle.weight_lanes.proofs.laws.next_of_both_ways.Goals as goal
 
 pub returns-clause-same : goal.returns-clause-same

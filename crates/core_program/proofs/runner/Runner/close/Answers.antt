@@ -3,7 +3,7 @@ use Rattle.core_program.specs.Acts.{moment_of}
 use Rattle.core_program.specs.Rows.{row_ended}
 use Rattle.core_program.specs.Run.{closed}
 use Rattle.std.specs.Prelude.{slice_set, length}
-use Rattle.core_program.proofs.Climb.{climb_close}
+use Rattle.core_program.proofs.StepsLeadToTheRun.{climb_close}
 use Rattle.core_program.proofs.runner.Runner.close.Goals as goal
 
 pub returns-clause-closed : goal.returns-clause-closed

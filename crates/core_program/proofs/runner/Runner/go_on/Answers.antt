@@ -1,6 +1,6 @@
 use Rattle.std.proofs.Common.{refl, sym, ◌∙◌}
 use Rattle.core_program.specs.Acts.{moment_of}
-use Rattle.core_program.proofs.Climb.{climb_lost}
+use Rattle.core_program.proofs.StepsLeadToTheRun.{climb_lost}
 use Rattle.core_program.proofs.runner.Runner.go_on.Goals as goal
 
 pub returns-in_default-clause-steps : goal.returns-in_default-clause-steps

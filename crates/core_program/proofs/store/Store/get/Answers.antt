@@ -1,6 +1,6 @@
 use Rattle.std.proofs.Common.{sym, ap, ◌∙◌}
 use Rattle.std.specs.FinMap as map
-use Rattle.core_program.proofs.Stores.{get_is}
+use Rattle.core_program.proofs.StoreIsFiniteMap.{get_is}
 use Rattle.core_program.proofs.store.Store.get.Goals as goal
 
 pub returns : goal.returns

@@ -1,0 +1,118 @@
+-- What the bits of a mask say of the places of a block.
+use Rattle.std.proofs.Common.{
+  ◌≡◌,
+  ℕ,
+  ◌+◌,
+  ◌-◌,
+  ◌<◌,
+  ◌≤◌,
+  ◌^◌,
+  Bool,
+  true,
+  false,
+  cond,
+  not,
+  eqb,
+  eq-eqb,
+  ◌≢◌,
+  ◌↔◌,
+  List,
+  length,
+  get_or,
+  map,
+  refl,
+  sym,
+  ap,
+  subst,
+  ◌∙◌,
+  arith,
+  ⊎_elim,
+}
+use Rattle.std.specs.Int.{bit_at}
+use Rattle.std.specs.Simd.Lanes.{mask_l}
+use Rattle.std.proofs.lemmas.Simd.{bit_mask_l, mask_l-lt}
+use Rattle.std.proofs.lemmas.Bool.{cases_lt, eqb-true}
+use Rattle.std.proofs.lemmas.List.{get_or-map, length-map}
+use Rattle.std.proofs.lemmas.Nat.Bits.{bit_at_above, bit_at-zero}
+use Rattle.weight_lanes.specs.Lanes.{Marks, NoneIn}
+
+pub NoneIn-join : (Q : ℕ → Type 0) (a b c : ℕ) → NoneIn Q a b → NoneIn Q b c → NoneIn Q a c
+NoneIn-join Q a b c first second = record {
+  none = λ place low high. ⊎_elim (λ l. first.none place low l) (λ ge. second.none place ge high) (cases_lt place b);
+}
+
+bit_inside : (p : ℕ → Bool) (xs : List ℕ) (lane : ℕ) → lane < length xs → bit_at (mask_l (map p xs)) lane ≡ cond (p (get_or xs lane 0)) 1 0
+bit_inside p xs lane inside = bit_mask_l (map p xs) lane ∙ ap (λ b. cond b 1 0) (get_or-map p xs lane 0 false inside)
+
+bit_outside : (p : ℕ → Bool) (xs : List ℕ) (lane : ℕ) → length xs ≤ lane → bit_at (mask_l (map p xs)) lane ≡ 0
+bit_outside p xs lane outside =
+    let short : mask_l (map p xs) < 2 ^ length xs = subst (λ n. mask_l (map p xs) < 2 ^ n) (length-map xs p) (mask_l-lt (map p xs)) in
+    bit_at_above (mask_l (map p xs)) (length xs) lane short outside
+
+one_is_true : (b : Bool) → cond {A = ℕ} b 1 0 ≡ 1 → b ≡ true
+one_is_true true e = refl
+one_is_true false e = absurd (omega arith)
+
+set_is_inside : (p : ℕ → Bool) (xs : List ℕ) (lane : ℕ) → bit_at (mask_l (map p xs)) lane ≡ 1 → lane < length xs
+set_is_inside p xs lane set = ⊎_elim (λ l. l) (λ ge. absurd (omega (arith, bit_outside p xs lane ge))) (cases_lt lane (length xs))
+
+set_passes : (p : ℕ → Bool) (xs : List ℕ) (lane : ℕ) → bit_at (mask_l (map p xs)) lane ≡ 1 → p (get_or xs lane 0) ≡ true
+set_passes p xs lane set = one_is_true _ (sym (bit_inside p xs lane (set_is_inside p xs lane set)) ∙ set)
+
+-- the mask of the lanes that pass a test
+pub Marks-mask_l : (P : ℕ → Type 0) (p : ℕ → Bool) (xs : List ℕ) (n : ℕ) → length xs ≡ n
+    → ((lane : ℕ) → lane < n → P lane → p (get_or xs lane 0) ≡ true)
+    → ((lane : ℕ) → lane < n → p (get_or xs lane 0) ≡ true → P lane)
+    → Marks P n (mask_l (map p xs))
+Marks-mask_l P p xs n long passes means =
+    let inside = λ (lane : ℕ) (set : bit_at (mask_l (map p xs)) lane ≡ 1). subst (λ m. lane < m) long (set_is_inside p xs lane set) in
+    record {
+      marked = λ lane l h. bit_inside p xs lane (omega arith) ∙ ap (λ b. cond b 1 0) (passes lane l h);
+      inside = inside;
+      holds = λ lane set. means lane (inside lane set) (set_passes p xs lane set);
+    }
+
+-- a place of the block as a lane
+lane_of : (Q : ℕ → Type 0) (at place : ℕ) → at ≤ place → Q place → Q (at + (place - at))
+lane_of Q at place low h = let e : place ≡ at + (place - at) = omega arith in subst Q e h
+
+-- with no bit set
+pub none_marked : (Q : ℕ → Type 0) (at to n mask : ℕ) → to ≡ at + n → Marks (λ lane. Q (at + lane)) n mask → mask ≡ 0 → NoneIn Q at to
+none_marked Q at to n mask ends marks zero = record {
+  none = λ place low high h.
+      let set : bit_at mask (place - at) ≡ 1 = marks.marked (place - at) (omega arith) (lane_of Q at place low h) in
+      let clear : bit_at mask (place - at) ≡ 0 = ap (λ m. bit_at m (place - at)) zero ∙ bit_at-zero (place - at) in
+      absurd (omega arith);
+}
+
+-- before the lowest set bit
+pub none_before : (Q : ℕ → Type 0) (at n mask bit : ℕ) → Marks (λ lane. Q (at + lane)) n mask → bit_at mask bit ≡ 1
+    → ((k : ℕ) → k < bit → bit_at mask k ≡ 0) → NoneIn Q at (at + bit)
+none_before Q at n mask bit marks set below = record {
+  none = λ place low high h.
+      let small : bit < n = marks.inside bit set in
+      let one : bit_at mask (place - at) ≡ 1 = marks.marked (place - at) (omega arith) (lane_of Q at place low h) in
+      let clear : bit_at mask (place - at) ≡ 0 = below (place - at) (omega arith) in
+      absurd (omega arith);
+}
+
+-- after the highest set bit
+pub none_after : (Q : ℕ → Type 0) (at to n mask bit : ℕ) → to ≡ at + n → Marks (λ lane. Q (at + lane)) n mask
+    → ((k : ℕ) → bit < k → bit_at mask k ≡ 0) → NoneIn Q (at + bit + 1) to
+none_after Q at to n mask bit ends marks above = record {
+  none = λ place low high h.
+      let one : bit_at mask (place - at) ≡ 1 = marks.marked (place - at) (omega arith) (lane_of Q at place (omega arith) h) in
+      let clear : bit_at mask (place - at) ≡ 0 = above (place - at) (omega arith) in
+      absurd (omega arith);
+}
+
+-- the test that two numbers differ
+abbrev pub differs : ℕ → ℕ → Bool
+differs a b = not (eqb a b)
+
+not_true : (a b : ℕ) (t : Bool) → eqb a b ≡ t → (not t ≡ true) ↔ (a ≢ b)
+not_true a b true e = (λ h. absurd (cc), λ h. absurd (h (eqb-true a b e)))
+not_true a b false e = (λ h same. let t : eqb a b ≡ true = eq-eqb a b same in cc, λ h. refl)
+
+pub differs-true : (a b : ℕ) → (differs a b ≡ true) ↔ (a ≢ b)
+differs-true a b = not_true a b (eqb a b) refl
