@@ -5,7 +5,7 @@ use Rattle.grammar.specs.Terminals.{one_of, passes, every}
 use Rattle.grammar.specs.Nodes.{Item, Node, Leaf, Nothing, Pair, spell, ahead}
 use Rattle.grammar.specs.Grammars.{Level, Grammar, token, nothing, seq, choice, greedy, level, loop, again, IsNothing, rounds, FreeIn}
 use Rattle.grammar.specs.Tested.{Is}
-use Rattle.grammar.specs.Deciding.{both, either, implies, Tables, none, nullable, first, decides}
+use Rattle.grammar.specs.Deciding.{both, either, implies, LevelTables, none, nullable, first, decides}
 use Rattle.grammar.proofs.Bools.{both_parts, both_make, either_left, either_right, implied, not_true}
 use Rattle.grammar.proofs.Every.{every_terminal}
 use Rattle.grammar.proofs.Larger.{IsPart}
@@ -79,7 +79,7 @@ allows_up f g (Some k) e al = implied (f k) (g k) (every_terminal (λ k. implies
 
 -- ---- the parts of the check
 
-module _ (t : Tables) where
+module _ (t : LevelTables) where
   abbrev pub after : Grammar → (Terminal → Bool) → Bool → (Terminal → Bool) → Terminal → Bool
   after b f v o = λ k. either (first t b f v k) (both (nullable t b v) (o k))
 
@@ -154,7 +154,7 @@ rounds_begun : (F : (Node → Option Terminal → Type 0) → Node → Option Te
 rounds_begun F g e c zero x h r = absurd r
 rounds_begun F g e c (suc k) x h r = c (rounds k F) (rounds_begun F g e c k) x h r
 
-module _ (t : Tables) (E : Level → Node → Option Terminal → Type 0) (level_begun : (l : Level) → Begun (t.first_of l) (t.nullable_of l) (E l)) where
+module _ (t : LevelTables) (E : Level → Node → Option Terminal → Type 0) (level_begun : (l : Level) → Begun (t.first_of l) (t.nullable_of l) (E l)) where
   pub begun : (g : Grammar) (f : Terminal → Bool) (v : Bool) (w o : Terminal → Bool) → decides t g f v w o ≡ true → (V : Node → Option Terminal → Type 0) → Begun f v V → Begun (first t g f v) (nullable t g v) (FreeIn E g V)
   begun (token ks) f v w o d V s (Leaf item) h r = r
   begun (token ks) f v w o d V s Nothing h r = absurd r
@@ -195,7 +195,7 @@ rounds_tested : (F G : (Node → Option Terminal → Type 0) → Node → Option
 rounds_tested F G o c zero x h al r = absurd r
 rounds_tested F G o c (suc k) x h al r = c k (rounds k G) (rounds_tested F G o c k) x h al r
 
-module _ (t : Tables) (E T : Level → Node → Option Terminal → Type 0) (level_begun : (l : Level) → Begun (t.first_of l) (t.nullable_of l) (E l))
+module _ (t : LevelTables) (E T : Level → Node → Option Terminal → Type 0) (level_begun : (l : Level) → Begun (t.first_of l) (t.nullable_of l) (E l))
     (level_tested : (l : Level) → Tested (t.follow_of l) (E l) (T l)) where
   pub tested : (g : Grammar) (f : Terminal → Bool) (v : Bool) (w o : Terminal → Bool) → decides t g f v w o ≡ true → (V W : Node → Option Terminal → Type 0) → Begun f v V → Tested w V W → Tested o (FreeIn E g V) (Is T g W)
   tested (token ks) f v w o d V W s u x h al r = r

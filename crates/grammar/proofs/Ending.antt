@@ -5,7 +5,7 @@ use Rattle.grammar.specs.Terminals.{one_of, passes}
 use Rattle.grammar.specs.Nodes.{Item, Node, Leaf, Nothing, Pair, next}
 use Rattle.grammar.specs.Grammars.{Level, Grammar, token, nothing, seq, choice, greedy, level, loop, again}
 use Rattle.grammar.specs.Reading.{Refusal, Unfit, Deep, left_of, Read, ◌>>=◌, token_at, then_pair, unread, turns, turning, reads, levels, read}
-use Rattle.grammar.specs.Deciding.{Tables, expects, all_levels, every_level_of}
+use Rattle.grammar.specs.Deciding.{LevelTables, expects, all_levels, every_level_of}
 use Rattle.grammar.specs.Ending.{lacks, ends_in, IsLast, Has}
 use Rattle.grammar.proofs.Bools.{both_parts, not_true}
 use Rattle.grammar.proofs.Exact.{bind_err, err_is, ok_no_err, token_fails}
@@ -83,7 +83,7 @@ module _ (k : Terminal) where
   unread_keeps : Keeps unread
   unread_keeps l h = h
 
-  module _ (t : Tables) (g : Grammar) (ok : IsLast k t g ≡ true) where
+  module _ (t : LevelTables) (g : Grammar) (ok : IsLast k t g ≡ true) where
     level_keeps : (n : ℕ) (v : Level) → Keeps (levels t n v)
     unfolding levels
     level_keeps zero v l h = kept_cond (expects t v (next l)) (Err (Deep l)) (Err (Unfit l)) h h

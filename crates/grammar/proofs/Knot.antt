@@ -5,7 +5,7 @@ use Rattle.grammar.specs.Terminals.{every}
 use Rattle.grammar.specs.Nodes.{Node, spell}
 use Rattle.grammar.specs.Grammars.{by_end, by_until, Level, block, heading, statement, denoter, variant_part, factor, Grammar, IsNone, Free, FreeWithin}
 use Rattle.grammar.specs.Tested.{Is, Within}
-use Rattle.grammar.specs.Deciding.{both, implies, closed, sane, Tables, none, nullable, first, decides, level_is_decided, all_levels, every_level_of, IsDecided}
+use Rattle.grammar.specs.Deciding.{both, implies, closed, sane, LevelTables, none, nullable, first, decides, level_is_decided, all_levels, every_level_of, IsDecided}
 use Rattle.grammar.proofs.Bools.{both_parts}
 use Rattle.grammar.proofs.Larger.{IsPart, none_in}
 use Rattle.grammar.proofs.Decided.{Begun, starts_up, begun, Tested, tested, freed}
@@ -32,19 +32,19 @@ every_level t e denoter = every_at t 6 all_levels e
 every_level t e variant_part = every_at t 7 all_levels e
 every_level t e factor = every_at t 8 all_levels e
 
-pub record LevelParts (t : Tables) (l : Level) : Type 0 where
+pub record LevelParts (t : LevelTables) (l : Level) : Type 0 where
   pub sound : sane (t.rule l) ≡ true
   pub whole : closed (t.rule l) ≡ true
   pub decided : decides t (t.rule l) none false none (t.follow_of l) ≡ true
   pub heads : every (λ k. implies (first t (t.rule l) none false k) (t.first_of l k)) ≡ true
   pub gaps : implies (nullable t (t.rule l) false) (t.nullable_of l) ≡ true
 
-pub record WholeParts (t : Tables) (g : Grammar) : Type 0 where
+pub record WholeParts (t : LevelTables) (g : Grammar) : Type 0 where
   pub sound : sane g ≡ true
   pub whole : closed g ≡ true
   pub decided : decides t g none false none none ≡ true
 
-module _ (t : Tables) (g : Grammar) (ok : IsDecided t g ≡ true) where
+module _ (t : LevelTables) (g : Grammar) (ok : IsDecided t g ≡ true) where
   pub level_parts : (l : Level) → LevelParts t l
   level_parts l =
       let at = every_level (level_is_decided t) (both_parts (every_level_of (level_is_decided t) all_levels) (both (both (sane g) (closed g)) (decides t g none false none none)) ok).0 l in

@@ -5,11 +5,16 @@ use Rattle.grammar.specs.Terminals.{is, passes}
 use Rattle.grammar.specs.Nodes.{Item, Node, Leaf, Nothing, Pair, row, Step, chain, next, second}
 use Rattle.grammar.specs.Grammars.{Level, Grammar, nothing, seq, choice, again, word, many, series}
 use Rattle.grammar.specs.Tested.{Within}
-use Rattle.grammar.specs.Deciding.{closed, solid, guarded, sane, Tables}
+use Rattle.grammar.specs.Deciding.{closed, solid, guarded, sane, LevelTables}
 use Rattle.grammar.specs.Reading.{Refusal, Read, ◌>>=◌, token_at, then_pair, unread, turning, reads, levels, read}
 use Rattle.grammar.proofs.Loops.{Guards, closed_same, guarded_same, closed_linear, turning_again}
 use Rattle.grammar.proofs.Exact.{bind_ok, bind_err, done, ok_is, ok_no_err}
 use Rattle.grammar.proofs.Wholes.{levels_exact, level_shortens}
+
+-- what may be repeated in a loop: it does not speak of the loop around it, and takes a token
+pub record Repeats (g : Grammar) : Type 0 where
+  pub is_closed : closed g ≡ true
+  pub is_solid : solid g ≡ true
 
 abbrev pub prepend : List Node → Node → Node
 prepend [] x = x
@@ -50,7 +55,7 @@ cond_same : (b : Bool) (x y z w : Read) → x ≡ y → z ≡ w → cond b x z �
 cond_same true x y z w g h = g
 cond_same false x y z w g h = h
 
-module _ (t : Tables) (sane_rule : (l : Level) → sane (t.rule l) ≡ true) (n : ℕ) where
+module _ (t : LevelTables) (sane_rule : (l : Level) → sane (t.rule l) ≡ true) (n : ℕ) where
   closed_read : (g : Grammar) → closed g ≡ true → (u : List Item → Read) (l : List Item) → reads (levels t n) g u l ≡ read t n g l
   unfolding read
   closed_read g ok u l = closed_same (levels t n) (level_shortens (Within t.rule n) (levels t n) (levels_exact t sane_rule n)) g ok u unread l

@@ -6,7 +6,7 @@ use Rattle.grammar.specs.Nodes.{Item, Node, Nothing, spell, next}
 use Rattle.grammar.specs.Grammars.{Level, Grammar, token, nothing, seq, choice, greedy, level, loop, again, IsNothing, IsNone, rounds}
 use Rattle.grammar.specs.Tested.{Is, Within}
 use Rattle.grammar.specs.Reading.{Refusal, Unfit, Deep, left_of, Read, unread, turns, turning, reads, levels}
-use Rattle.grammar.specs.Deciding.{guarded, sane, Tables, expects}
+use Rattle.grammar.specs.Deciding.{guarded, sane, LevelTables, expects}
 use Rattle.grammar.proofs.Bools.{both_parts}
 use Rattle.grammar.proofs.Exact.{Refuses, Exact, token_exact, nothing_exact, none_exact, pair_exact, choice_exact, ok_or_err, err_is, ok_no_err}
 use Rattle.grammar.proofs.Loops.{Shortens, Guards, enough, guarded_same}
@@ -72,7 +72,7 @@ module _ (P : Level → Node → Option Terminal → Type 0) (p : Level → List
 
 -- ---- the levels
 
-module _ (t : Tables) (sane_rule : (l : Level) → sane (t.rule l) ≡ true) where
+module _ (t : LevelTables) (sane_rule : (l : Level) → sane (t.rule l) ≡ true) where
   no_level : (l : Level) (items : List Item) (r : Refusal) → levels t zero l items ≡ Err r → Refuses (Within t.rule zero l) items (left_of r)
   unfolding levels Within
   no_level l items r e =

@@ -15,14 +15,14 @@ implies a b = cond a b true
 
 -- The rules of the levels, and of each level the terminals that begin its trees, whether it has an empty tree,
 -- and the terminals that may follow it.
-pub record Tables : Type 0 where
+pub record LevelTables : Type 0 where
   pub rule : Level → Grammar
   pub first_of : Level → Terminal → Bool
   pub nullable_of : Level → Bool
   pub follow_of : Level → Terminal → Bool
 
 -- whether a tree of the level may begin in front of the next token
-abbrev pub expects : Tables → Level → Option Terminal → Bool
+abbrev pub expects : LevelTables → Level → Option Terminal → Bool
 expects t l None = t.nullable_of l
 expects t l (Some k) = either (t.first_of l k) (both (t.nullable_of l) (t.follow_of l k))
 
@@ -88,7 +88,7 @@ sane again = true
 abbrev pub none : Terminal → Bool
 none k = false
 
-module _ (t : Tables) where
+module _ (t : LevelTables) where
   -- whether there is an empty tree, if `v` says so of the loop around it
   abbrev pub nullable : Grammar → Bool → Bool
   nullable (token ks) v = false
@@ -146,6 +146,6 @@ every_level_of t [] = true
 every_level_of t (l ∷ ls) = both (t l) (every_level_of t ls)
 
 -- One token decides each choice, in the grammar of whole texts and in the rules of all levels.
-abbrev pub IsDecided : Tables → Grammar → Bool
+abbrev pub IsDecided : LevelTables → Grammar → Bool
 IsDecided t g =
     both (every_level_of (level_is_decided t) all_levels) (both (both (sane g) (closed g)) (decides t g none false none none))

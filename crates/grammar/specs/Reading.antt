@@ -4,7 +4,7 @@ use Rattle.grammar.specs.declared.terminals.Terminal.{Terminal}
 use Rattle.grammar.specs.Terminals.{one_of, passes}
 use Rattle.grammar.specs.Nodes.{Item, Node, Leaf, Nothing, Pair, next}
 use Rattle.grammar.specs.Grammars.{Level, Grammar, token, nothing, seq, choice, greedy, level, loop, again}
-use Rattle.grammar.specs.Deciding.{Tables, expects}
+use Rattle.grammar.specs.Deciding.{LevelTables, expects}
 
 -- A refusal, with the tokens from the refused one on: no tree goes on with it, or a level that would be nested
 -- too deep begins there.
@@ -55,9 +55,9 @@ reads env (loop a) v l = turning (reads env a) l
 reads env again v l = v l
 
 -- what is read where n more levels may be nested
-unfoldable pub levels : Tables → ℕ → Level → List Item → Read
+unfoldable pub levels : LevelTables → ℕ → Level → List Item → Read
 levels tables zero l items = if expects tables l (next items) then Err (Deep items) else Err (Unfit items)
 levels tables (suc n) l items = reads (levels tables n) (tables.rule l) unread items
 
-unfoldable pub read : Tables → ℕ → Grammar → List Item → Read
+unfoldable pub read : LevelTables → ℕ → Grammar → List Item → Read
 read tables n g items = reads (levels tables n) g unread items

@@ -6,7 +6,7 @@ use Rattle.grammar.specs.Nodes.{Item, Node, Leaf, Nothing, Pair, spell, leaf, ah
 use Rattle.grammar.specs.Grammars.{Level, Grammar, token, nothing, seq, choice, greedy, level, loop, again, IsPair, IsNone, rounds, FreeIn, FreeWithin}
 use Rattle.grammar.specs.Tested.{Is, Within}
 use Rattle.grammar.specs.Reading.{Refusal, Unfit, Deep, left_of, Read, ◌>>=◌, unread, turns, turning, reads, levels, read}
-use Rattle.grammar.specs.Deciding.{both, implies, guarded, sane, Tables, IsDecided, expects, all_levels, every_level_of}
+use Rattle.grammar.specs.Deciding.{both, implies, guarded, sane, LevelTables, IsDecided, expects, all_levels, every_level_of}
 use Rattle.grammar_refusals.specs.Nesting.{Trees, Nested, IsShaped}
 use Rattle.grammar_refusals.specs.Completing.{first_in, ends_empty, short, begins_calm, spares, sure, completes, brief_of, has_brief, level_completes, IsCompleted}
 use Rattle.grammar.proofs.Bools.{both_parts, implied, not_true}
@@ -155,7 +155,7 @@ module _ (calm : Terminal → Bool) where
     pub short : v ≡ true → Fits V s
     pub breaks : v ≡ true → (l : List Item) (r : Refusal) → u l ≡ Err r → Completed V l (left_of r)
 
-  module _ (t : Tables) (g : Grammar) (ok : IsDecided t g ≡ true) (d : ℕ) (full : IsCompleted calm d t g ≡ true) where
+  module _ (t : LevelTables) (g : Grammar) (ok : IsDecided t g ≡ true) (d : ℕ) (full : IsCompleted calm d t g ≡ true) where
     abbrev pub E : Level → Trees
     E = Nested t.rule
 

@@ -6,7 +6,7 @@ use Rattle.grammar.specs.Nodes.{Item, Node, Leaf, Nothing, Pair, spell, ahead, n
 use Rattle.grammar.specs.Grammars.{Level, Grammar, token, nothing, seq, choice, greedy, level, loop, again, IsNone, rounds, FreeIn}
 use Rattle.grammar.specs.Tested.{Is, Within}
 use Rattle.grammar.specs.Reading.{Read, then_pair, unread, turning, reads, levels, read}
-use Rattle.grammar.specs.Deciding.{both, either, guarded, sane, Tables, IsDecided, expects, none, nullable, first, decides}
+use Rattle.grammar.specs.Deciding.{both, either, guarded, sane, LevelTables, IsDecided, expects, none, nullable, first, decides}
 use Rattle.grammar_refusals.specs.Nesting.{Trees, Places, Nested, IsShaped, nowhere, in_rounds, BeginsIn, BeginsAt, BeginsDeep}
 use Rattle.grammar.proofs.Bools.{both_parts, both_make, either_left, either_right}
 use Rattle.grammar.proofs.Exact.{ahead_append}
@@ -64,7 +64,7 @@ unfolding BeginsAt
 level_forget rule zero v x h f r = r.1
 level_forget rule (suc n) v x h f r = nested rule v x h (forget (Nested rule) (BeginsAt rule n) (level_forget rule n) (rule v) IsNone nowhere nowhere_none x h f r)
 
-pub deep_shaped : (t : Tables) (n : ℕ) (g : Grammar) (x : Node) (f : List Item) → BeginsDeep t n g x f → IsShaped t g x
+pub deep_shaped : (t : LevelTables) (n : ℕ) (g : Grammar) (x : Node) (f : List Item) → BeginsDeep t n g x f → IsShaped t g x
 deep_shaped t n g x f r = whole_nested t.rule g x None (forget (Nested t.rule) (BeginsAt t.rule n) (level_forget t.rule n) g IsNone nowhere nowhere_none x None f r)
 
 -- ---- reading comes too deep at that node or before it
@@ -120,7 +120,7 @@ allows_append f g a [] None s al = tt
 allows_append f g a [] (Some k) s al = either_right (g k) (both a (f k)) (both_make a (f k) s al)
 allows_append f g a (x ∷ l) h s al = either_left (g x.kind) (both a (f x.kind)) s
 
-module _ (t : Tables) (whole : Grammar) (ok : IsDecided t whole ≡ true) where
+module _ (t : LevelTables) (whole : Grammar) (ok : IsDecided t whole ≡ true) where
   -- what surrounds a part of a grammar: the loop around it
   pub record Around (n : ℕ) (f : Terminal → Bool) (v : Bool) (w : Terminal → Bool) (V W : Trees) (M : Places) (u : List Item → Read) : Type 0 where
     pub begins : Begun f v V

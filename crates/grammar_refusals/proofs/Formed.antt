@@ -4,9 +4,9 @@ use Rattle.std.proofs.lemmas.List.{append-nil}
 use Rattle.grammar.specs.declared.terminals.Terminal.{Terminal}
 use Rattle.grammar.specs.Nodes.{Item, Node, Leaf, Nothing, Pair, spell, ahead}
 use Rattle.grammar.specs.Grammars.{Level, Grammar, token, nothing, seq, choice, greedy, level, loop, again, IsNone, rounds, FreeIn, FreeWithin}
-use Rattle.grammar.specs.Deciding.{Tables, IsDecided}
+use Rattle.grammar.specs.Deciding.{LevelTables, IsDecided}
 use Rattle.grammar.specs.Reading.{Deep, read}
-use Rattle.grammar.specs.Laws.{IsFormed}
+use Rattle.grammar.specs.Laws.{IsFormedBy}
 use Rattle.grammar_refusals.specs.Nesting.{Trees, Places, Nested, IsShaped, nowhere, in_rounds, BeginsIn, BeginsAt, BeginsDeep}
 use Rattle.grammar.proofs.Exact.{ok_no_err}
 use Rattle.grammar.proofs.Larger.{IsPart, free_up, all_in}
@@ -92,10 +92,10 @@ module _ (rule : Level → Grammar) where
   level_splits zero l x h r = inr ([], (refl, r))
   level_splits (suc n) l x h r = splits (Nested rule) (FreeWithin rule n) (BeginsAt rule n) (level_splits n) (rule l) IsNone IsNone nowhere none_splits x h (by_rule r.0 l x h r.1)
 
-pub formed_or_deep : (t : Tables) (g : Grammar) (n : ℕ) (x : Node) → IsShaped t g x → IsFormed t n g x ⊎ ((f : List Item) × BeginsDeep t n g x f)
+pub formed_or_deep : (t : LevelTables) (g : Grammar) (n : ℕ) (x : Node) → IsShaped t g x → IsFormedBy t n g x ⊎ ((f : List Item) × BeginsDeep t n g x f)
 formed_or_deep t g n x s = splits (Nested t.rule) (FreeWithin t.rule n) (BeginsAt t.rule n) (level_splits t.rule n) g IsNone IsNone nowhere none_splits x None (in_nested t.rule s.0 g x None s.1)
 
-pub formed_not_deep : (t : Tables) (g : Grammar) → IsDecided t g ≡ true → (n : ℕ) (x : Node) (f : List Item) → IsFormed t n g x → BeginsDeep t n g x f → ⊥
+pub formed_not_deep : (t : LevelTables) (g : Grammar) → IsDecided t g ≡ true → (n : ℕ) (x : Node) (f : List Item) → IsFormedBy t n g x → BeginsDeep t n g x f → ⊥
 formed_not_deep t g ok n x f s m =
     let d = whole_deep t g ok n x f m in
     ok_no_err (x, []) (Deep (d.0.1 ++ [])) (sym (formed_found t g ok n x s) ∙ ap (read t n g) (sym (append-nil (spell x))) ∙ d.0.3)

@@ -6,7 +6,7 @@ use Rattle.grammar.specs.Nodes.{Item, Node, Leaf, Nothing, Pair, spell, next}
 use Rattle.grammar.specs.Grammars.{Level, Grammar, token, nothing, seq, choice, greedy, level, loop, again, IsNone, rounds, FreeWithin}
 use Rattle.grammar.specs.Tested.{Is, Within}
 use Rattle.grammar.specs.Reading.{Deep, Read, ◌>>=◌, then_pair, unread, turning, reads, levels, read}
-use Rattle.grammar.specs.Deciding.{both, guarded, sane, Tables, IsDecided, expects, none}
+use Rattle.grammar.specs.Deciding.{both, guarded, sane, LevelTables, IsDecided, expects, none}
 use Rattle.grammar_refusals.specs.Nesting.{Trees, Nested, IsShaped}
 use Rattle.grammar.proofs.Bools.{both_parts, both_make, either_left, either_right}
 use Rattle.grammar.proofs.Exact.{failed, ahead_append, token_exact, nothing_exact}
@@ -68,7 +68,7 @@ loop_goes : (F : Trees → Trees) (f : (List Item → Read) → List Item → Re
 loop_goes F f guards body zero x rest h = absurd h
 loop_goes F f guards body (suc k) x rest h = same_goes (f (turning f)) (turning f) (turning_again f guards) x rest (body (rounds k F) (loop_goes F f guards body k) x rest h)
 
-module _ (t : Tables) (g : Grammar) (ok : IsDecided t g ≡ true) where
+module _ (t : LevelTables) (g : Grammar) (ok : IsDecided t g ≡ true) where
   -- a tree at whatever nesting, in front of what may follow it
   abbrev pub Placed : Level → Trees
   Placed l x h = Nested t.rule l x h × Allows (t.follow_of l) h

@@ -4,7 +4,7 @@ use Rattle.std.proofs.lemmas.List.{append-nil}
 use Rattle.grammar.specs.Nodes.{Item, Node, spell, next}
 use Rattle.grammar.specs.Grammars.{Grammar, IsNone}
 use Rattle.grammar.specs.Tested.{Is, Within}
-use Rattle.grammar.specs.Deciding.{Tables, IsDecided}
+use Rattle.grammar.specs.Deciding.{LevelTables, IsDecided}
 use Rattle.grammar.specs.Reading.{Refusal, Unfit, Deep, read}
 use Rattle.grammar.specs.Laws.{NoneGoesOn}
 use Rattle.grammar_refusals.specs.Nesting.{IsShaped}
@@ -17,7 +17,7 @@ use Rattle.grammar_refusals.proofs.Goes.{shaped_goes}
 pub unfit_no_deep : (l m : List Item) → failed (Unfit l) ≡ failed (Deep m) → ⊥
 unfit_no_deep l m e = let f : Unfit l ≡ Deep m = err_is (Unfit l) (Deep m) e in cc
 
-module _ (t : Tables) (g : Grammar) (ok : IsDecided t g ≡ true) (n : ℕ) where
+module _ (t : LevelTables) (g : Grammar) (ok : IsDecided t g ≡ true) (n : ℕ) where
   pub whole_local : (l : List Item) (r : Refusal) → read t n g l ≡ Err r → Local (read t n g) l r
   whole_local = read_local t (rule_sane t g ok) n g (whole_parts t g ok).sound
 

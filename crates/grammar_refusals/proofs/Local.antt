@@ -7,7 +7,7 @@ use Rattle.grammar.specs.Nodes.{Item, Node, Nothing, Pair, spell, next}
 use Rattle.grammar.specs.Grammars.{Level, Grammar, token, nothing, seq, choice, greedy, level, loop, again, IsNone, rounds}
 use Rattle.grammar.specs.Tested.{Is, Within}
 use Rattle.grammar.specs.Reading.{Refusal, Unfit, Deep, left_of, Read, ◌>>=◌, token_at, then_pair, unread, turns, turning, reads, levels, read}
-use Rattle.grammar.specs.Deciding.{guarded, sane, Tables, expects}
+use Rattle.grammar.specs.Deciding.{guarded, sane, LevelTables, expects}
 use Rattle.grammar_refusals.specs.Nesting.{Trees}
 use Rattle.grammar.proofs.Bools.{both_parts}
 use Rattle.grammar.proofs.Exact.{Exact, bind_err, failed, err_is, ok_no_err, ok_or_err, same_next, token_fails, none_exact}
@@ -123,7 +123,7 @@ module _ (f : (List Item → Read) → List Item → Read) (guards : Guards f) (
 
 -- ---- grammars and levels
 
-level_local_zero : (t : Tables) (v : Level) → IsLocal (levels t zero v)
+level_local_zero : (t : LevelTables) (v : Level) → IsLocal (levels t zero v)
 unfolding levels
 level_local_zero t v l r e =
     elim (ok_or_err (expects t v (next l)) (Err (Deep l)) (Err (Unfit l)) (Err r) e) [
@@ -131,7 +131,7 @@ level_local_zero t v l r e =
       | inr h ↦ unfit_local (levels t zero v) l r h.1 (λ more at. let b : expects t v (next more) ≡ false = subst (λ (j : Option Terminal). expects t v j ≡ false) (sym at) h.0 in rw b refl)
     ]
 
-module _ (t : Tables) (sane_rule : (l : Level) → sane (t.rule l) ≡ true) where
+module _ (t : LevelTables) (sane_rule : (l : Level) → sane (t.rule l) ≡ true) where
   module _ (n : ℕ) (level_local : (v : Level) → IsLocal (levels t n v)) where
     exact_in : (g : Grammar) → sane g ≡ true → (V : Trees) (u : List Item → Read) → Exact V u → Exact (Is (Within t.rule n) g V) (reads (levels t n) g u)
     exact_in = grammar_exact (Within t.rule n) (levels t n) (levels_exact t sane_rule n)

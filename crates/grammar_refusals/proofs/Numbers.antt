@@ -4,13 +4,13 @@ use Rattle.std.proofs.lemmas.List.{append-nil, append_cancel_left, append_cancel
 use Rattle.grammar.specs.declared.terminals.Terminal.{Terminal}
 use Rattle.grammar.specs.Nodes.{Item, Node, Nothing, spell, next}
 use Rattle.grammar.specs.Grammars.{Grammar, IsNone, FreeIn}
-use Rattle.grammar.specs.Deciding.{Tables, IsDecided}
+use Rattle.grammar.specs.Deciding.{LevelTables, IsDecided}
 use Rattle.grammar.specs.Reading.{Refusal, Unfit, Deep, left_of, Read, read}
 use Rattle.grammar.specs.Laws.{NoneGoesOn}
 use Rattle.grammar_refusals.specs.Nesting.{Nested, IsShaped, BeginsDeep}
 use Rattle.grammar_refusals.specs.Completing.{IsCompleted}
 use Rattle.grammar_refusals.specs.Reaching.{IsReaching}
-use Rattle.grammar_refusals.specs.Refusals.{BeginsWith, IsTooDeep, IsHopeless, IsLeast, IsFirstTooDeep, NoneTooDeep, IsFirstHopeless, StopsAt}
+use Rattle.grammar_refusals.specs.Refusals.{BeginsWith, IsTooDeep, IsHopeless, IsLeast, IsFirstTooDeepBy, NoneTooDeep, IsFirstHopelessBy, StopsAt}
 use Rattle.grammar.proofs.Exact.{done, failed, err_is, ok_no_err, same_next}
 use Rattle.grammar.proofs.Larger.{none_in}
 use Rattle.grammar.proofs.Somewhere.{whole_nested}
@@ -69,7 +69,7 @@ begins_before spelling l front left more j e whole h =
 pub same_least : (P : ℕ → Type 0) (i j : ℕ) → IsLeast P i → IsLeast P j → i ≡ j
 same_least P i j p q = let a : i < j → ⊥ = λ h. q.1 i h p.0 in let b : j < i → ⊥ = λ h. p.1 j h q.0 in omega arith
 
-module _ (t : Tables) (g : Grammar) (ok : IsDecided t g ≡ true) (n : ℕ) where
+module _ (t : LevelTables) (g : Grammar) (ok : IsDecided t g ≡ true) (n : ℕ) where
   -- ---- a token that is too deep is refused as too deep there or before
 
   found_deep : (front : List Item) (z : Item) (rest more : List Item) (x : Node) → spell x ≡ front ++ z ∷ more → BeginsDeep t n g x front
@@ -184,7 +184,7 @@ module _ (t : Tables) (g : Grammar) (ok : IsDecided t g ≡ true) (n : ℕ) wher
     stop_begun : (l : List Item) (i : ℕ) → StopsAt t n g l i → Begun l (drop i l)
     stop_begun l i s = elim s [ inl e ↦ refused_begun l (Unfit (drop i l)) e | inr e ↦ read_begun l e.0 (drop i l) e.1 ]
 
-    pub stop_first : (l : List Item) (i : ℕ) → i < length l → StopsAt t n g l i → IsFirstHopeless t n g l i
+    pub stop_first : (l : List Item) (i : ℕ) → i < length l → StopsAt t n g l i → IsFirstHopelessBy t n g l i
     stop_first l i h s =
         (stop_none_deep l i s, (stop_hopeless l i h s, λ j less m. begun_not l (drop i l) (stop_begun l i s) j (let e = length-from l i h in omega arith) m))
 
@@ -199,7 +199,7 @@ module _ (t : Tables) (g : Grammar) (ok : IsDecided t g ≡ true) (n : ℕ) wher
 
     module _ (reaching : IsReaching t d g ≡ true) where
       -- where reading comes too deep, the token is too deep, and none before it
-      pub deep_first : (l : List Item) (i : ℕ) → i < length l → read t n g l ≡ Err (Deep (drop i l)) → IsFirstTooDeep t n g l i
+      pub deep_first : (l : List Item) (i : ℕ) → i < length l → read t n g l ≡ Err (Deep (drop i l)) → IsFirstTooDeepBy t n g l i
       deep_first l i h e =
           let c = cut l i h in
           let e' : read t n g l ≡ Err (Deep (c.here ∷ c.rest)) = e ∙ ap (λ (p : List Item). failed (Deep p)) c.from in
@@ -216,7 +216,7 @@ module _ (t : Tables) (g : Grammar) (ok : IsDecided t g ≡ true) (n : ℕ) wher
           )
 
       -- the place of a refused token
-      deep_at : (l front : List Item) (z : Item) (rest : List Item) → l ≡ front ++ z ∷ rest → read t n g l ≡ Err (Deep (z ∷ rest)) → IsFirstTooDeep t n g l (length front)
+      deep_at : (l front : List Item) (z : Item) (rest : List Item) → l ≡ front ++ z ∷ rest → read t n g l ≡ Err (Deep (z ∷ rest)) → IsFirstTooDeepBy t n g l (length front)
       deep_at l front z rest whole e = let b = behind l front z rest whole in deep_first l (length front) b.inside (e ∙ ap (λ (p : List Item). failed (Deep p)) (sym b.from))
 
       stop_at : (l front : List Item) (z : Item) (rest : List Item) → l ≡ front ++ z ∷ rest → ((read t n g l ≡ Err (Unfit (z ∷ rest))) ⊎ ((x : Node) × (read t n g l ≡ Ok (x, z ∷ rest)))) → StopsAt t n g l (length front)
@@ -225,7 +225,7 @@ module _ (t : Tables) (g : Grammar) (ok : IsDecided t g ≡ true) (n : ℕ) wher
           elim s [ inl e ↦ inl (e ∙ ap (λ (p : List Item). failed (Unfit p)) (sym b.from)) | inr e ↦ inr (e.0, e.1 ∙ ap (λ (p : List Item). done (e.0, p)) (sym b.from)) ]
 
       -- the first token that is too deep is refused so
-      pub first_deep : (l : List Item) (i : ℕ) → IsFirstTooDeep t n g l i → read t n g l ≡ Err (Deep (drop i l))
+      pub first_deep : (l : List Item) (i : ℕ) → IsFirstTooDeepBy t n g l i → read t n g l ≡ Err (Deep (drop i l))
       first_deep l i m =
           let p = deep_up_to l i m.0 in
           let b = behind l p.front p.here p.rest p.whole in
@@ -250,10 +250,10 @@ module _ (t : Tables) (g : Grammar) (ok : IsDecided t g ≡ true) (n : ℕ) wher
       never_deep l front [] i whole e no_deep m = refused_none_hopeless l (Deep []) e refl i m
       never_deep l front (z ∷ rest) i whole e no_deep m = no_deep (length front) (deep_at l front z rest whole e).0
 
-      by_answer : (l : List Item) (i : ℕ) (r : Read) → read t n g l ≡ r → IsFirstHopeless t n g l i → StopsAt t n g l i
+      by_answer : (l : List Item) (i : ℕ) (r : Read) → read t n g l ≡ r → IsFirstHopelessBy t n g l i → StopsAt t n g l i
       by_answer l i (Ok x) e m = let s = (exact t g ok n).sound l x.0 x.1 e in by_rest l (spell x.0) x.1 i s.0 (inr (x.0, e)) m.1
       by_answer l i (Err (Unfit left)) e m = let s = whole_local t g ok n l (Unfit left) e in by_rest l s.front left i s.whole (inl e) m.1
       by_answer l i (Err (Deep left)) e m = let s = whole_local t g ok n l (Deep left) e in absurd (never_deep l s.front left i s.whole e m.0 m.1.0)
 
-      pub first_stop : (l : List Item) (i : ℕ) → IsFirstHopeless t n g l i → StopsAt t n g l i
+      pub first_stop : (l : List Item) (i : ℕ) → IsFirstHopelessBy t n g l i → StopsAt t n g l i
       first_stop l i m = by_answer l i (read t n g l) refl m

@@ -7,7 +7,7 @@ use Rattle.grammar.specs.Nodes.{Item, Node, Leaf, Nothing, Pair, spell, ahead, n
 use Rattle.grammar.specs.Grammars.{Level, Grammar, token, nothing, seq, choice, greedy, level, loop, again, IsNone, rounds, FreeIn}
 use Rattle.grammar.specs.Tested.{Is, Within}
 use Rattle.grammar.specs.Reading.{Unfit, Deep, left_of, Read, ◌>>=◌, unread, turns, turning, reads, levels, read}
-use Rattle.grammar.specs.Deciding.{both, either, implies, guarded, sane, Tables, IsDecided, expects, none, nullable, first, all_levels, every_level_of}
+use Rattle.grammar.specs.Deciding.{both, either, implies, guarded, sane, LevelTables, IsDecided, expects, none, nullable, first, all_levels, every_level_of}
 use Rattle.grammar_refusals.specs.Nesting.{Trees, Places, Nested, nowhere, in_rounds, BeginsIn, BeginsAt, BeginsDeep}
 use Rattle.grammar_refusals.specs.Completing.{begins_calm, spares, IsCompleted}
 use Rattle.grammar_refusals.specs.Reaching.{tables_at, leads, eager, ends, tail, goes_on, level_reaches, IsReaching}
@@ -89,7 +89,7 @@ reached_map calm M N c e m i l z rest s = record {
 same_left : (z : Item) (l rest : List Item) → failed (Deep l) ≡ Err (Deep (z ∷ rest)) → l ≡ z ∷ rest
 same_left z l rest e = ap left_of (err_is (Deep l) (Deep (z ∷ rest)) e)
 
-module _ (calm : Terminal → Bool) (t : Tables) (g : Grammar) (ok : IsDecided t g ≡ true) (d : ℕ) (full : IsCompleted calm d t g ≡ true) (reaching : IsReaching t d g ≡ true) where
+module _ (calm : Terminal → Bool) (t : LevelTables) (g : Grammar) (ok : IsDecided t g ≡ true) (d : ℕ) (full : IsCompleted calm d t g ≡ true) (reaching : IsReaching t d g ≡ true) where
   -- ---- the parts of the check
 
   whole_reaches : (every_level_of (level_reaches t d) all_levels ≡ true) × (both (eager g) (both (goes_on t g none false none) (every (λ k. not (ends t g none false none k)))) ≡ true)

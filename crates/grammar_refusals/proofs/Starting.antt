@@ -4,7 +4,7 @@ use Rattle.grammar.specs.declared.terminals.Terminal.{Terminal}
 use Rattle.grammar.specs.Terminals.{one_of}
 use Rattle.grammar.specs.Nodes.{Item, Node, Leaf, Nothing, Pair, spell, ahead}
 use Rattle.grammar.specs.Grammars.{Level, Grammar, token, nothing, seq, choice, greedy, level, loop, again, IsNone, rounds, FreeIn}
-use Rattle.grammar.specs.Deciding.{both, either, implies, Tables, IsDecided, none, nullable, first}
+use Rattle.grammar.specs.Deciding.{both, either, implies, LevelTables, IsDecided, none, nullable, first}
 use Rattle.grammar_refusals.specs.Nesting.{Trees, Nested}
 use Rattle.grammar_refusals.specs.Completing.{begins_calm, spares, IsCompleted}
 use Rattle.grammar_refusals.specs.Reaching.{blank, tables_at, leads, eager}
@@ -49,7 +49,7 @@ empty_pair : (P Q : Trees) (x y : Node) (h : Option Terminal) → spell x ≡ []
 empty_pair P Q x y h e f p q =
     (ap (λ (l : List Item). l ++ spell y) e ∙ f, (subst (P x) (sym (ap (λ (l : List Item). ahead l h) f)) p, q))
 
-module _ (T : Tables) where
+module _ (T : LevelTables) where
   -- what leads to a part begins it
   leads_first : (ks : List Terminal) (a : Grammar) (f : Terminal → Bool) (v : Bool) (k : Terminal) → leads ks a ≡ true → first T a f v k ≡ false → one_of ks k ≡ false
   leads_first ks (token js) f v k d e = elim (by_test (one_of ks k)) [
@@ -121,14 +121,14 @@ module _ (calm : Terminal → Bool) where
   starting_map : (P Q : Trees) (z : Item) → IsPart P Q → Starting P z → Starting Q z
   starting_map P Q z f s = record { tree = s.tree; more = s.more; begins = s.begins; fits = λ h c. f s.tree h (s.fits h c) }
 
-  module _ (t : Tables) (g : Grammar) (ok : IsDecided t g ≡ true) (d : ℕ) (full : IsCompleted calm d t g ≡ true) where
+  module _ (t : LevelTables) (g : Grammar) (ok : IsDecided t g ≡ true) (d : ℕ) (full : IsCompleted calm d t g ≡ true) where
     -- what is known of the loop around
     pub record Begins (f : Terminal → Bool) (v : Bool) (s : Node) (e : Bool) (V : Trees) : Type 0 where
       pub shorts : e ≡ true → Fits calm V s
       pub starts : (z : Item) → f z.kind ≡ true → Starting V z
       pub empty : (k : Terminal) → f k ≡ false → v ≡ true → Empty V (Some k)
 
-    module _ (T : Tables) (level_starts : (l : Level) (z : Item) → T.first_of l z.kind ≡ true → Starting (Nested t.rule l) z)
+    module _ (T : LevelTables) (level_starts : (l : Level) (z : Item) → T.first_of l z.kind ≡ true → Starting (Nested t.rule l) z)
         (level_empty : (l : Level) → T.nullable_of l ≡ true → (h : Option Terminal) → Empty (Nested t.rule l) h) where
       pub starting : (b : Grammar) (f : Terminal → Bool) (v : Bool) (s : Node) (e : Bool) → eager b ≡ true → good calm t g ok d full b s e ≡ true → (V : Trees) → Begins f v s e V
           → (z : Item) → first T b f v z.kind ≡ true → Starting (FreeIn (Nested t.rule) b V) z

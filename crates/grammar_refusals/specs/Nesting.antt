@@ -3,8 +3,8 @@ use Rattle.std.specs.Prelude.{◌≡◌, ℕ, zero, suc, List, [], ◌++◌, ◌
 use Rattle.grammar.specs.declared.terminals.Terminal.{Terminal}
 use Rattle.grammar.specs.Nodes.{Item, Node, Leaf, Nothing, Pair, spell, ahead}
 use Rattle.grammar.specs.Grammars.{Level, Grammar, token, nothing, seq, choice, greedy, level, loop, again, IsNone, FreeIn, FreeWithin}
-use Rattle.grammar.specs.Deciding.{Tables}
-use Rattle.grammar.specs.Laws.{IsFormed}
+use Rattle.grammar.specs.Deciding.{LevelTables}
+use Rattle.grammar.specs.Laws.{IsFormedBy}
 
 -- some trees, each in front of a token or of the end
 abbrev pub Trees : Type 1
@@ -15,8 +15,8 @@ abbrev pub Places : Type 1
 Places = Node → Option Terminal → List Item → Type 0
 
 -- a tree of a whole text, at whatever nesting
-abbrev pub IsShaped : Tables → Grammar → Node → Type 0
-IsShaped t g x = (m : ℕ) × IsFormed t m g x
+abbrev pub IsShaped : LevelTables → Grammar → Node → Type 0
+IsShaped t g x = (m : ℕ) × IsFormedBy t m g x
 
 -- a tree of a level, at whatever nesting
 abbrev pub Nested : (Level → Grammar) → Level → Trees
@@ -55,5 +55,5 @@ BeginsAt rule zero l x h f = (f ≡ []) × Nested rule l x h
 BeginsAt rule (suc n) l x h f = BeginsIn (Nested rule) (BeginsAt rule n) (rule l) IsNone nowhere x h f
 
 -- A tree of a whole text in which, behind these tokens, a node of nesting n + 1 begins.
-abbrev pub BeginsDeep : Tables → ℕ → Grammar → Node → List Item → Type 0
+abbrev pub BeginsDeep : LevelTables → ℕ → Grammar → Node → List Item → Type 0
 BeginsDeep t n g x f = BeginsIn (Nested t.rule) (BeginsAt t.rule n) g IsNone nowhere x None f

@@ -3,7 +3,7 @@ use Rattle.std.specs.Prelude.{ℕ, zero, suc, Bool, true, false, not, List}
 use Rattle.grammar.specs.declared.terminals.Terminal.{Terminal}
 use Rattle.grammar.specs.Terminals.{one_of, every}
 use Rattle.grammar.specs.Grammars.{Level, Grammar, token, nothing, seq, choice, greedy, level, loop, again}
-use Rattle.grammar.specs.Deciding.{both, either, implies, Tables, none, nullable, first, all_levels, every_level_of}
+use Rattle.grammar.specs.Deciding.{both, either, implies, LevelTables, none, nullable, first, all_levels, every_level_of}
 
 -- ---- tables with nothing to spare
 
@@ -19,7 +19,7 @@ blank has (loop a) = blank has a
 blank has again = false
 
 -- what begins the trees of the levels in which at most d levels are nested, and which of them may be empty
-abbrev pub tables_at : Tables → ℕ → Tables
+abbrev pub tables_at : LevelTables → ℕ → LevelTables
 tables_at t zero = record { rule = t.rule; first_of = λ l k. false; nullable_of = λ l. false; follow_of = t.follow_of }
 tables_at t (suc d) = record {
   rule = t.rule;
@@ -52,7 +52,7 @@ eager again = true
 
 -- ---- levels at the end
 
-module _ (t : Tables) where
+module _ (t : LevelTables) where
   -- The terminals in front of which a tree may end in a level that is empty. Of the loop around it `f` and `v` tell what
   -- begins it and whether it has an empty tree, and `c` tells the same of it.
   abbrev pub ends : Grammar → (Terminal → Bool) → Bool → (Terminal → Bool) → Terminal → Bool

@@ -5,7 +5,7 @@ use Rattle.grammar.specs.declared.terminals.Terminal.TheVariants as k
 use Rattle.grammar.specs.Terminals.{passes, is}
 use Rattle.grammar.specs.Grammars.{variant_part}
 use Rattle.grammar.specs.Deciding.{expects}
-use Rattle.pas_tree.specs.Tables.{pascal}
+use Rattle.pas_tree.specs.FirstFollow.{pascal}
 
 same : (b : Bool) → (if◌then◌else◌ b true false) ≡ b
 same true = refl

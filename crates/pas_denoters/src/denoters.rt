@@ -10,7 +10,7 @@ ghost use Rattle.grammar.specs.Deciding.{expects};
 ghost use Rattle.pas_tree.specs.Denoters.{arm_node, arm_step, array_node, denoter_node, enumeration_node, fields_node, last_semicolon_node, next_denoter_node, record_node, section_node, section_step, set_node, structure_node, tag_node, variants_node};
 ghost use Rattle.pas_tree.specs.Operators.{token_node};
 ghost use Rattle.pas_tree.specs.Rules.{arm_rule, array_rule, constant_starts, denoter_rule, enumeration_rule, fields_rule, named_denoter_rule, next_denoter_rule, optional, record_rule, section_rule, set_rule, structure_rule, structured_rule, subrange_rule, limit_starts, fixed_rule, tag_rule, variant_part_rule, variants_rule};
-ghost use Rattle.pas_tree.specs.Tables.{first_of, pascal};
+ghost use Rattle.pas_tree.specs.FirstFollow.{first_of, pascal};
 ghost use Rattle.pas_phrases.specs.Items.{ReadsAs, items_from, optional_token};
 ghost use Rattle.pas_denoters.specs.Ends.{sections_end_node};
 

@@ -8,7 +8,7 @@ ghost use Rattle.grammar.specs.Reading.{levels, read};
 ghost use Rattle.grammar.specs.Deciding.{expects};
 ghost use Rattle.pas_tree.specs.Headings.{formal_names_node, formal_node, formals_node, function_node, heading_node, next_formal_node, procedure_node, result_node};
 ghost use Rattle.pas_tree.specs.Rules.{formal_rule, formals_rule, function_rule, heading_rule, next_formal_rule, procedure_rule, result_rule, variables_formal_rule};
-ghost use Rattle.pas_tree.specs.Tables.{first_of, pascal};
+ghost use Rattle.pas_tree.specs.FirstFollow.{first_of, pascal};
 ghost use Rattle.pas_phrases.specs.Items.{ReadsAs, items_from};
 
 use grammar::Terminal;

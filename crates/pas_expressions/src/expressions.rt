@@ -8,7 +8,7 @@ ghost use Rattle.grammar.specs.Reading.{levels, read};
 ghost use Rattle.grammar.specs.Deciding.{expects};
 ghost use Rattle.pas_tree.specs.Expressions.{access_node, arguments_node, expression_node, factor_node, index_node, member_node, members_node, next_expression_node, next_factor_node, next_member_node, next_term_node, selector_node, simple_node, term_node};
 ghost use Rattle.pas_tree.specs.Rules.{access_rule, adding, arguments_rule, expression_rule, factor_rule, index_rule, member_rule, members_rule, multiplying, named_factor_rule, next_expression_rule, next_factor_rule, next_member_rule, next_term_rule, paren_rule, selector_rule, selector_starts, selectors_rule, simple_rule, term_rule};
-ghost use Rattle.pas_tree.specs.Tables.{first_of, pascal};
+ghost use Rattle.pas_tree.specs.FirstFollow.{first_of, pascal};
 ghost use Rattle.pas_phrases.specs.Items.{ReadsAs, items_from};
 
 use grammar::Terminal;

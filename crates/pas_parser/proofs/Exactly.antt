@@ -7,13 +7,13 @@ use Rattle.grammar.specs.Reading.{Unfit, Deep, read}
 use Rattle.pas_lexer.specs.declared.kinds.Token.{Token}
 use Rattle.pas_lexer.specs.Lexed.{EndsOnce}
 use Rattle.pas_tree.specs.Rules.{program_rule}
-use Rattle.pas_tree.specs.Tables.{pascal}
+use Rattle.pas_tree.specs.FirstFollow.{pascal}
 use Rattle.pas_phrases.specs.declared.fault.ParseFault.{ParseFault}
 use Rattle.pas_phrases.specs.declared.fault.ParseFault.TheVariants as faults
 use Rattle.pas_phrases.specs.Items.{numbered, items_from, Fails}
 use Rattle.pas_phrases.proofs.Ahead.{items_end}
-use Rattle.pas_refusals.specs.Exact.{HasNeither}
-use Rattle.pas_refusals.proofs.Exact.{deep_is_first, stop_is_first, whole_has_neither}
+use Rattle.pas_tree.specs.FirstRefused.{HasNeither}
+use Rattle.pas_tree.proofs.FirstRefused.{deep_is_first, stop_is_first, whole_has_neither}
 use Rattle.pas_parser.specs.Kinds.{terminal_of, terminals_of}
 use Rattle.pas_parser.specs.Exact.{IsExact}
 use Rattle.pas_parser.proofs.Wholes.{refused_there}

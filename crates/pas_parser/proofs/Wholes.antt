@@ -16,7 +16,7 @@ use Rattle.pas_parser.specs.Kinds.{terminal_of, terminals_of}
 use Rattle.grammar.proofs.Exact.{ok_is, ok_no_err}
 use Rattle.grammar.proofs.Texts.{found, formed_found, refused_wrong, surplus_wrong}
 use Rattle.pas_tree.specs.Rules.{program_rule}
-use Rattle.pas_tree.specs.Tables.{pascal}
+use Rattle.pas_tree.specs.FirstFollow.{pascal}
 use Rattle.pas_tree.proofs.Decided.{pascal_decided}
 use Rattle.pas_phrases.specs.declared.fault.ParseFault.{ParseFault}
 use Rattle.pas_phrases.specs.declared.fault.ParseFault.TheVariants as faults

@@ -4,7 +4,7 @@ use Rattle.pas_lexer.specs.declared.kinds.Token.{Token}
 use Rattle.pas_tree.specs.declared.blocks.Tree.{Tree}
 use Rattle.pas_phrases.specs.declared.fault.ParseFault.{ParseFault}
 use Rattle.pas_phrases.specs.declared.fault.ParseFault.TheVariants.{NotProgram, TooDeep, Memory}
-use Rattle.pas_refusals.specs.Exact.{IsFirstTooDeep, IsFirstHopeless, HasNeither}
+use Rattle.pas_tree.specs.FirstRefused.{IsFirstTooDeep, IsFirstHopeless, HasNeither}
 use Rattle.pas_parser.specs.Formed.{items_of}
 
 -- `TooDeep(i)`: token i is the first that is too deep, at a nesting of 201. `NotProgram(i)`: none is too deep, and token i is

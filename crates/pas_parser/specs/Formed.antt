@@ -2,12 +2,12 @@
 use Rattle.std.specs.Prelude.{◌≡◌, ℕ, ◌+◌, ◌<◌, List, ◌++◌, take, length, Result, Ok, Err}
 use Rattle.grammar.specs.declared.terminals.Terminal.{Terminal}
 use Rattle.grammar.specs.Nodes.{Item, Node, spell}
-use Rattle.grammar.specs.Laws.{IsFormed as IsFormedBy}
+use Rattle.grammar.specs.Laws.{IsFormedBy}
 use Rattle.pas_lexer.specs.declared.kinds.Token.{Token}
 use Rattle.pas_tree.specs.declared.blocks.Tree.{Tree}
 use Rattle.pas_tree.specs.Blocks.{tree_node}
 use Rattle.pas_tree.specs.Rules.{program_rule}
-use Rattle.pas_tree.specs.Tables.{pascal}
+use Rattle.pas_tree.specs.FirstFollow.{pascal}
 use Rattle.pas_phrases.specs.declared.fault.ParseFault.{ParseFault}
 use Rattle.pas_phrases.specs.declared.fault.ParseFault.TheVariants.{NotProgram, TooDeep, Memory}
 use Rattle.pas_phrases.specs.Items.{items_from}

@@ -9,7 +9,7 @@ ghost use Rattle.grammar.specs.Reading.{levels, read};
 ghost use Rattle.grammar.specs.Deciding.{expects};
 ghost use Rattle.pas_tree.specs.Blocks.{block_node, body_node, constant_definition_node, constant_part_node, label_part_node, next_label_node, parameters_node, routine_node, tree_node, type_definition_node, type_part_node, variable_declaration_node, variable_part_node};
 ghost use Rattle.pas_tree.specs.Rules.{block_rule, body_rule, constant_definition_rule, constant_part_rule, heading_starts, label_part_rule, next_label_rule, parameters_rule, program_rule, routine_rule, type_definition_rule, type_part_rule, variable_declaration_rule, variable_part_rule};
-ghost use Rattle.pas_tree.specs.Tables.{first_of, pascal};
+ghost use Rattle.pas_tree.specs.FirstFollow.{first_of, pascal};
 ghost use Rattle.pas_phrases.specs.Items.{ReadsAs, items_from};
 
 use crate::statements::read_compound;

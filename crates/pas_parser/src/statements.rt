@@ -10,7 +10,7 @@ ghost use Rattle.grammar.specs.Deciding.{expects};
 ghost use Rattle.pas_tree.specs.Denoters.{last_semicolon_node};
 ghost use Rattle.pas_tree.specs.Statements.{actual_node, actuals_node, alternative_node, branch_node, branch_step, case_node, compound_node, for_node, if_node, label_node, next_access_node, next_actual_node, next_statement_node, plain_node, repeat_node, statement_node, statements_node, while_node, with_node};
 ghost use Rattle.pas_tree.specs.Rules.{actual_rule, actuals_rule, alternative_rule, assignment_starts, branch_rule, case_rule, compound_rule, constant_starts, counted_rule, for_rule, if_rule, label_rule, named_statement_rule, next_access_rule, next_actual_rule, next_statement_rule, plain_rule, repeat_rule, statement_rule, statements_rule, while_rule, with_rule};
-ghost use Rattle.pas_tree.specs.Tables.{first_of, follow_of, pascal};
+ghost use Rattle.pas_tree.specs.FirstFollow.{first_of, follow_of, pascal};
 ghost use Rattle.pas_phrases.specs.Items.{ReadsAs, items_from};
 ghost use Rattle.pas_parser.specs.Closers.{closer_of};
 

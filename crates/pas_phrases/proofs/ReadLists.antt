@@ -6,13 +6,12 @@ use Rattle.grammar.specs.Terminals.{passes}
 use Rattle.grammar.specs.Nodes.{Item, Node, row, next}
 use Rattle.grammar.specs.Grammars.{Grammar, many}
 use Rattle.grammar.specs.Reading.{Read, Unfit, Deep, read}
-use Rattle.grammar.proofs.Lists.{with_front, goes_on, stops, is_done}
-use Rattle.pas_tree.specs.Tables.{pascal}
+use Rattle.grammar.proofs.Lists.{Repeats, with_front, goes_on, stops, is_done}
+use Rattle.pas_tree.specs.FirstFollow.{pascal}
 use Rattle.pas_tree.proofs.Decided.{pascal_sane}
 use Rattle.pas_phrases.specs.declared.fault.ParseFault.{ParseFault}
 use Rattle.pas_phrases.specs.declared.fault.ParseFault.TheVariants.{NotProgram, TooDeep, Memory}
 use Rattle.pas_phrases.specs.Items.{Fails}
-use Rattle.pas_phrases.specs.Lists.{Repeats}
 
 -- the parts read so far, and what is still read from here, are the whole
 pub record ListSoFar {X : Type 0} (view : X → Node) (n : ℕ) (ks : List Terminal) (g : Grammar) (xs : List X) (l : List Item) (whole : Read) : Type 0 where

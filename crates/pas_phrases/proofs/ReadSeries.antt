@@ -7,7 +7,7 @@ use Rattle.grammar.specs.Grammars.{Grammar, nothing, seq, choice, word, series}
 use Rattle.grammar.specs.Deciding.{closed}
 use Rattle.grammar.specs.Reading.{Read, Unfit, Deep, read}
 use Rattle.grammar.proofs.Lists.{with_steps, steps_on, steps_stop, steps_done, steps_break}
-use Rattle.pas_tree.specs.Tables.{pascal}
+use Rattle.pas_tree.specs.FirstFollow.{pascal}
 use Rattle.pas_tree.proofs.Decided.{pascal_sane}
 use Rattle.pas_phrases.specs.declared.fault.ParseFault.{ParseFault}
 use Rattle.pas_phrases.specs.declared.fault.ParseFault.TheVariants.{NotProgram, TooDeep, Memory}

@@ -7,8 +7,8 @@ ghost use Rattle.grammar.specs.Grammars.{many};
 ghost use Rattle.grammar.specs.Reading.{read};
 ghost use Rattle.pas_tree.specs.Constants.{constant_node, constants_node, names_node, next_constant_node, next_name_node, signed_node};
 ghost use Rattle.pas_tree.specs.Rules.{constant_rule, constants_rule, limit_rule, names_rule, next_constant_rule, next_name_rule};
-ghost use Rattle.pas_tree.specs.Tables.{pascal};
-ghost use Rattle.pas_phrases.specs.PartRules.{repeats_next_constant, repeats_next_name};
+ghost use Rattle.pas_tree.specs.FirstFollow.{pascal};
+ghost use Rattle.pas_tree.proofs.Parts.{parts};
 ghost use Rattle.pas_phrases.specs.Items.{ReadsAs, items_from, signed_plain};
 
 use crate::fault::ParseFault;
@@ -47,7 +47,7 @@ impl Part for NextNames {
 
     ghost starts = { k.Comma ∷ [] };
 
-    ghost repeats = { repeats_next_name };
+    ghost repeats = { parts.next_name };
 
     fn is_next(tokens: &TerminalList, at: u32) -> bool {
         tokens.is_next(at, Terminal::Comma)
@@ -154,7 +154,7 @@ impl Part for NextConstants {
 
     ghost starts = { k.Comma ∷ [] };
 
-    ghost repeats = { repeats_next_constant };
+    ghost repeats = { parts.next_constant };
 
     fn is_next(tokens: &TerminalList, at: u32) -> bool {
         tokens.is_next(at, Terminal::Comma)

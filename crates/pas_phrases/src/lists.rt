@@ -6,9 +6,9 @@ ghost use Rattle.grammar.specs.Terminals.{passes};
 ghost use Rattle.grammar.specs.Nodes.{Node, next, row};
 ghost use Rattle.grammar.specs.Grammars.{Grammar, many};
 ghost use Rattle.grammar.specs.Reading.{read};
-ghost use Rattle.pas_tree.specs.Tables.{pascal};
+ghost use Rattle.pas_tree.specs.FirstFollow.{pascal};
 ghost use Rattle.pas_phrases.specs.Items.{ReadsAs, items_from};
-ghost use Rattle.pas_phrases.specs.Lists.{Repeats};
+ghost use Rattle.grammar.proofs.Lists.{Repeats};
 
 use crate::fault::ParseFault;
 use crate::looking::TerminalList;

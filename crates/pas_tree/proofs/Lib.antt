@@ -2,6 +2,7 @@ pub mod BlockRolls
 pub mod Decided
 pub mod DenoterRolls
 pub mod ExpressionRolls
+pub mod FirstRefused
 pub mod HeadingRolls
 pub mod Parts
 pub mod StatementRolls

@@ -2,8 +2,9 @@ pub mod Blocks
 pub mod Constants
 pub mod Denoters
 pub mod Expressions
+pub mod FirstFollow
+pub mod FirstRefused
 pub mod Headings
 pub mod Operators
 pub mod Rules
 pub mod Statements
-pub mod Tables

@@ -5,8 +5,9 @@ ghost use Rattle.grammar.specs.Deciding.{IsDecided};
 ghost use Rattle.grammar.specs.Loose.{IsGrammatical};
 ghost use Rattle.pas_tree.specs.declared.blocks.Tree.{Tree};
 ghost use Rattle.pas_tree.specs.Blocks.{tree_node};
+ghost use Rattle.pas_tree.specs.FirstFollow.{pascal};
+ghost use Rattle.pas_tree.specs.FirstRefused.{IsExactWhereFirst, IsExactWhereRead};
 ghost use Rattle.pas_tree.specs.Rules.{program_rule, rule};
-ghost use Rattle.pas_tree.specs.Tables.{pascal};
 
 /// In the grammar of Pascal the next token decides each choice, and the tables of what begins and
 /// follows each construct are right.
@@ -17,4 +18,15 @@ pub fn one_token_decides()
 /// Every tree's node is a tree of the grammar at some nesting, whichever if its elses belong to.
 pub fn trees_fit_the_grammar()
     ensures { (t : Tree) → IsGrammatical rule program_rule (tree_node t) }
+{}
+
+/// What a reader's answer says of a program: which token is the first that is too deep, or else the first
+/// with which no tree goes on, or that there is neither.
+pub fn refusals_are_exact()
+    ensures { IsExactWhereRead }
+{}
+
+/// And back: such a token is the one that the reader refuses, for that reason.
+pub fn first_refusals()
+    ensures { IsExactWhereFirst }
 {}

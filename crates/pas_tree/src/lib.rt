@@ -12,4 +12,4 @@ mod laws;
 pub mod operators;
 pub mod statements;
 
-pub use laws::{one_token_decides, trees_fit_the_grammar};
+pub use laws::{first_refusals, one_token_decides, refusals_are_exact, trees_fit_the_grammar};

@@ -3,7 +3,7 @@ use Rattle.grammar.specs.declared.terminals.Terminal.TheVariants as k
 use Rattle.grammar.specs.Grammars.{many}
 use Rattle.grammar.specs.Reading.{read}
 use Rattle.grammar.proofs.Lists.{with_front}
-use Rattle.pas_tree.specs.Tables.{pascal}
+use Rattle.pas_tree.specs.FirstFollow.{pascal}
 use Rattle.pas_phrases.specs.Items.{items_from}
 use Rattle.pas_tree.specs.Expressions.{next_term_node, next_factor_node, next_expression_node, selector_node, next_member_node}
 use Rattle.pas_tree.specs.Rules.{adding, multiplying, selector_starts, next_term_rule, next_factor_rule, next_expression_rule, selector_rule, next_member_rule}

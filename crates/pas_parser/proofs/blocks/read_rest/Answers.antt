@@ -3,7 +3,7 @@ use Rattle.grammar.specs.declared.terminals.Terminal.TheVariants as k
 use Rattle.grammar.specs.Grammars.{block, seq, word}
 use Rattle.grammar.specs.Reading.{levels, read}
 use Rattle.pas_tree.specs.Blocks.{block_node}
-use Rattle.pas_tree.specs.Tables.{pascal}
+use Rattle.pas_tree.specs.FirstFollow.{pascal}
 use Rattle.pas_phrases.specs.Items.{items_from}
 use Rattle.pas_parser.proofs.Failing.{second_fails}
 use Rattle.pas_parser.proofs.blocks.read_rest.Goals as goal

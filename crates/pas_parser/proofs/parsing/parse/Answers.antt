@@ -4,7 +4,7 @@ use Rattle.grammar.specs.declared.terminals.Terminal.{Terminal}
 use Rattle.grammar.specs.Reading.{read}
 use Rattle.pas_tree.specs.Blocks.{tree_node}
 use Rattle.pas_tree.specs.Rules.{program_rule}
-use Rattle.pas_tree.specs.Tables.{pascal}
+use Rattle.pas_tree.specs.FirstFollow.{pascal}
 use Rattle.pas_phrases.specs.Items.{items_from, Fails}
 use Rattle.pas_parser.specs.Kinds.{terminals_of}
 use Rattle.pas_parser.proofs.Exactly.{exactly_there, exactly_behind, exactly_none}

@@ -3,7 +3,7 @@ use Rattle.grammar.specs.declared.terminals.Terminal.TheVariants as k
 use Rattle.grammar.specs.Grammars.{many}
 use Rattle.grammar.specs.Reading.{read}
 use Rattle.grammar.proofs.Lists.{with_front}
-use Rattle.pas_tree.specs.Tables.{pascal}
+use Rattle.pas_tree.specs.FirstFollow.{pascal}
 use Rattle.pas_phrases.specs.Items.{items_from}
 use Rattle.pas_tree.specs.Statements.{next_access_node}
 use Rattle.pas_tree.specs.Rules.{next_access_rule}

@@ -5,27 +5,27 @@ use Rattle.grammar.specs.declared.terminals.Terminal.TheVariants as k
 use Rattle.grammar.specs.Grammars.{many}
 use Rattle.grammar.specs.Reading.{read}
 use Rattle.grammar.proofs.Lists.{goes_on, is_done}
-use Rattle.pas_tree.specs.Tables.{pascal}
+use Rattle.pas_tree.specs.FirstFollow.{pascal}
 use Rattle.pas_tree.proofs.Decided.{pascal_sane}
 use Rattle.pas_phrases.specs.Items.{items_from}
 use Rattle.pas_phrases.proofs.Ends.{ends}
 use Rattle.pas_tree.specs.Statements.{next_actual_node}
 use Rattle.pas_tree.specs.Rules.{next_actual_rule}
-use Rattle.pas_tree.proofs.Parts.{closed-next_actual, solid-next_actual}
+use Rattle.pas_tree.proofs.Parts.{parts}
 use Rattle.pas_parser.proofs.statements.read_next_actuals.Goals as goal
 
 pub actuals-preserved : goal.actuals-preserved
 actuals-preserved c =
     let e = ap (map next_actual_node) c.in_ok-push.ensures.items ∙ map_push next_actual_node c.actuals.others.items c.in_ok-other.other in
     record {
-      so_far = rw e (goes_on pascal pascal_sane c.args.depth (k.Comma ∷ []) next_actual_rule closed-next_actual solid-next_actual (map next_actual_node c.actuals.others.items) (items_from c.args.tokens.now c.actuals.next) (next_actual_node c.in_ok-other.other) (items_from c.args.tokens.now c.in_ok-other.after) (read pascal c.args.depth (many (k.Comma ∷ []) next_actual_rule) (items_from c.args.tokens.now c.args.at)) (sym c.is_next.ensures.tests ∙ c.actuals-test.true) c.in_ok-other.ensures.gives c.actuals.invariant.so_far);
+      so_far = rw e (goes_on pascal pascal_sane c.args.depth (k.Comma ∷ []) next_actual_rule parts.next_actual.is_closed parts.next_actual.is_solid (map next_actual_node c.actuals.others.items) (items_from c.args.tokens.now c.actuals.next) (next_actual_node c.in_ok-other.other) (items_from c.args.tokens.now c.in_ok-other.after) (read pascal c.args.depth (many (k.Comma ∷ []) next_actual_rule) (items_from c.args.tokens.now c.args.at)) (sym c.is_next.ensures.tests ∙ c.actuals-test.true) c.in_ok-other.ensures.gives c.actuals.invariant.so_far);
       forward = omega (arith, c.in_ok-other.ensures.forward);
     }
 
 pub returns-in_err-other-clause-gives : goal.returns-in_err-other-clause-gives
 returns-in_err-other-clause-gives c =
     let p = err_from_is_err_and c.from_residual.result c.from_residual.ensures.1 in
-    rw (p.1, p.2) (ends c.args.depth (k.Comma ∷ []) next_actual_rule closed-next_actual solid-next_actual c.args.tokens.now c.in_err-other.field-0.0 (map next_actual_node c.actuals.others.items) (items_from c.args.tokens.now c.actuals.next) (read pascal c.args.depth (many (k.Comma ∷ []) next_actual_rule) (items_from c.args.tokens.now c.args.at)) (sym c.is_next.ensures.tests ∙ c.actuals-test.true) c.in_err-other.ensures.gives c.actuals.invariant.so_far)
+    rw (p.1, p.2) (ends c.args.depth (k.Comma ∷ []) next_actual_rule parts.next_actual.is_closed parts.next_actual.is_solid c.args.tokens.now c.in_err-other.field-0.0 (map next_actual_node c.actuals.others.items) (items_from c.args.tokens.now c.actuals.next) (read pascal c.args.depth (many (k.Comma ∷ []) next_actual_rule) (items_from c.args.tokens.now c.args.at)) (sym c.is_next.ensures.tests ∙ c.actuals-test.true) c.in_err-other.ensures.gives c.actuals.invariant.so_far)
 
 pub returns-clause-gives : goal.returns-clause-gives
-returns-clause-gives c = is_done pascal pascal_sane c.args.depth (k.Comma ∷ []) next_actual_rule closed-next_actual solid-next_actual (map next_actual_node c.actuals.others.items) (items_from c.args.tokens.now c.actuals.next) (read pascal c.args.depth (many (k.Comma ∷ []) next_actual_rule) (items_from c.args.tokens.now c.args.at)) (sym c.is_next.ensures.tests ∙ c.actuals-test.false) c.actuals.invariant.so_far
+returns-clause-gives c = is_done pascal pascal_sane c.args.depth (k.Comma ∷ []) next_actual_rule parts.next_actual.is_closed parts.next_actual.is_solid (map next_actual_node c.actuals.others.items) (items_from c.args.tokens.now c.actuals.next) (read pascal c.args.depth (many (k.Comma ∷ []) next_actual_rule) (items_from c.args.tokens.now c.args.at)) (sym c.is_next.ensures.tests ∙ c.actuals-test.false) c.actuals.invariant.so_far

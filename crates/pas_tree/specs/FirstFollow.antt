@@ -4,7 +4,7 @@ use Rattle.grammar.specs.declared.terminals.Terminal.{Terminal}
 use Rattle.grammar.specs.declared.terminals.Terminal.TheVariants as k
 use Rattle.grammar.specs.Terminals.{is, one_of}
 use Rattle.grammar.specs.Grammars.{Closer, by_end, by_until, Level, block, heading, statement, denoter, variant_part, factor}
-use Rattle.grammar.specs.Deciding.{both, either, Tables}
+use Rattle.grammar.specs.Deciding.{both, either, LevelTables}
 use Rattle.pas_tree.specs.Rules.{rule}
 
 abbrev pub first_of : Level → Terminal → Bool
@@ -37,5 +37,5 @@ follow_of factor j =
     one_of (k.Star ∷ k.WDiv ∷ k.WMod ∷ k.WAnd ∷ k.Plus ∷ k.Minus ∷ k.WOr ∷ k.Equal ∷ k.NotEqual ∷ k.Less ∷ k.AtMost ∷ k.Greater ∷ k.AtLeast ∷ k.WIn
     ∷ k.Comma ∷ k.RightBracket ∷ k.RightParen ∷ k.Range ∷ k.Colon ∷ k.Semicolon ∷ k.WThen ∷ k.WElse ∷ k.WDo ∷ k.WOf ∷ k.WTo ∷ k.WDownto ∷ k.WEnd ∷ k.WUntil ∷ []) j
 
-abbrev pub pascal : Tables
+abbrev pub pascal : LevelTables
 pascal = record { rule = rule; first_of = first_of; nullable_of = nullable_of; follow_of = follow_of }

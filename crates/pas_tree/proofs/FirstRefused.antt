@@ -1,0 +1,31 @@
+-- The laws of refusals at the grammar of Pascal.
+use Rattle.std.proofs.Common.{◌≡◌, ℕ, ◌<◌, List, [], length, drop, Ok, Err}
+use Rattle.grammar.specs.Nodes.{Item, Node}
+use Rattle.grammar.specs.Reading.{Deep, read}
+use Rattle.grammar_refusals.specs.Refusals.{StopsAt}
+use Rattle.grammar_refusals.proofs.Numbers.{deep_first, first_deep, stop_first, first_stop, read_none_deep, read_none_hopeless}
+use Rattle.pas_tree.specs.Rules.{program_rule}
+use Rattle.pas_tree.specs.FirstFollow.{pascal}
+use Rattle.pas_tree.specs.FirstRefused.{IsFirstTooDeep, IsFirstHopeless, HasNeither, IsExactWhereRead, IsExactWhereFirst}
+use Rattle.pas_tree.proofs.Decided.{calm, pascal_checks}
+open pascal_checks use {decided, completed, reaching}
+
+pub deep_is_first : (n : ℕ) (text : List Item) (i : ℕ) → i < length text → read pascal n program_rule text ≡ Err (Deep (drop i text))
+    → IsFirstTooDeep n text i
+deep_is_first n = deep_first pascal program_rule decided n calm 2 completed reaching
+
+pub stop_is_first : (n : ℕ) (text : List Item) (i : ℕ) → i < length text → StopsAt pascal n program_rule text i → IsFirstHopeless n text i
+stop_is_first n = stop_first pascal program_rule decided n calm 2 completed
+
+pub whole_has_neither : (n : ℕ) (text : List Item) (x : Node) → read pascal n program_rule text ≡ Ok (x, []) → HasNeither n text
+whole_has_neither n text x e =
+    (read_none_deep pascal program_rule decided n text (x, []) e, read_none_hopeless pascal program_rule decided n calm 2 completed text x e)
+
+pub where_read : IsExactWhereRead
+where_read = record { deep = deep_is_first; stops = stop_is_first; whole = whole_has_neither }
+
+pub where_first : IsExactWhereFirst
+where_first = record {
+  deep = λ n. first_deep pascal program_rule decided n calm 2 completed reaching;
+  stops = λ n. first_stop pascal program_rule decided n calm 2 completed reaching;
+}
