@@ -12,6 +12,7 @@ use Rattle.pas_tree.proofs.Decided.{pascal_sane}
 use Rattle.pas_phrases.specs.declared.fault.ParseFault.{ParseFault}
 use Rattle.pas_phrases.specs.declared.fault.ParseFault.TheVariants.{NotProgram, TooDeep, Memory}
 use Rattle.pas_phrases.specs.Items.{Fails}
+use Rattle.pas_phrases.proofs.Failures.{handed_on}
 
 -- the parts read so far, and what is still read from here, are the whole
 pub record ListSoFar {X : Type 0} (view : X → Node) (n : ℕ) (ks : List Terminal) (g : Grammar) (xs : List X) (l : List Item) (whole : Read) : Type 0 where
@@ -36,3 +37,6 @@ list_fails kinds Memory r s h f = tt
 pub list_read : {X : Type 0} {view : X → Node} {n : ℕ} {ks : List Terminal} {g : Grammar} {xs : List X} {l : List Item} {whole : Read}
     → Repeats g → ListSoFar view n ks g xs l whole → passes ks (next l) ≡ false → whole ≡ Ok (row (map view xs), l)
 list_read {X} {view} {n} {ks} {g} {xs} {l} {whole} r s h = is_done pascal pascal_sane n ks g r.is_closed r.is_solid (map view xs) l whole h s.same
+
+-- what a loop that reads a list is proved by
+pub ruleset list_reading = (list_more, list_fails, list_read, handed_on)

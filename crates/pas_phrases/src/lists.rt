@@ -46,6 +46,7 @@ pub trait Part {
 
 /// Reads parts as long as another one comes, in which `depth` more levels may be nested: the parts in their order,
 /// and the place after the last one. The first part that can't be read is the failure of the whole.
+#[tactic(auto, using(crate::proofs::ReadLists::list_reading))]
 pub fn read_list<P: Part>(
     alloc: Global,
     tokens: &TerminalList,
