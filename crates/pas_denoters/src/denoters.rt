@@ -11,13 +11,13 @@ ghost use Rattle.pas_tree.specs.Denoters.{arm_node, arm_step, array_node, denote
 ghost use Rattle.pas_tree.specs.Operators.{token_node};
 ghost use Rattle.pas_tree.specs.Rules.{arm_rule, array_rule, constant_starts, denoter_rule, enumeration_rule, fields_rule, named_denoter_rule, next_denoter_rule, optional, record_rule, section_rule, set_rule, structure_rule, structured_rule, subrange_rule, limit_starts, fixed_rule, tag_rule, variant_part_rule, variants_rule};
 ghost use Rattle.pas_tree.specs.FirstFollow.{first_of, pascal};
-ghost use Rattle.pas_phrases.specs.Items.{Gives, items_from, optional_token};
+ghost use Rattle.pas_phrases.specs.Items.{ReadsAs, items_from, optional_token};
 ghost use Rattle.pas_denoters.specs.Ends.{sections_end_node};
 
 use grammar::Terminal;
 use pas_phrases::ParseFault;
 use pas_phrases::constants::{read_constant, read_constants, read_limit, read_names};
-use pas_phrases::looking::Terminals;
+use pas_phrases::looking::TerminalList;
 use pas_phrases::separators::{is_next_case, read_last_semicolon};
 use pas_tree::constants::Constant;
 use pas_tree::denoters::{
@@ -39,11 +39,11 @@ pub enum SectionsEnd {
 #[tactic(auto, unfolding(grammar::specs::Reading::read, grammar::specs::Reading::levels))]
 pub fn read_denoter(
     alloc: Global,
-    tokens: &Terminals,
+    tokens: &TerminalList,
     at: u32,
     depth: u32,
 ) -> Result<(Denoter, u32), ParseFault>
-    ensures gives { Gives tokens.now denoter_node result (levels pascal depth denoter (items_from tokens.now at)) }
+    ensures gives { ReadsAs tokens.now denoter_node result (levels pascal depth denoter (items_from tokens.now at)) }
     ensures forward { IfOk result (λ x. at ≤ x.1) }
 {
     if depth == 0 {
@@ -59,11 +59,11 @@ pub fn read_denoter(
 #[tactic(auto, unfolding(grammar::specs::Reading::read, pas_tree::specs::Rules::denoter_rule))]
 fn read_inner_denoter(
     alloc: Global,
-    tokens: &Terminals,
+    tokens: &TerminalList,
     at: u32,
     depth: u32,
 ) -> Result<(Denoter, u32), ParseFault>
-    ensures gives { Gives tokens.now denoter_node result (read pascal depth denoter_rule (items_from tokens.now at)) }
+    ensures gives { ReadsAs tokens.now denoter_node result (read pascal depth denoter_rule (items_from tokens.now at)) }
     ensures forward { IfOk result (λ x. at ≤ x.1) }
 {
     if tokens.is_next(at, Terminal::Name) {
@@ -85,8 +85,8 @@ fn read_inner_denoter(
 }
 
 #[tactic(auto, unfolding(grammar::specs::Reading::read, pas_tree::specs::Rules::named_denoter_rule, pas_tree::specs::Rules::range_rule))]
-fn read_named_denoter(tokens: &Terminals, at: u32, depth: u32) -> Result<(Denoter, u32), ParseFault>
-    ensures gives { Gives tokens.now denoter_node result (read pascal depth named_denoter_rule (items_from tokens.now at)) }
+fn read_named_denoter(tokens: &TerminalList, at: u32, depth: u32) -> Result<(Denoter, u32), ParseFault>
+    ensures gives { ReadsAs tokens.now denoter_node result (read pascal depth named_denoter_rule (items_from tokens.now at)) }
     ensures forward { IfOk result (λ x. at < x.1) }
 {
     let (name, after) = tokens.expect(at, Terminal::Name)?;
@@ -100,8 +100,8 @@ fn read_named_denoter(tokens: &Terminals, at: u32, depth: u32) -> Result<(Denote
 }
 
 #[tactic(auto, unfolding(grammar::specs::Reading::read, pas_tree::specs::Rules::subrange_rule, pas_tree::specs::Rules::range_rule))]
-fn read_subrange(tokens: &Terminals, at: u32, depth: u32) -> Result<(Denoter, u32), ParseFault>
-    ensures gives { Gives tokens.now denoter_node result (read pascal depth subrange_rule (items_from tokens.now at)) }
+fn read_subrange(tokens: &TerminalList, at: u32, depth: u32) -> Result<(Denoter, u32), ParseFault>
+    ensures gives { ReadsAs tokens.now denoter_node result (read pascal depth subrange_rule (items_from tokens.now at)) }
     ensures forward { IfOk result (λ x. at < x.1) }
 {
     let (first, after) = read_limit(tokens, at, depth)?;
@@ -113,11 +113,11 @@ fn read_subrange(tokens: &Terminals, at: u32, depth: u32) -> Result<(Denoter, u3
 #[tactic(auto, unfolding(grammar::specs::Reading::read, pas_tree::specs::Rules::enumeration_rule))]
 fn read_enumeration(
     alloc: Global,
-    tokens: &Terminals,
+    tokens: &TerminalList,
     at: u32,
     depth: u32,
 ) -> Result<(Enumeration, u32), ParseFault>
-    ensures gives { Gives tokens.now enumeration_node result (read pascal depth enumeration_rule (items_from tokens.now at)) }
+    ensures gives { ReadsAs tokens.now enumeration_node result (read pascal depth enumeration_rule (items_from tokens.now at)) }
     ensures forward { IfOk result (λ x. at < x.1) }
 {
     let (open, after) = tokens.expect(at, Terminal::LeftParen)?;
@@ -126,8 +126,8 @@ fn read_enumeration(
     Ok((Enumeration { open, names, close }, after))
 }
 
-fn read_packed(tokens: &Terminals, at: u32) -> Result<(Option<u32>, u32), ParseFault>
-    ensures gives { Gives tokens.now (token_node k.WPacked) result (optional_token (k.WPacked ∷ []) (items_from tokens.now at)) }
+fn read_packed(tokens: &TerminalList, at: u32) -> Result<(Option<u32>, u32), ParseFault>
+    ensures gives { ReadsAs tokens.now (token_node k.WPacked) result (optional_token (k.WPacked ∷ []) (items_from tokens.now at)) }
     ensures forward { IfOk result (λ x. at ≤ x.1) }
 {
     if !tokens.is_next(at, Terminal::WPacked) {
@@ -141,11 +141,11 @@ fn read_packed(tokens: &Terminals, at: u32) -> Result<(Option<u32>, u32), ParseF
 #[tactic(auto, unfolding(grammar::specs::Reading::read, pas_tree::specs::Rules::structured_rule))]
 fn read_structured(
     alloc: Global,
-    tokens: &Terminals,
+    tokens: &TerminalList,
     at: u32,
     depth: u32,
 ) -> Result<(Denoter, u32), ParseFault>
-    ensures gives { Gives tokens.now denoter_node result (read pascal depth structured_rule (items_from tokens.now at)) }
+    ensures gives { ReadsAs tokens.now denoter_node result (read pascal depth structured_rule (items_from tokens.now at)) }
     ensures forward { IfOk result (λ x. at ≤ x.1) }
 {
     let (packed, after) = read_packed(tokens, at)?;
@@ -158,11 +158,11 @@ fn read_structured(
 #[tactic(auto, unfolding(grammar::specs::Reading::read, pas_tree::specs::Rules::structure_rule))]
 fn read_structure(
     alloc: Global,
-    tokens: &Terminals,
+    tokens: &TerminalList,
     at: u32,
     depth: u32,
 ) -> Result<(Structure, u32), ParseFault>
-    ensures gives { Gives tokens.now structure_node result (read pascal depth structure_rule (items_from tokens.now at)) }
+    ensures gives { ReadsAs tokens.now structure_node result (read pascal depth structure_rule (items_from tokens.now at)) }
     ensures forward { IfOk result (λ x. at < x.1) }
 {
     if tokens.is_next(at, Terminal::WArray) {
@@ -181,11 +181,11 @@ fn read_structure(
 #[tactic(auto, using(pas_tree::proofs::DenoterRolls::array_rolled), unfolding(grammar::specs::Reading::read, pas_tree::specs::Rules::array_rule))]
 fn read_array(
     alloc: Global,
-    tokens: &Terminals,
+    tokens: &TerminalList,
     at: u32,
     depth: u32,
 ) -> Result<(ArrayDenoter, u32), ParseFault>
-    ensures gives { Gives tokens.now array_node result (read pascal depth array_rule (items_from tokens.now at)) }
+    ensures gives { ReadsAs tokens.now array_node result (read pascal depth array_rule (items_from tokens.now at)) }
     ensures forward { IfOk result (λ x. at < x.1) }
 {
     let (word, after) = tokens.expect(at, Terminal::WArray)?;
@@ -210,11 +210,11 @@ fn read_array(
 #[cycle(denoters)]
 fn read_next_denoters(
     alloc: Global,
-    tokens: &Terminals,
+    tokens: &TerminalList,
     at: u32,
     depth: u32,
 ) -> Result<(Vec<NextDenoter>, u32), ParseFault>
-    ensures gives { Gives tokens.now (λ v. row (map next_denoter_node v.items)) result (read pascal depth (many (k.Comma ∷ []) next_denoter_rule) (items_from tokens.now at)) }
+    ensures gives { ReadsAs tokens.now (λ v. row (map next_denoter_node v.items)) result (read pascal depth (many (k.Comma ∷ []) next_denoter_rule) (items_from tokens.now at)) }
     ensures forward { IfOk result (λ x. at ≤ x.1) }
 {
     let mut others = Vec::new(alloc);
@@ -231,11 +231,11 @@ fn read_next_denoters(
 #[tactic(auto, unfolding(grammar::specs::Reading::read, pas_tree::specs::Rules::next_denoter_rule))]
 fn read_next_denoter(
     alloc: Global,
-    tokens: &Terminals,
+    tokens: &TerminalList,
     at: u32,
     depth: u32,
 ) -> Result<(NextDenoter, u32), ParseFault>
-    ensures gives { Gives tokens.now next_denoter_node result (read pascal depth next_denoter_rule (items_from tokens.now at)) }
+    ensures gives { ReadsAs tokens.now next_denoter_node result (read pascal depth next_denoter_rule (items_from tokens.now at)) }
     ensures forward { IfOk result (λ x. at < x.1) }
 {
     let (comma, after) = tokens.expect(at, Terminal::Comma)?;
@@ -247,11 +247,11 @@ fn read_next_denoter(
 #[tactic(auto, unfolding(grammar::specs::Reading::read, pas_tree::specs::Rules::record_rule))]
 fn read_record(
     alloc: Global,
-    tokens: &Terminals,
+    tokens: &TerminalList,
     at: u32,
     depth: u32,
 ) -> Result<(RecordDenoter, u32), ParseFault>
-    ensures gives { Gives tokens.now record_node result (read pascal depth record_rule (items_from tokens.now at)) }
+    ensures gives { ReadsAs tokens.now record_node result (read pascal depth record_rule (items_from tokens.now at)) }
     ensures forward { IfOk result (λ x. at < x.1) }
 {
     let (word, after) = tokens.expect(at, Terminal::WRecord)?;
@@ -264,11 +264,11 @@ fn read_record(
 #[tactic(auto, unfolding(grammar::specs::Reading::read, pas_tree::specs::Rules::set_rule))]
 fn read_set(
     alloc: Global,
-    tokens: &Terminals,
+    tokens: &TerminalList,
     at: u32,
     depth: u32,
 ) -> Result<(SetDenoter, u32), ParseFault>
-    ensures gives { Gives tokens.now set_node result (read pascal depth set_rule (items_from tokens.now at)) }
+    ensures gives { ReadsAs tokens.now set_node result (read pascal depth set_rule (items_from tokens.now at)) }
     ensures forward { IfOk result (λ x. at < x.1) }
 {
     let (word, after) = tokens.expect(at, Terminal::WSet)?;
@@ -281,11 +281,11 @@ fn read_set(
 #[tactic(auto, unfolding(grammar::specs::Reading::read, pas_tree::specs::Rules::fields_rule, pas_tree::specs::Rules::fixed_rule, pas_tree::specs::Rules::variants_rule))]
 fn read_fields(
     alloc: Global,
-    tokens: &Terminals,
+    tokens: &TerminalList,
     at: u32,
     depth: u32,
 ) -> Result<(Fields, u32), ParseFault>
-    ensures gives { Gives tokens.now fields_node result (read pascal depth fields_rule (items_from tokens.now at)) }
+    ensures gives { ReadsAs tokens.now fields_node result (read pascal depth fields_rule (items_from tokens.now at)) }
     ensures forward { IfOk result (λ x. at ≤ x.1) }
 {
     if tokens.is_next(at, Terminal::Name) {
@@ -303,11 +303,11 @@ fn read_fields(
 #[tactic(auto, using(pas_tree::proofs::DenoterRolls::fixed_rolled), unfolding(grammar::specs::Reading::read, pas_tree::specs::Rules::fixed_rule))]
 fn read_fixed(
     alloc: Global,
-    tokens: &Terminals,
+    tokens: &TerminalList,
     at: u32,
     depth: u32,
 ) -> Result<(Fields, u32), ParseFault>
-    ensures gives { Gives tokens.now fields_node result (read pascal depth fixed_rule (items_from tokens.now at)) }
+    ensures gives { ReadsAs tokens.now fields_node result (read pascal depth fixed_rule (items_from tokens.now at)) }
     ensures forward { IfOk result (λ x. at ≤ x.1) }
 {
     let (first, after) = read_section(alloc, tokens, at, depth)?;
@@ -326,11 +326,11 @@ fn read_fixed(
 #[tactic(auto, unfolding(grammar::specs::Reading::read, pas_tree::specs::Rules::section_rule))]
 fn read_section(
     alloc: Global,
-    tokens: &Terminals,
+    tokens: &TerminalList,
     at: u32,
     depth: u32,
 ) -> Result<(Section, u32), ParseFault>
-    ensures gives { Gives tokens.now section_node result (read pascal depth section_rule (items_from tokens.now at)) }
+    ensures gives { ReadsAs tokens.now section_node result (read pascal depth section_rule (items_from tokens.now at)) }
     ensures forward { IfOk result (λ x. at < x.1) }
 {
     let (names, after) = read_names(alloc, tokens, at, depth)?;
@@ -347,11 +347,11 @@ fn read_section(
 #[cycle(denoters)]
 fn read_sections(
     alloc: Global,
-    tokens: &Terminals,
+    tokens: &TerminalList,
     at: u32,
     depth: u32,
 ) -> Result<((Vec<NextSection>, SectionsEnd), u32), ParseFault>
-    ensures gives { Gives tokens.now (λ p. chain (map section_step p.0.items) (sections_end_node p.1)) result (read pascal depth (series k.Semicolon (k.Name ∷ []) section_rule variants_rule) (items_from tokens.now at)) }
+    ensures gives { ReadsAs tokens.now (λ p. chain (map section_step p.0.items) (sections_end_node p.1)) result (read pascal depth (series k.Semicolon (k.Name ∷ []) section_rule variants_rule) (items_from tokens.now at)) }
     ensures forward { IfOk result (λ x. at ≤ x.1) }
 {
     let mut others = Vec::new(alloc);
@@ -369,11 +369,11 @@ fn read_sections(
 #[tactic(auto, unfolding(grammar::specs::Reading::read))]
 fn read_next_section(
     alloc: Global,
-    tokens: &Terminals,
+    tokens: &TerminalList,
     at: u32,
     depth: u32,
 ) -> Result<(NextSection, u32), ParseFault>
-    ensures gives { Gives tokens.now (λ n. step_node (section_step n)) result (read pascal depth (seq (word k.Semicolon) section_rule) (items_from tokens.now at)) }
+    ensures gives { ReadsAs tokens.now (λ n. step_node (section_step n)) result (read pascal depth (seq (word k.Semicolon) section_rule) (items_from tokens.now at)) }
     ensures forward { IfOk result (λ x. at < x.1) }
 {
     let (semicolon, after) = tokens.expect(at, Terminal::Semicolon)?;
@@ -385,11 +385,11 @@ fn read_next_section(
 #[tactic(auto, unfolding(grammar::specs::Reading::read, pas_tree::specs::Rules::variants_rule))]
 fn read_sections_end(
     alloc: Global,
-    tokens: &Terminals,
+    tokens: &TerminalList,
     at: u32,
     depth: u32,
 ) -> Result<(SectionsEnd, u32), ParseFault>
-    ensures gives { Gives tokens.now sections_end_node result (read pascal depth (choice (k.Semicolon ∷ []) (seq (word k.Semicolon) variants_rule) nothing) (items_from tokens.now at)) }
+    ensures gives { ReadsAs tokens.now sections_end_node result (read pascal depth (choice (k.Semicolon ∷ []) (seq (word k.Semicolon) variants_rule) nothing) (items_from tokens.now at)) }
     ensures forward { IfOk result (λ x. at ≤ x.1) }
 {
     if !tokens.is_next(at, Terminal::Semicolon) {
@@ -412,11 +412,11 @@ fn read_sections_end(
 #[tactic(auto, using(crate::proofs::Expected::expects_variants), unfolding(grammar::specs::Reading::read, grammar::specs::Reading::levels))]
 fn read_variants(
     alloc: Global,
-    tokens: &Terminals,
+    tokens: &TerminalList,
     at: u32,
     depth: u32,
 ) -> Result<((Variants, Option<u32>), u32), ParseFault>
-    ensures gives { Gives tokens.now (λ p. variants_node p.0 p.1) result (levels pascal depth variant_part (items_from tokens.now at)) }
+    ensures gives { ReadsAs tokens.now (λ p. variants_node p.0 p.1) result (levels pascal depth variant_part (items_from tokens.now at)) }
     ensures forward { IfOk result (λ x. at ≤ x.1) }
 {
     if depth == 0 {
@@ -432,11 +432,11 @@ fn read_variants(
 #[tactic(auto, using(pas_tree::proofs::DenoterRolls::variants_rolled), unfolding(grammar::specs::Reading::read, pas_tree::specs::Rules::variant_part_rule))]
 fn read_inner_variants(
     alloc: Global,
-    tokens: &Terminals,
+    tokens: &TerminalList,
     at: u32,
     depth: u32,
 ) -> Result<((Variants, Option<u32>), u32), ParseFault>
-    ensures gives { Gives tokens.now (λ p. variants_node p.0 p.1) result (read pascal depth variant_part_rule (items_from tokens.now at)) }
+    ensures gives { ReadsAs tokens.now (λ p. variants_node p.0 p.1) result (read pascal depth variant_part_rule (items_from tokens.now at)) }
     ensures forward { IfOk result (λ x. at < x.1) }
 {
     let (word, after) = tokens.expect(at, Terminal::WCase)?;
@@ -455,8 +455,8 @@ fn read_inner_variants(
 }
 
 #[tactic(auto, unfolding(grammar::specs::Reading::read, pas_tree::specs::Rules::tag_rule))]
-fn read_tag(tokens: &Terminals, at: u32, _depth: u32) -> Result<(Tag, u32), ParseFault>
-    ensures gives { Gives tokens.now tag_node result (read pascal _depth tag_rule (items_from tokens.now at)) }
+fn read_tag(tokens: &TerminalList, at: u32, _depth: u32) -> Result<(Tag, u32), ParseFault>
+    ensures gives { ReadsAs tokens.now tag_node result (read pascal _depth tag_rule (items_from tokens.now at)) }
     ensures forward { IfOk result (λ x. at < x.1) }
 {
     let (name, after) = tokens.expect(at, Terminal::Name)?;
@@ -474,11 +474,11 @@ fn read_tag(tokens: &Terminals, at: u32, _depth: u32) -> Result<(Tag, u32), Pars
 #[tactic(auto, unfolding(grammar::specs::Reading::read, pas_tree::specs::Rules::arm_rule))]
 fn read_arm(
     alloc: Global,
-    tokens: &Terminals,
+    tokens: &TerminalList,
     at: u32,
     depth: u32,
 ) -> Result<(Arm, u32), ParseFault>
-    ensures gives { Gives tokens.now arm_node result (read pascal depth arm_rule (items_from tokens.now at)) }
+    ensures gives { ReadsAs tokens.now arm_node result (read pascal depth arm_rule (items_from tokens.now at)) }
     ensures forward { IfOk result (λ x. at < x.1) }
 {
     let (constants, after) = read_constants(alloc, tokens, at, depth)?;
@@ -499,11 +499,11 @@ fn read_arm(
 #[cycle(denoters)]
 fn read_arms(
     alloc: Global,
-    tokens: &Terminals,
+    tokens: &TerminalList,
     at: u32,
     depth: u32,
 ) -> Result<((Vec<NextArm>, Option<u32>), u32), ParseFault>
-    ensures gives { Gives tokens.now (λ p. chain (map arm_step p.0.items) (last_semicolon_node p.1)) result (read pascal depth (series k.Semicolon constant_starts arm_rule nothing) (items_from tokens.now at)) }
+    ensures gives { ReadsAs tokens.now (λ p. chain (map arm_step p.0.items) (last_semicolon_node p.1)) result (read pascal depth (series k.Semicolon constant_starts arm_rule nothing) (items_from tokens.now at)) }
     ensures forward { IfOk result (λ x. at ≤ x.1) }
 {
     let mut others = Vec::new(alloc);
@@ -521,11 +521,11 @@ fn read_arms(
 #[tactic(auto, unfolding(grammar::specs::Reading::read))]
 fn read_next_arm(
     alloc: Global,
-    tokens: &Terminals,
+    tokens: &TerminalList,
     at: u32,
     depth: u32,
 ) -> Result<(NextArm, u32), ParseFault>
-    ensures gives { Gives tokens.now (λ n. step_node (arm_step n)) result (read pascal depth (seq (word k.Semicolon) arm_rule) (items_from tokens.now at)) }
+    ensures gives { ReadsAs tokens.now (λ n. step_node (arm_step n)) result (read pascal depth (seq (word k.Semicolon) arm_rule) (items_from tokens.now at)) }
     ensures forward { IfOk result (λ x. at < x.1) }
 {
     let (semicolon, after) = tokens.expect(at, Terminal::Semicolon)?;
@@ -534,7 +534,7 @@ fn read_next_arm(
 }
 
 /// Whether a constant that is no name is next.
-fn is_next_limit(tokens: &Terminals, at: u32) -> bool
+fn is_next_limit(tokens: &TerminalList, at: u32) -> bool
     ensures { result ≡ passes limit_starts (next (items_from tokens.now at)) }
 {
     tokens.is_next_of(
@@ -549,7 +549,7 @@ fn is_next_limit(tokens: &Terminals, at: u32) -> bool
 }
 
 /// Whether a type denoter may begin here.
-fn expects_denoter(tokens: &Terminals, at: u32) -> bool
+fn expects_denoter(tokens: &TerminalList, at: u32) -> bool
     ensures { result ≡ expects pascal denoter (next (items_from tokens.now at)) }
 {
     match tokens.get(at) {

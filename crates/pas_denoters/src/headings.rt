@@ -9,12 +9,12 @@ ghost use Rattle.grammar.specs.Deciding.{expects};
 ghost use Rattle.pas_tree.specs.Headings.{formal_names_node, formal_node, formals_node, function_node, heading_node, next_formal_node, procedure_node, result_node};
 ghost use Rattle.pas_tree.specs.Rules.{formal_rule, formals_rule, function_rule, heading_rule, next_formal_rule, procedure_rule, result_rule, variables_formal_rule};
 ghost use Rattle.pas_tree.specs.FirstFollow.{first_of, pascal};
-ghost use Rattle.pas_phrases.specs.Items.{Gives, items_from};
+ghost use Rattle.pas_phrases.specs.Items.{ReadsAs, items_from};
 
 use grammar::Terminal;
 use pas_phrases::ParseFault;
 use pas_phrases::constants::read_names;
-use pas_phrases::looking::Terminals;
+use pas_phrases::looking::TerminalList;
 use pas_tree::headings::{
     Formal, FormalNames, Formals, FunctionHeading, Heading, NextFormal, ProcedureHeading,
     ResultType,
@@ -26,11 +26,11 @@ use std::alloc::Global;
 #[tactic(auto, unfolding(grammar::specs::Reading::read, grammar::specs::Reading::levels))]
 pub fn read_heading(
     alloc: Global,
-    tokens: &Terminals,
+    tokens: &TerminalList,
     at: u32,
     depth: u32,
 ) -> Result<(Heading, u32), ParseFault>
-    ensures gives { Gives tokens.now heading_node result (levels pascal depth heading (items_from tokens.now at)) }
+    ensures gives { ReadsAs tokens.now heading_node result (levels pascal depth heading (items_from tokens.now at)) }
     ensures forward { IfOk result (λ x. at ≤ x.1) }
 {
     if depth == 0 {
@@ -46,11 +46,11 @@ pub fn read_heading(
 #[tactic(auto, unfolding(grammar::specs::Reading::read, pas_tree::specs::Rules::heading_rule))]
 fn read_inner_heading(
     alloc: Global,
-    tokens: &Terminals,
+    tokens: &TerminalList,
     at: u32,
     depth: u32,
 ) -> Result<(Heading, u32), ParseFault>
-    ensures gives { Gives tokens.now heading_node result (read pascal depth heading_rule (items_from tokens.now at)) }
+    ensures gives { ReadsAs tokens.now heading_node result (read pascal depth heading_rule (items_from tokens.now at)) }
     ensures forward { IfOk result (λ x. at < x.1) }
 {
     if tokens.is_next(at, Terminal::WProcedure) {
@@ -65,11 +65,11 @@ fn read_inner_heading(
 #[tactic(auto, unfolding(grammar::specs::Reading::read, pas_tree::specs::Rules::procedure_rule))]
 fn read_procedure(
     alloc: Global,
-    tokens: &Terminals,
+    tokens: &TerminalList,
     at: u32,
     depth: u32,
 ) -> Result<(ProcedureHeading, u32), ParseFault>
-    ensures gives { Gives tokens.now procedure_node result (read pascal depth procedure_rule (items_from tokens.now at)) }
+    ensures gives { ReadsAs tokens.now procedure_node result (read pascal depth procedure_rule (items_from tokens.now at)) }
     ensures forward { IfOk result (λ x. at < x.1) }
 {
     let (word, after) = tokens.expect(at, Terminal::WProcedure)?;
@@ -97,11 +97,11 @@ fn read_procedure(
 #[tactic(auto, unfolding(grammar::specs::Reading::read, pas_tree::specs::Rules::function_rule))]
 fn read_function(
     alloc: Global,
-    tokens: &Terminals,
+    tokens: &TerminalList,
     at: u32,
     depth: u32,
 ) -> Result<(FunctionHeading, u32), ParseFault>
-    ensures gives { Gives tokens.now function_node result (read pascal depth function_rule (items_from tokens.now at)) }
+    ensures gives { ReadsAs tokens.now function_node result (read pascal depth function_rule (items_from tokens.now at)) }
     ensures forward { IfOk result (λ x. at < x.1) }
 {
     let (word, after) = tokens.expect(at, Terminal::WFunction)?;
@@ -131,11 +131,11 @@ fn read_function(
 
 #[tactic(auto, unfolding(grammar::specs::Reading::read, pas_tree::specs::Rules::result_rule))]
 fn read_result(
-    tokens: &Terminals,
+    tokens: &TerminalList,
     at: u32,
     _depth: u32,
 ) -> Result<(Option<ResultType>, u32), ParseFault>
-    ensures gives { Gives tokens.now result_node result (read pascal _depth result_rule (items_from tokens.now at)) }
+    ensures gives { ReadsAs tokens.now result_node result (read pascal _depth result_rule (items_from tokens.now at)) }
     ensures forward { IfOk result (λ x. at ≤ x.1) }
 {
     if !tokens.is_next(at, Terminal::Colon) {
@@ -150,11 +150,11 @@ fn read_result(
 #[tactic(auto, using(pas_tree::proofs::HeadingRolls::formals_rolled), unfolding(grammar::specs::Reading::read, pas_tree::specs::Rules::formals_rule))]
 fn read_formals(
     alloc: Global,
-    tokens: &Terminals,
+    tokens: &TerminalList,
     at: u32,
     depth: u32,
 ) -> Result<(Formals, u32), ParseFault>
-    ensures gives { Gives tokens.now formals_node result (read pascal depth formals_rule (items_from tokens.now at)) }
+    ensures gives { ReadsAs tokens.now formals_node result (read pascal depth formals_rule (items_from tokens.now at)) }
     ensures forward { IfOk result (λ x. at < x.1) }
 {
     let (open, after) = tokens.expect(at, Terminal::LeftParen)?;
@@ -173,11 +173,11 @@ fn read_formals(
 #[cycle(headings)]
 fn read_next_formals(
     alloc: Global,
-    tokens: &Terminals,
+    tokens: &TerminalList,
     at: u32,
     depth: u32,
 ) -> Result<(Vec<NextFormal>, u32), ParseFault>
-    ensures gives { Gives tokens.now (λ v. row (map next_formal_node v.items)) result (read pascal depth (many (k.Semicolon ∷ []) next_formal_rule) (items_from tokens.now at)) }
+    ensures gives { ReadsAs tokens.now (λ v. row (map next_formal_node v.items)) result (read pascal depth (many (k.Semicolon ∷ []) next_formal_rule) (items_from tokens.now at)) }
     ensures forward { IfOk result (λ x. at ≤ x.1) }
 {
     let mut others = Vec::new(alloc);
@@ -194,11 +194,11 @@ fn read_next_formals(
 #[tactic(auto, unfolding(grammar::specs::Reading::read, pas_tree::specs::Rules::next_formal_rule))]
 fn read_next_formal(
     alloc: Global,
-    tokens: &Terminals,
+    tokens: &TerminalList,
     at: u32,
     depth: u32,
 ) -> Result<(NextFormal, u32), ParseFault>
-    ensures gives { Gives tokens.now next_formal_node result (read pascal depth next_formal_rule (items_from tokens.now at)) }
+    ensures gives { ReadsAs tokens.now next_formal_node result (read pascal depth next_formal_rule (items_from tokens.now at)) }
     ensures forward { IfOk result (λ x. at < x.1) }
 {
     let (semicolon, after) = tokens.expect(at, Terminal::Semicolon)?;
@@ -210,11 +210,11 @@ fn read_next_formal(
 #[tactic(auto, unfolding(grammar::specs::Reading::read, pas_tree::specs::Rules::formal_rule))]
 fn read_formal(
     alloc: Global,
-    tokens: &Terminals,
+    tokens: &TerminalList,
     at: u32,
     depth: u32,
 ) -> Result<(Formal, u32), ParseFault>
-    ensures gives { Gives tokens.now formal_node result (read pascal depth formal_rule (items_from tokens.now at)) }
+    ensures gives { ReadsAs tokens.now formal_node result (read pascal depth formal_rule (items_from tokens.now at)) }
     ensures forward { IfOk result (λ x. at ≤ x.1) }
 {
     if tokens.is_next(at, Terminal::Name) {
@@ -233,11 +233,11 @@ fn read_formal(
 #[tactic(auto, unfolding(grammar::specs::Reading::read, pas_tree::specs::Rules::variables_formal_rule))]
 fn read_formal_names(
     alloc: Global,
-    tokens: &Terminals,
+    tokens: &TerminalList,
     at: u32,
     depth: u32,
 ) -> Result<(FormalNames, u32), ParseFault>
-    ensures gives { Gives tokens.now formal_names_node result (read pascal depth variables_formal_rule (items_from tokens.now at)) }
+    ensures gives { ReadsAs tokens.now formal_names_node result (read pascal depth variables_formal_rule (items_from tokens.now at)) }
     ensures forward { IfOk result (λ x. at < x.1) }
 {
     let (names, after) = read_names(alloc, tokens, at, depth)?;
@@ -247,7 +247,7 @@ fn read_formal_names(
 }
 
 /// Whether a heading may begin here.
-fn expects_heading(tokens: &Terminals, at: u32) -> bool
+fn expects_heading(tokens: &TerminalList, at: u32) -> bool
     ensures { result ≡ expects pascal heading (next (items_from tokens.now at)) }
 {
     match tokens.get(at) {

@@ -9,11 +9,11 @@ ghost use Rattle.grammar.specs.Deciding.{expects};
 ghost use Rattle.pas_tree.specs.Expressions.{access_node, arguments_node, expression_node, factor_node, index_node, member_node, members_node, next_expression_node, next_factor_node, next_member_node, next_term_node, selector_node, simple_node, term_node};
 ghost use Rattle.pas_tree.specs.Rules.{access_rule, adding, arguments_rule, expression_rule, factor_rule, index_rule, member_rule, members_rule, multiplying, named_factor_rule, next_expression_rule, next_factor_rule, next_member_rule, next_term_rule, paren_rule, selector_rule, selector_starts, selectors_rule, simple_rule, term_rule};
 ghost use Rattle.pas_tree.specs.FirstFollow.{first_of, pascal};
-ghost use Rattle.pas_phrases.specs.Items.{Gives, items_from};
+ghost use Rattle.pas_phrases.specs.Items.{ReadsAs, items_from};
 
 use grammar::Terminal;
 use pas_phrases::ParseFault;
-use pas_phrases::looking::Terminals;
+use pas_phrases::looking::TerminalList;
 use pas_phrases::operators::{
     expect_adding, expect_literal, expect_multiplying, expect_relational, is_next_adding,
     is_next_literal, is_next_multiplying, is_next_relational, is_next_selector, read_sign,
@@ -29,11 +29,11 @@ use std::alloc::Global;
 #[tactic(auto, unfolding(grammar::specs::Reading::read, pas_tree::specs::Rules::expression_rule, pas_tree::specs::Rules::relation_rule))]
 pub fn read_expression(
     alloc: Global,
-    tokens: &Terminals,
+    tokens: &TerminalList,
     at: u32,
     depth: u32,
 ) -> Result<(Expression, u32), ParseFault>
-    ensures gives { Gives tokens.now expression_node result (read pascal depth expression_rule (items_from tokens.now at)) }
+    ensures gives { ReadsAs tokens.now expression_node result (read pascal depth expression_rule (items_from tokens.now at)) }
     ensures forward { IfOk result (λ x. at ≤ x.1) }
 {
     let (left, after) = read_simple(alloc, tokens, at, depth)?;
@@ -51,11 +51,11 @@ pub fn read_expression(
 #[tactic(auto, using(pas_tree::proofs::ExpressionRolls::simple_rolled), unfolding(grammar::specs::Reading::read, pas_tree::specs::Rules::simple_rule, pas_tree::specs::Rules::sign_rule))]
 fn read_simple(
     alloc: Global,
-    tokens: &Terminals,
+    tokens: &TerminalList,
     at: u32,
     depth: u32,
 ) -> Result<(Simple, u32), ParseFault>
-    ensures gives { Gives tokens.now simple_node result (read pascal depth simple_rule (items_from tokens.now at)) }
+    ensures gives { ReadsAs tokens.now simple_node result (read pascal depth simple_rule (items_from tokens.now at)) }
     ensures forward { IfOk result (λ x. at ≤ x.1) }
 {
     let (sign, after) = read_sign(tokens, at)?;
@@ -72,11 +72,11 @@ fn read_simple(
 #[cycle(expressions)]
 fn read_next_terms(
     alloc: Global,
-    tokens: &Terminals,
+    tokens: &TerminalList,
     at: u32,
     depth: u32,
 ) -> Result<(Vec<NextTerm>, u32), ParseFault>
-    ensures gives { Gives tokens.now (λ v. row (map next_term_node v.items)) result (read pascal depth (many adding next_term_rule) (items_from tokens.now at)) }
+    ensures gives { ReadsAs tokens.now (λ v. row (map next_term_node v.items)) result (read pascal depth (many adding next_term_rule) (items_from tokens.now at)) }
     ensures forward { IfOk result (λ x. at ≤ x.1) }
 {
     let mut others = Vec::new(alloc);
@@ -93,11 +93,11 @@ fn read_next_terms(
 #[tactic(auto, unfolding(grammar::specs::Reading::read, pas_tree::specs::Rules::next_term_rule))]
 fn read_next_term(
     alloc: Global,
-    tokens: &Terminals,
+    tokens: &TerminalList,
     at: u32,
     depth: u32,
 ) -> Result<(NextTerm, u32), ParseFault>
-    ensures gives { Gives tokens.now next_term_node result (read pascal depth next_term_rule (items_from tokens.now at)) }
+    ensures gives { ReadsAs tokens.now next_term_node result (read pascal depth next_term_rule (items_from tokens.now at)) }
     ensures forward { IfOk result (λ x. at < x.1) }
 {
     let (operator, after) = expect_adding(tokens, at)?;
@@ -109,11 +109,11 @@ fn read_next_term(
 #[tactic(auto, using(pas_tree::proofs::ExpressionRolls::term_rolled), unfolding(grammar::specs::Reading::read, pas_tree::specs::Rules::term_rule))]
 fn read_term(
     alloc: Global,
-    tokens: &Terminals,
+    tokens: &TerminalList,
     at: u32,
     depth: u32,
 ) -> Result<(Term, u32), ParseFault>
-    ensures gives { Gives tokens.now term_node result (read pascal depth term_rule (items_from tokens.now at)) }
+    ensures gives { ReadsAs tokens.now term_node result (read pascal depth term_rule (items_from tokens.now at)) }
     ensures forward { IfOk result (λ x. at ≤ x.1) }
 {
     let (first, after) = read_factor(alloc, tokens, at, depth)?;
@@ -124,11 +124,11 @@ fn read_term(
 #[cycle(expressions)]
 fn read_next_factors(
     alloc: Global,
-    tokens: &Terminals,
+    tokens: &TerminalList,
     at: u32,
     depth: u32,
 ) -> Result<(Vec<NextFactor>, u32), ParseFault>
-    ensures gives { Gives tokens.now (λ v. row (map next_factor_node v.items)) result (read pascal depth (many multiplying next_factor_rule) (items_from tokens.now at)) }
+    ensures gives { ReadsAs tokens.now (λ v. row (map next_factor_node v.items)) result (read pascal depth (many multiplying next_factor_rule) (items_from tokens.now at)) }
     ensures forward { IfOk result (λ x. at ≤ x.1) }
 {
     let mut others = Vec::new(alloc);
@@ -145,11 +145,11 @@ fn read_next_factors(
 #[tactic(auto, unfolding(grammar::specs::Reading::read, pas_tree::specs::Rules::next_factor_rule))]
 fn read_next_factor(
     alloc: Global,
-    tokens: &Terminals,
+    tokens: &TerminalList,
     at: u32,
     depth: u32,
 ) -> Result<(NextFactor, u32), ParseFault>
-    ensures gives { Gives tokens.now next_factor_node result (read pascal depth next_factor_rule (items_from tokens.now at)) }
+    ensures gives { ReadsAs tokens.now next_factor_node result (read pascal depth next_factor_rule (items_from tokens.now at)) }
     ensures forward { IfOk result (λ x. at < x.1) }
 {
     let (operator, after) = expect_multiplying(tokens, at)?;
@@ -161,11 +161,11 @@ fn read_next_factor(
 #[tactic(auto, unfolding(grammar::specs::Reading::read, grammar::specs::Reading::levels))]
 fn read_factor(
     alloc: Global,
-    tokens: &Terminals,
+    tokens: &TerminalList,
     at: u32,
     depth: u32,
 ) -> Result<(Factor, u32), ParseFault>
-    ensures gives { Gives tokens.now factor_node result (levels pascal depth factor (items_from tokens.now at)) }
+    ensures gives { ReadsAs tokens.now factor_node result (levels pascal depth factor (items_from tokens.now at)) }
     ensures forward { IfOk result (λ x. at ≤ x.1) }
 {
     if depth == 0 {
@@ -181,11 +181,11 @@ fn read_factor(
 #[tactic(auto, unfolding(grammar::specs::Reading::read, pas_tree::specs::Rules::factor_rule))]
 fn read_inner_factor(
     alloc: Global,
-    tokens: &Terminals,
+    tokens: &TerminalList,
     at: u32,
     depth: u32,
 ) -> Result<(Factor, u32), ParseFault>
-    ensures gives { Gives tokens.now factor_node result (read pascal depth factor_rule (items_from tokens.now at)) }
+    ensures gives { ReadsAs tokens.now factor_node result (read pascal depth factor_rule (items_from tokens.now at)) }
     ensures forward { IfOk result (λ x. at ≤ x.1) }
 {
     if is_next_literal(tokens, at) {
@@ -210,11 +210,11 @@ fn read_inner_factor(
 #[tactic(auto, using(pas_tree::proofs::ExpressionRolls::selectors_hidden), unfolding(grammar::specs::Reading::read, pas_tree::specs::Rules::named_factor_rule))]
 fn read_named_factor(
     alloc: Global,
-    tokens: &Terminals,
+    tokens: &TerminalList,
     at: u32,
     depth: u32,
 ) -> Result<(Factor, u32), ParseFault>
-    ensures gives { Gives tokens.now factor_node result (read pascal depth named_factor_rule (items_from tokens.now at)) }
+    ensures gives { ReadsAs tokens.now factor_node result (read pascal depth named_factor_rule (items_from tokens.now at)) }
     ensures forward { IfOk result (λ x. at < x.1) }
 {
     let (name, after) = tokens.expect(at, Terminal::Name)?;
@@ -230,11 +230,11 @@ fn read_named_factor(
 #[tactic(auto, unfolding(grammar::specs::Reading::read, pas_tree::specs::Rules::paren_rule))]
 fn read_paren(
     alloc: Global,
-    tokens: &Terminals,
+    tokens: &TerminalList,
     at: u32,
     depth: u32,
 ) -> Result<(Factor, u32), ParseFault>
-    ensures gives { Gives tokens.now factor_node result (read pascal depth paren_rule (items_from tokens.now at)) }
+    ensures gives { ReadsAs tokens.now factor_node result (read pascal depth paren_rule (items_from tokens.now at)) }
     ensures forward { IfOk result (λ x. at < x.1) }
 {
     let (open, after) = tokens.expect(at, Terminal::LeftParen)?;
@@ -248,11 +248,11 @@ fn read_paren(
 #[tactic(auto, using(pas_tree::proofs::ExpressionRolls::arguments_rolled), unfolding(grammar::specs::Reading::read, pas_tree::specs::Rules::arguments_rule))]
 fn read_arguments(
     alloc: Global,
-    tokens: &Terminals,
+    tokens: &TerminalList,
     at: u32,
     depth: u32,
 ) -> Result<(Arguments, u32), ParseFault>
-    ensures gives { Gives tokens.now arguments_node result (read pascal depth arguments_rule (items_from tokens.now at)) }
+    ensures gives { ReadsAs tokens.now arguments_node result (read pascal depth arguments_rule (items_from tokens.now at)) }
     ensures forward { IfOk result (λ x. at < x.1) }
 {
     let (open, after) = tokens.expect(at, Terminal::LeftParen)?;
@@ -272,11 +272,11 @@ fn read_arguments(
 #[tactic(auto, using(pas_tree::proofs::ExpressionRolls::index_rolled), unfolding(grammar::specs::Reading::read, pas_tree::specs::Rules::index_rule))]
 fn read_index(
     alloc: Global,
-    tokens: &Terminals,
+    tokens: &TerminalList,
     at: u32,
     depth: u32,
 ) -> Result<(Index, u32), ParseFault>
-    ensures gives { Gives tokens.now index_node result (read pascal depth index_rule (items_from tokens.now at)) }
+    ensures gives { ReadsAs tokens.now index_node result (read pascal depth index_rule (items_from tokens.now at)) }
     ensures forward { IfOk result (λ x. at < x.1) }
 {
     let (open, after) = tokens.expect(at, Terminal::LeftBracket)?;
@@ -295,11 +295,11 @@ fn read_index(
 #[cycle(expressions)]
 fn read_next_expressions(
     alloc: Global,
-    tokens: &Terminals,
+    tokens: &TerminalList,
     at: u32,
     depth: u32,
 ) -> Result<(Vec<NextExpression>, u32), ParseFault>
-    ensures gives { Gives tokens.now (λ v. row (map next_expression_node v.items)) result (read pascal depth (many (k.Comma ∷ []) next_expression_rule) (items_from tokens.now at)) }
+    ensures gives { ReadsAs tokens.now (λ v. row (map next_expression_node v.items)) result (read pascal depth (many (k.Comma ∷ []) next_expression_rule) (items_from tokens.now at)) }
     ensures forward { IfOk result (λ x. at ≤ x.1) }
 {
     let mut others = Vec::new(alloc);
@@ -316,11 +316,11 @@ fn read_next_expressions(
 #[tactic(auto, unfolding(grammar::specs::Reading::read, pas_tree::specs::Rules::next_expression_rule))]
 fn read_next_expression(
     alloc: Global,
-    tokens: &Terminals,
+    tokens: &TerminalList,
     at: u32,
     depth: u32,
 ) -> Result<(NextExpression, u32), ParseFault>
-    ensures gives { Gives tokens.now next_expression_node result (read pascal depth next_expression_rule (items_from tokens.now at)) }
+    ensures gives { ReadsAs tokens.now next_expression_node result (read pascal depth next_expression_rule (items_from tokens.now at)) }
     ensures forward { IfOk result (λ x. at < x.1) }
 {
     let (comma, after) = tokens.expect(at, Terminal::Comma)?;
@@ -332,11 +332,11 @@ fn read_next_expression(
 #[cycle(expressions)]
 pub fn read_selectors(
     alloc: Global,
-    tokens: &Terminals,
+    tokens: &TerminalList,
     at: u32,
     depth: u32,
 ) -> Result<(Vec<Selector>, u32), ParseFault>
-    ensures gives { Gives tokens.now (λ v. row (map selector_node v.items)) result (read pascal depth selectors_rule (items_from tokens.now at)) }
+    ensures gives { ReadsAs tokens.now (λ v. row (map selector_node v.items)) result (read pascal depth selectors_rule (items_from tokens.now at)) }
     ensures forward { IfOk result (λ x. at ≤ x.1) }
 {
     let mut others = Vec::new(alloc);
@@ -353,11 +353,11 @@ pub fn read_selectors(
 #[tactic(auto, unfolding(grammar::specs::Reading::read, pas_tree::specs::Rules::selector_rule))]
 fn read_selector(
     alloc: Global,
-    tokens: &Terminals,
+    tokens: &TerminalList,
     at: u32,
     depth: u32,
 ) -> Result<(Selector, u32), ParseFault>
-    ensures gives { Gives tokens.now selector_node result (read pascal depth selector_rule (items_from tokens.now at)) }
+    ensures gives { ReadsAs tokens.now selector_node result (read pascal depth selector_rule (items_from tokens.now at)) }
     ensures forward { IfOk result (λ x. at < x.1) }
 {
     if tokens.is_next(at, Terminal::LeftBracket) {
@@ -377,11 +377,11 @@ fn read_selector(
 #[tactic(auto, using(pas_tree::proofs::ExpressionRolls::members_rolled), unfolding(grammar::specs::Reading::read, pas_tree::specs::Rules::members_rule))]
 fn read_members(
     alloc: Global,
-    tokens: &Terminals,
+    tokens: &TerminalList,
     at: u32,
     depth: u32,
 ) -> Result<(Members, u32), ParseFault>
-    ensures gives { Gives tokens.now members_node result (read pascal depth members_rule (items_from tokens.now at)) }
+    ensures gives { ReadsAs tokens.now members_node result (read pascal depth members_rule (items_from tokens.now at)) }
     ensures forward { IfOk result (λ x. at < x.1) }
 {
     let (open, after) = tokens.expect(at, Terminal::LeftBracket)?;
@@ -404,11 +404,11 @@ fn read_members(
 #[cycle(expressions)]
 fn read_next_members(
     alloc: Global,
-    tokens: &Terminals,
+    tokens: &TerminalList,
     at: u32,
     depth: u32,
 ) -> Result<(Vec<NextMember>, u32), ParseFault>
-    ensures gives { Gives tokens.now (λ v. row (map next_member_node v.items)) result (read pascal depth (many (k.Comma ∷ []) next_member_rule) (items_from tokens.now at)) }
+    ensures gives { ReadsAs tokens.now (λ v. row (map next_member_node v.items)) result (read pascal depth (many (k.Comma ∷ []) next_member_rule) (items_from tokens.now at)) }
     ensures forward { IfOk result (λ x. at ≤ x.1) }
 {
     let mut others = Vec::new(alloc);
@@ -425,11 +425,11 @@ fn read_next_members(
 #[tactic(auto, unfolding(grammar::specs::Reading::read, pas_tree::specs::Rules::next_member_rule))]
 fn read_next_member(
     alloc: Global,
-    tokens: &Terminals,
+    tokens: &TerminalList,
     at: u32,
     depth: u32,
 ) -> Result<(NextMember, u32), ParseFault>
-    ensures gives { Gives tokens.now next_member_node result (read pascal depth next_member_rule (items_from tokens.now at)) }
+    ensures gives { ReadsAs tokens.now next_member_node result (read pascal depth next_member_rule (items_from tokens.now at)) }
     ensures forward { IfOk result (λ x. at < x.1) }
 {
     let (comma, after) = tokens.expect(at, Terminal::Comma)?;
@@ -441,11 +441,11 @@ fn read_next_member(
 #[tactic(auto, unfolding(grammar::specs::Reading::read, pas_tree::specs::Rules::member_rule))]
 fn read_member(
     alloc: Global,
-    tokens: &Terminals,
+    tokens: &TerminalList,
     at: u32,
     depth: u32,
 ) -> Result<(Member, u32), ParseFault>
-    ensures gives { Gives tokens.now member_node result (read pascal depth member_rule (items_from tokens.now at)) }
+    ensures gives { ReadsAs tokens.now member_node result (read pascal depth member_rule (items_from tokens.now at)) }
     ensures forward { IfOk result (λ x. at ≤ x.1) }
 {
     let (first, after) = read_expression(alloc, tokens, at, depth)?;
@@ -463,11 +463,11 @@ fn read_member(
 #[tactic(auto, unfolding(grammar::specs::Reading::read, pas_tree::specs::Rules::access_rule))]
 pub fn read_access(
     alloc: Global,
-    tokens: &Terminals,
+    tokens: &TerminalList,
     at: u32,
     depth: u32,
 ) -> Result<(Access, u32), ParseFault>
-    ensures gives { Gives tokens.now access_node result (read pascal depth access_rule (items_from tokens.now at)) }
+    ensures gives { ReadsAs tokens.now access_node result (read pascal depth access_rule (items_from tokens.now at)) }
     ensures forward { IfOk result (λ x. at < x.1) }
 {
     let (name, after) = tokens.expect(at, Terminal::Name)?;
@@ -476,7 +476,7 @@ pub fn read_access(
 }
 
 /// Whether a factor may begin here.
-fn expects_factor(tokens: &Terminals, at: u32) -> bool
+fn expects_factor(tokens: &TerminalList, at: u32) -> bool
     ensures { result ≡ expects pascal factor (next (items_from tokens.now at)) }
 {
     match tokens.get(at) {

@@ -22,7 +22,7 @@ use Rattle.pas_phrases.specs.declared.fault.ParseFault.{ParseFault}
 use Rattle.pas_phrases.specs.declared.fault.ParseFault.TheVariants as faults
 use Rattle.pas_phrases.specs.Items.{numbered, items_from, Fails}
 use Rattle.pas_phrases.proofs.Ahead.{items_cons, items_end}
-use Rattle.pas_parser.specs.Formed.{IsFormed, IsRefusedAt, IsRefusal, IsThat, NoFormedGoesOn}
+use Rattle.pas_parser.specs.Formed.{IsFormed, IsRefusedAt, IsRefusal, IsTheTree, NoFormedGoesOn}
 
 length-numbered : (n : ℕ) (ks : List Terminal) → length (numbered n ks) ≡ length ks
 length-numbered n [] = refl
@@ -91,7 +91,7 @@ refused_there tokens faults.Memory ended given = tt
 again : (ks : List Terminal) (x : Node) → IsFormed x → spell x ≡ items_from ks 0 → read pascal 200 program_rule (items_from ks 0) ≡ Ok (x, [])
 again ks x formed same = ap (read pascal 200 program_rule) (sym same) ∙ formed_found pascal program_rule pascal_decided 200 x formed
 
-pub not_that : (ks : List Terminal) (e : ParseFault) (x : Node) → Fails ks e (read pascal 200 program_rule (items_from ks 0)) → IsFormed x → spell x ≡ items_from ks 0 → IsThat x (Err e)
+pub not_that : (ks : List Terminal) (e : ParseFault) (x : Node) → Fails ks e (read pascal 200 program_rule (items_from ks 0)) → IsFormed x → spell x ≡ items_from ks 0 → IsTheTree x (Err e)
 not_that ks (faults.NotProgram i) x given formed same = ok_no_err (x, []) (Unfit (items_from ks i)) (sym (again ks x formed same) ∙ given)
 not_that ks (faults.TooDeep i) x given formed same = ok_no_err (x, []) (Deep (items_from ks i)) (sym (again ks x formed same) ∙ given)
 not_that ks faults.Memory x given formed same = tt

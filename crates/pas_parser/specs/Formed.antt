@@ -45,8 +45,8 @@ IsRefusal tokens (Err (TooDeep i)) = IsRefusedAt (terminals_of tokens) i
 IsRefusal tokens (Err Memory) = Unit {0}
 
 -- the answer is that tree, unless memory runs out
-abbrev pub IsThat : Node → Result Tree ParseFault → Type 0
-IsThat x (Ok t) = tree_node t ≡ x
-IsThat x (Err (NotProgram i)) = ⊥
-IsThat x (Err (TooDeep i)) = ⊥
-IsThat x (Err Memory) = Unit {0}
+abbrev pub IsTheTree : Node → Result Tree ParseFault → Type 0
+IsTheTree x (Ok t) = tree_node t ≡ x
+IsTheTree x (Err (NotProgram i)) = ⊥
+IsTheTree x (Err (TooDeep i)) = ⊥
+IsTheTree x (Err Memory) = Unit {0}

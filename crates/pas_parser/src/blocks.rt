@@ -10,14 +10,14 @@ ghost use Rattle.grammar.specs.Deciding.{expects};
 ghost use Rattle.pas_tree.specs.Blocks.{block_node, body_node, constant_definition_node, constant_part_node, label_part_node, next_label_node, parameters_node, routine_node, tree_node, type_definition_node, type_part_node, variable_declaration_node, variable_part_node};
 ghost use Rattle.pas_tree.specs.Rules.{block_rule, body_rule, constant_definition_rule, constant_part_rule, heading_starts, label_part_rule, next_label_rule, parameters_rule, program_rule, routine_rule, type_definition_rule, type_part_rule, variable_declaration_rule, variable_part_rule};
 ghost use Rattle.pas_tree.specs.FirstFollow.{first_of, pascal};
-ghost use Rattle.pas_phrases.specs.Items.{Gives, items_from};
+ghost use Rattle.pas_phrases.specs.Items.{ReadsAs, items_from};
 
 use crate::statements::read_compound;
 use grammar::Terminal;
 use pas_denoters::{read_denoter, read_heading};
 use pas_phrases::ParseFault;
 use pas_phrases::constants::{read_constant, read_names};
-use pas_phrases::looking::Terminals;
+use pas_phrases::looking::TerminalList;
 use pas_tree::blocks::{
     Block, Body, ConstantDefinition, ConstantPart, LabelPart, NextLabel, Parameters, Routine, Tree,
     TypeDefinition, TypePart, VariableDeclaration, VariablePart,
@@ -28,11 +28,11 @@ use std::alloc::Global;
 #[tactic(auto, unfolding(grammar::specs::Reading::read, pas_tree::specs::Rules::program_rule))]
 pub fn read_tree(
     alloc: Global,
-    tokens: &Terminals,
+    tokens: &TerminalList,
     at: u32,
     depth: u32,
 ) -> Result<(Tree, u32), ParseFault>
-    ensures gives { Gives tokens.now tree_node result (read pascal depth program_rule (items_from tokens.now at)) }
+    ensures gives { ReadsAs tokens.now tree_node result (read pascal depth program_rule (items_from tokens.now at)) }
     ensures forward { IfOk result (λ x. at < x.1) }
 {
     let (word, after) = tokens.expect(at, Terminal::WProgram)?;
@@ -56,11 +56,11 @@ pub fn read_tree(
 #[tactic(auto, unfolding(grammar::specs::Reading::read))]
 fn read_rest(
     alloc: Global,
-    tokens: &Terminals,
+    tokens: &TerminalList,
     at: u32,
     depth: u32,
 ) -> Result<((Block, u32, u32), u32), ParseFault>
-    ensures gives { Gives tokens.now (λ p. Pair (block_node p.0) (Pair (leaf k.Dot p.1) (leaf k.End p.2))) result (read pascal depth (seq (level block) (seq (word k.Dot) (word k.End))) (items_from tokens.now at)) }
+    ensures gives { ReadsAs tokens.now (λ p. Pair (block_node p.0) (Pair (leaf k.Dot p.1) (leaf k.End p.2))) result (read pascal depth (seq (level block) (seq (word k.Dot) (word k.End))) (items_from tokens.now at)) }
     ensures forward { IfOk result (λ x. at < x.1) }
 {
     let (block, after) = read_block(alloc, tokens, at, depth)?;
@@ -70,8 +70,8 @@ fn read_rest(
 
 /// Reads the dot of a program, and takes the token behind the last one.
 #[tactic(auto, unfolding(grammar::specs::Reading::read))]
-fn read_end(tokens: &Terminals, at: u32, _depth: u32) -> Result<((u32, u32), u32), ParseFault>
-    ensures gives { Gives tokens.now (λ p. Pair (leaf k.Dot p.0) (leaf k.End p.1)) result (read pascal _depth (seq (word k.Dot) (word k.End)) (items_from tokens.now at)) }
+fn read_end(tokens: &TerminalList, at: u32, _depth: u32) -> Result<((u32, u32), u32), ParseFault>
+    ensures gives { ReadsAs tokens.now (λ p. Pair (leaf k.Dot p.0) (leaf k.End p.1)) result (read pascal _depth (seq (word k.Dot) (word k.End)) (items_from tokens.now at)) }
     ensures forward { IfOk result (λ x. at < x.1) }
 {
     let (dot, after) = tokens.expect(at, Terminal::Dot)?;
@@ -82,11 +82,11 @@ fn read_end(tokens: &Terminals, at: u32, _depth: u32) -> Result<((u32, u32), u32
 #[tactic(auto, unfolding(grammar::specs::Reading::read, pas_tree::specs::Rules::parameters_rule))]
 fn read_parameters(
     alloc: Global,
-    tokens: &Terminals,
+    tokens: &TerminalList,
     at: u32,
     depth: u32,
 ) -> Result<(Option<Parameters>, u32), ParseFault>
-    ensures gives { Gives tokens.now parameters_node result (read pascal depth parameters_rule (items_from tokens.now at)) }
+    ensures gives { ReadsAs tokens.now parameters_node result (read pascal depth parameters_rule (items_from tokens.now at)) }
     ensures forward { IfOk result (λ x. at ≤ x.1) }
 {
     if !tokens.is_next(at, Terminal::LeftParen) {
@@ -102,11 +102,11 @@ fn read_parameters(
 #[tactic(auto, unfolding(grammar::specs::Reading::read, grammar::specs::Reading::levels))]
 fn read_block(
     alloc: Global,
-    tokens: &Terminals,
+    tokens: &TerminalList,
     at: u32,
     depth: u32,
 ) -> Result<(Block, u32), ParseFault>
-    ensures gives { Gives tokens.now block_node result (levels pascal depth block (items_from tokens.now at)) }
+    ensures gives { ReadsAs tokens.now block_node result (levels pascal depth block (items_from tokens.now at)) }
     ensures forward { IfOk result (λ x. at ≤ x.1) }
 {
     if depth == 0 {
@@ -122,11 +122,11 @@ fn read_block(
 #[tactic(auto, using(pas_tree::proofs::BlockRolls::block_rolled), unfolding(grammar::specs::Reading::read, pas_tree::specs::Rules::block_rule, pas_tree::specs::Rules::routines_rule))]
 fn read_inner_block(
     alloc: Global,
-    tokens: &Terminals,
+    tokens: &TerminalList,
     at: u32,
     depth: u32,
 ) -> Result<(Block, u32), ParseFault>
-    ensures gives { Gives tokens.now block_node result (read pascal depth block_rule (items_from tokens.now at)) }
+    ensures gives { ReadsAs tokens.now block_node result (read pascal depth block_rule (items_from tokens.now at)) }
     ensures forward { IfOk result (λ x. at ≤ x.1) }
 {
     let (labels, after) = read_label_part(alloc, tokens, at, depth)?;
@@ -149,11 +149,11 @@ fn read_inner_block(
 #[cycle(blocks)]
 fn read_routines(
     alloc: Global,
-    tokens: &Terminals,
+    tokens: &TerminalList,
     at: u32,
     depth: u32,
 ) -> Result<(Vec<Routine>, u32), ParseFault>
-    ensures gives { Gives tokens.now (λ v. row (map routine_node v.items)) result (read pascal depth (many heading_starts routine_rule) (items_from tokens.now at)) }
+    ensures gives { ReadsAs tokens.now (λ v. row (map routine_node v.items)) result (read pascal depth (many heading_starts routine_rule) (items_from tokens.now at)) }
     ensures forward { IfOk result (λ x. at ≤ x.1) }
 {
     let mut others = Vec::new(alloc);
@@ -170,11 +170,11 @@ fn read_routines(
 #[tactic(auto, unfolding(grammar::specs::Reading::read, pas_tree::specs::Rules::routine_rule))]
 fn read_routine(
     alloc: Global,
-    tokens: &Terminals,
+    tokens: &TerminalList,
     at: u32,
     depth: u32,
 ) -> Result<(Routine, u32), ParseFault>
-    ensures gives { Gives tokens.now routine_node result (read pascal depth routine_rule (items_from tokens.now at)) }
+    ensures gives { ReadsAs tokens.now routine_node result (read pascal depth routine_rule (items_from tokens.now at)) }
     ensures forward { IfOk result (λ x. at < x.1) }
 {
     let (heading, after) = read_heading(alloc, tokens, at, depth)?;
@@ -194,11 +194,11 @@ fn read_routine(
 #[tactic(auto, unfolding(grammar::specs::Reading::read, pas_tree::specs::Rules::body_rule))]
 fn read_body(
     alloc: Global,
-    tokens: &Terminals,
+    tokens: &TerminalList,
     at: u32,
     depth: u32,
 ) -> Result<(Body, u32), ParseFault>
-    ensures gives { Gives tokens.now body_node result (read pascal depth body_rule (items_from tokens.now at)) }
+    ensures gives { ReadsAs tokens.now body_node result (read pascal depth body_rule (items_from tokens.now at)) }
     ensures forward { IfOk result (λ x. at ≤ x.1) }
 {
     if tokens.is_next(at, Terminal::Name) {
@@ -212,11 +212,11 @@ fn read_body(
 #[tactic(auto, unfolding(grammar::specs::Reading::read, pas_tree::specs::Rules::label_part_rule))]
 fn read_label_part(
     alloc: Global,
-    tokens: &Terminals,
+    tokens: &TerminalList,
     at: u32,
     depth: u32,
 ) -> Result<(Option<LabelPart>, u32), ParseFault>
-    ensures gives { Gives tokens.now label_part_node result (read pascal depth label_part_rule (items_from tokens.now at)) }
+    ensures gives { ReadsAs tokens.now label_part_node result (read pascal depth label_part_rule (items_from tokens.now at)) }
     ensures forward { IfOk result (λ x. at ≤ x.1) }
 {
     if !tokens.is_next(at, Terminal::WLabel) {
@@ -237,11 +237,11 @@ fn read_label_part(
 
 fn read_next_labels(
     alloc: Global,
-    tokens: &Terminals,
+    tokens: &TerminalList,
     at: u32,
     depth: u32,
 ) -> Result<(Vec<NextLabel>, u32), ParseFault>
-    ensures gives { Gives tokens.now (λ v. row (map next_label_node v.items)) result (read pascal depth (many (k.Comma ∷ []) next_label_rule) (items_from tokens.now at)) }
+    ensures gives { ReadsAs tokens.now (λ v. row (map next_label_node v.items)) result (read pascal depth (many (k.Comma ∷ []) next_label_rule) (items_from tokens.now at)) }
     ensures forward { IfOk result (λ x. at ≤ x.1) }
 {
     let mut others = Vec::new(alloc);
@@ -255,8 +255,8 @@ fn read_next_labels(
 }
 
 #[tactic(auto, unfolding(grammar::specs::Reading::read, pas_tree::specs::Rules::next_label_rule))]
-fn read_next_label(tokens: &Terminals, at: u32, _depth: u32) -> Result<(NextLabel, u32), ParseFault>
-    ensures gives { Gives tokens.now next_label_node result (read pascal _depth next_label_rule (items_from tokens.now at)) }
+fn read_next_label(tokens: &TerminalList, at: u32, _depth: u32) -> Result<(NextLabel, u32), ParseFault>
+    ensures gives { ReadsAs tokens.now next_label_node result (read pascal _depth next_label_rule (items_from tokens.now at)) }
     ensures forward { IfOk result (λ x. at < x.1) }
 {
     let (comma, after) = tokens.expect(at, Terminal::Comma)?;
@@ -267,11 +267,11 @@ fn read_next_label(tokens: &Terminals, at: u32, _depth: u32) -> Result<(NextLabe
 #[tactic(auto, unfolding(grammar::specs::Reading::read, pas_tree::specs::Rules::constant_part_rule))]
 fn read_constant_part(
     alloc: Global,
-    tokens: &Terminals,
+    tokens: &TerminalList,
     at: u32,
     depth: u32,
 ) -> Result<(Option<ConstantPart>, u32), ParseFault>
-    ensures gives { Gives tokens.now constant_part_node result (read pascal depth constant_part_rule (items_from tokens.now at)) }
+    ensures gives { ReadsAs tokens.now constant_part_node result (read pascal depth constant_part_rule (items_from tokens.now at)) }
     ensures forward { IfOk result (λ x. at ≤ x.1) }
 {
     if !tokens.is_next(at, Terminal::WConst) {
@@ -290,11 +290,11 @@ fn read_constant_part(
 
 fn read_constant_definitions(
     alloc: Global,
-    tokens: &Terminals,
+    tokens: &TerminalList,
     at: u32,
     depth: u32,
 ) -> Result<(Vec<ConstantDefinition>, u32), ParseFault>
-    ensures gives { Gives tokens.now (λ v. row (map constant_definition_node v.items)) result (read pascal depth (many (k.Name ∷ []) constant_definition_rule) (items_from tokens.now at)) }
+    ensures gives { ReadsAs tokens.now (λ v. row (map constant_definition_node v.items)) result (read pascal depth (many (k.Name ∷ []) constant_definition_rule) (items_from tokens.now at)) }
     ensures forward { IfOk result (λ x. at ≤ x.1) }
 {
     let mut others = Vec::new(alloc);
@@ -310,11 +310,11 @@ fn read_constant_definitions(
 #[tactic(auto, unfolding(grammar::specs::Reading::read, pas_tree::specs::Rules::type_part_rule))]
 fn read_type_part(
     alloc: Global,
-    tokens: &Terminals,
+    tokens: &TerminalList,
     at: u32,
     depth: u32,
 ) -> Result<(Option<TypePart>, u32), ParseFault>
-    ensures gives { Gives tokens.now type_part_node result (read pascal depth type_part_rule (items_from tokens.now at)) }
+    ensures gives { ReadsAs tokens.now type_part_node result (read pascal depth type_part_rule (items_from tokens.now at)) }
     ensures forward { IfOk result (λ x. at ≤ x.1) }
 {
     if !tokens.is_next(at, Terminal::WType) {
@@ -333,11 +333,11 @@ fn read_type_part(
 
 fn read_type_definitions(
     alloc: Global,
-    tokens: &Terminals,
+    tokens: &TerminalList,
     at: u32,
     depth: u32,
 ) -> Result<(Vec<TypeDefinition>, u32), ParseFault>
-    ensures gives { Gives tokens.now (λ v. row (map type_definition_node v.items)) result (read pascal depth (many (k.Name ∷ []) type_definition_rule) (items_from tokens.now at)) }
+    ensures gives { ReadsAs tokens.now (λ v. row (map type_definition_node v.items)) result (read pascal depth (many (k.Name ∷ []) type_definition_rule) (items_from tokens.now at)) }
     ensures forward { IfOk result (λ x. at ≤ x.1) }
 {
     let mut others = Vec::new(alloc);
@@ -353,11 +353,11 @@ fn read_type_definitions(
 #[tactic(auto, unfolding(grammar::specs::Reading::read, pas_tree::specs::Rules::variable_part_rule))]
 fn read_variable_part(
     alloc: Global,
-    tokens: &Terminals,
+    tokens: &TerminalList,
     at: u32,
     depth: u32,
 ) -> Result<(Option<VariablePart>, u32), ParseFault>
-    ensures gives { Gives tokens.now variable_part_node result (read pascal depth variable_part_rule (items_from tokens.now at)) }
+    ensures gives { ReadsAs tokens.now variable_part_node result (read pascal depth variable_part_rule (items_from tokens.now at)) }
     ensures forward { IfOk result (λ x. at ≤ x.1) }
 {
     if !tokens.is_next(at, Terminal::WVar) {
@@ -376,11 +376,11 @@ fn read_variable_part(
 
 fn read_variable_declarations(
     alloc: Global,
-    tokens: &Terminals,
+    tokens: &TerminalList,
     at: u32,
     depth: u32,
 ) -> Result<(Vec<VariableDeclaration>, u32), ParseFault>
-    ensures gives { Gives tokens.now (λ v. row (map variable_declaration_node v.items)) result (read pascal depth (many (k.Name ∷ []) variable_declaration_rule) (items_from tokens.now at)) }
+    ensures gives { ReadsAs tokens.now (λ v. row (map variable_declaration_node v.items)) result (read pascal depth (many (k.Name ∷ []) variable_declaration_rule) (items_from tokens.now at)) }
     ensures forward { IfOk result (λ x. at ≤ x.1) }
 {
     let mut others = Vec::new(alloc);
@@ -395,11 +395,11 @@ fn read_variable_declarations(
 
 #[tactic(auto, unfolding(grammar::specs::Reading::read, pas_tree::specs::Rules::constant_definition_rule))]
 fn read_constant_definition(
-    tokens: &Terminals,
+    tokens: &TerminalList,
     at: u32,
     depth: u32,
 ) -> Result<(ConstantDefinition, u32), ParseFault>
-    ensures gives { Gives tokens.now constant_definition_node result (read pascal depth constant_definition_rule (items_from tokens.now at)) }
+    ensures gives { ReadsAs tokens.now constant_definition_node result (read pascal depth constant_definition_rule (items_from tokens.now at)) }
     ensures forward { IfOk result (λ x. at < x.1) }
 {
     let (name, after) = tokens.expect(at, Terminal::Name)?;
@@ -418,11 +418,11 @@ fn read_constant_definition(
 #[tactic(auto, unfolding(grammar::specs::Reading::read, pas_tree::specs::Rules::type_definition_rule))]
 fn read_type_definition(
     alloc: Global,
-    tokens: &Terminals,
+    tokens: &TerminalList,
     at: u32,
     depth: u32,
 ) -> Result<(TypeDefinition, u32), ParseFault>
-    ensures gives { Gives tokens.now type_definition_node result (read pascal depth type_definition_rule (items_from tokens.now at)) }
+    ensures gives { ReadsAs tokens.now type_definition_node result (read pascal depth type_definition_rule (items_from tokens.now at)) }
     ensures forward { IfOk result (λ x. at < x.1) }
 {
     let (name, after) = tokens.expect(at, Terminal::Name)?;
@@ -441,11 +441,11 @@ fn read_type_definition(
 #[tactic(auto, unfolding(grammar::specs::Reading::read, pas_tree::specs::Rules::variable_declaration_rule))]
 fn read_variable_declaration(
     alloc: Global,
-    tokens: &Terminals,
+    tokens: &TerminalList,
     at: u32,
     depth: u32,
 ) -> Result<(VariableDeclaration, u32), ParseFault>
-    ensures gives { Gives tokens.now variable_declaration_node result (read pascal depth variable_declaration_rule (items_from tokens.now at)) }
+    ensures gives { ReadsAs tokens.now variable_declaration_node result (read pascal depth variable_declaration_rule (items_from tokens.now at)) }
     ensures forward { IfOk result (λ x. at < x.1) }
 {
     let (names, after) = read_names(alloc, tokens, at, depth)?;
@@ -462,7 +462,7 @@ fn read_variable_declaration(
 }
 
 /// Whether a heading is next.
-fn is_next_heading(tokens: &Terminals, at: u32) -> bool
+fn is_next_heading(tokens: &TerminalList, at: u32) -> bool
     ensures tests { result ≡ passes heading_starts (next (items_from tokens.now at)) }
     ensures inside { IsTrue result → at < length tokens.now }
 {
@@ -470,7 +470,7 @@ fn is_next_heading(tokens: &Terminals, at: u32) -> bool
 }
 
 /// Whether a block may begin here.
-fn expects_block(tokens: &Terminals, at: u32) -> bool
+fn expects_block(tokens: &TerminalList, at: u32) -> bool
     ensures { result ≡ expects pascal block (next (items_from tokens.now at)) }
 {
     match tokens.get(at) {

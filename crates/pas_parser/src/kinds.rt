@@ -6,11 +6,11 @@ ghost use Rattle.pas_parser.specs.Kinds.{symbol_of, terminal_of, terminals_of, w
 
 use grammar::Terminal;
 use pas_lexer::{Kind, Symbol, Tokens, Word};
-use pas_phrases::looking::Terminals;
+use pas_phrases::looking::TerminalList;
 use std::alloc::{AllocError, Global};
 
 /// The terminals of the tokens of a source.
-pub fn terminals(alloc: Global, tokens: &Tokens) -> Result<Terminals, AllocError>
+pub fn terminals(alloc: Global, tokens: &Tokens) -> Result<TerminalList, AllocError>
     ensures all { IfOk result (λ t. t ≡ terminals_of tokens.now.tokens) }
     ensures ended { EndsOnce tokens.now.tokens }
 {
@@ -22,7 +22,7 @@ pub fn terminals(alloc: Global, tokens: &Tokens) -> Result<Terminals, AllocError
         items.push(terminal(token.kind))?;
         next += 1;
     }
-    Ok(Terminals::new(items))
+    Ok(TerminalList::new(items))
 }
 
 /// The terminal of a kind of token.

@@ -4,7 +4,7 @@ ghost use Rattle.std.specs.Prelude.{◌≡◌, IfOk};
 ghost use Rattle.grammar.specs.Nodes.{Node, spell};
 ghost use Rattle.pas_tree.specs.Blocks.{tree_node};
 ghost use Rattle.pas_parser.specs.Exact.{IsExact};
-ghost use Rattle.pas_parser.specs.Formed.{IsFormed, IsRefusal, IsThat, items_of};
+ghost use Rattle.pas_parser.specs.Formed.{IsFormed, IsRefusal, IsTheTree, items_of};
 
 use crate::blocks::read_tree;
 use crate::kinds::terminals;
@@ -22,7 +22,7 @@ pub fn parse(alloc: Global, tokens: &Tokens) -> Result<Tree, ParseFault>
     ensures found { IfOk result (λ t. IsFormed (tree_node t) × (spell (tree_node t) ≡ items_of tokens.now.tokens)) }
 
     // Where a formed tree spells them, it is the answer, unless memory runs out.
-    ensures only { (x : Node) → IsFormed x → spell x ≡ items_of tokens.now.tokens → IsThat x result }
+    ensures only { (x : Node) → IsFormed x → spell x ≡ items_of tokens.now.tokens → IsTheTree x result }
 
     // A refusal names a token such that no formed tree's spelling begins with the tokens up to it.
     ensures refused { IsRefusal tokens.now.tokens result }

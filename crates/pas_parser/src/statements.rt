@@ -11,14 +11,14 @@ ghost use Rattle.pas_tree.specs.Denoters.{last_semicolon_node};
 ghost use Rattle.pas_tree.specs.Statements.{actual_node, actuals_node, alternative_node, branch_node, branch_step, case_node, compound_node, for_node, if_node, label_node, next_access_node, next_actual_node, next_statement_node, plain_node, repeat_node, statement_node, statements_node, while_node, with_node};
 ghost use Rattle.pas_tree.specs.Rules.{actual_rule, actuals_rule, alternative_rule, assignment_starts, branch_rule, case_rule, compound_rule, constant_starts, counted_rule, for_rule, if_rule, label_rule, named_statement_rule, next_access_rule, next_actual_rule, next_statement_rule, plain_rule, repeat_rule, statement_rule, statements_rule, while_rule, with_rule};
 ghost use Rattle.pas_tree.specs.FirstFollow.{first_of, follow_of, pascal};
-ghost use Rattle.pas_phrases.specs.Items.{Gives, items_from};
+ghost use Rattle.pas_phrases.specs.Items.{ReadsAs, items_from};
 ghost use Rattle.pas_parser.specs.Closers.{closer_of};
 
 use grammar::Terminal;
 use pas_expressions::{read_access, read_expression, read_selectors};
 use pas_phrases::ParseFault;
 use pas_phrases::constants::read_constants;
-use pas_phrases::looking::Terminals;
+use pas_phrases::looking::TerminalList;
 use pas_phrases::operators::expect_direction;
 use pas_phrases::separators::{is_next_case, read_last_semicolon};
 use pas_tree::expressions::Access;
@@ -41,11 +41,11 @@ pub enum Closer {
 #[tactic(auto, unfolding(grammar::specs::Reading::read, pas_tree::specs::Rules::compound_rule))]
 pub fn read_compound(
     alloc: Global,
-    tokens: &Terminals,
+    tokens: &TerminalList,
     at: u32,
     depth: u32,
 ) -> Result<(Compound, u32), ParseFault>
-    ensures gives { Gives tokens.now compound_node result (read pascal depth compound_rule (items_from tokens.now at)) }
+    ensures gives { ReadsAs tokens.now compound_node result (read pascal depth compound_rule (items_from tokens.now at)) }
     ensures forward { IfOk result (λ x. at < x.1) }
 {
     let (begin, after) = tokens.expect(at, Terminal::WBegin)?;
@@ -63,12 +63,12 @@ pub fn read_compound(
 #[tactic(auto, using(pas_tree::proofs::StatementRolls::statements_rolled), unfolding(grammar::specs::Reading::read, pas_tree::specs::Rules::statements_rule))]
 fn read_statements(
     alloc: Global,
-    tokens: &Terminals,
+    tokens: &TerminalList,
     at: u32,
     depth: u32,
     closer: Closer,
 ) -> Result<(Statements, u32), ParseFault>
-    ensures gives { Gives tokens.now statements_node result (read pascal depth (statements_rule (closer_of closer)) (items_from tokens.now at)) }
+    ensures gives { ReadsAs tokens.now statements_node result (read pascal depth (statements_rule (closer_of closer)) (items_from tokens.now at)) }
     ensures forward { IfOk result (λ x. at ≤ x.1) }
 {
     let (first, after) = read_statement(alloc, tokens, at, depth, false, closer)?;
@@ -79,12 +79,12 @@ fn read_statements(
 #[cycle(statements)]
 fn read_next_statements(
     alloc: Global,
-    tokens: &Terminals,
+    tokens: &TerminalList,
     at: u32,
     depth: u32,
     closer: Closer,
 ) -> Result<(Vec<NextStatement>, u32), ParseFault>
-    ensures gives { Gives tokens.now (λ v. row (map next_statement_node v.items)) result (read pascal depth (many (k.Semicolon ∷ []) (next_statement_rule (closer_of closer))) (items_from tokens.now at)) }
+    ensures gives { ReadsAs tokens.now (λ v. row (map next_statement_node v.items)) result (read pascal depth (many (k.Semicolon ∷ []) (next_statement_rule (closer_of closer))) (items_from tokens.now at)) }
     ensures forward { IfOk result (λ x. at ≤ x.1) }
 {
     let mut others = Vec::new(alloc);
@@ -101,12 +101,12 @@ fn read_next_statements(
 #[tactic(auto, unfolding(grammar::specs::Reading::read, pas_tree::specs::Rules::next_statement_rule))]
 fn read_next_statement(
     alloc: Global,
-    tokens: &Terminals,
+    tokens: &TerminalList,
     at: u32,
     depth: u32,
     closer: Closer,
 ) -> Result<(NextStatement, u32), ParseFault>
-    ensures gives { Gives tokens.now next_statement_node result (read pascal depth (next_statement_rule (closer_of closer)) (items_from tokens.now at)) }
+    ensures gives { ReadsAs tokens.now next_statement_node result (read pascal depth (next_statement_rule (closer_of closer)) (items_from tokens.now at)) }
     ensures forward { IfOk result (λ x. at < x.1) }
 {
     let (semicolon, after) = tokens.expect(at, Terminal::Semicolon)?;
@@ -122,13 +122,13 @@ fn read_next_statement(
 #[tactic(auto, unfolding(grammar::specs::Reading::read, grammar::specs::Reading::levels))]
 fn read_statement(
     alloc: Global,
-    tokens: &Terminals,
+    tokens: &TerminalList,
     at: u32,
     depth: u32,
     inner: bool,
     closer: Closer,
 ) -> Result<(Statement, u32), ParseFault>
-    ensures gives { Gives tokens.now statement_node result (levels pascal depth (statement inner (closer_of closer)) (items_from tokens.now at)) }
+    ensures gives { ReadsAs tokens.now statement_node result (levels pascal depth (statement inner (closer_of closer)) (items_from tokens.now at)) }
     ensures forward { IfOk result (λ x. at ≤ x.1) }
 {
     if depth == 0 {
@@ -144,13 +144,13 @@ fn read_statement(
 #[tactic(auto, unfolding(grammar::specs::Reading::read, pas_tree::specs::Rules::statement_rule))]
 fn read_inner_statement(
     alloc: Global,
-    tokens: &Terminals,
+    tokens: &TerminalList,
     at: u32,
     depth: u32,
     inner: bool,
     closer: Closer,
 ) -> Result<(Statement, u32), ParseFault>
-    ensures gives { Gives tokens.now statement_node result (read pascal depth (statement_rule inner (closer_of closer)) (items_from tokens.now at)) }
+    ensures gives { ReadsAs tokens.now statement_node result (read pascal depth (statement_rule inner (closer_of closer)) (items_from tokens.now at)) }
     ensures forward { IfOk result (λ x. at ≤ x.1) }
 {
     let (label, after) = read_label(tokens, at, depth)?;
@@ -159,8 +159,8 @@ fn read_inner_statement(
 }
 
 #[tactic(auto, unfolding(grammar::specs::Reading::read, pas_tree::specs::Rules::label_rule))]
-fn read_label(tokens: &Terminals, at: u32, _depth: u32) -> Result<(Option<Label>, u32), ParseFault>
-    ensures gives { Gives tokens.now label_node result (read pascal _depth label_rule (items_from tokens.now at)) }
+fn read_label(tokens: &TerminalList, at: u32, _depth: u32) -> Result<(Option<Label>, u32), ParseFault>
+    ensures gives { ReadsAs tokens.now label_node result (read pascal _depth label_rule (items_from tokens.now at)) }
     ensures forward { IfOk result (λ x. at ≤ x.1) }
 {
     if !tokens.is_next(at, Terminal::Number) {
@@ -175,13 +175,13 @@ fn read_label(tokens: &Terminals, at: u32, _depth: u32) -> Result<(Option<Label>
 #[tactic(auto, unfolding(grammar::specs::Reading::read, pas_tree::specs::Rules::plain_rule, pas_tree::specs::Rules::goto_rule))]
 fn read_plain(
     alloc: Global,
-    tokens: &Terminals,
+    tokens: &TerminalList,
     at: u32,
     depth: u32,
     inner: bool,
     closer: Closer,
 ) -> Result<(Plain, u32), ParseFault>
-    ensures gives { Gives tokens.now plain_node result (read pascal depth (plain_rule inner (closer_of closer)) (items_from tokens.now at)) }
+    ensures gives { ReadsAs tokens.now plain_node result (read pascal depth (plain_rule inner (closer_of closer)) (items_from tokens.now at)) }
     ensures forward { IfOk result (λ x. at ≤ x.1) }
 {
     if tokens.is_next(at, Terminal::Name) {
@@ -215,13 +215,13 @@ fn read_plain(
 #[tactic(auto, unfolding(grammar::specs::Reading::read, pas_tree::specs::Rules::counted_rule))]
 fn read_counted(
     alloc: Global,
-    tokens: &Terminals,
+    tokens: &TerminalList,
     at: u32,
     depth: u32,
     inner: bool,
     closer: Closer,
 ) -> Result<(Plain, u32), ParseFault>
-    ensures gives { Gives tokens.now plain_node result (read pascal depth (counted_rule inner (closer_of closer)) (items_from tokens.now at)) }
+    ensures gives { ReadsAs tokens.now plain_node result (read pascal depth (counted_rule inner (closer_of closer)) (items_from tokens.now at)) }
     ensures forward { IfOk result (λ x. at ≤ x.1) }
 {
     if tokens.is_next(at, Terminal::WWhile) {
@@ -242,11 +242,11 @@ fn read_counted(
 #[tactic(auto, unfolding(grammar::specs::Reading::read, pas_tree::specs::Rules::named_statement_rule, pas_tree::specs::Rules::assignment_rule))]
 fn read_named(
     alloc: Global,
-    tokens: &Terminals,
+    tokens: &TerminalList,
     at: u32,
     depth: u32,
 ) -> Result<(Plain, u32), ParseFault>
-    ensures gives { Gives tokens.now plain_node result (read pascal depth named_statement_rule (items_from tokens.now at)) }
+    ensures gives { ReadsAs tokens.now plain_node result (read pascal depth named_statement_rule (items_from tokens.now at)) }
     ensures forward { IfOk result (λ x. at < x.1) }
 {
     let (name, after) = tokens.expect(at, Terminal::Name)?;
@@ -272,11 +272,11 @@ fn read_named(
 #[tactic(auto, unfolding(grammar::specs::Reading::read, pas_tree::specs::Rules::actuals_rule))]
 fn read_actuals(
     alloc: Global,
-    tokens: &Terminals,
+    tokens: &TerminalList,
     at: u32,
     depth: u32,
 ) -> Result<(Actuals, u32), ParseFault>
-    ensures gives { Gives tokens.now actuals_node result (read pascal depth actuals_rule (items_from tokens.now at)) }
+    ensures gives { ReadsAs tokens.now actuals_node result (read pascal depth actuals_rule (items_from tokens.now at)) }
     ensures forward { IfOk result (λ x. at < x.1) }
 {
     let (open, after) = tokens.expect(at, Terminal::LeftParen)?;
@@ -294,11 +294,11 @@ fn read_actuals(
 
 fn read_next_actuals(
     alloc: Global,
-    tokens: &Terminals,
+    tokens: &TerminalList,
     at: u32,
     depth: u32,
 ) -> Result<(Vec<NextActual>, u32), ParseFault>
-    ensures gives { Gives tokens.now (λ v. row (map next_actual_node v.items)) result (read pascal depth (many (k.Comma ∷ []) next_actual_rule) (items_from tokens.now at)) }
+    ensures gives { ReadsAs tokens.now (λ v. row (map next_actual_node v.items)) result (read pascal depth (many (k.Comma ∷ []) next_actual_rule) (items_from tokens.now at)) }
     ensures forward { IfOk result (λ x. at ≤ x.1) }
 {
     let mut others = Vec::new(alloc);
@@ -314,11 +314,11 @@ fn read_next_actuals(
 #[tactic(auto, unfolding(grammar::specs::Reading::read, pas_tree::specs::Rules::next_actual_rule))]
 fn read_next_actual(
     alloc: Global,
-    tokens: &Terminals,
+    tokens: &TerminalList,
     at: u32,
     depth: u32,
 ) -> Result<(NextActual, u32), ParseFault>
-    ensures gives { Gives tokens.now next_actual_node result (read pascal depth next_actual_rule (items_from tokens.now at)) }
+    ensures gives { ReadsAs tokens.now next_actual_node result (read pascal depth next_actual_rule (items_from tokens.now at)) }
     ensures forward { IfOk result (λ x. at < x.1) }
 {
     let (comma, after) = tokens.expect(at, Terminal::Comma)?;
@@ -329,11 +329,11 @@ fn read_next_actual(
 #[tactic(auto, unfolding(grammar::specs::Reading::read, pas_tree::specs::Rules::actual_rule))]
 fn read_actual(
     alloc: Global,
-    tokens: &Terminals,
+    tokens: &TerminalList,
     at: u32,
     depth: u32,
 ) -> Result<(Actual, u32), ParseFault>
-    ensures gives { Gives tokens.now actual_node result (read pascal depth actual_rule (items_from tokens.now at)) }
+    ensures gives { ReadsAs tokens.now actual_node result (read pascal depth actual_rule (items_from tokens.now at)) }
     ensures forward { IfOk result (λ x. at ≤ x.1) }
 {
     let (expression, after) = read_expression(alloc, tokens, at, depth)?;
@@ -351,13 +351,13 @@ fn read_actual(
 #[tactic(auto, unfolding(grammar::specs::Reading::read, pas_tree::specs::Rules::if_rule, pas_tree::specs::Rules::else_rule, pas_tree::specs::Rules::alternative_rule))]
 fn read_if(
     alloc: Global,
-    tokens: &Terminals,
+    tokens: &TerminalList,
     at: u32,
     depth: u32,
     inner: bool,
     closer: Closer,
 ) -> Result<(If, u32), ParseFault>
-    ensures gives { Gives tokens.now if_node result (read pascal depth (if_rule inner (closer_of closer)) (items_from tokens.now at)) }
+    ensures gives { ReadsAs tokens.now if_node result (read pascal depth (if_rule inner (closer_of closer)) (items_from tokens.now at)) }
     ensures forward { IfOk result (λ x. at < x.1) }
 {
     let (word, after) = tokens.expect(at, Terminal::WIf)?;
@@ -391,13 +391,13 @@ fn read_if(
 #[tactic(auto, unfolding(grammar::specs::Reading::read, pas_tree::specs::Rules::alternative_rule))]
 fn read_else(
     alloc: Global,
-    tokens: &Terminals,
+    tokens: &TerminalList,
     at: u32,
     depth: u32,
     inner: bool,
     closer: Closer,
 ) -> Result<(Else, u32), ParseFault>
-    ensures gives { Gives tokens.now alternative_node result (read pascal depth (alternative_rule inner (closer_of closer)) (items_from tokens.now at)) }
+    ensures gives { ReadsAs tokens.now alternative_node result (read pascal depth (alternative_rule inner (closer_of closer)) (items_from tokens.now at)) }
     ensures forward { IfOk result (λ x. at < x.1) }
 {
     let (word, after) = tokens.expect(at, Terminal::WElse)?;
@@ -409,11 +409,11 @@ fn read_else(
 #[tactic(auto, using(pas_tree::proofs::StatementRolls::case_rolled), unfolding(grammar::specs::Reading::read, pas_tree::specs::Rules::case_rule))]
 fn read_case(
     alloc: Global,
-    tokens: &Terminals,
+    tokens: &TerminalList,
     at: u32,
     depth: u32,
 ) -> Result<(Case, u32), ParseFault>
-    ensures gives { Gives tokens.now case_node result (read pascal depth case_rule (items_from tokens.now at)) }
+    ensures gives { ReadsAs tokens.now case_node result (read pascal depth case_rule (items_from tokens.now at)) }
     ensures forward { IfOk result (λ x. at < x.1) }
 {
     let (word, after) = tokens.expect(at, Terminal::WCase)?;
@@ -438,11 +438,11 @@ fn read_case(
 #[tactic(auto, unfolding(grammar::specs::Reading::read))]
 fn read_case_end(
     alloc: Global,
-    tokens: &Terminals,
+    tokens: &TerminalList,
     at: u32,
     depth: u32,
 ) -> Result<((Vec<NextBranch>, Option<u32>, u32), u32), ParseFault>
-    ensures gives { Gives tokens.now (λ p. Pair (chain (map branch_step p.0.items) (last_semicolon_node p.1)) (leaf k.WEnd p.2)) result (read pascal depth (seq (series k.Semicolon constant_starts branch_rule nothing) (word k.WEnd)) (items_from tokens.now at)) }
+    ensures gives { ReadsAs tokens.now (λ p. Pair (chain (map branch_step p.0.items) (last_semicolon_node p.1)) (leaf k.WEnd p.2)) result (read pascal depth (seq (series k.Semicolon constant_starts branch_rule nothing) (word k.WEnd)) (items_from tokens.now at)) }
     ensures forward { IfOk result (λ x. at < x.1) }
 {
     let ((others, semicolon), after) = read_branches(alloc, tokens, at, depth)?;
@@ -453,11 +453,11 @@ fn read_case_end(
 #[cycle(statements)]
 fn read_branches(
     alloc: Global,
-    tokens: &Terminals,
+    tokens: &TerminalList,
     at: u32,
     depth: u32,
 ) -> Result<((Vec<NextBranch>, Option<u32>), u32), ParseFault>
-    ensures gives { Gives tokens.now (λ p. chain (map branch_step p.0.items) (last_semicolon_node p.1)) result (read pascal depth (series k.Semicolon constant_starts branch_rule nothing) (items_from tokens.now at)) }
+    ensures gives { ReadsAs tokens.now (λ p. chain (map branch_step p.0.items) (last_semicolon_node p.1)) result (read pascal depth (series k.Semicolon constant_starts branch_rule nothing) (items_from tokens.now at)) }
     ensures forward { IfOk result (λ x. at ≤ x.1) }
 {
     let mut others = Vec::new(alloc);
@@ -475,11 +475,11 @@ fn read_branches(
 #[tactic(auto, unfolding(grammar::specs::Reading::read))]
 fn read_next_branch(
     alloc: Global,
-    tokens: &Terminals,
+    tokens: &TerminalList,
     at: u32,
     depth: u32,
 ) -> Result<(NextBranch, u32), ParseFault>
-    ensures gives { Gives tokens.now (λ n. step_node (branch_step n)) result (read pascal depth (seq (word k.Semicolon) branch_rule) (items_from tokens.now at)) }
+    ensures gives { ReadsAs tokens.now (λ n. step_node (branch_step n)) result (read pascal depth (seq (word k.Semicolon) branch_rule) (items_from tokens.now at)) }
     ensures forward { IfOk result (λ x. at < x.1) }
 {
     let (semicolon, after) = tokens.expect(at, Terminal::Semicolon)?;
@@ -491,11 +491,11 @@ fn read_next_branch(
 #[tactic(auto, unfolding(grammar::specs::Reading::read, pas_tree::specs::Rules::branch_rule))]
 fn read_branch(
     alloc: Global,
-    tokens: &Terminals,
+    tokens: &TerminalList,
     at: u32,
     depth: u32,
 ) -> Result<(Branch, u32), ParseFault>
-    ensures gives { Gives tokens.now branch_node result (read pascal depth branch_rule (items_from tokens.now at)) }
+    ensures gives { ReadsAs tokens.now branch_node result (read pascal depth branch_rule (items_from tokens.now at)) }
     ensures forward { IfOk result (λ x. at < x.1) }
 {
     let (constants, after) = read_constants(alloc, tokens, at, depth)?;
@@ -513,11 +513,11 @@ fn read_branch(
 #[tactic(auto, unfolding(grammar::specs::Reading::read, pas_tree::specs::Rules::repeat_rule))]
 fn read_repeat(
     alloc: Global,
-    tokens: &Terminals,
+    tokens: &TerminalList,
     at: u32,
     depth: u32,
 ) -> Result<(Repeat, u32), ParseFault>
-    ensures gives { Gives tokens.now repeat_node result (read pascal depth repeat_rule (items_from tokens.now at)) }
+    ensures gives { ReadsAs tokens.now repeat_node result (read pascal depth repeat_rule (items_from tokens.now at)) }
     ensures forward { IfOk result (λ x. at < x.1) }
 {
     let (word, after) = tokens.expect(at, Terminal::WRepeat)?;
@@ -537,13 +537,13 @@ fn read_repeat(
 #[tactic(auto, unfolding(grammar::specs::Reading::read, pas_tree::specs::Rules::while_rule))]
 fn read_while(
     alloc: Global,
-    tokens: &Terminals,
+    tokens: &TerminalList,
     at: u32,
     depth: u32,
     inner: bool,
     closer: Closer,
 ) -> Result<(While, u32), ParseFault>
-    ensures gives { Gives tokens.now while_node result (read pascal depth (while_rule inner (closer_of closer)) (items_from tokens.now at)) }
+    ensures gives { ReadsAs tokens.now while_node result (read pascal depth (while_rule inner (closer_of closer)) (items_from tokens.now at)) }
     ensures forward { IfOk result (λ x. at < x.1) }
 {
     let (word, after) = tokens.expect(at, Terminal::WWhile)?;
@@ -563,13 +563,13 @@ fn read_while(
 #[tactic(auto, unfolding(grammar::specs::Reading::read, pas_tree::specs::Rules::for_rule))]
 fn read_for(
     alloc: Global,
-    tokens: &Terminals,
+    tokens: &TerminalList,
     at: u32,
     depth: u32,
     inner: bool,
     closer: Closer,
 ) -> Result<(For, u32), ParseFault>
-    ensures gives { Gives tokens.now for_node result (read pascal depth (for_rule inner (closer_of closer)) (items_from tokens.now at)) }
+    ensures gives { ReadsAs tokens.now for_node result (read pascal depth (for_rule inner (closer_of closer)) (items_from tokens.now at)) }
     ensures forward { IfOk result (λ x. at < x.1) }
 {
     let (word, after) = tokens.expect(at, Terminal::WFor)?;
@@ -597,13 +597,13 @@ fn read_for(
 #[tactic(auto, unfolding(grammar::specs::Reading::read, pas_tree::specs::Rules::with_rule))]
 fn read_with(
     alloc: Global,
-    tokens: &Terminals,
+    tokens: &TerminalList,
     at: u32,
     depth: u32,
     inner: bool,
     closer: Closer,
 ) -> Result<(With, u32), ParseFault>
-    ensures gives { Gives tokens.now with_node result (read pascal depth (with_rule inner (closer_of closer)) (items_from tokens.now at)) }
+    ensures gives { ReadsAs tokens.now with_node result (read pascal depth (with_rule inner (closer_of closer)) (items_from tokens.now at)) }
     ensures forward { IfOk result (λ x. at < x.1) }
 {
     let (word, after) = tokens.expect(at, Terminal::WWith)?;
@@ -623,11 +623,11 @@ fn read_with(
 
 fn read_next_accesses(
     alloc: Global,
-    tokens: &Terminals,
+    tokens: &TerminalList,
     at: u32,
     depth: u32,
 ) -> Result<(Vec<NextAccess>, u32), ParseFault>
-    ensures gives { Gives tokens.now (λ v. row (map next_access_node v.items)) result (read pascal depth (many (k.Comma ∷ []) next_access_rule) (items_from tokens.now at)) }
+    ensures gives { ReadsAs tokens.now (λ v. row (map next_access_node v.items)) result (read pascal depth (many (k.Comma ∷ []) next_access_rule) (items_from tokens.now at)) }
     ensures forward { IfOk result (λ x. at ≤ x.1) }
 {
     let mut others = Vec::new(alloc);
@@ -643,11 +643,11 @@ fn read_next_accesses(
 #[tactic(auto, unfolding(grammar::specs::Reading::read, pas_tree::specs::Rules::next_access_rule))]
 fn read_next_access(
     alloc: Global,
-    tokens: &Terminals,
+    tokens: &TerminalList,
     at: u32,
     depth: u32,
 ) -> Result<(NextAccess, u32), ParseFault>
-    ensures gives { Gives tokens.now next_access_node result (read pascal depth next_access_rule (items_from tokens.now at)) }
+    ensures gives { ReadsAs tokens.now next_access_node result (read pascal depth next_access_rule (items_from tokens.now at)) }
     ensures forward { IfOk result (λ x. at < x.1) }
 {
     let (comma, after) = tokens.expect(at, Terminal::Comma)?;
@@ -656,7 +656,7 @@ fn read_next_access(
 }
 
 /// Whether an assignment goes on here, behind its name.
-fn is_next_assignment(tokens: &Terminals, at: u32) -> bool
+fn is_next_assignment(tokens: &TerminalList, at: u32) -> bool
     ensures { result ≡ passes assignment_starts (next (items_from tokens.now at)) }
 {
     tokens.is_next_of(
@@ -671,7 +671,7 @@ fn is_next_assignment(tokens: &Terminals, at: u32) -> bool
 }
 
 /// Whether a statement may begin here, an empty one too.
-fn expects_statement(tokens: &Terminals, at: u32, inner: bool, closer: Closer) -> bool
+fn expects_statement(tokens: &TerminalList, at: u32, inner: bool, closer: Closer) -> bool
     ensures { result ≡ expects pascal (statement inner (closer_of closer)) (next (items_from tokens.now at)) }
 {
     match tokens.get(at) {

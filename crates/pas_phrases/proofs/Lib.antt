@@ -1,3 +1,4 @@
-pub mod Ahead
-pub mod Seen
-pub mod Ends
+pub mod Failures
+pub mod NextToken
+pub mod ReadLists
+pub mod ReadSeries

@@ -26,19 +26,19 @@ Fails ks (TooDeep i) read = read ≡ Err (Deep (items_from ks i))
 Fails ks Memory read = Unit {0}
 
 -- What a function returned, seen as a node, is what reading gives, unless memory ran out.
-abbrev pub Gives : {X : Type 0} → List Terminal → (X → Node) → Result (X × ℕ) ParseFault → Read → Type 0
-Gives ks view (Ok x) read = read ≡ Ok (view x.0, items_from ks x.1)
-Gives ks view (Err e) read = Fails ks e read
+abbrev pub ReadsAs : {X : Type 0} → List Terminal → (X → Node) → Result (X × ℕ) ParseFault → Read → Type 0
+ReadsAs ks view (Ok x) read = read ≡ Ok (view x.0, items_from ks x.1)
+ReadsAs ks view (Err e) read = Fails ks e read
 
 -- a token that may be left out
 abbrev pub optional_token : List Terminal → List Item → Read
 optional_token ks l = if passes ks (next l) then token_at ks l else Ok (Nothing, l)
 
--- a semicolon behind the last part of a series, or none
+-- a semicolon after the last part of a series, or none
 abbrev pub last_semicolon : List Item → Read
 last_semicolon l = if passes (k.Semicolon ∷ []) (next l) then then_pair (token_at (k.Semicolon ∷ []) l) (λ m. Ok (Nothing, m)) else Ok (Nothing, l)
 
--- whether a separator is next, and behind it what begins a part
+-- whether a separator is next, and after it what begins a part
 abbrev pub goes_further : Terminal → List Terminal → List Item → Bool
 goes_further separator ks l = if passes (separator ∷ []) (next l) then passes ks (second l) else false
 
@@ -47,12 +47,12 @@ abbrev pub IsSeen : {X : Type 0} → List Terminal → (X → Node) → Terminal
 IsSeen ks view kind n None = one_of ks kind ≡ false
 IsSeen ks view kind n (Some x) = (one_of ks kind ≡ true) × (view x ≡ leaf kind n)
 
--- what is known of a place where there is a terminal
+-- what is known of a place where there is a terminal, and where there is none
 abbrev pub IsInside : List Terminal → ℕ → Option Terminal → Type 0
-IsInside ks at None = Unit {0}
-IsInside ks at (Some k) = (at < length ks) × (at + 1 < 2 ^ 32)
+IsInside ks at None = items_from ks at ≡ []
+IsInside ks at (Some k) = (at < length ks) × (at + 1 < 2 ^ 32) × (items_from ks at ≡ record { kind = k; number = at } ∷ items_from ks (at + 1))
 
--- a number or a name, behind a sign that was read
+-- a number or a name, after a sign that was read
 abbrev pub signed_plain : Option Sign → List Item → Read
 signed_plain None l = token_at plain_constants l
 signed_plain (Some s) l = token_at plain_constants l >>= λ x. Ok (Pair (sign_leaf s) x.0, x.1)

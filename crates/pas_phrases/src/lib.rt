@@ -4,6 +4,7 @@
 
 pub mod constants;
 pub mod fault;
+pub mod lists;
 pub mod looking;
 pub mod operators;
 pub mod separators;

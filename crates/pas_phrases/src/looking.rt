@@ -4,7 +4,7 @@ ghost use Rattle.std.specs.Prelude.{◌≡◌, ◌<◌, ◌^◌, [], ◌∷◌, 
 ghost use Rattle.grammar.specs.Terminals.{one_of, passes};
 ghost use Rattle.grammar.specs.Nodes.{next, leaf};
 ghost use Rattle.grammar.specs.Reading.{token_at};
-ghost use Rattle.pas_phrases.specs.Items.{items_from, Gives, IsInside, goes_further};
+ghost use Rattle.pas_phrases.specs.Items.{items_from, ReadsAs, IsInside, goes_further};
 
 use crate::fault::ParseFault;
 use grammar::Terminal;
@@ -12,11 +12,11 @@ use std::marker::Model;
 
 /// The terminals of a source's tokens, fewer than 2^32.
 #[derive(Drop)]
-pub struct Terminals {
+pub struct TerminalList {
     items: Vec<Terminal>,
 }
 
-impl Model for Terminals {
+impl Model for TerminalList {
     ghost use Rattle.std.specs.Prelude.{List, length, ◌<◌, ◌^◌};
     ghost use Rattle.grammar.specs.declared.terminals.Terminal.{Terminal};
 
@@ -27,13 +27,13 @@ impl Model for Terminals {
     ghost invariant = { λ t. length t.items.items < 2 ^ 32 };
 }
 
-impl Terminals {
+impl TerminalList {
     /// Keeps these terminals.
     pub fn new(items: Vec<Terminal>) -> Self
         requires { length items.items < 2 ^ 32 }
         ensures { result ≡ items.items }
     {
-        Terminals { items }
+        TerminalList { items }
     }
 
     /// How many there are.
@@ -76,8 +76,8 @@ impl Terminals {
         }
     }
 
-    /// Whether the next token is a separator and the one behind it one of these terminals.
-    #[tactic(auto, using(crate::proofs::Ahead::second_there))]
+    /// Whether the next token is a separator and the one after it one of these terminals.
+    #[tactic(auto, using(crate::proofs::NextToken::second_there))]
     pub fn is_next_pair(&self, at: u32, separator: Terminal, wanted: &[Terminal]) -> bool
         ensures tests { result ≡ goes_further separator wanted.now (items_from self.now at) }
         ensures inside { IsTrue result → at < length self.now }
@@ -96,7 +96,7 @@ impl Terminals {
 
     /// Takes a token of that terminal: its number, and the place after it.
     pub fn expect(&self, at: u32, wanted: Terminal) -> Result<(u32, u32), ParseFault>
-        ensures gives { Gives self.now (leaf wanted) result (token_at (wanted ∷ []) (items_from self.now at)) }
+        ensures gives { ReadsAs self.now (leaf wanted) result (token_at (wanted ∷ []) (items_from self.now at)) }
         ensures forward { IfOk result (λ x. at < x.1) }
     {
         match self.get(at) {

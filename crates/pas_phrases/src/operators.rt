@@ -7,10 +7,10 @@ ghost use Rattle.grammar.specs.Reading.{token_at};
 ghost use Rattle.pas_tree.specs.Expressions.{factor_node};
 ghost use Rattle.pas_tree.specs.Operators.{adding_node, multiplying_node, relational_node, sign_leaf, sign_node, direction_node};
 ghost use Rattle.pas_tree.specs.Rules.{adding, multiplying, relations, signs, directions, literals, selector_starts, constant_starts};
-ghost use Rattle.pas_phrases.specs.Items.{items_from, Gives, IsSeen, optional_token};
+ghost use Rattle.pas_phrases.specs.Items.{items_from, ReadsAs, IsSeen, optional_token};
 
 use crate::fault::ParseFault;
-use crate::looking::Terminals;
+use crate::looking::TerminalList;
 use grammar::Terminal;
 use pas_tree::expressions::Factor;
 use pas_tree::operators::{
@@ -87,9 +87,8 @@ fn as_literal(kind: Terminal, token: u32) -> Option<Factor>
 }
 
 /// Takes a sign.
-#[tactic(auto, using(crate::proofs::Seen::unseen, crate::proofs::Seen::nothing_seen))]
-pub fn expect_sign(tokens: &Terminals, at: u32) -> Result<(Sign, u32), ParseFault>
-    ensures gives { Gives tokens.now sign_leaf result (token_at signs (items_from tokens.now at)) }
+pub fn expect_sign(tokens: &TerminalList, at: u32) -> Result<(Sign, u32), ParseFault>
+    ensures gives { ReadsAs tokens.now sign_leaf result (token_at signs (items_from tokens.now at)) }
     ensures forward { IfOk result (λ x. at < x.1) }
 {
     match tokens.get(at) {
@@ -102,9 +101,8 @@ pub fn expect_sign(tokens: &Terminals, at: u32) -> Result<(Sign, u32), ParseFaul
 }
 
 /// Takes an adding operator.
-#[tactic(auto, using(crate::proofs::Seen::unseen, crate::proofs::Seen::nothing_seen))]
-pub fn expect_adding(tokens: &Terminals, at: u32) -> Result<(AddingOperator, u32), ParseFault>
-    ensures gives { Gives tokens.now adding_node result (token_at adding (items_from tokens.now at)) }
+pub fn expect_adding(tokens: &TerminalList, at: u32) -> Result<(AddingOperator, u32), ParseFault>
+    ensures gives { ReadsAs tokens.now adding_node result (token_at adding (items_from tokens.now at)) }
     ensures forward { IfOk result (λ x. at < x.1) }
 {
     match tokens.get(at) {
@@ -117,12 +115,11 @@ pub fn expect_adding(tokens: &Terminals, at: u32) -> Result<(AddingOperator, u32
 }
 
 /// Takes a multiplying operator.
-#[tactic(auto, using(crate::proofs::Seen::unseen, crate::proofs::Seen::nothing_seen))]
 pub fn expect_multiplying(
-    tokens: &Terminals,
+    tokens: &TerminalList,
     at: u32,
 ) -> Result<(MultiplyingOperator, u32), ParseFault>
-    ensures gives { Gives tokens.now multiplying_node result (token_at multiplying (items_from tokens.now at)) }
+    ensures gives { ReadsAs tokens.now multiplying_node result (token_at multiplying (items_from tokens.now at)) }
     ensures forward { IfOk result (λ x. at < x.1) }
 {
     match tokens.get(at) {
@@ -135,12 +132,11 @@ pub fn expect_multiplying(
 }
 
 /// Takes a relational operator.
-#[tactic(auto, using(crate::proofs::Seen::unseen, crate::proofs::Seen::nothing_seen))]
 pub fn expect_relational(
-    tokens: &Terminals,
+    tokens: &TerminalList,
     at: u32,
 ) -> Result<(RelationalOperator, u32), ParseFault>
-    ensures gives { Gives tokens.now relational_node result (token_at relations (items_from tokens.now at)) }
+    ensures gives { ReadsAs tokens.now relational_node result (token_at relations (items_from tokens.now at)) }
     ensures forward { IfOk result (λ x. at < x.1) }
 {
     match tokens.get(at) {
@@ -153,9 +149,8 @@ pub fn expect_relational(
 }
 
 /// Takes `to` or `downto`.
-#[tactic(auto, using(crate::proofs::Seen::unseen, crate::proofs::Seen::nothing_seen))]
-pub fn expect_direction(tokens: &Terminals, at: u32) -> Result<(Direction, u32), ParseFault>
-    ensures gives { Gives tokens.now direction_node result (token_at directions (items_from tokens.now at)) }
+pub fn expect_direction(tokens: &TerminalList, at: u32) -> Result<(Direction, u32), ParseFault>
+    ensures gives { ReadsAs tokens.now direction_node result (token_at directions (items_from tokens.now at)) }
     ensures forward { IfOk result (λ x. at < x.1) }
 {
     match tokens.get(at) {
@@ -168,9 +163,8 @@ pub fn expect_direction(tokens: &Terminals, at: u32) -> Result<(Direction, u32),
 }
 
 /// Takes a number, a string or `nil`.
-#[tactic(auto, using(crate::proofs::Seen::unseen, crate::proofs::Seen::nothing_seen))]
-pub fn expect_literal(tokens: &Terminals, at: u32) -> Result<(Factor, u32), ParseFault>
-    ensures gives { Gives tokens.now factor_node result (token_at literals (items_from tokens.now at)) }
+pub fn expect_literal(tokens: &TerminalList, at: u32) -> Result<(Factor, u32), ParseFault>
+    ensures gives { ReadsAs tokens.now factor_node result (token_at literals (items_from tokens.now at)) }
     ensures forward { IfOk result (λ x. at < x.1) }
 {
     match tokens.get(at) {
@@ -183,8 +177,8 @@ pub fn expect_literal(tokens: &Terminals, at: u32) -> Result<(Factor, u32), Pars
 }
 
 /// Takes a sign, if one is next.
-pub fn read_sign(tokens: &Terminals, at: u32) -> Result<(Option<Sign>, u32), ParseFault>
-    ensures gives { Gives tokens.now sign_node result (optional_token signs (items_from tokens.now at)) }
+pub fn read_sign(tokens: &TerminalList, at: u32) -> Result<(Option<Sign>, u32), ParseFault>
+    ensures gives { ReadsAs tokens.now sign_node result (optional_token signs (items_from tokens.now at)) }
     ensures forward { IfOk result (λ x. at ≤ x.1) }
 {
     if !is_next_sign(tokens, at) {
@@ -195,7 +189,7 @@ pub fn read_sign(tokens: &Terminals, at: u32) -> Result<(Option<Sign>, u32), Par
 }
 
 /// Whether a sign is next.
-pub fn is_next_sign(tokens: &Terminals, at: u32) -> bool
+pub fn is_next_sign(tokens: &TerminalList, at: u32) -> bool
     ensures tests { result ≡ passes signs (next (items_from tokens.now at)) }
     ensures inside { IsTrue result → at < length tokens.now }
 {
@@ -203,7 +197,7 @@ pub fn is_next_sign(tokens: &Terminals, at: u32) -> bool
 }
 
 /// Whether an adding operator is next.
-pub fn is_next_adding(tokens: &Terminals, at: u32) -> bool
+pub fn is_next_adding(tokens: &TerminalList, at: u32) -> bool
     ensures tests { result ≡ passes adding (next (items_from tokens.now at)) }
     ensures inside { IsTrue result → at < length tokens.now }
 {
@@ -211,7 +205,7 @@ pub fn is_next_adding(tokens: &Terminals, at: u32) -> bool
 }
 
 /// Whether a multiplying operator is next.
-pub fn is_next_multiplying(tokens: &Terminals, at: u32) -> bool
+pub fn is_next_multiplying(tokens: &TerminalList, at: u32) -> bool
     ensures tests { result ≡ passes multiplying (next (items_from tokens.now at)) }
     ensures inside { IsTrue result → at < length tokens.now }
 {
@@ -227,7 +221,7 @@ pub fn is_next_multiplying(tokens: &Terminals, at: u32) -> bool
 }
 
 /// Whether a relational operator is next.
-pub fn is_next_relational(tokens: &Terminals, at: u32) -> bool
+pub fn is_next_relational(tokens: &TerminalList, at: u32) -> bool
     ensures tests { result ≡ passes relations (next (items_from tokens.now at)) }
     ensures inside { IsTrue result → at < length tokens.now }
 {
@@ -246,7 +240,7 @@ pub fn is_next_relational(tokens: &Terminals, at: u32) -> bool
 }
 
 /// Whether a literal is next.
-pub fn is_next_literal(tokens: &Terminals, at: u32) -> bool
+pub fn is_next_literal(tokens: &TerminalList, at: u32) -> bool
     ensures tests { result ≡ passes literals (next (items_from tokens.now at)) }
     ensures inside { IsTrue result → at < length tokens.now }
 {
@@ -254,7 +248,7 @@ pub fn is_next_literal(tokens: &Terminals, at: u32) -> bool
 }
 
 /// Whether a selector is next.
-pub fn is_next_selector(tokens: &Terminals, at: u32) -> bool
+pub fn is_next_selector(tokens: &TerminalList, at: u32) -> bool
     ensures tests { result ≡ passes selector_starts (next (items_from tokens.now at)) }
     ensures inside { IsTrue result → at < length tokens.now }
 {
@@ -262,7 +256,7 @@ pub fn is_next_selector(tokens: &Terminals, at: u32) -> bool
 }
 
 /// Whether a constant is next.
-pub fn is_next_constant(tokens: &Terminals, at: u32) -> bool
+pub fn is_next_constant(tokens: &TerminalList, at: u32) -> bool
     ensures tests { result ≡ passes constant_starts (next (items_from tokens.now at)) }
     ensures inside { IsTrue result → at < length tokens.now }
 {

@@ -4,15 +4,15 @@ ghost use Rattle.std.specs.Prelude.{◌≡◌, ◌≤◌, ◌<◌, length, IfOk,
 ghost use Rattle.grammar.specs.declared.terminals.Terminal.TheVariants as k;
 ghost use Rattle.pas_tree.specs.Denoters.{last_semicolon_node};
 ghost use Rattle.pas_tree.specs.Rules.{constant_starts};
-ghost use Rattle.pas_phrases.specs.Items.{Gives, goes_further, items_from, last_semicolon};
+ghost use Rattle.pas_phrases.specs.Items.{ReadsAs, goes_further, items_from, last_semicolon};
 
 use crate::fault::ParseFault;
-use crate::looking::Terminals;
+use crate::looking::TerminalList;
 use grammar::Terminal;
 
-/// Takes the semicolon behind the last part of a series, if it is there.
-pub fn read_last_semicolon(tokens: &Terminals, at: u32) -> Result<(Option<u32>, u32), ParseFault>
-    ensures gives { Gives tokens.now last_semicolon_node result (last_semicolon (items_from tokens.now at)) }
+/// Takes the semicolon after the last part of a series, if it is there.
+pub fn read_last_semicolon(tokens: &TerminalList, at: u32) -> Result<(Option<u32>, u32), ParseFault>
+    ensures gives { ReadsAs tokens.now last_semicolon_node result (last_semicolon (items_from tokens.now at)) }
     ensures forward { IfOk result (λ x. at ≤ x.1) }
 {
     if !tokens.is_next(at, Terminal::Semicolon) {
@@ -22,8 +22,8 @@ pub fn read_last_semicolon(tokens: &Terminals, at: u32) -> Result<(Option<u32>, 
     Ok((Some(semicolon), after))
 }
 
-/// Whether a semicolon is next, and behind it what begins a constant.
-pub fn is_next_case(tokens: &Terminals, at: u32) -> bool
+/// Whether a semicolon is next, and after it what begins a constant.
+pub fn is_next_case(tokens: &TerminalList, at: u32) -> bool
     ensures tests { result ≡ goes_further k.Semicolon constant_starts (items_from tokens.now at) }
     ensures inside { IsTrue result → at < length tokens.now }
 {

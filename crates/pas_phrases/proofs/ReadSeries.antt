@@ -1,0 +1,67 @@
+-- A series that is read part by part in a loop is what the grammar reads as `series`.
+use Rattle.std.proofs.Common.{◌≡◌, ℕ, true, false, List, [], ◌∷◌, ◌++◌, map, Ok, ap, ◌∙◌}
+use Rattle.std.proofs.lemmas.List.{map_push}
+use Rattle.grammar.specs.declared.terminals.Terminal.{Terminal}
+use Rattle.grammar.specs.Nodes.{Item, Node, Step, step_node, chain}
+use Rattle.grammar.specs.Grammars.{Grammar, nothing, seq, choice, word, series}
+use Rattle.grammar.specs.Deciding.{closed}
+use Rattle.grammar.specs.Reading.{Read, Unfit, Deep, read}
+use Rattle.grammar.proofs.Lists.{with_steps, steps_on, steps_stop, steps_done, steps_break}
+use Rattle.pas_tree.specs.FirstFollow.{pascal}
+use Rattle.pas_tree.proofs.Decided.{pascal_sane}
+use Rattle.pas_phrases.specs.declared.fault.ParseFault.{ParseFault}
+use Rattle.pas_phrases.specs.declared.fault.ParseFault.TheVariants.{NotProgram, TooDeep, Memory}
+use Rattle.pas_phrases.specs.Items.{Fails, goes_further}
+use Rattle.pas_phrases.proofs.Failures.{handed_on}
+
+-- parts g after separators that lead to one of ks, and an end z
+pub record Series : Type 0 where
+  pub separator : Terminal
+  pub starts : List Terminal
+  pub part : Grammar
+  pub end : Grammar
+  pub part_closed : closed part ≡ true
+  pub end_closed : closed end ≡ true
+
+abbrev pub series_of : Series → Grammar
+series_of q = series q.separator q.starts q.part q.end
+
+abbrev pub end_of : Series → Grammar
+end_of q = choice (q.separator ∷ []) (seq (word q.separator) q.end) nothing
+
+-- the parts read so far, and what is still read from here, are the whole
+pub record SeriesSoFar {X : Type 0} (step : X → Step) (n : ℕ) (q : Series) (xs : List X) (l : List Item) (whole : Read) : Type 0 where
+  pub same : with_steps (map step xs) (read pascal n (series_of q) l) ≡ whole
+
+pub series_more : {X : Type 0} {step : X → Step} {n : ℕ} {q : Series} {xs : List X} {l rest : List Item} {whole : Read} {ys : List X} (x : X)
+    → SeriesSoFar step n q xs l whole → goes_further q.separator q.starts l ≡ true → read pascal n (seq (word q.separator) q.part) l ≡ Ok (step_node (step x), rest)
+    → ys ≡ xs ++ x ∷ [] → SeriesSoFar step n q ys rest whole
+series_more {X} {step} {n} {q} {xs} {l} {rest} {whole} x s h e more = record {
+  same = ap (λ (front : List Step). with_steps front (read pascal n (series_of q) rest)) (ap (map step) more ∙ map_push step xs x)
+      ∙ steps_on pascal pascal_sane n q.separator q.starts q.part q.end q.part_closed q.end_closed (map step xs) l (step x) rest whole h e s.same;
+}
+
+-- a part, and the end, that fails
+pub series_fails : {X : Type 0} {step : X → Step} {n : ℕ} {q : Series} {xs : List X} {l : List Item} {whole : Read} (kinds : List Terminal) (e : ParseFault)
+    → SeriesSoFar step n q xs l whole → goes_further q.separator q.starts l ≡ true → Fails kinds e (read pascal n (seq (word q.separator) q.part) l) → Fails kinds e whole
+series_fails {X} {step} {n} {q} {xs} {l} {whole} kinds (NotProgram i) s h f =
+    steps_stop pascal pascal_sane n q.separator q.starts q.part q.end q.part_closed q.end_closed (map step xs) l (Unfit _) whole h f s.same
+series_fails {X} {step} {n} {q} {xs} {l} {whole} kinds (TooDeep i) s h f =
+    steps_stop pascal pascal_sane n q.separator q.starts q.part q.end q.part_closed q.end_closed (map step xs) l (Deep _) whole h f s.same
+series_fails kinds Memory s h f = tt
+
+pub series_end_fails : {X : Type 0} {step : X → Step} {n : ℕ} {q : Series} {xs : List X} {l : List Item} {whole : Read} (kinds : List Terminal) (e : ParseFault)
+    → SeriesSoFar step n q xs l whole → goes_further q.separator q.starts l ≡ false → Fails kinds e (read pascal n (end_of q) l) → Fails kinds e whole
+series_end_fails {X} {step} {n} {q} {xs} {l} {whole} kinds (NotProgram i) s h f =
+    steps_break pascal pascal_sane n q.separator q.starts q.part q.end q.part_closed q.end_closed (map step xs) l (Unfit _) whole h f s.same
+series_end_fails {X} {step} {n} {q} {xs} {l} {whole} kinds (TooDeep i) s h f =
+    steps_break pascal pascal_sane n q.separator q.starts q.part q.end q.part_closed q.end_closed (map step xs) l (Deep _) whole h f s.same
+series_end_fails kinds Memory s h f = tt
+
+pub series_read : {X : Type 0} {step : X → Step} {n : ℕ} {q : Series} {xs : List X} {l rest : List Item} {whole : Read} {end : Node}
+    → SeriesSoFar step n q xs l whole → goes_further q.separator q.starts l ≡ false → read pascal n (end_of q) l ≡ Ok (end, rest) → whole ≡ Ok (chain (map step xs) end, rest)
+series_read {X} {step} {n} {q} {xs} {l} {rest} {whole} {end} s h e =
+    steps_done pascal pascal_sane n q.separator q.starts q.part q.end q.part_closed q.end_closed (map step xs) l end rest whole h e s.same
+
+-- what a loop that reads a series is proved by
+pub ruleset series_reading = (series_more, series_fails, series_end_fails, series_read, handed_on)
