@@ -1,12 +1,13 @@
 -- Where one token decides each choice, the trees of a grammar are those to which the tests lead.
 use Rattle.std.proofs.Common.{◌≡◌, ℕ, zero, suc, Bool, true, false, not, List, [], ◌∷◌, ◌++◌, Option, Some, None, refl, sym, subst, inl, inr}
+use Rattle.std.proofs.lemmas.Bool.{and_parts, not-true}
 use Rattle.grammar.specs.declared.terminals.Terminal.{Terminal}
 use Rattle.grammar.specs.Terminals.{one_of, passes, every}
 use Rattle.grammar.specs.Nodes.{Item, Node, Leaf, Nothing, Pair, spell, ahead}
-use Rattle.grammar.specs.Grammars.{Level, Grammar, token, nothing, seq, choice, greedy, level, loop, again, IsNothing, rounds, FreeIn}
+use Rattle.grammar.specs.Grammars.{Level, Grammar, token, nothing, seq, choice, greedy, level, loop, again, IsNothing, rounds, FreeIn, IsNone}
 use Rattle.grammar.specs.Tested.{Is}
 use Rattle.grammar.specs.Deciding.{both, either, implies, LevelTables, none, nullable, first, decides}
-use Rattle.grammar.proofs.Bools.{both_parts, both_make, either_left, either_right, implied, not_true}
+use Rattle.grammar.proofs.Bools.{both_make, either_left, either_right, implied}
 use Rattle.grammar.proofs.Every.{every_terminal}
 use Rattle.grammar.proofs.Larger.{IsPart}
 
@@ -41,7 +42,7 @@ starts_nullable : (f : Terminal → Bool) (a : Bool) (l : List Item) → Starts 
 starts_nullable f a [] s = refl
 starts_nullable f a (x ∷ l) s = s
 
-solid_starts : (f : Terminal → Bool) (a : Bool) (l : List Item) → a ≡ false → Starts f a l → Starts f false l
+pub solid_starts : (f : Terminal → Bool) (a : Bool) (l : List Item) → a ≡ false → Starts f a l → Starts f false l
 solid_starts f a l e s = subst (λ (b : Bool). Starts f b l) e s
 
 -- larger tables
@@ -56,18 +57,18 @@ empty_starts f Nothing n = refl
 empty_starts f (Pair a b) n = absurd n
 
 -- what follows a part, where the next part comes
-allows_append : (f g : Terminal → Bool) (a : Bool) (l : List Item) (h : Option Terminal) → Starts g a l → Allows f h
+pub allows_append : (f g : Terminal → Bool) (a : Bool) (l : List Item) (h : Option Terminal) → Starts g a l → Allows f h
     → Allows (λ k. either (g k) (both a (f k))) (ahead l h)
 allows_append f g a [] None s al = tt
 allows_append f g a [] (Some k) s al = either_right (g k) (both a (f k)) (both_make a (f k) s al)
 allows_append f g a (x ∷ l) h s al = either_left (g x.kind) (both a (f x.kind)) s
 
-passes_first : (ks : List Terminal) (g : Terminal → Bool) (l : List Item) (h : Option Terminal) → ((k : Terminal) → g k ≡ true → one_of ks k ≡ true)
+pub passes_first : (ks : List Terminal) (g : Terminal → Bool) (l : List Item) (h : Option Terminal) → ((k : Terminal) → g k ≡ true → one_of ks k ≡ true)
     → Starts g false l → passes ks (ahead l h) ≡ true
 passes_first ks g [] h p s = absurd cc
 passes_first ks g (x ∷ l) h p s = p x.kind s
 
-fails_first : (ks : List Terminal) (f g : Terminal → Bool) (a : Bool) (l : List Item) (h : Option Terminal)
+pub fails_first : (ks : List Terminal) (f g : Terminal → Bool) (a : Bool) (l : List Item) (h : Option Terminal)
     → ((k : Terminal) → g k ≡ true → one_of ks k ≡ false) → ((k : Terminal) → both a (f k) ≡ true → one_of ks k ≡ false) → Starts g a l → Allows f h
     → passes ks (ahead l h) ≡ false
 fails_first ks f g a [] None p q s al = refl
@@ -105,7 +106,7 @@ module _ (t : LevelTables) where
 
   pub seq_parts : (a b : Grammar) (f : Terminal → Bool) (v : Bool) (w o : Terminal → Bool) → decides t (seq a b) f v w o ≡ true
       → (decides t a f v w (after b f v o) ≡ true) × (decides t b f v w o ≡ true)
-  seq_parts a b f v w o d = both_parts (decides t a f v w (after b f v o)) (decides t b f v w o) d
+  seq_parts a b f v w o d = and_parts (decides t a f v w (after b f v o)) (decides t b f v w o) d
 
   pub record ChoiceParts (ks : List Terminal) (a b : Grammar) (f : Terminal → Bool) (v : Bool) (w o : Terminal → Bool) : Type 0 where
     pub left : decides t a f v w o ≡ true
@@ -118,23 +119,23 @@ module _ (t : LevelTables) where
   pub choice_parts : (ks : List Terminal) (a b : Grammar) (f : Terminal → Bool) (v : Bool) (w o : Terminal → Bool) → decides t (choice ks a b) f v w o ≡ true
       → ChoiceParts ks a b f v w o
   choice_parts ks a b f v w o d =
-      let p = both_parts (both (decides t a f v w o) (decides t b f v w o)) (both (not (nullable t a v)) (every (at_choice ks a b f v o))) d in
-      let q = both_parts (decides t a f v w o) (decides t b f v w o) p.0 in
-      let m = both_parts (not (nullable t a v)) (every (at_choice ks a b f v o)) p.1 in
+      let p = and_parts (both (decides t a f v w o) (decides t b f v w o)) (both (not (nullable t a v)) (every (at_choice ks a b f v o))) d in
+      let q = and_parts (decides t a f v w o) (decides t b f v w o) p.0 in
+      let m = and_parts (not (nullable t a v)) (every (at_choice ks a b f v o)) p.1 in
       let at : (k : Terminal) → at_choice ks a b f v o k ≡ true = every_terminal (at_choice ks a b f v o) m.1 in
       let one : (k : Terminal) → (implies (first t a f v k) (one_of ks k) ≡ true) ×
       (both (implies (first t b f v k) (not (one_of ks k))) (implies (both (nullable t b v) (o k)) (not (one_of ks k))) ≡ true) =
-      λ k. both_parts (implies (first t a f v k) (one_of ks k))
+      λ k. and_parts (implies (first t a f v k) (one_of ks k))
       (both (implies (first t b f v k) (not (one_of ks k))) (implies (both (nullable t b v) (o k)) (not (one_of ks k)))) (at k) in
       let two : (k : Terminal) → (implies (first t b f v k) (not (one_of ks k)) ≡ true) × (implies (both (nullable t b v) (o k)) (not (one_of ks k)) ≡ true) =
-      λ k. both_parts (implies (first t b f v k) (not (one_of ks k))) (implies (both (nullable t b v) (o k)) (not (one_of ks k))) (one k).1 in
+      λ k. and_parts (implies (first t b f v k) (not (one_of ks k))) (implies (both (nullable t b v) (o k)) (not (one_of ks k))) (one k).1 in
       record {
         left = q.0;
         right = q.1;
-        full = not_true (nullable t a v) m.0;
+        full = not-true (nullable t a v) m.0;
         leads = λ k i. implied (first t a f v k) (one_of ks k) (one k).0 i;
-        differs = λ k i. not_true (one_of ks k) (implied (first t b f v k) (not (one_of ks k)) (two k).0 i);
-        stays_out = λ k i. not_true (one_of ks k) (implied (both (nullable t b v) (o k)) (not (one_of ks k)) (two k).1 i);
+        differs = λ k i. not-true (one_of ks k) (implied (first t b f v k) (not (one_of ks k)) (two k).0 i);
+        stays_out = λ k i. not-true (one_of ks k) (implied (both (nullable t b v) (o k)) (not (one_of ks k)) (two k).1 i);
       }
 
   pub record GreedyParts (ks : List Terminal) (a : Grammar) (f : Terminal → Bool) (v : Bool) (w o : Terminal → Bool) : Type 0 where
@@ -145,11 +146,11 @@ module _ (t : LevelTables) where
   pub greedy_parts : (ks : List Terminal) (a : Grammar) (f : Terminal → Bool) (v : Bool) (w o : Terminal → Bool) → decides t (greedy ks a) f v w o ≡ true
       → GreedyParts ks a f v w o
   greedy_parts ks a f v w o d =
-      let p = both_parts (decides t a f v w o) (both (not (nullable t a v)) (every (at_greedy ks a f v))) d in
-      let m = both_parts (not (nullable t a v)) (every (at_greedy ks a f v)) p.1 in
+      let p = and_parts (decides t a f v w o) (both (not (nullable t a v)) (every (at_greedy ks a f v))) d in
+      let m = and_parts (not (nullable t a v)) (every (at_greedy ks a f v)) p.1 in
       record {
         inner = p.0;
-        full = not_true (nullable t a v) m.0;
+        full = not-true (nullable t a v) m.0;
         leads = λ k i. implied (first t a f v k) (one_of ks k)
             (every_terminal (at_greedy ks a f v) m.1 k) i;
       }
@@ -161,9 +162,9 @@ module _ (t : LevelTables) where
 
   pub loop_parts : (a : Grammar) (f : Terminal → Bool) (v : Bool) (w o : Terminal → Bool) → decides t (loop a) f v w o ≡ true → LoopParts a o
   loop_parts a f v w o d =
-      let p = both_parts (decides t a (head a) (gap a) o o) (both (every (λ k. implies (first t a (head a) (gap a) k) (head a k)))
+      let p = and_parts (decides t a (head a) (gap a) o o) (both (every (λ k. implies (first t a (head a) (gap a) k) (head a k)))
       (implies (nullable t a (gap a)) (gap a))) d in
-      let q = both_parts (every (λ k. implies (first t a (head a) (gap a) k) (head a k))) (implies (nullable t a (gap a)) (gap a)) p.1 in
+      let q = and_parts (every (λ k. implies (first t a (head a) (gap a) k) (head a k))) (implies (nullable t a (gap a)) (gap a)) p.1 in
       record { inner = p.0; heads = q.0; gaps = q.1 }
 
 -- ---- what begins a tree
@@ -212,6 +213,12 @@ module _ (t : LevelTables) (E : Level → Node → Option Terminal → Type 0) (
 
 abbrev pub Tested : (Terminal → Bool) → (Node → Option Terminal → Type 0) → (Node → Option Terminal → Type 0) → Type 0
 Tested f P Q = (x : Node) (h : Option Terminal) → Allows f h → P x h → Q x h
+
+pub none_begun : Begun none false IsNone
+none_begun x h r = absurd r
+
+pub none_tested : Tested none IsNone IsNone
+none_tested x h al r = r
 
 rounds_tested : (F G : (Node → Option Terminal → Type 0) → Node → Option Terminal → Type 0) (o : Terminal → Bool)
     → ((k : ℕ) (W : Node → Option Terminal → Type 0) → Tested o (rounds k F) W → Tested o (F (rounds k F)) (G W)) → (k : ℕ) → Tested o (rounds k F) (rounds k G)

@@ -7,9 +7,10 @@ use Rattle.grammar.specs.Grammars.{Level, Grammar, nothing, seq, choice, again, 
 use Rattle.grammar.specs.Tested.{Within}
 use Rattle.grammar.specs.Deciding.{closed, solid, guarded, sane, LevelTables}
 use Rattle.grammar.specs.Reading.{Refusal, Read, ◌>>=◌, token_at, then_pair, unread, turning, reads, levels, read}
-use Rattle.grammar.proofs.Loops.{Guards, closed_same, guarded_same, closed_linear, turning_again}
+use Rattle.grammar.proofs.Loops.{Guards, closed_same, guarded_same, closed_linear, turning_again, then_same, cond_same}
 use Rattle.grammar.proofs.Exact.{bind_ok, bind_err, done, ok_is, ok_no_err}
 use Rattle.grammar.proofs.Wholes.{levels_exact, level_shortens}
+use Rattle.grammar.proofs.Bools.{by_test}
 
 -- what may be repeated in a loop: it does not speak of the loop around it, and takes a token
 pub record Repeats (g : Grammar) : Type 0 where
@@ -47,14 +48,6 @@ step_one : (front : List Step) (x : Step) (r : Read) → with_steps front ((r >>
     ≡ with_steps (front ++ x ∷ []) r
 step_one front x (Ok y) = ap (λ (z : Node). Ok (z, y.1)) (chain_one front x y.0)
 step_one front x (Err r) = refl
-
-then_same : (r : Read) (p q : List Item → Read) → ((m : List Item) → p m ≡ q m) → then_pair r p ≡ then_pair r q
-then_same (Ok x) p q h = ap (λ (r : Read). r >>= λ y. Ok (Pair x.0 y.0, y.1)) (h x.1)
-then_same (Err r) p q h = refl
-
-cond_same : (b : Bool) (x y z w : Read) → x ≡ y → z ≡ w → cond b x z ≡ cond b y w
-cond_same true x y z w g h = g
-cond_same false x y z w g h = h
 
 module _ (t : LevelTables) (sane_rule : (l : Level) → sane (t.rule l) ≡ true) (n : ℕ) where
   closed_read : (g : Grammar) → closed g ≡ true → (u : List Item → Read) (l : List Item) → reads (levels t n) g u l ≡ read t n g l
@@ -120,7 +113,7 @@ module _ (t : LevelTables) (sane_rule : (l : Level) → sane (t.rule l) ≡ true
         ∙ cond_same (passes (separator ∷ []) (next l)) (then_pair (token_at (separator ∷ []) l) (reads (levels t n) (choice ks (seq g again) z) whole))
         (then_pair (token_at (separator ∷ []) l) behind) (Ok (Nothing, l)) (Ok (Nothing, l))
         (then_same (token_at (separator ∷ []) l) (reads (levels t n) (choice ks (seq g again) z) whole) behind
-        (λ m. cond_same (passes ks (next m)) (then_pair (reads (levels t n) g whole m) whole) (then_pair (reads (levels t n) g unread m) whole)
+        (λ x m same. cond_same (passes ks (next m)) (then_pair (reads (levels t n) g whole m) whole) (then_pair (reads (levels t n) g unread m) whole)
         (reads (levels t n) z whole m) (reads (levels t n) z unread m)
         (ap (λ (r : Read). then_pair r whole) (closed_read g c whole m)) (closed_read z d whole m))) refl
 
@@ -198,10 +191,6 @@ module _ (t : LevelTables) (sane_rule : (l : Level) → sane (t.rule l) ≡ true
         let turn : read t n (series separator ks g z) l ≡ then_pair (Ok (s.1, m)) behind = series_read l ∙ led l b.0 (s.1, m) at in
         let behind_is : behind m ≡ Err r = led_part m leads (Err r) part in
         sym so_far ∙ ap (with_steps front) (turn ∙ ap (λ (r : Read). r >>= λ y. Ok (Pair s.1 y.0, y.1)) behind_is)
-
-    by_test : (b : Bool) → (b ≡ true) ⊎ (b ≡ false)
-    by_test true = inl refl
-    by_test false = inr refl
 
     -- where no further part comes, the end is read
     series_ends : (l : List Item) → goes_further l ≡ false → read t n (series separator ks g z) l ≡ read t n end_rule l

@@ -9,7 +9,7 @@ use Rattle.grammar.specs.Reading.{Refusal, left_of, read}
 use Rattle.grammar.specs.Laws.{IsFormedBy, NoneGoesOn}
 use Rattle.grammar.proofs.Exact.{Exact, ok_is}
 use Rattle.grammar.proofs.Wholes.{read_exact}
-use Rattle.grammar.proofs.Knot.{rule_sane, whole_parts, whole_tested, whole_freed}
+use Rattle.grammar.proofs.LevelsTested.{rule_sane, whole_parts, whole_tested, whole_freed}
 
 module _ (t : LevelTables) (g : Grammar) (ok : IsDecided t g ≡ true) (n : ℕ) where
   pub exact : Exact (Is (Within t.rule n) g IsNone) (read t n g)

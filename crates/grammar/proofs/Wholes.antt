@@ -7,11 +7,11 @@ use Rattle.grammar.specs.Grammars.{Level, Grammar, token, nothing, seq, choice, 
 use Rattle.grammar.specs.Tested.{Is, Within}
 use Rattle.grammar.specs.Reading.{Refusal, Unfit, Deep, left_of, Read, unread, turns, turning, reads, levels}
 use Rattle.grammar.specs.Deciding.{guarded, sane, LevelTables, expects}
-use Rattle.grammar.proofs.Bools.{both_parts}
 use Rattle.grammar.proofs.Exact.{Refuses, Exact, token_exact, nothing_exact, none_exact, pair_exact, choice_exact, ok_or_err, err_is, ok_no_err}
 use Rattle.grammar.proofs.Loops.{Shortens, Guards, enough, guarded_same}
 use Rattle.grammar.proofs.Larger.{Carries, rounds_map, is_up}
 use Rattle.std.proofs.Common.{length-append}
+use Rattle.std.proofs.lemmas.Bool.{and_parts}
 
 pub exact_shortens : (P : Node → Option Terminal → Type 0) (p : List Item → Read) → Exact P p → Shortens p
 exact_shortens P p e l x rest h = let s = e.sound l x rest h in omega (arith, ap length s.0, length-append (spell x) rest)
@@ -64,15 +64,15 @@ module _ (P : Level → Node → Option Terminal → Type 0) (p : Level → List
   pub grammar_exact : (g : Grammar) → sane g ≡ true → (V : Node → Option Terminal → Type 0) (u : List Item → Read) → Exact V u → Exact (Is P g V) (reads p g u)
   grammar_exact (token ks) ok V u e = token_exact ks
   grammar_exact nothing ok V u e = nothing_exact
-  grammar_exact (seq a b) ok V u e = let o = both_parts (sane a) (sane b) ok in pair_exact (Is P a V) (Is P b V) (reads p a u) (reads p b u)
+  grammar_exact (seq a b) ok V u e = let o = and_parts (sane a) (sane b) ok in pair_exact (Is P a V) (Is P b V) (reads p a u) (reads p b u)
       (grammar_exact a o.0 V u e) (grammar_exact b o.1 V u e)
-  grammar_exact (choice ks a b) ok V u e = let o = both_parts (sane a) (sane b) ok in choice_exact ks (Is P a V) (Is P b V) (reads p a u) (reads p b u)
+  grammar_exact (choice ks a b) ok V u e = let o = and_parts (sane a) (sane b) ok in choice_exact ks (Is P a V) (Is P b V) (reads p a u) (reads p b u)
       (grammar_exact a o.0 V u e) (grammar_exact b o.1 V u e)
   grammar_exact (greedy ks a) ok V u e = choice_exact ks (Is P a V) (λ x h. IsNothing x) (reads p a u) (λ l. Ok (Nothing, l))
       (grammar_exact a ok V u e) nothing_exact
   grammar_exact (level v) ok V u e = exact v
   grammar_exact (loop a) ok V u e =
-      let o = both_parts (sane a) (guarded a) ok in
+      let o = and_parts (sane a) (guarded a) ok in
       loop_exact (Is P a) (reads p a) (is_up P P (λ v x h r. r) a) (guarded_same p level_shortens a o.1) (grammar_exact a o.0)
   grammar_exact again ok V u e = e
 

@@ -1,15 +1,15 @@
 -- The check that one token decides each choice of a grammar: what is LL(1).
-use Rattle.std.specs.Prelude.{Bool, true, false, cond, not, List, [], ◌∷◌, Option, Some, None}
+use Rattle.std.specs.Prelude.{Bool, true, false, ◌&&◌, ◌||◌, cond, not, List, [], ◌∷◌, Option, Some, None}
 use Rattle.grammar.specs.declared.terminals.Terminal.{Terminal}
-use Rattle.grammar.specs.Terminals.{one_of, every}
+use Rattle.grammar.specs.Terminals.{one_of, every_of, every}
 use Rattle.grammar.specs.Grammars.{by_end, by_until, Level, block, heading, statement, denoter, variant_part, factor}
 use Rattle.grammar.specs.Grammars.{Grammar, token, nothing, seq, choice, greedy, level, loop, again}
 
 abbrev pub both : Bool → Bool → Bool
-both a b = cond a b false
+both a b = a && b
 
 abbrev pub either : Bool → Bool → Bool
-either a b = cond a true b
+either a b = a || b
 
 abbrev pub implies : Bool → Bool → Bool
 implies a b = cond a b true
@@ -148,12 +148,8 @@ all_levels =
     ∷ statement true by_until
     ∷ denoter ∷ variant_part ∷ factor ∷ []
 
-abbrev pub every_level_of : (Level → Bool) → List Level → Bool
-every_level_of t [] = true
-every_level_of t (l ∷ ls) = both (t l) (every_level_of t ls)
-
 -- One token decides each choice, in the grammar of whole texts and in the rules of all levels.
 abbrev pub IsDecided : LevelTables → Grammar → Bool
 IsDecided t g =
-    both (every_level_of (level_is_decided t) all_levels)
+    both (every_of (level_is_decided t) all_levels)
     (both (both (sane g) (closed g)) (decides t g none false none none))

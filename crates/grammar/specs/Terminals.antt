@@ -1,5 +1,5 @@
 -- The terminals, and tests of them.
-use Rattle.std.specs.Prelude.{ℕ, Bool, true, false, nat_eq, if◌then◌else◌, List, [], ◌∷◌, Option, Some, None}
+use Rattle.std.specs.Prelude.{ℕ, Bool, true, false, nat_eq, ◌&&◌, if◌then◌else◌, List, [], ◌∷◌, Option, Some, None}
 use Rattle.grammar.specs.declared.terminals.Terminal.{Terminal}
 use Rattle.grammar.specs.declared.terminals.Terminal.TheVariants.{WAnd, WArray, WBegin, WCase, WConst, WDiv, WDo}
 use Rattle.grammar.specs.declared.terminals.Terminal.TheVariants.{WDownto, WElse, WEnd, WFile, WFor, WFunction, WGoto}
@@ -96,10 +96,10 @@ abbrev pub passes : List Terminal → Option Terminal → Bool
 passes ks None = false
 passes ks (Some k) = one_of ks k
 
--- whether all of a list, and all terminals, pass a test
-abbrev pub every_of : (Terminal → Bool) → List Terminal → Bool
+-- whether all of a list pass a test, and all terminals
+abbrev pub every_of : {A : Type 0} → (A → Bool) → List A → Bool
 every_of t [] = true
-every_of t (k ∷ ks) = if t k then every_of t ks else false
+every_of t (k ∷ ks) = t k && every_of t ks
 
 abbrev pub every : (Terminal → Bool) → Bool
 every t = every_of t all_terminals

@@ -1,24 +1,25 @@
 -- What was read before a refusal begins the spelling of a tree.
 use Rattle.std.proofs.Common.{◌≡◌, ℕ, zero, suc, Bool, true, false, cond, not, List, [], ◌∷◌, ◌++◌, length, Option, Some, None, Ok, Err, refl, sym, ap, subst}
 use Rattle.std.proofs.Common.{◌∙◌, append_assoc, ◌⊎◌, inl, inr}
+use Rattle.std.proofs.lemmas.Bool.{and_parts, not-true}
 use Rattle.grammar.specs.declared.terminals.Terminal.{Terminal}
-use Rattle.grammar.specs.Terminals.{one_of, passes}
+use Rattle.grammar.specs.Terminals.{one_of, passes, every_of}
 use Rattle.grammar.specs.Nodes.{Item, Node, Leaf, Nothing, Pair, spell, leaf, ahead, next}
 use Rattle.grammar.specs.Grammars.{Level, Grammar, token, nothing, seq, choice, greedy, level, loop, again, IsPair, IsNone, rounds, FreeIn, FreeWithin}
 use Rattle.grammar.specs.Tested.{Is, Within}
 use Rattle.grammar.specs.Reading.{Refusal, Unfit, Deep, left_of, Read, ◌>>=◌, unread, turns, turning, reads, levels, read}
-use Rattle.grammar.specs.Deciding.{both, implies, guarded, sane, LevelTables, IsDecided, expects, all_levels, every_level_of}
+use Rattle.grammar.specs.Deciding.{both, implies, guarded, sane, LevelTables, IsDecided, expects, all_levels}
 use Rattle.grammar_refusals.specs.Nesting.{Trees, Nested, IsShaped}
 use Rattle.grammar_refusals.specs.Completing.{first_in, ends_empty, short, begins_calm, spares, sure, completes, brief_of, has_brief, level_completes}
 use Rattle.grammar_refusals.specs.Completing.{IsCompleted}
-use Rattle.grammar.proofs.Bools.{both_parts, implied, not_true}
+use Rattle.grammar.proofs.Bools.{implied}
 use Rattle.grammar.proofs.Every.{every_terminal}
 use Rattle.grammar.proofs.Exact.{Exact, bind_err, err_is, ok_or_err, ok_no_err, token_fails, none_exact}
 use Rattle.grammar.proofs.Decided.{Allows, freed}
 use Rattle.grammar.proofs.Loops.{guarded_same}
 use Rattle.grammar.proofs.Larger.{IsPart, is_up, none_in}
 use Rattle.grammar.proofs.Somewhere.{nested, whole_nested}
-use Rattle.grammar.proofs.Knot.{every_level, whole_parts, rule_sane, free_within}
+use Rattle.grammar.proofs.LevelsTested.{every_level, whole_parts, rule_sane, free_within}
 use Rattle.grammar.proofs.Wholes.{rounds_exact, level_shortens, grammar_exact, levels_exact}
 use Rattle.grammar_refusals.proofs.Deepest.{Loop, fold}
 
@@ -30,7 +31,7 @@ module _ (calm : Terminal → Bool) where
 
   not_passed : (ks : List Terminal) (h : Option Terminal) → spares calm ks ≡ true → Allows calm h → passes ks h ≡ false
   not_passed ks None e c = refl
-  not_passed ks (Some k) e c = not_true (one_of ks k) (implied (calm k) (not (one_of ks k)) (every_terminal (λ k. implies (calm k) (not (one_of ks k))) e k) c)
+  not_passed ks (Some k) e c = not-true (one_of ks k) (implied (calm k) (not (one_of ks k)) (every_terminal (λ k. implies (calm k) (not (one_of ks k))) e k) c)
 
   pair_moves : (Q : Trees) → Moves Q → (l : List Item) (x : Node) (h i : Option Terminal) → Allows calm i → Q x (ahead l h) → Q x (ahead l i)
   pair_moves Q m [] x h i c r = m x h i c r
@@ -47,19 +48,19 @@ module _ (calm : Terminal → Bool) where
     moves (seq a b) s v d V m (Leaf item) h i c r = absurd r
     moves (seq a b) s v d V m Nothing h i c r = absurd r
     moves (seq a b) s v d V m (Pair x y) h i c r =
-        let p = both_parts (both (completes calm brief has a s v) (completes calm brief has b s v))
+        let p = and_parts (both (completes calm brief has a s v) (completes calm brief has b s v))
         (both (sure calm brief has b s v) (begins_calm calm (spell (short brief b s)))) d in
-        let q = both_parts (completes calm brief has a s v) (completes calm brief has b s v) p.0 in
+        let q = and_parts (completes calm brief has a s v) (completes calm brief has b s v) p.0 in
         (pair_moves (FreeIn E a V) (moves a s v q.0 V m) (spell y) x h i c r.0, moves b s v q.1 V m y h i c r.1)
     moves (choice ks a b) s v d V m x h i c r =
-        let p = both_parts (completes calm brief has a s v) (completes calm brief has b s v) d in elim r
+        let p = and_parts (completes calm brief has a s v) (completes calm brief has b s v) d in elim r
         [ inl z ↦ inl (moves a s v p.0 V m x h i c z) | inr z ↦ inr (moves b s v p.1 V m x h i c z) ]
     moves (greedy ks a) s v d V m x h i c r =
-        let p = both_parts (completes calm brief has a s v) (spares calm ks) d in elim r
+        let p = and_parts (completes calm brief has a s v) (spares calm ks) d in elim r
         [ inl z ↦ inl (moves a s v p.0 V m x h i c z) | inr z ↦ inr (z.0, not_passed ks i p.1 c) ]
     moves (level l) s v d V m x h i c r = level_moves l x h i c r
     moves (loop a) s v d V m x h i c r =
-        let p = both_parts (completes calm brief has a (short brief a Nothing) true) (sure calm brief has a Nothing false) d in
+        let p = and_parts (completes calm brief has a (short brief a Nothing) true) (sure calm brief has a Nothing false) d in
         (r.0, rounds_move (FreeIn E a) (moves a (short brief a Nothing) true p.0) r.0 x h i c r.1)
     moves again s v d V m x h i c r = m x h i c r
 
@@ -84,8 +85,8 @@ module _ (calm : Terminal → Bool) where
     short_fits (token ks) s v d V f h c = d
     short_fits nothing s v d V f h c = tt
     short_fits (seq a b) s v d V f h c =
-        let p = both_parts (both (sure calm brief has a s v) (sure calm brief has b s v)) (begins_calm calm (spell (short brief b s))) d in
-        let q = both_parts (sure calm brief has a s v) (sure calm brief has b s v) p.0 in
+        let p = and_parts (both (sure calm brief has a s v) (sure calm brief has b s v)) (begins_calm calm (spell (short brief b s))) d in
+        let q = and_parts (sure calm brief has a s v) (sure calm brief has b s v) p.0 in
         (short_fits a s v q.0 V f (ahead (spell (short brief b s)) h) (calm_ahead (spell (short brief b s)) h p.1 c), short_fits b s v q.1 V f h c)
     short_fits (choice ks a b) s v d V f h c =
         either_fits (FreeIn E a V) (FreeIn E b V) (ends_empty b) (sure calm brief has a s v) (sure calm brief has b s v) (short brief a s) (short brief b s)
@@ -183,14 +184,14 @@ module _ (calm : Terminal → Bool) where
     abbrev pub has : Level → Bool
     has = has_brief calm t.rule d
 
-    parts : (every_level_of (level_completes calm t.rule d) all_levels ≡ true) × (completes calm brief has g Nothing false ≡ true)
-    parts = both_parts (every_level_of (level_completes calm t.rule d) all_levels) (completes calm brief has g Nothing false) full
+    parts : (every_of (level_completes calm t.rule d) all_levels ≡ true) × (completes calm brief has g Nothing false ≡ true)
+    parts = and_parts (every_of (level_completes calm t.rule d) all_levels) (completes calm brief has g Nothing false) full
 
     pub whole_completes : completes calm brief has g Nothing false ≡ true
     whole_completes = parts.1
 
     level_at : (l : Level) → (has l ≡ true) × (completes calm brief has (t.rule l) Nothing false ≡ true)
-    level_at l = both_parts (has l) (completes calm brief has (t.rule l) Nothing false) (every_level (level_completes calm t.rule d) parts.0 l)
+    level_at l = and_parts (has l) (completes calm brief has (t.rule l) Nothing false) (every_level (level_completes calm t.rule d) parts.0 l)
 
     pub rule_completes : (l : Level) → completes calm brief has (t.rule l) Nothing false ≡ true
     rule_completes l = (level_at l).1
@@ -239,7 +240,7 @@ module _ (calm : Terminal → Bool) where
     rounds_exact_at n a ok' k =
         let P = Within t.rule n in
         let p = levels t n in
-        let o = both_parts (sane a) (guarded a) ok' in
+        let o = and_parts (sane a) (guarded a) ok' in
         rounds_exact (Is P a) (reads p a) (is_up P P (λ v x h r. r) a) (guarded_same p (level_shortens P p (levels_exact t (rule_sane t g ok) n)) a o.1)
         (exact_at n a o.0) k
 
@@ -259,10 +260,10 @@ module _ (calm : Terminal → Bool) where
           (ap left_of (err_is (Unfit l) r (token_fails ks l r e).0))
       completed nothing s v o q V W u i l r e = absurd (ok_no_err (Nothing, l) r e)
       completed (seq a b) s v o q V W u i l r e =
-          let m = both_parts (sane a) (sane b) o in
-          let j = both_parts (both (good a s v) (good b s v)) (both (calls b s v) (begins_calm calm (spell (shortest b s)))) q in
-          let k = both_parts (good a s v) (good b s v) j.0 in
-          let f = both_parts (calls b s v) (begins_calm calm (spell (shortest b s))) j.1 in
+          let m = and_parts (sane a) (sane b) o in
+          let j = and_parts (both (good a s v) (good b s v)) (both (calls b s v) (begins_calm calm (spell (shortest b s)))) q in
+          let k = and_parts (good a s v) (good b s v) j.0 in
+          let f = and_parts (calls b s v) (begins_calm calm (spell (shortest b s))) j.1 in
           let short_b : Fits (FreeIn E b V) (shortest b s) = shortest_fits b s v f.0 V i.short in
           elim (bind_err (reads (levels t n) a u l) (λ x. reads (levels t n) b u x.1 >>= λ y. Ok (Pair x.0 y.0, y.1)) r e) [
             | inl z ↦ first_breaks (FreeIn E a V) (FreeIn E b V) (shortest b s) f.1 short_b l (left_of r) (completed a s v m.0 k.0 V W u i l r z)
@@ -277,22 +278,22 @@ module _ (calm : Terminal → Bool) where
                 ]
           ]
       completed (choice ks a b) s v o q V W u i l r e =
-          let m = both_parts (sane a) (sane b) o in
-          let k = both_parts (good a s v) (good b s v) q in
+          let m = and_parts (sane a) (sane b) o in
+          let k = and_parts (good a s v) (good b s v) q in
           elim (ok_or_err (passes ks (next l)) (reads (levels t n) a u l) (reads (levels t n) b u l) (Err r) e) [
             | inl z ↦ completed_map (FreeIn E a V) (FreeIn E (choice ks a b) V) (λ x h y. inl y) l (left_of r) (completed a s v m.0 k.0 V W u i l r z.1)
             | inr z ↦ completed_map (FreeIn E b V) (FreeIn E (choice ks a b) V) (λ x h y. inr y) l (left_of r) (completed b s v m.1 k.1 V W u i l r z.1)
           ]
       completed (greedy ks a) s v o q V W u i l r e =
-          let k = both_parts (good a s v) (spares calm ks) q in
+          let k = and_parts (good a s v) (spares calm ks) q in
           elim (ok_or_err (passes ks (next l)) (reads (levels t n) a u l) (Ok (Nothing, l)) (Err r) e) [
             | inl z ↦ completed_map (FreeIn E a V) (FreeIn E (greedy ks a) V) (λ x h y. inl y) l (left_of r) (completed a s v o k.0 V W u i l r z.1)
             | inr z ↦ absurd (ok_no_err (Nothing, l) r z.1)
           ]
       completed (level w) s v o q V W u i l r e = level_completed w l r e
       completed (loop a) s v o q V W u i l r e =
-          let m = both_parts (sane a) (guarded a) o in
-          let k = both_parts (good a (shortest a Nothing) true) (calls a Nothing false) q in
+          let m = and_parts (sane a) (guarded a) o in
+          let k = and_parts (good a (shortest a Nothing) true) (calls a Nothing false) q in
           let around : (j : ℕ) → ((l : List Item) (r : Refusal) → turns j (reads (levels t n) a) l ≡ Err r → Completed (Loop E a) l (left_of r))
           → Breaks (shortest a Nothing) true (Loop E a) (rounds j (Is (Within t.rule n) a)) (turns j (reads (levels t n) a)) =
           λ j c. record {

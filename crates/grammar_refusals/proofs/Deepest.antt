@@ -1,6 +1,7 @@
 -- A tree in which a node begins too deep is refused as too deep at that node or before it.
 use Rattle.std.proofs.Common.{◌≡◌, ℕ, zero, suc, ◌≤◌, Bool, true, false, cond, List, [], ◌∷◌, ◌++◌, Option, Some, None, Ok, refl, sym, ap, subst, ◌∙◌}
 use Rattle.std.proofs.Common.{append_assoc, inl, inr}
+use Rattle.std.proofs.lemmas.Bool.{and_parts}
 use Rattle.grammar.specs.declared.terminals.Terminal.{Terminal}
 use Rattle.grammar.specs.Terminals.{one_of, passes}
 use Rattle.grammar.specs.Nodes.{Item, Node, Leaf, Nothing, Pair, spell, ahead, next}
@@ -9,16 +10,17 @@ use Rattle.grammar.specs.Tested.{Is, Within}
 use Rattle.grammar.specs.Reading.{Read, then_pair, unread, turning, reads, levels, read}
 use Rattle.grammar.specs.Deciding.{both, either, guarded, sane, LevelTables, IsDecided, expects, none, nullable, first, decides}
 use Rattle.grammar_refusals.specs.Nesting.{Trees, Places, Nested, IsShaped, nowhere, in_rounds, BeginsIn, BeginsAt, BeginsDeep}
-use Rattle.grammar.proofs.Bools.{both_parts, both_make, either_left, either_right}
+use Rattle.grammar.proofs.Bools.{both_make, either_left, either_right}
 use Rattle.grammar.proofs.Exact.{ahead_append}
 use Rattle.grammar.proofs.Loops.{Guards, guarded_same, turning_again}
 use Rattle.grammar.proofs.Larger.{IsPart, rounds_map, free_up, all_in}
 use Rattle.grammar.proofs.Somewhere.{at_some, AtSome, nested, whole_nested}
 use Rattle.grammar.proofs.Wholes.{level_shortens, levels_exact}
-use Rattle.grammar.proofs.Decided.{Allows, Starts, Begun, begun, Tested, tested, allows_up, after, head, gap, seq_parts, choice_parts, greedy_parts, loop_parts}
-use Rattle.grammar.proofs.Knot.{level_parts, whole_parts, rule_sane}
-use Rattle.grammar_refusals.proofs.Goes.{DeepIn, Goes, AllGo, first_deep, second_deep, Placed, nested_begun, nested_placed, none_begun, none_tested, expected}
-use Rattle.grammar_refusals.proofs.Goes.{goes, level_goes}
+use Rattle.grammar.proofs.Decided.{none_begun, none_tested, Allows, Starts, Begun, begun, Tested, tested, allows_up, after, head, gap, seq_parts, choice_parts}
+use Rattle.grammar.proofs.Decided.{greedy_parts, loop_parts, solid_starts, passes_first, fails_first, allows_append}
+use Rattle.grammar.proofs.LevelsTested.{level_parts, whole_parts, rule_sane}
+use Rattle.grammar_refusals.proofs.ReadOrTooDeep.{DeepIn, Goes, AllGo, first_deep, second_deep, Placed, nested_begun, nested_placed, expected}
+use Rattle.grammar_refusals.proofs.ReadOrTooDeep.{goes, level_goes}
 
 -- ---- a tree with a place is a tree
 
@@ -115,27 +117,6 @@ loop_deep o F f guards body (suc k) x rest at al h = same_deep (f (turning f)) (
     (body k (loop_deep o F f guards body k) x rest at al h)
 
 -- what a choice's tests say of what begins a tree
-solid_starts : (f : Terminal → Bool) (a : Bool) (l : List Item) → a ≡ false → Starts f a l → Starts f false l
-solid_starts f a l e s = subst (λ (b : Bool). Starts f b l) e s
-
-passes_first : (ks : List Terminal) (g : Terminal → Bool) (l : List Item) (h : Option Terminal) → ((k : Terminal) → g k ≡ true → one_of ks k ≡ true)
-    → Starts g false l → passes ks (ahead l h) ≡ true
-passes_first ks g [] h p s = absurd cc
-passes_first ks g (x ∷ l) h p s = p x.kind s
-
-fails_first : (ks : List Terminal) (f g : Terminal → Bool) (a : Bool) (l : List Item) (h : Option Terminal)
-    → ((k : Terminal) → g k ≡ true → one_of ks k ≡ false) → ((k : Terminal) → both a (f k) ≡ true → one_of ks k ≡ false) → Starts g a l → Allows f h
-    → passes ks (ahead l h) ≡ false
-fails_first ks f g a [] None p q s al = refl
-fails_first ks f g a [] (Some k) p q s al = q k (both_make a (f k) s al)
-fails_first ks f g a (x ∷ l) h p q s al = p x.kind s
-
-allows_append : (f g : Terminal → Bool) (a : Bool) (l : List Item) (h : Option Terminal) → Starts g a l → Allows f h
-    → Allows (λ k. either (g k) (both a (f k))) (ahead l h)
-allows_append f g a [] None s al = tt
-allows_append f g a [] (Some k) s al = either_right (g k) (both a (f k)) (both_make a (f k) s al)
-allows_append f g a (x ∷ l) h s al = either_left (g x.kind) (both a (f x.kind)) s
-
 module _ (t : LevelTables) (whole : Grammar) (ok : IsDecided t whole ≡ true) where
   -- what surrounds a part of a grammar: the loop around it
   pub record Around (n : ℕ) (f : Terminal → Bool) (v : Bool) (w : Terminal → Bool) (V W : Trees) (M : Places) (u : List Item → Read) : Type 0 where
@@ -163,7 +144,7 @@ module _ (t : LevelTables) (whole : Grammar) (ok : IsDecided t whole ≡ true) w
     deep (seq a b) f v w o s d V W M u i (Leaf item) rest at al m = absurd m
     deep (seq a b) f v w o s d V W M u i Nothing rest at al m = absurd m
     deep (seq a b) f v w o s d V W M u i (Pair x y) rest at al m =
-        let p = both_parts (sane a) (sane b) s in
+        let p = and_parts (sane a) (sane b) s in
         let q = seq_parts t a b f v w o d in
         let here = sym (ahead_append (spell y) rest None) in
         let behind : FreeIn E b V y (next rest) → Allows (after t b f v o) (ahead (spell y) (next rest)) =
@@ -184,7 +165,7 @@ module _ (t : LevelTables) (whole : Grammar) (ok : IsDecided t whole ≡ true) w
               (deep b f v w o p.1 q.1 V W M u i y rest z.0 al z.3)
         ]
     deep (choice ks a b) f v w o s d V W M u i x rest at al m =
-        let p = both_parts (sane a) (sane b) s in
+        let p = and_parts (sane a) (sane b) s in
         let q = choice_parts t ks a b f v w o d in
         let here = sym (ahead_append (spell x) rest None) in
         elim m [
@@ -216,7 +197,7 @@ module _ (t : LevelTables) (whole : Grammar) (ok : IsDecided t whole ≡ true) w
         (deep a f v w o s q.inner V W M u i x rest at al m)
     deep (level l) f v w o s d V W M u i x rest at al m = level_deep l x rest at (allows_up o (t.follow_of l) (next rest) d al) m
     deep (loop a) f v w o s d V W M u i x rest at al m =
-        let p = both_parts (sane a) (guarded a) s in
+        let p = and_parts (sane a) (guarded a) s in
         let q = loop_parts t a f v w o d in
         let read = reads (levels t n) a in
         let guards = guarded_same (levels t n) (level_shortens (Within t.rule n) (levels t n) (levels_exact t (rule_sane t whole ok) n)) a p.1 in
@@ -236,8 +217,8 @@ module _ (t : LevelTables) (whole : Grammar) (ok : IsDecided t whole ≡ true) w
 
   none_around : (n : ℕ) → Around n none false none IsNone IsNone nowhere unread
   none_around n = record {
-    begins = none_begun t whole ok;
-    tests = none_tested t whole ok;
+    begins = none_begun;
+    tests = none_tested;
     reach = λ x rest h. absurd h;
     deep = λ x rest f al h. absurd h;
     trees = nowhere_none;

@@ -2,6 +2,7 @@
 use Rattle.std.proofs.Common.{◌≡◌, ℕ, zero, suc, ◌+◌, true, false, cond, List, [], ◌∷◌, ◌++◌, length, Option, Ok, Err, refl, sym, ap, subst, ◌∙◌, append_assoc}
 use Rattle.std.proofs.Common.{inl, inr, arith}
 use Rattle.std.proofs.lemmas.List.{append_cancel_right}
+use Rattle.std.proofs.lemmas.Bool.{and_parts}
 use Rattle.grammar.specs.declared.terminals.Terminal.{Terminal}
 use Rattle.grammar.specs.Terminals.{one_of, passes}
 use Rattle.grammar.specs.Nodes.{Item, Node, Nothing, Pair, spell, next}
@@ -10,7 +11,6 @@ use Rattle.grammar.specs.Tested.{Is, Within}
 use Rattle.grammar.specs.Reading.{Refusal, Unfit, Deep, left_of, Read, ◌>>=◌, token_at, then_pair, unread, turns, turning, reads, levels, read}
 use Rattle.grammar.specs.Deciding.{guarded, sane, LevelTables, expects}
 use Rattle.grammar_refusals.specs.Nesting.{Trees}
-use Rattle.grammar.proofs.Bools.{both_parts}
 use Rattle.grammar.proofs.Exact.{Exact, bind_err, failed, err_is, ok_no_err, ok_or_err, same_next, token_fails, none_exact}
 use Rattle.grammar.proofs.Loops.{Guards, enough, guarded_same}
 use Rattle.grammar.proofs.Larger.{is_up}
@@ -149,17 +149,17 @@ module _ (t : LevelTables) (sane_rule : (l : Level) → sane (t.rule l) ≡ true
     local (token ks) ok V u x s l r e = token_local ks l r e
     local nothing ok V u x s l r e = absurd (ok_no_err (Nothing, l) r e)
     local (seq a b) ok V u x s l r e =
-        let o = both_parts (sane a) (sane b) ok in
+        let o = and_parts (sane a) (sane b) ok in
         pair_local (Is (Within t.rule n) a V) (reads (levels t n) a u) (reads (levels t n) b u) (exact_in a o.0 V u x) l r (local a o.0 V u x s l r)
         (λ y m first g. local b o.1 V u x s m r g) e
     local (choice ks a b) ok V u x s l r e =
-        let o = both_parts (sane a) (sane b) ok in choice_local ks (reads (levels t n) a u) (reads (levels t n) b u) l r (local a o.0 V u x s l r)
+        let o = and_parts (sane a) (sane b) ok in choice_local ks (reads (levels t n) a u) (reads (levels t n) b u) l r (local a o.0 V u x s l r)
         (local b o.1 V u x s l r) e
     local (greedy ks a) ok V u x s l r e = choice_local ks (reads (levels t n) a u) (λ l. Ok (Nothing, l)) l r (local a ok V u x s l r)
         (λ h. absurd (ok_no_err (Nothing, l) r h)) e
     local (level v) ok V u x s l r e = level_local v l r e
     local (loop a) ok V u x s l r e =
-        let o = both_parts (sane a) (guarded a) ok in
+        let o = and_parts (sane a) (guarded a) ok in
         let P = Within t.rule n in
         let p = levels t n in
         let guards = guarded_same p (level_shortens P p (levels_exact t sane_rule n)) a o.1 in

@@ -1,5 +1,6 @@
 -- Trees that begin with a token, and empty ones.
 use Rattle.std.proofs.Common.{◌≡◌, ℕ, zero, suc, Bool, true, false, List, [], ◌∷◌, ◌++◌, Option, Some, refl, sym, ap, subst, ◌∙◌, ◌⊎◌, inl, inr}
+use Rattle.std.proofs.lemmas.Bool.{and_parts, or_parts}
 use Rattle.grammar.specs.declared.terminals.Terminal.{Terminal}
 use Rattle.grammar.specs.Terminals.{one_of}
 use Rattle.grammar.specs.Nodes.{Item, Node, Leaf, Nothing, Pair, spell, ahead}
@@ -8,7 +9,7 @@ use Rattle.grammar.specs.Deciding.{both, either, implies, LevelTables, IsDecided
 use Rattle.grammar_refusals.specs.Nesting.{Trees, Nested}
 use Rattle.grammar_refusals.specs.Completing.{begins_calm, spares, IsCompleted}
 use Rattle.grammar_refusals.specs.Reaching.{blank, tables_at, leads, eager}
-use Rattle.grammar.proofs.Bools.{both_parts, either_parts, implied}
+use Rattle.grammar.proofs.Bools.{either_parts, implied, by_test}
 use Rattle.grammar.proofs.Every.{every_terminal}
 use Rattle.grammar.proofs.Larger.{IsPart}
 use Rattle.grammar.proofs.Somewhere.{nested}
@@ -17,17 +18,9 @@ use Rattle.grammar_refusals.proofs.Complete.{Fits, calm_ahead, brief, has, good,
 
 -- ---- tests
 
-pub either_false : (a b : Bool) → either a b ≡ false → (a ≡ false) × (b ≡ false)
-either_false true b e = absurd cc
-either_false false b e = (refl, e)
-
 pub both_false : (a b : Bool) → a ≡ true → both a b ≡ false → b ≡ false
 both_false true b e f = f
 both_false false b e f = absurd cc
-
-pub by_test : (b : Bool) → (b ≡ true) ⊎ (b ≡ false)
-by_test true = inl refl
-by_test false = inr refl
 
 pub else_right : (a b : Bool) → a ≡ false → either a b ≡ true → b ≡ true
 else_right true b e f = absurd cc
@@ -59,7 +52,7 @@ module _ (T : LevelTables) where
     | inr y ↦ y
   ]
   leads_first ks nothing f v k d e = absurd cc
-  leads_first ks (seq a b) f v k d e = leads_first ks a f v k d (either_false (first T a f v k) (both (nullable T a v) (first T b f v k)) e).0
+  leads_first ks (seq a b) f v k d e = leads_first ks a f v k d (or_parts (first T a f v k) (both (nullable T a v) (first T b f v k)) e).0
   leads_first ks (choice js a b) f v k d e = absurd cc
   leads_first ks (greedy js a) f v k d e = absurd cc
   leads_first ks (level l) f v k d e = absurd cc
@@ -74,21 +67,21 @@ module _ (T : LevelTables) where
     empties (token ks) f v o V k i e n = absurd cc
     empties nothing f v o V k i e n = record { tree = Nothing; spells = refl; fits = tt }
     empties (seq a b) f v o V k i e n =
-        let p = both_parts (eager a) (eager b) o in
-        let m = both_parts (nullable T a v) (nullable T b v) n in
-        let q = either_false (first T a f v k) (both (nullable T a v) (first T b f v k)) e in
+        let p = and_parts (eager a) (eager b) o in
+        let m = and_parts (nullable T a v) (nullable T b v) n in
+        let q = or_parts (first T a f v k) (both (nullable T a v) (first T b f v k)) e in
         let x = empties a f v p.0 V k i q.0 m.0 in
         let y = empties b f v p.1 V k i (both_false (nullable T a v) (first T b f v k) m.0 q.1) m.1 in
         let r = empty_pair (FreeIn F a V) (FreeIn F b V) x.tree y.tree (Some k) x.spells y.spells x.fits y.fits in
         record { tree = Pair x.tree y.tree; spells = r.0; fits = r.1 }
     empties (choice ks a b) f v o V k i e n =
-        let p = both_parts (eager a) (eager b) o in
-        let q = either_false (first T a f v k) (first T b f v k) e in
+        let p = and_parts (eager a) (eager b) o in
+        let q = or_parts (first T a f v k) (first T b f v k) e in
         elim (either_parts (nullable T a v) (nullable T b v) n) [
           | inl m ↦ empty_map (FreeIn F a V) (FreeIn F (choice ks a b) V) (Some k) (λ x r. inl r) (empties a f v p.0 V k i q.0 m)
           | inr m ↦ empty_map (FreeIn F b V) (FreeIn F (choice ks a b) V) (Some k) (λ x r. inr r) (empties b f v p.1 V k i q.1 m)
         ]
-    empties (greedy ks a) f v o V k i e n = let p = both_parts (eager a)
+    empties (greedy ks a) f v o V k i e n = let p = and_parts (eager a)
         (leads ks a) o in record { tree = Nothing; spells = refl; fits = inr (tt, leads_first ks a f v k p.1 e) }
     empties (level l) f v o V k i e n = level_empty l n (Some k)
     empties (loop a) f v o V k i e n = empty_map (FreeIn F a (rounds 0 (FreeIn F a))) (Loop F a) (Some k) (λ x r. (1, r))
@@ -100,7 +93,7 @@ blanks : (F : Level → Trees) (has : Level → Bool) → ((l : Level) → has l
 blanks F has i (token ks) o V h = absurd cc
 blanks F has i nothing o V h = record { tree = Nothing; spells = refl; fits = tt }
 blanks F has i (seq a b) o V h =
-    let p = both_parts (blank has a) (blank has b) o in
+    let p = and_parts (blank has a) (blank has b) o in
     let x = blanks F has i a p.0 V h in
     let y = blanks F has i b p.1 V h in
     let r = empty_pair (FreeIn F a V) (FreeIn F b V) x.tree y.tree h x.spells y.spells x.fits y.fits in
@@ -142,11 +135,11 @@ module _ (calm : Terminal → Bool) where
       starting (token ks) f v s e o q V i z h = record { tree = Leaf z; more = []; begins = refl; fits = λ j c. h }
       starting nothing f v s e o q V i z h = absurd cc
       starting (seq a b) f v s e o q V i z h =
-          let p = both_parts (eager a) (eager b) o in
-          let j = both_parts (both (good calm t g ok d full a s e) (good calm t g ok d full b s e))
+          let p = and_parts (eager a) (eager b) o in
+          let j = and_parts (both (good calm t g ok d full a s e) (good calm t g ok d full b s e))
           (both (calls calm t g ok d full b s e) (begins_calm calm (spell (shortest calm t g ok d full b s)))) q in
-          let k = both_parts (good calm t g ok d full a s e) (good calm t g ok d full b s e) j.0 in
-          let r = both_parts (calls calm t g ok d full b s e) (begins_calm calm (spell (shortest calm t g ok d full b s))) j.1 in
+          let k = and_parts (good calm t g ok d full a s e) (good calm t g ok d full b s e) j.0 in
+          let r = and_parts (calls calm t g ok d full b s e) (begins_calm calm (spell (shortest calm t g ok d full b s))) j.1 in
           elim (by_test (first T a f v z.kind)) [
             | inl y ↦
                 let x = starting a f v s e p.0 k.0 V i z y in
@@ -158,7 +151,7 @@ module _ (calm : Terminal → Bool) where
                   fits = λ h c. (x.fits (ahead (spell w) h) (calm_ahead calm (spell w) h r.1 c), shortest_fits calm t g ok d full b s e r.0 V i.shorts h c);
                 }
             | inr y ↦
-                let m = both_parts (nullable T a v) (first T b f v z.kind)
+                let m = and_parts (nullable T a v) (first T b f v z.kind)
                 (else_right (first T a f v z.kind) (both (nullable T a v) (first T b f v z.kind)) y h) in
                 let x = empties T (Nested t.rule) level_empty a f v p.0 V z.kind (i.empty z.kind) y m.0 in
                 let w = starting b f v s e p.1 k.1 V i z m.1 in
@@ -170,8 +163,8 @@ module _ (calm : Terminal → Bool) where
                 }
           ]
       starting (choice ks a b) f v s e o q V i z h =
-          let p = both_parts (eager a) (eager b) o in
-          let k = both_parts (good calm t g ok d full a s e) (good calm t g ok d full b s e) q in
+          let p = and_parts (eager a) (eager b) o in
+          let k = and_parts (good calm t g ok d full a s e) (good calm t g ok d full b s e) q in
           elim (either_parts (first T a f v z.kind) (first T b f v z.kind) h) [
             | inl y ↦ starting_map (FreeIn (Nested t.rule) a V) (FreeIn (Nested t.rule) (choice ks a b) V) z (λ x h r. inl r)
                 (starting a f v s e p.0 k.0 V i z y)
@@ -179,13 +172,13 @@ module _ (calm : Terminal → Bool) where
                 (starting b f v s e p.1 k.1 V i z y)
           ]
       starting (greedy ks a) f v s e o q V i z h =
-          let p = both_parts (eager a) (leads ks a) o in
-          let k = both_parts (good calm t g ok d full a s e) (spares calm ks) q in
+          let p = and_parts (eager a) (leads ks a) o in
+          let k = and_parts (good calm t g ok d full a s e) (spares calm ks) q in
           starting_map (FreeIn (Nested t.rule) a V) (FreeIn (Nested t.rule) (greedy ks a) V) z (λ x h r. inl r) (starting a f v s e p.0 k.0 V i z h)
       starting (level l) f v s e o q V i z h = level_starts l z h
       starting (loop a) f v s e o q V i z h =
           let w = shortest calm t g ok d full a Nothing in
-          let k = both_parts (good calm t g ok d full a w true) (calls calm t g ok d full a Nothing false) q in
+          let k = and_parts (good calm t g ok d full a w true) (calls calm t g ok d full a Nothing false) q in
           starting_map (FreeIn (Nested t.rule) a (Loop (Nested t.rule) a)) (Loop (Nested t.rule) a) z (fold (Nested t.rule) a)
           (starting a none false w true o k.0 (Loop (Nested t.rule) a)
           (record {

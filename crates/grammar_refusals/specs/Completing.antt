@@ -2,10 +2,10 @@
 use Rattle.std.specs.Prelude.{ℕ, zero, suc, Bool, true, false, cond, not, List, [], ◌∷◌}
 use Rattle.grammar.specs.declared.terminals.Terminal.{Terminal}
 use Rattle.grammar.specs.declared.terminals.Terminal.TheVariants.{End}
-use Rattle.grammar.specs.Terminals.{one_of, every}
+use Rattle.grammar.specs.Terminals.{one_of, every, every_of}
 use Rattle.grammar.specs.Nodes.{Item, Node, Nothing, Pair, spell, leaf}
 use Rattle.grammar.specs.Grammars.{Level, Grammar, token, nothing, seq, choice, greedy, level, loop, again}
-use Rattle.grammar.specs.Deciding.{both, implies, LevelTables, all_levels, every_level_of}
+use Rattle.grammar.specs.Deciding.{both, implies, LevelTables, all_levels}
 
 -- the first of a list of terminals
 abbrev pub first_in : List Terminal → Terminal
@@ -84,5 +84,5 @@ module _ (calm : Terminal → Bool) where
 
   -- short trees complete what was read of a whole text
   abbrev pub IsCompleted : ℕ → LevelTables → Grammar → Bool
-  IsCompleted d t g = both (every_level_of (level_completes t.rule d) all_levels)
+  IsCompleted d t g = both (every_of (level_completes t.rule d) all_levels)
       (completes (brief_of t.rule d) (has_brief t.rule d) g Nothing false)

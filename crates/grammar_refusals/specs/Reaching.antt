@@ -1,10 +1,9 @@
 -- The check that each token in front of which a level is tried may stand there in some tree.
 use Rattle.std.specs.Prelude.{ℕ, zero, suc, Bool, true, false, not, List}
 use Rattle.grammar.specs.declared.terminals.Terminal.{Terminal}
-use Rattle.grammar.specs.Terminals.{one_of, every}
+use Rattle.grammar.specs.Terminals.{one_of, every, every_of}
 use Rattle.grammar.specs.Grammars.{Level, Grammar, token, nothing, seq, choice, greedy, level, loop, again}
 use Rattle.grammar.specs.Deciding.{both, either, implies, LevelTables, none, nullable, first, all_levels}
-use Rattle.grammar.specs.Deciding.{every_level_of}
 
 -- ---- tables with nothing to spare
 
@@ -97,5 +96,5 @@ module _ (t : LevelTables) where
   -- Each token in front of which a level is tried may stand there.
   abbrev pub IsReaching : ℕ → Grammar → Bool
   IsReaching d g =
-      both (every_level_of (level_reaches d) all_levels)
+      both (every_of (level_reaches d) all_levels)
       (both (eager g) (both (goes_on g none false none) (every (λ k. not (ends g none false none k)))))

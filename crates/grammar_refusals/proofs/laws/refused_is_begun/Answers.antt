@@ -1,6 +1,6 @@
 use Rattle.grammar_refusals.proofs.Complete.{whole_completed}
 use Rattle.grammar_refusals.proofs.Deepest.{deep_shaped}
-use Rattle.grammar_refusals.proofs.Reached.{whole_reached}
+use Rattle.grammar_refusals.proofs.DeepIsBegun.{whole_reached}
 use Rattle.grammar_refusals.proofs.laws.refused_is_begun.Goals as goal
 
 pub returns-clause-any : goal.returns-clause-any

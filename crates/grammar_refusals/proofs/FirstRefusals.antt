@@ -19,7 +19,7 @@ use Rattle.grammar.proofs.Texts.{exact}
 use Rattle.grammar_refusals.proofs.Hopeless.{unfit_no_deep, whole_local, unfit_hopeless, surplus_hopeless}
 use Rattle.grammar_refusals.proofs.Deepest.{whole_deep, deep_shaped}
 use Rattle.grammar_refusals.proofs.Complete.{brief, has, moves, level_moves, whole_completes, whole_completed, freed_at}
-use Rattle.grammar_refusals.proofs.Reached.{whole_reached}
+use Rattle.grammar_refusals.proofs.DeepIsBegun.{whole_reached}
 
 -- ---- lists cut at a token
 

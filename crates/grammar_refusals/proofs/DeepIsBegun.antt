@@ -2,27 +2,28 @@
 use Rattle.std.proofs.Common.{◌≡◌, ℕ, zero, suc, Bool, true, false, not, List, [], ◌∷◌, ◌++◌, length, Option, Some, None, Ok, Err, refl, sym, ap, subst, ◌∙◌}
 use Rattle.std.proofs.Common.{append_assoc, ◌⊎◌, inl, inr}
 use Rattle.std.proofs.lemmas.List.{append-nil}
+use Rattle.std.proofs.lemmas.Bool.{and_parts, not-true}
 use Rattle.grammar.specs.declared.terminals.Terminal.{Terminal}
-use Rattle.grammar.specs.Terminals.{passes, every}
+use Rattle.grammar.specs.Terminals.{passes, every, every_of}
 use Rattle.grammar.specs.Nodes.{Item, Node, Leaf, Nothing, Pair, spell, ahead, next}
 use Rattle.grammar.specs.Grammars.{Level, Grammar, token, nothing, seq, choice, greedy, level, loop, again, IsNone, rounds, FreeIn}
 use Rattle.grammar.specs.Tested.{Is, Within}
 use Rattle.grammar.specs.Reading.{Unfit, Deep, left_of, Read, ◌>>=◌, unread, turns, turning, reads, levels, read}
-use Rattle.grammar.specs.Deciding.{both, either, implies, guarded, sane, LevelTables, IsDecided, expects, none, nullable, first, all_levels, every_level_of}
+use Rattle.grammar.specs.Deciding.{both, either, implies, guarded, sane, LevelTables, IsDecided, expects, none, nullable, first, all_levels}
 use Rattle.grammar_refusals.specs.Nesting.{Trees, Places, Nested, nowhere, in_rounds, BeginsIn, BeginsAt, BeginsDeep}
 use Rattle.grammar_refusals.specs.Completing.{begins_calm, spares, IsCompleted}
 use Rattle.grammar_refusals.specs.Reaching.{tables_at, leads, eager, ends, tail, goes_on, level_reaches, IsReaching}
-use Rattle.grammar.proofs.Bools.{both_parts, both_make, either_left, either_right, either_parts, implied, not_true}
+use Rattle.grammar.proofs.Bools.{both_make, either_left, either_right, either_parts, implied, by_test}
 use Rattle.grammar.proofs.Every.{every_terminal}
 use Rattle.grammar.proofs.Exact.{Exact, bind_err, failed, err_is, ok_or_err, ok_no_err, token_fails, none_exact}
 use Rattle.grammar.proofs.Decided.{Allows}
 use Rattle.grammar.proofs.Larger.{IsPart, none_in}
-use Rattle.grammar.proofs.Knot.{every_level, whole_parts, rule_sane}
+use Rattle.grammar.proofs.LevelsTested.{every_level, whole_parts, rule_sane}
 use Rattle.grammar_refusals.proofs.Hopeless.{unfit_no_deep}
 use Rattle.grammar_refusals.proofs.Deepest.{Loop}
 use Rattle.grammar_refusals.proofs.Complete.{calm_ahead, brief, has, good, calls, shortest, shortest_fits, has_fits, loop_fits, rule_completes, whole_completes}
 use Rattle.grammar_refusals.proofs.Complete.{exact_at, freed_at, rounds_exact_at}
-use Rattle.grammar_refusals.proofs.Starting.{Empty, Starting, Begins, by_test, empties, starting, none_begins, level_empty_at, level_starts_at}
+use Rattle.grammar_refusals.proofs.Starting.{Empty, Starting, Begins, empties, starting, none_begins, level_empty_at, level_starts_at}
 
 -- a place behind one part stands in one round of a loop
 at_one : (E : Level → Trees) (D : Level → Places) (g : Grammar) (V : Trees) (W : ℕ → Places) (x : Node) (h : Option Terminal) (f : List Item)
@@ -102,9 +103,9 @@ module _ (calm : Terminal → Bool) (t : LevelTables) (g : Grammar) (ok : IsDeci
     (reaching : IsReaching t d g ≡ true) where
   -- ---- the parts of the check
 
-  whole_reaches : (every_level_of (level_reaches t d) all_levels ≡ true) ×
+  whole_reaches : (every_of (level_reaches t d) all_levels ≡ true) ×
       (both (eager g) (both (goes_on t g none false none) (every (λ k. not (ends t g none false none k)))) ≡ true)
-  whole_reaches = both_parts (every_level_of (level_reaches t d) all_levels)
+  whole_reaches = and_parts (every_of (level_reaches t d) all_levels)
       (both (eager g) (both (goes_on t g none false none) (every (λ k. not (ends t g none false none k))))) reaching
 
   record LevelReaches (l : Level) : Type 0 where
@@ -118,11 +119,11 @@ module _ (calm : Terminal → Bool) (t : LevelTables) (g : Grammar) (ok : IsDeci
   level_parts l =
       let firsts : Terminal → Bool = λ k. implies (t.first_of l k) ((tables_at t d).first_of l k) in
       let lasts : Terminal → Bool = λ k. implies (ends t (t.rule l) none false none k) (both (t.nullable_of l) (t.follow_of l k)) in
-      let a = both_parts (both (every firsts) (implies (t.nullable_of l) ((tables_at t d).nullable_of l)))
+      let a = and_parts (both (every firsts) (implies (t.nullable_of l) ((tables_at t d).nullable_of l)))
       (both (eager (t.rule l)) (both (goes_on t (t.rule l) none false none) (every lasts))) (every_level (level_reaches t d) whole_reaches.0 l) in
-      let b = both_parts (every firsts) (implies (t.nullable_of l) ((tables_at t d).nullable_of l)) a.0 in
-      let c = both_parts (eager (t.rule l)) (both (goes_on t (t.rule l) none false none) (every lasts)) a.1 in
-      let e = both_parts (goes_on t (t.rule l) none false none) (every lasts) c.1 in
+      let b = and_parts (every firsts) (implies (t.nullable_of l) ((tables_at t d).nullable_of l)) a.0 in
+      let c = and_parts (eager (t.rule l)) (both (goes_on t (t.rule l) none false none) (every lasts)) a.1 in
+      let e = and_parts (goes_on t (t.rule l) none false none) (every lasts) c.1 in
       record {
         starts = λ k i. implied (t.first_of l k) ((tables_at t d).first_of l k) (every_terminal firsts b.0 k) i;
         empty = λ i. implied (t.nullable_of l) ((tables_at t d).nullable_of l) b.1 i;
@@ -287,14 +288,14 @@ module _ (calm : Terminal → Bool) (t : LevelTables) (g : Grammar) (ok : IsDeci
     reached (token ks) f v c s e o j q m V W M u i l z rest h = absurd (unfit_no_deep l (z ∷ rest) (token_fails ks l (Deep (z ∷ rest)) h).0)
     reached nothing f v c s e o j q m V W M u i l z rest h = absurd (ok_no_err (Nothing, l) (Deep (z ∷ rest)) h)
     reached (seq a b) f v c s e o j q m V W M u i l z rest h =
-        let o' = both_parts (sane a) (sane b) o in
-        let j' = both_parts (eager a) (eager b) j in
-        let q' = both_parts (both (good_at a s e) (good_at b s e)) (both (calls_at b s e) (begins_calm calm (spell (short_at b s)))) q in
-        let q2 = both_parts (good_at a s e) (good_at b s e) q'.0 in
-        let q3 = both_parts (calls_at b s e) (begins_calm calm (spell (short_at b s))) q'.1 in
+        let o' = and_parts (sane a) (sane b) o in
+        let j' = and_parts (eager a) (eager b) j in
+        let q' = and_parts (both (good_at a s e) (good_at b s e)) (both (calls_at b s e) (begins_calm calm (spell (short_at b s)))) q in
+        let q2 = and_parts (good_at a s e) (good_at b s e) q'.0 in
+        let q3 = and_parts (calls_at b s e) (begins_calm calm (spell (short_at b s))) q'.1 in
         let on : Terminal → Bool = λ k. implies (ends t a f v c k) (either (first t b f v k) (nullable t b v)) in
-        let m' = both_parts (both (goes_on t a f v c) (goes_on t b f v c)) (every on) m in
-        let m2 = both_parts (goes_on t a f v c) (goes_on t b f v c) m'.0 in
+        let m' = and_parts (both (goes_on t a f v c) (goes_on t b f v c)) (every on) m in
+        let m2 = and_parts (goes_on t a f v c) (goes_on t b f v c) m'.0 in
         elim (bind_err (reads p a u l) (λ x. reads p b u x.1 >>= λ y. Ok (Pair x.0 y.0, y.1)) (Deep (z ∷ rest)) h) [
           | inl x ↦
               first_reached n f v c s e V M i.begins a b j'.1 q2.1 q3.0 q3.1
@@ -310,10 +311,10 @@ module _ (calm : Terminal → Bool) (t : LevelTables) (g : Grammar) (ok : IsDeci
               ]
         ]
     reached (choice ks a b) f v c s e o j q m V W M u i l z rest h =
-        let o' = both_parts (sane a) (sane b) o in
-        let j' = both_parts (eager a) (eager b) j in
-        let q' = both_parts (good_at a s e) (good_at b s e) q in
-        let m' = both_parts (goes_on t a f v c) (goes_on t b f v c) m in
+        let o' = and_parts (sane a) (sane b) o in
+        let j' = and_parts (eager a) (eager b) j in
+        let q' = and_parts (good_at a s e) (good_at b s e) q in
+        let m' = and_parts (goes_on t a f v c) (goes_on t b f v c) m in
         elim (ok_or_err (passes ks (next l)) (reads p a u l) (reads p b u l) (Err (Deep (z ∷ rest))) h) [
           | inl x ↦
               reached_map calm (BeginsIn E D a V M) (BeginsIn E D (choice ks a b) V M) (ends t a f v c) (ends t (choice ks a b) f v c) (λ x h f y. inl y)
@@ -325,8 +326,8 @@ module _ (calm : Terminal → Bool) (t : LevelTables) (g : Grammar) (ok : IsDeci
               (reached b f v c s e o'.1 j'.1 q'.1 m'.1 V W M u i l z rest x.1)
         ]
     reached (greedy ks a) f v c s e o j q m V W M u i l z rest h =
-        let j' = both_parts (eager a) (leads ks a) j in
-        let q' = both_parts (good_at a s e) (spares calm ks) q in
+        let j' = and_parts (eager a) (leads ks a) j in
+        let q' = and_parts (good_at a s e) (spares calm ks) q in
         elim (ok_or_err (passes ks (next l)) (reads p a u l) (Ok (Nothing, l)) (Err (Deep (z ∷ rest))) h) [
           | inl x ↦
               reached_map calm (BeginsIn E D a V M) (BeginsIn E D (greedy ks a) V M) (ends t a f v c) (ends t (greedy ks a) f v c) (λ x h f y. y)
@@ -335,12 +336,12 @@ module _ (calm : Terminal → Bool) (t : LevelTables) (g : Grammar) (ok : IsDeci
         ]
     reached (level w) f v c s e o j q m V W M u i l z rest h = level_reached w l z rest h
     reached (loop a) f v c s e o j q m V W M u i l z rest h =
-        let o' = both_parts (sane a) (guarded a) o in
+        let o' = and_parts (sane a) (guarded a) o in
         let w = short_at a Nothing in
-        let q' = both_parts (good_at a w true) (calls_at a Nothing false) q in
+        let q' = and_parts (good_at a w true) (calls_at a Nothing false) q in
         let F = first t a none false in
         let G = nullable t a false in
-        let m' = both_parts (goes_on t a F G (tail t a)) (every (λ k. implies (ends t a F G (tail t a) k) (tail t a k))) m in
+        let m' = and_parts (goes_on t a F G (tail t a)) (every (λ k. implies (ends t a F G (tail t a) k) (tail t a k))) m in
         let around : Begins calm t g ok d full F G w true (Loop E a) = record {
           shorts = λ y. loop_fits calm (brief calm t g ok d full) (has calm t g ok d full) E (has_fits calm t g ok d full) a q'.1;
           starts = λ z y. starts_of (loop a) f v s e j q V i.begins z y;
@@ -378,7 +379,7 @@ module _ (calm : Terminal → Bool) (t : LevelTables) (g : Grammar) (ok : IsDeci
                   let s = level_starts l z k in
                   record { front = []; whole = is; made = inl (record { tree = s.tree; more = s.more; begins = s.begins; fits = λ h c. (refl, s.fits h c) }) }
               | inr k ↦
-                  let s = level_empty l (both_parts (t.nullable_of l) (t.follow_of l z.kind) k).0 (Some z.kind) in
+                  let s = level_empty l (and_parts (t.nullable_of l) (t.follow_of l z.kind) k).0 (Some z.kind) in
                   record { front = []; whole = is; made = inr (record { tree = s.tree; spells = s.spells; ends = k; fits = (refl, s.fits) }) }
             ]
         | inr y ↦ absurd (unfit_no_deep items (z ∷ rest) y.1)
@@ -394,12 +395,12 @@ module _ (calm : Terminal → Bool) (t : LevelTables) (g : Grammar) (ok : IsDeci
       → (front : List Item) × (l ≡ front ++ z ∷ rest) × (x : Node) × (more : List Item) × (spell x ≡ front ++ z ∷ more) × BeginsDeep t n g x front
   unfolding read
   whole_reached n l z rest e =
-      let a = both_parts (eager g) (both (goes_on t g none false none) (every (λ k. not (ends t g none false none k)))) whole_reaches.1 in
-      let b = both_parts (goes_on t g none false none) (every (λ k. not (ends t g none false none k))) a.1 in
+      let a = and_parts (eager g) (both (goes_on t g none false none) (every (λ k. not (ends t g none false none k)))) whole_reaches.1 in
+      let b = and_parts (goes_on t g none false none) (every (λ k. not (ends t g none false none k))) a.1 in
       let s = reached n (level_reached n) g none false none Nothing false (whole_parts t g ok).sound a.0
       (whole_completes calm t g ok d full) b.0 IsNone IsNone nowhere unread (none_near n) l z rest e in
       elim s.made [
         | inl y ↦ (s.front, s.whole, y.tree, y.more, y.begins, y.fits None tt)
         | inr y ↦ absurd (let f : ends t g none false none z.kind ≡ false =
-            not_true (ends t g none false none z.kind) (every_terminal (λ k. not (ends t g none false none k)) b.1 z.kind) in let h = y.ends in cc)
+            not-true (ends t g none false none z.kind) (every_terminal (λ k. not (ends t g none false none k)) b.1 z.kind) in let h = y.ends in cc)
       ]

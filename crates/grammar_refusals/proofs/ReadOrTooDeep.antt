@@ -1,6 +1,7 @@
 -- A tree of whatever nesting is read, or reading comes too deep in it.
 use Rattle.std.proofs.Common.{◌≡◌, ℕ, zero, suc, Bool, true, false, cond, List, [], ◌∷◌, ◌++◌, Option, None, Ok, Err, refl, sym, ap, subst, ◌∙◌, append_assoc}
 use Rattle.std.proofs.Common.{◌⊎◌, inl, inr}
+use Rattle.std.proofs.lemmas.Bool.{and_parts}
 use Rattle.grammar.specs.declared.terminals.Terminal.{Terminal}
 use Rattle.grammar.specs.Terminals.{passes}
 use Rattle.grammar.specs.Nodes.{Item, Node, Leaf, Nothing, Pair, spell, next}
@@ -9,12 +10,12 @@ use Rattle.grammar.specs.Tested.{Is, Within}
 use Rattle.grammar.specs.Reading.{Deep, Read, ◌>>=◌, then_pair, unread, turning, reads, levels, read}
 use Rattle.grammar.specs.Deciding.{both, guarded, sane, LevelTables, IsDecided, expects, none}
 use Rattle.grammar_refusals.specs.Nesting.{Trees, Nested, IsShaped}
-use Rattle.grammar.proofs.Bools.{both_parts, both_make, either_left, either_right}
+use Rattle.grammar.proofs.Bools.{both_make, either_left, either_right}
 use Rattle.grammar.proofs.Exact.{failed, ahead_append, token_exact, nothing_exact}
 use Rattle.grammar.proofs.Loops.{Guards, guarded_same, turning_again}
 use Rattle.grammar.proofs.Wholes.{level_shortens, levels_exact}
-use Rattle.grammar.proofs.Decided.{Allows, Starts, Begun, Tested, tested}
-use Rattle.grammar.proofs.Knot.{level_parts, whole_parts, rule_sane, free_begun}
+use Rattle.grammar.proofs.Decided.{Allows, Starts, Begun, Tested, tested, none_begun, none_tested}
+use Rattle.grammar.proofs.LevelsTested.{level_parts, whole_parts, rule_sane, free_begun}
 
 -- reading comes too deep in the tree, behind a front of its tokens
 abbrev pub DeepIn : (List Item → Read) → Node → List Item → Type 0
@@ -90,12 +91,6 @@ module _ (t : LevelTables) (g : Grammar) (ok : IsDecided t g ≡ true) where
   pub nested_placed : (l : Level) → Tested (t.follow_of l) (Nested t.rule l) (Placed l)
   nested_placed l x h al r = (r, al)
 
-  pub none_begun : Begun none false IsNone
-  none_begun x h r = absurd r
-
-  pub none_tested : Tested none IsNone IsNone
-  none_tested x h al r = r
-
   -- a placed tree begins where its level is expected
   expected_at : (v : Level) (l rest : List Item) → Starts (t.first_of v) (t.nullable_of v) l → Allows (t.follow_of v) (next rest)
       → expects t v (next (l ++ rest)) ≡ true
@@ -125,11 +120,11 @@ module _ (t : LevelTables) (g : Grammar) (ok : IsDecided t g ≡ true) where
     goes (seq a b) o V u s (Leaf item) rest h = absurd h
     goes (seq a b) o V u s Nothing rest h = absurd h
     goes (seq a b) o V u s (Pair x y) rest h =
-        let p = both_parts (sane a) (sane b) o in
+        let p = and_parts (sane a) (sane b) o in
         pair_goes (reads (levels t n) a u) (reads (levels t n) b u) x y rest
         (goes a p.0 V u s x (spell y ++ rest) (subst (Is Placed a V x) (sym (ahead_append (spell y) rest None)) h.0)) (goes b p.1 V u s y rest h.1)
     goes (choice ks a b) o V u s x rest h =
-        let p = both_parts (sane a) (sane b) o in
+        let p = and_parts (sane a) (sane b) o in
         elim h [
           | inl q ↦ led true (reads (levels t n) a u) (reads (levels t n) b u) ks x rest
               (subst (λ (j : Option Terminal). passes ks j ≡ true) (sym (ahead_append (spell x) rest None)) q.0) (goes a p.0 V u s x rest q.1)
@@ -145,7 +140,7 @@ module _ (t : LevelTables) (g : Grammar) (ok : IsDecided t g ≡ true) where
         ]
     goes (level v) o V u s x rest h = level_goes v x rest h
     goes (loop a) o V u s x rest h =
-        let p = both_parts (sane a) (guarded a) o in
+        let p = and_parts (sane a) (guarded a) o in
         let guards = guarded_same (levels t n) (level_shortens (Within t.rule n) (levels t n) (levels_exact t (rule_sane t g ok) n)) a p.1 in
         loop_goes (Is Placed a) (reads (levels t n) a) guards (λ W r. goes a p.0 W (turning (reads (levels t n) a)) r) h.0 x rest h.1
     goes again o V u s x rest h = s x rest h
