@@ -1,5 +1,36 @@
 -- The calls of a list that pass a test: the last of them, the first of them, whether there is one, and how many.
-use Rattle.std.proofs.Common.{◌≡◌, ℕ, zero, suc, ◌+◌, ◌<◌, ◌≤◌, Bool, true, false, cond, ◌&&◌, ◌||◌, List, [], ◌∷◌, length, length-append, get_or, Option, Some, None, inl, inr, refl, sym, ap, ◌∙◌, add-one, arith}
+use Rattle.std.proofs.Common.{
+  ◌≡◌,
+  ℕ,
+  zero,
+  suc,
+  ◌+◌,
+  ◌<◌,
+  ◌≤◌,
+  Bool,
+  true,
+  false,
+  cond,
+  ◌&&◌,
+  ◌||◌,
+  List,
+  [],
+  ◌∷◌,
+  length,
+  length-append,
+  get_or,
+  Option,
+  Some,
+  None,
+  inl,
+  inr,
+  refl,
+  sym,
+  ap,
+  ◌∙◌,
+  add-one,
+  arith,
+}
 use Rattle.std.specs.Prelude.{Contains, find, filter, count_by}
 use Rattle.std.specs.List.{list_any, range_with_len}
 use Rattle.std.proofs.lemmas.Bool.{cases_eq, cases_order, false≢true, true≢false}
@@ -9,7 +40,7 @@ use Rattle.std.proofs.lemmas.List.FromFn.{get_or-range_with_len, length-range_wi
 use Rattle.std.proofs.lemmas.List.Recursion.{or_push}
 use Rattle.std.proofs.lemmas.List.Sums.{sum_by-cons}
 use Rattle.plain_search.specs.Marks.{calls, last_where}
-use Rattle.plain_search.proofs.Lists.{calls_below, calls_more, or_false, filter_calls_suc, filter_same_below, last_call_more}
+use Rattle.plain_search.proofs.FiltersAndCounts.{calls_below, calls_more, or_false, filter_calls_suc, filter_same_below, last_call_more}
 
 last_call_suc : (p : ℕ → Bool) (n : ℕ) → last_where p (calls (suc n)) ≡ cond (p n) (Some n) (last_where p (calls n))
 last_call_suc p n = ap (λ k. last_where p (calls k)) (sym (add-one n)) ∙ last_call_more p n
@@ -81,7 +112,8 @@ last_call_from p n call is = by_option p n call is (last_where p (calls n)) refl
 -- whether some call passes
 pub any_call : (p : ℕ → Bool) (n call : ℕ) → call < n → p call ≡ true → list_any p (calls n) ≡ true
 any_call p n call inside passes =
-    list_any_at p (calls n) call 0 (omega (arith, length-range_with_len 0 n)) (ap p (get_or-range_with_len 0 n call 0 inside ∙ (let e : 0 + call ≡ call = omega arith in e)) ∙ passes)
+    list_any_at p (calls n) call 0 (omega (arith, length-range_with_len 0 n)) (ap p (get_or-range_with_len 0 n call 0 inside
+    ∙ (let e : 0 + call ≡ call = omega arith in e)) ∙ passes)
 
 pub no_call : (p : ℕ → Bool) (n : ℕ) → ((call : ℕ) → call < n → p call ≡ false) → list_any p (calls n) ≡ false
 no_call p n none =
@@ -99,7 +131,8 @@ length_one false n = refl
 
 length_suc : (p : ℕ → Bool) (n : ℕ) → length (filter p (calls (suc n))) ≡ length (filter p (calls n)) + unit_of (p n)
 length_suc p n =
-    ap length (filter_calls_suc p n) ∙ length-append (filter p (calls n)) (cond (p n) (n ∷ []) []) ∙ ap (λ k. length (filter p (calls n)) + k) (length_one (p n) n)
+    ap length (filter_calls_suc p n) ∙ length-append (filter p (calls n)) (cond (p n) (n ∷ []) [])
+    ∙ ap (λ k. length (filter p (calls n)) + k) (length_one (p n) n)
 
 -- one test passes one call more than the other
 pub one_more : (p q : ℕ → Bool) (call n : ℕ) → call < n → p call ≡ true → q call ≡ false → ((other : ℕ) → other < n → (other ≡ call → ⊥) → p other ≡ q other)
@@ -171,7 +204,8 @@ nothing_from (x ∷ xs) h = absurd (let l : ⊥ = omega arith in l)
 any_calls_suc : (p : ℕ → Bool) (n : ℕ) → list_any p (calls (suc n)) ≡ (list_any p (calls n) || p n)
 any_calls_suc p n = ap (λ k. list_any p (calls k)) (sym (add-one n)) ∙ ap (list_any p) (calls_more n) ∙ or_push (list_any p) p refl (λ x xs. refl) (calls n) n
 
-found_case : (p : ℕ → Bool) (n : ℕ) (b : Bool) → p n ≡ b → (list_any p (calls n) || b) ≡ true → (list_any p (calls n) ≡ true → (call : ℕ) × (call < n) × (p call ≡ true))
+found_case : (p : ℕ → Bool) (n : ℕ) (b : Bool) → p n ≡ b → (list_any p (calls n) || b) ≡ true
+    → (list_any p (calls n) ≡ true → (call : ℕ) × (call < n) × (p call ≡ true))
     → (call : ℕ) × (call < suc n) × (p call ≡ true)
 found_case p n true is h before = (n, omega arith, is)
 found_case p n false is h before =

@@ -1,5 +1,32 @@
 -- The numbers of calls, what filters and counts keep of them, and the last that passes a test.
-use Rattle.std.proofs.Common.{◌≡◌, ℕ, zero, suc, ◌+◌, ◌<◌, ◌≤◌, Bool, true, false, cond, ◌&&◌, ◌||◌, List, [], ◌∷◌, ◌++◌, length, Some, refl, sym, ap, ◌∙◌, add-one, append-nil, arith}
+use Rattle.std.proofs.Common.{
+  ◌≡◌,
+  ℕ,
+  zero,
+  suc,
+  ◌+◌,
+  ◌<◌,
+  ◌≤◌,
+  Bool,
+  true,
+  false,
+  cond,
+  ◌&&◌,
+  ◌||◌,
+  List,
+  [],
+  ◌∷◌,
+  ◌++◌,
+  length,
+  Some,
+  refl,
+  sym,
+  ap,
+  ◌∙◌,
+  add-one,
+  append-nil,
+  arith,
+}
 use Rattle.std.specs.Prelude.{All, find, filter, count_by, nat_lt, nat_le}
 use Rattle.std.specs.List.{range_with_len}
 use Rattle.std.proofs.lemmas.Bool.{and_right, le-ltb, lt-ltb}
@@ -35,22 +62,29 @@ pub filter_filter : {X : Type 0} (p q : X → Bool) (xs : List X) → filter p (
 filter_filter p q [] = refl
 filter_filter p q (x ∷ xs) =
     elim (q x) as (λ b. filter p (cond b (x ∷ filter q xs) (filter q xs)) ≡ cond (b && p x) (x ∷ filter (λ y. q y && p y) xs) (filter (λ y. q y && p y) xs)) [
-      | true ↦ elim (p x) as (λ b. cond b (x ∷ filter p (filter q xs)) (filter p (filter q xs)) ≡ cond b (x ∷ filter (λ y. q y && p y) xs) (filter (λ y. q y && p y) xs)) [
-        | true ↦ ap (λ l. x ∷ l) (filter_filter p q xs)
-        | false ↦ filter_filter p q xs
-      ]
+      | true ↦ elim (p x) as (λ b. cond b (x ∷ filter p (filter q xs)) (filter p (filter q xs))
+          ≡ cond b (x ∷ filter (λ y. q y && p y) xs) (filter (λ y. q y && p y) xs)) [
+            | true ↦ ap (λ l. x ∷ l) (filter_filter p q xs)
+            | false ↦ filter_filter p q xs
+          ]
       | false ↦ filter_filter p q xs
     ]
 
-between_here : (low high number : ℕ) → low ≤ high → cond (nat_le low number && nat_le number high) 1 0 + cond (nat_lt number low) 1 0 ≡ cond (nat_lt number (high + 1)) 1 0
+between_here : (low high number : ℕ) → low ≤ high → cond (nat_le low number && nat_le number high) 1 0 + cond (nat_lt number low) 1 0
+    ≡ cond (nat_lt number (high + 1)) 1 0
 between_here low high number h = grind (arith, nat_tests)
 
 -- the numbers from the one bound to the other are those up to the other that are not below the one
 pub count_between : (low high : ℕ) (numbers : List ℕ) → low ≤ high
-    → count_by (λ number. nat_le low number && nat_le number high) numbers + count_by (λ number. nat_lt number low) numbers ≡ count_by (λ number. nat_lt number (high + 1)) numbers
+    → count_by (λ number. nat_le low number && nat_le number high) numbers + count_by (λ number. nat_lt number low) numbers
+    ≡ count_by (λ number. nat_lt number (high + 1)) numbers
 count_between low high [] h = refl
 count_between low high (x ∷ xs) h =
-    rw (sum_by-cons (λ number. cond (nat_le low number && nat_le number high) 1 0) x xs, sum_by-cons (λ number. cond (nat_lt number low) 1 0) x xs, sum_by-cons (λ number. cond (nat_lt number (high + 1)) 1 0) x xs)
+    rw (
+      sum_by-cons (λ number. cond (nat_le low number && nat_le number high) 1 0) x xs,
+      sum_by-cons (λ number. cond (nat_lt number low) 1 0) x xs,
+      sum_by-cons (λ number. cond (nat_lt number (high + 1)) 1 0) x xs,
+    )
     (omega (arith, between_here low high x h, count_between low high xs h))
 
 -- what passes among the calls, where one more call comes last

@@ -1,5 +1,32 @@
 -- The first of the least, found one after another.
-use Rattle.std.proofs.Common.{◌≡◌, ℕ, suc, ◌<◌, ◌≤◌, Bool, true, false, cond, ◌&&◌, List, [], ◌∷◌, ◌++◌, length, Option, Some, None, refl, sym, subst, ap, ◌∙◌, arith, append_assoc, append-nil}
+use Rattle.std.proofs.Common.{
+  ◌≡◌,
+  ℕ,
+  suc,
+  ◌<◌,
+  ◌≤◌,
+  Bool,
+  true,
+  false,
+  cond,
+  ◌&&◌,
+  List,
+  [],
+  ◌∷◌,
+  ◌++◌,
+  length,
+  Option,
+  Some,
+  None,
+  refl,
+  sym,
+  subst,
+  ap,
+  ◌∙◌,
+  arith,
+  append_assoc,
+  append-nil,
+}
 use Rattle.std.specs.Prelude.{All, Contains, find, nat_lt, nat_le}
 use Rattle.std.specs.List.{AllByRecursion, fold, list_all}
 use Rattle.std.proofs.lemmas.Bool.{and_left, and_right, le-leb, lt-leb, ltb-false, ltb-true}
@@ -97,14 +124,19 @@ first_least_is_found value xs best least =
     let rest : List ℕ = best ∷ least.after in
     let before_fails : AllByRecursion (λ x. p x ≡ false) least.before =
     weaker (λ x. value best < value x) (λ x. p x ≡ false)
-    (λ x h. ap (list_all (λ other. nat_le (value x) (value other))) least.split ∙ fails_at (λ other. nat_le (value x) (value other)) least.before best least.after (lt-leb (value x) (value best) h))
+    (λ x h. ap (list_all (λ other. nat_le (value x) (value other))) least.split ∙ fails_at (λ other. nat_le (value x) (value other)) least.before best
+    least.after (lt-leb (value x) (value best) h))
     least.before least.more in
     let best_passes : p best ≡ true =
     ap (list_all (λ other. nat_le (value best) (value other))) least.split
     ∙ passes (λ other. nat_le (value best) (value other)) (least.before ++ rest)
     (both (λ x. nat_le (value best) (value x) ≡ true) least.before rest
-    (weaker (λ x. value best < value x) (λ x. nat_le (value best) (value x) ≡ true) (λ x h. le-leb (value best) (value x) (omega arith)) least.before least.more)
-    (le-leb (value best) (value best) (omega arith), weaker (λ x. value best ≤ value x) (λ x. nat_le (value best) (value x) ≡ true) (λ x h. le-leb (value best) (value x) h) least.after least.not_less)) in
+    (weaker (λ x. value best < value x) (λ x. nat_le (value best) (value x) ≡ true) (λ x h. le-leb (value best) (value x) (omega arith)) least.before
+    least.more) (
+      le-leb (value best) (value best) (omega arith),
+      weaker (λ x. value best ≤ value x) (λ x. nat_le (value best) (value x) ≡ true)
+          (λ x h. le-leb (value best) (value x) h) least.after least.not_less,
+    )) in
     ap (find p) least.split ∙ find_past p least.before rest before_fails ∙ ap (λ b. cond b (Some best) (find p least.after)) best_passes
 
 found : (value : ℕ → ℕ) (xs : List ℕ) (q : Option ℕ) → IsBest value xs q → find (is_least value xs) xs ≡ q
@@ -114,7 +146,8 @@ found value xs (Some best) least = first_least_is_found value xs best least
 -- the best of the suspects is the question
 pub best_is_question : (last suspects : List ℕ) → question_of last suspects ≡ best_of (left_of last suspects) suspects
 unfolding question_of
-best_is_question last suspects = found (left_of last suspects) suspects (best_of (left_of last suspects) suspects) (along (left_of last suspects) [] suspects None refl)
+best_is_question last suspects = found (left_of last suspects) suspects (best_of (left_of last suspects) suspects)
+    (along (left_of last suspects) [] suspects None refl)
 
 lit_first : (n : ℕ) → 0 < suc n
 lit_first n = omega arith
@@ -136,7 +169,8 @@ question_among last suspects call h =
     subst P (sym least.split) (Contains-append_right least.before (call ∷ least.after) call (0, lit_first (length least.after), refl))
 
 -- no suspect leaves fewer than the question
-pub question_least : (last suspects : List ℕ) (call : ℕ) → question_of last suspects ≡ Some call → All (λ other. left_of last suspects call ≤ left_of last suspects other) suspects
+pub question_least : (last suspects : List ℕ) (call : ℕ) → question_of last suspects ≡ Some call
+    → All (λ other. left_of last suspects call ≤ left_of last suspects other) suspects
 question_least last suspects call h =
     let value = left_of last suspects in
     let least : IsFirstLeast value suspects call = is_best last suspects (Some call) h in

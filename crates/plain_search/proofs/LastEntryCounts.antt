@@ -1,5 +1,35 @@
 -- The mark of a call, where one more entry comes last.
-use Rattle.std.proofs.Common.{◌≡◌, ℕ, ◌+◌, ◌<◌, ◌≤◌, Bool, true, false, cond, List, [], ◌∷◌, ◌++◌, length, get_or, set, take, replicate, Option, Some, inl, inr, get_or-set_other, get_or-set_same, refl, sym, ap, ◌∙◌, arith}
+use Rattle.std.proofs.Common.{
+  ◌≡◌,
+  ℕ,
+  ◌+◌,
+  ◌<◌,
+  ◌≤◌,
+  Bool,
+  true,
+  false,
+  cond,
+  List,
+  [],
+  ◌∷◌,
+  ◌++◌,
+  length,
+  get_or,
+  set,
+  take,
+  replicate,
+  Option,
+  Some,
+  inl,
+  inr,
+  get_or-set_other,
+  get_or-set_same,
+  refl,
+  sym,
+  ap,
+  ◌∙◌,
+  arith,
+}
 use Rattle.std.specs.Prelude.{◌==◌}
 use Rattle.std.proofs.Math.ListN.{length-set}
 use Rattle.std.proofs.lemmas.List.{get_or-replicate, length-replicate, take_more}
@@ -10,13 +40,14 @@ use Rattle.plain_search.specs.declared.entries.Judgement.TheVariants as judged
 use Rattle.plain_search.specs.declared.entries.Mark.{Mark}
 use Rattle.plain_search.specs.declared.entries.Mark.TheVariants.{Unjudged}
 use Rattle.plain_search.specs.Marks.{is_on, last_where, mark_by, mark_given, mark_of, marks_of}
-use Rattle.plain_search.proofs.Lists.{last_where_more}
+use Rattle.plain_search.proofs.FiltersAndCounts.{last_where_more}
 
 given_cond : (b : Bool) (entry : Entry) (other : Option Entry) → mark_given (cond b (Some entry) other) ≡ cond b (mark_by entry.judgement) (mark_given other)
 given_cond true entry other = refl
 given_cond false entry other = refl
 
-pub mark_of_more : (entries : List Entry) (entry : Entry) (call : ℕ) → mark_of (entries ++ entry ∷ []) call ≡ cond (entry.call == call) (mark_by entry.judgement) (mark_of entries call)
+pub mark_of_more : (entries : List Entry) (entry : Entry) (call : ℕ) → mark_of (entries ++ entry ∷ []) call
+    ≡ cond (entry.call == call) (mark_by entry.judgement) (mark_of entries call)
 unfolding mark_of
 mark_of_more entries entry call =
     ap mark_given (last_where_more (is_on call) entries entry) ∙ given_cond (entry.call == call) entry (last_where (is_on call) entries)
@@ -26,7 +57,8 @@ abbrev pub no_entry : Entry
 no_entry = record { call = 0; judgement = judged.Right }
 
 along : (entries : List Entry) (i : ℕ) (call : ℕ) → i < length entries
-    → mark_of (take (i + 1) entries) call ≡ cond ((get_or entries i no_entry).call == call) (mark_by (get_or entries i no_entry).judgement) (mark_of (take i entries) call)
+    → mark_of (take (i + 1) entries) call ≡ cond ((get_or entries i no_entry).call == call) (mark_by (get_or entries i no_entry).judgement)
+    (mark_of (take i entries) call)
 along entries i call below = ap (λ l. mark_of l call) (take_more entries i no_entry below) ∙ mark_of_more (take i entries) (get_or entries i no_entry) call
 
 -- the next entry is on the call
@@ -53,12 +85,16 @@ marks_none n marks is = record {
 
 -- the next entry is on one of the calls
 pub marks_set : (n : ℕ) (entries : List Entry) (i : ℕ) (marks : List Mark) (mark : Mark) → i < length entries → (get_or entries i no_entry).call < n
-    → mark ≡ mark_by (get_or entries i no_entry).judgement → AreMarks n (take i entries) marks → AreMarks n (take (i + 1) entries) (set marks (get_or entries i no_entry).call mark)
+    → mark ≡ mark_by (get_or entries i no_entry).judgement → AreMarks n (take i entries) marks
+    → AreMarks n (take (i + 1) entries) (set marks (get_or entries i no_entry).call mark)
 marks_set n entries i marks mark below inside is so_far = record {
   long = length-set marks (get_or entries i no_entry).call mark ∙ so_far.long;
   each = λ call h. elim (cases_eq call (get_or entries i no_entry).call) [
-    | inl same ↦ let within : (get_or entries i no_entry).call < length marks = omega (arith, so_far.long) in rw same (get_or-set_same marks (get_or entries i no_entry).call mark Unjudged within ∙ is ∙ sym (mark_of_on entries i (get_or entries i no_entry).call below refl))
-    | inr other ↦ get_or-set_other marks (get_or entries i no_entry).call call mark Unjudged other ∙ so_far.each call h ∙ sym (mark_of_off entries i call below (λ on. other (sym on)))
+    | inl same ↦ let within : (get_or entries i no_entry).call < length marks = omega (arith, so_far.long) in
+        rw same (get_or-set_same marks (get_or entries i no_entry).call mark Unjudged within ∙ is
+        ∙ sym (mark_of_on entries i (get_or entries i no_entry).call below refl))
+    | inr other ↦ get_or-set_other marks (get_or entries i no_entry).call call mark Unjudged other ∙ so_far.each call h
+        ∙ sym (mark_of_off entries i call below (λ on. other (sym on)))
   ];
 }
 

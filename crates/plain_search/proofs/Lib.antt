@@ -1,7 +1,7 @@
-mod CallLemmas
-mod JudgedLemmas
-mod Lists
-mod MarkLemmas
-mod QuestionLemmas
-mod RegionLemmas
-mod StateLemmas
+mod CallsThatPass
+mod OneMoreJudgement
+mod FiltersAndCounts
+mod LastEntryCounts
+mod FirstOfTheLeast
+mod OnePassFindsSuspects
+mod StatesSayWhatHolds

@@ -1,5 +1,31 @@
 -- What each state of the search says.
-use Rattle.std.proofs.Common.{◌≡◌, ◌≢◌, ℕ, ◌<◌, ◌≤◌, max, Bool, true, false, not, ◌&&◌, List, [], length, get_or, Option, Some, None, inl, inr, refl, sym, ap, ◌∙◌, arith}
+use Rattle.std.proofs.Common.{
+  ◌≡◌,
+  ◌≢◌,
+  ℕ,
+  ◌<◌,
+  ◌≤◌,
+  max,
+  Bool,
+  true,
+  false,
+  not,
+  ◌&&◌,
+  List,
+  [],
+  length,
+  get_or,
+  Option,
+  Some,
+  None,
+  inl,
+  inr,
+  refl,
+  sym,
+  ap,
+  ◌∙◌,
+  arith,
+}
 use Rattle.std.specs.Prelude.{Contains, find, slice_index}
 use Rattle.std.specs.List.{list_all}
 use Rattle.std.specs.Prelude.{nat_le}
@@ -18,10 +44,20 @@ use Rattle.plain_search.specs.Numbering.{AreIntervals, IsNumbered, IsParent}
 use Rattle.plain_search.specs.Question.{leaves_least, left_of, question_of, weight_of}
 use Rattle.plain_search.specs.Region.{is_below, is_cleared, is_in, mark_at}
 use Rattle.plain_search.specs.State.{accused_after, state_by, state_of, suspects_after}
-use Rattle.plain_search.proofs.CallLemmas.{call_found, counts_one, find_filter, first_is, last_call_is, no_last_call, none_passes}
-use Rattle.plain_search.proofs.JudgedLemmas.{accused_is, asked_of_contains, at_mark, below_from, below_parts, covers_parts, right_leaves, suspects_pass, wrong_leaves}
-use Rattle.plain_search.proofs.QuestionLemmas.{no_question, question_among, question_least, at_most_all}
-use Rattle.plain_search.proofs.RegionLemmas.{covers, is_suspect}
+use Rattle.plain_search.proofs.CallsThatPass.{call_found, counts_one, find_filter, first_is, last_call_is, no_last_call, none_passes}
+use Rattle.plain_search.proofs.OneMoreJudgement.{
+  accused_is,
+  asked_of_contains,
+  at_mark,
+  below_from,
+  below_parts,
+  covers_parts,
+  right_leaves,
+  suspects_pass,
+  wrong_leaves,
+}
+use Rattle.plain_search.proofs.FirstOfTheLeast.{no_question, question_among, question_least, at_most_all}
+use Rattle.plain_search.proofs.OnePassFindsSuspects.{covers, is_suspect}
 
 ask_cases : (last suspects : List ℕ) (accused q : Option ℕ) (call weight many left : ℕ) → state_by last suspects accused q ≡ Ask call weight many left
     → (q ≡ Some call) × (weight ≡ weight_of last suspects call) × (many ≡ length suspects) × (left ≡ left_of last suspects call)
@@ -54,7 +90,8 @@ asks last entries call weight many left h =
 finds : (last : List ℕ) (entries : List Entry) (call : ℕ) → state_of last entries ≡ Found call
     → (question_of last (suspects_after last entries) ≡ None) × (accused_after (length last) entries ≡ Some call)
 unfolding state_of
-finds last entries call h = found_cases last (suspects_after last entries) (accused_after (length last) entries) (question_of last (suspects_after last entries)) call h
+finds last entries call h = found_cases last (suspects_after last entries) (accused_after (length last) entries)
+    (question_of last (suspects_after last entries)) call h
 
 ends : (last : List ℕ) (entries : List Entry) → state_of last entries ≡ NothingWrong
     → (question_of last (suspects_after last entries) ≡ None) × (accused_after (length last) entries ≡ None)
@@ -63,23 +100,27 @@ ends last entries h = nothing_cases last (suspects_after last entries) (accused_
 
 -- what passes the question's test, and is a suspect, is not before it
 first_of_equals : (last : List ℕ) (entries : List Entry) (call : ℕ) → question_of last (suspects_after last entries) ≡ Some call
-    → (other : ℕ) → Contains (suspects_after last entries) other → left_of last (suspects_after last entries) other ≡ left_of last (suspects_after last entries) call → call ≤ other
+    → (other : ℕ) → Contains (suspects_after last entries) other → left_of last (suspects_after last entries) other
+    ≡ left_of last (suspects_after last entries) call → call ≤ other
 unfolding question_of
 first_of_equals last entries call h other among same =
     let suspects = suspects_after last entries in
     let p = is_suspect last (marks_of (length last) entries) (accused_after (length last) entries) in
     let test = leaves_least last suspects in
-    let first = first_is (λ k. p k && test k) 0 (length last) call (sym (find_filter test p (calls (length last))) ∙ sym (ap (find test) (suspects_pass last entries)) ∙ h) in
+    let first = first_is (λ k. p k && test k) 0 (length last) call (sym (find_filter test p (calls (length last)))
+    ∙ sym (ap (find test) (suspects_pass last entries)) ∙ h) in
     let least = (and_parts (p call) (test call) first.passes).1 in
     let other_least : test other ≡ true = ap (λ v. list_all (λ m. nat_le v (left_of last suspects m)) suspects) same ∙ least in
     let there = asked_of_contains last entries other among in
     elim (cases_order other call) [
       | inl equal ↦ omega arith
-      | inr (inl less) ↦ absurd (both_ways (p other && test other) (first.none_earlier other (omega arith) less) (and_from (p other) (test other) there.1 other_least))
+      | inr (inl less) ↦ absurd (both_ways (p other && test other) (first.none_earlier other (omega arith) less)
+          (and_from (p other) (test other) there.1 other_least))
       | inr (inr more) ↦ omega arith
     ]
 
-pub question_is_best : (last : List ℕ) (entries : List Entry) (call weight many left : ℕ) → state_of last entries ≡ Ask call weight many left → IsBest last entries call weight many left
+pub question_is_best : (last : List ℕ) (entries : List Entry) (call weight many left : ℕ) → state_of last entries ≡ Ask call weight many left
+    → IsBest last entries call weight many left
 question_is_best last entries call weight many left h =
     let suspects = suspects_after last entries in
     let parts = asks last entries call weight many left h in
@@ -89,30 +130,36 @@ question_is_best last entries call weight many left h =
       all_suspects = parts.2;
       its_left = parts.3;
       none_leaves_fewer = λ k d inside. let least = question_least last suspects call parts.0 k d inside in rw parts.3 least;
-      first_of_equals = λ k d inside same. first_of_equals last entries call parts.0 (get_or suspects k d) (Contains-get_or suspects k d inside) (same ∙ parts.3);
+      first_of_equals = λ k d inside same. first_of_equals last entries call parts.0 (get_or suspects k d) (Contains-get_or suspects k d inside) (same
+          ∙ parts.3);
     }
 
-at_least_itself : (last : List ℕ) (entries : List Entry) (call : ℕ) → AreIntervals last → Contains (suspects_after last entries) call → 1 ≤ weight_of last (suspects_after last entries) call
+at_least_itself : (last : List ℕ) (entries : List Entry) (call : ℕ) → AreIntervals last → Contains (suspects_after last entries) call
+    → 1 ≤ weight_of last (suspects_after last entries) call
 unfolding weight_of
 at_least_itself last entries call intervals among =
     let suspects = suspects_after last entries in
     let inside = (asked_of_contains last entries call among).0 in
     counts_one (is_in last call) suspects among.0 call among.1
-    (ap (is_in last call) among.2 ∙ and_from (nat_le call call) (nat_le call (slice_index last call)) (le-leb call call (omega arith)) (le-leb call (slice_index last call) (intervals.from_itself call inside)))
+    (ap (is_in last call) among.2 ∙ and_from (nat_le call call) (nat_le call (slice_index last call)) (le-leb call call (omega arith))
+    (le-leb call (slice_index last call) (intervals.from_itself call inside)))
 
-pub left_is_fewer : (last : List ℕ) (entries : List Entry) (call weight many left : ℕ) → AreIntervals last → state_of last entries ≡ Ask call weight many left → left < many
+pub left_is_fewer : (last : List ℕ) (entries : List Entry) (call weight many left : ℕ) → AreIntervals last → state_of last entries ≡ Ask call weight many left
+    → left < many
 left_is_fewer last entries call weight many left intervals h =
     let suspects = suspects_after last entries in
     let parts = asks last entries call weight many left h in
     let among = question_among last suspects call parts.0 in
     omega (arith, at_least_itself last entries call intervals among, parts.2, parts.3, among.1, at_most_all last suspects call)
 
-pub left_is_worse : (parent : List (Option ℕ)) (last : List ℕ) (entries : List Entry) (call : ℕ) → IsNumbered parent last → Contains (suspects_after last entries) call
+pub left_is_worse : (parent : List (Option ℕ)) (last : List ℕ) (entries : List Entry) (call : ℕ) → IsNumbered parent last
+    → Contains (suspects_after last entries) call
     → left_of last (suspects_after last entries) call ≡ max (left_after last entries call judgement.Wrong) (left_after last entries call judgement.Right)
 left_is_worse parent last entries call numbered among =
     omega (arith, wrong_leaves parent last entries call numbered among, right_leaves parent last entries call numbered among)
 
-pub answers_leave_at_most : (parent : List (Option ℕ)) (last : List ℕ) (entries : List Entry) (call weight many left : ℕ) → IsNumbered parent last → state_of last entries ≡ Ask call weight many left
+pub answers_leave_at_most : (parent : List (Option ℕ)) (last : List ℕ) (entries : List Entry) (call weight many left : ℕ) → IsNumbered parent last
+    → state_of last entries ≡ Ask call weight many left
     → (answer : Judgement) → left_after last entries call answer ≤ left
 answers_leave_at_most parent last entries call weight many left numbered h judgement.Wrong =
     let parts = asks last entries call weight many left h in
@@ -157,7 +204,8 @@ right_is Unjudged h none = absurd (h refl)
 right_is Right h none = refl
 right_is Wrong h none = absurd (true≢false none)
 
-pub found_is_at_fault : (parent : List (Option ℕ)) (last : List ℕ) (entries : List Entry) (call : ℕ) → IsNumbered parent last → state_of last entries ≡ Found call → IsAtFault parent last entries call
+pub found_is_at_fault : (parent : List (Option ℕ)) (last : List ℕ) (entries : List Entry) (call : ℕ) → IsNumbered parent last
+    → state_of last entries ≡ Found call → IsAtFault parent last entries call
 found_is_at_fault parent last entries call numbered h =
     let n = length last in
     let marks = marks_of n entries in
@@ -171,11 +219,14 @@ found_is_at_fault parent last entries call numbered h =
           let later : call < child = numbered.child_is_later call child is in
           let within : child < n = omega (arith, slice_get_within parent child (Some call) is, numbered.same_length) in
           let itself = numbered.intervals.from_itself child within in
-          let inside : is_below last (Some call) child ≡ true = below_from last call child later (omega (arith, itself, numbered.child_ends_within call child is)) in
+          let inside : is_below last (Some call) child ≡ true = below_from last call child later
+          (omega (arith, itself, numbered.child_ends_within call child is)) in
           let outside : is_suspect last marks (Some call) child ≡ false =
-          ap (λ a. is_suspect last marks a child) (sym parts.1) ∙ none_passes (is_suspect last marks (accused_after n entries)) n child (sym (suspects_pass last entries) ∙ none) within in
+          ap (λ a. is_suspect last marks a child) (sym parts.1) ∙ none_passes (is_suspect last marks (accused_after n entries)) n child
+          (sym (suspects_pass last entries) ∙ none) within in
           right_is (mark_of entries child)
-          (λ unjudged. unjudged_child parent last marks call child numbered is inside (at_mark n entries child within ∙ unjudged) (is_cleared last marks (Some call) child) refl outside)
+          (λ unjudged. unjudged_child parent last marks call child numbered is inside (at_mark n entries child within
+          ∙ unjudged) (is_cleared last marks (Some call) child) refl outside)
           (accused.none_later child later within);
       no_suspect = none;
     }
@@ -184,6 +235,7 @@ pub none_is_wrong : (last : List ℕ) (entries : List Entry) → state_of last e
     → ((call : ℕ) → call < length last → mark_of entries call ≢ Wrong) × (suspects_after last entries ≡ [])
 none_is_wrong last entries h =
     let parts = ends last entries h in (
-      λ call within wrong. true≢false (sym (ap is_wrong wrong) ∙ no_last_call (λ k. is_wrong (mark_of entries k)) (length last) (sym (accused_is (length last) entries) ∙ parts.1) call within),
+      λ call within wrong. true≢false (sym (ap is_wrong wrong) ∙ no_last_call (λ k. is_wrong (mark_of entries k)) (length last)
+          (sym (accused_is (length last) entries) ∙ parts.1) call within),
       no_question last (suspects_after last entries) parts.0,
     )

@@ -21,20 +21,25 @@ left_after last entries call judgement = length (suspects_after last (judged ent
 -- wrong on a suspect leaves the other suspects of its subtree
 abbrev pub WrongLeavesTheSubtree : Type 0
 WrongLeavesTheSubtree =
-    (parent : List (Option ℕ)) (last : List ℕ) (entries : List Entry) (call : ℕ) → IsNumbered parent last → Contains (suspects_after last entries) call
+    (parent : List (Option ℕ)) (last : List ℕ) (entries : List Entry) (call : ℕ) → IsNumbered parent last
+    → Contains (suspects_after last entries) call
     → left_after last entries call judgement.Wrong + 1 ≡ weight_of last (suspects_after last entries) call
 
 -- right on a suspect leaves the suspects outside its subtree
 abbrev pub RightLeavesTheRest : Type 0
 RightLeavesTheRest =
-    (parent : List (Option ℕ)) (last : List ℕ) (entries : List Entry) (call : ℕ) → IsNumbered parent last → Contains (suspects_after last entries) call
-    → left_after last entries call judgement.Right + weight_of last (suspects_after last entries) call ≡ length (suspects_after last entries)
+    (parent : List (Option ℕ)) (last : List ℕ) (entries : List Entry) (call : ℕ) → IsNumbered parent last
+    → Contains (suspects_after last entries) call
+    → left_after last entries call judgement.Right + weight_of last (suspects_after last entries) call
+    ≡ length (suspects_after last entries)
 
 -- the measure of a suspect is the number of suspects that the worse of the two answers leaves
 abbrev pub LeftIsTheWorse : Type 0
 LeftIsTheWorse =
-    (parent : List (Option ℕ)) (last : List ℕ) (entries : List Entry) (call : ℕ) → IsNumbered parent last → Contains (suspects_after last entries) call
-    → left_of last (suspects_after last entries) call ≡ max (left_after last entries call judgement.Wrong) (left_after last entries call judgement.Right)
+    (parent : List (Option ℕ)) (last : List ℕ) (entries : List Entry) (call : ℕ) → IsNumbered parent last
+    → Contains (suspects_after last entries) call
+    → left_of last (suspects_after last entries) call ≡ max (left_after last entries call judgement.Wrong)
+    (left_after last entries call judgement.Right)
 
 -- a suspect, with its numbers, that no other is better than; of those that are as good it is the first
 pub record IsBest (last : List ℕ) (entries : List Entry) (call weight suspects left : ℕ) : Type 0 where
@@ -42,25 +47,30 @@ pub record IsBest (last : List ℕ) (entries : List Entry) (call weight suspects
   pub its_weight : weight ≡ weight_of last (suspects_after last entries) call
   pub all_suspects : suspects ≡ length (suspects_after last entries)
   pub its_left : left ≡ left_of last (suspects_after last entries) call
-  pub none_leaves_fewer : All (λ other. left ≤ left_of last (suspects_after last entries) other) (suspects_after last entries)
-  pub first_of_equals : All (λ other. left_of last (suspects_after last entries) other ≡ left → call ≤ other) (suspects_after last entries)
+  pub none_leaves_fewer : All (λ other. left ≤ left_of last (suspects_after last entries) other)
+      (suspects_after last entries)
+  pub first_of_equals : All (λ other. left_of last (suspects_after last entries) other ≡ left
+      → call ≤ other) (suspects_after last entries)
 
 -- what is asked is best
 abbrev pub QuestionIsBest : Type 0
 QuestionIsBest =
-    (last : List ℕ) (entries : List Entry) (call weight suspects left : ℕ) → state_of last entries ≡ Ask call weight suspects left
+    (last : List ℕ) (entries : List Entry) (call weight suspects left : ℕ)
+    → state_of last entries ≡ Ask call weight suspects left
     → IsBest last entries call weight suspects left
 
 -- the worse answer to the question leaves at least one suspect fewer
 abbrev pub LeftIsFewer : Type 0
 LeftIsFewer =
-    (last : List ℕ) (entries : List Entry) (call weight suspects left : ℕ) → AreIntervals last → state_of last entries ≡ Ask call weight suspects left
+    (last : List ℕ) (entries : List Entry) (call weight suspects left : ℕ) → AreIntervals last
+    → state_of last entries ≡ Ask call weight suspects left
     → left < suspects
 
 -- each answer to the question leaves at most as many suspects as is said
 abbrev pub AnswersLeaveAtMost : Type 0
 AnswersLeaveAtMost =
-    (parent : List (Option ℕ)) (last : List ℕ) (entries : List Entry) (call weight suspects left : ℕ) → IsNumbered parent last → state_of last entries ≡ Ask call weight suspects left
+    (parent : List (Option ℕ)) (last : List ℕ) (entries : List Entry) (call weight suspects left : ℕ)
+    → IsNumbered parent last → state_of last entries ≡ Ask call weight suspects left
     → (answer : Judgement) → left_after last entries call answer ≤ left
 
 -- a call at fault: it is judged wrong, and each of its children right (Shapiro 1983); no suspect is left
@@ -73,7 +83,8 @@ pub record IsAtFault (parent : List (Option ℕ)) (last : List ℕ) (entries : L
 -- what is found is at fault
 abbrev pub FoundIsAtFault : Type 0
 FoundIsAtFault =
-    (parent : List (Option ℕ)) (last : List ℕ) (entries : List Entry) (call : ℕ) → IsNumbered parent last → state_of last entries ≡ Found call
+    (parent : List (Option ℕ)) (last : List ℕ) (entries : List Entry) (call : ℕ) → IsNumbered parent last
+    → state_of last entries ≡ Found call
     → IsAtFault parent last entries call
 
 -- where nothing is wrong no call is judged wrong, and no suspect is left

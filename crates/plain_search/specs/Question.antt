@@ -15,7 +15,8 @@ left_of last suspects call = max (weight_of last suspects call - 1) (length susp
 
 -- whether no suspect leaves fewer than the call
 abbrev pub leaves_least : List ℕ → List ℕ → ℕ → Bool
-leaves_least last suspects call = list_all (λ other. nat_le (left_of last suspects call) (left_of last suspects other)) suspects
+leaves_least last suspects call = list_all (λ other. nat_le (left_of last suspects call) (left_of last suspects other))
+    suspects
 
 -- the first suspect of which that holds
 unfoldable pub question_of : List ℕ → List ℕ → Option ℕ
@@ -24,4 +25,9 @@ question_of last suspects = find (leaves_least last suspects) suspects
 -- the question with its numbers
 abbrev pub asked_of : List ℕ → List ℕ → Option ℕ → Option Question
 asked_of last suspects None = None
-asked_of last suspects (Some call) = Some (record { call = call; weight = weight_of last suspects call; left = left_of last suspects call })
+asked_of last suspects (Some call) = Some (record {
+  call = call;
+  weight = weight_of last suspects call;
+  left =
+      left_of last suspects call;
+})

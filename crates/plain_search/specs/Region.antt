@@ -1,7 +1,26 @@
 -- The accused, the region that is searched, and the suspects in it. As in Shapiro's search (1983) it goes on below a
 -- call that was judged wrong, and leaves out what was judged right with all below it; that the greatest such call is
 -- accused, whatever is said of the calls above it, is this project's own rule.
-use Rattle.std.specs.Prelude.{ℕ, Bool, true, not, ◌&&◌, ◌+◌, nat_lt, nat_le, List, Option, Some, None, length, map, filter, count_by, slice_index, slice_index_or}
+use Rattle.std.specs.Prelude.{
+  ℕ,
+  Bool,
+  true,
+  not,
+  ◌&&◌,
+  ◌+◌,
+  nat_lt,
+  nat_le,
+  List,
+  Option,
+  Some,
+  None,
+  length,
+  map,
+  filter,
+  count_by,
+  slice_index,
+  slice_index_or,
+}
 use Rattle.std.specs.List.{list_any}
 use Rattle.plain_search.specs.declared.entries.Mark.{Mark}
 use Rattle.plain_search.specs.declared.entries.Mark.TheVariants.{Unjudged}
@@ -27,7 +46,8 @@ is_below last (Some accused) call = is_in last accused call && nat_lt accused ca
 -- whether a call is clear, or has a clear call above it below the accused
 abbrev pub is_cleared : List ℕ → List Mark → Option ℕ → ℕ → Bool
 is_cleared last marks accused call =
-    list_any (λ above. is_clear (mark_at marks above) && is_below last accused above && is_in last above call) (calls (length last))
+    list_any (λ above. is_clear (mark_at marks above) && is_below last accused above && is_in last above call)
+    (calls (length last))
 
 -- the calls below the accused, without those that are cleared
 abbrev pub region_of : List ℕ → List Mark → Option ℕ → List ℕ

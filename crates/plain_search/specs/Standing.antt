@@ -22,6 +22,7 @@ entries_of judgements = judged_all first_entries judgements
 abbrev pub entry_of : ℕ × Judgement → Entry
 entry_of said = record { call = said.0; judgement = said.1 }
 
--- behind the first entry stand the judgements, in their order
+-- after the first entry stand the judgements, in their order
 abbrev pub EntriesAreTheJudgements : Type 0
-EntriesAreTheJudgements = (judgements : List (ℕ × Judgement)) → entries_of judgements ≡ record { call = 0; judgement = judgement.Wrong } ∷ map entry_of judgements
+EntriesAreTheJudgements = (judgements : List (ℕ × Judgement))
+    → entries_of judgements ≡ record { call = 0; judgement = judgement.Wrong } ∷ map entry_of judgements

@@ -17,11 +17,13 @@ suspects_after last entries = suspects_of last (marks_of (length last) entries) 
 
 -- the state by the suspects, the accused and the question
 abbrev pub state_by : List ℕ → List ℕ → Option ℕ → Option ℕ → SearchState
-state_by last suspects accused (Some call) = Ask call (weight_of last suspects call) (length suspects) (left_of last suspects call)
+state_by last suspects accused (Some call) = Ask call (weight_of last suspects call) (length suspects)
+    (left_of last suspects call)
 state_by last suspects (Some accused) None = Found accused
 state_by last suspects None None = NothingWrong
 
 -- a question where there is a suspect; else the accused is found, or nothing is wrong
 unfoldable pub state_of : List ℕ → List Entry → SearchState
 state_of last entries =
-    state_by last (suspects_after last entries) (accused_after (length last) entries) (question_of last (suspects_after last entries))
+    state_by last (suspects_after last entries) (accused_after (length last) entries)
+    (question_of last (suspects_after last entries))

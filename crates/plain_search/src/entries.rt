@@ -1,16 +1,19 @@
 //! Entries, and the marks of the calls that follow from them.
+
 ghost use Rattle.std.specs.Prelude.{◌≡◌, IfOk};
 ghost use Rattle.plain_search.specs.Marks.{is_on, last_where, mark_by, mark_of, marks_of};
 
 use std::alloc::{AllocError, Global};
 
-/// No memory could be had.
+/// Memory ran out.
 pub type Memory = AllocError;
 
 /// What is said of a call: it did what it should have done, or it did not.
 #[derive(Clone, Copy, Debug, PartialEq, Eq)]
 pub enum Judgement {
+    /// It did what it should have done.
     Right,
+    /// It did not.
     Wrong,
 }
 
@@ -63,7 +66,7 @@ pub fn current_mark(entries: &[Entry], call: u32) -> Mark
     }
 }
 
-/// The marks of so many calls, in one pass over the entries. An entry on a call that is not there
+/// The marks of this many calls, in one pass over the entries. An entry on a call that is not there
 /// changes nothing.
 pub fn current_marks(alloc: Global, calls: u32, entries: &[Entry]) -> Result<Vec<Mark>, Memory>
     ensures each { IfOk result (λ v. v.items ≡ marks_of calls entries.now) }

@@ -1,5 +1,15 @@
 //! Laws of the search, each the contract of a call that does nothing.
-ghost use Rattle.plain_search.specs.Laws.{AnswersLeaveAtMost, FoundIsAtFault, LeftIsFewer, LeftIsTheWorse, NoneIsWrong, QuestionIsBest, RightLeavesTheRest, WrongLeavesTheSubtree};
+
+ghost use Rattle.plain_search.specs.Laws.{
+  AnswersLeaveAtMost,
+  FoundIsAtFault,
+  LeftIsFewer,
+  LeftIsTheWorse,
+  NoneIsWrong,
+  QuestionIsBest,
+  RightLeavesTheRest,
+  WrongLeavesTheSubtree,
+};
 ghost use Rattle.plain_search.specs.Standing.{EntriesAreTheJudgements};
 
 /// The two answers on a suspect leave exactly the suspects that its measure counts.
@@ -31,7 +41,7 @@ pub fn nothing_wrong_is_nothing()
     ensures none { NoneIsWrong }
 {}
 
-/// The entries after a list of judgements are the first, that call 0 is wrong, and behind it the
+/// The entries after a list of judgements are the first, that call 0 is wrong, and after it the
 /// judgements in their order.
 pub fn entries_are_the_judgements()
     ensures same { EntriesAreTheJudgements }

@@ -6,7 +6,7 @@
 #![tactic(auto)]
 
 mod entries;
-mod laws;
+pub mod laws;
 mod numbering;
 mod question;
 mod region;

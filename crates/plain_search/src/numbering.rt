@@ -1,4 +1,5 @@
 //! Calls numbered in order of entry.
+
 ghost use Rattle.std.specs.Prelude.{◌↔◌, IsTrue};
 ghost use Rattle.plain_search.specs.Numbering.{AreIntervals};
 

@@ -1,4 +1,5 @@
 //! Which suspect to ask about.
+
 ghost use Rattle.std.specs.Prelude.{◌≡◌, ◌<◌, ◌≤◌, ◌^◌, All, length, slice_index};
 ghost use Rattle.plain_search.specs.Numbering.{AreIntervals};
 ghost use Rattle.plain_search.specs.Region.{counts_below};

@@ -1,4 +1,5 @@
 //! The accused call, the region that it leaves to search, and the suspects in it.
+
 ghost use Rattle.std.specs.Prelude.{◌≡◌, ◌<◌, ◌≤◌, ◌^◌, All, IfOk, length, vec_len};
 ghost use Rattle.plain_search.specs.Numbering.{AreIntervals};
 ghost use Rattle.plain_search.specs.Region.{accused_of, counts_below, is_below, suspects_of};

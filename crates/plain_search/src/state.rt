@@ -1,4 +1,5 @@
 //! The state of the search.
+
 ghost use Rattle.std.specs.Prelude.{◌≡◌, ◌<◌, ◌^◌, IfOk, length};
 ghost use Rattle.plain_search.specs.Numbering.{AreIntervals};
 ghost use Rattle.plain_search.specs.State.{state_of};

@@ -1,5 +1,5 @@
 use Rattle.std.proofs.Common.{take}
-use Rattle.plain_search.proofs.MarkLemmas.{AreMarks}
+use Rattle.plain_search.proofs.LastEntryCounts.{AreMarks}
 use Rattle.plain_search.proofs.entries.current_marks.Given as goal
 
 abbrev pub invariant-loop-entry : goal.invariant-loop-entry

@@ -1,4 +1,4 @@
-use Rattle.plain_search.proofs.StateLemmas.{answers_leave_at_most, left_is_fewer}
+use Rattle.plain_search.proofs.StatesSayWhatHolds.{answers_leave_at_most, left_is_fewer}
 use Rattle.plain_search.proofs.laws.answers_leave_fewer.Goals as goal
 
 pub returns-clause-fewer : goal.returns-clause-fewer

@@ -1,5 +1,5 @@
-use Rattle.plain_search.proofs.JudgedLemmas.{right_leaves, wrong_leaves}
-use Rattle.plain_search.proofs.StateLemmas.{left_is_worse}
+use Rattle.plain_search.proofs.OneMoreJudgement.{right_leaves, wrong_leaves}
+use Rattle.plain_search.proofs.StatesSayWhatHolds.{left_is_worse}
 use Rattle.plain_search.proofs.laws.answers_leave_what_is_counted.Goals as goal
 
 pub returns-clause-wrong : goal.returns-clause-wrong

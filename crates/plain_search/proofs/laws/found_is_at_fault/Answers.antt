@@ -1,4 +1,4 @@
-use Rattle.plain_search.proofs.StateLemmas.{found_is_at_fault}
+use Rattle.plain_search.proofs.StatesSayWhatHolds.{found_is_at_fault}
 use Rattle.plain_search.proofs.laws.found_is_at_fault.Goals as goal
 
 pub returns : goal.returns

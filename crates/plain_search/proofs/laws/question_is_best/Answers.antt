@@ -1,4 +1,4 @@
-use Rattle.plain_search.proofs.StateLemmas.{question_is_best}
+use Rattle.plain_search.proofs.StatesSayWhatHolds.{question_is_best}
 use Rattle.plain_search.proofs.laws.question_is_best.Goals as goal
 
 pub returns : goal.returns

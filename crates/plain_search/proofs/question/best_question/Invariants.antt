@@ -1,6 +1,6 @@
 use Rattle.std.proofs.Common.{◌≡◌, take}
 use Rattle.plain_search.specs.Question.{asked_of, left_of}
-use Rattle.plain_search.proofs.QuestionLemmas.{best_of}
+use Rattle.plain_search.proofs.FirstOfTheLeast.{best_of}
 use Rattle.plain_search.proofs.question.best_question.Given as goal
 
 abbrev pub invariant-loop-call : goal.invariant-loop-call

@@ -5,7 +5,7 @@ use Rattle.plain_search.specs.declared.entries.Mark.{Mark}
 use Rattle.plain_search.specs.declared.entries.Mark.TheVariants.{Unjudged, Right, Wrong}
 use Rattle.plain_search.specs.Marks.{is_wrong}
 use Rattle.plain_search.specs.Region.{accused_of, mark_at}
-use Rattle.plain_search.proofs.Lists.{last_call_more}
+use Rattle.plain_search.proofs.FiltersAndCounts.{last_call_more}
 use Rattle.plain_search.proofs.region.find_accused.Goals as goal
 use Rattle.plain_search.proofs.region.find_accused.Goals.{in-Wrong, in_default}
 

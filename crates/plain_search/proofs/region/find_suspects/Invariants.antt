@@ -1,4 +1,4 @@
-use Rattle.plain_search.proofs.RegionLemmas.{Swept}
+use Rattle.plain_search.proofs.OnePassFindsSuspects.{Swept}
 use Rattle.plain_search.proofs.region.find_suspects.Given as goal
 
 abbrev pub invariant-loop-call : goal.invariant-loop-call

@@ -12,7 +12,8 @@ use Rattle.plain_search.proofs.state.search.Goals as goal
 use Rattle.plain_search.proofs.state.search.Goals.{in-Some, in-None+in-Some-accused, in-None+in-None-accused}
 
 -- the state, from its parts
-state_is : (last : List ℕ) (entries : List Entry) (marks : List Mark) (accused : Option ℕ) (found : List ℕ) → marks ≡ marks_of (length last) entries → accused ≡ accused_of marks
+state_is : (last : List ℕ) (entries : List Entry) (marks : List Mark) (accused : Option ℕ) (found : List ℕ) → marks ≡ marks_of (length last) entries
+    → accused ≡ accused_of marks
     → found ≡ suspects_of last marks accused → state_by last found accused (question_of last found) ≡ state_of last entries
 unfolding state_of
 state_is last entries marks accused found marks_is accused_is found_is =
@@ -41,7 +42,12 @@ many n entries marks is = ap length is ∙ length-map-range_with_len (mark_of en
 
 pub find_accused-accused-requires : goal.find_accused-accused-requires
 find_accused-accused-requires c = record {
-  few = omega (arith, ap length c.deref.ensures.value, many (length c.args.last.now) c.args.entries.now c.in_ok-marks.marks.items c.in_ok-marks.ensures.each, c.requires.few);
+  few = omega (
+    arith,
+    ap length c.deref.ensures.value,
+    many (length c.args.last.now) c.args.entries.now c.in_ok-marks.marks.items c.in_ok-marks.ensures.each,
+    c.requires.few,
+  );
 }
 
 pub find_suspects-requires-clause-same_length : goal.find_suspects-requires-clause-same_length
@@ -64,9 +70,18 @@ returns c =
     elim c.match-best_question.branch [
       | in-Some w ↦
           let many : w.len.result ≡ length found = omega (arith, c.in_ok-found.found.calls.ok.0) in
-          record { state = w.state-is ∙ ap (λ n. Ask w.in-Some.best.call w.in-Some.best.weight n w.in-Some.best.left) many ∙ ask_is last found accused question w.in-Some.best (w.in-Some.ensures.best ∙ asked) ∙ whole }
+          record {
+            state = w.state-is ∙ ap (λ n. Ask w.in-Some.best.call w.in-Some.best.weight n w.in-Some.best.left) many
+                ∙ ask_is last found accused question w.in-Some.best (w.in-Some.ensures.best ∙ asked) ∙ whole;
+          }
       | in-None+in-Some-accused w ↦
-          record { state = w.state-is ∙ found_is last found w.in-Some-accused.call question (w.in-None.ensures.best ∙ asked) ∙ ap (λ a. state_by last found a question) (sym w.in-Some-accused.is) ∙ whole }
+          record {
+            state = w.state-is ∙ found_is last found w.in-Some-accused.call question (w.in-None.ensures.best ∙ asked)
+                ∙ ap (λ a. state_by last found a question) (sym w.in-Some-accused.is) ∙ whole;
+          }
       | in-None+in-None-accused w ↦
-          record { state = w.state-is ∙ nothing_is last found question (w.in-None.ensures.best ∙ asked) ∙ ap (λ a. state_by last found a question) (sym w.in-None-accused.is) ∙ whole }
+          record {
+            state = w.state-is ∙ nothing_is last found question (w.in-None.ensures.best ∙ asked)
+                ∙ ap (λ a. state_by last found a question) (sym w.in-None-accused.is) ∙ whole;
+          }
     ]
