@@ -70,6 +70,7 @@ fn read_simple(
 }
 
 #[cycle(expressions)]
+#[tactic(auto, using(pas_phrases::proofs::ReadLists::list_reading, pas_tree::proofs::Parts::parts))]
 fn read_next_terms(
     alloc: Global,
     tokens: &TerminalList,
@@ -122,6 +123,7 @@ fn read_term(
 }
 
 #[cycle(expressions)]
+#[tactic(auto, using(pas_phrases::proofs::ReadLists::list_reading, pas_tree::proofs::Parts::parts))]
 fn read_next_factors(
     alloc: Global,
     tokens: &TerminalList,
@@ -158,7 +160,7 @@ fn read_next_factor(
 }
 
 #[cycle(expressions)]
-#[tactic(auto, unfolding(grammar::specs::Reading::read, grammar::specs::Reading::levels))]
+#[tactic(auto, unfolding(grammar::specs::Reading::read, grammar::specs::Reading::levels, pas_tree::specs::Rules::factor_rule))]
 fn read_factor(
     alloc: Global,
     tokens: &TerminalList,
@@ -174,20 +176,7 @@ fn read_factor(
         }
         return Err(ParseFault::NotProgram(at));
     }
-    read_inner_factor(alloc, tokens, at, depth - 1)
-}
-
-#[cycle(expressions)]
-#[tactic(auto, unfolding(grammar::specs::Reading::read, pas_tree::specs::Rules::factor_rule))]
-fn read_inner_factor(
-    alloc: Global,
-    tokens: &TerminalList,
-    at: u32,
-    depth: u32,
-) -> Result<(Factor, u32), ParseFault>
-    ensures gives { ReadsAs tokens.now factor_node result (read pascal depth factor_rule (items_from tokens.now at)) }
-    ensures forward { IfOk result (λ x. at ≤ x.1) }
-{
+    let depth = depth - 1;
     if is_next_literal(tokens, at) {
         return expect_literal(tokens, at);
     }
@@ -207,7 +196,7 @@ fn read_inner_factor(
 }
 
 #[cycle(expressions)]
-#[tactic(auto, using(pas_tree::proofs::ExpressionRolls::selectors_hidden), unfolding(grammar::specs::Reading::read, pas_tree::specs::Rules::named_factor_rule))]
+#[tactic(auto, using(pas_tree::proofs::ExpressionRolls::selectors_hidden, pas_tree::proofs::ExpressionRolls::arguments_rolled), unfolding(grammar::specs::Reading::read, pas_tree::specs::Rules::named_factor_rule, pas_tree::specs::Rules::arguments_rule))]
 fn read_named_factor(
     alloc: Global,
     tokens: &TerminalList,
@@ -219,7 +208,16 @@ fn read_named_factor(
 {
     let (name, after) = tokens.expect(at, Terminal::Name)?;
     if tokens.is_next(after, Terminal::LeftParen) {
-        let (arguments, after) = read_arguments(alloc, tokens, after, depth)?;
+        let (open, after) = tokens.expect(after, Terminal::LeftParen)?;
+        let (first, after) = read_expression(alloc, tokens, after, depth)?;
+        let (others, after) = read_next_expressions(alloc, tokens, after, depth)?;
+        let (close, after) = tokens.expect(after, Terminal::RightParen)?;
+        let arguments = Arguments {
+            open,
+            first,
+            others,
+            close,
+        };
         return Ok((Factor::Call(name, Box::new(alloc, arguments)?), after));
     }
     let (selectors, after) = read_selectors(alloc, tokens, after, depth)?;
@@ -245,54 +243,7 @@ fn read_paren(
 }
 
 #[cycle(expressions)]
-#[tactic(auto, using(pas_tree::proofs::ExpressionRolls::arguments_rolled), unfolding(grammar::specs::Reading::read, pas_tree::specs::Rules::arguments_rule))]
-fn read_arguments(
-    alloc: Global,
-    tokens: &TerminalList,
-    at: u32,
-    depth: u32,
-) -> Result<(Arguments, u32), ParseFault>
-    ensures gives { ReadsAs tokens.now arguments_node result (read pascal depth arguments_rule (items_from tokens.now at)) }
-    ensures forward { IfOk result (λ x. at < x.1) }
-{
-    let (open, after) = tokens.expect(at, Terminal::LeftParen)?;
-    let (first, after) = read_expression(alloc, tokens, after, depth)?;
-    let (others, after) = read_next_expressions(alloc, tokens, after, depth)?;
-    let (close, after) = tokens.expect(after, Terminal::RightParen)?;
-    let arguments = Arguments {
-        open,
-        first,
-        others,
-        close,
-    };
-    Ok((arguments, after))
-}
-
-#[cycle(expressions)]
-#[tactic(auto, using(pas_tree::proofs::ExpressionRolls::index_rolled), unfolding(grammar::specs::Reading::read, pas_tree::specs::Rules::index_rule))]
-fn read_index(
-    alloc: Global,
-    tokens: &TerminalList,
-    at: u32,
-    depth: u32,
-) -> Result<(Index, u32), ParseFault>
-    ensures gives { ReadsAs tokens.now index_node result (read pascal depth index_rule (items_from tokens.now at)) }
-    ensures forward { IfOk result (λ x. at < x.1) }
-{
-    let (open, after) = tokens.expect(at, Terminal::LeftBracket)?;
-    let (first, after) = read_expression(alloc, tokens, after, depth)?;
-    let (others, after) = read_next_expressions(alloc, tokens, after, depth)?;
-    let (close, after) = tokens.expect(after, Terminal::RightBracket)?;
-    let index = Index {
-        open,
-        first,
-        others,
-        close,
-    };
-    Ok((index, after))
-}
-
-#[cycle(expressions)]
+#[tactic(auto, using(pas_phrases::proofs::ReadLists::list_reading, pas_tree::proofs::Parts::parts))]
 fn read_next_expressions(
     alloc: Global,
     tokens: &TerminalList,
@@ -330,6 +281,7 @@ fn read_next_expression(
 
 /// Reads the indices, fields and dereferences of an access.
 #[cycle(expressions)]
+#[tactic(auto, using(pas_phrases::proofs::ReadLists::list_reading, pas_tree::proofs::Parts::parts), unfolding(pas_tree::specs::Rules::selectors_rule))]
 pub fn read_selectors(
     alloc: Global,
     tokens: &TerminalList,
@@ -350,7 +302,7 @@ pub fn read_selectors(
 }
 
 #[cycle(expressions)]
-#[tactic(auto, unfolding(grammar::specs::Reading::read, pas_tree::specs::Rules::selector_rule))]
+#[tactic(auto, using(pas_tree::proofs::ExpressionRolls::index_rolled), unfolding(grammar::specs::Reading::read, pas_tree::specs::Rules::selector_rule, pas_tree::specs::Rules::index_rule))]
 fn read_selector(
     alloc: Global,
     tokens: &TerminalList,
@@ -361,7 +313,16 @@ fn read_selector(
     ensures forward { IfOk result (λ x. at < x.1) }
 {
     if tokens.is_next(at, Terminal::LeftBracket) {
-        let (index, after) = read_index(alloc, tokens, at, depth)?;
+        let (open, after) = tokens.expect(at, Terminal::LeftBracket)?;
+        let (first, after) = read_expression(alloc, tokens, after, depth)?;
+        let (others, after) = read_next_expressions(alloc, tokens, after, depth)?;
+        let (close, after) = tokens.expect(after, Terminal::RightBracket)?;
+        let index = Index {
+            open,
+            first,
+            others,
+            close,
+        };
         return Ok((Selector::Index(index), after));
     }
     if tokens.is_next(at, Terminal::Dot) {
@@ -402,6 +363,7 @@ fn read_members(
 }
 
 #[cycle(expressions)]
+#[tactic(auto, using(pas_phrases::proofs::ReadLists::list_reading, pas_tree::proofs::Parts::parts))]
 fn read_next_members(
     alloc: Global,
     tokens: &TerminalList,

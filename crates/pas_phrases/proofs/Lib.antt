@@ -1,4 +1,5 @@
 pub mod Failures
 pub mod NextToken
 pub mod ReadLists
+pub mod ReadPairs
 pub mod ReadSeries

@@ -4,7 +4,8 @@ use Rattle.grammar.specs.declared.terminals.Terminal.{Terminal}
 use Rattle.grammar.specs.declared.terminals.Terminal.TheVariants as k
 use Rattle.grammar.specs.Terminals.{one_of, passes}
 use Rattle.grammar.specs.Nodes.{Item, Node, Nothing, Pair, leaf, next, second}
-use Rattle.grammar.specs.Reading.{Read, Unfit, Deep, token_at, then_pair, ◌>>=◌}
+use Rattle.grammar.specs.Grammars.{Grammar, nothing, seq, choice, word}
+use Rattle.grammar.specs.Reading.{Read, Unfit, Deep, token_at, ◌>>=◌}
 use Rattle.pas_tree.specs.declared.operators.Sign.{Sign}
 use Rattle.pas_tree.specs.Operators.{sign_leaf}
 use Rattle.pas_tree.specs.Rules.{plain_constants}
@@ -35,8 +36,8 @@ abbrev pub optional_token : List Terminal → List Item → Read
 optional_token ks l = if passes ks (next l) then token_at ks l else Ok (Nothing, l)
 
 -- a semicolon after the last part of a series, or none
-abbrev pub last_semicolon : List Item → Read
-last_semicolon l = if passes (k.Semicolon ∷ []) (next l) then then_pair (token_at (k.Semicolon ∷ []) l) (λ m. Ok (Nothing, m)) else Ok (Nothing, l)
+abbrev pub last_semicolon : Grammar
+last_semicolon = choice (k.Semicolon ∷ []) (seq (word k.Semicolon) nothing) nothing
 
 -- whether a separator is next, and after it what begins a part
 abbrev pub goes_further : Terminal → List Terminal → List Item → Bool

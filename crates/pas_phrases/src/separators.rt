@@ -2,7 +2,9 @@
 
 ghost use Rattle.std.specs.Prelude.{◌≡◌, ◌≤◌, ◌<◌, length, IfOk, IsTrue};
 ghost use Rattle.grammar.specs.declared.terminals.Terminal.TheVariants as k;
+ghost use Rattle.grammar.specs.Reading.{read};
 ghost use Rattle.pas_tree.specs.Denoters.{last_semicolon_node};
+ghost use Rattle.pas_tree.specs.FirstFollow.{pascal};
 ghost use Rattle.pas_tree.specs.Rules.{constant_starts};
 ghost use Rattle.pas_phrases.specs.Items.{ReadsAs, goes_further, items_from, last_semicolon};
 
@@ -11,8 +13,13 @@ use crate::looking::TerminalList;
 use grammar::Terminal;
 
 /// Takes the semicolon after the last part of a series, if it is there.
-pub fn read_last_semicolon(tokens: &TerminalList, at: u32) -> Result<(Option<u32>, u32), ParseFault>
-    ensures gives { ReadsAs tokens.now last_semicolon_node result (last_semicolon (items_from tokens.now at)) }
+#[tactic(auto, unfolding(grammar::specs::Reading::read))]
+pub fn read_last_semicolon(
+    tokens: &TerminalList,
+    at: u32,
+    _depth: u32,
+) -> Result<(Option<u32>, u32), ParseFault>
+    ensures gives { ReadsAs tokens.now last_semicolon_node result (read pascal _depth last_semicolon (items_from tokens.now at)) }
     ensures forward { IfOk result (λ x. at ≤ x.1) }
 {
     if !tokens.is_next(at, Terminal::Semicolon) {

@@ -1,17 +1,17 @@
-use Rattle.std.proofs.Common.{◌≡◌, ◌≤◌, ◌+◌, ◌∷◌, [], map, length, ◌-◌, ◌*◌}
+use Rattle.std.proofs.Common.{◌≤◌, ◌+◌, ◌∷◌, [], length, ◌-◌, ◌*◌}
 use Rattle.grammar.specs.declared.terminals.Terminal.TheVariants as k
 use Rattle.grammar.specs.Grammars.{many}
 use Rattle.grammar.specs.Reading.{read}
-use Rattle.grammar.proofs.Lists.{with_front}
 use Rattle.pas_tree.specs.FirstFollow.{pascal}
-use Rattle.pas_phrases.specs.Items.{items_from}
 use Rattle.pas_tree.specs.Expressions.{next_term_node, next_factor_node, next_expression_node, selector_node, next_member_node}
 use Rattle.pas_tree.specs.Rules.{adding, multiplying, selector_starts, next_term_rule, next_factor_rule, next_expression_rule, selector_rule, next_member_rule}
+use Rattle.pas_phrases.specs.Items.{items_from}
+use Rattle.pas_phrases.proofs.ReadLists.{ListSoFar}
 use Rattle.pas_expressions.proofs.expressions.+expressions.Given as goal
 
 abbrev pub invariant-read_next_terms-terms : goal.invariant-read_next_terms-terms
 invariant-read_next_terms-terms l = record {
-  so_far : with_front (map next_term_node l.others.items) (read pascal l.depth (many adding next_term_rule) (items_from l.tokens l.next)) ≡ read pascal l.depth (many adding next_term_rule) (items_from l.tokens l.at);
+  so_far : ListSoFar next_term_node l.depth adding next_term_rule l.others.items (items_from l.tokens l.next) (read pascal l.depth (many adding next_term_rule) (items_from l.tokens l.at));
   forward : l.at ≤ l.next;
 }
 
@@ -20,7 +20,7 @@ decreases-read_next_terms-terms l = length l.tokens - l.next
 
 abbrev pub invariant-read_next_factors-factors : goal.invariant-read_next_factors-factors
 invariant-read_next_factors-factors l = record {
-  so_far : with_front (map next_factor_node l.others.items) (read pascal l.depth (many multiplying next_factor_rule) (items_from l.tokens l.next)) ≡ read pascal l.depth (many multiplying next_factor_rule) (items_from l.tokens l.at);
+  so_far : ListSoFar next_factor_node l.depth multiplying next_factor_rule l.others.items (items_from l.tokens l.next) (read pascal l.depth (many multiplying next_factor_rule) (items_from l.tokens l.at));
   forward : l.at ≤ l.next;
 }
 
@@ -29,7 +29,7 @@ decreases-read_next_factors-factors l = length l.tokens - l.next
 
 abbrev pub invariant-read_next_expressions-expressions : goal.invariant-read_next_expressions-expressions
 invariant-read_next_expressions-expressions l = record {
-  so_far : with_front (map next_expression_node l.others.items) (read pascal l.depth (many (k.Comma ∷ []) next_expression_rule) (items_from l.tokens l.next)) ≡ read pascal l.depth (many (k.Comma ∷ []) next_expression_rule) (items_from l.tokens l.at);
+  so_far : ListSoFar next_expression_node l.depth (k.Comma ∷ []) next_expression_rule l.others.items (items_from l.tokens l.next) (read pascal l.depth (many (k.Comma ∷ []) next_expression_rule) (items_from l.tokens l.at));
   forward : l.at ≤ l.next;
 }
 
@@ -38,7 +38,7 @@ decreases-read_next_expressions-expressions l = length l.tokens - l.next
 
 abbrev pub invariant-read_selectors-selectors : goal.invariant-read_selectors-selectors
 invariant-read_selectors-selectors l = record {
-  so_far : with_front (map selector_node l.others.items) (read pascal l.depth (many selector_starts selector_rule) (items_from l.tokens l.next)) ≡ read pascal l.depth (many selector_starts selector_rule) (items_from l.tokens l.at);
+  so_far : ListSoFar selector_node l.depth selector_starts selector_rule l.others.items (items_from l.tokens l.next) (read pascal l.depth (many selector_starts selector_rule) (items_from l.tokens l.at));
   forward : l.at ≤ l.next;
 }
 
@@ -47,72 +47,63 @@ decreases-read_selectors-selectors l = length l.tokens - l.next
 
 abbrev pub invariant-read_next_members-members : goal.invariant-read_next_members-members
 invariant-read_next_members-members l = record {
-  so_far : with_front (map next_member_node l.others.items) (read pascal l.depth (many (k.Comma ∷ []) next_member_rule) (items_from l.tokens l.next)) ≡ read pascal l.depth (many (k.Comma ∷ []) next_member_rule) (items_from l.tokens l.at);
+  so_far : ListSoFar next_member_node l.depth (k.Comma ∷ []) next_member_rule l.others.items (items_from l.tokens l.next) (read pascal l.depth (many (k.Comma ∷ []) next_member_rule) (items_from l.tokens l.at));
   forward : l.at ≤ l.next;
 }
 
 abbrev pub decreases-read_next_members-members : goal.decreases-read_next_members-members
 decreases-read_next_members-members l = length l.tokens - l.next
 
-abbrev pub decreases-read_inner_factor : goal.decreases-read_inner_factor
-decreases-read_inner_factor l = 64 * l.depth + 40
-
 abbrev pub decreases-read_named_factor : goal.decreases-read_named_factor
-decreases-read_named_factor l = 64 * l.depth + 39
-
-abbrev pub decreases-read_paren : goal.decreases-read_paren
-decreases-read_paren l = 64 * l.depth + 39
+decreases-read_named_factor l = 32 * l.depth + 17
 
 abbrev pub decreases-read_members : goal.decreases-read_members
-decreases-read_members l = 64 * l.depth + 39
+decreases-read_members l = 32 * l.depth + 16
 
 abbrev pub decreases-read_next_members : goal.decreases-read_next_members
-decreases-read_next_members l = 64 * l.depth + 38
+decreases-read_next_members l = 32 * l.depth + 15
 
 abbrev pub decreases-read_next_member : goal.decreases-read_next_member
-decreases-read_next_member l = 64 * l.depth + 37
+decreases-read_next_member l = 32 * l.depth + 14
 
 abbrev pub decreases-read_member : goal.decreases-read_member
-decreases-read_member l = 64 * l.depth + 36
+decreases-read_member l = 32 * l.depth + 13
 
-abbrev pub decreases-read_arguments : goal.decreases-read_arguments
-decreases-read_arguments l = 64 * l.depth + 38
+abbrev pub decreases-read_paren : goal.decreases-read_paren
+decreases-read_paren l = 32 * l.depth + 12
 
 abbrev pub decreases-read_selectors : goal.decreases-read_selectors
-decreases-read_selectors l = 64 * l.depth + 38
+decreases-read_selectors l = 32 * l.depth + 11
 
 abbrev pub decreases-read_selector : goal.decreases-read_selector
-decreases-read_selector l = 64 * l.depth + 37
-
-abbrev pub decreases-read_index : goal.decreases-read_index
-decreases-read_index l = 64 * l.depth + 36
+decreases-read_selector l = 32 * l.depth + 10
 
 abbrev pub decreases-read_next_expressions : goal.decreases-read_next_expressions
-decreases-read_next_expressions l = 64 * l.depth + 35
+decreases-read_next_expressions l = 32 * l.depth + 9
 
 abbrev pub decreases-read_next_expression : goal.decreases-read_next_expression
-decreases-read_next_expression l = 64 * l.depth + 34
+decreases-read_next_expression l = 32 * l.depth + 8
 
 abbrev pub decreases-read_expression : goal.decreases-read_expression
-decreases-read_expression l = 64 * l.depth + 30
+decreases-read_expression l = 32 * l.depth + 7
 
 abbrev pub decreases-read_simple : goal.decreases-read_simple
-decreases-read_simple l = 64 * l.depth + 25
+decreases-read_simple l = 32 * l.depth + 6
 
 abbrev pub decreases-read_next_terms : goal.decreases-read_next_terms
-decreases-read_next_terms l = 64 * l.depth + 20
+decreases-read_next_terms l = 32 * l.depth + 5
 
 abbrev pub decreases-read_next_term : goal.decreases-read_next_term
-decreases-read_next_term l = 64 * l.depth + 18
+decreases-read_next_term l = 32 * l.depth + 4
 
 abbrev pub decreases-read_term : goal.decreases-read_term
-decreases-read_term l = 64 * l.depth + 15
+decreases-read_term l = 32 * l.depth + 3
 
 abbrev pub decreases-read_next_factors : goal.decreases-read_next_factors
-decreases-read_next_factors l = 64 * l.depth + 10
+decreases-read_next_factors l = 32 * l.depth + 2
 
 abbrev pub decreases-read_next_factor : goal.decreases-read_next_factor
-decreases-read_next_factor l = 64 * l.depth + 8
+decreases-read_next_factor l = 32 * l.depth + 1
 
 abbrev pub decreases-read_factor : goal.decreases-read_factor
-decreases-read_factor l = 64 * l.depth + 0
+decreases-read_factor l = 32 * l.depth
