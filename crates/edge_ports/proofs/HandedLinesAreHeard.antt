@@ -20,7 +20,8 @@ record Parts (bytes : List ℕ) : Type 0 where
 -- one more byte in front
 longer : (byte : ℕ) (bytes : List ℕ) → Parts bytes → Parts (byte ∷ bytes)
 longer byte bytes p =
-    elim (is_line_end byte) as (λ b. ((more : List ℕ) → slice_split is_line_end ((byte ∷ bytes) ++ more) ≡ cond b ([] ∷ slice_split is_line_end (bytes ++ more)) (onto_first byte (slice_split is_line_end (bytes ++ more)))) → Parts (byte ∷ bytes)) [
+    elim (is_line_end byte) as (λ b. ((more : List ℕ)
+    → slice_split is_line_end ((byte ∷ bytes) ++ more) ≡ cond b ([] ∷ slice_split is_line_end (bytes ++ more)) (onto_first byte (slice_split is_line_end (bytes ++ more)))) → Parts (byte ∷ bytes)) [
       | true ↦ λ e. record { head = []; tail = p.head ∷ p.tail; splits = λ more. e more ∙ ap (λ l. [] ∷ l) (p.splits more) }
       | false ↦ λ e. record { head = byte ∷ p.head; tail = p.tail; splits = λ more. e more ∙ ap (onto_first byte) (p.splits more) }
     ] (λ more. refl)
@@ -65,7 +66,9 @@ lines_of-parts front more parts splits =
 
 lines_of-whole_parts : (front : List ℕ) (parts : List (List ℕ))
     → ((more : List ℕ) → slice_split is_line_end (front ++ more) ≡ parts ++ slice_split is_line_end more) → lines_of front ≡ map strip_carriage_return parts
-lines_of-whole_parts front parts splits = ap lines_of (sym (append-nil front)) ∙ lines_of-parts front [] parts (splits []) ∙ append-nil (map strip_carriage_return parts)
+lines_of-whole_parts front parts splits =
+    ap lines_of (sym (append-nil front))
+    ∙ lines_of-parts front [] parts (splits []) ∙ append-nil (map strip_carriage_return parts)
 
 -- the lines of whole lines, and of what comes after them
 pub lines_of-append : (front more : List ℕ) → EndsWhole front → lines_of (front ++ more) ≡ lines_of front ++ lines_of more
@@ -90,7 +93,9 @@ used_whole : (lines : LinesState) (used : ℕ) → IsUsed lines used → EndsWho
 used_whole lines used is =
     let below : used - 1 < used = omega (arith, is.some) in
     elim is.end [
-      | inl at ↦ inl (λ some. ap (λ k. slice_index (take used (unread lines)) (k - 1)) (length-take-le used (unread lines) is.within) ∙ get_or-take used (unread lines) (used - 1) 0 below ∙ at)
+      | inl at ↦ inl (λ some.
+          ap (λ k. slice_index (take used (unread lines)) (k - 1)) (length-take-le used (unread lines) is.within)
+          ∙ get_or-take used (unread lines) (used - 1) 0 below ∙ at)
       | inr all ↦ inr (drop_all used (unread lines) (omega (arith, all.1)))
     ]
 
@@ -162,16 +167,23 @@ pub heard_in_order : (lines : LinesState) → lines.handed ≤ length lines.take
     → lines_heard lines.ended lines.taken ≡ handed_lines lines ++ lines_heard lines.ended (unread lines)
 heard_in_order lines within cut =
     let parts : lines.taken ≡ handed_bytes lines ++ unread lines = sym (take-append-drop lines.handed lines.taken) in
-    ap (lines_heard lines.ended) parts ∙ elim lines.ended as (λ b. ((IsTrue b → lines.handed < length lines.taken) → EndsWhole (handed_bytes lines)) → lines_heard b (handed_bytes lines ++ unread lines) ≡ handed_lines lines ++ lines_heard b (unread lines)) [
+    ap (lines_heard lines.ended) parts
+    ∙ elim lines.ended as (λ b. ((IsTrue b → lines.handed < length lines.taken) → EndsWhole (handed_bytes lines))
+    → lines_heard b (handed_bytes lines ++ unread lines) ≡ handed_lines lines ++ lines_heard b (unread lines)) [
       | true ↦ λ whole. ended (leb (length lines.taken) lines.handed) refl whole
       | false ↦ λ whole. whole_lines-whole (handed_bytes lines) (unread lines) (whole (λ e. absurd (let x : ⊥ = cc in x)))
     ] cut
   where
-    ended : (b : Bool) → leb (length lines.taken) lines.handed ≡ b → ((IsTrue true → lines.handed < length lines.taken) → EndsWhole (handed_bytes lines)) → lines_of (handed_bytes lines ++ unread lines) ≡ handed_lines lines ++ lines_of (unread lines)
+    ended : (b : Bool) → leb (length lines.taken) lines.handed ≡ b
+        → ((IsTrue true → lines.handed < length lines.taken) → EndsWhole (handed_bytes lines))
+        → lines_of (handed_bytes lines ++ unread lines) ≡ handed_lines lines ++ lines_of (unread lines)
     ended true e whole =
         let all : length lines.taken ≤ lines.handed = leb-true _ _ e in
         let none : unread lines ≡ [] = drop_all lines.handed lines.taken all in
-        ap (λ l. lines_of (handed_bytes lines ++ l)) none ∙ ap lines_of (append-nil (handed_bytes lines)) ∙ sym (append-nil (handed_lines lines)) ∙ ap (λ l. handed_lines lines ++ lines_of l) (sym none)
+        ap (λ l. lines_of (handed_bytes lines ++ l)) none
+        ∙ ap lines_of (append-nil (handed_bytes lines))
+        ∙ sym (append-nil (handed_lines lines))
+        ∙ ap (λ l. handed_lines lines ++ lines_of l) (sym none)
     ended false e whole = lines_of-append (handed_bytes lines) (unread lines) (whole (λ _. leb-false _ _ e))
 
 -- The parts of some bytes, all but the last of which stay whatever comes after them.
@@ -217,6 +229,10 @@ heard_longer ended bytes more =
     let x = k.longer more in
     let whole : whole_lines bytes ≡ map strip_carriage_return k.parts = ap whole_parts k.splits ∙ whole_parts-append k.parts k.last in
     elim ended as (λ b. (rest : List (List ℕ)) × (lines_heard b (bytes ++ more) ≡ whole_lines bytes ++ rest)) [
-      | true ↦ (lines_of_parts (x.0 ∷ x.1), ap lines_of_parts x.2 ∙ lines_of_parts-append k.parts x.0 x.1 ∙ ap (λ l. l ++ lines_of_parts (x.0 ∷ x.1)) (sym whole))
+      | true ↦ (
+        lines_of_parts (x.0 ∷ x.1),
+        ap lines_of_parts x.2
+            ∙ lines_of_parts-append k.parts x.0 x.1 ∙ ap (λ l. l ++ lines_of_parts (x.0 ∷ x.1)) (sym whole),
+      )
       | false ↦ (whole_parts (x.0 ∷ x.1), ap whole_parts x.2 ∙ whole_parts-more k.parts x.0 x.1 ∙ ap (λ l. l ++ whole_parts (x.0 ∷ x.1)) (sym whole))
     ]

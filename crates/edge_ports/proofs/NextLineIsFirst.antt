@@ -87,7 +87,8 @@ lines_of-whole bytes more n e =
 pub no_split : (bytes : List ℕ) → line_end_of bytes ≡ None → slice_split is_line_end bytes ≡ bytes ∷ []
 no_split bytes e =
     let none = position-None is_line_end bytes e in
-    slice_split_none is_line_end bytes (λ k d lt. let below : k < position_or_len is_line_end bytes = omega (arith, none, lt) in fails_before_first is_line_end bytes k d below)
+    slice_split_none is_line_end bytes
+    (λ k d lt. let below : k < position_or_len is_line_end bytes = omega (arith, none, lt) in fails_before_first is_line_end bytes k d below)
 
 not_empty : (byte : ℕ) (bytes : List ℕ) → lines_of_parts ((byte ∷ bytes) ∷ []) ≡ (byte ∷ bytes) ∷ []
 not_empty byte bytes = grind arith
@@ -107,21 +108,23 @@ line_end_of-from bytes start le none =
 same_next : (one other : List ℕ × List ℕ) (more : List ℕ) → Some one ≡ Some other → one.0 ∷ lines_of (one.1 ++ more) ≡ other.0 ∷ lines_of (other.1 ++ more)
 same_next one other more e = let same : one ≡ other = cc in ap (λ next. next.0 ∷ lines_of (next.1 ++ more)) same
 
-lines_of-next_last : (ended : Bool) (bytes more : List ℕ) (next : List ℕ × List ℕ) → line_end_of bytes ≡ None → line_up_to None ended bytes ≡ Some next
+lines_of-next_last : {next : List ℕ × List ℕ} (ended : Bool) (bytes more : List ℕ) → line_end_of bytes ≡ None → line_up_to None ended bytes ≡ Some next
     → (IsTrue ended → more ≡ [])
     → lines_of (bytes ++ more) ≡ next.0 ∷ lines_of (next.1 ++ more)
-lines_of-next_last true [] more next none e end = cc
-lines_of-next_last true (byte ∷ bytes) more next none e end =
+lines_of-next_last true [] more none e end = cc
+lines_of-next_last {next} true (byte ∷ bytes) more none e end =
     let no_more : more ≡ [] = end refl in
-    let last : lines_of ((byte ∷ bytes) ++ []) ≡ (byte ∷ bytes) ∷ lines_of ([] ++ []) = ap lines_of (append-nil (byte ∷ bytes)) ∙ lines_of-last byte bytes none in
+    let last : lines_of ((byte ∷ bytes) ++ []) ≡ (byte ∷ bytes) ∷ lines_of ([] ++ []) =
+    ap lines_of (append-nil (byte ∷ bytes)) ∙ lines_of-last byte bytes none in
     rw no_more (last ∙ same_next (byte ∷ bytes, []) next [] e)
-lines_of-next_last false bytes more next none e end = cc
+lines_of-next_last false bytes more none e end = cc
 
 -- the next line is the first of the lines still to come
 pub lines_of-next : (ended : Bool) (bytes more : List ℕ) (next : List ℕ × List ℕ) → next_line ended bytes ≡ Some next → (IsTrue ended → more ≡ [])
     → lines_of (bytes ++ more) ≡ next.0 ∷ lines_of (next.1 ++ more)
 lines_of-next ended bytes more next is end =
-    elim (line_end_of bytes) as (λ o. line_end_of bytes ≡ o → line_up_to o ended bytes ≡ Some next → lines_of (bytes ++ more) ≡ next.0 ∷ lines_of (next.1 ++ more)) [
+    elim (line_end_of bytes) as (λ o. line_end_of bytes ≡ o → line_up_to o ended bytes ≡ Some next
+    → lines_of (bytes ++ more) ≡ next.0 ∷ lines_of (next.1 ++ more)) [
       | Some n ↦ λ at e. lines_of-whole bytes more n at ∙ same_next (strip_carriage_return (take n bytes), drop (n + 1) bytes) next more e
-      | None ↦ λ at e. lines_of-next_last ended bytes more next at e end
+      | None ↦ λ at e. lines_of-next_last ended bytes more at e end
     ] refl is

@@ -7,12 +7,27 @@ pub returns-then-count-left-clause-most : goal.returns-then-count-left-clause-mo
 returns-then-count-left-clause-most g c = (
   c.chunks.bytes ++ take c.in-Ok.count c.read.new.buf,
   Consumes-trans _ _ _ c.chunks.bytes (take c.in-Ok.count c.read.new.buf) c.chunks.invariant.1 c.in-Ok.ensures.bytes.0,
-  omega (arith, length-append c.chunks.bytes (take c.in-Ok.count c.read.new.buf), length-take {A = ℕ}, c.in-Ok.ensures.bound, c.chunk_len-want.ensures.most, c.read.auto.buf, ap (length {A = ℕ}) c.as_slice.ensures),
+  omega (
+    arith,
+    length-append c.chunks.bytes (take c.in-Ok.count c.read.new.buf),
+    length-take {A = ℕ},
+    c.in-Ok.ensures.bound,
+    c.chunk_len-want.ensures.most,
+    c.read.auto.buf,
+    ap (length {A = ℕ}) c.as_slice.ensures,
+  ),
 )
 
 pub returns-then-is_err-clause-most : goal.returns-then-is_err-clause-most
 returns-then-is_err-clause-most g c = (
   c.chunks.bytes ++ take c.in-Ok.count c.read.new.buf,
   Consumes-trans _ _ _ c.chunks.bytes (take c.in-Ok.count c.read.new.buf) c.chunks.invariant.1 c.in-Ok.ensures.bytes.0,
-  omega (arith, length-append c.chunks.bytes (take c.in-Ok.count c.read.new.buf), length-take {A = ℕ}, c.in-Ok.ensures.bound, c.if-count-left.false, ap (length {A = ℕ}) c.as_slice.ensures),
+  omega (
+    arith,
+    length-append c.chunks.bytes (take c.in-Ok.count c.read.new.buf),
+    length-take {A = ℕ},
+    c.in-Ok.ensures.bound,
+    c.if-count-left.false,
+    ap (length {A = ℕ}) c.as_slice.ensures,
+  ),
 )
