@@ -1,6 +1,5 @@
-pub mod ToldLemmas
-pub mod LinesLemmas
-pub mod Filling
-pub mod ReadLemmas
-pub mod ShelfLemmas
-pub mod WholeLines
+pub mod PiecesAddUp
+pub mod NextLineIsFirst
+pub mod HandedLinesAreHeard
+pub mod SameBytesCome
+pub mod NewestFileCounts

@@ -32,12 +32,19 @@ no_counts = record { faults = 0; misses = 0; overs = 0 }
 
 -- none of a keeper's counts has fallen
 abbrev pub NoneFallen : KeeperCounts → KeeperCounts → Type 0
-NoneFallen before now = NotFallen before.faults now.faults × NotFallen before.misses now.misses × NotFallen before.overs now.overs
+NoneFallen before now =
+    NotFallen before.faults now.faults
+    × NotFallen before.misses now.misses
+    × NotFallen before.overs now.overs
 
--- a keeper's counts after a fetch: the one that says why it failed rose, and the others stay
+-- a keeper's counts after a fetch with this answer: the one that says why it failed rose, and the others stay
+abbrev pub counts_after : Result (List ℕ) FetchFault → KeeperCounts → KeeperCounts
+counts_after (Ok bytes) counts = counts
+counts_after (Err Failed) counts = record counts { faults = next_count counts.faults }
+counts_after (Err Absent) counts = record counts { misses = next_count counts.misses }
+counts_after (Err (TooLong limit)) counts = record counts { overs = next_count counts.overs }
+counts_after (Err Memory) counts = counts
+
+-- the counts rose as this answer says
 abbrev pub CountsFetch : Result (List ℕ) FetchFault → KeeperCounts → KeeperCounts → Type 0
-CountsFetch (Ok bytes) before now = now ≡ before
-CountsFetch (Err Failed) before now = now ≡ record before { faults = next_count before.faults }
-CountsFetch (Err Absent) before now = now ≡ record before { misses = next_count before.misses }
-CountsFetch (Err (TooLong limit)) before now = now ≡ record before { overs = next_count before.overs }
-CountsFetch (Err Memory) before now = now ≡ before
+CountsFetch answer before now = now ≡ counts_after answer before

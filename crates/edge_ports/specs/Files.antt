@@ -20,6 +20,6 @@ HoldsFile files name bytes = IfSome files (λ map. file_at map name ≡ Some byt
 abbrev pub LacksFile : Option FileMap → List ℕ → Type 0
 LacksFile files name = IfSome files (λ map. file_at map name ≡ None)
 
--- the file of this name has more bytes than so many, where files are told
+-- the file of this name has more than `limit` bytes, where files are told
 abbrev pub HoldsLonger : Option FileMap → List ℕ → ℕ → Type 0
 HoldsLonger files name limit = IfSome files (λ map. IsSomeAnd (file_at map name) (λ bytes. limit < length bytes))

@@ -1,10 +1,13 @@
 -- The lines of a console, and how far a reader of them has come.
-use Rattle.std.specs.Prelude.{◌≡◌, ◌⊎◌, ℕ, ◌+◌, ◌-◌, ◌<◌, ◌≤◌, Bool, true, false, IsTrue, List, [], ◌∷◌, ◌++◌, ◌==◌, length, take, drop, slice_index, position, Option, None, Some, IsSome}
+use Rattle.std.specs.Prelude.{◌≡◌, ◌⊎◌, ℕ, ◌+◌, ◌-◌, ◌<◌, ◌≤◌, Bool, true, false, IsTrue, List, [], ◌∷◌, ◌++◌, ◌==◌}
+use Rattle.std.specs.Prelude.{length, take, drop, slice_index, position, Option, None, Some, IsSome}
 use Rattle.std.specs.List.{slice_split}
 use Rattle.std.specs.Str.Lines.{lines, strip_carriage_return}
 use Rattle.edge_ports.specs.Told.{TookAll}
 
--- the lines of these bytes, as `str::lines` gives them: each ends at LF, and loses a CR directly before that; a last part with no LF is a line, unless it is empty
+-- the lines of these bytes, as `str::lines` gives them: each ends at LF, and loses a CR directly before that; a last
+-- part
+-- with no LF is a line, unless it is empty
 abbrev pub lines_of : List ℕ → List (List ℕ)
 lines_of bytes = lines bytes
 
@@ -35,18 +38,22 @@ line_end_of bytes = position is_line_end bytes
 abbrev pub HasWholeLine : List ℕ → Type 0
 HasWholeLine bytes = IsSome (line_end_of bytes)
 
--- the line that ends at an LF at this place, or the last part of a console whose end was seen, unless it is empty; and the bytes behind it
+-- the line that ends at an LF at this place, or the last part of a console whose end was seen, unless it is empty; and
+-- the
+-- bytes after it
 abbrev pub line_up_to : Option ℕ → Bool → List ℕ → Option (List ℕ × List ℕ)
 line_up_to (Some place) ended bytes = Some (strip_carriage_return (take place bytes), drop (place + 1) bytes)
 line_up_to None true (byte ∷ bytes) = Some (byte ∷ bytes, [])
 line_up_to None true [] = None
 line_up_to None false bytes = None
 
--- the next line of these bytes, if it is there, and the bytes behind it
+-- the next line of these bytes, if it is there, and the bytes after it
 abbrev pub next_line : Bool → List ℕ → Option (List ℕ × List ℕ)
 next_line ended bytes = line_up_to (line_end_of bytes) ended bytes
 
--- the bytes taken from the source, how many of them were handed out in lines, whether the source's end was seen, and the line that is shown
+-- the bytes taken from the source, how many of them were handed out in lines, whether the source's end was seen, and
+-- the
+-- line that is shown
 pub record LinesState : Type 0 where
   pub taken : List ℕ
   pub handed : ℕ
@@ -61,7 +68,7 @@ unread lines = drop lines.handed lines.taken
 abbrev pub handed_bytes : LinesState → List ℕ
 handed_bytes lines = take lines.handed lines.taken
 
--- nothing stands behind the last LF
+-- nothing comes after the last LF
 abbrev pub EndsWhole : List ℕ → Type 0
 EndsWhole bytes = 0 < length bytes → slice_index bytes (length bytes - 1) ≡ 10
 
@@ -73,7 +80,7 @@ IsCutAtLines lines = (IsTrue lines.ended → lines.handed < length lines.taken) 
 abbrev pub handed_lines : LinesState → List (List ℕ)
 handed_lines lines = lines_of (handed_bytes lines)
 
--- so many of the unread bytes are a line with its LF, or the last part of a console whose end was seen
+-- the first `used` of the unread bytes are a line with its LF, or the last part of a console whose end was seen
 pub record IsUsed (lines : LinesState) (used : ℕ) : Type 0 where
   pub some : 0 < used
   pub within : used ≤ length (unread lines)
@@ -83,7 +90,7 @@ pub record IsUsed (lines : LinesState) (used : ℕ) : Type 0 where
 abbrev pub reach : LinesState → LinesState → List ℕ
 reach old new = drop old.handed new.taken
 
--- the next line of these, and the bytes behind it
+-- the next line of these, and the bytes after it
 abbrev pub upcoming : LinesState → LinesState → Option (List ℕ × List ℕ)
 upcoming old new = next_line new.ended (reach old new)
 
@@ -93,7 +100,9 @@ pub record Moves (taken taken' : List ℕ) (left left' : Option (List ℕ)) : Ty
   pub grown : taken' ≡ taken ++ more
   pub took : TookAll left left' more
 
--- The source tells that these bytes are still to come: those unread, and those that it has left. Where its end was seen, it has none left.
+-- The source tells that these bytes are still to come: those unread, and those that it has left. Where its end was
+-- seen, it
+-- has none left.
 pub record StillComes (lines : LinesState) (left : Option (List ℕ)) (bytes : List ℕ) : Type 0 where
   pub more : List ℕ
   pub told : left ≡ Some more

@@ -1,10 +1,10 @@
 -- What contracts see of a keeper in memory.
-use Rattle.std.specs.Prelude.{ℕ, List, Result, Ok, Err, true, false, refl}
+use Rattle.std.specs.Prelude.{ℕ, List, Bool, Result, Ok, Err, true, false, refl}
 use Rattle.std.specs.FinMap.{code, empty}
 use Rattle.std.specs.Coded.{Coded, code_by, coded×, coded_ℕ, coded_list}
 use Rattle.edge_ports.specs.declared.ports.FetchFault.{FetchFault}
 use Rattle.edge_ports.specs.declared.ports.FetchFault.TheVariants.{Absent, Failed, TooLong, Memory}
-use Rattle.edge_ports.specs.Counts.{KeeperCounts, no_counts, next_count}
+use Rattle.edge_ports.specs.Counts.{KeeperCounts, no_counts, counts_after}
 use Rattle.edge_ports.specs.States.{PlanState, plan_after, plan_of}
 use Rattle.edge_ports.specs.Files.{FileMap}
 
@@ -18,21 +18,38 @@ pub record ShelfState : Type 0 where
 abbrev pub empty_shelf : List ℕ → ShelfState
 empty_shelf fails = record { files = empty; plan = plan_of fails; counts = no_counts }
 
+-- the fetch failed
+abbrev pub has_failed : Result (List ℕ) FetchFault → Bool
+has_failed (Ok bytes) = false
+has_failed (Err Failed) = true
+has_failed (Err Absent) = false
+has_failed (Err (TooLong limit)) = false
+has_failed (Err Memory) = false
+
 -- the shelf after a fetch with this answer
 abbrev pub shelf_after : Result (List ℕ) FetchFault → ShelfState → ShelfState
-shelf_after (Ok bytes) shelf = record shelf { plan = plan_after false shelf.plan }
-shelf_after (Err Failed) shelf = record shelf { plan = plan_after true shelf.plan; counts = record shelf.counts { faults = next_count shelf.counts.faults } }
-shelf_after (Err Absent) shelf = record shelf { plan = plan_after false shelf.plan; counts = record shelf.counts { misses = next_count shelf.counts.misses } }
-shelf_after (Err (TooLong limit)) shelf = record shelf { plan = plan_after false shelf.plan; counts = record shelf.counts { overs = next_count shelf.counts.overs } }
-shelf_after (Err Memory) shelf = record shelf { plan = plan_after false shelf.plan }
+shelf_after answer shelf = record shelf {
+  plan = plan_after (has_failed answer) shelf.plan;
+  counts = counts_after answer shelf.counts;
+}
 
 -- a plan is stored as its fields
 abbrev pub plan_code : Coded PlanState
-plan_code = code_by (List ℕ × (ℕ × ℕ)) (coded× (coded_list coded_ℕ) (coded× coded_ℕ coded_ℕ)) (λ p. (p.fails, (p.calls, p.faults))) (λ t. record { fails = t.0; calls = t.1.0; faults = t.1.1 }) (λ _. refl)
+plan_code =
+    code_by (List ℕ × (ℕ × ℕ))
+    (coded× (coded_list coded_ℕ) (coded× coded_ℕ coded_ℕ))
+    (λ p. (p.fails, (p.calls, p.faults)))
+    (λ t. record { fails = t.0; calls = t.1.0; faults = t.1.1 })
+    (λ _. refl)
 
 -- counts are stored as their fields
 abbrev pub counts_code : Coded KeeperCounts
-counts_code = code_by (ℕ × (ℕ × ℕ)) (coded× coded_ℕ (coded× coded_ℕ coded_ℕ)) (λ c. (c.faults, (c.misses, c.overs))) (λ t. record { faults = t.0; misses = t.1.0; overs = t.1.1 }) (λ _. refl)
+counts_code =
+    code_by (ℕ × (ℕ × ℕ))
+    (coded× coded_ℕ (coded× coded_ℕ coded_ℕ))
+    (λ c. (c.faults, (c.misses, c.overs)))
+    (λ t. record { faults = t.0; misses = t.1.0; overs = t.1.1 })
+    (λ _. refl)
 
 -- a shelf is stored as its fields
 abbrev pub shelf_code : Coded ShelfState

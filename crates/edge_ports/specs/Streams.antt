@@ -1,14 +1,14 @@
--- What stands behind a port, and what std tells of it.
+-- What a port is made over, and what std tells of it.
 use Rattle.std.specs.Prelude.{ℕ, List, Option}
 use Rattle.edge_ports.specs.declared.streams.StdSource.{StdSource}
 use Rattle.edge_ports.specs.declared.streams.StdSink.{StdSink}
 use Rattle.edge_ports.specs.declared.disk.FileKeeper.{FileKeeper}
 
--- the reader behind the port
+-- the reader that the port is made over
 abbrev pub reader_of : {R : Type 0} → StdSource R → R
 reader_of source = source.reader
 
--- the writer behind the port
+-- the writer that the port is made over
 abbrev pub writer_of : {W : Type 0} → StdSink W → W
 writer_of sink = sink.writer
 

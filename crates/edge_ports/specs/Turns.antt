@@ -1,16 +1,19 @@
 -- What a call of `Lines::next` does, by what it answers.
-use Rattle.std.specs.Prelude.{◌≡◌, ℕ, ◌<◌, ◌≤◌, ◌⊎◌, List, [], ◌∷◌, ◌++◌, length, Result, Ok, Err, Option, Some, None, nat_le, if◌then◌else◌, IsTrue}
+use Rattle.std.specs.Prelude.{◌≡◌, ℕ, ◌<◌, ◌≤◌, ◌⊎◌, List, [], ◌∷◌, ◌++◌, length, Result, Ok, Err, Option, Some, None}
+use Rattle.std.specs.Prelude.{nat_le, if◌then◌else◌, IsTrue}
 use Rattle.edge_ports.specs.Limits.{console_bytes, line_bytes}
 use Rattle.edge_ports.specs.declared.lines.Turn.{Turn}
 use Rattle.edge_ports.specs.declared.lines.Turn.TheVariants.{Line, TooLong, End}
 use Rattle.edge_ports.specs.declared.lines.LineFault.{LineFault}
 use Rattle.edge_ports.specs.Lines.{LinesState, unread, HasWholeLine, IsCutAtLines}
 
--- nothing more is asked of the source: a whole line is left in the bytes taken, or the end was seen, or all room is used
+-- nothing more is asked of the source: a whole line is left in the bytes taken, or the end was seen, or all room is
+-- used
 abbrev pub AsksNothing : LinesState → Type 0
 AsksNothing lines = HasWholeLine (unread lines) ⊎ IsTrue lines.ended ⊎ (length lines.taken ≡ console_bytes)
 
--- no more was handed out than taken, no more taken than there is room for, and less where the end was seen; what was handed out is cut at lines
+-- no more was handed out than taken, no more taken than there is room for, and less where the end was seen; what was
+-- handed out is cut at lines
 pub record IsConsistent (lines : LinesState) : Type 0 where
   pub handed : lines.handed ≤ length lines.taken
   pub taken : length lines.taken ≤ console_bytes
@@ -29,7 +32,8 @@ HandsOut (Ok TooLong) old new = old < new
 HandsOut (Ok End) old new = new ≡ old
 HandsOut (Err fault) old new = new ≡ old
 
--- what the answer says of the console's lines, those before the call and those after it; `line` is the one that is shown
+-- what the answer says of the console's lines, those before the call and those after it; `line` is the one that is
+-- shown
 abbrev pub TurnsTo : Result Turn LineFault → List ℕ → List (List ℕ) → List (List ℕ) → Type 0
 TurnsTo (Ok Line) line old new = (old ≡ line ∷ new) × (length line ≤ line_bytes)
 TurnsTo (Ok TooLong) line old new = (long : List ℕ) × (old ≡ long ∷ new) × (line_bytes < length long)

@@ -4,7 +4,7 @@ ghost use Rattle.std.specs.Prelude.{◌≡◌, ◌++◌, [], List, ℕ, OnOk, On
 use std::alloc::{AllocError, Global};
 use std::marker::Model;
 
-/// Want of memory.
+/// Out of memory.
 pub type Memory = AllocError;
 
 /// A list of bytes that grows at its end. Contracts see it as the list.
@@ -29,7 +29,7 @@ impl Bytes {
         }
     }
 
-    /// Appends the piece, or leaves the list as it was where memory is wanting.
+    /// Appends the piece, or leaves the list as it was where it is out of memory.
     pub fn append(&mut self, piece: &[u8]) -> Result<(), Memory>
         ensures ok { OnOk result (self.new ≡ self.old ++ piece.now) }
         ensures err { OnErr result (self.new ≡ self.old) }

@@ -34,7 +34,7 @@ impl<R: Files> FileKeeper<R> {
 // The most bytes that are read at once.
 const CHUNK: usize = 4_096;
 
-// How many bytes to read next, where so many are left up to the limit: at most one more than that.
+// How many bytes to read next, where this many are left up to the limit: at most one more than that.
 fn chunk_len(left: u64) -> usize
     ensures some { 0 < result }
     ensures fits { result ≤ CHUNK }
@@ -53,8 +53,10 @@ fn read_within<R: Read>(alloc: Global, reader: &mut R, limit: u64) -> Result<Byt
     ensures whole { IfOk result (λ bytes. IfSome (R.remaining reader.old) (λ all. bytes ≡ all)) }
     ensures not_absent { result ≡ Err FetchFault.Absent → ⊥ }
     ensures too_long { (bound : ℕ) → result ≡ Err (FetchFault.TooLong bound) → bound ≡ limit }
-    ensures longer { (bound : ℕ) → result ≡ Err (FetchFault.TooLong bound) → IfSome (R.remaining reader.old) (λ all. limit < length all) }
-    ensures most { (taken : List ℕ) × Consumes (R.remaining reader.old) (R.remaining reader.new) taken × (length taken ≤ limit + 1) }
+    ensures longer { (bound : ℕ) → result ≡ Err (FetchFault.TooLong bound)
+        → IfSome (R.remaining reader.old) (λ all. limit < length all) }
+    ensures most { (taken : List ℕ) × Consumes (R.remaining reader.old) (R.remaining reader.new) taken
+        × (length taken ≤ limit + 1) }
 {
     let mut bytes = Bytes::new(alloc);
     let mut chunk = [0u8; CHUNK];

@@ -1,11 +1,12 @@
 // The lines of a console.
-ghost use Rattle.std.specs.Prelude.{◌≡◌, ◌<◌, ◌≤◌, ◌⊎◌, ◌+◌, ◌-◌, Ok, None, length, take, drop, slice_index, vec_capacity, IsTrue, OnOk, OnErr, IfOk, IfSome};
+ghost use Rattle.std.specs.Prelude.{◌≡◌, ◌<◌, ◌≤◌, ◌⊎◌, ◌+◌, ◌-◌, Ok, None, length, take, drop, slice_index};
+ghost use Rattle.std.specs.Prelude.{vec_capacity, IsTrue, OnOk, OnErr, IfOk, IfSome};
 ghost use Rattle.std.specs.Option.{option_map};
 ghost use Rattle.std.specs.Str.Lines.{strip_carriage_return};
 ghost use Rattle.std.specs.Io.KnownBytes.{IsAtEnd};
 ghost use Rattle.edge_ports.specs.Counts.{Rose, NotFallen};
 ghost use Rattle.edge_ports.specs.Limits.{console_bytes};
-ghost use Rattle.edge_ports.specs.Lines.{is_line_end, line_end_of, HasWholeLine, next_line, lines_of, Moves};
+ghost use Rattle.edge_ports.specs.Lines.{line_end_of, next_line, lines_of, Moves};
 
 use crate::{Failed, Memory, Source};
 use std::alloc::Global;
@@ -32,7 +33,7 @@ pub enum Turn {
 /// Why no line came.
 #[derive(Clone, Copy, Debug, PartialEq, Eq, Drop, Error)]
 pub enum LineFault {
-    /// The source failed. Nothing that was taken is lost: the next call reads on behind it.
+    /// The source failed. Nothing that was taken is lost: the next call reads on after it.
     #[error("the console failed")]
     Failed,
     /// [`CONSOLE_BYTES`] bytes were taken, and all whole lines in them handed out.
@@ -78,7 +79,7 @@ fn first_line_end(bytes: &[u8]) -> Option<usize>
     bytes.iter().position(|byte| *byte == b'\n')
 }
 
-// The same, where the first `from` bytes have none. Only the bytes behind them are looked at.
+// The same, where the first `from` bytes have none. Only the bytes after them are looked at.
 fn line_end(bytes: &[u8], from: usize) -> Option<usize>
     requires within { from ≤ length bytes.now }
     requires none { line_end_of (take from bytes.now) ≡ None }
@@ -104,7 +105,7 @@ fn length_without_return(line: &[u8]) -> usize
 }
 
 // How many bytes at the front of these are the next line, and how many it takes up with its end.
-fn next_range(bytes: &[u8], ended: bool, line_end: Option<usize>) -> Option<(usize, usize)>
+fn line_range(bytes: &[u8], ended: bool, line_end: Option<usize>) -> Option<(usize, usize)>
     requires { line_end ≡ line_end_of bytes.now }
     ensures within { IfSome result (λ range. (range.0 ≤ range.1) × (range.1 ≤ length bytes.now) × (0 < range.1)) }
     ensures end { IfSome result (λ range. (slice_index bytes.now (range.1 - 1) ≡ 10)
@@ -155,11 +156,14 @@ fn take_piece<I: Source>(source: &mut I, bytes: &mut Vec<u8>) -> Result<usize, F
 }
 
 impl Lines {
-    ghost use Rattle.std.specs.Prelude.{◌≡◌, ◌<◌, ◌≤◌, ◌↔◌, ◌⊎◌, ◌+◌, ℕ, List, [], ◌++◌, Ok, Err, Some, None, Option, length, take, drop, IsTrue, IsOk, OnOk, OnErr, IfOk, IfErr, IsSomeAnd, MatchOption, true, false};
+    ghost use Rattle.std.specs.Prelude.{◌≡◌, ◌<◌, ◌≤◌, ◌↔◌, ◌⊎◌, ◌+◌, ℕ, List, [], ◌++◌, Ok, Err, Some, None, Option};
+    ghost use Rattle.std.specs.Prelude.{length, take, drop, IsTrue, OnOk, OnErr, IfOk, IsSomeAnd, MatchOption, true};
+    ghost use Rattle.std.specs.Prelude.{false};
     ghost use Rattle.std.specs.Io.KnownBytes.{IsAtEnd};
     ghost use Rattle.edge_ports.specs.Counts.{Rose, NotFallen};
     ghost use Rattle.edge_ports.specs.Limits.{console_bytes, line_bytes};
-    ghost use Rattle.edge_ports.specs.Lines.{line_end_of, HasWholeLine, next_line, lines_of, Moves, unread, reach, upcoming, handed_lines, whole_lines, IsUsed, StillComes};
+    ghost use Rattle.edge_ports.specs.Lines.{line_end_of, next_line, lines_of, Moves, unread, upcoming, handed_lines};
+    ghost use Rattle.edge_ports.specs.Lines.{whole_lines, IsUsed, StillComes};
     ghost use Rattle.edge_ports.specs.Turns.{AsksNothing, IsConsistent, shown_line, HandsOut, HandedBy, TurnsTo};
 
     /// A reader that has taken nothing. It reserves the memory for all [`CONSOLE_BYTES`] bytes at once.
@@ -179,7 +183,7 @@ impl Lines {
     /// part with no LF is a line, unless it is empty. A line of more than [`LINE_BYTES`] bytes is skipped
     /// whole. It takes no memory.
     ///
-    /// A fault of the source loses nothing that was taken: the next call reads on behind it. After the
+    /// A fault of the source loses nothing that was taken: the next call reads on after it. After the
     /// end, and after [`LineFault::Spent`], each further call answers the same.
     pub fn next<I: Source>(&mut self, source: &mut I) -> Result<Turn, LineFault>
         // What moved. As long as a whole line lies in the bytes taken, the source is not asked.
@@ -190,12 +194,15 @@ impl Lines {
         ensures end_seen { IsTrue self.new.ended → IsTrue self.old.ended ⊎ IsAtEnd (I.left source.new) }
 
         // The answer, by the bytes that were to be handed out.
-        ensures line { (result ≡ Ok Turn.Line) ↔ IsSomeAnd (upcoming self.old self.new) (λ next. length next.0 ≤ line_bytes) }
-        ensures too_long { (result ≡ Ok Turn.TooLong) ↔ IsSomeAnd (upcoming self.old self.new) (λ next. line_bytes < length next.0) }
+        ensures line { (result ≡ Ok Turn.Line) ↔
+            IsSomeAnd (upcoming self.old self.new) (λ next. length next.0 ≤ line_bytes) }
+        ensures too_long { (result ≡ Ok Turn.TooLong) ↔
+            IsSomeAnd (upcoming self.old self.new) (λ next. line_bytes < length next.0) }
         ensures end { (result ≡ Ok Turn.End) ↔ (IsTrue self.new.ended × (self.old.handed ≡ length self.new.taken)) }
         ensures spent { (result ≡ Err LineFault.Spent) ↔ ((length self.new.taken ≡ console_bytes)
             × (upcoming self.old self.new ≡ None) × (self.new.ended ≡ false)) }
-        ensures failed { result ≡ Err LineFault.Failed → (upcoming self.old self.new ≡ None) × (self.new.ended ≡ false) }
+        ensures failed { result ≡ Err LineFault.Failed → (upcoming self.old self.new ≡ None)
+            × (self.new.ended ≡ false) }
         ensures cause { result ≡ Err LineFault.Failed → Rose (I.faults source.old) (I.faults source.new) }
         ensures calm { (result ≡ Err LineFault.Failed → ⊥) → I.faults source.new ≡ I.faults source.old }
         ensures faults { NotFallen (I.faults source.old) (I.faults source.new) }
@@ -207,7 +214,8 @@ impl Lines {
 
         // What is shown, and what is handed out.
         ensures shown { self.new.line ≡ shown_line (upcoming self.old self.new) }
-        ensures behind { MatchOption (upcoming self.old self.new) (self.new.handed ≡ self.old.handed) (λ next. unread self.new ≡ next.1) }
+        ensures rest { MatchOption (upcoming self.old self.new) (self.new.handed ≡ self.old.handed)
+            (λ next. unread self.new ≡ next.1) }
         ensures handed { HandsOut result self.old.handed self.new.handed }
 
         // The lines handed out so far: where no more comes, all whole lines in the bytes taken.
@@ -266,7 +274,7 @@ impl Lines {
         self.line_end = 0;
     }
 
-    // Hands out so many bytes, and shows no line.
+    // Hands out this many bytes, and shows no line.
     fn skip(&mut self, used: usize)
         requires { IsUsed self.old used }
         ensures { self.new ≡ record self.old { handed = self.old.handed + used } }
@@ -274,7 +282,7 @@ impl Lines {
         self.handed += used;
     }
 
-    // Hands out so many bytes, and shows the first `count` of them.
+    // Hands out this many bytes, and shows the first `count` of them.
     fn show(&mut self, count: usize, used: usize)
         requires shown { count ≤ used }
         requires used { IsUsed self.old used }
@@ -345,6 +353,19 @@ impl Lines {
         }
     }
 
+    // How many of the unread bytes are the next line, whose LF stands at this place, and how many it takes
+    // up with its end.
+    fn next_range(&self, place: Option<usize>) -> Option<(usize, usize)>
+        requires { place ≡ line_end_of (unread self.now) }
+        ensures within { IfSome result (λ range. range.0 ≤ range.1) }
+        ensures used { IfSome result (λ range. IsUsed self.now range.1) }
+        ensures next { next_line self.now.ended (unread self.now)
+            ≡ option_map (λ range. (take range.0 (unread self.now), drop range.1 (unread self.now))) result }
+        ensures consistent { IsConsistent self.now }
+    {
+        line_range(self.unread(), self.ended, place)
+    }
+
     // Hands out the next line, whose LF stands at this place. Without one, the end was seen.
     fn hand_out(&mut self, place: Option<usize>) -> Turn
         requires place { place ≡ line_end_of (unread self.old) }
@@ -353,18 +374,21 @@ impl Lines {
         ensures taken { self.new.taken ≡ self.old.taken }
         ensures ended { self.new.ended ≡ self.old.ended }
         ensures consistent { IsConsistent self.new }
-        ensures line { (result ≡ Turn.Line) ↔ IsSomeAnd (upcoming self.old self.old) (λ next. length next.0 ≤ line_bytes) }
-        ensures too_long { (result ≡ Turn.TooLong) ↔ IsSomeAnd (upcoming self.old self.old) (λ next. line_bytes < length next.0) }
+        ensures line { (result ≡ Turn.Line) ↔
+            IsSomeAnd (upcoming self.old self.old) (λ next. length next.0 ≤ line_bytes) }
+        ensures too_long { (result ≡ Turn.TooLong) ↔
+            IsSomeAnd (upcoming self.old self.old) (λ next. line_bytes < length next.0) }
         ensures end { (result ≡ Turn.End) ↔ (IsTrue self.old.ended × (self.old.handed ≡ length self.old.taken)) }
         ensures shown { self.new.line ≡ shown_line (upcoming self.old self.old) }
-        ensures behind { MatchOption (upcoming self.old self.old) (self.new.handed ≡ self.old.handed) (λ next. unread self.new ≡ next.1) }
+        ensures rest { MatchOption (upcoming self.old self.old) (self.new.handed ≡ self.old.handed)
+            (λ next. unread self.new ≡ next.1) }
         ensures handed { HandsOut (Ok result) self.old.handed self.new.handed }
         ensures lines { HandedBy (Ok result) self.new.line (handed_lines self.old) (handed_lines self.new) }
         ensures console { (more : List ℕ) → (IsTrue self.old.ended → more ≡ [])
-            → TurnsTo (Ok result) self.new.line (lines_of (unread self.old ++ more)) (lines_of (unread self.new ++ more)) }
+            → TurnsTo (Ok result) self.new.line (lines_of (unread self.old ++ more))
+            (lines_of (unread self.new ++ more)) }
     {
-        let ended = self.has_ended();
-        match next_range(self.unread(), ended, place) {
+        match self.next_range(place) {
             None => Turn::End,
             Some((count, used)) => {
                 if count > LINE_BYTES {

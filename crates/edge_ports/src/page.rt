@@ -1,5 +1,6 @@
 // A sink in memory.
-ghost use Rattle.std.specs.Prelude.{◌≡◌, ◌<◌, ◌≤◌, ◌↔◌, ◌⊎◌, ◌-◌, [], false, Some, length, take, min, is_err, IfOk, IsErr, OnErr, OnOk};
+ghost use Rattle.std.specs.Prelude.{◌≡◌, ◌<◌, ◌≤◌, ◌↔◌, ◌⊎◌, ◌-◌, [], false, Some, length, take, min, is_err, IfOk};
+ghost use Rattle.std.specs.Prelude.{IsErr, OnErr, OnOk};
 ghost use Rattle.edge_ports.specs.Counts.{Rose, NotFallen};
 ghost use Rattle.edge_ports.specs.Told.{GaveAll};
 ghost use Rattle.edge_ports.specs.States.{IsListed, plan_after, plan_of};
@@ -9,7 +10,7 @@ use crate::{Failed, Memory, Sink};
 use std::alloc::Global;
 use std::marker::Model;
 
-/// A sink in memory with room for so many bytes, some of whose calls may be asked to fail.
+/// A sink in memory with room for a fixed number of bytes, some of whose calls may be asked to fail.
 #[derive(Debug, Drop)]
 pub struct Page {
     bytes: Vec<u8>,

@@ -1,5 +1,6 @@
 // What the program asks of the outside.
-ghost use Rattle.std.specs.Prelude.{◌≡◌, ◌<◌, ◌≤◌, ℕ, Bool, true, List, Ok, Err, Option, length, take, is_err, IfOk, OnOk, OnErr};
+ghost use Rattle.std.specs.Prelude.{◌≡◌, ◌<◌, ◌≤◌, ℕ, Bool, true, List, Ok, Err, Option, length, take, is_err, IfOk};
+ghost use Rattle.std.specs.Prelude.{OnOk, OnErr};
 ghost use Rattle.std.specs.Io.KnownBytes.{IsAtEnd};
 ghost use Rattle.edge_ports.specs.Counts.{Rose, NotFallen, KeeperCounts, CountsFetch, NoneFallen};
 ghost use Rattle.edge_ports.specs.Told.{GaveAll, GavePrefix, TookAll};
@@ -72,8 +73,8 @@ pub enum FetchFault {
     /// The file has more bytes than this limit, which is the one that was asked for.
     #[error("the file has more than {0} bytes")]
     TooLong(u64),
-    /// Memory was wanting.
-    #[error("memory was wanting")]
+    /// There was no memory for it.
+    #[error("out of memory")]
     Memory,
 }
 
@@ -91,7 +92,8 @@ pub trait Keeper {
         ensures fits { IfOk result (λ bytes. length bytes ≤ limit) }
         ensures found { IfOk result (λ bytes. HoldsFile (files self.old) name.now bytes) }
         ensures absent { result ≡ Err FetchFault.Absent → LacksFile (files self.old) name.now }
-        ensures too_long { (bound : ℕ) → result ≡ Err (FetchFault.TooLong bound) → (bound ≡ limit) × HoldsLonger (files self.old) name.now limit }
+        ensures too_long { (bound : ℕ) → result ≡ Err (FetchFault.TooLong bound) → (bound ≡ limit)
+            × HoldsLonger (files self.old) name.now limit }
         ensures counts { CountsFetch result (counts self.old) (counts self.new) }
         ensures files { files self.new ≡ files self.old }
         ensures not_fallen { NoneFallen (counts self.old) (counts self.new) };

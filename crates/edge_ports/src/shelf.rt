@@ -1,5 +1,6 @@
 // A keeper in memory.
-ghost use Rattle.std.specs.Prelude.{◌≡◌, ◌<◌, ◌≤◌, ◌↔◌, ℕ, List, length, Option, Some, None, Ok, Err, IfOk, OnOk, OnErr, IsSomeAnd};
+ghost use Rattle.std.specs.Prelude.{◌≡◌, ◌<◌, ◌≤◌, ◌↔◌, ℕ, length, Option, Some, None, Ok, Err, IfOk, OnOk, OnErr};
+ghost use Rattle.std.specs.Prelude.{IsSomeAnd};
 ghost use Rattle.std.specs.Option.{option_map};
 ghost use Rattle.std.specs.FinMap.{empty, insert};
 ghost use Rattle.edge_ports.specs.Counts.{no_counts, NoneFallen, CountsFetch};
@@ -59,10 +60,11 @@ impl Shelf {
     }
 
     /// Puts a file of this name in the place of the one that is there, or leaves the shelf as it was where
-    /// memory is wanting.
+    /// it is out of memory.
     pub fn put(&mut self, name: &str, bytes: &[u8]) -> Result<(), Memory>
         ensures ok { OnOk result (self.new ≡ record self.old { files = insert self.old.files name.now bytes.now }) }
-        ensures files { OnOk result (⟦<Shelf as Keeper>⟧.files self.new ≡ Some (insert self.old.files name.now bytes.now)) }
+        ensures files { OnOk result (⟦<Shelf as Keeper>⟧.files self.new
+            ≡ Some (insert self.old.files name.now bytes.now)) }
         ensures err { OnErr result (self.new ≡ self.old) }
     {
         let name = name.as_bytes().to_vec(self.alloc)?;
@@ -73,7 +75,7 @@ impl Shelf {
 }
 
 // The bytes of the newest entry of this name.
-#[tactic(auto, using(crate::proofs::ShelfLemmas::file_at_newest, crate::proofs::ShelfLemmas::file_at_none))]
+#[tactic(auto, using(crate::proofs::NewestFileCounts::file_at_newest, crate::proofs::NewestFileCounts::file_at_none))]
 fn find<'a>(entries: &'a VecDeque<Entry>, name: &[u8]) -> Option<&'a [u8]>
     ensures { option_map (λ bytes. bytes.now) result ≡ file_at (files_of entries.now.items) name.now }
 {
@@ -114,7 +116,8 @@ impl Shelf {
         ensures lacking { (result ≡ Err FetchFault.Absent) ↔
             ((IsListed self.now.plan → ⊥) × (file_at self.now.files name.now ≡ None)) }
         ensures over { (result ≡ Err (FetchFault.TooLong limit)) ↔
-            ((IsListed self.now.plan → ⊥) × IsSomeAnd (file_at self.now.files name.now) (λ bytes. limit < length bytes)) }
+            ((IsListed self.now.plan → ⊥)
+            × IsSomeAnd (file_at self.now.files name.now) (λ bytes. limit < length bytes)) }
         ensures copy { IfOk result (λ bytes. (file_at self.now.files name.now ≡ Some bytes) × (length bytes ≤ limit)) }
         ensures limit { (bound : ℕ) → result ≡ Err (FetchFault.TooLong bound) → bound ≡ limit }
     {
@@ -137,7 +140,8 @@ impl Keeper for Shelf {
         ensures lacking { (result ≡ Err FetchFault.Absent) ↔
             ((IsListed self.old.plan → ⊥) × (file_at self.old.files name.now ≡ None)) }
         ensures over { (result ≡ Err (FetchFault.TooLong limit)) ↔
-            ((IsListed self.old.plan → ⊥) × IsSomeAnd (file_at self.old.files name.now) (λ bytes. limit < length bytes)) }
+            ((IsListed self.old.plan → ⊥)
+            × IsSomeAnd (file_at self.old.files name.now) (λ bytes. limit < length bytes)) }
         ensures copy { IfOk result (λ bytes. file_at self.old.files name.now ≡ Some bytes) }
         ensures after { self.new ≡ shelf_after result self.old }
         ensures fits { IfOk result (λ bytes. length bytes ≤ limit) }

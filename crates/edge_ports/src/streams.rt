@@ -38,7 +38,8 @@ impl<R: Read> Source for StdSource<R> {
     /// One read, as std says of the reader.
     fn take(&mut self, room: &mut [u8]) -> Result<usize, Failed>
         requires { 0 < length room.old }
-        ensures read { ReadConsumes (reader_left R.remaining self.old) (reader_left R.remaining self.new) result room.new }
+        ensures read { ReadConsumes (reader_left R.remaining self.old) (reader_left R.remaining self.new)
+            result room.new }
         ensures count { IfOk result (λ n. n ≤ length room.new) }
         ensures moved { IfOk result (λ n. TookAll None None (take n room.new)) }
         ensures end { result ≡ Ok 0 → IsAtEnd None }
@@ -112,7 +113,8 @@ impl<W: Write> Sink for StdSink<W> {
     /// One write and a flush, as std says of the writer.
     fn give(&mut self, piece: &[u8]) -> Result<usize, Failed>
         requires { 0 < length piece.now }
-        ensures wrote { IfOk result (λ n. Appends (writer_holds W.contents self.old) (writer_holds W.contents self.new) (take n piece.now)) }
+        ensures wrote { IfOk result (λ n. Appends (writer_holds W.contents self.old)
+            (writer_holds W.contents self.new) (take n piece.now)) }
         ensures count { IfOk result (λ n. n ≤ length piece.now) }
         ensures some { IfOk result (λ n. 0 < n) }
         ensures gave { IfOk result (λ n. GaveAll None None (take n piece.now)) }

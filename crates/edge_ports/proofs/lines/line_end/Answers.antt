@@ -1,7 +1,7 @@
 use Rattle.std.proofs.Common.{sym, ◌∙◌, ap, ◌+◌}
 use Rattle.std.specs.Option.{option_map}
 use Rattle.std.proofs.lemmas.List.{take_rest}
-use Rattle.edge_ports.proofs.LinesLemmas.{line_end_of-from}
+use Rattle.edge_ports.proofs.NextLineIsFirst.{line_end_of-from}
 use Rattle.edge_ports.proofs.lines.line_end.Goals as goal
 
 pub returns-in-Some : goal.returns-in-Some

@@ -3,7 +3,7 @@ use Rattle.std.proofs.lemmas.List.{nil_from_length}
 use Rattle.std.specs.VecDeque.Iter.{deque_iter_rest}
 use Rattle.edge_ports.specs.Files.{file_at}
 use Rattle.edge_ports.specs.Entries.{files_of}
-use Rattle.edge_ports.proofs.ShelfLemmas.{file_at_none}
+use Rattle.edge_ports.proofs.NewestFileCounts.{file_at_none}
 use Rattle.edge_ports.proofs.shelf.find.Goals as goal
 
 pub returns : goal.returns

@@ -1,6 +1,6 @@
 use Rattle.std.proofs.Common.{◌+◌, ◌-◌, cond, length}
 use Rattle.edge_ports.specs.Limits.{console_bytes}
-use Rattle.edge_ports.proofs.Filling.{Filled}
+use Rattle.edge_ports.proofs.SameBytesCome.{Filled}
 use Rattle.edge_ports.proofs.lines.Lines.fill.Given as goal
 
 abbrev pub invariant-filling : goal.invariant-filling

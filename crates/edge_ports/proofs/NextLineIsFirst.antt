@@ -1,17 +1,18 @@
--- The first line of some bytes, and the lines of what stands behind it.
-use Rattle.std.proofs.Common.{◌≡◌, ℕ, ◌+◌, ◌-◌, ◌<◌, ◌≤◌, Bool, true, false, cond, not, IsTrue, List, [], ◌∷◌, ◌++◌, take, drop, length, None, Some, refl, ap, sym, subst, ◌∙◌, arith, ltb, suc, Result, Ok, Err, IfOk}
+-- The next line is the first of the lines still to come.
+use Rattle.std.proofs.Common.{◌≡◌, ℕ, ◌+◌, ◌<◌, ◌≤◌, Bool, true, false, cond, not, IsTrue, List, [], ◌∷◌, ◌++◌, take, drop, length, None, Some, refl, ap, sym}
+use Rattle.std.proofs.Common.{◌∙◌, arith, ltb, suc}
 use Rattle.std.proofs.lemmas.Bool.Decides.{nat_tests}
-use Rattle.std.proofs.lemmas.List.{append-nil, take-append-drop, take-append-le, length-take-le, drop-take, drop-drop, take-take, drop-append-le, length-append}
+use Rattle.std.proofs.lemmas.List.{append-nil, take-append-drop, take-append-le, length-take-le, drop-append-le, length-append}
 use Rattle.std.specs.List.{position, position_or_len, slice_split, onto_first, after_first}
-use Rattle.std.proofs.Math.Seq.{take-append-add}
 use Rattle.std.specs.Option.{option_map}
 use Rattle.std.proofs.lemmas.List.Splits.{slice_split_none, slice_split_first}
 use Rattle.std.proofs.lemmas.List.Sums.{prefix_len-le-length, fails_before_first}
 use Rattle.std.specs.Str.Lines.{lines_of_parts, strip_carriage_return}
-use Rattle.edge_ports.specs.Lines.{is_line_end, line_end_of, lines_of, line_up_to, next_line, LinesState, unread}
+use Rattle.edge_ports.specs.Lines.{is_line_end, line_end_of, lines_of, line_up_to, next_line}
 
--- the place of the first that passes, behind some that all fail
-pub position_or_len-append : {X : Type 0} (p : X → Bool) (xs ys : List X) → position_or_len p xs ≡ length xs → position_or_len p (xs ++ ys) ≡ length xs + position_or_len p ys
+-- the place of the first that passes, after some that all fail
+pub position_or_len-append : {X : Type 0} (p : X → Bool) (xs ys : List X) → position_or_len p xs ≡ length xs
+    → position_or_len p (xs ++ ys) ≡ length xs + position_or_len p ys
 position_or_len-append p [] ys e = grind arith
 position_or_len-append p (x ∷ xs) ys e =
     elim (p x) as (λ b. cond (not b) (1 + position_or_len p xs) 0 ≡ suc (length xs)
@@ -21,8 +22,9 @@ position_or_len-append p (x ∷ xs) ys e =
           let more = position_or_len-append p xs ys same in omega arith
     ] e
 
--- the place of the first that passes, if one does, whatever stands behind
-pub position_or_len-append_left : {X : Type 0} (p : X → Bool) (xs ys : List X) → position_or_len p xs < length xs → position_or_len p (xs ++ ys) ≡ position_or_len p xs
+-- the place of the first that passes, if one does, whatever comes after
+pub position_or_len-append_left : {X : Type 0} (p : X → Bool) (xs ys : List X) → position_or_len p xs < length xs
+    → position_or_len p (xs ++ ys) ≡ position_or_len p xs
 position_or_len-append_left p [] ys lt = absurd (omega arith)
 position_or_len-append_left p (x ∷ xs) ys lt =
     elim (p x) as (λ b. cond (not b) (1 + position_or_len p xs) 0 < suc (length xs)
@@ -41,7 +43,8 @@ position-Some_place p xs n e = grind arith
 shifted : (a b c q n : ℕ) → q ≡ a + b → n ≡ a + c → cond (ltb q n) (Some q) None ≡ option_map (λ k. a + k) (cond (ltb b c) (Some b) None)
 shifted a b c q n e f = grind (arith, nat_tests)
 
-pub position-append : {X : Type 0} (p : X → Bool) (xs ys : List X) → position p xs ≡ None → position p (xs ++ ys) ≡ option_map (λ n. length xs + n) (position p ys)
+pub position-append : {X : Type 0} (p : X → Bool) (xs ys : List X) → position p xs ≡ None
+    → position p (xs ++ ys) ≡ option_map (λ n. length xs + n) (position p ys)
 position-append p xs ys e =
     shifted (length xs) (position_or_len p ys) (length ys) (position_or_len p (xs ++ ys)) (length (xs ++ ys))
     (position_or_len-append p xs ys (position-None p xs e))
@@ -64,16 +67,17 @@ first_part part bytes =
     rw (some.2) refl
 
 -- the first line, where its LF is there
-pub lines_of-whole : (bytes more : List ℕ) (n : ℕ) → line_end_of bytes ≡ Some n → lines_of (bytes ++ more) ≡ strip_carriage_return (take n bytes) ∷ lines_of (drop (n + 1) bytes ++ more)
+pub lines_of-whole : (bytes more : List ℕ) (n : ℕ) → line_end_of bytes ≡ Some n
+    → lines_of (bytes ++ more) ≡ strip_carriage_return (take n bytes) ∷ lines_of (drop (n + 1) bytes ++ more)
 lines_of-whole bytes more n e =
     let place = position-Some_place is_line_end bytes n e in
     let inside : position_or_len is_line_end bytes < length bytes = omega (arith, place.0, place.1) in
     let at = position_or_len-append_left is_line_end bytes more inside ∙ place.0 in
     let inside_both : position_or_len is_line_end (bytes ++ more) < length (bytes ++ more) = omega (arith, at, place.1, length-append bytes more) in
     let le : n ≤ length bytes = omega (arith, place.1) in
-    let le_behind : n + 1 ≤ length bytes = omega (arith, place.1) in
+    let le_next : n + 1 ≤ length bytes = omega (arith, place.1) in
     let front = ap (λ k. take k (bytes ++ more)) at ∙ take-append-le n bytes more le in
-    let back = ap (λ k. drop (k + 1) (bytes ++ more)) at ∙ drop-append-le (n + 1) bytes more le_behind in
+    let back = ap (λ k. drop (k + 1) (bytes ++ more)) at ∙ drop-append-le (n + 1) bytes more le_next in
     ap lines_of_parts (slice_split_first is_line_end (bytes ++ more) 0 inside_both)
     ∙ ap (λ l. lines_of_parts (l ∷ slice_split is_line_end (after_first is_line_end (bytes ++ more)))) front
     ∙ ap (λ l. lines_of_parts (take n bytes ∷ slice_split is_line_end l)) back
@@ -83,7 +87,8 @@ lines_of-whole bytes more n e =
 pub no_split : (bytes : List ℕ) → line_end_of bytes ≡ None → slice_split is_line_end bytes ≡ bytes ∷ []
 no_split bytes e =
     let none = position-None is_line_end bytes e in
-    slice_split_none is_line_end bytes (λ k d lt. let below : k < position_or_len is_line_end bytes = omega (arith, none, lt) in fails_before_first is_line_end bytes k d below)
+    slice_split_none is_line_end bytes
+    (λ k d lt. let below : k < position_or_len is_line_end bytes = omega (arith, none, lt) in fails_before_first is_line_end bytes k d below)
 
 not_empty : (byte : ℕ) (bytes : List ℕ) → lines_of_parts ((byte ∷ bytes) ∷ []) ≡ (byte ∷ bytes) ∷ []
 not_empty byte bytes = grind arith
@@ -93,7 +98,8 @@ pub lines_of-last : (byte : ℕ) (bytes : List ℕ) → line_end_of (byte ∷ by
 lines_of-last byte bytes e = ap lines_of_parts (no_split (byte ∷ bytes) e) ∙ not_empty byte bytes
 
 -- the place of the first LF, where the first bytes have none
-pub line_end_of-from : (bytes : List ℕ) (start : ℕ) → start ≤ length bytes → line_end_of (take start bytes) ≡ None → line_end_of bytes ≡ option_map (λ n. start + n) (line_end_of (drop start bytes))
+pub line_end_of-from : (bytes : List ℕ) (start : ℕ) → start ≤ length bytes → line_end_of (take start bytes) ≡ None
+    → line_end_of bytes ≡ option_map (λ n. start + n) (line_end_of (drop start bytes))
 line_end_of-from bytes start le none =
     ap line_end_of (sym (take-append-drop start bytes))
     ∙ position-append is_line_end (take start bytes) (drop start bytes) none
@@ -102,55 +108,23 @@ line_end_of-from bytes start le none =
 same_next : (one other : List ℕ × List ℕ) (more : List ℕ) → Some one ≡ Some other → one.0 ∷ lines_of (one.1 ++ more) ≡ other.0 ∷ lines_of (other.1 ++ more)
 same_next one other more e = let same : one ≡ other = cc in ap (λ next. next.0 ∷ lines_of (next.1 ++ more)) same
 
-lines_of-next_last : (ended : Bool) (bytes more : List ℕ) (next : List ℕ × List ℕ) → line_end_of bytes ≡ None → line_up_to None ended bytes ≡ Some next → (IsTrue ended → more ≡ [])
+lines_of-next_last : {next : List ℕ × List ℕ} (ended : Bool) (bytes more : List ℕ) → line_end_of bytes ≡ None → line_up_to None ended bytes ≡ Some next
+    → (IsTrue ended → more ≡ [])
     → lines_of (bytes ++ more) ≡ next.0 ∷ lines_of (next.1 ++ more)
-lines_of-next_last true [] more next none e end = cc
-lines_of-next_last true (byte ∷ bytes) more next none e end =
+lines_of-next_last true [] more none e end = cc
+lines_of-next_last {next} true (byte ∷ bytes) more none e end =
     let no_more : more ≡ [] = end refl in
-    let last : lines_of ((byte ∷ bytes) ++ []) ≡ (byte ∷ bytes) ∷ lines_of ([] ++ []) = ap lines_of (append-nil (byte ∷ bytes)) ∙ lines_of-last byte bytes none in
+    let last : lines_of ((byte ∷ bytes) ++ []) ≡ (byte ∷ bytes) ∷ lines_of ([] ++ []) =
+    ap lines_of (append-nil (byte ∷ bytes)) ∙ lines_of-last byte bytes none in
     rw no_more (last ∙ same_next (byte ∷ bytes, []) next [] e)
-lines_of-next_last false bytes more next none e end = cc
+lines_of-next_last false bytes more none e end = cc
 
 -- the next line is the first of the lines still to come
 pub lines_of-next : (ended : Bool) (bytes more : List ℕ) (next : List ℕ × List ℕ) → next_line ended bytes ≡ Some next → (IsTrue ended → more ≡ [])
     → lines_of (bytes ++ more) ≡ next.0 ∷ lines_of (next.1 ++ more)
 lines_of-next ended bytes more next is end =
-    elim (line_end_of bytes) as (λ o. line_end_of bytes ≡ o → line_up_to o ended bytes ≡ Some next → lines_of (bytes ++ more) ≡ next.0 ∷ lines_of (next.1 ++ more)) [
+    elim (line_end_of bytes) as (λ o. line_end_of bytes ≡ o → line_up_to o ended bytes ≡ Some next
+    → lines_of (bytes ++ more) ≡ next.0 ∷ lines_of (next.1 ++ more)) [
       | Some n ↦ λ at e. lines_of-whole bytes more n at ∙ same_next (strip_carriage_return (take n bytes), drop (n + 1) bytes) next more e
-      | None ↦ λ at e. lines_of-next_last ended bytes more next at e end
+      | None ↦ λ at e. lines_of-next_last ended bytes more at e end
     ] refl is
-
--- two facts about the value of an `Ok` make a third
-pub if_ok_both : {X Y : Type 0} (r : Result X Y) (P Q R : X → Type 0) → ((x : X) → P x → Q x → R x) → IfOk r P → IfOk r Q → IfOk r R
-if_ok_both (Ok x) P Q R f p q = f x p q
-if_ok_both (Err y) P Q R f p q = tt
-
--- what lies in the room after n bytes were put behind the first t
-pub taken_behind : (xs ys post : List ℕ) (t n : ℕ) → t ≤ length xs → n ≤ length ys → take (t + n) (take t xs ++ (ys ++ post)) ≡ take t xs ++ take n ys
-taken_behind xs ys post t n le fits =
-    let len = length-take-le t xs le in
-    ap (λ k. take (k + n) (take t xs ++ (ys ++ post))) (sym len)
-    ∙ take-append-add (take t xs) (ys ++ post) n
-    ∙ ap (λ l. take t xs ++ l) (take-append-le n ys post fits)
-
--- the first bytes of a part
-pub part_front : (xs : List ℕ) (start count stop : ℕ) → start + count ≤ stop → drop start (take (start + count) xs) ≡ take count (drop start (take stop xs))
-part_front xs start count stop le =
-    let behind : count ≤ stop - start = omega arith in
-    let whole : start + (stop - start) ≡ stop = omega arith in
-    drop-take start count xs
-    ∙ sym (take-take count (stop - start) (drop start xs) behind)
-    ∙ ap (take count) (sym (drop-take start (stop - start) xs) ∙ ap (λ k. drop start (take k xs)) whole)
-
--- the lines still to come before and after a line was handed out, in `used` bytes of which `count` are shown
-pub lines_of-handed : (old new : LinesState) (ended : Bool) (bytes : List ℕ) (count used : ℕ) (more : List ℕ)
-    → ended ≡ old.ended → bytes ≡ unread old → next_line ended bytes ≡ Some (take count bytes, drop used bytes)
-    → new.handed ≡ old.handed + used → new.taken ≡ old.taken → (IsTrue old.ended → more ≡ [])
-    → lines_of (unread old ++ more) ≡ take count (unread old) ∷ lines_of (unread new ++ more)
-lines_of-handed old new ended bytes count used more same_end same_bytes next handed taken end =
-    let next' : next_line old.ended (unread old) ≡ Some (take count (unread old), drop used (unread old)) =
-    subst (λ b. next_line b (unread old) ≡ Some (take count (unread old), drop used (unread old))) same_end
-    (subst (λ l. next_line ended l ≡ Some (take count l, drop used l)) same_bytes next) in
-    let behind = drop-drop used old.handed old.taken ∙ ap (λ k. drop k old.taken) (sym handed) ∙ ap (drop new.handed) (sym taken) in
-    lines_of-next old.ended (unread old) more (take count (unread old), drop used (unread old)) next' end
-    ∙ ap (λ l. take count (unread old) ∷ lines_of (l ++ more)) behind

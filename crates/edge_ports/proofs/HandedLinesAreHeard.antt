@@ -1,15 +1,17 @@
--- Lines that are whole, and the lines behind them.
-use Rattle.std.proofs.Common.{◌≡◌, ℕ, ◌+◌, ◌-◌, ◌<◌, ◌≤◌, ◌⊎◌, inl, inr, Bool, true, false, cond, IsTrue, List, [], ◌∷◌, ◌++◌, map, take, drop, length, None, refl, ap, sym, subst, ◌∙◌, arith, suc}
-use Rattle.std.proofs.lemmas.List.{append-nil, append_cancel_right, take-append-drop, take-append-le, length-take-le, length-drop, drop_all, drop-drop, get_or-take, get_or-drop}
+-- The lines handed out are the first of those heard.
+use Rattle.std.proofs.Common.{◌≡◌, ℕ, ◌+◌, ◌-◌, ◌<◌, ◌≤◌, ◌⊎◌, inl, inr, Bool, true, false, cond, IsTrue, List, [], ◌∷◌, ◌++◌, map, take, drop, length, None}
+use Rattle.std.proofs.Common.{Some, refl, ap, sym, ◌∙◌, arith, suc}
+use Rattle.std.proofs.lemmas.List.{append-nil, append_cancel_right, take-append-drop, length-take-le, length-drop, drop_all, drop-drop, get_or-take}
 use Rattle.std.proofs.Math.Seq.{take-add}
 use Rattle.std.specs.List.{slice_split, onto_first, slice_index}
 use Rattle.std.specs.Str.Lines.{lines, lines_of_parts, strip_carriage_return}
-use Rattle.edge_ports.specs.Lines.{is_line_end, line_end_of, lines_of, whole_parts, whole_lines, lines_heard, EndsWhole, LinesState, unread, handed_bytes, handed_lines, IsCutAtLines, IsUsed}
+use Rattle.edge_ports.specs.Lines.{is_line_end, line_end_of, next_line, lines_of, whole_parts, whole_lines, lines_heard, EndsWhole, LinesState, unread}
+use Rattle.edge_ports.specs.Lines.{handed_bytes, handed_lines, IsCutAtLines, IsUsed}
 use Rattle.std.proofs.Math.Dec.{leb}
 use Rattle.std.proofs.lemmas.Bool.{leb-true, leb-false}
-use Rattle.edge_ports.proofs.LinesLemmas.{some_part, no_split}
+use Rattle.edge_ports.proofs.NextLineIsFirst.{some_part, no_split, lines_of-next}
 
--- The parts of bytes that end whole, whatever stands behind them.
+-- The parts of bytes that end whole, whatever comes after them.
 record Parts (bytes : List ℕ) : Type 0 where
   head : List ℕ
   tail : List (List ℕ)
@@ -18,7 +20,8 @@ record Parts (bytes : List ℕ) : Type 0 where
 -- one more byte in front
 longer : (byte : ℕ) (bytes : List ℕ) → Parts bytes → Parts (byte ∷ bytes)
 longer byte bytes p =
-    elim (is_line_end byte) as (λ b. ((more : List ℕ) → slice_split is_line_end ((byte ∷ bytes) ++ more) ≡ cond b ([] ∷ slice_split is_line_end (bytes ++ more)) (onto_first byte (slice_split is_line_end (bytes ++ more)))) → Parts (byte ∷ bytes)) [
+    elim (is_line_end byte) as (λ b. ((more : List ℕ)
+    → slice_split is_line_end ((byte ∷ bytes) ++ more) ≡ cond b ([] ∷ slice_split is_line_end (bytes ++ more)) (onto_first byte (slice_split is_line_end (bytes ++ more)))) → Parts (byte ∷ bytes)) [
       | true ↦ λ e. record { head = []; tail = p.head ∷ p.tail; splits = λ more. e more ∙ ap (λ l. [] ∷ l) (p.splits more) }
       | false ↦ λ e. record { head = byte ∷ p.head; tail = p.tail; splits = λ more. e more ∙ ap (onto_first byte) (p.splits more) }
     ] (λ more. refl)
@@ -36,7 +39,8 @@ parts_of byte (next ∷ bytes) whole =
     (λ some. ap (slice_index (next ∷ bytes)) below ∙ ap (slice_index (byte ∷ next ∷ bytes)) (sym here) ∙ last))
 
 -- all parts but those of the last bytes are lines
-lines_of_parts-append : (parts : List (List ℕ)) (part : List ℕ) (more : List (List ℕ)) → lines_of_parts (parts ++ part ∷ more) ≡ map strip_carriage_return parts ++ lines_of_parts (part ∷ more)
+lines_of_parts-append : (parts : List (List ℕ)) (part : List ℕ) (more : List (List ℕ))
+    → lines_of_parts (parts ++ part ∷ more) ≡ map strip_carriage_return parts ++ lines_of_parts (part ∷ more)
 lines_of_parts-append [] part more = refl
 lines_of_parts-append (x ∷ []) part more = refl
 lines_of_parts-append (x ∷ y ∷ parts) part more = ap (λ l. strip_carriage_return x ∷ l) (lines_of_parts-append (y ∷ parts) part more)
@@ -47,27 +51,32 @@ whole_parts-append (x ∷ []) part = refl
 whole_parts-append (x ∷ y ∷ parts) part = ap (λ l. strip_carriage_return x ∷ l) (whole_parts-append (y ∷ parts) part)
 
 -- the parts of bytes that end whole, or none
-whole_front : (front : List ℕ) → EndsWhole front → (parts : List (List ℕ)) × ((more : List ℕ) → slice_split is_line_end (front ++ more) ≡ parts ++ slice_split is_line_end more)
+whole_front : (front : List ℕ) → EndsWhole front
+    → (parts : List (List ℕ)) × ((more : List ℕ) → slice_split is_line_end (front ++ more) ≡ parts ++ slice_split is_line_end more)
 whole_front [] whole = ([], λ more. refl)
 whole_front (byte ∷ bytes) whole = let p = parts_of byte bytes whole in (p.head ∷ p.tail, p.splits)
 
-lines_of-parts : (front more : List ℕ) (parts : List (List ℕ)) → slice_split is_line_end (front ++ more) ≡ parts ++ slice_split is_line_end more → lines_of (front ++ more) ≡ map strip_carriage_return parts ++ lines_of more
+lines_of-parts : (front more : List ℕ) (parts : List (List ℕ)) → slice_split is_line_end (front ++ more) ≡ parts ++ slice_split is_line_end more
+    → lines_of (front ++ more) ≡ map strip_carriage_return parts ++ lines_of more
 lines_of-parts front more parts splits =
     let some = some_part is_line_end more in
     ap lines_of_parts (splits ∙ ap (λ l. parts ++ l) some.2)
     ∙ lines_of_parts-append parts some.0 some.1
     ∙ ap (λ l. map strip_carriage_return parts ++ lines_of_parts l) (sym some.2)
 
-lines_of-whole_parts : (front : List ℕ) (parts : List (List ℕ)) → ((more : List ℕ) → slice_split is_line_end (front ++ more) ≡ parts ++ slice_split is_line_end more) → lines_of front ≡ map strip_carriage_return parts
-lines_of-whole_parts front parts splits = ap lines_of (sym (append-nil front)) ∙ lines_of-parts front [] parts (splits []) ∙ append-nil (map strip_carriage_return parts)
+lines_of-whole_parts : (front : List ℕ) (parts : List (List ℕ))
+    → ((more : List ℕ) → slice_split is_line_end (front ++ more) ≡ parts ++ slice_split is_line_end more) → lines_of front ≡ map strip_carriage_return parts
+lines_of-whole_parts front parts splits =
+    ap lines_of (sym (append-nil front))
+    ∙ lines_of-parts front [] parts (splits []) ∙ append-nil (map strip_carriage_return parts)
 
--- the lines of whole lines, and of what stands behind them
+-- the lines of whole lines, and of what comes after them
 pub lines_of-append : (front more : List ℕ) → EndsWhole front → lines_of (front ++ more) ≡ lines_of front ++ lines_of more
 lines_of-append front more whole =
     let p = whole_front front whole in
     lines_of-parts front more p.0 (p.1 more) ∙ ap (λ l. l ++ lines_of more) (sym (lines_of-whole_parts front p.0 p.1))
 
--- what stands behind the last LF is no whole line
+-- what comes after the last LF is no whole line
 pub whole_lines-append : (front more : List ℕ) → EndsWhole front → line_end_of more ≡ None → whole_lines (front ++ more) ≡ lines_of front
 whole_lines-append front more whole none =
     let p = whole_front front whole in
@@ -84,101 +93,100 @@ used_whole : (lines : LinesState) (used : ℕ) → IsUsed lines used → EndsWho
 used_whole lines used is =
     let below : used - 1 < used = omega (arith, is.some) in
     elim is.end [
-      | inl at ↦ inl (λ some. ap (λ k. slice_index (take used (unread lines)) (k - 1)) (length-take-le used (unread lines) is.within) ∙ get_or-take used (unread lines) (used - 1) 0 below ∙ at)
+      | inl at ↦ inl (λ some.
+          ap (λ k. slice_index (take used (unread lines)) (k - 1)) (length-take-le used (unread lines) is.within)
+          ∙ get_or-take used (unread lines) (used - 1) 0 below ∙ at)
       | inr all ↦ inr (drop_all used (unread lines) (omega (arith, all.1)))
     ]
 
 reaches : (lines : LinesState) (used : ℕ) → IsUsed lines used → lines.handed + used ≤ length lines.taken
 reaches lines used is = omega (arith, is.some, is.within, length-drop lines.handed lines.taken)
 
--- what was handed out is cut at lines again
-pub cut_after : (lines : LinesState) (used : ℕ) → IsUsed lines used → IsCutAtLines (record lines { handed = lines.handed + used })
-cut_after lines used is = λ room some.
-    let reach = reaches lines used is in
-    let below : lines.handed + used - 1 < lines.handed + used = omega (arith, is.some) in
-    let apart : lines.handed + used - 1 ≡ lines.handed + (used - 1) = omega (arith, is.some) in
-    elim is.end [
-      | inl at ↦
-          ap (λ k. slice_index (take (lines.handed + used) lines.taken) (k - 1)) (length-take-le (lines.handed + used) lines.taken reach)
-          ∙ get_or-take (lines.handed + used) lines.taken (lines.handed + used - 1) 0 below
-          ∙ ap (slice_index lines.taken) apart
-          ∙ sym (get_or-drop lines.handed lines.taken (used - 1) 0)
-          ∙ at
-      | inr all ↦ absurd (omega (arith, room all.0, all.1, length-drop lines.handed lines.taken))
-    ]
+-- One more line was handed out.
+pub record HandsOutNext (old new : LinesState) (line : List ℕ) : Type 0 where
+  pub used : ℕ
+  pub is : IsUsed old used
+  pub next : next_line old.ended (unread old) ≡ Some (line, drop used (unread old))
+  pub handed : new.handed ≡ old.handed + used
+  pub taken : new.taken ≡ old.taken
 
--- it stays so while more is taken
-pub cut_kept : (old new : LinesState) (more : List ℕ) → new.handed ≡ old.handed → new.taken ≡ old.taken ++ more → old.handed ≤ length old.taken → old.ended ≡ false → IsCutAtLines old → IsCutAtLines new
-cut_kept old new more handed taken within not_ended cut = λ room.
-    let same = ap (λ k. take k new.taken) handed ∙ ap (take old.handed) taken ∙ take-append-le old.handed old.taken more within in
-    let whole : EndsWhole (handed_bytes old) = cut (λ ended. let both : true ≡ false = sym ended ∙ not_ended in cc) in
-    subst EndsWhole (sym same) whole
+-- what is unread then
+unread_after : {old new : LinesState} {line : List ℕ} (h : HandsOutNext old new line) → drop h.used (unread old) ≡ unread new
+unread_after {old} {new} h = drop-drop h.used old.handed old.taken ∙ ap (λ k. drop k old.taken) (sym h.handed) ∙ ap (drop new.handed) (sym h.taken)
 
--- one more line was handed out
-pub handed_more : (old new : LinesState) (line : List ℕ) (used : ℕ) → IsUsed old used → IsCutAtLines old → new.handed ≡ old.handed + used → new.taken ≡ old.taken
-    → lines_of (unread old ++ []) ≡ line ∷ lines_of (unread new ++ []) → handed_lines new ≡ handed_lines old ++ line ∷ []
-handed_more old new line used is cut handed taken e =
-    let reach = reaches old used is in
-    let front : EndsWhole (handed_bytes old) = cut (λ ended. omega (arith, reach, is.some)) in
-    let parts = ap (λ k. take k new.taken) handed ∙ ap (take (old.handed + used)) taken ∙ take-add old.handed used old.taken in
-    let behind = ap (λ k. drop k new.taken) handed ∙ ap (drop (old.handed + used)) taken ∙ sym (drop-drop used old.handed old.taken) in
-    let split = ap lines_of (take-append-drop used (unread old) ∙ sym (append-nil (unread old))) ∙ e ∙ ap (λ l. line ∷ lines_of l) (append-nil (unread new) ∙ behind) in
-    let one = one_line (take used (unread old)) (drop used (unread old)) line (used_whole old used is) split in
-    ap lines_of parts ∙ lines_of-append (handed_bytes old) (take used (unread old)) front ∙ ap (λ l. handed_lines old ++ l) one
+-- it was the first of the lines still to come
+pub lines_of-handed : {old new : LinesState} {line : List ℕ} → HandsOutNext old new line → (more : List ℕ) → (IsTrue old.ended → more ≡ [])
+    → lines_of (unread old ++ more) ≡ line ∷ lines_of (unread new ++ more)
+lines_of-handed {old} {new} {line} h more end =
+    lines_of-next old.ended (unread old) more (line, drop h.used (unread old)) h.next end ∙ ap (λ l. line ∷ lines_of (l ++ more)) (unread_after h)
 
--- what a range of the unread bytes says of them
-pub used_of : (lines : LinesState) (ended : Bool) (bytes : List ℕ) (used : ℕ) → ended ≡ lines.ended → bytes ≡ unread lines → 0 < used → used ≤ length bytes
-    → (slice_index bytes (used - 1) ≡ 10) ⊎ (IsTrue ended × (used ≡ length bytes)) → IsUsed lines used
-used_of lines ended bytes used same_end same_bytes some within end = record {
-  some = some;
-  within = omega (arith, within, ap length same_bytes);
-  end = subst (λ b. (slice_index (unread lines) (used - 1) ≡ 10) ⊎ (IsTrue b × (used ≡ length (unread lines)))) same_end
-      (subst (λ l. (slice_index l (used - 1) ≡ 10) ⊎ (IsTrue ended × (used ≡ length l))) same_bytes end);
-}
+-- it is the last of the lines handed out
+pub handed_lines-handed : {old new : LinesState} {line : List ℕ} → HandsOutNext old new line → IsCutAtLines old
+    → handed_lines new ≡ handed_lines old ++ line ∷ []
+handed_lines-handed {old} {new} {line} h cut =
+    let reach = reaches old h.used h.is in
+    let front : EndsWhole (handed_bytes old) = cut (λ ended. omega (arith, reach, h.is.some)) in
+    let parts = ap (λ k. take k new.taken) h.handed ∙ ap (take (old.handed + h.used)) h.taken ∙ take-add old.handed h.used old.taken in
+    let split = ap lines_of (take-append-drop h.used (unread old) ∙ sym (append-nil (unread old)))
+    ∙ lines_of-handed h [] (λ _. refl)
+    ∙ ap (λ l. line ∷ lines_of l) (append-nil (unread new) ∙ sym (unread_after h)) in
+    let one = one_line (take h.used (unread old)) (drop h.used (unread old)) line (used_whole old h.used h.is) split in
+    ap lines_of parts ∙ lines_of-append (handed_bytes old) (take h.used (unread old)) front ∙ ap (λ l. handed_lines old ++ l) one
 
 -- where no whole line is unread, all whole lines were handed out
-pub all_handed : (lines : LinesState) → IsCutAtLines lines → line_end_of (unread lines) ≡ None → lines.ended ≡ false → handed_lines lines ≡ whole_lines lines.taken
+pub all_handed : (lines : LinesState) → IsCutAtLines lines → line_end_of (unread lines) ≡ None → lines.ended ≡ false
+    → handed_lines lines ≡ whole_lines lines.taken
 all_handed lines cut none not_ended =
     let whole : EndsWhole (handed_bytes lines) = cut (λ ended. let both : true ≡ false = sym ended ∙ not_ended in cc) in
     sym (ap whole_lines (sym (take-append-drop lines.handed lines.taken)) ∙ whole_lines-append (handed_bytes lines) (unread lines) whole none)
 
 -- ---- the lines that were heard
 
-whole_parts-more : (parts : List (List ℕ)) (part : List ℕ) (more : List (List ℕ)) → whole_parts (parts ++ part ∷ more) ≡ map strip_carriage_return parts ++ whole_parts (part ∷ more)
+whole_parts-more : (parts : List (List ℕ)) (part : List ℕ) (more : List (List ℕ))
+    → whole_parts (parts ++ part ∷ more) ≡ map strip_carriage_return parts ++ whole_parts (part ∷ more)
 whole_parts-more [] part more = refl
 whole_parts-more (x ∷ []) part more = refl
 whole_parts-more (x ∷ y ∷ parts) part more = ap (λ l. strip_carriage_return x ∷ l) (whole_parts-more (y ∷ parts) part more)
 
-whole_lines-parts : (front more : List ℕ) (parts : List (List ℕ)) → slice_split is_line_end (front ++ more) ≡ parts ++ slice_split is_line_end more → whole_lines (front ++ more) ≡ map strip_carriage_return parts ++ whole_lines more
+whole_lines-parts : (front more : List ℕ) (parts : List (List ℕ)) → slice_split is_line_end (front ++ more) ≡ parts ++ slice_split is_line_end more
+    → whole_lines (front ++ more) ≡ map strip_carriage_return parts ++ whole_lines more
 whole_lines-parts front more parts splits =
     let some = some_part is_line_end more in
     ap whole_parts (splits ∙ ap (λ l. parts ++ l) some.2)
     ∙ whole_parts-more parts some.0 some.1
     ∙ ap (λ l. map strip_carriage_return parts ++ whole_parts l) (sym some.2)
 
--- the whole lines of whole lines, and of what stands behind them
-whole_lines-behind : (front more : List ℕ) → EndsWhole front → whole_lines (front ++ more) ≡ lines_of front ++ whole_lines more
-whole_lines-behind front more whole =
+-- the whole lines of whole lines, and of what comes after them
+whole_lines-whole : (front more : List ℕ) → EndsWhole front → whole_lines (front ++ more) ≡ lines_of front ++ whole_lines more
+whole_lines-whole front more whole =
     let p = whole_front front whole in
     whole_lines-parts front more p.0 (p.1 more) ∙ ap (λ l. l ++ whole_lines more) (sym (lines_of-whole_parts front p.0 p.1))
 
 -- The lines handed out are the first of those heard.
-pub heard_in_order : (lines : LinesState) → lines.handed ≤ length lines.taken → IsCutAtLines lines → lines_heard lines.ended lines.taken ≡ handed_lines lines ++ lines_heard lines.ended (unread lines)
+pub heard_in_order : (lines : LinesState) → lines.handed ≤ length lines.taken → IsCutAtLines lines
+    → lines_heard lines.ended lines.taken ≡ handed_lines lines ++ lines_heard lines.ended (unread lines)
 heard_in_order lines within cut =
     let parts : lines.taken ≡ handed_bytes lines ++ unread lines = sym (take-append-drop lines.handed lines.taken) in
-    ap (lines_heard lines.ended) parts ∙ elim lines.ended as (λ b. ((IsTrue b → lines.handed < length lines.taken) → EndsWhole (handed_bytes lines)) → lines_heard b (handed_bytes lines ++ unread lines) ≡ handed_lines lines ++ lines_heard b (unread lines)) [
+    ap (lines_heard lines.ended) parts
+    ∙ elim lines.ended as (λ b. ((IsTrue b → lines.handed < length lines.taken) → EndsWhole (handed_bytes lines))
+    → lines_heard b (handed_bytes lines ++ unread lines) ≡ handed_lines lines ++ lines_heard b (unread lines)) [
       | true ↦ λ whole. ended (leb (length lines.taken) lines.handed) refl whole
-      | false ↦ λ whole. whole_lines-behind (handed_bytes lines) (unread lines) (whole (λ e. absurd (let x : ⊥ = cc in x)))
+      | false ↦ λ whole. whole_lines-whole (handed_bytes lines) (unread lines) (whole (λ e. absurd (let x : ⊥ = cc in x)))
     ] cut
   where
-    ended : (b : Bool) → leb (length lines.taken) lines.handed ≡ b → ((IsTrue true → lines.handed < length lines.taken) → EndsWhole (handed_bytes lines)) → lines_of (handed_bytes lines ++ unread lines) ≡ handed_lines lines ++ lines_of (unread lines)
+    ended : (b : Bool) → leb (length lines.taken) lines.handed ≡ b
+        → ((IsTrue true → lines.handed < length lines.taken) → EndsWhole (handed_bytes lines))
+        → lines_of (handed_bytes lines ++ unread lines) ≡ handed_lines lines ++ lines_of (unread lines)
     ended true e whole =
         let all : length lines.taken ≤ lines.handed = leb-true _ _ e in
         let none : unread lines ≡ [] = drop_all lines.handed lines.taken all in
-        ap (λ l. lines_of (handed_bytes lines ++ l)) none ∙ ap lines_of (append-nil (handed_bytes lines)) ∙ sym (append-nil (handed_lines lines)) ∙ ap (λ l. handed_lines lines ++ lines_of l) (sym none)
+        ap (λ l. lines_of (handed_bytes lines ++ l)) none
+        ∙ ap lines_of (append-nil (handed_bytes lines))
+        ∙ sym (append-nil (handed_lines lines))
+        ∙ ap (λ l. handed_lines lines ++ lines_of l) (sym none)
     ended false e whole = lines_of-append (handed_bytes lines) (unread lines) (whole (λ _. leb-false _ _ e))
 
--- The parts of some bytes, all but the last of which stay whatever stands behind them.
+-- The parts of some bytes, all but the last of which stay whatever comes after them.
 record Kept (bytes : List ℕ) : Type 0 where
   parts : List (List ℕ)
   last : List ℕ
@@ -187,7 +195,8 @@ record Kept (bytes : List ℕ) : Type 0 where
 
 kept_first : (byte : ℕ) (bytes : List ℕ) (parts : List (List ℕ)) (last : List ℕ) → slice_split is_line_end bytes ≡ parts ++ last ∷ []
     → ((more : List ℕ) → (part : List ℕ) × (others : List (List ℕ)) × (slice_split is_line_end (bytes ++ more) ≡ parts ++ part ∷ others))
-    → (b : Bool) → ((l : List ℕ) → slice_split is_line_end (byte ∷ l) ≡ cond b ([] ∷ slice_split is_line_end l) (onto_first byte (slice_split is_line_end l))) → Kept (byte ∷ bytes)
+    → (b : Bool) → ((l : List ℕ) → slice_split is_line_end (byte ∷ l) ≡ cond b ([] ∷ slice_split is_line_end l) (onto_first byte (slice_split is_line_end l)))
+    → Kept (byte ∷ bytes)
 kept_first byte bytes parts last splits more true step = record {
   parts = [] ∷ parts;
   last = last;
@@ -220,6 +229,10 @@ heard_longer ended bytes more =
     let x = k.longer more in
     let whole : whole_lines bytes ≡ map strip_carriage_return k.parts = ap whole_parts k.splits ∙ whole_parts-append k.parts k.last in
     elim ended as (λ b. (rest : List (List ℕ)) × (lines_heard b (bytes ++ more) ≡ whole_lines bytes ++ rest)) [
-      | true ↦ (lines_of_parts (x.0 ∷ x.1), ap lines_of_parts x.2 ∙ lines_of_parts-append k.parts x.0 x.1 ∙ ap (λ l. l ++ lines_of_parts (x.0 ∷ x.1)) (sym whole))
+      | true ↦ (
+        lines_of_parts (x.0 ∷ x.1),
+        ap lines_of_parts x.2
+            ∙ lines_of_parts-append k.parts x.0 x.1 ∙ ap (λ l. l ++ lines_of_parts (x.0 ∷ x.1)) (sym whole),
+      )
       | false ↦ (whole_parts (x.0 ∷ x.1), ap whole_parts x.2 ∙ whole_parts-more k.parts x.0 x.1 ∙ ap (λ l. l ++ whole_parts (x.0 ∷ x.1)) (sym whole))
     ]

@@ -3,7 +3,7 @@ use Rattle.std.specs.List.{slice_index}
 use Rattle.std.proofs.lemmas.List.Quantifiers.{position-Some}
 use Rattle.std.proofs.lemmas.Bool.Decides.{Decides-eqb}
 use Rattle.edge_ports.specs.Lines.{is_line_end}
-use Rattle.edge_ports.proofs.lines.next_range.Goals as goal
+use Rattle.edge_ports.proofs.lines.line_range.Goals as goal
 
 pub returns-in-Some-clause-end : goal.returns-in-Some-clause-end
 returns-in-Some-clause-end c =
