@@ -1,5 +1,5 @@
 -- Reading one part after the other, as a loop of a program does.
-use Rattle.std.proofs.Common.{◌≡◌, ℕ, Bool, true, false, cond, if◌then◌else◌, List, [], ◌∷◌, ◌++◌, Ok, Err, refl, sym, ap, ◌∙◌, ◌⊎◌, inl, inr}
+use Rattle.std.proofs.Common.{◌≡◌, ℕ, Bool, true, false, cond, if◌then◌else◌, List, [], ◌∷◌, ◌++◌, Ok, Err, refl, sym, ap, ◌∙◌, inl, inr}
 use Rattle.grammar.specs.declared.terminals.Terminal.{Terminal}
 use Rattle.grammar.specs.Terminals.{is, passes}
 use Rattle.grammar.specs.Nodes.{Item, Node, Leaf, Nothing, Pair, row, Step, chain, next, second}
@@ -91,7 +91,7 @@ module _ (t : LevelTables) (sane_rule : (l : Level) → sane (t.rule l) ≡ true
         let turn : read t n (many ks g) l ≡ Ok (Nothing, l) = many_read l ∙ rw h refl in
         sym so_far ∙ ap (with_front front) turn ∙ ap (λ (z : Node). Ok (z, l)) (prepend_row front)
 
-  -- ---- parts behind separators, and an end
+  -- ---- parts after separators, and an end
 
   module _ (separator : Terminal) (ks : List Terminal) (g z : Grammar) (c : closed g ≡ true) (d : closed z ≡ true) where
     abbrev body : Grammar
@@ -100,7 +100,7 @@ module _ (t : LevelTables) (sane_rule : (l : Level) → sane (t.rule l) ≡ true
     series_guarded : guarded body ≡ true
     series_guarded = rw (c, closed_linear z d) refl
 
-    -- what stands behind a separator
+    -- what stands after a separator
     pub behind : List Item → Read
     behind m = cond (passes ks (next m)) (then_pair (read t n g m) (read t n (series separator ks g z))) (read t n z m)
 
@@ -117,14 +117,14 @@ module _ (t : LevelTables) (sane_rule : (l : Level) → sane (t.rule l) ≡ true
         (reads (levels t n) z whole m) (reads (levels t n) z unread m)
         (ap (λ (r : Read). then_pair r whole) (closed_read g c whole m)) (closed_read z d whole m))) refl
 
-    -- whether a separator comes, and behind it what begins a part
+    -- whether a separator comes, and after it what begins a part
     abbrev pub goes_further : List Item → Bool
     goes_further l = if passes (separator ∷ []) (next l) then passes ks (second l) else false
 
     abbrev pub step_rule : Grammar
     step_rule = seq (word separator) g
 
-    -- a separator and the end behind it, or nothing
+    -- a separator and the end after it, or nothing
     abbrev pub end_rule : Grammar
     end_rule = choice (separator ∷ []) (seq (word separator) z) nothing
 

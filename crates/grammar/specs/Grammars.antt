@@ -40,7 +40,7 @@ word k = token (k ∷ [])
 abbrev pub many : List Terminal → Grammar → Grammar
 many ks a = loop (choice ks (seq a again) nothing)
 
--- Parts behind separators: behind a separator stands an a, which begins with one of ks, and the series goes on,
+-- Parts after separators: after a separator stands an a, which begins with one of ks, and the series goes on,
 -- or z, and it ends.
 abbrev pub series : Terminal → List Terminal → Grammar → Grammar → Grammar
 series separator ks a z = loop (choice (separator ∷ []) (seq (word separator) (choice ks (seq a again) z)) nothing)
@@ -67,7 +67,7 @@ IsPair p q (Pair a b) h = p a (ahead (spell b) h) × q b h
 abbrev pub IsNone : Node → Option Terminal → Type 0
 IsNone x h = ⊥
 
--- at most so many rounds of a loop
+-- at most this many rounds of a loop
 abbrev pub rounds : ℕ → ((Node → Option Terminal → Type 0) → Node → Option Terminal → Type 0) → Node → Option Terminal
     → Type 0
 rounds zero f x h = ⊥

@@ -35,7 +35,7 @@ abbrev pub RefusedIsWrong : Type 0
 RefusedIsWrong = (t : LevelTables) (g : Grammar) → IsDecided t g ≡ true → (n : ℕ) (l : List Item) (r : Refusal)
     → read t n g l ≡ Err r → NoneGoesOn (IsFormedBy t n g) l (left_of r)
 
--- nor with one that stands behind a whole tree
+-- nor with one that stands after a whole tree
 abbrev pub SurplusIsWrong : Type 0
 SurplusIsWrong =
     (t : LevelTables) (g : Grammar) → IsDecided t g ≡ true

@@ -25,7 +25,7 @@ use Rattle.grammar_refusals.proofs.Complete.{calm_ahead, brief, has, good, calls
 use Rattle.grammar_refusals.proofs.Complete.{exact_at, freed_at, rounds_exact_at}
 use Rattle.grammar_refusals.proofs.Starting.{Empty, Starting, Begins, empties, starting, none_begins, level_empty_at, level_starts_at}
 
--- a place behind one part stands in one round of a loop
+-- a place after one part stands in one round of a loop
 at_one : (E : Level → Trees) (D : Level → Places) (g : Grammar) (V : Trees) (W : ℕ → Places) (x : Node) (h : Option Terminal) (f : List Item)
     → BeginsIn E D g V (λ x h f. (k : ℕ) × W k x h f) x h f → (k : ℕ) × BeginsIn E D g V (W k) x h f
 at_one E D (token ks) V W x h f r = absurd r

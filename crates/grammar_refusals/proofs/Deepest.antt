@@ -1,22 +1,21 @@
 -- A tree in which a node begins too deep is refused as too deep at that node or before it.
-use Rattle.std.proofs.Common.{◌≡◌, ℕ, zero, suc, ◌≤◌, Bool, true, false, cond, List, [], ◌∷◌, ◌++◌, Option, Some, None, Ok, refl, sym, ap, subst, ◌∙◌}
+use Rattle.std.proofs.Common.{◌≡◌, ℕ, zero, suc, ◌≤◌, Bool, true, false, cond, List, [], ◌++◌, Option, None, Ok, refl, sym, ap, subst, ◌∙◌}
 use Rattle.std.proofs.Common.{append_assoc, inl, inr}
 use Rattle.std.proofs.lemmas.Bool.{and_parts}
 use Rattle.grammar.specs.declared.terminals.Terminal.{Terminal}
-use Rattle.grammar.specs.Terminals.{one_of, passes}
+use Rattle.grammar.specs.Terminals.{passes}
 use Rattle.grammar.specs.Nodes.{Item, Node, Leaf, Nothing, Pair, spell, ahead, next}
 use Rattle.grammar.specs.Grammars.{Level, Grammar, token, nothing, seq, choice, greedy, level, loop, again, IsNone, rounds, FreeIn}
 use Rattle.grammar.specs.Tested.{Is, Within}
 use Rattle.grammar.specs.Reading.{Read, then_pair, unread, turning, reads, levels, read}
-use Rattle.grammar.specs.Deciding.{both, either, guarded, sane, LevelTables, IsDecided, expects, none, nullable, first, decides}
+use Rattle.grammar.specs.Deciding.{guarded, sane, LevelTables, IsDecided, expects, none, nullable, first, decides}
 use Rattle.grammar_refusals.specs.Nesting.{Trees, Places, Nested, IsShaped, nowhere, in_rounds, BeginsIn, BeginsAt, BeginsDeep}
-use Rattle.grammar.proofs.Bools.{both_make, either_left, either_right}
 use Rattle.grammar.proofs.Exact.{ahead_append}
 use Rattle.grammar.proofs.Loops.{Guards, guarded_same, turning_again}
 use Rattle.grammar.proofs.Larger.{IsPart, rounds_map, free_up, all_in}
 use Rattle.grammar.proofs.Somewhere.{at_some, AtSome, nested, whole_nested}
 use Rattle.grammar.proofs.Wholes.{level_shortens, levels_exact}
-use Rattle.grammar.proofs.Decided.{none_begun, none_tested, Allows, Starts, Begun, begun, Tested, tested, allows_up, after, head, gap, seq_parts, choice_parts}
+use Rattle.grammar.proofs.Decided.{none_begun, none_tested, Allows, Begun, begun, Tested, tested, allows_up, after, head, gap, seq_parts, choice_parts}
 use Rattle.grammar.proofs.Decided.{greedy_parts, loop_parts, solid_starts, passes_first, fails_first, allows_append}
 use Rattle.grammar.proofs.LevelsTested.{level_parts, whole_parts, rule_sane}
 use Rattle.grammar_refusals.proofs.ReadOrTooDeep.{DeepIn, Goes, AllGo, first_deep, second_deep, Placed, nested_begun, nested_placed, expected}

@@ -37,7 +37,7 @@ cut (x ∷ l) (suc i) h =
     let c = cut l i (omega arith) in
     record { here = c.here; rest = c.rest; whole = ap (λ (m : List Item). x ∷ m) c.whole; upto = ap (λ (m : List Item). x ∷ m) c.upto; from = c.from }
 
--- behind a front of so many tokens
+-- after a front of this many tokens
 pub record Behind (l front : List Item) (z : Item) (rest : List Item) : Type 0 where
   pub inside : length front < length l
   pub front_is : take (length front) l ≡ front
@@ -90,7 +90,7 @@ module _ (t : LevelTables) (g : Grammar) (ok : IsDecided t g ≡ true) (n : ℕ)
       ap (λ (l : List Item). l ++ z ∷ rest) d.2 ∙ append_assoc a d.1 (z ∷ rest) ∙ ap (λ (l : List Item). l ++ (d.1 ++ z ∷ rest)) (sym same) in
       (a, d.1, d.2, ap (read t n g) list ∙ s.again (d.1 ++ z ∷ rest) at)
 
-  -- the text from a token on that is refused, and is not behind token i
+  -- the text from a token on that is refused, and is not after token i
   pub record DeepUpTo (l : List Item) (i : ℕ) : Type 0 where
     pub front : List Item
     pub here : Item

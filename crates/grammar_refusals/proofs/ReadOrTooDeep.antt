@@ -17,7 +17,7 @@ use Rattle.grammar.proofs.Wholes.{level_shortens, levels_exact}
 use Rattle.grammar.proofs.Decided.{Allows, Starts, Begun, Tested, tested, none_begun, none_tested}
 use Rattle.grammar.proofs.LevelsTested.{level_parts, whole_parts, rule_sane, free_begun}
 
--- reading comes too deep in the tree, behind a front of its tokens
+-- reading comes too deep in the tree, after a front of its tokens
 abbrev pub DeepIn : (List Item → Read) → Node → List Item → Type 0
 DeepIn p x rest = (front : List Item) × (back : List Item) × (spell x ≡ front ++ back) × (p (spell x ++ rest) ≡ Err (Deep (back ++ rest)))
 

@@ -26,7 +26,7 @@ abbrev pub UnfitIsHopeless : Type 0
 UnfitIsHopeless = (t : LevelTables) (g : Grammar) → IsDecided t g ≡ true → (n : ℕ) (l left : List Item)
     → read t n g l ≡ Err (Unfit left) → NoneGoesOn (IsShaped t g) l left
 
--- nor with one that stands behind a whole tree
+-- nor with one that stands after a whole tree
 abbrev pub SurplusIsHopeless : Type 0
 SurplusIsHopeless =
     (t : LevelTables) (g : Grammar) → IsDecided t g ≡ true

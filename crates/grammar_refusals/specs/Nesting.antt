@@ -34,7 +34,7 @@ InPair p q m k Nothing h f = ⊥
 InPair p q m k (Pair a b) h f = (m a (ahead (spell b) h) f × q b h) ⊎
     ((rest : List Item) × (f ≡ spell a ++ rest) × p a (ahead (spell b) h) × k b h rest)
 
--- a place in one of at most so many rounds of a loop
+-- a place in one of at most this many rounds of a loop
 abbrev pub in_rounds : ℕ → (Places → Places) → Places
 in_rounds zero f x h at = ⊥
 in_rounds (suc k) f x h at = f (in_rounds k f) x h at
@@ -57,6 +57,6 @@ unfoldable pub BeginsAt : (Level → Grammar) → ℕ → Level → Places
 BeginsAt rule zero l x h f = (f ≡ []) × Nested rule l x h
 BeginsAt rule (suc n) l x h f = BeginsIn (Nested rule) (BeginsAt rule n) (rule l) IsNone nowhere x h f
 
--- A tree of a whole text in which, behind these tokens, a node of nesting n + 1 begins.
+-- A tree of a whole text in which, after these tokens, a node of nesting n + 1 begins.
 abbrev pub BeginsDeep : LevelTables → ℕ → Grammar → Node → List Item → Type 0
 BeginsDeep t n g x f = BeginsIn (Nested t.rule) (BeginsAt t.rule n) g IsNone nowhere x None f

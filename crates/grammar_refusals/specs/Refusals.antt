@@ -34,7 +34,7 @@ NoneTooDeep t n g text = (i : ℕ) → IsTooDeep t n g text i → ⊥
 abbrev pub IsFirstHopelessBy : LevelTables → ℕ → Grammar → List Item → ℕ → Type 0
 IsFirstHopelessBy t n g text i = NoneTooDeep t n g text × IsLeast (IsHopeless t g text) i
 
--- Reading stops at token i: it is unfit, or stands behind a whole tree.
+-- Reading stops at token i: it is unfit, or stands after a whole tree.
 abbrev pub StopsAt : LevelTables → ℕ → Grammar → List Item → ℕ → Type 0
 StopsAt t n g text i = (read t n g text ≡ Err (Unfit (drop i text))) ⊎
     ((x : Node) × (read t n g text ≡ Ok (x, drop i text)))

@@ -1,5 +1,5 @@
 -- The nodes of blocks.
-use Rattle.std.proofs.Common.{◌≡◌, List, map, refl, ap, ◌∙◌, Vec, Global, Option}
+use Rattle.std.proofs.Common.{◌≡◌, map, refl, Vec, Global, Option}
 use denote.Hole.Carrier.{roll}
 use Rattle.grammar.specs.Nodes.{Pair, row}
 use Rattle.pas_tree.specs.declared.statements.Compound.{Compound}

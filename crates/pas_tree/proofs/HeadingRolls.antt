@@ -1,5 +1,5 @@
 -- The nodes of formal parameter lists.
-use Rattle.std.proofs.Common.{◌≡◌, ℕ, List, map, refl, ap, ◌∙◌, Vec, Global}
+use Rattle.std.proofs.Common.{◌≡◌, ℕ, map, refl, Vec, Global}
 use denote.Hole.Carrier.{roll}
 use Rattle.grammar.specs.declared.terminals.Terminal.TheVariants as k
 use Rattle.grammar.specs.Nodes.{Pair, leaf, row}

@@ -1,5 +1,5 @@
 -- The nodes of statements that hold a vector.
-use Rattle.std.proofs.Common.{◌≡◌, ℕ, List, map, refl, ap, ◌∙◌, Vec, Global, Option}
+use Rattle.std.proofs.Common.{◌≡◌, ℕ, map, refl, Vec, Global, Option}
 use denote.Hole.Carrier.{roll}
 use Rattle.grammar.specs.declared.terminals.Terminal.TheVariants as k
 use Rattle.grammar.specs.Nodes.{Node, Pair, leaf, row, chain}

@@ -3,7 +3,7 @@ use Rattle.std.proofs.Common.{ℕ, Bool, true, false, [], ◌∷◌, Option, Som
 use Rattle.std.specs.Global.{Box}
 use Rattle.grammar.specs.declared.terminals.Terminal.TheVariants as k
 use Rattle.grammar.specs.Nodes.{Pair, leaf}
-use Rattle.grammar.specs.Grammars.{Closer, by_end, by_until, Grammar, statement, level, nothing, word, seq, many, series}
+use Rattle.grammar.specs.Grammars.{Closer, by_end, by_until, Grammar, nothing, word, seq, many, series}
 use Rattle.pas_tree.specs.declared.statements.Plain.{Plain, Empty, Assignment as Assignment', Call, Goto, Compound', If', Case', Repeat', While', For', With'}
 use Rattle.pas_tree.specs.declared.statements.Compound.{Compound, Compound' as CompoundTree'}
 use Rattle.pas_tree.specs.declared.statements.Statements.{Statements, Statements', Row_of-NextStatement, end_of-NextStatement, more_of-NextStatement}

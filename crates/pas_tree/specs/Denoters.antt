@@ -36,7 +36,7 @@ tag_rest_node (Some f) name = Pair (leaf k.Name f.name) (Pair (leaf k.Colon f.co
 abbrev pub tag_node : Tag → Node
 tag_node t = tag_rest_node t.field t.name
 
--- a semicolon behind the last part of a series, if there is one
+-- a semicolon after the last part of a series, if there is one
 abbrev pub last_semicolon_node : Option ℕ → Node
 last_semicolon_node None = Nothing
 last_semicolon_node (Some n) = Pair (leaf k.Semicolon n) Nothing
@@ -69,7 +69,7 @@ abbrev mutual
   fields_node (Fixed' fixed variants last) = fixed_node fixed (next_variants_node variants last)
   fields_node (FieldsVariants' _ variants last) = variants_node variants last
 
-  -- the fixed part, and what stands behind it
+  -- the fixed part, and what stands after it
   pub fixed_node : FixedTree → Node → Node
   fixed_node (FixedTree' names colon denoter _ others) end =
       Pair (Pair (names_node names) (Pair (leaf k.Colon colon) (denoter_node denoter))) (sections_node others end)

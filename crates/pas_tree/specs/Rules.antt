@@ -160,7 +160,7 @@ variants_rule = optional (k.WCase ∷ []) (level variant_part)
 unfoldable pub fixed_rule : Grammar
 fixed_rule = seq section_rule (series k.Semicolon (k.Name ∷ []) section_rule variants_rule)
 
--- A semicolon behind the last section or the last arm belongs to the list of fields; behind an arm it is read with
+-- A semicolon after the last section or the last arm belongs to the list of fields; after an arm it is read with
 -- the variant part.
 unfoldable pub fields_rule : Grammar
 fields_rule = choice (k.Name ∷ []) fixed_rule variants_rule

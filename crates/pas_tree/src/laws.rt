@@ -15,7 +15,7 @@ pub fn one_token_decides()
     ensures { IsDecided pascal program_rule ≡ true }
 {}
 
-/// Every tree's node is a tree of the grammar at some nesting, whichever if its elses belong to.
+/// Each tree's node is a tree of the grammar at some nesting, whichever `if` its `else` parts belong to.
 pub fn trees_fit_the_grammar()
     ensures { (t : Tree) → IsGrammatical rule program_rule (tree_node t) }
 {}
