@@ -25,15 +25,15 @@ heap_end = 1048576
 abbrev pub is_shared : ℕ → ℕ → Bool
 is_shared base addr = nat_lt addr heap_end && (nat_lt addr base || nat_le heap_start addr)
 
--- whether the address is one of a block of this many cells
-abbrev pub is_in_block : ℕ → ℕ → ℕ → Bool
-is_in_block first cells addr = nat_le first addr && nat_lt addr (first + cells)
+-- the change of each address from `first` to below `end`
+abbrev pub changed_block : ℕ → ℕ → Change → ℕ → Option Change
+changed_block first end change addr = if nat_le first addr && nat_lt addr end then Some change else None
 
 -- what a touch leaves the address with, if it is a write there, or makes or drops a block that has it
 abbrev pub change_by : ℕ → Touch → Option Change
 change_by addr (Write at value) = if at == addr then Some (Set value) else None
-change_by addr (Make first cells kind) = if is_in_block first cells addr then Some (Set Undefined) else None
-change_by addr (Drop first cells) = if is_in_block first cells addr then Some Gone else None
+change_by addr (Make first cells kind) = changed_block first (first + cells) (Set Undefined) addr
+change_by addr (Drop first cells) = changed_block first (first + cells) Gone addr
 change_by addr _ = None
 
 -- the value that a touch read at the address
@@ -74,17 +74,20 @@ seen_at addr touches = shown_by addr (before_first (λ touch. is_some (change_by
 unfoldable pub change_at : ℕ → List Touch → Option Change
 change_at addr touches = last_of (filter_map (change_by addr) touches)
 
--- what a function gives at each shared address where it gives something, by rising address
-unfoldable pub listed : {X : Type 0} → ℕ → (ℕ → Option X) → List (ℕ × X)
-listed base f =
-    filter_map (λ addr. if is_shared base addr then option_map (λ x. (addr, x)) (f addr) else None) (range_with_len 0 heap_end)
+-- what a function gives at each address where it gives something, by rising address
+unfoldable pub listed : {X : Type 0} → (ℕ → Option X) → List (ℕ × X)
+listed f = filter_map (λ addr. option_map (λ x. (addr, x)) (f addr)) (range_with_len 0 heap_end)
+
+-- the same of what is shared by a call whose frame begins at `base`
+abbrev pub shared : {X : Type 0} → ℕ → (ℕ → Option X) → ℕ → Option X
+shared base f addr = if is_shared base addr then f addr else None
 
 -- the effect of touches of a call whose frame begins at `base`: what they show, and what they change
 abbrev pub reads_of : ℕ → List Touch → List (ℕ × Seen)
-reads_of base touches = listed base (λ addr. seen_at addr touches)
+reads_of base touches = listed (shared base (λ addr. seen_at addr touches))
 
 abbrev pub changes_of : ℕ → List Touch → List (ℕ × Change)
-changes_of base touches = listed base (λ addr. change_at addr touches)
+changes_of base touches = listed (shared base (λ addr. change_at addr touches))
 
 -- the cells of the blocks that a touch makes
 abbrev pub made_by : Touch → ℕ

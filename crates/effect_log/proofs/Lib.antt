@@ -1,0 +1,5 @@
+mod AsideTouchesStay
+mod BlocksChange
+mod RisingEntriesAreListed
+mod SlicesGoOn
+mod TouchesAddUp

@@ -1,0 +1,184 @@
+-- What is found in touches, one more touch at a time.
+use Rattle.std.proofs.Common.{◌≡◌, ℕ, ◌<◌, ◌≤◌, ◌+◌, List, [], ◌∷◌, ◌++◌, Option, Some, None, refl, ap, sym, ◌∙◌, arith, true, false, cond, Bool, max, inl, inr, ◌⊎◌, take}
+use Rattle.std.proofs.Common.{zero-add}
+use Rattle.std.proofs.Math.Numerals.{one-add}
+use Rattle.std.specs.Prelude.{is_some, not, fold, map, sum_by, option_to_list}
+use Rattle.std.specs.BTreeMap.{BTreeMap}
+use Rattle.std.specs.BTreeMap as tree
+use Rattle.std.specs.Map.{lookup}
+use Rattle.std.specs.Ordering.{nat_cmp}
+use Rattle.std.specs.List.{before_first, cons_option, filter_map, position_or_len, prefix_len}
+use Rattle.effect_log.proofs.BlocksChange.{nothing_seen}
+use Rattle.std.proofs.lemmas.List.{append-nil, map-append}
+use Rattle.std.proofs.lemmas.List.Elements.{filter_map-append}
+use Rattle.std.proofs.lemmas.List.Sums.{fold-append, sum_by-append}
+use Rattle.cell_value.specs.declared.values.Value.{Value}
+use Rattle.cell_value.specs.declared.entries.Touch.{Touch}
+use Rattle.cell_value.specs.declared.entries.Touch.TheVariants.{Read, Has, Write, Make, Drop, Look, Take, Give}
+use Rattle.cell_value.specs.declared.entries.Seen.{Seen}
+use Rattle.cell_value.specs.declared.entries.Seen.TheVariants.{Held, There, Absent}
+use Rattle.cell_value.specs.declared.entries.Change.{Change}
+use Rattle.cell_value.specs.Effects.{asked_by, byte_by, change_at, change_by, first_of, given_of, is_shared, last_of, looked_by, looked_of, made_by, made_of, read_by, seen_at, seen_by, shared, shown_by, taken_by, taken_of}
+use Rattle.effect_log.specs.declared.found.Found.{Found}
+use Rattle.effect_log.specs.Passing.{ChangesBy, IsFound, Sees, TakesIn, found_at, later, seen_next}
+
+-- ---- the last and the first of a list with one more element, or none more
+last_snoc : {X : Type 0} (xs : List X) (y : X) → last_of (xs ++ y ∷ []) ≡ Some y
+last_snoc [] y = refl
+last_snoc (x ∷ []) y = refl
+last_snoc (x ∷ z ∷ xs) y = last_snoc (z ∷ xs) y
+
+last_more : {X : Type 0} (xs : List X) (o : Option X) → last_of (xs ++ cons_option o []) ≡ later o (last_of xs)
+last_more xs (Some y) = last_snoc xs y
+last_more xs None = ap last_of (append-nil xs)
+
+abbrev sooner : {X : Type 0} → Option X → Option X → Option X
+sooner (Some x) o = Some x
+sooner None o = o
+
+first_more : {X : Type 0} (xs : List X) (o : Option X) → first_of (xs ++ cons_option o []) ≡ sooner (first_of xs) o
+first_more [] (Some y) = refl
+first_more [] None = refl
+first_more (x ∷ xs) o = refl
+
+last_there : {X : Type 0} (x : X) (xs : List X) → last_of (x ∷ xs) ≡ None → ⊥
+last_there x [] e = cc
+last_there x (y ∷ ys) e = last_there y ys e
+
+-- the touches before the first that changes, where the first of all changes or not
+module _ {T C : Type 0} (h : T → Option C) where
+  abbrev changes : T → Bool
+  changes t = is_some (h t)
+
+  before_changing : (t : T) (ts : List T) (c : C) → h t ≡ Some c → before_first changes (t ∷ ts) ≡ []
+  before_changing t ts c e = ap (λ o. take (cond (not (is_some o)) (1 + prefix_len (λ x. not (changes x)) ts) 0) (t ∷ ts)) e
+
+  before_other : (t : T) (ts : List T) → h t ≡ None → before_first changes (t ∷ ts) ≡ t ∷ before_first changes ts
+  before_other t ts e =
+      ap (λ o. take (cond (not (is_some o)) (1 + prefix_len (λ x. not (changes x)) ts) 0) (t ∷ ts)) e
+      ∙ ap (λ n. take n (t ∷ ts)) (one-add (prefix_len (λ x. not (changes x)) ts))
+
+  kept_other : (t : T) (ts : List T) → h t ≡ None → filter_map h (t ∷ ts) ≡ filter_map h ts
+  kept_other t ts e = ap (λ o. cons_option o (filter_map h ts)) e
+
+  kept_changing : (t : T) (ts : List T) (c : C) → h t ≡ Some c → filter_map h (t ∷ ts) ≡ c ∷ filter_map h ts
+  kept_changing t ts c e = ap (λ o. cons_option o (filter_map h ts)) e
+
+  option_cases : (o : Option C) → ((c : C) × (o ≡ Some c)) ⊎ (o ≡ None)
+  option_cases (Some c) = inl (c, refl)
+  option_cases None = inr refl
+
+  -- with no change so far all touches count, and so does one more that does not change
+  all_before : (ts : List T) → last_of (filter_map h ts) ≡ None → before_first changes ts ≡ ts
+  all_before [] e = refl
+  all_before (t ∷ ts) e = elim (option_cases (h t)) [
+    | inl w ↦ absurd (last_there w.0 (filter_map h ts) (ap last_of (sym (kept_changing t ts w.0 w.1)) ∙ e))
+    | inr none ↦ before_other t ts none ∙ ap (λ xs. t ∷ xs) (all_before ts (ap last_of (sym (kept_other t ts none)) ∙ e))
+  ]
+
+  before_none : (ts : List T) (t : T) → last_of (filter_map h ts) ≡ None → before_first changes (ts ++ t ∷ []) ≡ ts ++ before_first changes (t ∷ [])
+  before_none [] t e = refl
+  before_none (s ∷ ts) t e = elim (option_cases (h s)) [
+    | inl w ↦ absurd (last_there w.0 (filter_map h ts) (ap last_of (sym (kept_changing s ts w.0 w.1)) ∙ e))
+    | inr none ↦ before_other s (ts ++ t ∷ []) none ∙ ap (λ xs. s ∷ xs) (before_none ts t (ap last_of (sym (kept_other s ts none)) ∙ e))
+  ]
+
+  -- after a change no more counts
+  before_some : (ts : List T) (t : T) (c : C) → last_of (filter_map h ts) ≡ Some c → before_first changes (ts ++ t ∷ []) ≡ before_first changes ts
+  before_some [] t c e = cc
+  before_some (s ∷ ts) t c e = elim (option_cases (h s)) [
+    | inl w ↦ before_changing s (ts ++ t ∷ []) w.0 w.1 ∙ sym (before_changing s ts w.0 w.1)
+    | inr none ↦ before_other s (ts ++ t ∷ []) none ∙ ap (λ xs. s ∷ xs) (before_some ts t c (ap last_of (sym (kept_other s ts none)) ∙ e)) ∙ sym (before_other s ts none)
+  ]
+
+-- ---- one address
+
+-- a touch that changes an address neither reads it nor asks for it
+changing_reads_not : (addr : ℕ) (t : Touch) (c : Change) → change_by addr t ≡ Some c → (read_by addr t ≡ None) × (asked_by addr t ≡ None)
+changing_reads_not addr (Read at value) c e = cc
+changing_reads_not addr (Has at there) c e = cc
+changing_reads_not addr (Write at value) c e = (refl, refl)
+changing_reads_not addr (Make first cells kind) c e = (refl, refl)
+changing_reads_not addr (Drop first cells) c e = (refl, refl)
+changing_reads_not addr (Look at) c e = cc
+changing_reads_not addr (Take items) c e = cc
+changing_reads_not addr (Give byte) c e = cc
+
+seen_more : (f : Option Value) (a : Option Bool) (read : Option Value) (asked : Option Bool) → seen_by (sooner f read) (sooner a asked) ≡ seen_next None (seen_by f a) read asked
+seen_more (Some v) a read asked = refl
+seen_more None (Some true) (Some w) asked = refl
+seen_more None (Some true) None asked = refl
+seen_more None (Some false) (Some w) asked = refl
+seen_more None (Some false) None asked = refl
+seen_more None None (Some w) asked = refl
+seen_more None None None asked = refl
+
+-- what touches show with one more that does not change the address
+shown_more : (addr : ℕ) (ts : List Touch) (t : Touch) → shown_by addr (ts ++ t ∷ []) ≡ seen_next None (shown_by addr ts) (read_by addr t) (asked_by addr t)
+shown_more addr ts t =
+    let reads : first_of (filter_map (read_by addr) (ts ++ t ∷ [])) ≡ sooner (first_of (filter_map (read_by addr) ts)) (read_by addr t) = ap first_of (filter_map-append (read_by addr) ts (t ∷ [])) ∙ first_more (filter_map (read_by addr) ts) (read_by addr t) in
+    let asks : first_of (filter_map (asked_by addr) (ts ++ t ∷ [])) ≡ sooner (first_of (filter_map (asked_by addr) ts)) (asked_by addr t) = ap first_of (filter_map-append (asked_by addr) ts (t ∷ [])) ∙ first_more (filter_map (asked_by addr) ts) (asked_by addr t) in
+    ap (λ r. seen_by r (first_of (filter_map (asked_by addr) (ts ++ t ∷ [])))) reads ∙ ap (seen_by (sooner (first_of (filter_map (read_by addr) ts)) (read_by addr t))) asks
+    ∙ seen_more (first_of (filter_map (read_by addr) ts)) (first_of (filter_map (asked_by addr) ts)) (read_by addr t) (asked_by addr t)
+
+change_more : (addr : ℕ) (ts : List Touch) (t : Touch) → change_at addr (ts ++ t ∷ []) ≡ later (change_by addr t) (change_at addr ts)
+unfolding change_at
+change_more addr ts t = ap last_of (filter_map-append (change_by addr) ts (t ∷ [])) ∙ last_more (filter_map (change_by addr) ts) (change_by addr t)
+
+seen_at_more : (addr : ℕ) (ts : List Touch) (t : Touch) → seen_at addr (ts ++ t ∷ []) ≡ seen_next (change_at addr ts) (seen_at addr ts) (read_by addr t) (asked_by addr t)
+unfolding seen_at change_at
+seen_at_more addr ts t = elim (option_cases (change_by addr) (last_of (filter_map (change_by addr) ts))) [
+  | inl w ↦
+      ap (shown_by addr) (before_some (change_by addr) ts t w.0 w.1)
+      ∙ ap (λ o. seen_next o (shown_by addr (before_first (changes (change_by addr)) ts)) (read_by addr t) (asked_by addr t)) (sym w.1)
+  | inr none ↦
+      let before : before_first (changes (change_by addr)) ts ≡ ts = all_before (change_by addr) ts none in
+      let more = ap (shown_by addr) (before_none (change_by addr) ts t none) in
+      let last : shown_by addr (ts ++ before_first (changes (change_by addr)) (t ∷ [])) ≡ seen_next None (shown_by addr ts) (read_by addr t) (asked_by addr t) = elim (option_cases (change_by addr) (change_by addr t)) [
+        | inl w ↦
+            let not_read = changing_reads_not addr t w.0 w.1 in
+            ap (λ xs. shown_by addr (ts ++ xs)) (before_changing (change_by addr) t [] w.0 w.1) ∙ ap (shown_by addr) (append-nil ts)
+            ∙ nothing_seen None (shown_by addr ts)
+            ∙ ap (λ r. seen_next None (shown_by addr ts) r None) (sym not_read.0) ∙ ap (seen_next None (shown_by addr ts) (read_by addr t)) (sym not_read.1)
+        | inr none_here ↦ ap (λ xs. shown_by addr (ts ++ xs)) (before_other (change_by addr) t [] none_here) ∙ shown_more addr ts t
+      ] in
+      more ∙ last
+      ∙ ap (λ xs. seen_next None (shown_by addr xs) (read_by addr t) (asked_by addr t)) (sym before)
+      ∙ ap (λ o. seen_next o (shown_by addr (before_first (changes (change_by addr)) ts)) (read_by addr t) (asked_by addr t)) (sym none)
+]
+
+-- ---- all that is found
+
+under_test : {X : Type 0} (b : Bool) (was now : Option X) (step : Option X → Option X) → was ≡ cond b now None → cond b (step was) was ≡ cond b (step now) None
+under_test true was now step e = ap step e
+under_test false was now step e = e
+
+under_both : {X Y : Type 0} (b : Bool) (other other_now : Option Y) (was now : Option X) (step : Option Y → Option X → Option X) → other ≡ cond b other_now None → was ≡ cond b now None → cond b (step other was) was ≡ cond b (step other_now now) None
+under_both true other other_now was now step d e = ap (λ o. step o was) d ∙ ap (step other_now) e
+under_both false other other_now was now step d e = e
+
+looked_more : (place : ℕ) (ts : List Touch) (t : Touch) → looked_of place (ts ++ t ∷ []) ≡ max (looked_of place ts) (looked_by place t)
+looked_more place ts t = ap (fold max 0) (map-append (looked_by place) ts (t ∷ [])) ∙ fold-append max 0 (map (looked_by place) ts) (looked_by place t ∷ [])
+
+pub sum_more : (f : Touch → ℕ) (ts : List Touch) (t : Touch) → sum_by f (ts ++ t ∷ []) ≡ sum_by f ts + f t
+sum_more f ts t = sum_by-append f ts (t ∷ []) ∙ ap (λ n. sum_by f ts + n) (zero-add (f t))
+
+one_option : {X : Type 0} (o : Option X) → cons_option o [] ≡ option_to_list o
+one_option (Some x) = refl
+one_option None = refl
+
+pub one_more_found : (base place : ℕ) (ts : List Touch) (t : Touch) (old new : Found) → IsFound base place ts old → TakesIn base place t old new → IsFound base place (ts ++ t ∷ []) new
+one_more_found base place ts t old new found takes = record {
+  reads = λ addr.
+      takes.reads.at addr
+      ∙ under_both (is_shared base addr) (found_at old.changes addr) (change_at addr ts) (found_at old.reads addr) (seen_at addr ts) (λ c s. seen_next c s (read_by addr t) (asked_by addr t)) (found.changes addr) (found.reads addr)
+      ∙ ap (λ s. cond (is_shared base addr) s None) (sym (seen_at_more addr ts t));
+  changes = λ addr.
+      takes.changes.at addr
+      ∙ under_test (is_shared base addr) (found_at old.changes addr) (change_at addr ts) (later (change_by addr t)) (found.changes addr)
+      ∙ ap (λ s. cond (is_shared base addr) s None) (sym (change_more addr ts t));
+  made = takes.made ∙ ap (λ n. n + made_by t) found.made ∙ sym (sum_more made_by ts t);
+  looked = takes.looked ∙ ap (λ n. max n (looked_by place t)) found.looked ∙ sym (looked_more place ts t);
+  taken = takes.taken ∙ ap (λ n. n + taken_by t) found.taken ∙ sym (sum_more taken_by ts t);
+  given = takes.given ∙ ap (λ bs. bs ++ option_to_list (byte_by t)) found.given ∙ ap (λ bs. given_of ts ++ bs) (sym (one_option (byte_by t))) ∙ sym (filter_map-append byte_by ts (t ∷ []));
+}
