@@ -1,4 +1,4 @@
--- What stands behind the sections of a fixed part, as a node.
+-- What stands after the sections of a fixed part, as a node.
 use Rattle.grammar.specs.declared.terminals.Terminal.TheVariants as k
 use Rattle.grammar.specs.Nodes.{Node, Nothing, Pair, leaf}
 use Rattle.pas_tree.specs.Denoters.{some_variants_node}

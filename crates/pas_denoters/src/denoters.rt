@@ -26,7 +26,7 @@ use pas_tree::denoters::{
 };
 use std::alloc::Global;
 
-/// What stands behind the sections of a fixed part.
+/// What stands after the sections of a fixed part.
 #[derive(Drop)]
 pub enum SectionsEnd {
     Nothing,
@@ -36,7 +36,7 @@ pub enum SectionsEnd {
 
 /// Reads a type denoter, in which `depth` more levels may be nested.
 #[cycle(denoters)]
-#[tactic(auto, unfolding(grammar::specs::Reading::read, grammar::specs::Reading::levels))]
+#[tactic(auto, unfolding(grammar::specs::Reading::read, grammar::specs::Reading::levels, pas_tree::specs::Rules::denoter_rule))]
 pub fn read_denoter(
     alloc: Global,
     tokens: &TerminalList,
@@ -52,20 +52,7 @@ pub fn read_denoter(
         }
         return Err(ParseFault::NotProgram(at));
     }
-    read_inner_denoter(alloc, tokens, at, depth - 1)
-}
-
-#[cycle(denoters)]
-#[tactic(auto, unfolding(grammar::specs::Reading::read, pas_tree::specs::Rules::denoter_rule))]
-fn read_inner_denoter(
-    alloc: Global,
-    tokens: &TerminalList,
-    at: u32,
-    depth: u32,
-) -> Result<(Denoter, u32), ParseFault>
-    ensures gives { ReadsAs tokens.now denoter_node result (read pascal depth denoter_rule (items_from tokens.now at)) }
-    ensures forward { IfOk result (λ x. at ≤ x.1) }
-{
+    let depth = depth - 1;
     if tokens.is_next(at, Terminal::Name) {
         return read_named_denoter(tokens, at, depth);
     }
@@ -85,7 +72,11 @@ fn read_inner_denoter(
 }
 
 #[tactic(auto, unfolding(grammar::specs::Reading::read, pas_tree::specs::Rules::named_denoter_rule, pas_tree::specs::Rules::range_rule))]
-fn read_named_denoter(tokens: &TerminalList, at: u32, depth: u32) -> Result<(Denoter, u32), ParseFault>
+fn read_named_denoter(
+    tokens: &TerminalList,
+    at: u32,
+    depth: u32,
+) -> Result<(Denoter, u32), ParseFault>
     ensures gives { ReadsAs tokens.now denoter_node result (read pascal depth named_denoter_rule (items_from tokens.now at)) }
     ensures forward { IfOk result (λ x. at < x.1) }
 {
@@ -155,7 +146,7 @@ fn read_structured(
 }
 
 #[cycle(denoters)]
-#[tactic(auto, unfolding(grammar::specs::Reading::read, pas_tree::specs::Rules::structure_rule))]
+#[tactic(auto, unfolding(grammar::specs::Reading::read, pas_tree::specs::Rules::structure_rule, pas_tree::specs::Rules::record_rule, pas_tree::specs::Rules::set_rule))]
 fn read_structure(
     alloc: Global,
     tokens: &TerminalList,
@@ -170,11 +161,16 @@ fn read_structure(
         return Ok((Structure::Array(array), after));
     }
     if tokens.is_next(at, Terminal::WRecord) {
-        let (record, after) = read_record(alloc, tokens, at, depth)?;
+        let (word, after) = tokens.expect(at, Terminal::WRecord)?;
+        let (fields, after) = read_fields(alloc, tokens, after, depth)?;
+        let (end, after) = tokens.expect(after, Terminal::WEnd)?;
+        let record = RecordDenoter { word, fields, end };
         return Ok((Structure::Record(record), after));
     }
-    let (set, after) = read_set(alloc, tokens, at, depth)?;
-    Ok((Structure::Set(set), after))
+    let (word, after) = tokens.expect(at, Terminal::WSet)?;
+    let (of, after) = tokens.expect(after, Terminal::WOf)?;
+    let (base, after) = read_denoter(alloc, tokens, after, depth)?;
+    Ok((Structure::Set(SetDenoter { word, of, base }), after))
 }
 
 #[cycle(denoters)]
@@ -208,6 +204,7 @@ fn read_array(
 }
 
 #[cycle(denoters)]
+#[tactic(auto, using(pas_phrases::proofs::ReadLists::list_reading, pas_tree::proofs::Parts::parts))]
 fn read_next_denoters(
     alloc: Global,
     tokens: &TerminalList,
@@ -241,40 +238,6 @@ fn read_next_denoter(
     let (comma, after) = tokens.expect(at, Terminal::Comma)?;
     let (denoter, after) = read_denoter(alloc, tokens, after, depth)?;
     Ok((NextDenoter { comma, denoter }, after))
-}
-
-#[cycle(denoters)]
-#[tactic(auto, unfolding(grammar::specs::Reading::read, pas_tree::specs::Rules::record_rule))]
-fn read_record(
-    alloc: Global,
-    tokens: &TerminalList,
-    at: u32,
-    depth: u32,
-) -> Result<(RecordDenoter, u32), ParseFault>
-    ensures gives { ReadsAs tokens.now record_node result (read pascal depth record_rule (items_from tokens.now at)) }
-    ensures forward { IfOk result (λ x. at < x.1) }
-{
-    let (word, after) = tokens.expect(at, Terminal::WRecord)?;
-    let (fields, after) = read_fields(alloc, tokens, after, depth)?;
-    let (end, after) = tokens.expect(after, Terminal::WEnd)?;
-    Ok((RecordDenoter { word, fields, end }, after))
-}
-
-#[cycle(denoters)]
-#[tactic(auto, unfolding(grammar::specs::Reading::read, pas_tree::specs::Rules::set_rule))]
-fn read_set(
-    alloc: Global,
-    tokens: &TerminalList,
-    at: u32,
-    depth: u32,
-) -> Result<(SetDenoter, u32), ParseFault>
-    ensures gives { ReadsAs tokens.now set_node result (read pascal depth set_rule (items_from tokens.now at)) }
-    ensures forward { IfOk result (λ x. at < x.1) }
-{
-    let (word, after) = tokens.expect(at, Terminal::WSet)?;
-    let (of, after) = tokens.expect(after, Terminal::WOf)?;
-    let (base, after) = read_denoter(alloc, tokens, after, depth)?;
-    Ok((SetDenoter { word, of, base }, after))
 }
 
 #[cycle(denoters)]
@@ -409,7 +372,7 @@ fn read_sections_end(
 }
 
 #[cycle(denoters)]
-#[tactic(auto, using(crate::proofs::Expected::expects_variants), unfolding(grammar::specs::Reading::read, grammar::specs::Reading::levels))]
+#[tactic(auto, using(crate::proofs::VariantStarts::expects_variants, pas_tree::proofs::DenoterRolls::variants_rolled), unfolding(grammar::specs::Reading::read, grammar::specs::Reading::levels, pas_tree::specs::Rules::variant_part_rule))]
 fn read_variants(
     alloc: Global,
     tokens: &TerminalList,
@@ -425,20 +388,7 @@ fn read_variants(
         }
         return Err(ParseFault::NotProgram(at));
     }
-    read_inner_variants(alloc, tokens, at, depth - 1)
-}
-
-#[cycle(denoters)]
-#[tactic(auto, using(pas_tree::proofs::DenoterRolls::variants_rolled), unfolding(grammar::specs::Reading::read, pas_tree::specs::Rules::variant_part_rule))]
-fn read_inner_variants(
-    alloc: Global,
-    tokens: &TerminalList,
-    at: u32,
-    depth: u32,
-) -> Result<((Variants, Option<u32>), u32), ParseFault>
-    ensures gives { ReadsAs tokens.now (λ p. variants_node p.0 p.1) result (read pascal depth variant_part_rule (items_from tokens.now at)) }
-    ensures forward { IfOk result (λ x. at < x.1) }
-{
+    let depth = depth - 1;
     let (word, after) = tokens.expect(at, Terminal::WCase)?;
     let (tag, after) = read_tag(tokens, after, depth)?;
     let (of, after) = tokens.expect(after, Terminal::WOf)?;
@@ -513,7 +463,7 @@ fn read_arms(
         others.push(other)?;
         next = after;
     }
-    let (end, after) = read_last_semicolon(tokens, next)?;
+    let (end, after) = read_last_semicolon(tokens, next, depth)?;
     Ok(((others, end), after))
 }
 

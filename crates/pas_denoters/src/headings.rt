@@ -23,7 +23,7 @@ use std::alloc::Global;
 
 /// Reads a heading, in which `depth` more levels may be nested.
 #[cycle(headings)]
-#[tactic(auto, unfolding(grammar::specs::Reading::read, grammar::specs::Reading::levels))]
+#[tactic(auto, unfolding(grammar::specs::Reading::read, grammar::specs::Reading::levels, pas_tree::specs::Rules::heading_rule))]
 pub fn read_heading(
     alloc: Global,
     tokens: &TerminalList,
@@ -39,20 +39,7 @@ pub fn read_heading(
         }
         return Err(ParseFault::NotProgram(at));
     }
-    read_inner_heading(alloc, tokens, at, depth - 1)
-}
-
-#[cycle(headings)]
-#[tactic(auto, unfolding(grammar::specs::Reading::read, pas_tree::specs::Rules::heading_rule))]
-fn read_inner_heading(
-    alloc: Global,
-    tokens: &TerminalList,
-    at: u32,
-    depth: u32,
-) -> Result<(Heading, u32), ParseFault>
-    ensures gives { ReadsAs tokens.now heading_node result (read pascal depth heading_rule (items_from tokens.now at)) }
-    ensures forward { IfOk result (λ x. at < x.1) }
-{
+    let depth = depth - 1;
     if tokens.is_next(at, Terminal::WProcedure) {
         let (procedure, after) = read_procedure(alloc, tokens, at, depth)?;
         return Ok((Heading::Procedure(procedure), after));
@@ -171,6 +158,7 @@ fn read_formals(
 }
 
 #[cycle(headings)]
+#[tactic(auto, using(pas_phrases::proofs::ReadLists::list_reading, pas_tree::proofs::Parts::parts))]
 fn read_next_formals(
     alloc: Global,
     tokens: &TerminalList,

@@ -12,7 +12,6 @@ use Rattle.pas_tree.proofs.Decided.{pascal_sane}
 use Rattle.pas_phrases.specs.declared.fault.ParseFault.{ParseFault}
 use Rattle.pas_phrases.specs.declared.fault.ParseFault.TheVariants.{NotProgram, TooDeep, Memory}
 use Rattle.pas_phrases.specs.Items.{Fails, goes_further}
-use Rattle.pas_phrases.proofs.Failures.{handed_on}
 
 -- parts g after separators that lead to one of ks, and an end z
 pub record Series : Type 0 where
@@ -62,6 +61,3 @@ pub series_read : {X : Type 0} {step : X → Step} {n : ℕ} {q : Series} {xs : 
     → SeriesSoFar step n q xs l whole → goes_further q.separator q.starts l ≡ false → read pascal n (end_of q) l ≡ Ok (end, rest) → whole ≡ Ok (chain (map step xs) end, rest)
 series_read {X} {step} {n} {q} {xs} {l} {rest} {whole} {end} s h e =
     steps_done pascal pascal_sane n q.separator q.starts q.part q.end q.part_closed q.end_closed (map step xs) l end rest whole h e s.same
-
--- what a loop that reads a series is proved by
-pub ruleset series_reading = (series_more, series_fails, series_end_fails, series_read, handed_on)

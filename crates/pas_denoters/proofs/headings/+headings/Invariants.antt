@@ -1,43 +1,40 @@
-use Rattle.std.proofs.Common.{◌≡◌, ◌≤◌, ◌+◌, ◌∷◌, [], map, length, ◌-◌, ◌*◌}
+use Rattle.std.proofs.Common.{◌≤◌, ◌+◌, ◌∷◌, [], length, ◌-◌, ◌*◌}
 use Rattle.grammar.specs.declared.terminals.Terminal.TheVariants as k
 use Rattle.grammar.specs.Grammars.{many}
 use Rattle.grammar.specs.Reading.{read}
-use Rattle.grammar.proofs.Lists.{with_front}
 use Rattle.pas_tree.specs.FirstFollow.{pascal}
-use Rattle.pas_phrases.specs.Items.{items_from}
 use Rattle.pas_tree.specs.Headings.{next_formal_node}
 use Rattle.pas_tree.specs.Rules.{next_formal_rule}
+use Rattle.pas_phrases.specs.Items.{items_from}
+use Rattle.pas_phrases.proofs.ReadLists.{ListSoFar}
 use Rattle.pas_denoters.proofs.headings.+headings.Given as goal
 
 abbrev pub invariant-read_next_formals-formals : goal.invariant-read_next_formals-formals
 invariant-read_next_formals-formals l = record {
-  so_far : with_front (map next_formal_node l.others.items) (read pascal l.depth (many (k.Semicolon ∷ []) next_formal_rule) (items_from l.tokens l.next)) ≡ read pascal l.depth (many (k.Semicolon ∷ []) next_formal_rule) (items_from l.tokens l.at);
+  so_far : ListSoFar next_formal_node l.depth (k.Semicolon ∷ []) next_formal_rule l.others.items (items_from l.tokens l.next) (read pascal l.depth (many (k.Semicolon ∷ []) next_formal_rule) (items_from l.tokens l.at));
   forward : l.at ≤ l.next;
 }
 
 abbrev pub decreases-read_next_formals-formals : goal.decreases-read_next_formals-formals
 decreases-read_next_formals-formals l = length l.tokens - l.next
 
-abbrev pub decreases-read_heading : goal.decreases-read_heading
-decreases-read_heading l = 64 * l.depth + 0
-
-abbrev pub decreases-read_inner_heading : goal.decreases-read_inner_heading
-decreases-read_inner_heading l = 64 * l.depth + 50
-
 abbrev pub decreases-read_procedure : goal.decreases-read_procedure
-decreases-read_procedure l = 64 * l.depth + 48
+decreases-read_procedure l = 32 * l.depth + 6
 
 abbrev pub decreases-read_function : goal.decreases-read_function
-decreases-read_function l = 64 * l.depth + 48
+decreases-read_function l = 32 * l.depth + 5
 
 abbrev pub decreases-read_formals : goal.decreases-read_formals
-decreases-read_formals l = 64 * l.depth + 40
+decreases-read_formals l = 32 * l.depth + 4
 
 abbrev pub decreases-read_next_formals : goal.decreases-read_next_formals
-decreases-read_next_formals l = 64 * l.depth + 36
+decreases-read_next_formals l = 32 * l.depth + 3
 
 abbrev pub decreases-read_next_formal : goal.decreases-read_next_formal
-decreases-read_next_formal l = 64 * l.depth + 34
+decreases-read_next_formal l = 32 * l.depth + 2
 
 abbrev pub decreases-read_formal : goal.decreases-read_formal
-decreases-read_formal l = 64 * l.depth + 30
+decreases-read_formal l = 32 * l.depth + 1
+
+abbrev pub decreases-read_heading : goal.decreases-read_heading
+decreases-read_heading l = 32 * l.depth
