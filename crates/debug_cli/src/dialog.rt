@@ -167,7 +167,8 @@ pub fn converse<I: Source, O: Sink>(
         × GaveBy result (O.given screen.old) (O.given screen.new)
         (replies (execution debuggee.now) first_entries (lines_in x)) × EndedBy result x }
     // A count rises where its object failed, and there alone.
-    ensures console_faults { Counted (is_console (session_status result)) (I.faults console.old) (I.faults console.new) }
+    ensures console_faults { Counted (is_console (session_status result))
+        (I.faults console.old) (I.faults console.new) }
     ensures screen_faults { Counted (is_screen (session_status result)) (O.faults screen.old) (O.faults screen.new) }
     // No call of the screen comes after one that failed.
     ensures last { IsTrue (is_screen (session_status result)) → IsTrue (O.last_failed screen.new) }

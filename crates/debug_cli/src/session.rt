@@ -66,7 +66,8 @@ pub fn hold_session<I: Source, O: Sink>(
     ensures goes { (x : Heard) × IsHeard (I.left console.old) (I.left console.new) x
         × GaveBy result (O.given screen.old) (O.given screen.new) (said (execution debuggee.now) (lines_in x))
         × EndedBy result x }
-    ensures console_faults { Counted (is_console (session_status result)) (I.faults console.old) (I.faults console.new) }
+    ensures console_faults { Counted (is_console (session_status result))
+        (I.faults console.old) (I.faults console.new) }
     ensures screen_faults { Counted (is_screen (session_status result)) (O.faults screen.old) (O.faults screen.new) }
     ensures last { IsTrue (is_screen (session_status result)) → IsTrue (O.last_failed screen.new) }
 {
