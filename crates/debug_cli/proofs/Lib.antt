@@ -1,7 +1,8 @@
-pub mod Words
-pub mod Talk
-pub mod Opened
-pub mod Fetched
-pub mod Codes
-pub mod Columns
-pub mod Best
+pub mod LineIsCommand
+pub mod RepliesInOrder
+pub mod SourceIsRun
+pub mod StatusByCode
+pub mod StatusTellsWhy
+pub mod TranscriptIsGiven
+pub mod CallsAreNumbered
+pub mod QuestionIsBest

@@ -40,6 +40,6 @@ abbrev pub command_of : List ℕ → Command
 command_of line = command_of_words (words line)
 
 -- how many of the first items pass
-abbrev pub run : (ℕ → Bool) → List ℕ → ℕ
-run p [] = 0
-run p (c ∷ cs) = if p c then suc (run p cs) else 0
+abbrev pub count_while : (ℕ → Bool) → List ℕ → ℕ
+count_while p [] = 0
+count_while p (c ∷ cs) = if p c then suc (count_while p cs) else 0

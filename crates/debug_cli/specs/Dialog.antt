@@ -14,15 +14,15 @@ use Rattle.debug_cli.specs.declared.commands.Command.{Command}
 use Rattle.debug_cli.specs.declared.commands.Command.TheVariants.{Nothing, Right, Wrong, Quit, Other}
 use Rattle.debug_cli.specs.Limits.{book_entries}
 use Rattle.debug_cli.specs.Commands.{command_of}
-use Rattle.debug_cli.specs.History.{History, lasts_of}
+use Rattle.debug_cli.specs.Execution.{Execution, lasts_of}
 use Rattle.debug_cli.specs.Texts.{card, report}
 
 -- the state of the search, from scratch, after these entries
-abbrev pub state : History → List Entry → SearchState
+abbrev pub state : Execution → List Entry → SearchState
 state h entries = state_of (lasts_of h.calls) entries
 
 -- what a session opens with: the card of call 0, and a report
-abbrev pub opening : History → List ℕ
+abbrev pub opening : Execution → List ℕ
 opening h = card h 0 ++ report h (state h first_entries)
 
 -- ---- a judgement on the call that is asked about
@@ -37,25 +37,26 @@ entries_judged (Found call) entries j = entries
 entries_judged NothingWrong entries j = entries
 
 -- the number of the last entry, and a report
-abbrev pub entered : History → List Entry → List ℕ
+abbrev pub entered : Execution → List Entry → List ℕ
 entered h entries = codes "entry " ++ decimal (length entries) ++ codes "\n" ++ report h (state h entries)
 
 -- the reply to the judgement
-abbrev pub reply_judged : History → SearchState → List Entry → Judgement → List ℕ
-reply_judged h (Ask call weight suspects left) entries j = if is_full entries then codes "book is full\n" else entered h (judged entries call j)
+abbrev pub reply_judged : Execution → SearchState → List Entry → Judgement → List ℕ
+reply_judged h (Ask call weight suspects left) entries j =
+    if is_full entries then codes "book is full\n" else entered h (judged entries call j)
 reply_judged h (Found call) entries j = codes "no question\n"
 reply_judged h NothingWrong entries j = codes "no question\n"
 
 -- ---- a command
 
-abbrev pub entries_after : History → List Entry → Command → List Entry
-entries_after h entries Nothing = entries
-entries_after h entries Right = entries_judged (state h entries) entries judgement.Right
-entries_after h entries Wrong = entries_judged (state h entries) entries judgement.Wrong
-entries_after h entries Quit = entries
-entries_after h entries Other = entries
+abbrev pub entries_after_command : Execution → List Entry → Command → List Entry
+entries_after_command h entries Nothing = entries
+entries_after_command h entries Right = entries_judged (state h entries) entries judgement.Right
+entries_after_command h entries Wrong = entries_judged (state h entries) entries judgement.Wrong
+entries_after_command h entries Quit = entries
+entries_after_command h entries Other = entries
 
-abbrev pub reply_of : History → List Entry → Command → List ℕ
+abbrev pub reply_of : Execution → List Entry → Command → List ℕ
 reply_of h entries Nothing = []
 reply_of h entries Right = reply_judged h (state h entries) entries judgement.Right
 reply_of h entries Wrong = reply_judged h (state h entries) entries judgement.Wrong
@@ -75,16 +76,18 @@ is_too_long line = nat_lt line_bytes (length line)
 abbrev pub ends_session : List ℕ → Bool
 ends_session line = if is_too_long line then false else is_quit (command_of line)
 
-abbrev pub reply_to : History → List Entry → List ℕ → List ℕ
+abbrev pub reply_to : Execution → List Entry → List ℕ → List ℕ
 reply_to h entries line = if is_too_long line then codes "line too long\n" else reply_of h entries (command_of line)
 
-abbrev pub entries_behind : History → List Entry → List ℕ → List Entry
-entries_behind h entries line = if is_too_long line then entries else entries_after h entries (command_of line)
+abbrev pub entries_after_line : Execution → List Entry → List ℕ → List Entry
+entries_after_line h entries line =
+    if is_too_long line then entries else entries_after_command h entries (command_of line)
 
 -- the replies to the lines of a console, in order, up to `quit`
-abbrev pub replies : History → List Entry → List (List ℕ) → List ℕ
+abbrev pub replies : Execution → List Entry → List (List ℕ) → List ℕ
 replies h entries [] = []
-replies h entries (line ∷ lines) = if ends_session line then [] else reply_to h entries line ++ replies h (entries_behind h entries line) lines
+replies h entries (line ∷ lines) =
+    if ends_session line then [] else reply_to h entries line ++ replies h (entries_after_line h entries line) lines
 
 -- a line that ends the session is among these
 abbrev pub ends_among : List (List ℕ) → Bool

@@ -26,8 +26,8 @@ pub record IsHeard (left left' : Option (List ℕ)) (x : Heard) : Type 0 where
   pub room : IsTrue x.ended → length x.bytes < console_bytes
   pub at_end : IsTrue x.ended → IsAtEnd left'
 
--- why a dialog ended: at the console's end or a line that ends it; or at no such line, with all console_bytes taken where it
--- was spent, and fewer where the console failed
+-- why a dialog ended: at the console's end or a line that ends it; or at no such line, with all console_bytes taken
+-- where it was spent, and fewer where the console failed
 abbrev pub EndedBy : Ending → Heard → Type 0
 EndedBy ending.Done x = IsTrue x.ended ⊎ IsTrue (ends_among (lines_in x))
 EndedBy ending.Console x = (x.ended ≡ false) × (ends_among (lines_in x) ≡ false) × (length x.bytes < console_bytes)
@@ -35,7 +35,7 @@ EndedBy ending.Spent x = (x.ended ≡ false) × (ends_among (lines_in x) ≡ fal
 EndedBy ending.Screen x = Unit {0}
 EndedBy ending.Memory x = Unit {0}
 
--- a dialog that ended so has given the whole text, or, where the screen failed or memory was wanting, a first part of it
+-- a dialog that ended so has given the whole text, or, where the screen failed or memory ran out, a first part of it
 abbrev pub GaveBy : Ending → Option (List ℕ) → Option (List ℕ) → List ℕ → Type 0
 GaveBy ending.Done given given' text = GaveAll given given' text
 GaveBy ending.Console given given' text = GaveAll given given' text

@@ -1,10 +1,12 @@
 pub mod Commands
-pub mod History
+pub mod Execution
 pub mod Texts
 pub mod Dialog
 pub mod Program
 pub mod Status
+pub mod Outside
 pub mod Asked
+pub mod Setting
 pub mod Laws
 pub mod Limits
 pub mod Heard

@@ -8,12 +8,12 @@ use Rattle.pas_phrases.specs.declared.fault.ParseFault.TheVariants as parser
 use Rattle.pas_parser.specs.Exact.{IsExact}
 use Rattle.pas_parser.specs.Formed.{IsText}
 use Rattle.core_program.specs.Tables.{Tables}
-use Rattle.debug_cli.specs.declared.refusal.Reason.{Reason}
-use Rattle.debug_cli.specs.declared.refusal.Reason.TheVariants as reason
-use Rattle.debug_cli.specs.declared.run.SourceFault.{SourceFault}
-use Rattle.debug_cli.specs.declared.run.SourceFault.TheVariants.{Refused, Memory}
-use Rattle.debug_cli.specs.declared.run.Run.{Run}
-use Rattle.debug_cli.specs.History.{History, history}
+use Rattle.debug_cli.specs.declared.refusal.Refusal.{Refusal}
+use Rattle.debug_cli.specs.declared.refusal.Refusal.TheVariants as refusal
+use Rattle.debug_cli.specs.declared.debuggee.SourceFault.{SourceFault}
+use Rattle.debug_cli.specs.declared.debuggee.SourceFault.TheVariants.{Refused, Memory}
+use Rattle.debug_cli.specs.declared.debuggee.Debuggee.{Debuggee}
+use Rattle.debug_cli.specs.Execution.{Execution, execution}
 use Rattle.small_program.specs.Small.{pieces, Small, IsSmall, BeginsNone}
 
 -- the source has these tokens, which are this small program
@@ -22,9 +22,9 @@ pub record IsProgram (source : List ℕ) (t : Lexed) (s : Small) : Type 0 where
   pub lexed : IsLexed source t.tokens
   pub small : IsSmall (pieces t) s
 
--- the answer keeps this history, or memory ran out
-abbrev pub Keeps : History → Result Run SourceFault → Type 0
-Keeps h (Ok r) = history r ≡ h
+-- the answer keeps this execution, or memory ran out
+abbrev pub Keeps : Execution → Result Debuggee SourceFault → Type 0
+Keeps h (Ok r) = execution r ≡ h
 Keeps h (Err (Refused why line byte)) = ⊥
 Keeps h (Err Memory) = Unit {0}
 
@@ -35,18 +35,18 @@ NoProgram source = (t : Lexed) (s : Small) → IsProgram source t s → ⊥
 -- ---- why and where a source is refused
 
 -- its first piece that does not fit, which begins at this byte, fails for this reason
-abbrev pub FailsFor : List ℕ → Reason → (byte : ℕ) → Type 0
-FailsFor source reason.BadByte byte = IsFault source (lexis.BadByte byte)
-FailsFor source reason.OpenComment byte = IsFault source (lexis.OpenComment byte)
-FailsFor source reason.OpenString byte = IsFault source (lexis.OpenString byte)
-FailsFor source reason.EmptyString byte = IsFault source (lexis.EmptyString byte)
-FailsFor source reason.RealWord byte = IsFault source (lexis.RealWord byte)
-FailsFor source reason.TooLarge byte = IsFault source (lexis.TooLarge byte)
-FailsFor source reason.Joined byte = IsFault source (lexis.Joined byte)
+abbrev pub FailsFor : List ℕ → Refusal → (byte : ℕ) → Type 0
+FailsFor source refusal.BadByte byte = IsFault source (lexis.BadByte byte)
+FailsFor source refusal.OpenComment byte = IsFault source (lexis.OpenComment byte)
+FailsFor source refusal.OpenString byte = IsFault source (lexis.OpenString byte)
+FailsFor source refusal.EmptyString byte = IsFault source (lexis.EmptyString byte)
+FailsFor source refusal.RealWord byte = IsFault source (lexis.RealWord byte)
+FailsFor source refusal.TooLarge byte = IsFault source (lexis.TooLarge byte)
+FailsFor source refusal.Joined byte = IsFault source (lexis.Joined byte)
 FailsFor source _ byte = ⊥
 
 -- a piece does not fit
-abbrev pub RefusesPiece : List ℕ → Reason → (line byte : ℕ) → Type 0
+abbrev pub RefusesPiece : List ℕ → Refusal → (line byte : ℕ) → Type 0
 RefusesPiece source why line byte = FailsFor source why byte × (line ≡ line_at source byte)
 
 -- the token of this number begins at this byte, on this line
@@ -56,21 +56,23 @@ pub record StandsAt (t : Lexed) (number line byte : ℕ) : Type 0 where
   pub line_is : line ≡ token.line
   pub byte_is : byte ≡ token.start
 
--- Tokens are refused at this one: it is the first that is too deep, or else the first with which no tree of the grammar goes
--- on; or, where a formed tree spells them, no small program begins with the tokens up to it.
-abbrev pub RefusesAt : Lexed → Reason → (number : ℕ) → Type 0
-RefusesAt t reason.NotProgram number = IsExact t.tokens (Err (parser.NotProgram number))
-RefusesAt t reason.TooDeep number = IsExact t.tokens (Err (parser.TooDeep number))
-RefusesAt t reason.Unbuilt number = IsText t.tokens × BeginsNone (pieces t) number
+-- Tokens are refused at this one: it is the first that is too deep, or else the first with which no tree of the grammar
+-- goes on; or, where a formed tree spells them, no small program begins with the tokens up to it.
+abbrev pub RefusesAt : Lexed → Refusal → (number : ℕ) → Type 0
+RefusesAt t refusal.NotProgram number = IsExact t.tokens (Err (parser.NotProgram number))
+RefusesAt t refusal.TooDeep number = IsExact t.tokens (Err (parser.TooDeep number))
+RefusesAt t refusal.Unbuilt number = IsText t.tokens × BeginsNone (pieces t) number
 RefusesAt t _ number = ⊥
 
 -- they are refused at a token that stands there
-abbrev pub RefusesToken : Lexed → Reason → (line byte : ℕ) → Type 0
+abbrev pub RefusesToken : Lexed → Refusal → (line byte : ℕ) → Type 0
 RefusesToken t why line byte = (number : ℕ) × StandsAt t number line byte × RefusesAt t why number
 
 -- A source is refused at the first piece that does not fit; or, where all pieces fit, at a token.
-abbrev pub Refuses : List ℕ → Reason → (line byte : ℕ) → Type 0
-Refuses source why line byte = RefusesPiece source why line byte ⊎ ((t : Lexed) × (t.source ≡ source) × IsLexed source t.tokens × RefusesToken t why line byte)
+abbrev pub Refuses : List ℕ → Refusal → (line byte : ℕ) → Type 0
+Refuses source why line byte =
+    RefusesPiece source why line byte
+    ⊎ ((t : Lexed) × (t.source ≡ source) × IsLexed source t.tokens × RefusesToken t why line byte)
 
 -- ---- what the parts of the way answer
 
@@ -86,7 +88,8 @@ IsMisfit source Memory = Unit {0}
 
 -- a source that has no division into pieces is refused at the first that does not fit
 abbrev pub IsUnlexed : List ℕ → SourceFault → Type 0
-IsUnlexed source (Refused why line byte) = ((tokens : List Token) → IsLexed source tokens → ⊥) × RefusesPiece source why line byte
+IsUnlexed source (Refused why line byte) =
+    ((tokens : List Token) → IsLexed source tokens → ⊥) × RefusesPiece source why line byte
 IsUnlexed source Memory = Unit {0}
 
 -- tokens that no formed tree spells are refused at one of them
@@ -96,7 +99,8 @@ IsUnparsed t Memory = Unit {0}
 
 -- tokens that are no small program are refused at one of them
 abbrev pub IsUnread : Lexed → SourceFault → Type 0
-IsUnread t (Refused why line byte) = (why ≡ reason.Unbuilt) × (number : ℕ) × StandsAt t number line byte × BeginsNone (pieces t) number
+IsUnread t (Refused why line byte) =
+    (why ≡ refusal.Unbuilt) × (number : ℕ) × StandsAt t number line byte × BeginsNone (pieces t) number
 IsUnread t Memory = Unit {0}
 
 -- the answer is these tokens, or that memory ran out

@@ -1,7 +1,8 @@
 -- The exit status.
 use Rattle.std.specs.Prelude.{ℕ, Bool, true, false}
 use Rattle.debug_cli.specs.declared.status.Status.{Status}
-use Rattle.debug_cli.specs.declared.status.Status.TheVariants.{Done, Words, Source, File, Console, Screen, Memory, Spent}
+use Rattle.debug_cli.specs.declared.status.Status.TheVariants.{Done, Words, Source, File}
+use Rattle.debug_cli.specs.declared.status.Status.TheVariants.{Console, Screen, Memory, Spent}
 
 abbrev pub code_of : Status → ℕ
 code_of Done = 0
@@ -13,7 +14,8 @@ code_of Screen = 6
 code_of Memory = 7
 code_of Spent = 9
 
--- a source was fetched, or none was asked for: no file's fault, no failing screen and no want of memory ended the command
+-- a source was fetched, or none was asked for: neither a file that was not fetched, nor the screen, nor memory that ran
+-- out ended the command
 abbrev pub is_after_fetch : Status → Bool
 is_after_fetch File = false
 is_after_fetch Screen = false

@@ -9,9 +9,9 @@ use Rattle.cell_value.specs.declared.ways_out.WayOut.TheVariants as way
 use Rattle.core_program.specs.declared.calls.CallRow.{CallRow}
 use Rattle.plain_search.specs.declared.state.SearchState.{SearchState}
 use Rattle.plain_search.specs.declared.state.SearchState.TheVariants.{Ask, Found, NothingWrong}
-use Rattle.debug_cli.specs.declared.refusal.Reason.{Reason}
-use Rattle.debug_cli.specs.declared.refusal.Reason.TheVariants as reason
-use Rattle.debug_cli.specs.History.{History, name_of}
+use Rattle.debug_cli.specs.declared.refusal.Refusal.{Refusal}
+use Rattle.debug_cli.specs.declared.refusal.Refusal.TheVariants as refusal
+use Rattle.debug_cli.specs.Execution.{Execution, name_of}
 use Rattle.edge_ports.specs.declared.ports.FetchFault.{FetchFault}
 use Rattle.edge_ports.specs.declared.ports.FetchFault.TheVariants as fetch
 
@@ -45,12 +45,12 @@ way_text (way.Faulted k line) = codes "faulted " ++ kind_text k ++ codes " line 
 way_text way.OutOfSteps = codes "out of steps"
 way_text (way.Limited w) = codes "limited " ++ limit_text w
 
--- a line behind the first one of a card
+-- a line after the first one of a card
 abbrev pub inner_line : List ℕ → List ℕ
 inner_line text = codes "  " ++ text ++ codes "\n"
 
 -- a call by its number and the name of its routine
-abbrev pub call_text : History → ℕ → CallRow → List ℕ
+abbrev pub call_text : Execution → ℕ → CallRow → List ℕ
 call_text h call row = codes "call " ++ decimal call ++ codes " " ++ name_of h row.routine
 
 abbrev pub in_parent : Option ℕ → List ℕ
@@ -58,26 +58,28 @@ in_parent None = []
 in_parent (Some parent) = codes " in call " ++ decimal parent
 
 -- the card of a call: what was called from where, and how it ended
-abbrev pub card_by : History → ℕ → Option CallRow → List ℕ
+abbrev pub card_by : Execution → ℕ → Option CallRow → List ℕ
 card_by h call None = []
 card_by h call (Some row) = call_text h call row ++ in_parent row.parent ++ codes "\n" ++ inner_line (way_text row.way)
 
-unfoldable pub card : History → ℕ → List ℕ
+unfoldable pub card : Execution → ℕ → List ℕ
 card h call = card_by h call (slice_get h.calls call)
 
 -- the lines on a call that is found
-abbrev pub found_by : History → ℕ → Option CallRow → List ℕ
+abbrev pub found_by : Execution → ℕ → Option CallRow → List ℕ
 found_by h call None = []
 found_by h call (Some row) = codes "found " ++ call_text h call row ++ codes "\n" ++ inner_line (way_text row.way)
 
-unfoldable pub found_text : History → ℕ → List ℕ
+unfoldable pub found_text : Execution → ℕ → List ℕ
 found_text h call = found_by h call (slice_get h.calls call)
 
 abbrev pub question_line : (call suspects left : ℕ) → List ℕ
-question_line call suspects left = codes "ask " ++ decimal call ++ codes " suspects " ++ decimal suspects ++ codes " left " ++ decimal left ++ codes "\n"
+question_line call suspects left =
+    codes "ask " ++ decimal call ++ codes " suspects " ++ decimal suspects ++ codes " left " ++ decimal left
+    ++ codes "\n"
 
 -- the report on a state of the search
-unfoldable pub report : History → SearchState → List ℕ
+unfoldable pub report : Execution → SearchState → List ℕ
 report h (Ask call weight suspects left) = question_line call suspects left ++ card h call
 report h (Found call) = found_text h call
 report h NothingWrong = codes "nothing wrong\n"
@@ -103,18 +105,20 @@ file_line (fetch.TooLong limit) name = too_long_line name
 file_line fetch.Memory name = []
 
 -- why a source is refused
-abbrev pub reason_text : Reason → List ℕ
-reason_text reason.BadByte = codes "BadByte"
-reason_text reason.OpenComment = codes "OpenComment"
-reason_text reason.OpenString = codes "OpenString"
-reason_text reason.EmptyString = codes "EmptyString"
-reason_text reason.RealWord = codes "RealWord"
-reason_text reason.TooLarge = codes "TooLarge"
-reason_text reason.Joined = codes "Joined"
-reason_text reason.NotProgram = codes "NotProgram"
-reason_text reason.TooDeep = codes "TooDeep"
-reason_text reason.Unbuilt = codes "Unbuilt"
+abbrev pub refusal_text : Refusal → List ℕ
+refusal_text refusal.BadByte = codes "BadByte"
+refusal_text refusal.OpenComment = codes "OpenComment"
+refusal_text refusal.OpenString = codes "OpenString"
+refusal_text refusal.EmptyString = codes "EmptyString"
+refusal_text refusal.RealWord = codes "RealWord"
+refusal_text refusal.TooLarge = codes "TooLarge"
+refusal_text refusal.Joined = codes "Joined"
+refusal_text refusal.NotProgram = codes "NotProgram"
+refusal_text refusal.TooDeep = codes "TooDeep"
+refusal_text refusal.Unbuilt = codes "Unbuilt"
 
 -- a source that is no program of the language, at a place of it
-abbrev pub refused_line : Reason → (line byte : ℕ) → List ℕ
-refused_line why line byte = codes "refused: " ++ reason_text why ++ codes ", line " ++ decimal line ++ codes ", byte " ++ decimal byte ++ codes "\n"
+abbrev pub refused_line : Refusal → (line byte : ℕ) → List ℕ
+refused_line why line byte =
+    codes "refused: " ++ refusal_text why ++ codes ", line " ++ decimal line ++ codes ", byte " ++ decimal byte
+    ++ codes "\n"

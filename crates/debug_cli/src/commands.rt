@@ -1,9 +1,9 @@
 //! What a console line asks for.
 ghost use Rattle.std.specs.Prelude.{◌≡◌, ◌≤◌, length, drop, not};
-ghost use Rattle.debug_cli.specs.Commands.{is_blank, run, command_named, command_of};
+ghost use Rattle.debug_cli.specs.Commands.{is_blank, count_while, command_named, command_of};
 
 /// What a console line asks for.
-#[derive(Clone, Copy, Debug, PartialEq, Eq)]
+#[derive(Clone, Copy)]
 pub enum Command {
     /// A line without words.
     Nothing,
@@ -17,6 +17,7 @@ pub enum Command {
     Other,
 }
 
+/// A space or a tab.
 fn is_blank(c: u8) -> bool
     ensures { result ≡ is_blank c }
 {
@@ -25,7 +26,7 @@ fn is_blank(c: u8) -> bool
 
 /// How many blanks stand first.
 fn blanks(bytes: &[u8]) -> usize
-    ensures run { result ≡ run is_blank bytes.now }
+    ensures counted { result ≡ count_while is_blank bytes.now }
     ensures inside { result ≤ length bytes.now }
 {
     let mut n = 0;
@@ -40,14 +41,14 @@ fn blanks(bytes: &[u8]) -> usize
 
 /// What follows the blanks that stand first.
 fn without_blanks(bytes: &[u8]) -> &[u8]
-    ensures { result.now ≡ drop (run is_blank bytes.now) bytes.now }
+    ensures { result.now ≡ drop (count_while is_blank bytes.now) bytes.now }
 {
     &bytes[blanks(bytes)..]
 }
 
 /// How many bytes stand first that are no blanks.
 fn solid(bytes: &[u8]) -> usize
-    ensures run { result ≡ run (λ c. not (is_blank c)) bytes.now }
+    ensures counted { result ≡ count_while (λ c. not (is_blank c)) bytes.now }
     ensures inside { result ≤ length bytes.now }
 {
     let mut n = 0;
@@ -60,6 +61,7 @@ fn solid(bytes: &[u8]) -> usize
     n
 }
 
+/// The command of one word.
 fn named(word: &[u8]) -> Command
     ensures { result ≡ command_named word.now }
 {

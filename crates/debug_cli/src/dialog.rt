@@ -2,11 +2,11 @@
 ghost use Rattle.std.specs.Prelude.{◌≡◌, ◌<◌, ◌≤◌, [], false, IsTrue, length, IfErr, OnOk, OnErr};
 ghost use Rattle.std.specs.Io.KnownBytes.{IsAtEnd};
 ghost use Rattle.edge_ports.specs.Counts.{Counted};
-ghost use Rattle.edge_ports.specs.Told.{GaveAll, GavePrefix, FailedLast};
+ghost use Rattle.edge_ports.specs.Told.{GaveAll, GavePrefix};
 ghost use Rattle.edge_ports.specs.Lines.{Moves};
 ghost use Rattle.edge_ports.specs.Limits.{line_bytes};
 ghost use Rattle.edge_ports.specs.Turns.{IsConsistent};
-ghost use Rattle.debug_cli.specs.History.{history, IsReady};
+ghost use Rattle.debug_cli.specs.Execution.{execution, IsReady};
 ghost use Rattle.debug_cli.specs.Status.{is_console, is_screen};
 ghost use Rattle.debug_cli.specs.Dialog.{replies};
 ghost use Rattle.plain_search.specs.Standing.{first_entries};
@@ -14,14 +14,14 @@ ghost use Rattle.debug_cli.specs.Heard.{Heard, IsHeard, lines_in, EndedBy, GaveB
 ghost use Rattle.debug_cli.specs.Turned.{Answers, NextReply, Turned, console_failed, screen_failed};
 
 use crate::commands::{Command, command_in};
+use crate::debuggee::Debuggee;
 use crate::judging::{judge, text_of};
-use crate::run::Run;
 use edge_ports::{Bytes, LineFault, Lines, Sink, Source, Turn, write_all};
 use plain_search::{Entry, Judgement};
 use std::alloc::{AllocError, AllocFailed, Global};
 
 /// How a dialog ended.
-#[derive(Clone, Copy, Debug, PartialEq, Eq, Drop)]
+#[derive(Clone, Copy, Drop)]
 pub enum Ending {
     /// `quit` or the console's end was read.
     Done,
@@ -31,7 +31,7 @@ pub enum Ending {
     Screen,
     /// The most bytes that are taken of a console were taken, and no end was seen.
     Spent,
-    /// Memory was wanting.
+    /// Memory ran out.
     Memory,
 }
 
@@ -58,15 +58,20 @@ impl<T: Drop> From<AllocFailed<T>> for Ending {
 }
 
 /// The reply to a line of the console. `Done` says that it ends the session.
-fn answer(alloc: Global, run: &Run, entries: &mut Vec<Entry>, line: &[u8]) -> Result<Bytes, Ending>
-    requires ready { IsReady run.now }
+fn answer(
+    alloc: Global,
+    debuggee: &Debuggee,
+    entries: &mut Vec<Entry>,
+    line: &[u8],
+) -> Result<Bytes, Ending>
+    requires ready { IsReady debuggee.now }
     requires short { length line.now ≤ line_bytes }
-    ensures { Answers (history run.now) entries.old.items line.now result entries.new.items }
+    ensures { Answers (execution debuggee.now) entries.old.items line.now result entries.new.items }
 {
     match command_in(line) {
         Command::Nothing => Ok(Bytes::new(alloc)),
-        Command::Right => judge(alloc, run, entries, Judgement::Right),
-        Command::Wrong => judge(alloc, run, entries, Judgement::Wrong),
+        Command::Right => judge(alloc, debuggee, entries, Judgement::Right),
+        Command::Wrong => judge(alloc, debuggee, entries, Judgement::Wrong),
         Command::Quit => Err(Ending::Done),
         Command::Other => text_of(alloc, b"not understood\n"),
     }
@@ -75,22 +80,25 @@ fn answer(alloc: Global, run: &Run, entries: &mut Vec<Entry>, line: &[u8]) -> Re
 /// The reply to the next line of the console.
 fn next_reply<I: Source>(
     alloc: Global,
-    run: &Run,
+    debuggee: &Debuggee,
     entries: &mut Vec<Entry>,
     lines: &mut Lines,
     console: &mut I,
 ) -> Result<Bytes, Ending>
-    requires ready { IsReady run.now }
-    ensures reply { NextReply (history run.now) entries.old.items lines.old result entries.new.items lines.new }
+    requires ready { IsReady debuggee.now }
+    ensures reply { NextReply (execution debuggee.now)
+        (record { entries = entries.old.items; lines = lines.old }) result
+        (record { entries = entries.new.items; lines = lines.new }) }
     ensures moved { Moves lines.old.taken lines.new.taken (I.left console.old) (I.left console.new) }
-    ensures at_end { (IsTrue lines.old.ended → IsAtEnd (I.left console.old)) → IsTrue lines.new.ended → IsAtEnd (I.left console.new) }
+    ensures at_end { (IsTrue lines.old.ended → IsAtEnd (I.left console.old))
+        → IsTrue lines.new.ended → IsAtEnd (I.left console.new) }
     ensures faults { Counted (console_failed result) (I.faults console.old) (I.faults console.new) }
     ensures not_screen { screen_failed result ≡ false }
     ensures consistent { IsConsistent lines.new }
     ensures handed { OnOk result (lines.old.handed < lines.new.handed) }
 {
     match lines.next(console) {
-        Ok(Turn::Line) => answer(alloc, run, entries, lines.line()),
+        Ok(Turn::Line) => answer(alloc, debuggee, entries, lines.line()),
         Ok(Turn::TooLong) => text_of(alloc, b"line too long\n"),
         Ok(Turn::End) => Err(Ending::Done),
         Err(LineFault::Failed) => Err(Ending::Console),
@@ -104,7 +112,7 @@ fn give_reply<O: Sink>(screen: &mut O, reply: &[u8]) -> Result<(), Ending>
     ensures failed { OnErr result (GavePrefix (O.given screen.old) (O.given screen.new) reply.now) }
     ensures ending { IfErr result (λ e. e ≡ Ending.Screen) }
     ensures faults { Counted (screen_failed result) (O.faults screen.old) (O.faults screen.new) }
-    ensures last { FailedLast O.given O.faults (screen_failed result) screen.old screen.new }
+    ensures last { IsTrue (screen_failed result) → IsTrue (O.last_failed screen.new) }
 {
     match write_all(screen, reply) {
         Ok(()) => Ok(()),
@@ -115,23 +123,27 @@ fn give_reply<O: Sink>(screen: &mut O, reply: &[u8]) -> Result<(), Ending>
 /// Answers one line of the console.
 fn turn<I: Source, O: Sink>(
     alloc: Global,
-    run: &Run,
+    debuggee: &Debuggee,
     entries: &mut Vec<Entry>,
     lines: &mut Lines,
     console: &mut I,
     screen: &mut O,
 ) -> Result<(), Ending>
-    requires ready { IsReady run.now }
-    ensures turned { Turned (history run.now) entries.old.items lines.old result entries.new.items lines.new (O.given screen.old) (O.given screen.new) }
+    requires ready { IsReady debuggee.now }
+    ensures turned { Turned (execution debuggee.now)
+        (record { progress = record { entries = entries.old.items; lines = lines.old }; given = O.given screen.old })
+        result
+        (record { progress = record { entries = entries.new.items; lines = lines.new }; given = O.given screen.new }) }
     ensures moved { Moves lines.old.taken lines.new.taken (I.left console.old) (I.left console.new) }
-    ensures at_end { (IsTrue lines.old.ended → IsAtEnd (I.left console.old)) → IsTrue lines.new.ended → IsAtEnd (I.left console.new) }
+    ensures at_end { (IsTrue lines.old.ended → IsAtEnd (I.left console.old))
+        → IsTrue lines.new.ended → IsAtEnd (I.left console.new) }
     ensures console_faults { Counted (console_failed result) (I.faults console.old) (I.faults console.new) }
     ensures screen_faults { Counted (screen_failed result) (O.faults screen.old) (O.faults screen.new) }
-    ensures last { FailedLast O.given O.faults (screen_failed result) screen.old screen.new }
+    ensures last { IsTrue (screen_failed result) → IsTrue (O.last_failed screen.new) }
     ensures consistent { IsConsistent lines.new }
     ensures handed { OnOk result (lines.old.handed < lines.new.handed) }
 {
-    match next_reply(alloc, run, entries, lines, console) {
+    match next_reply(alloc, debuggee, entries, lines, console) {
         Ok(reply) => give_reply(screen, reply.as_slice()),
         Err(ending) => Err(ending),
     }
@@ -141,26 +153,28 @@ fn turn<I: Source, O: Sink>(
 /// each reply.
 pub fn converse<I: Source, O: Sink>(
     alloc: Global,
-    run: &Run,
+    debuggee: &Debuggee,
     entries: &mut Vec<Entry>,
     lines: &mut Lines,
     console: &mut I,
     screen: &mut O,
 ) -> Ending
-    requires ready { IsReady run.now }
+    requires ready { IsReady debuggee.now }
     requires first { entries.old.items ≡ first_entries }
     requires fresh { lines.old ≡ record { taken = []; handed = 0; ended = false; line = [] } }
     // What was heard of the console, what the screen got by how the dialog ended, and why it ended.
     ensures goes { (x : Heard) × IsHeard (I.left console.old) (I.left console.new) x
-        × GaveBy result (O.given screen.old) (O.given screen.new) (replies (history run.now) first_entries (lines_in x)) × EndedBy result x }
+        × GaveBy result (O.given screen.old) (O.given screen.new)
+        (replies (execution debuggee.now) first_entries (lines_in x)) × EndedBy result x }
     // A count rises where its object failed, and there alone.
-    ensures console_faults { Counted (is_console (session_status result)) (I.faults console.old) (I.faults console.new) }
+    ensures console_faults { Counted (is_console (session_status result))
+        (I.faults console.old) (I.faults console.new) }
     ensures screen_faults { Counted (is_screen (session_status result)) (O.faults screen.old) (O.faults screen.new) }
-    // No call of the screen comes behind one that failed.
-    ensures last { FailedLast O.given O.faults (is_screen (session_status result)) screen.old screen.new }
+    // No call of the screen comes after one that failed.
+    ensures last { IsTrue (is_screen (session_status result)) → IsTrue (O.last_failed screen.new) }
 {
     'lines: loop {
-        match turn(alloc, run, entries, lines, console, screen) {
+        match turn(alloc, debuggee, entries, lines, console, screen) {
             Ok(()) => {}
             Err(ending) => return ending,
         }

@@ -2,7 +2,7 @@
 
 /// Why a source is refused: the name that is printed.
 #[derive(Clone, Copy, Debug, PartialEq, Eq)]
-pub enum Reason {
+pub enum Refusal {
     /// No piece of a source begins with this byte.
     BadByte,
     /// A comment is not closed.
@@ -15,7 +15,7 @@ pub enum Reason {
     RealWord,
     /// A number above maxint.
     TooLarge,
-    /// A letter directly behind a number.
+    /// A letter directly after a number.
     Joined,
     /// A token at which no program of Pascal goes on.
     NotProgram,

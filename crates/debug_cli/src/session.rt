@@ -1,17 +1,16 @@
 //! A session on the console: what it opens with, and the dialog.
-ghost use Rattle.std.specs.Prelude.{◌≡◌, false, IfOk};
+ghost use Rattle.std.specs.Prelude.{◌≡◌, false, IsTrue, IfOk};
 ghost use Rattle.edge_ports.specs.Counts.{Counted};
-ghost use Rattle.edge_ports.specs.Told.{FailedLast};
-ghost use Rattle.debug_cli.specs.History.{history, IsReady};
+ghost use Rattle.debug_cli.specs.Execution.{execution, IsReady};
 ghost use Rattle.debug_cli.specs.Status.{is_console, is_screen};
 ghost use Rattle.debug_cli.specs.Dialog.{opening};
 ghost use Rattle.plain_search.specs.Standing.{first_entries};
 ghost use Rattle.debug_cli.specs.Heard.{Heard, IsHeard, lines_in, EndedBy, GaveBy, session_status};
 ghost use Rattle.debug_cli.specs.Asked.{GivesLine, said};
 
+use crate::debuggee::Debuggee;
 use crate::dialog::{Ending, converse};
 use crate::judging::find_state;
-use crate::run::Run;
 use crate::status::Status;
 use crate::texts::{write_card, write_report};
 use edge_ports::{Bytes, Lines, Sink, Source, write_all};
@@ -23,7 +22,7 @@ pub fn give_line<O: Sink>(screen: &mut O, line: &[u8], status: Status) -> Status
     requires { is_screen status ≡ false }
     ensures gives { GivesLine result status line.now (O.given screen.old) (O.given screen.new) }
     ensures faults { Counted (is_screen result) (O.faults screen.old) (O.faults screen.new) }
-    ensures last { FailedLast O.given O.faults (is_screen result) screen.old screen.new }
+    ensures last { IsTrue (is_screen result) → IsTrue (O.last_failed screen.new) }
 {
     match write_all(screen, line) {
         Ok(()) => status,
@@ -32,15 +31,15 @@ pub fn give_line<O: Sink>(screen: &mut O, line: &[u8], status: Status) -> Status
 }
 
 /// What a session opens with: the card of call 0, and a report.
-fn opening_text(alloc: Global, run: &Run, entries: &[Entry]) -> Result<Bytes, AllocError>
-    requires ready { IsReady run.now }
+fn opening_text(alloc: Global, debuggee: &Debuggee, entries: &[Entry]) -> Result<Bytes, AllocError>
+    requires ready { IsReady debuggee.now }
     requires first { entries.now ≡ first_entries }
-    ensures { IfOk result (λ text. text ≡ opening (history run.now)) }
+    ensures { IfOk result (λ text. text ≡ opening (execution debuggee.now)) }
 {
-    let found = find_state(alloc, run, entries)?;
+    let found = find_state(alloc, debuggee, entries)?;
     let mut text = Bytes::new(alloc);
-    write_card(&mut text, run, 0)?;
-    write_report(&mut text, run, found)?;
+    write_card(&mut text, debuggee, 0)?;
+    write_report(&mut text, debuggee, found)?;
     Ok(text)
 }
 
@@ -59,16 +58,18 @@ fn begin_entries(alloc: Global) -> Result<Vec<Entry>, AllocFailed<Entry>>
 /// Gives the opening, and then answers the console up to `quit` or its end.
 pub fn hold_session<I: Source, O: Sink>(
     alloc: Global,
-    run: &Run,
+    debuggee: &Debuggee,
     console: &mut I,
     screen: &mut O,
 ) -> Ending
-    requires ready { IsReady run.now }
+    requires ready { IsReady debuggee.now }
     ensures goes { (x : Heard) × IsHeard (I.left console.old) (I.left console.new) x
-        × GaveBy result (O.given screen.old) (O.given screen.new) (said (history run.now) (lines_in x)) × EndedBy result x }
-    ensures console_faults { Counted (is_console (session_status result)) (I.faults console.old) (I.faults console.new) }
+        × GaveBy result (O.given screen.old) (O.given screen.new) (said (execution debuggee.now) (lines_in x))
+        × EndedBy result x }
+    ensures console_faults { Counted (is_console (session_status result))
+        (I.faults console.old) (I.faults console.new) }
     ensures screen_faults { Counted (is_screen (session_status result)) (O.faults screen.old) (O.faults screen.new) }
-    ensures last { FailedLast O.given O.faults (is_screen (session_status result)) screen.old screen.new }
+    ensures last { IsTrue (is_screen (session_status result)) → IsTrue (O.last_failed screen.new) }
 {
     let Ok(mut lines) = Lines::new(alloc) else {
         return Ending::Memory;
@@ -76,11 +77,11 @@ pub fn hold_session<I: Source, O: Sink>(
     let Ok(mut entries) = begin_entries(alloc) else {
         return Ending::Memory;
     };
-    let Ok(opening) = opening_text(alloc, run, entries.as_slice()) else {
+    let Ok(opening) = opening_text(alloc, debuggee, entries.as_slice()) else {
         return Ending::Memory;
     };
     match write_all(screen, opening.as_slice()) {
-        Ok(()) => converse(alloc, run, &mut entries, &mut lines, console, screen),
+        Ok(()) => converse(alloc, debuggee, &mut entries, &mut lines, console, screen),
         Err(_) => Ending::Screen,
     }
 }

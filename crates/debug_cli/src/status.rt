@@ -3,7 +3,7 @@ ghost use Rattle.std.specs.Prelude.{◌≡◌};
 ghost use Rattle.debug_cli.specs.Status.{code_of};
 
 /// How the command ends.
-#[derive(Clone, Copy, Debug, PartialEq, Eq)]
+#[derive(Clone, Copy)]
 pub enum Status {
     /// `quit` or the console's end was read.
     Done,
@@ -17,7 +17,7 @@ pub enum Status {
     Console,
     /// The screen failed.
     Screen,
-    /// Memory was wanting.
+    /// Memory ran out.
     Memory,
     /// The most bytes that are taken of a console were taken, and no end was seen.
     Spent,

@@ -1,10 +1,12 @@
 //! The texts of a call and of the state of the search.
 ghost use Rattle.std.specs.Prelude.{◌≡◌, ◌++◌, IfOk, OnOk, decimal, codes, slice_get};
-ghost use Rattle.debug_cli.specs.History.{history, name_of, text_at};
-ghost use Rattle.debug_cli.specs.Texts.{kind_text, limit_text, way_text, inner_line, call_text, in_parent, card, found_text, question_line, report, absent_line, failed_line, too_long_line, reason_text, refused_line};
+ghost use Rattle.debug_cli.specs.Execution.{execution, name_of, text_at};
+ghost use Rattle.debug_cli.specs.Texts.{kind_text, limit_text, way_text, inner_line, call_text, in_parent};
+ghost use Rattle.debug_cli.specs.Texts.{card, found_text, question_line, report};
+ghost use Rattle.debug_cli.specs.Texts.{absent_line, failed_line, too_long_line, refusal_text, refused_line};
 
-use crate::refusal::Reason;
-use crate::run::Run;
+use crate::debuggee::Debuggee;
+use crate::refusal::Refusal;
 use cell_value::{Kind, WayOut, Which};
 use core_program::CallRow;
 use edge_ports::Bytes;
@@ -102,23 +104,28 @@ fn token_text(tokens: &Tokens, number: u32) -> &[u8]
 }
 
 /// The name of a routine, and nothing where there is none.
-fn routine_name(run: &Run, routine: u32) -> &[u8]
-    ensures { result.now ≡ name_of (history run.now) routine }
+fn routine_name(debuggee: &Debuggee, routine: u32) -> &[u8]
+    ensures { result.now ≡ name_of (execution debuggee.now) routine }
 {
-    match run.program.routine(routine) {
-        Some(found) => token_text(&run.tokens, found.name),
+    match debuggee.program.routine(routine) {
+        Some(found) => token_text(&debuggee.tokens, found.name),
         None => b"",
     }
 }
 
 /// Appends a call by its number and the name of its routine.
-fn write_call(out: &mut Bytes, run: &Run, number: u32, call: CallRow) -> Result<(), AllocError>
-    ensures { OnOk result (out.new ≡ out.old ++ call_text (history run.now) number call) }
+fn write_call(
+    out: &mut Bytes,
+    debuggee: &Debuggee,
+    number: u32,
+    call: CallRow,
+) -> Result<(), AllocError>
+    ensures { OnOk result (out.new ≡ out.old ++ call_text (execution debuggee.now) number call) }
 {
     out.append(b"call ")?;
     write_number(out, number)?;
     out.append(b" ")?;
-    out.append(routine_name(run, call.routine))?;
+    out.append(routine_name(debuggee, call.routine))?;
     Ok(())
 }
 
@@ -135,11 +142,11 @@ fn write_parent(out: &mut Bytes, parent: Option<u32>) -> Result<(), AllocError>
 
 /// Appends the card of a call: what was called from where, and how it ended.
 #[tactic(auto, unfolding(crate::specs::Texts::card))]
-pub fn write_card(out: &mut Bytes, run: &Run, number: u32) -> Result<(), AllocError>
-    ensures { OnOk result (out.new ≡ out.old ++ card (history run.now) number) }
+pub fn write_card(out: &mut Bytes, debuggee: &Debuggee, number: u32) -> Result<(), AllocError>
+    ensures { OnOk result (out.new ≡ out.old ++ card (execution debuggee.now) number) }
 {
-    if let Some(call) = run.calls.get(number) {
-        write_call(out, run, number, call)?;
+    if let Some(call) = debuggee.calls.get(number) {
+        write_call(out, debuggee, number, call)?;
         write_parent(out, call.parent)?;
         out.append(b"\n")?;
         write_way_line(out, call.way)?;
@@ -149,12 +156,12 @@ pub fn write_card(out: &mut Bytes, run: &Run, number: u32) -> Result<(), AllocEr
 
 /// Appends the lines on a call that is found.
 #[tactic(auto, unfolding(crate::specs::Texts::found_text))]
-fn write_found(out: &mut Bytes, run: &Run, number: u32) -> Result<(), AllocError>
-    ensures { OnOk result (out.new ≡ out.old ++ found_text (history run.now) number) }
+fn write_found(out: &mut Bytes, debuggee: &Debuggee, number: u32) -> Result<(), AllocError>
+    ensures { OnOk result (out.new ≡ out.old ++ found_text (execution debuggee.now) number) }
 {
-    if let Some(call) = run.calls.get(number) {
+    if let Some(call) = debuggee.calls.get(number) {
         out.append(b"found ")?;
-        write_call(out, run, number, call)?;
+        write_call(out, debuggee, number, call)?;
         out.append(b"\n")?;
         write_way_line(out, call.way)?;
     }
@@ -177,8 +184,12 @@ fn write_question(out: &mut Bytes, call: u32, suspects: u32, left: u32) -> Resul
 
 /// Appends the report on a state of the search.
 #[tactic(auto, unfolding(crate::specs::Texts::report))]
-pub fn write_report(out: &mut Bytes, run: &Run, state: SearchState) -> Result<(), AllocError>
-    ensures { OnOk result (out.new ≡ out.old ++ report (history run.now) state) }
+pub fn write_report(
+    out: &mut Bytes,
+    debuggee: &Debuggee,
+    state: SearchState,
+) -> Result<(), AllocError>
+    ensures { OnOk result (out.new ≡ out.old ++ report (execution debuggee.now) state) }
 {
     match state {
         SearchState::Ask {
@@ -188,9 +199,9 @@ pub fn write_report(out: &mut Bytes, run: &Run, state: SearchState) -> Result<()
             ..
         } => {
             write_question(out, call, suspects, left)?;
-            write_card(out, run, call)?;
+            write_card(out, debuggee, call)?;
         }
-        SearchState::Found(call) => write_found(out, run, call)?,
+        SearchState::Found(call) => write_found(out, debuggee, call)?,
         SearchState::NothingWrong => out.append(b"nothing wrong\n")?,
     }
     Ok(())
@@ -229,30 +240,30 @@ pub fn too_long_text(alloc: Global, name: &[u8]) -> Result<Bytes, AllocError>
 }
 
 /// The name of a reason for which a source is refused.
-fn reason_name(why: Reason) -> &'static str
-    ensures { result.now ≡ reason_text why }
+fn refusal_name(why: Refusal) -> &'static str
+    ensures { result.now ≡ refusal_text why }
 {
     match why {
-        Reason::BadByte => "BadByte",
-        Reason::OpenComment => "OpenComment",
-        Reason::OpenString => "OpenString",
-        Reason::EmptyString => "EmptyString",
-        Reason::RealWord => "RealWord",
-        Reason::TooLarge => "TooLarge",
-        Reason::Joined => "Joined",
-        Reason::NotProgram => "NotProgram",
-        Reason::TooDeep => "TooDeep",
-        Reason::Unbuilt => "Unbuilt",
+        Refusal::BadByte => "BadByte",
+        Refusal::OpenComment => "OpenComment",
+        Refusal::OpenString => "OpenString",
+        Refusal::EmptyString => "EmptyString",
+        Refusal::RealWord => "RealWord",
+        Refusal::TooLarge => "TooLarge",
+        Refusal::Joined => "Joined",
+        Refusal::NotProgram => "NotProgram",
+        Refusal::TooDeep => "TooDeep",
+        Refusal::Unbuilt => "Unbuilt",
     }
 }
 
 /// The line on a source that is refused for this reason at this place.
-pub fn refused_text(alloc: Global, why: Reason, line: u32, byte: u32) -> Result<Bytes, AllocError>
+pub fn refused_text(alloc: Global, why: Refusal, line: u32, byte: u32) -> Result<Bytes, AllocError>
     ensures { IfOk result (λ text. text ≡ refused_line why line byte) }
 {
     let mut text = Bytes::new(alloc);
     text.append(b"refused: ")?;
-    text.append(reason_name(why).as_bytes())?;
+    text.append(refusal_name(why).as_bytes())?;
     text.append(b", line ")?;
     write_number(&mut text, line)?;
     text.append(b", byte ")?;

@@ -7,7 +7,7 @@ use std::env;
 use std::io::{self, ErrorKind};
 use std::process::ExitCode;
 
-/// The exit status where memory is wanting before the command begins.
+/// The exit status where memory runs out before the command begins.
 const MEMORY: u8 = 7;
 
 /// The words of the command, the program's name first. A word that is no UTF-8 text makes them none,

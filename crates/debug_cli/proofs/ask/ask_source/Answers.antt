@@ -1,6 +1,6 @@
 use Rattle.std.proofs.Common.{inl, inr, subst}
 use Rattle.debug_cli.specs.Heard.{GaveBy, lines_in}
-use Rattle.debug_cli.specs.History.{History}
+use Rattle.debug_cli.specs.Execution.{Execution}
 use Rattle.debug_cli.specs.Asked.{said}
 use Rattle.debug_cli.proofs.ask.ask_source.Goals as goal
 
@@ -10,7 +10,8 @@ returns-in-Ok-clause-goes g c =
     let given' = g.O.Sink.given c.hold_session.new.screen in
     let found = c.in-Ok.ensures.found in
     let talk = c.hold_session.ensures.goes in
-    inl (found.0, found.1, talk.0, c.hold_session.result, found.2, talk.1, c.status_of.ensures, subst (λ (h : History). GaveBy c.hold_session.result given given' (said h (lines_in talk.0))) found.3 talk.2, talk.3)
+    let gave = subst (λ (h : Execution). GaveBy c.hold_session.result given given' (said h (lines_in talk.0))) found.3 talk.2 in
+    inl (found.0, found.1, talk.0, c.hold_session.result, found.2, talk.1, c.status_of.ensures, gave, talk.3)
 
 pub returns-in-Err-Refused-clause-goes : goal.returns-in-Err-Refused-clause-goes
 returns-in-Err-Refused-clause-goes g c =

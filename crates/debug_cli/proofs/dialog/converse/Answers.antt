@@ -1,16 +1,20 @@
 use Rattle.std.proofs.Common.{ap, ◌∙◌}
 use Rattle.edge_ports.proofs.Filling.{moves_more}
-use Rattle.debug_cli.specs.History.{history}
-use Rattle.debug_cli.proofs.Talk.{answered_more, talk_ends, heard_of}
+use Rattle.debug_cli.specs.Execution.{execution}
+use Rattle.debug_cli.specs.Turned.{Stage}
+use Rattle.debug_cli.proofs.RepliesInOrder.{answered_more, talk_ends, heard_of}
 use Rattle.debug_cli.proofs.dialog.converse.Goals as goal
 
 pub lines-preserved : goal.lines-preserved
 lines-preserved g c =
     let left = g.I.Source.left in
     let given = g.O.Sink.given in
+    let old : Stage = record { progress = record { entries = c.lines.entries.items; lines = c.lines.lines }; given = given c.lines.screen } in
+    let new : Stage = record { progress = record { entries = c.turn.new.entries.items; lines = c.turn.new.lines }; given = given c.turn.new.screen } in
     record {
-      answered = answered_more (history c.args.run.now) c.lines.lines c.turn.new.lines c.lines.entries.items c.turn.new.entries.items (given c.args.screen.now) (given c.lines.screen) (given c.turn.new.screen) tt c.lines.invariant.answered c.in-Ok.ensures.turned;
-      moved = moves_more c.args.lines.now.taken c.lines.lines.taken c.turn.new.lines.taken (left c.args.console.now) (left c.lines.console) (left c.turn.new.console) c.lines.invariant.moved c.turn.ensures.moved;
+      answered = answered_more (execution c.args.debuggee.now) (given c.args.screen.now) old new tt c.lines.invariant.answered c.in-Ok.ensures.turned;
+      moved = moves_more c.args.lines.now.taken c.lines.lines.taken c.turn.new.lines.taken
+          (left c.args.console.now) (left c.lines.console) (left c.turn.new.console) c.lines.invariant.moved c.turn.ensures.moved;
       at_end = c.turn.ensures.at_end c.lines.invariant.at_end;
       console_faults = c.in-Ok.ensures.console_faults ∙ c.lines.invariant.console_faults;
       screen_faults = c.in-Ok.ensures.screen_faults ∙ c.lines.invariant.screen_faults;
@@ -20,10 +24,15 @@ pub returns-in-Err-clause-goes : goal.returns-in-Err-clause-goes
 returns-in-Err-clause-goes g c =
     let left = g.I.Source.left in
     let given = g.O.Sink.given in
-    let ends = talk_ends (history c.args.run.now) c.lines.lines c.turn.new.lines c.lines.entries.items c.turn.new.entries.items (given c.args.screen.now) (given c.lines.screen) (given c.turn.new.screen) c.lines.invariant.answered c.turn.ensures.consistent c.in-Err.ending c.in-Err.ensures.turned in
-    let moved = moves_more c.args.lines.now.taken c.lines.lines.taken c.turn.new.lines.taken (left c.args.console.now) (left c.lines.console) (left c.turn.new.console) c.lines.invariant.moved c.turn.ensures.moved in (
+    let old : Stage = record { progress = record { entries = c.lines.entries.items; lines = c.lines.lines }; given = given c.lines.screen } in
+    let new : Stage = record { progress = record { entries = c.turn.new.entries.items; lines = c.turn.new.lines }; given = given c.turn.new.screen } in
+    let ends = talk_ends (execution c.args.debuggee.now) (given c.args.screen.now) old new c.lines.invariant.answered c.turn.ensures.consistent
+    c.in-Err.ending c.in-Err.ensures.turned in
+    let moved = moves_more c.args.lines.now.taken c.lines.lines.taken c.turn.new.lines.taken
+    (left c.args.console.now) (left c.lines.console) (left c.turn.new.console) c.lines.invariant.moved c.turn.ensures.moved in (
       record { bytes = c.turn.new.lines.taken; ended = c.turn.new.lines.ended },
-      heard_of c.args.lines.now.taken c.turn.new.lines (left c.args.console.now) (left c.turn.new.console) (ap (λ s. s.taken) c.requires.fresh) moved c.turn.ensures.consistent (c.turn.ensures.at_end c.lines.invariant.at_end),
+      heard_of c.args.lines.now.taken c.turn.new.lines (left c.args.console.now) (left c.turn.new.console) (ap (λ s. s.taken) c.requires.fresh)
+          moved c.turn.ensures.consistent (c.turn.ensures.at_end c.lines.invariant.at_end),
       ends.0,
       ends.1,
     )

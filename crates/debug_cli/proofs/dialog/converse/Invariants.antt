@@ -1,8 +1,8 @@
 use Rattle.std.proofs.Common.{◌≡◌, ◌-◌, IsTrue}
 use Rattle.std.specs.Io.KnownBytes.{IsAtEnd}
-use Rattle.edge_ports.specs.Lines.{Moves, handed_lines}
+use Rattle.edge_ports.specs.Lines.{Moves}
 use Rattle.edge_ports.specs.Limits.{console_bytes}
-use Rattle.debug_cli.specs.History.{history}
+use Rattle.debug_cli.specs.Execution.{execution}
 use Rattle.debug_cli.specs.Turned.{Answered}
 use Rattle.debug_cli.proofs.dialog.converse.Given as goal
 
@@ -11,7 +11,8 @@ invariant-lines g l =
     let left = g.I.Source.left in
     let given = g.O.Sink.given in
     record {
-      answered : Answered (history l.run) (handed_lines l.lines) l.entries.items (given l.fn.screen) (given l.screen);
+      answered : Answered (execution l.debuggee) (given l.fn.screen)
+          (record { progress = record { entries = l.entries.items; lines = l.lines }; given = given l.screen });
       moved : Moves l.fn.lines.taken l.lines.taken (left l.fn.console) (left l.console);
       at_end : IsTrue l.lines.ended → IsAtEnd (left l.console);
       console_faults : g.I.Source.faults l.console ≡ g.I.Source.faults l.fn.console;

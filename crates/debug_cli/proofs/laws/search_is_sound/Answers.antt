@@ -1,18 +1,18 @@
 use Rattle.small_program.specs.Small.{program_of}
-use Rattle.debug_cli.specs.History.{history_of, lasts_of, parents_of}
+use Rattle.debug_cli.specs.Execution.{execution_of, lasts_of, parents_of}
 use Rattle.debug_cli.specs.Limits.{default_budget}
-use Rattle.debug_cli.proofs.Columns.{run_numbered}
-use Rattle.debug_cli.proofs.Best.{best_of}
+use Rattle.debug_cli.proofs.CallsAreNumbered.{run_numbered}
+use Rattle.debug_cli.proofs.QuestionIsBest.{best_of}
 use Rattle.debug_cli.proofs.laws.search_is_sound.Goals as goal
 
 pub returns-clause-asks : goal.returns-clause-asks
 returns-clause-asks c = λ t s entries call weight count left e.
-    best_of (history_of t s) entries call weight count left
-    (c.answers_leave_what_is_counted.ensures.worse (parents_of (history_of t s).calls) (lasts_of (history_of t s).calls) entries)
+    best_of (execution_of t s) entries call weight count left
+    (c.answers_leave_what_is_counted.ensures.worse (parents_of (execution_of t s).calls) (lasts_of (execution_of t s).calls) entries)
     (run_numbered c.numbers_tell_the_tree.ensures.subtree c.numbers_tell_the_tree.ensures.last (program_of s) default_budget)
-    (c.question_is_best.ensures.best (lasts_of (history_of t s).calls) entries call weight count left e)
+    (c.question_is_best.ensures.best (lasts_of (execution_of t s).calls) entries call weight count left e)
 
 pub returns-clause-finds : goal.returns-clause-finds
 returns-clause-finds c = λ t s entries call e.
-    c.found_is_at_fault.ensures.at_fault (parents_of (history_of t s).calls) (lasts_of (history_of t s).calls) entries call
+    c.found_is_at_fault.ensures.at_fault (parents_of (execution_of t s).calls) (lasts_of (execution_of t s).calls) entries call
     (run_numbered c.numbers_tell_the_tree.ensures.subtree c.numbers_tell_the_tree.ensures.last (program_of s) default_budget) e

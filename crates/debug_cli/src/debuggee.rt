@@ -6,13 +6,14 @@ ghost use Rattle.pas_lexer.specs.Limits.{source_bytes};
 ghost use Rattle.pas_lexer.specs.Lexed.{Lexed, EndsOnce};
 ghost use Rattle.pas_lexer.specs.Division.{line_at, IsLexed, IsFault};
 ghost use Rattle.pas_parser.specs.Formed.{IsText};
-ghost use Rattle.debug_cli.specs.declared.run.SourceFault.TheVariants.{Refused, Memory};
+ghost use Rattle.debug_cli.specs.declared.debuggee.SourceFault.TheVariants.{Refused, Memory};
 ghost use Rattle.small_program.specs.Small.{Small, IsSmall, pieces, program_of};
-ghost use Rattle.debug_cli.specs.Program.{IsProgram, Keeps, IsRefused, IsMisfit, IsUnlexed, IsUnparsed, IsUnread, StandsAt, TokensAre, ProgramIs};
-ghost use Rattle.debug_cli.specs.History.{history, history_of, calls_within, lasts_of, IsReady};
+ghost use Rattle.debug_cli.specs.Program.{IsProgram, Keeps, IsRefused, IsMisfit, IsUnlexed, IsUnparsed, IsUnread};
+ghost use Rattle.debug_cli.specs.Program.{StandsAt, TokensAre, ProgramIs};
+ghost use Rattle.debug_cli.specs.Execution.{execution, execution_of, calls_within, lasts_of, IsReady};
 ghost use Rattle.debug_cli.specs.Limits.{default_budget};
 
-use crate::refusal::Reason;
+use crate::refusal::Refusal;
 use core_program::{Calls, Program, numbers_tell_the_tree, run_calls};
 use pas_lexer::{LexFault, Tokens, lex, line_at};
 use pas_parser::{ParseFault, parse};
@@ -26,11 +27,14 @@ pub const BUDGET: u32 = 1_000_000;
 
 /// A source that was run: its tokens, the program that they are, and the calls of its run.
 #[derive(Drop)]
-pub struct Run {
+pub struct Debuggee {
+    /// The tokens of the source, with its bytes.
     pub tokens: Tokens,
+    /// The program that they are.
     pub program: Program,
+    /// The calls of its run, in order of entry; call 0 is the program.
     pub calls: Calls,
-    /// The last call below each call.
+    /// For each call the number of the last call in its subtree.
     pub lasts: Vec<u32>,
 }
 
@@ -39,13 +43,14 @@ pub struct Run {
 pub enum SourceFault {
     /// The source is no program of the language. The line is counted from 1, the byte from 0.
     #[error("refused at line {line}, byte {byte}")]
-    Refused { why: Reason, line: u32, byte: u32 },
+    Refused { why: Refusal, line: u32, byte: u32 },
+    /// Memory ran out.
     #[error("out of memory")]
     Memory,
 }
 
 impl From<AllocError> for SourceFault {
-    ghost use Rattle.debug_cli.specs.declared.run.SourceFault.TheVariants.{Memory};
+    ghost use Rattle.debug_cli.specs.declared.debuggee.SourceFault.TheVariants.{Memory};
 
     ghost from_gives = { λ _ e. e ≡ Memory };
 
@@ -65,7 +70,7 @@ fn place_of(tokens: &Tokens, number: u32) -> (u32, u32)
 }
 
 /// The refusal of a source at the token of this number.
-fn refused_token(tokens: &Tokens, why: Reason, number: u32) -> SourceFault
+fn refused_token(tokens: &Tokens, why: Refusal, number: u32) -> SourceFault
     ensures ended { EndsOnce tokens.now.tokens }
     ensures place { number < length tokens.now.tokens
         → (line : ℕ) × (byte : ℕ) × (result ≡ Refused why line byte) × StandsAt tokens.now number line byte }
@@ -75,7 +80,7 @@ fn refused_token(tokens: &Tokens, why: Reason, number: u32) -> SourceFault
 }
 
 /// The refusal of a source at a piece that does not fit.
-fn refused_at(source: &[u8], why: Reason, byte: u32) -> SourceFault
+fn refused_at(source: &[u8], why: Refusal, byte: u32) -> SourceFault
     requires { length source.now ≤ source_bytes }
     ensures { result ≡ Refused why (line_at source.now byte) byte }
 {
@@ -94,13 +99,13 @@ fn misfit(source: &[u8], fault: LexFault) -> SourceFault
     ensures memory { fault ≡ LexFault.Memory → result ≡ Memory }
 {
     match fault {
-        LexFault::BadByte(byte) => refused_at(source, Reason::BadByte, byte),
-        LexFault::OpenComment(byte) => refused_at(source, Reason::OpenComment, byte),
-        LexFault::OpenString(byte) => refused_at(source, Reason::OpenString, byte),
-        LexFault::EmptyString(byte) => refused_at(source, Reason::EmptyString, byte),
-        LexFault::RealWord(byte) => refused_at(source, Reason::RealWord, byte),
-        LexFault::TooLarge(byte) => refused_at(source, Reason::TooLarge, byte),
-        LexFault::Joined(byte) => refused_at(source, Reason::Joined, byte),
+        LexFault::BadByte(byte) => refused_at(source, Refusal::BadByte, byte),
+        LexFault::OpenComment(byte) => refused_at(source, Refusal::OpenComment, byte),
+        LexFault::OpenString(byte) => refused_at(source, Refusal::OpenString, byte),
+        LexFault::EmptyString(byte) => refused_at(source, Refusal::EmptyString, byte),
+        LexFault::RealWord(byte) => refused_at(source, Refusal::RealWord, byte),
+        LexFault::TooLarge(byte) => refused_at(source, Refusal::TooLarge, byte),
+        LexFault::Joined(byte) => refused_at(source, Refusal::Joined, byte),
         LexFault::Memory => SourceFault::Memory,
     }
 }
@@ -118,7 +123,7 @@ fn read_tokens(alloc: Global, source: &[u8]) -> Result<Tokens, SourceFault>
     }
 }
 
-/// Parses the tokens. The tree is let go: nothing reads it yet.
+/// Parses the tokens. The tree is dropped: nothing reads it yet.
 fn check_grammar(alloc: Global, tokens: &Tokens) -> Result<(), SourceFault>
     ensures found { OnOk result (IsText tokens.now.tokens) }
     ensures refused { IfErr result (IsUnparsed tokens.now) }
@@ -129,9 +134,9 @@ fn check_grammar(alloc: Global, tokens: &Tokens) -> Result<(), SourceFault>
             Ok(())
         }
         Err(ParseFault::NotProgram(token)) => {
-            Err(refused_token(tokens, Reason::NotProgram, token))
+            Err(refused_token(tokens, Refusal::NotProgram, token))
         }
-        Err(ParseFault::TooDeep(token)) => Err(refused_token(tokens, Reason::TooDeep, token)),
+        Err(ParseFault::TooDeep(token)) => Err(refused_token(tokens, Refusal::TooDeep, token)),
         Err(ParseFault::Memory) => Err(SourceFault::Memory),
     }
 }
@@ -144,13 +149,13 @@ fn read_program(alloc: Global, tokens: &Tokens) -> Result<Program, SourceFault>
 {
     match parse_small(alloc, tokens) {
         Ok(program) => Ok(program),
-        Err(SmallFault::Unbuilt(token)) => Err(refused_token(tokens, Reason::Unbuilt, token)),
+        Err(SmallFault::Unbuilt(token)) => Err(refused_token(tokens, Refusal::Unbuilt, token)),
         Err(SmallFault::Memory) => Err(SourceFault::Memory),
     }
 }
 
 /// The calls of the run of a program with this budget.
-#[tactic(auto, unfolding(crate::specs::History::calls_within))]
+#[tactic(auto, unfolding(crate::specs::Execution::calls_within))]
 fn find_calls(alloc: Global, program: &Program, budget: u32) -> Result<Calls, AllocError>
     ensures { IfOk result (λ calls. calls ≡ calls_within program.now budget) }
 {
@@ -181,14 +186,15 @@ fn last_calls(alloc: Global, calls: &Calls) -> Result<Vec<u32>, AllocError>
 }
 
 /// The run of a program, whose tokens these are.
-fn run_tokens(alloc: Global, tokens: Tokens, program: Program) -> Result<Run, AllocError>
-    ensures kept { IfOk result (λ run. history run ≡ record { tokens = tokens; program = program; calls = calls_within program default_budget }) }
+fn run_tokens(alloc: Global, tokens: Tokens, program: Program) -> Result<Debuggee, AllocError>
+    ensures kept { IfOk result (λ debuggee. execution debuggee
+        ≡ record { tokens = tokens; program = program; calls = calls_within program default_budget }) }
     ensures ready { IfOk result IsReady }
 {
     numbers_tell_the_tree();
     let calls = find_calls(alloc, &program, BUDGET)?;
     let lasts = last_calls(alloc, &calls)?;
-    Ok(Run {
+    Ok(Debuggee {
         tokens,
         program,
         calls,
@@ -197,21 +203,22 @@ fn run_tokens(alloc: Global, tokens: Tokens, program: Program) -> Result<Run, Al
 }
 
 /// The run of a source. It takes memory; a source of another language is refused.
-pub fn run_source(alloc: Global, source: &[u8]) -> Result<Run, SourceFault>
+pub fn run_source(alloc: Global, source: &[u8]) -> Result<Debuggee, SourceFault>
     requires { length source.now ≤ source_bytes }
     // Each program that the source is has this run.
-    ensures only { (t : Lexed) (s : Small) → IsProgram source.now t s → Keeps (history_of t s) result }
+    ensures only { (t : Lexed) (s : Small) → IsProgram source.now t s → Keeps (execution_of t s) result }
     // A refused source is no program, and it is told why and where: at the first piece that does not fit, or
     // at a token with which no tree of the grammar, or no small program, goes on.
     ensures refused { IfErr result (IsRefused source.now) }
     // A source that is no program is refused, unless memory runs out.
-    ensures found { IfOk result (λ run. (t : Lexed) × (s : Small) × IsProgram source.now t s × (history run ≡ history_of t s)) }
+    ensures found { IfOk result (λ debuggee. (t : Lexed) × (s : Small) × IsProgram source.now t s
+        × (execution debuggee ≡ execution_of t s)) }
     ensures ready { IfOk result IsReady }
 {
     small_programs_are_texts();
     let tokens = read_tokens(alloc, source)?;
     check_grammar(alloc, &tokens)?;
     let program = read_program(alloc, &tokens)?;
-    let run = run_tokens(alloc, tokens, program)?;
-    Ok(run)
+    let debuggee = run_tokens(alloc, tokens, program)?;
+    Ok(debuggee)
 }

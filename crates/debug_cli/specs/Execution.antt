@@ -8,12 +8,12 @@ use Rattle.core_program.specs.Tables.{Tables}
 use Rattle.core_program.specs.Run.{run}
 use Rattle.core_program.specs.Numbering.{numbered, calls_of}
 use Rattle.plain_search.specs.Numbering.{AreIntervals}
-use Rattle.debug_cli.specs.declared.run.Run.{Run}
+use Rattle.debug_cli.specs.declared.debuggee.Debuggee.{Debuggee}
 use Rattle.debug_cli.specs.Limits.{default_budget}
 use Rattle.small_program.specs.Small.{Small, program_of}
 
 -- the tokens of a source, the program that they are, and the calls of its run in order of entry
-pub record History : Type 0 where
+pub record Execution : Type 0 where
   pub tokens : Lexed
   pub program : Tables
   pub calls : List CallRow
@@ -23,8 +23,8 @@ unfoldable pub calls_within : Tables → ℕ → List CallRow
 calls_within p budget = numbered (calls_of (run p budget))
 
 -- the run of a small program
-abbrev pub history_of : Lexed → Small → History
-history_of t s = record { tokens = t; program = program_of s; calls = calls_within (program_of s) default_budget }
+abbrev pub execution_of : Lexed → Small → Execution
+execution_of t s = record { tokens = t; program = program_of s; calls = calls_within (program_of s) default_budget }
 
 -- the text of a token, and nothing where there is none
 abbrev pub text_at : List ℕ → Option Token → List ℕ
@@ -36,7 +36,7 @@ name_by t None = []
 name_by t (Some r) = text_at t.source (slice_get t.tokens r.name)
 
 -- the name of a routine, as its heading spells it
-abbrev pub name_of : History → ℕ → List ℕ
+abbrev pub name_of : Execution → ℕ → List ℕ
 name_of h routine = name_by h.tokens (slice_get h.program.routines routine)
 
 -- the last call below each call
@@ -47,12 +47,12 @@ lasts_of rows = map (λ r. r.last) rows
 abbrev pub parents_of : List CallRow → List (Option ℕ)
 parents_of rows = map (λ r. r.parent) rows
 
--- the code keeps this history
-abbrev pub history : Run → History
-history r = record { tokens = r.tokens; program = r.program; calls = r.calls }
+-- the code keeps this execution
+abbrev pub execution : Debuggee → Execution
+execution r = record { tokens = r.tokens; program = r.program; calls = r.calls }
 
 -- the code keeps the column of the last calls, over which the search goes
-pub record IsReady (r : Run) : Type 0 where
+pub record IsReady (r : Debuggee) : Type 0 where
   pub lasts : r.lasts.items ≡ lasts_of r.calls
   pub few : length r.lasts.items < 2 ^ 32
   pub intervals : AreIntervals r.lasts.items

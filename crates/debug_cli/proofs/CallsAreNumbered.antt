@@ -1,6 +1,7 @@
 -- The columns of a numbered list of calls: where the subtree of each call is the interval from it to its
 -- last call, their parents and their last calls are those of numbered calls.
-use Rattle.std.proofs.Common.{◌≡◌, ◌↔◌, ℕ, zero, suc, ◌+◌, ◌<◌, ◌≤◌, Bool, true, false, cond, List, [], ◌∷◌, ◌++◌, take, Option, None, Some, length, map, refl, sym, ap, subst, ◌^◌, ◌∙◌, arith}
+use Rattle.std.proofs.Common.{◌≡◌, ◌↔◌, ℕ, zero, suc, ◌+◌, ◌<◌, ◌≤◌, Bool, true, false, cond, List, [], ◌∷◌, ◌++◌, take, Option, None, Some, length, map}
+use Rattle.std.proofs.Common.{refl, sym, ap, subst, ◌^◌, ◌∙◌, arith}
 use Rattle.std.specs.Prelude.{slice_get, slice_index}
 use Rattle.std.proofs.Math.Dec.{leb}
 use Rattle.std.specs.Option.{option_map}
@@ -11,8 +12,8 @@ use Rattle.core_program.specs.declared.calls.CallRow.{CallRow}
 use Rattle.core_program.specs.Run.{Call}
 use Rattle.core_program.specs.Numbering.{greatest, belows, last_of, parent_of, is_below, each_from, row_of, numbered, InSubtree, Root, Child}
 use Rattle.plain_search.specs.Numbering.{AreIntervals, IsParent, IsNumbered}
-use Rattle.debug_cli.specs.History.{parents_of, lasts_of, calls_within, IsReady}
-use Rattle.debug_cli.specs.declared.run.Run.{Run}
+use Rattle.debug_cli.specs.Execution.{parents_of, lasts_of, calls_within, IsReady}
+use Rattle.debug_cli.specs.declared.debuggee.Debuggee.{Debuggee}
 use Rattle.core_program.specs.Tables.{Tables}
 use Rattle.core_program.specs.Run.{Outcome, run}
 use Rattle.core_program.specs.Numbering.{calls_of}
@@ -51,7 +52,8 @@ pub row_at : (cs : List Call) (k : ℕ) → k < length cs → (c : Call) × (sli
 row_at cs k h = let here = get_within cs k h in (here.0, row_of_call cs k here.0 here.1, here.1)
 
 -- a column of the row of a call
-column_at : {A : Type 0} (v : CallRow → A) (cs : List Call) (k : ℕ) (h : k < length cs) → slice_get (map v (numbered cs)) k ≡ Some (v (row_of (belows cs) k (row_at cs k h).0))
+column_at : {A : Type 0} (v : CallRow → A) (cs : List Call) (k : ℕ) (h : k < length cs)
+    → slice_get (map v (numbered cs)) k ≡ Some (v (row_of (belows cs) k (row_at cs k h).0))
 column_at v cs k h = slice_get-map v (numbered cs) k ∙ ap (option_map v) (row_at cs k h).1
 
 pub parent_at : (cs : List Call) (k : ℕ) → k < length cs → slice_get (parents_of (numbered cs)) k ≡ Some (parent_of (belows cs) k)
@@ -124,7 +126,8 @@ numbered_columns cs tree = record {
         let x = tree.last call (omega (arith, lasts_length cs, size)) in
         omega (arith, l, x, lasts_length cs, size)
 
-    ends : (above call : ℕ) → IsParent (parents_of (numbered cs)) above call → slice_index (lasts_of (numbered cs)) call ≤ slice_index (lasts_of (numbered cs)) above
+    ends : (above call : ℕ) → IsParent (parents_of (numbered cs)) above call
+        → slice_index (lasts_of (numbered cs)) call ≤ slice_index (lasts_of (numbered cs)) above
     ends above call e =
         let is = parent_is cs above call e in
         let inside : call < length cs = is.0 in
@@ -134,15 +137,19 @@ numbered_columns cs tree = record {
 
     -- only a call has a last call after it
     top_inside : (top call : ℕ) → top < call → call ≤ slice_index (lasts_of (numbered cs)) top → (b : Bool) → leb (length cs) top ≡ b → top < length cs
-    top_inside top call later h true t = let past = leb-true _ _ t in let none = get_or_past (lasts_of (numbered cs)) top 0 (omega (arith, lasts_length cs)) in absurd (omega (arith, none))
+    top_inside top call later h true t =
+        let past = leb-true _ _ t in let none = get_or_past (lasts_of (numbered cs)) top 0 (omega (arith, lasts_length cs)) in absurd (omega (arith, none))
     top_inside top call later h false t = leb-false _ _ t
 
-    within : (top call : ℕ) → top < call → call ≤ slice_index (lasts_of (numbered cs)) top → (above : ℕ) × (top ≤ above) × IsParent (parents_of (numbered cs)) above call
+    within : (top call : ℕ) → top < call → call ≤ slice_index (lasts_of (numbered cs)) top
+        → (above : ℕ) × (top ≤ above) × IsParent (parents_of (numbered cs)) above call
     within top call later h =
         let inside : top < length cs = top_inside top call later h (leb (length cs) top) refl in
         let l = last_at cs top inside in
         let x = tree.last top (omega (arith, size)) in
-        let found = parent_within (belows cs) tree top call (omega (arith, size)) later ((tree.subtree top call (omega (arith, size))).1 (omega (arith, later), omega (arith, l, h))) in
+        let found =
+        parent_within (belows cs) tree top call (omega (arith, size)) later
+        ((tree.subtree top call (omega (arith, size))).1 (omega (arith, later), omega (arith, l, h))) in
         (found.0, found.1, parent_at cs call (omega (arith, l, x, h, size)) ∙ ap Some found.2)
 
 -- ---- the calls of a run
@@ -165,7 +172,8 @@ lasts_length' [] = refl
 lasts_length' (r ∷ rows) = omega (arith, lasts_length' rows)
 
 -- a run whose column of last calls is kept is ready to be searched
-pub ready_of : (subtree : SubtreeIsInterval) (last : LastIsACall) (r : Run) (p : Tables) (budget : ℕ) → r.lasts.items ≡ lasts_of r.calls → length r.calls < 2 ^ 32 → r.calls ≡ calls_within p budget → IsReady r
+pub ready_of : (subtree : SubtreeIsInterval) (last : LastIsACall) (r : Debuggee) (p : Tables) (budget : ℕ) → r.lasts.items ≡ lasts_of r.calls
+    → length r.calls < 2 ^ 32 → r.calls ≡ calls_within p budget → IsReady r
 ready_of subtree last r p budget lasts few calls = record {
   lasts = lasts;
   few = omega (arith, ap length lasts, lasts_length' r.calls, few);
@@ -174,10 +182,12 @@ ready_of subtree last r p budget lasts few calls = record {
 
 -- ---- the column of last calls, one call after another
 
-lasts_first : (rows : List CallRow) (n last : ℕ) → n < length rows → ((row : CallRow) → slice_get rows n ≡ Some row → last ≡ row.last) → lasts_of (take (suc n) rows) ≡ lasts_of (take n rows) ++ last ∷ []
+lasts_first : (rows : List CallRow) (n last : ℕ) → n < length rows → ((row : CallRow) → slice_get rows n ≡ Some row → last ≡ row.last)
+    → lasts_of (take (suc n) rows) ≡ lasts_of (take n rows) ++ last ∷ []
 lasts_first [] n last h f = absurd (omega (arith, h))
 lasts_first (r ∷ rows) zero last h f = ap (λ (x : ℕ). x ∷ []) (sym (f r refl))
 lasts_first (r ∷ rows) (suc n) last h f = ap (λ (xs : List ℕ). r.last ∷ xs) (lasts_first rows n last (omega (arith, h)) f)
 
-pub lasts_more : (rows : List CallRow) (n last : ℕ) → n < length rows → ((row : CallRow) → slice_get rows n ≡ Some row → last ≡ row.last) → lasts_of (take (n + 1) rows) ≡ lasts_of (take n rows) ++ last ∷ []
+pub lasts_more : (rows : List CallRow) (n last : ℕ) → n < length rows → ((row : CallRow) → slice_get rows n ≡ Some row → last ≡ row.last)
+    → lasts_of (take (n + 1) rows) ≡ lasts_of (take n rows) ++ last ∷ []
 lasts_more rows n last h f = ap (λ (k : ℕ). lasts_of (take k rows)) (let e : n + 1 ≡ suc n = omega arith in e) ∙ lasts_first rows n last h f

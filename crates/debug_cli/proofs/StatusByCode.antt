@@ -1,0 +1,65 @@
+-- A code tells its status.
+use Rattle.std.proofs.Common.{◌≡◌, ◌⊎◌, inl, inr, ℕ, Bool, nat_eq, ◌==◌, if◌then◌else◌, refl, sym, ap, subst, ◌∙◌}
+use Rattle.edge_ports.specs.Counts.{Counted}
+use Rattle.debug_cli.specs.declared.status.Status.{Status}
+use Rattle.debug_cli.specs.declared.status.Status.TheVariants.{Done, Words, Source, File, Console, Screen, Memory, Spent}
+use Rattle.debug_cli.specs.Status.{code_of, is_console, is_screen}
+use Rattle.debug_cli.specs.Outside.{NotRisen}
+
+abbrev status_with : ℕ → Status
+status_with n =
+    if nat_eq n 0 then Done else (if nat_eq n 2 then Words else (if nat_eq n 3 then Source else (if nat_eq n 4 then File
+    else (if nat_eq n 5 then Console else (if nat_eq n 6 then Screen else (if nat_eq n 7 then Memory else Spent))))))
+
+status_again : (s : Status) → status_with (code_of s) ≡ s
+status_again Done = refl
+status_again Words = refl
+status_again Source = refl
+status_again File = refl
+status_again Console = refl
+status_again Screen = refl
+status_again Memory = refl
+status_again Spent = refl
+
+-- no two statuses have one code
+pub code_is : (s wanted : Status) → code_of s ≡ code_of wanted → s ≡ wanted
+code_is s wanted e = sym (status_again s) ∙ ap status_with e ∙ status_again wanted
+
+-- one of two statuses
+pub either_code : (s one other : Status) (n : ℕ) → n ≡ code_of s → (s ≡ one) ⊎ (s ≡ other) → (n ≡ code_of one) ⊎ (n ≡ code_of other)
+either_code s one other n e (inl h) = inl (e ∙ ap code_of h)
+either_code s one other n e (inr h) = inr (e ∙ ap code_of h)
+
+-- an object that did not fail is not the cause
+pub no_console : (s : Status) (before now : ℕ) → Counted (is_console s) before now → NotRisen before now → s ≡ Console → ⊥
+no_console s before now k stayed e = stayed (subst (λ (x : Status). Counted (is_console x) before now) e k)
+
+pub no_screen : (s : Status) (before now : ℕ) → Counted (is_screen s) before now → NotRisen before now → s ≡ Screen → ⊥
+no_screen s before now k stayed e = stayed (subst (λ (x : Status). Counted (is_screen x) before now) e k)
+
+-- the counts, by the code
+console_status : (s : Status) → is_console s ≡ (code_of s == 5)
+console_status Done = refl
+console_status Words = refl
+console_status Source = refl
+console_status File = refl
+console_status Console = refl
+console_status Screen = refl
+console_status Memory = refl
+console_status Spent = refl
+
+screen_status : (s : Status) → is_screen s ≡ (code_of s == 6)
+screen_status Done = refl
+screen_status Words = refl
+screen_status Source = refl
+screen_status File = refl
+screen_status Console = refl
+screen_status Screen = refl
+screen_status Memory = refl
+screen_status Spent = refl
+
+pub console_counted : (s : Status) (n before now : ℕ) → n ≡ code_of s → Counted (is_console s) before now → Counted (n == 5) before now
+console_counted s n before now e k = subst (λ (b : Bool). Counted b before now) (console_status s ∙ ap (λ (m : ℕ). m == 5) (sym e)) k
+
+pub screen_counted : (s : Status) (n before now : ℕ) → n ≡ code_of s → Counted (is_screen s) before now → Counted (n == 6) before now
+screen_counted s n before now e k = subst (λ (b : Bool). Counted b before now) (screen_status s ∙ ap (λ (m : ℕ). m == 6) (sym e)) k

@@ -1,0 +1,31 @@
+-- What is outside of the command, at one moment.
+use Rattle.std.specs.Prelude.{◌≡◌, ◌⊎◌, ℕ, List, Option, Err}
+use Rattle.edge_ports.specs.Files.{FileMap}
+use Rattle.edge_ports.specs.Counts.{Rose, KeeperCounts, CountsFetch}
+use Rattle.edge_ports.specs.declared.ports.FetchFault.{FetchFault}
+
+-- the bytes that the console has left, and those that the screen was given, where they tell them
+pub record Streams : Type 0 where
+  pub left : Option (List ℕ)
+  pub given : Option (List ℕ)
+
+-- the keeper's files, where it tells them, and its counts; and the streams
+pub record Outside : Type 0 where
+  pub files : Option FileMap
+  pub counts : KeeperCounts
+  pub streams : Streams
+
+-- a count did not rise, and does not stand at its last value
+abbrev pub NotRisen : ℕ → ℕ → Type 0
+NotRisen before now = Rose before now → ⊥
+
+-- no count of a keeper rose, and none stands at its last value
+pub record NoneRisen (before now : KeeperCounts) : Type 0 where
+  pub faults : NotRisen before.faults now.faults
+  pub misses : NotRisen before.misses now.misses
+  pub overs : NotRisen before.overs now.overs
+
+-- a keeper's counts after the command, which fetches one file at most: they stay, or the one rises that says why
+-- it was not fetched
+abbrev pub CountsOneFetch : KeeperCounts → KeeperCounts → Type 0
+CountsOneFetch before now = (now ≡ before) ⊎ ((fault : FetchFault) × CountsFetch (Err fault) before now)
