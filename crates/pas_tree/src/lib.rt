@@ -13,4 +13,6 @@ mod laws;
 pub mod operators;
 pub mod statements;
 
-pub use laws::{first_refusals, one_token_decides, refusals_are_exact, trees_fit_the_grammar};
+pub use laws::{
+    first_refusals, nodes_tell_trees, one_token_decides, refusals_are_exact, trees_fit_the_grammar,
+};
