@@ -8,6 +8,9 @@ use Rattle.std.proofs.lemmas.List.{get_or-set_same, get_or-set_other, map-set, l
 use Rattle.std.proofs.lemmas.List.{get_or-map as get_or-map_inside}
 use Rattle.std.proofs.Math.ListN.{get_or-map}
 use Rattle.std.proofs.lemmas.Nat.{div-add-mod'}
+use Rattle.cell_value.specs.declared.values.Value.{Value}
+use Rattle.persistent_store.specs.declared.cells.Cell.{Cell}
+use Rattle.persistent_store.specs.Cells.{value_of, values_of}
 use Rattle.persistent_store.specs.Loans.{with_target}
 use Rattle.persistent_store.specs.Nodes.{Entries, target_of, targets, entry_at, found_in, ChangesAt}
 
@@ -115,3 +118,24 @@ written_below span find_below p ps i addr d q cell place is inside there =
 pub if_none : {T : Type 0} {P : Type 0} (o : Option T) → P → IfNone o P
 if_none (Some x) h = tt
 if_none None h = h
+
+-- ---- the cells of a leaf
+
+-- a cell of a leaf is written over
+pub values-set : (cells : List Cell) (ys : Entries Value) (old : Option (Entries Value)) (place : ℕ) (cell : Cell) → place < length cells → ((k : ℕ) → get_or (values_of cells) k None ≡ entry_at old k) → ys ≡ values_of (set cells place cell) → ChangesAt (entry_at old) (entry_at (Some ys)) place (value_of cell)
+values-set cells ys old place cell inside same is =
+    let there : place < length (values_of cells) = simp length-map inside in
+    entry_at-set (values_of cells) ys old place (value_of cell) there same (is ∙ map-set value_of cells place cell)
+
+-- the same of a leaf that is written to in place
+pub written_cell : {Z : Type 0} (p : Option (Rc (Entries Value) Z)) (cells : List Cell) (i addr : ℕ) (cell was : Cell) → cell ≡ was → i ≡ addr → target_of p ≡ Some (values_of cells) → i < length cells → ChangesAt (entry_at (target_of p)) (entry_at (target_of (with_target p (values_of (set cells i cell))))) addr (value_of was)
+written_cell p cells i addr cell was same place is inside =
+    let there : i < length (values_of cells) = simp length-map inside in
+    rw (map-set value_of cells i cell, ← same) (written_leaf p (values_of cells) i addr (value_of cell) place is there)
+
+-- clones of cells have the values of the cells
+pub values_alike : (cells copies : List Cell) → AllZip (λ cell copy. value_of copy ≡ value_of cell) cells copies → values_of copies ≡ values_of cells
+values_alike [] [] h = refl
+values_alike [] (d ∷ ds) h = absurd h
+values_alike (c ∷ cs) [] h = absurd h
+values_alike (c ∷ cs) (d ∷ ds) h = let first = h.0 in let rest = values_alike cs ds h.1 in cc

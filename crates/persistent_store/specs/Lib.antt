@@ -1,4 +1,4 @@
 pub mod Nodes
 pub mod Addresses
+pub mod Cells
 pub mod Loans
-pub mod Commands

@@ -3,13 +3,12 @@
 //! program that the tests compare it with.
 #![tactic(auto)]
 
-mod laws;
+mod cells;
 mod nodes;
 mod store;
 mod trie;
 mod whole_map;
 
-pub use laws::stores_answer_as_whole_maps;
 pub use store::Store;
 pub use whole_map::WholeMap;
 

@@ -2,9 +2,11 @@
 //! of stores may share a node, and one that is shared is never written to.
 ghost use Rattle.std.specs.Prelude.{◌≡◌, ◌+◌, ◌<◌, ℕ, IfOk, IfSome, OnOk, OnErr, Some, None, option_copied, length, replicate};
 ghost use Rattle.std.specs.Borrow.{sem};
+ghost use Rattle.persistent_store.specs.Cells.{value_of, values_of};
 ghost use Rattle.persistent_store.specs.Loans.{LendsTarget};
 ghost use Rattle.persistent_store.specs.Nodes.{entry_at, target_of, targets, ChangesAt};
 
+use crate::cells::Cell;
 use cell_value::{Memory, Steps, Value};
 use std::alloc::Global;
 use std::marker::Model;
@@ -13,16 +15,17 @@ use std::rc::Rc;
 /// A node of the lowest level: sixteen cells, each with a value or none.
 #[derive(Drop)]
 pub(crate) struct Leaf {
-    pub(crate) cells: [Option<Value>; 16],
+    pub(crate) cells: [Cell; 16],
 }
 
 impl Model for Leaf {
     ghost use Rattle.std.specs.Prelude.{◌≡◌, List, Option, length};
     ghost use Rattle.cell_value.specs.declared.values.Value.{Value as CellValue};
+    ghost use Rattle.persistent_store.specs.Cells.{values_of};
 
     ghost Value = { List (Option CellValue) };
 
-    ghost view = { λ leaf. leaf.cells };
+    ghost view = { λ leaf. values_of leaf.cells };
 
     ghost invariant = { λ leaf. length leaf.cells ≡ 16 };
 }
@@ -33,20 +36,17 @@ impl Leaf {
         requires { place < 16 }
         ensures { result ≡ entry_at (option_copied leaf.entry) place }
     {
-        match leaf {
-            Some(leaf) => leaf.cells[place],
-            None => None,
-        }
+        leaf?.cells[place].value()
     }
 
-    /// The cells of a leaf, none of them with a value where there is no leaf.
-    fn cells_of(leaf: Option<&Leaf>) -> [Option<Value>; 16]
-        ensures sixteen { length result ≡ 16 }
-        ensures same { (k : ℕ) → entry_at (Some result) k ≡ entry_at (option_copied leaf.entry) k }
+    /// Copies of the cells of a leaf, none of them with a value where there is no leaf.
+    fn cells_of(leaf: Option<&Leaf>) -> Result<[Cell; 16], Memory>
+        ensures sixteen { IfOk result (λ cells. length cells ≡ 16) }
+        ensures same { IfOk result (λ cells. (k : ℕ) → entry_at (Some (values_of cells)) k ≡ entry_at (option_copied leaf.entry) k) }
     {
         match leaf {
-            Some(leaf) => leaf.cells,
-            None => [None; 16],
+            Some(leaf) => copies_of(&leaf.cells),
+            None => Ok(no_cells()),
         }
     }
 
@@ -56,15 +56,15 @@ impl Leaf {
         alloc: Global,
         old: Option<&Leaf>,
         place: usize,
-        cell: Option<Value>,
+        cell: Cell,
         made: &mut Steps<L>,
     ) -> Result<Rc<Leaf>, Memory>
         requires { place < 16 }
-        ensures changed { IfOk result (λ new. ChangesAt (entry_at (option_copied old.entry)) (entry_at (Some new.value)) place cell) }
+        ensures changed { IfOk result (λ new. ChangesAt (entry_at (option_copied old.entry)) (entry_at (Some new.value)) place (value_of cell)) }
         ensures one_node { OnOk result (made.new ≡ made.old + 1) }
         ensures no_node { OnErr result (made.new ≡ made.old) }
     {
-        let mut cells = Leaf::cells_of(old);
+        let mut cells = Leaf::cells_of(old)?;
         cells[place] = cell;
         let leaf = Rc::new(alloc, Leaf { cells })?;
         made.tick();
@@ -139,6 +139,21 @@ pub(crate) fn target<T>(pointer: &Option<Rc<T>>) -> Option<&T>
         Some(node) => Some(&**node),
         None => None,
     }
+}
+
+/// Copies of sixteen cells.
+fn copies_of(cells: &[Cell; 16]) -> Result<[Cell; 16], Memory>
+    ensures sixteen { IfOk result (λ copies. length copies ≡ 16) }
+    ensures same { IfOk result (λ copies. values_of copies ≡ values_of cells.now) }
+{
+    Ok(cells.clone()?)
+}
+
+/// Sixteen cells with no value.
+fn no_cells() -> [Cell; 16]
+    ensures { result ≡ replicate 16 Cell.Absent }
+{
+    [const { Cell::Absent }; 16]
 }
 
 /// Sixteen pointers to nothing.

@@ -3,6 +3,7 @@ ghost use Rattle.std.specs.Prelude.{ℕ, ◌≡◌, ◌+◌, ◌<◌, ◌≤◌,
 ghost use Rattle.std.specs.FinMap as map;
 ghost use Rattle.persistent_store.specs.Addresses.{with_cell};
 
+use crate::cells::Cell;
 use crate::nodes::target;
 use crate::trie::{Root, cell_of, changed, written_in_place};
 use cell_value::{Memory, Steps, Value};
@@ -59,23 +60,27 @@ impl Store {
         let _root = &self.root;
     }
 
-    /// Writes a cell: in place where the store is the only owner of each node on the way to it, and
+    /// Sets or removes the value at an address: in place where the store is the only owner of each node on the way to it, and
     /// else by new nodes for that way.
     fn write<L>(
         &mut self,
         alloc: Global,
         addr: u32,
-        cell: Option<Value>,
+        value: Option<Value>,
         made: &mut Steps<L>,
     ) -> Result<(), Memory>
         requires { addr < 1048576 }
-        ensures written { OnOk result (self.new ≡ with_cell self.old addr cell) }
+        ensures written { OnOk result (self.new ≡ with_cell self.old addr value) }
         ensures unchanged { OnErr result (self.new ≡ self.old) }
         ensures made_rises { made.old ≤ made.new }
         ensures five_nodes { made.new ≤ made.old + 5 }
     {
-        match written_in_place(&mut self.root, addr, cell) {
-            Some(()) => Ok(()),
+        let mut cell = Cell::of(alloc, value)?;
+        match written_in_place(&mut self.root, addr, &mut cell) {
+            Some(()) => {
+                drop(cell);
+                Ok(())
+            }
             None => {
                 let root = changed(alloc, target(&self.root), addr, cell, made)?;
                 self.root = Some(root);

@@ -3,7 +3,7 @@
 ghost use Rattle.std.specs.Prelude.{◌<◌};
 
 use crate::{Store, WholeMap};
-use cell_value::{Steps, Value};
+use cell_value::{SetBits, Steps, Value};
 use std::alloc::{AllocError, Global};
 use std::test::Fail;
 
@@ -55,6 +55,25 @@ fn few_cells(rt: HostRuntime) -> Result<(), Fail> {
             "{addr} before"
         );
     }
+    Ok(())
+}
+
+/// A set stands behind a pointer, and a snapshot shares it.
+#[test]
+fn sets(rt: HostRuntime) -> Result<(), Fail> {
+    let set = Value::Bits(SetBits {
+        words: [1, 2, 3, u64::MAX],
+    });
+    let mut store = Store::new();
+    let mut made: Steps<()> = Steps::new();
+    store.put(rt.alloc(), 7, set, &mut made)?;
+    let before = store.snapshot()?;
+    store.put(rt.alloc(), 8, set, &mut made)?;
+    store.put(rt.alloc(), 7, Value::Nil, &mut made)?;
+    assert_eq!(rt; store.get(7), Some(Value::Nil));
+    assert_eq!(rt; store.get(8), Some(set));
+    assert_eq!(rt; before.get(7), Some(set));
+    assert_eq!(rt; before.get(8), None);
     Ok(())
 }
 

@@ -1,10 +1,13 @@
 //! The trie under a root: five levels of nodes, which are told apart by their types.
 ghost use Rattle.std.specs.Prelude.{◌≡◌, ◌+◌, ◌/◌, ◌%◌, ◌<◌, ◌≤◌, IfOk, OnSome, IfNone, Some, option_copied};
+ghost use Rattle.persistent_store.specs.Cells.{value_of};
 ghost use Rattle.persistent_store.specs.Nodes.{cell_at, target_of, ChangesAt};
 
+use crate::cells::Cell;
 use crate::nodes::{Branch, Leaf, sole};
 use cell_value::{Memory, Steps, Value};
 use std::alloc::Global;
+use std::mem;
 use std::rc::Rc;
 
 /// The nodes of the levels above the leaves, the lowest first.
@@ -65,11 +68,11 @@ pub(crate) fn changed<L>(
     alloc: Global,
     root: Option<&Root>,
     addr: u32,
-    cell: Option<Value>,
+    cell: Cell,
     made: &mut Steps<L>,
 ) -> Result<Rc<Root>, Memory>
     requires { addr < 1048576 }
-    ensures changed { IfOk result (λ new. ChangesAt (cell_at (option_copied root.entry)) (cell_at (Some new.value)) addr cell) }
+    ensures changed { IfOk result (λ new. ChangesAt (cell_at (option_copied root.entry)) (cell_at (Some new.value)) addr (value_of cell)) }
     ensures made_rises { made.old ≤ made.new }
     ensures five_nodes { made.new ≤ made.old + 5 }
 {
@@ -86,15 +89,16 @@ pub(crate) fn changed<L>(
 }
 
 /// Writes a cell in place, where the nodes on the way to it are there and have no other owner, and
-/// changes nothing else.
+/// changes nothing else. Where they are not, the cell is left as it was handed in.
 pub(crate) fn written_in_place(
     root: &mut Option<Rc<Root>>,
     addr: u32,
-    cell: Option<Value>,
+    cell: &mut Cell,
 ) -> Option<()>
     requires { addr < 1048576 }
-    ensures written { OnSome result (ChangesAt (cell_at (target_of root.old)) (cell_at (target_of root.new)) addr cell) }
+    ensures written { OnSome result (ChangesAt (cell_at (target_of root.old)) (cell_at (target_of root.new)) addr (value_of cell.old)) }
     ensures unchanged { IfNone result (target_of root.new ≡ target_of root.old) }
+    ensures kept { IfNone result (cell.new ≡ cell.old) }
 {
     let places = Places::of(addr);
     let root = sole(root)?;
@@ -102,6 +106,6 @@ pub(crate) fn written_in_place(
     let level2 = sole(&mut level3.below[places.level3])?;
     let level1 = sole(&mut level2.below[places.level2])?;
     let leaf = sole(&mut level1.below[places.level1])?;
-    leaf.cells[places.leaf] = cell;
+    leaf.cells[places.leaf] = mem::replace(cell, Cell::Absent);
     Some(())
 }

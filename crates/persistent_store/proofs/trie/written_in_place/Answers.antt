@@ -1,6 +1,6 @@
 use Rattle.std.proofs.Common.{ap, sym, ◌∙◌, refl, Some, arith, ◌<◌, length}
 use Rattle.persistent_store.specs.Nodes.{entry_at, in_level1, in_level2, in_level3}
-use Rattle.persistent_store.proofs.NodeLemmas.{restored, written_leaf, written_below, if_none}
+use Rattle.persistent_store.proofs.NodeLemmas.{restored, written_cell, written_below, if_none}
 use Rattle.persistent_store.proofs.trie.written_in_place.Goals as goal
 
 pub returns-in_err-level2-clause-unchanged : goal.returns-in_err-level2-clause-unchanged
@@ -40,4 +40,4 @@ returns-clause-written c =
     (written_below 4096 in_level2 _ _ _ _ c.index-level3-places.result _ _ c.of-places.ensures.level3 level3 in_3
     (written_below 256 in_level1 _ _ _ _ c.index-level2-places.result _ _ c.of-places.ensures.level2 level2 in_2
     (written_below 16 entry_at _ _ _ _ c.index-level1-places.result _ _ c.of-places.ensures.level1 level1 in_1
-    (written_leaf _ _ _ _ _ c.of-places.ensures.leaf leaf in_leaf))))
+    (written_cell _ _ _ _ _ _ c.replace.ensures.value c.of-places.ensures.leaf leaf in_leaf))))
