@@ -1,7 +1,6 @@
-//! Tests of the whole command over a keeper, a console and a screen in memory.
+//! A test of the whole command in which allocations may be made to fail. All that files can say of the command and
+//! the parser is a case of `worked_cases`.
 #![tactic(auto)]
 
-#[cfg(test)]
-mod grammar_tests;
 #[cfg(test)]
 mod tests;

@@ -1,0 +1,132 @@
+//! Runs worked cases. A case is what is given to the command, or to the parser, and what has to come of it, and is held
+//! in files of a folder. The file `index` names the files of cases, each after the word for its kind: `command` or
+//! `sources`. The program prints a line for each case and each difference in full, and fails where there is one.
+//!
+//! Its one argument is the folder, `.` where there is none.
+#![tactic(auto)]
+
+mod case;
+mod comparing;
+mod escapes;
+mod folder;
+mod parser;
+mod reading;
+mod running;
+mod sections;
+mod sources;
+
+use anyhow::{Context, Result, bail};
+use comparing::differences;
+use folder::Folder;
+use reading::read_cases;
+use sources::try_sources;
+use std::io::{self, Write};
+use std::process::ExitCode;
+use std::rt::Files;
+use std::{env, str};
+
+/// How many cases passed, and how many failed.
+#[derive(Clone, Copy, Debug)]
+struct Tally {
+    passed: u32,
+    failed: u32,
+}
+
+/// Prints that a case passed, or what differs.
+fn report<R: Print>(rt: &R, name: &str, differs: &[u8], tally: &mut Tally) -> Result<()> {
+    if differs.is_empty() {
+        tally.passed = tally.passed.saturating_add(1);
+        println!(rt; "ok {name}")?;
+    } else {
+        tally.failed = tally.failed.saturating_add(1);
+        println!(rt; "FAILED {name}")?;
+        io::writer(rt).write_all(differs)?;
+    }
+    Ok(())
+}
+
+/// Tries the cases of a file.
+fn try_cases<R: Files + AllocGlobal + Print>(
+    rt: &R,
+    folder: &mut Folder,
+    name: &str,
+    tally: &mut Tally,
+) -> Result<()> {
+    for case in &read_cases(rt, folder, name)? {
+        let case_name = case.name.as_str();
+        let differs = differences(rt.alloc(), case).context(format_args!("{name}: {case_name}"))?;
+        report(rt, case_name, &differs, tally)?;
+    }
+    Ok(())
+}
+
+/// Tries the sources of a file.
+fn try_rows<R: Files + AllocGlobal + Print>(
+    rt: &R,
+    folder: &mut Folder,
+    name: &str,
+    tally: &mut Tally,
+) -> Result<()> {
+    let judged = try_sources(rt, folder, name)?;
+    let (passed, failed) = (judged.passed, judged.failed);
+    tally.passed = tally.passed.saturating_add(passed);
+    tally.failed = tally.failed.saturating_add(failed);
+    if failed == 0 {
+        println!(rt; "ok {name}: {passed} sources")?;
+    } else {
+        println!(rt; "FAILED {name}: {failed} sources")?;
+        io::writer(rt).write_all(&judged.differences)?;
+    }
+    Ok(())
+}
+
+/// Tries the files that the index names.
+fn try_index<R: Files + AllocGlobal + Print>(
+    rt: &R,
+    folder: &mut Folder,
+    tally: &mut Tally,
+) -> Result<()> {
+    let index = folder.read(rt, "index")?;
+    let Ok(index) = str::from_utf8(&index) else {
+        bail!("the index is no UTF-8 text");
+    };
+    for line in index.lines() {
+        match line.split_once(' ') {
+            Some(("command", name)) => try_cases(rt, folder, name, tally)?,
+            Some(("sources", name)) => try_rows(rt, folder, name, tally)?,
+            _ if line.is_empty() || line.starts_with('#') => {}
+            _ => bail!("the index: {line}"),
+        }
+    }
+    Ok(())
+}
+
+/// Tries all cases of a folder. A file that is not used is a fault too.
+fn try_folder<R: Files + AllocGlobal + Print + Clone + Drop>(rt: &R, path: &str) -> Result<Tally> {
+    let mut tally = Tally {
+        passed: 0,
+        failed: 0,
+    };
+    let mut folder = Folder::new(rt.alloc(), path)?;
+    try_index(rt, &mut folder, &mut tally)?;
+    for name in &folder.unread(rt)? {
+        report(rt, name.as_str(), b"  no case uses this file\n", &mut tally)?;
+    }
+    let (passed, failed) = (tally.passed, tally.failed);
+    println!(rt; "{passed} passed, {failed} failed")?;
+    Ok(tally)
+}
+
+fn main(rt: HostRuntime) -> Result<ExitCode> {
+    let mut args = env::args(&rt)?;
+    let _program = args.next();
+    let tally = match args.next() {
+        Some(path) => try_folder(&rt, path.as_str())?,
+        None => try_folder(&rt, ".")?,
+    };
+    if tally.failed == 0 {
+        Ok(ExitCode::SUCCESS)
+    } else {
+        Ok(ExitCode::FAILURE)
+    }
+}

@@ -1,0 +1,157 @@
+//! Sources with the places where they are refused.
+
+use crate::case::{Case, File, Wanted};
+use crate::comparing::differences;
+use crate::escapes::unescaped;
+use crate::folder::Folder;
+use crate::parser::parser_answer;
+use anyhow::{Context, Result, bail, ensure};
+use std::alloc::Global;
+use std::rt::Files;
+use std::str;
+
+/// The exit status of a source that is refused.
+const REFUSED: u8 = 3;
+
+/// A source, and what the command and the parser are to make of it. `why` is `taken`, or the reason for which it is
+/// refused at the byte and the line.
+#[derive(Drop)]
+struct Row {
+    why: String,
+    source: Vec<u8>,
+    byte: usize,
+    line: usize,
+}
+
+/// What came of the rows of a file.
+#[derive(Drop)]
+pub(crate) struct Judged {
+    pub(crate) passed: u32,
+    pub(crate) failed: u32,
+    /// The rows that failed, in full.
+    pub(crate) differences: Vec<u8>,
+}
+
+/// Tries each row of a file. A row is a line `WHY: SOURCE`, the source with escapes and with `|` at the place where it
+/// is refused. Lines that are empty or begin with `#` are no rows.
+pub(crate) fn try_sources<R: Files + AllocGlobal>(
+    rt: &R,
+    folder: &mut Folder,
+    name: &str,
+) -> Result<Judged> {
+    let bytes = folder.read(rt, name)?;
+    let mut judged = Judged {
+        passed: 0,
+        failed: 0,
+        differences: Vec::new(rt.alloc()),
+    };
+    let mut number: u32 = 0;
+    for line in bytes.split(|byte| *byte == b'\n') {
+        number = number.saturating_add(1);
+        if !line.is_empty() && !line.starts_with(b"#") {
+            judge_line(rt.alloc(), line, &mut judged).context(format_args!(
+                "{name}, line {number}"
+            ))?;
+        }
+    }
+    Ok(judged)
+}
+
+/// Tries the row of a line.
+fn judge_line(alloc: Global, line: &[u8], judged: &mut Judged) -> Result<()> {
+    let Ok(text) = str::from_utf8(line) else {
+        bail!("the line is no UTF-8 text");
+    };
+    let differs = difference(alloc, read_row(alloc, text)?)?;
+    if differs.is_empty() {
+        judged.passed = judged.passed.saturating_add(1);
+    } else {
+        judged.failed = judged.failed.saturating_add(1);
+        judged.differences.extend_from_slice(line)?;
+        judged.differences.push(b'\n')?;
+        judged.differences.extend_from_slice(&differs)?;
+    }
+    Ok(())
+}
+
+/// The row of a line.
+fn read_row(alloc: Global, text: &str) -> Result<Row> {
+    let Some((why, marked)) = text.split_once(": ") else {
+        bail!("a reason, a colon, a blank and a source are wanted");
+    };
+    let why = why.to_string(alloc)?;
+    if why.as_str() == "taken" {
+        ensure!(!marked.contains('|'), "a source that is taken has a mark");
+        let source = unescaped(alloc, marked)?;
+        return Ok(Row {
+            why,
+            source,
+            byte: 0,
+            line: 0,
+        });
+    }
+    let Some((before, after)) = marked.split_once('|') else {
+        bail!("the mark is wanting");
+    };
+    ensure!(!after.contains('|'), "a second mark");
+    let mut source = unescaped(alloc, before)?;
+    let byte = source.len();
+    let line = source
+        .iter()
+        .filter(|byte| **byte == b'\n')
+        .count()
+        .saturating_add(1);
+    source.extend_from_slice(&unescaped(alloc, after)?)?;
+    Ok(Row {
+        why,
+        source,
+        byte,
+        line,
+    })
+}
+
+/// What differs, in full: nothing where parser and command make of the source what the row says.
+fn difference(alloc: Global, row: Row) -> Result<Vec<u8>> {
+    let wanted = wanted_of_parser(alloc, &row)?;
+    let answer = parser_answer(alloc, &row.source)?;
+    let mut text = differences(alloc, &command_case(alloc, row)?)?;
+    if wanted.as_str() != answer.as_str() {
+        let line = format!(in alloc; "  the parser is to say: {wanted}\n  it says: {answer}\n")?;
+        text.extend_from_slice(line.as_bytes())?;
+    }
+    Ok(text)
+}
+
+/// What the parser is to say. Of a source that it takes a later rule may refuse a part.
+fn wanted_of_parser(alloc: Global, row: &Row) -> Result<String> {
+    let why = row.why.as_str();
+    let byte = row.byte;
+    Ok(match why {
+        "NotProgram" | "TooDeep" => format!(in alloc; "{why}, byte {byte}")?,
+        "BadByte" | "Joined" | "TooLarge" | "RealWord" => "no tokens".to_string(alloc)?,
+        "OpenComment" | "OpenString" | "EmptyString" => "no tokens".to_string(alloc)?,
+        _ => "taken".to_string(alloc)?,
+    })
+}
+
+/// The run of the command on the source of a row, on a console without lines. A source that the parser takes is not
+/// refused by the grammar.
+fn command_case(alloc: Global, row: Row) -> Result<Case> {
+    let mut case = Case::new(alloc, "")?;
+    if row.why.as_str() == "taken" {
+        for beginning in ["refused: NotProgram", "refused: TooDeep"] {
+            let beginning = beginning.as_bytes().to_vec(alloc)?;
+            case.wanted.push(Wanted::OtherBeginning(beginning))?;
+        }
+    } else {
+        let (why, line, byte) = (row.why.as_str(), row.line, row.byte);
+        let refused = format!(in alloc; "refused: {why}, line {line}, byte {byte}\n")?;
+        case.wanted.push(Wanted::Status(REFUSED))?;
+        case.wanted.push(Wanted::Whole(refused.into_bytes()))?;
+    }
+    case.files.push(File {
+        name: "F".to_string(alloc)?,
+        bytes: row.source,
+    })?;
+    Ok(case)
+}
