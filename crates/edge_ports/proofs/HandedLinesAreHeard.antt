@@ -21,7 +21,8 @@ record Parts (bytes : List ℕ) : Type 0 where
 longer : (byte : ℕ) (bytes : List ℕ) → Parts bytes → Parts (byte ∷ bytes)
 longer byte bytes p =
     elim (is_line_end byte) as (λ b. ((more : List ℕ)
-    → slice_split is_line_end ((byte ∷ bytes) ++ more) ≡ cond b ([] ∷ slice_split is_line_end (bytes ++ more)) (onto_first byte (slice_split is_line_end (bytes ++ more)))) → Parts (byte ∷ bytes)) [
+    → slice_split is_line_end ((byte ∷ bytes) ++ more) ≡ cond b ([] ∷ slice_split is_line_end (bytes ++ more))
+    (onto_first byte (slice_split is_line_end (bytes ++ more)))) → Parts (byte ∷ bytes)) [
       | true ↦ λ e. record { head = []; tail = p.head ∷ p.tail; splits = λ more. e more ∙ ap (λ l. [] ∷ l) (p.splits more) }
       | false ↦ λ e. record { head = byte ∷ p.head; tail = p.tail; splits = λ more. e more ∙ ap (onto_first byte) (p.splits more) }
     ] (λ more. refl)

@@ -120,19 +120,20 @@ first_of_equals last entries call h other among same =
     ]
 
 pub question_is_best : (last : List ℕ) (entries : List Entry) (call weight many left : ℕ) → state_of last entries ≡ Ask call weight many left
-    → IsBest last entries call weight many left
+    → IsBest last entries call many left × (weight ≡ weight_of last (suspects_after last entries) call)
 question_is_best last entries call weight many left h =
     let suspects = suspects_after last entries in
-    let parts = asks last entries call weight many left h in
-    record {
-      a_suspect = question_among last suspects call parts.0;
-      its_weight = parts.1;
-      all_suspects = parts.2;
-      its_left = parts.3;
-      none_leaves_fewer = λ k d inside. let least = question_least last suspects call parts.0 k d inside in rw parts.3 least;
-      first_of_equals = λ k d inside same. first_of_equals last entries call parts.0 (get_or suspects k d) (Contains-get_or suspects k d inside) (same
-          ∙ parts.3);
-    }
+    let parts = asks last entries call weight many left h in (
+      record {
+        a_suspect = question_among last suspects call parts.0;
+        all_suspects = parts.2;
+        its_left = parts.3;
+        none_leaves_fewer = λ k d inside. let least = question_least last suspects call parts.0 k d inside in rw parts.3 least;
+        first_of_equals = λ k d inside same. first_of_equals last entries call parts.0 (get_or suspects k d) (Contains-get_or suspects k d inside) (same
+            ∙ parts.3);
+      },
+      parts.1,
+    )
 
 at_least_itself : (last : List ℕ) (entries : List Entry) (call : ℕ) → AreIntervals last → Contains (suspects_after last entries) call
     → 1 ≤ weight_of last (suspects_after last entries) call

@@ -41,10 +41,10 @@ LeftIsTheWorse =
     → left_of last (suspects_after last entries) call ≡ max (left_after last entries call judgement.Wrong)
     (left_after last entries call judgement.Right)
 
--- a suspect, with its numbers, that no other is better than; of those that are as good it is the first
-pub record IsBest (last : List ℕ) (entries : List Entry) (call weight suspects left : ℕ) : Type 0 where
+-- a suspect, with the number of all suspects and what it leaves, that no other is better than; of those that are as good
+-- it is the first
+pub record IsBest (last : List ℕ) (entries : List Entry) (call suspects left : ℕ) : Type 0 where
   pub a_suspect : Contains (suspects_after last entries) call
-  pub its_weight : weight ≡ weight_of last (suspects_after last entries) call
   pub all_suspects : suspects ≡ length (suspects_after last entries)
   pub its_left : left ≡ left_of last (suspects_after last entries) call
   pub none_leaves_fewer : All (λ other. left ≤ left_of last (suspects_after last entries) other)
@@ -52,12 +52,12 @@ pub record IsBest (last : List ℕ) (entries : List Entry) (call weight suspects
   pub first_of_equals : All (λ other. left_of last (suspects_after last entries) other ≡ left
       → call ≤ other) (suspects_after last entries)
 
--- what is asked is best
+-- what is asked is best, and its weight is the one that is said
 abbrev pub QuestionIsBest : Type 0
 QuestionIsBest =
     (last : List ℕ) (entries : List Entry) (call weight suspects left : ℕ)
     → state_of last entries ≡ Ask call weight suspects left
-    → IsBest last entries call weight suspects left
+    → IsBest last entries call suspects left × (weight ≡ weight_of last (suspects_after last entries) call)
 
 -- the worse answer to the question leaves at least one suspect fewer
 abbrev pub LeftIsFewer : Type 0

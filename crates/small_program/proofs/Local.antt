@@ -1,5 +1,6 @@
 -- A reading that stops at a token looks at none behind it.
-use Rattle.std.proofs.Common.{◌≡◌, ℕ, zero, suc, ◌≤◌, Bool, true, false, if◌then◌else◌, List, [], ◌∷◌, ◌++◌, length, Option, Some, None, Ok, Err, refl, sym, ap, subst, ◌∙◌, arith, append_assoc}
+use Rattle.std.proofs.Common.{◌≡◌, ℕ, zero, suc, ◌≤◌, Bool, true, false, if◌then◌else◌, List, [], ◌∷◌, ◌++◌, length, Option, Some, None, Ok, Err, refl, sym, ap}
+use Rattle.std.proofs.Common.{subst, ◌∙◌, arith, append_assoc}
 use Rattle.pas_lexer.specs.declared.kinds.Kind.TheVariants.{End}
 use Rattle.small_program.specs.declared.terminals.Fixed.{Fixed}
 use Rattle.small_program.specs.Small.{Piece, is_fixed}
@@ -67,7 +68,8 @@ local_by_head {A} final f choose = record {
         front = s.front;
         splits = s.splits;
         inside = s.inside;
-        again = λ x back other is. c.2 (s.front ++ x ∷ other) (same_token s.front l back other x (s.splits ∙ ap (λ (r : List Piece). s.front ++ r) is)) ∙ s.again x back other is;
+        again = λ x back other is. c.2 (s.front ++ x ∷ other) (same_token s.front l back other x (s.splits ∙ ap (λ (r : List Piece). s.front ++ r) is))
+            ∙ s.again x back other is;
       };
   passes = λ l x rest e.
       let c = choose l in
@@ -111,7 +113,8 @@ module _ {A : Type 0} where
   pick take [] = Err []
   pick take (p ∷ l) = pick_read (take p) p l
 
-  pick_stops : (take : Piece → Option A) (p : Piece) (l rest : List Piece) (o : Option A) → take p ≡ o → pick_read o p l ≡ Err rest → Stops (pick take) (p ∷ l) rest
+  pick_stops : (take : Piece → Option A) (p : Piece) (l rest : List Piece) (o : Option A) → take p ≡ o → pick_read o p l ≡ Err rest
+      → Stops (pick take) (p ∷ l) rest
   pick_stops take p l rest (Some x) e h = absurd (let y : ⊥ = cc in y)
   pick_stops take p l rest None e h =
       let same : p ∷ l ≡ rest = cc in
@@ -119,7 +122,8 @@ module _ {A : Type 0} where
         front = [];
         splits = same;
         inside = tt;
-        again = λ x back other is. let first : p ≡ x = cc in ap (λ (q : Piece). pick_read (take q) q other) (sym first) ∙ ap (λ (o : Option A). pick_read o p other) e ∙ ap (λ (q : Piece). Err (q ∷ other)) first;
+        again = λ x back other is. let first : p ≡ x = cc in ap (λ (q : Piece). pick_read (take q) q other) (sym first)
+            ∙ ap (λ (o : Option A). pick_read o p other) e ∙ ap (λ (q : Piece). Err (q ∷ other)) first;
       }
 
   pick_passes : (final : Bool) (take : Piece → Option A) (p : Piece) (l : List Piece) (x : A) (rest : List Piece) (o : Option A) → take p ≡ o
@@ -142,7 +146,12 @@ module _ {A : Type 0} where
   }
     where
       stopped : (l rest : List Piece) → pick take l ≡ Err rest → Stops (pick take) l rest
-      stopped [] rest e = record { front = []; splits = (let same : [] ≡ rest = cc in same); inside = tt; again = λ x back other is. absurd (let same : [] ≡ rest = cc in let both : [] ≡ x ∷ back = same ∙ is in let y : ⊥ = cc in y) }
+      stopped [] rest e = record {
+        front = [];
+        splits = (let same : [] ≡ rest = cc in same);
+        inside = tt;
+        again = λ x back other is. absurd (let same : [] ≡ rest = cc in let both : [] ≡ x ∷ back = same ∙ is in let y : ⊥ = cc in y);
+      }
       stopped (p ∷ l) rest e = pick_stops take p l rest (take p) refl e
 
       passed : (l : List Piece) (x : A) (rest : List Piece) → pick take l ≡ Ok (x, rest) → Passes final (pick take) l x rest
@@ -175,7 +184,8 @@ module _ {A B : Type 0} (final : Bool) (f : List Piece → Read A) (g : A → Li
           inside = no_end_both p.front s.front (p.inside refl) s.inside;
           again = λ x back other is.
               ap both (append_assoc p.front s.front (x ∷ other))
-              ∙ ap (λ (r : Read A). after r g) (p.again (s.front ++ x ∷ other) (same_token s.front y.1 back other x (s.splits ∙ ap (λ (m : List Piece). s.front ++ m) is)))
+              ∙ ap (λ (r : Read A). after r g) (p.again (s.front ++ x ∷ other)
+              (same_token s.front y.1 back other x (s.splits ∙ ap (λ (m : List Piece). s.front ++ m) is)))
               ∙ s.again x back other is;
         }
 
@@ -202,7 +212,8 @@ module _ {A B : Type 0} (final : Bool) (f : List Piece → Read A) (g : A → Li
 
 -- ---- tokens in quotes
 
-fixed_taken : (b : Bool) (p : Piece) (l : List Piece) → ◌≡◌ {A = Read (Unit {0})} (if b then Ok (tt, l) else Err (p ∷ l)) (pick_read (if b then Some tt else None) p l)
+fixed_taken : (b : Bool) (p : Piece) (l : List Piece) → ◌≡◌ {A = Read (Unit {0})} (if b then Ok (tt, l) else Err (p ∷ l))
+    (pick_read (if b then Some tt else None) p l)
 fixed_taken true p l = refl
 fixed_taken false p l = refl
 
@@ -212,7 +223,8 @@ fixed_pick w (p ∷ l) = fixed_taken (is_fixed w p.kind) p l
 
 pub local_fixed : (final : Bool) (w : Fixed) → (final ≡ false → is_fixed w End ≡ false) → Local final (fixed_at w)
 local_fixed final w differs = local_same final (fixed_at w) (pick (λ (p : Piece). if is_fixed w p.kind then Some tt else None)) (fixed_pick w)
-    (local_pick final (λ (p : Piece). if is_fixed w p.kind then Some tt else None) (λ p f k. ap (λ (b : Bool). if b then Some tt else None) (ap (is_fixed w) k ∙ differs f)))
+    (local_pick final (λ (p : Piece). if is_fixed w p.kind then Some tt else None)
+    (λ p f k. ap (λ (b : Bool). if b then Some tt else None) (ap (is_fixed w) k ∙ differs f)))
 
 -- ---- items behind separators
 
@@ -225,16 +237,19 @@ next_same w (p ∷ l) (q ∷ m) h = ap (λ (x : Piece). is_fixed w x.kind) (sym 
 fixed_here : (w : Fixed) (p : Piece) (m : List Piece) → is_fixed w p.kind ≡ true → fixed_at w (p ∷ m) ≡ Ok (tt, m)
 fixed_here w p m e = ap (λ (b : Bool). if b then Ok (tt, m) else Err (p ∷ m)) e
 
-module _ {A : Type 0} (sep : Fixed) (item : List A → List Piece → Read A) (shrinks : (found : List A) (l : List Piece) (x : A) (rest : List Piece) → item found l ≡ Ok (x, rest) → length rest ≤ length l)
+module _ {A : Type 0} (sep : Fixed) (item : List A → List Piece → Read A)
+    (shrinks : (found : List A) (l : List Piece) (x : A) (rest : List Piece) → item found l ≡ Ok (x, rest) → length rest ≤ length l)
     (inner : is_fixed sep End ≡ false) (item_local : (found : List A) → Local false (item found)) where
   abbrev all : List A → List Piece → Read (List A)
   all found l = all_further sep item found l
 
   -- no separator follows
   done_stops : (found : List A) (l rest : List Piece) → fixed_next sep l ≡ false → all found l ≡ Err rest → Stops (all found) l rest
-  done_stops found l rest differs e = absurd (let x : ◌≡◌ {A = Read (List A)} (Ok (found, l)) (Err rest) = sym (is_done sep item shrinks found l differs) ∙ e in let y : ⊥ = cc in y)
+  done_stops found l rest differs e = absurd (let x : ◌≡◌ {A = Read (List A)} (Ok (found, l)) (Err rest) = sym (is_done sep item shrinks found l differs)
+      ∙ e in let y : ⊥ = cc in y)
 
-  done_passes : (found : List A) (l : List Piece) (xs : List A) (rest : List Piece) → fixed_next sep l ≡ false → all found l ≡ Ok (xs, rest) → Passes false (all found) l xs rest
+  done_passes : (found : List A) (l : List Piece) (xs : List A) (rest : List Piece) → fixed_next sep l ≡ false → all found l ≡ Ok (xs, rest)
+      → Passes false (all found) l xs rest
   done_passes found l xs rest differs e =
       let x : ◌≡◌ {A = Read (List A)} (Ok (found, l)) (Ok (xs, rest)) = sym (is_done sep item shrinks found l differs) ∙ e in
       let pair : (found, l) ≡ (xs, rest) = cc in
@@ -252,7 +267,8 @@ module _ {A : Type 0} (sep : Fixed) (item : List A → List Piece → Read A) (s
   separator_inside p is k = let x : true ≡ false = sym is ∙ ap (is_fixed sep) k ∙ inner in let y : ⊥ = cc in y
 
   -- the item behind the separator is refused
-  item_stops : (found : List A) (p : Piece) (m left rest : List Piece) → is_fixed sep p.kind ≡ true → item found m ≡ Err left → all found (p ∷ m) ≡ Err rest → Stops (all found) (p ∷ m) rest
+  item_stops : (found : List A) (p : Piece) (m left rest : List Piece) → is_fixed sep p.kind ≡ true → item found m ≡ Err left → all found (p ∷ m) ≡ Err rest
+      → Stops (all found) (p ∷ m) rest
   item_stops found p m left rest is f e =
       let x : ◌≡◌ {A = Read (List A)} (Err left) (Err rest) = sym (ends sep item shrinks found (p ∷ m) m left is (fixed_here sep p m is) f) ∙ e in
       let same : left ≡ rest = cc in
@@ -261,56 +277,63 @@ module _ {A : Type 0} (sep : Fixed) (item : List A → List Piece → Read A) (s
         front = p ∷ s.front;
         splits = ap (λ (r : List Piece). p ∷ r) s.splits;
         inside = (separator_inside p is, s.inside);
-        again = λ y back other at. ends sep item shrinks found (p ∷ (s.front ++ y ∷ other)) (s.front ++ y ∷ other) (y ∷ other) is (fixed_here sep p (s.front ++ y ∷ other) is) (s.again y back other at);
+        again = λ y back other at. ends sep item shrinks found (p ∷ (s.front ++ y ∷ other)) (s.front ++ y ∷ other) (y ∷ other) is
+            (fixed_here sep p (s.front ++ y ∷ other) is) (s.again y back other at);
       }
 
-  item_fails : (found : List A) (p : Piece) (m left : List Piece) (xs : List A) (rest : List Piece) → is_fixed sep p.kind ≡ true → item found m ≡ Err left → all found (p ∷ m) ≡ Ok (xs, rest) → ⊥
+  item_fails : (found : List A) (p : Piece) (m left : List Piece) (xs : List A) (rest : List Piece) → is_fixed sep p.kind ≡ true → item found m ≡ Err left
+      → all found (p ∷ m) ≡ Ok (xs, rest) → ⊥
   item_fails found p m left xs rest is f e =
       let x : ◌≡◌ {A = Read (List A)} (Err left) (Ok (xs, rest)) = sym (ends sep item shrinks found (p ∷ m) m left is (fixed_here sep p m is) f) ∙ e in
       let y : ⊥ = cc in y
 
   -- the item is read, and further ones follow
-  module _ (found : List A) (p : Piece) (m : List Piece) (x : A) (behind : List Piece) (is : is_fixed sep p.kind ≡ true) (f : item found m ≡ Ok (x, behind)) where
-    leads : all found (p ∷ m) ≡ all (found ++ x ∷ []) behind
-    leads = goes_on sep item shrinks found (p ∷ m) m behind x is (fixed_here sep p m is) f
+  module _ (found : List A) (p : Piece) (m : List Piece) (x : A) (behind : List Piece) (is : is_fixed sep p.kind ≡ true) (f : item found m ≡ Ok (x, behind))
+    where
+      leads : all found (p ∷ m) ≡ all (found ++ x ∷ []) behind
+      leads = goes_on sep item shrinks found (p ∷ m) m behind x is (fixed_here sep p m is) f
 
-    leads_from : (q : Passes false (item found) m x behind) (other : List Piece) → SameHead behind other → all found (p ∷ (q.front ++ other)) ≡ all (found ++ x ∷ []) other
-    leads_from q other h = goes_on sep item shrinks found (p ∷ (q.front ++ other)) (q.front ++ other) other x is (fixed_here sep p (q.front ++ other) is) (q.again other h)
+      leads_from : (q : Passes false (item found) m x behind) (other : List Piece) → SameHead behind other
+          → all found (p ∷ (q.front ++ other)) ≡ all (found ++ x ∷ []) other
+      leads_from q other h = goes_on sep item shrinks found (p ∷ (q.front ++ other)) (q.front ++ other) other x is (fixed_here sep p (q.front ++ other) is)
+          (q.again other h)
 
-    more_stops : (rest : List Piece) → Stops (all (found ++ x ∷ [])) behind rest → Stops (all found) (p ∷ m) rest
-    more_stops rest s =
-        let q = (item_local found).passes m x behind f in
-        record {
-          front = p ∷ (q.front ++ s.front);
-          splits = ap (λ (r : List Piece). p ∷ r) (q.splits ∙ ap (λ (r : List Piece). q.front ++ r) s.splits ∙ sym (append_assoc q.front s.front rest));
-          inside = (separator_inside p is, no_end_both q.front s.front (q.inside refl) s.inside);
-          again = λ y back other at.
-              ap (λ (r : List Piece). all found (p ∷ r)) (append_assoc q.front s.front (y ∷ other))
-              ∙ leads_from q (s.front ++ y ∷ other) (same_token s.front behind back other y (s.splits ∙ ap (λ (r : List Piece). s.front ++ r) at))
-              ∙ s.again y back other at;
-        }
+      more_stops : (rest : List Piece) → Stops (all (found ++ x ∷ [])) behind rest → Stops (all found) (p ∷ m) rest
+      more_stops rest s =
+          let q = (item_local found).passes m x behind f in
+          record {
+            front = p ∷ (q.front ++ s.front);
+            splits = ap (λ (r : List Piece). p ∷ r) (q.splits ∙ ap (λ (r : List Piece). q.front ++ r) s.splits ∙ sym (append_assoc q.front s.front rest));
+            inside = (separator_inside p is, no_end_both q.front s.front (q.inside refl) s.inside);
+            again = λ y back other at.
+                ap (λ (r : List Piece). all found (p ∷ r)) (append_assoc q.front s.front (y ∷ other))
+                ∙ leads_from q (s.front ++ y ∷ other) (same_token s.front behind back other y (s.splits ∙ ap (λ (r : List Piece). s.front ++ r) at))
+                ∙ s.again y back other at;
+          }
 
-    more_passes : (xs : List A) (rest : List Piece) → Passes false (all (found ++ x ∷ [])) behind xs rest → Passes false (all found) (p ∷ m) xs rest
-    more_passes xs rest s =
-        let q = (item_local found).passes m x behind f in
-        record {
-          front = p ∷ (q.front ++ s.front);
-          splits = ap (λ (r : List Piece). p ∷ r) (q.splits ∙ ap (λ (r : List Piece). q.front ++ r) s.splits ∙ sym (append_assoc q.front s.front rest));
-          inside = λ e. (separator_inside p is, no_end_both q.front s.front (q.inside refl) (s.inside e));
-          again = λ other same.
-              ap (λ (r : List Piece). all found (p ∷ r)) (append_assoc q.front s.front other)
-              ∙ leads_from q (s.front ++ other) (same_through s.front behind rest other s.splits same)
-              ∙ s.again other same;
-        }
+      more_passes : (xs : List A) (rest : List Piece) → Passes false (all (found ++ x ∷ [])) behind xs rest → Passes false (all found) (p ∷ m) xs rest
+      more_passes xs rest s =
+          let q = (item_local found).passes m x behind f in
+          record {
+            front = p ∷ (q.front ++ s.front);
+            splits = ap (λ (r : List Piece). p ∷ r) (q.splits ∙ ap (λ (r : List Piece). q.front ++ r) s.splits ∙ sym (append_assoc q.front s.front rest));
+            inside = λ e. (separator_inside p is, no_end_both q.front s.front (q.inside refl) (s.inside e));
+            again = λ other same.
+                ap (λ (r : List Piece). all found (p ∷ r)) (append_assoc q.front s.front other)
+                ∙ leads_from q (s.front ++ other) (same_through s.front behind rest other s.splits same)
+                ∙ s.again other same;
+          }
 
   -- both, by the length of what is still to be read
   abbrev Each : List A → List Piece → Type 0
-  Each found l = ((rest : List Piece) → all found l ≡ Err rest → Stops (all found) l rest) × ((xs : List A) (rest : List Piece) → all found l ≡ Ok (xs, rest) → Passes false (all found) l xs rest)
+  Each found l = ((rest : List Piece) → all found l ≡ Err rest → Stops (all found) l rest)
+      × ((xs : List A) (rest : List Piece) → all found l ≡ Ok (xs, rest) → Passes false (all found) l xs rest)
 
   none_next : (found : List A) (l : List Piece) → fixed_next sep l ≡ false → Each found l
   none_next found l differs = (λ rest e. done_stops found l rest differs e, λ xs rest e. done_passes found l xs rest differs e)
 
-  behind_item : (n : ℕ) → ((found : List A) (l : List Piece) → length l ≤ n → Each found l) → (found : List A) (p : Piece) (m : List Piece) → length m ≤ n → is_fixed sep p.kind ≡ true → (r : Read A) → item found m ≡ r → Each found (p ∷ m)
+  behind_item : (n : ℕ) → ((found : List A) (l : List Piece) → length l ≤ n → Each found l) → (found : List A) (p : Piece) (m : List Piece) → length m ≤ n
+      → is_fixed sep p.kind ≡ true → (r : Read A) → item found m ≡ r → Each found (p ∷ m)
   behind_item n ih found p m le is (Err left) f = (
     λ rest e. item_stops found p m left rest is f e,
     λ xs rest e. absurd (item_fails found p m left xs rest is f e),
@@ -323,7 +346,8 @@ module _ {A : Type 0} (sep : Fixed) (item : List A → List Piece → Read A) (s
         λ xs rest e. more_passes found p m y.0 y.1 is f xs rest (next.1 xs rest (sym lead ∙ e)),
       )
 
-  at_token : (n : ℕ) → ((found : List A) (l : List Piece) → length l ≤ n → Each found l) → (found : List A) (p : Piece) (m : List Piece) → length m ≤ n → (b : Bool) → is_fixed sep p.kind ≡ b → Each found (p ∷ m)
+  at_token : (n : ℕ) → ((found : List A) (l : List Piece) → length l ≤ n → Each found l) → (found : List A) (p : Piece) (m : List Piece) → length m ≤ n
+      → (b : Bool) → is_fixed sep p.kind ≡ b → Each found (p ∷ m)
   at_token n ih found p m le false differs = none_next found (p ∷ m) differs
   at_token n ih found p m le true is = behind_item n ih found p m le is (item found m) refl
 

@@ -1,5 +1,6 @@
 -- The table of names, with one name more.
-use Rattle.std.proofs.Common.{◌≡◌, ℕ, suc, ◌+◌, Bool, true, false, if◌then◌else◌, List, [], ◌∷◌, ◌++◌, length, Option, Some, None, refl, sym, ap, ◌∙◌, arith, length-append}
+use Rattle.std.proofs.Common.{◌≡◌, ℕ, suc, ◌+◌, Bool, true, false, if◌then◌else◌, List, [], ◌∷◌, ◌++◌, length, Option, Some, None, refl, sym, ap, ◌∙◌, arith}
+use Rattle.std.proofs.Common.{length-append}
 use Rattle.std.specs.Option.{option_map}
 use Rattle.std.specs.Str.{bytes_eq}
 use Rattle.std.specs.Map.{update}
@@ -40,7 +41,8 @@ apart x y s e f = go (bytes_eq x s) refl
     go true g = absurd (let h : bytes_eq y x ≡ true = ap (bytes_eq y) (same_text x s g) ∙ f in let z : ⊥ = cc in z)
 
 -- the name behind the others
-pub place_last : (names : List (List ℕ)) (x s : List ℕ) → place names x ≡ None → place (names ++ x ∷ []) s ≡ (if bytes_eq x s then Some (suc (length names)) else place names s)
+pub place_last : (names : List (List ℕ)) (x s : List ℕ) → place names x ≡ None
+    → place (names ++ x ∷ []) s ≡ (if bytes_eq x s then Some (suc (length names)) else place names s)
 place_last [] x s h = refl
 place_last (y ∷ names) x s h =
     let f = first_other (bytes_eq y x) (place names x) h in
@@ -48,7 +50,8 @@ place_last (y ∷ names) x s h =
     ∙ ap (λ (o : Option ℕ). if bytes_eq y s then Some 1 else o) (mapped_if (bytes_eq x s) (suc (length names)) (place names s))
     ∙ swapped (bytes_eq y s) (bytes_eq x s) (Some (suc (suc (length names)))) (option_map suc (place names s)) (apart x y s f.0)
 
-pub tabled_more : (names : List (List ℕ)) (x : List ℕ) (m n : BTreeMap (Bor (List ℕ)) ℕ) (cells next : ℕ) → Tabled names m cells → place names x ≡ None → next ≡ cells + 1
+pub tabled_more : (names : List (List ℕ)) (x : List ℕ) (m n : BTreeMap (Bor (List ℕ)) ℕ) (cells next : ℕ) → Tabled names m cells → place names x ≡ None
+    → next ≡ cells + 1
     → ((s : List ℕ) → place_in n s ≡ update bytes_eq (place_in m) x (Some cells) s) → Tabled (names ++ x ∷ []) n next
 tabled_more names x m n cells next t fresh one e =
     record {

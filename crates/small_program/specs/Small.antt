@@ -5,7 +5,8 @@
 --   procedure = "procedure" name ";" body ";"
 --   body      = "begin" step { ";" step } "end"
 --   step      = name ":=" number | name ":=" name "+" number | name
-use Rattle.std.specs.Prelude.{◌≡◌, ℕ, suc, ◌+◌, Bool, true, false, ◌||◌, if◌then◌else◌, List, [], ◌∷◌, ◌++◌, length, map, take, Option, Some, None, option_map, IsSome, codes, unwrap_or}
+use Rattle.std.specs.Prelude.{◌≡◌, ℕ, suc, ◌+◌, Bool, true, false, ◌||◌, if◌then◌else◌, List, [], ◌∷◌, ◌++◌, length}
+use Rattle.std.specs.Prelude.{map, take, Option, Some, None, option_map, IsSome, codes, unwrap_or}
 use Rattle.std.specs.List.{list_any}
 use Rattle.std.specs.Str.{bytes_eq}
 use Rattle.pas_lexer.specs.declared.kinds.Kind.{Kind}
@@ -61,7 +62,8 @@ is_fixed _ _ = false
 
 -- ---- the grammar
 
--- what may stand at a place of a program: a token in quotes, a number of this value, a name with this spelling, or this very name
+-- what may stand at a place of a program: a token in quotes, a number of this value, a name with this spelling, or this
+-- very name
 pub data Terminal : Type 0 where
   Quoted : (which : Fixed) → Terminal
   Value : (value : ℕ) → Terminal
@@ -125,10 +127,12 @@ name_places x = This x ∷ []
 abbrev pub variable_part : List Piece → List Terminal
 variable_part [] = []
 variable_part (x ∷ xs) =
-    Quoted fixed.Var ∷ This x ∷ (further_places fixed.Comma name_places xs ++ Quoted fixed.Colon ∷ Spelled (codes "integer") ∷ Quoted fixed.Semicolon ∷ [])
+    Quoted fixed.Var ∷ This x ∷ (further_places fixed.Comma name_places xs
+    ++ Quoted fixed.Colon ∷ Spelled (codes "integer") ∷ Quoted fixed.Semicolon ∷ [])
 
 abbrev pub body_places : Body → List Terminal
-body_places b = Quoted fixed.Begin ∷ (step_places b.first ++ (further_places fixed.Semicolon step_places b.others ++ Quoted fixed.End ∷ []))
+body_places b = Quoted fixed.Begin ∷ (step_places b.first
+    ++ (further_places fixed.Semicolon step_places b.others ++ Quoted fixed.End ∷ []))
 
 -- the places of a procedure behind the word `procedure`
 abbrev pub procedure_places : Procedure → List Terminal
@@ -144,7 +148,8 @@ places s =
 
 -- ---- the static rules
 
--- the required names in lower case: the types (ISO 7185 6.4.2.2), the constants (6.3, 6.4.2.2), the functions (6.6.6), the procedures (6.6.5, 6.9) and the text files (6.10)
+-- the required names in lower case: the types (ISO 7185 6.4.2.2), the constants (6.3, 6.4.2.2), the functions (6.6.6),
+-- the procedures (6.6.5, 6.9) and the text files (6.10)
 abbrev pub required_types : List (List ℕ)
 required_types = codes "integer" ∷ codes "boolean" ∷ codes "char" ∷ []
 
@@ -152,11 +157,13 @@ abbrev pub required_constants : List (List ℕ)
 required_constants = codes "false" ∷ codes "true" ∷ codes "maxint" ∷ []
 
 abbrev pub required_functions : List (List ℕ)
-required_functions = codes "abs" ∷ codes "sqr" ∷ codes "odd" ∷ codes "ord" ∷ codes "chr" ∷ codes "succ" ∷ codes "pred" ∷ codes "eof" ∷ codes "eoln" ∷ []
+required_functions = codes "abs" ∷ codes "sqr" ∷ codes "odd" ∷ codes "ord" ∷ codes "chr" ∷ codes "succ" ∷ codes "pred"
+    ∷ codes "eof" ∷ codes "eoln" ∷ []
 
 abbrev pub required_procedures : List (List ℕ)
 required_procedures =
-    codes "read" ∷ codes "readln" ∷ codes "write" ∷ codes "writeln" ∷ codes "page" ∷ codes "new" ∷ codes "dispose" ∷ codes "pack" ∷ codes "unpack" ∷ []
+    codes "read" ∷ codes "readln" ∷ codes "write" ∷ codes "writeln" ∷ codes "page" ∷ codes "new" ∷ codes "dispose" ∷
+    codes "pack" ∷ codes "unpack" ∷ []
 
 abbrev pub required_files : List (List ℕ)
 required_files = codes "input" ∷ codes "output" ∷ []
@@ -166,7 +173,8 @@ is_among names s = list_any (λ r. bytes_eq r s) names
 
 abbrev pub is_required : List ℕ → Bool
 is_required s =
-    is_among required_types s || (is_among required_constants s || (is_among required_functions s || (is_among required_procedures s || is_among required_files s)))
+    is_among required_types s || (is_among required_constants s ||
+    (is_among required_functions s || (is_among required_procedures s || is_among required_files s)))
 
 -- the place of a name among the declared ones, in the frame of the program block, whose place 0 is the link
 abbrev pub place : List (List ℕ) → List ℕ → Option ℕ
@@ -179,7 +187,8 @@ spellings xs = map (λ x. x.spelling) xs
 -- each name is new where it is declared, behind those declared before, and is no required name
 abbrev pub Declares : List (List ℕ) → List Piece → Type 0
 Declares before [] = Unit {0}
-Declares before (x ∷ xs) = (is_required x.spelling ≡ false) × (place before x.spelling ≡ None) × Declares (before ++ x.spelling ∷ []) xs
+Declares before (x ∷ xs) = (is_required x.spelling ≡ false) × (place before x.spelling ≡ None)
+    × Declares (before ++ x.spelling ∷ []) xs
 
 -- the names that are declared at a place of the source
 pub record Known : Type 0 where
@@ -216,7 +225,8 @@ pub record IsFree (k : Known) (x : Piece) : Type 0 where
 -- A procedure's name is new. The procedure is declared from its heading on, so that its own body knows it.
 abbrev pub DeclaresProcedures : Known → List Procedure → Type 0
 DeclaresProcedures k [] = Unit {0}
-DeclaresProcedures k (q ∷ qs) = IsFree k q.name × BodyUses (with_procedure k q.name) q.body × DeclaresProcedures (with_procedure k q.name) qs
+DeclaresProcedures k (q ∷ qs) = IsFree k q.name × BodyUses (with_procedure k q.name) q.body
+    × DeclaresProcedures (with_procedure k q.name) qs
 
 abbrev pub with_procedures : Known → List Procedure → Known
 with_procedures k [] = k
@@ -239,7 +249,8 @@ pub record IsSmall (tokens : List Piece) (s : Small) : Type 0 where
 
 -- no small program begins with the tokens 0 to i
 abbrev pub BeginsNone : List Piece → ℕ → Type 0
-BeginsNone tokens i = (others : List Piece) (s : Small) → IsSmall others s → take (i + 1) others ≡ take (i + 1) tokens → ⊥
+BeginsNone tokens i = (others : List Piece) (s : Small) → IsSmall others s → take (i + 1) others ≡ take (i + 1) tokens
+    → ⊥
 
 -- ---- the program denoted
 
@@ -247,8 +258,14 @@ abbrev pub place_or_link : List (List ℕ) → Piece → ℕ
 place_or_link names x = unwrap_or (place names x.spelling) 0
 
 abbrev pub assignment_of : List (List ℕ) → Assignment → Row
-assignment_of names (Set x n) = record { line = x.line; statement = Assign (place_or_link names x) (expression.Number n) }
-assignment_of names (SetSum x y n) = record { line = x.line; statement = Assign (place_or_link names x) (expression.Sum (place_or_link names y) n) }
+assignment_of names (Set x n) = record {
+  line = x.line;
+  statement = Assign (place_or_link names x) (expression.Number n);
+}
+assignment_of names (SetSum x y n) = record {
+  line = x.line;
+  statement = Assign (place_or_link names x) (expression.Sum (place_or_link names y) n);
+}
 
 -- A step begins at its first name. The first procedure is routine 1.
 abbrev pub row_of : Known → Step → Row

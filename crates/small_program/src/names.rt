@@ -37,14 +37,16 @@ impl<'a> Names<'a> {
 
     /// The place of the name with this spelling.
     pub fn place(&self, spelling: &[u8]) -> Option<u32>
-        ensures { (names : List (List ℕ)) → Tabled names self.now.places self.now.cells → result ≡ place names spelling.now }
+        ensures { (names : List (List ℕ)) → Tabled names self.now.places self.now.cells
+            → result ≡ place names spelling.now }
     {
         self.places.get(spelling).copied()
     }
 
     /// Declares a new name with this spelling.
     pub fn declare(&mut self, spelling: &'a [u8]) -> Result<(), AllocError>
-        ensures { (names : List (List ℕ)) → Tabled names self.old.places self.old.cells → place names spelling.now ≡ None
+        ensures { (names : List (List ℕ)) → Tabled names self.old.places self.old.cells
+            → place names spelling.now ≡ None
             → OnOk result (Tabled (names ++ spelling.now ∷ []) self.new.places self.new.cells) }
     {
         let Some(cells) = self.cells.checked_add(1) else {

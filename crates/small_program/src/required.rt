@@ -1,7 +1,8 @@
 //! The required names.
 
 ghost use Rattle.std.specs.Prelude.{◌≡◌, map};
-ghost use Rattle.small_program.specs.Small.{is_among, is_required, required_types, required_constants, required_functions, required_procedures, required_files};
+ghost use Rattle.small_program.specs.Small.{is_among, is_required, required_types, required_constants};
+ghost use Rattle.small_program.specs.Small.{required_functions, required_procedures, required_files};
 
 /// Whether this is the spelling of a required name.
 pub fn is_required_name(spelling: &[u8]) -> bool

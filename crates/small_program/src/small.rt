@@ -1,12 +1,20 @@
 //! The parser of small programs.
 
-ghost use Rattle.std.specs.Prelude.{◌≡◌, ◌+◌, ◌≤◌, ◌<◌, ℕ, List, [], ◌++◌, ◌∷◌, drop, length, IfOk, IfErr, OnOk, IsTrue, MatchResult, Some, slice_get};
+ghost use Rattle.std.specs.Prelude.{◌≡◌, ◌+◌, ◌≤◌, ◌<◌, ℕ, List, [], ◌++◌, ◌∷◌, drop, length, IfOk, IfErr, OnOk};
+ghost use Rattle.std.specs.Prelude.{IsTrue, MatchResult, Some, slice_get};
 ghost use Rattle.pas_lexer.specs.Lexed.{Lexed};
 ghost use Rattle.small_program.specs.declared.terminals.Fixed.TheVariants as fixed;
 ghost use Rattle.small_program.specs.declared.small.SmallFault.TheVariants.{Memory};
 ghost use Rattle.small_program.specs.Names.{Tabled};
-ghost use Rattle.small_program.specs.Small.{pieces, piece_of, is_required, Piece, Small, IsSmall, program_of, Known, Translation, all_rows, routines_from};
-ghost use Rattle.small_program.specs.Reading.{IsFront, fixed_at, fixed_next, name_at, number_at, integer_at, new_name, known_name, constant_at, sum_at, value_at, assignment_at, step_at, free_name, known_after, procedure_at, procedures_at, block_at, all_further, names_at, variables_at, steps_at, body_at, heading_at, small_at, Gives, GivesPlace, Skips, Declared, NamesRead, VariablesRead, RowsRead, IsScope, ProcedureDeclared, ProcedureRead, ProceduresRead, TablesRead, IsThat, RefusedThere};
+ghost use Rattle.small_program.specs.Small.{pieces, piece_of, is_required, Piece, Small, IsSmall, program_of, Known};
+ghost use Rattle.small_program.specs.Small.{Translation, all_rows, routines_from};
+ghost use Rattle.small_program.specs.Reading.{IsFront, fixed_at, fixed_next, name_at, number_at, integer_at, new_name};
+ghost use Rattle.small_program.specs.Reading.{known_name, constant_at, sum_at, value_at, assignment_at, step_at};
+ghost use Rattle.small_program.specs.Reading.{free_name, known_after, procedure_at, procedures_at, block_at};
+ghost use Rattle.small_program.specs.Reading.{all_further, names_at, variables_at, steps_at, body_at, heading_at};
+ghost use Rattle.small_program.specs.Reading.{small_at, Gives, GivesPlace, Skips, Declared, NamesRead, VariablesRead};
+ghost use Rattle.small_program.specs.Reading.{RowsRead, IsScope, ProcedureDeclared, ProcedureRead, ProceduresRead};
+ghost use Rattle.small_program.specs.Reading.{TablesRead, IsThat, RefusedThere};
 
 use crate::names::{Names, Scope};
 use crate::required::is_required_name;
@@ -78,7 +86,8 @@ fn expect(tokens: &Tokens, at: u32, which: Fixed) -> Result<u32, SmallFault>
 
 /// A name: its token, and the place behind it.
 fn read_name(tokens: &Tokens, at: u32) -> Result<(Token, u32), SmallFault>
-    ensures gives { Gives (pieces tokens.now) (piece_of tokens.now.source at) result (name_at (drop at (pieces tokens.now))) }
+    ensures gives { Gives (pieces tokens.now) (piece_of tokens.now.source at) result
+        (name_at (drop at (pieces tokens.now))) }
     ensures there { IfOk result (λ x. slice_get tokens.now.tokens at ≡ Some x.0) }
     ensures inside { IfOk result (λ x. at < length tokens.now.tokens) }
     ensures forward { IfOk result (λ x. at < x.1) }
@@ -201,7 +210,8 @@ fn read_assignment(tokens: &Tokens, at: u32, names: &Names) -> Result<(Row, u32)
 /// A step: its row, and the place behind it.
 #[tactic(auto, unfolding(crate::specs::Reading::step_at))]
 fn read_step(tokens: &Tokens, at: u32, scope: &Scope) -> Result<(Row, u32), SmallFault>
-    ensures gives { (k : Known) → IsScope k scope.now → Gives (pieces tokens.now) (λ x. x) result (step_at k (drop at (pieces tokens.now))) }
+    ensures gives { (k : Known) → IsScope k scope.now
+        → Gives (pieces tokens.now) (λ x. x) result (step_at k (drop at (pieces tokens.now))) }
     ensures forward { IfOk result (λ x. at < x.1) }
 {
     let (token, after) = read_name(tokens, at)?;
@@ -222,7 +232,8 @@ fn read_step(tokens: &Tokens, at: u32, scope: &Scope) -> Result<(Row, u32), Smal
 
 /// Names, parted by commas, which are declared: the place behind them.
 fn declare_names<'a>(tokens: &'a Tokens, at: u32, names: &mut Names<'a>) -> Result<u32, SmallFault>
-    ensures { Tabled [] names.old.places names.old.cells → NamesRead (pieces tokens.now) names.new result (names_at (drop at (pieces tokens.now))) }
+    ensures { Tabled [] names.old.places names.old.cells
+        → NamesRead (pieces tokens.now) names.new result (names_at (drop at (pieces tokens.now))) }
 {
     let mut next = declare_name(tokens, at, names)?;
     'names: while let Some(after) = skip(tokens, next, Fixed::Comma) {
@@ -317,8 +328,10 @@ fn read_procedure<'a>(
     scope: &mut Scope<'a>,
     program: &mut Program,
 ) -> Result<(Routine, u32), SmallFault>
-    ensures gives { (variables : List (List ℕ)) (found : List Translation) → IsScope (known_after variables found) scope.old
-        → ProcedureRead (pieces tokens.now) variables found program.old program.new scope.new result (procedure_at variables found (drop at (pieces tokens.now))) }
+    ensures gives { (variables : List (List ℕ)) (found : List Translation)
+        → IsScope (known_after variables found) scope.old
+        → ProcedureRead (pieces tokens.now) variables found program.old program.new scope.new result
+        (procedure_at variables found (drop at (pieces tokens.now))) }
     ensures forward { IfOk result (λ x. at < x.1) }
 {
     let after = declare_procedure(tokens, at, scope)?;
@@ -345,7 +358,8 @@ fn read_procedures<'a>(
     program: &mut Program,
 ) -> Result<(Vec<Routine>, u32), SmallFault>
     ensures { (variables : List (List ℕ)) → IsScope (known_after variables []) scope.old
-        → ProceduresRead (pieces tokens.now) variables program.old program.new scope.new result (procedures_at variables (drop at (pieces tokens.now))) }
+        → ProceduresRead (pieces tokens.now) variables program.old program.new scope.new result
+        (procedures_at variables (drop at (pieces tokens.now))) }
 {
     let mut routines = Vec::new(alloc);
     let mut next = at;
@@ -405,8 +419,10 @@ fn read_block(
     procedures: &[Routine],
     program: &mut Program,
 ) -> Result<u32, SmallFault>
-    ensures { (variables : List (List ℕ)) (ts : List Translation) → IsScope (known_after variables ts) scope.now → procedures.now ≡ routines_from 0 ts
-        → program.old ≡ record { rows = all_rows ts; routines = [] } → TablesRead (pieces tokens.now) program.new result (block_at variables ts (drop at (pieces tokens.now))) }
+    ensures { (variables : List (List ℕ)) (ts : List Translation) → IsScope (known_after variables ts) scope.now
+        → procedures.now ≡ routines_from 0 ts
+        → program.old ≡ record { rows = all_rows ts; routines = [] }
+        → TablesRead (pieces tokens.now) program.new result (block_at variables ts (drop at (pieces tokens.now))) }
 {
     let first = program.rows();
     let after = read_body(tokens, at, scope, program)?;

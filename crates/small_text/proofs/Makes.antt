@@ -63,14 +63,21 @@ split [] us ps s = record { front = []; back = ps; joined = refl; front_spells =
 split (t ∷ ts) us [] s = absurd s
 split (t ∷ ts) us (p ∷ ps) s =
     let r = split ts us ps s.1 in
-    record { front = p ∷ r.front; back = r.back; joined = ap (λ (l : List Piece). p ∷ l) r.joined; front_spells = (s.0, r.front_spells); back_spells = r.back_spells }
+    record {
+      front = p ∷ r.front;
+      back = r.back;
+      joined = ap (λ (l : List Piece). p ∷ l) r.joined;
+      front_spells = (s.0, r.front_spells);
+      back_spells = r.back_spells;
+    }
 
 map_items : (a b : List Piece) → map item_of (a ++ b) ≡ map item_of a ++ map item_of b
 map_items [] b = refl
 map_items (p ∷ a) b = ap (λ (l : List Item). item_of p ∷ l) (map_items a b)
 
 -- what is made of two lists of tokens, if it is a pair
-pair_made : (env : Trees) (a b g : Grammar) → ((x y : Node) (h : Option Terminal) → FreeIn env a IsNone x (ahead (spell y) h) → FreeIn env b IsNone y h → FreeIn env g IsNone (Pair x y) h)
+pair_made : (env : Trees) (a b g : Grammar) → ((x y : Node) (h : Option Terminal) → FreeIn env a IsNone x (ahead (spell y) h) → FreeIn env b IsNone y h
+    → FreeIn env g IsNone (Pair x y) h)
     → (ts us : List Place) → Makes env a ts → Makes env b us → (ps : List Piece) → Spells (ts ++ us) ps → Made env g ps
 pair_made env a b g pairs ts us m n ps s =
     let r = split ts us ps s in
@@ -79,7 +86,8 @@ pair_made env a b g pairs ts us m n ps s =
     record {
       tree = Pair x.tree y.tree;
       fits = λ h. pairs x.tree y.tree h (x.fits (ahead (spell y.tree) h)) (y.fits h);
-      spells = ap (λ (l : List Item). l ++ spell y.tree) x.spells ∙ ap (λ (l : List Item). map item_of r.front ++ l) y.spells ∙ sym (map_items r.front r.back) ∙ sym (ap (map item_of) r.joined);
+      spells = ap (λ (l : List Item). l ++ spell y.tree) x.spells ∙ ap (λ (l : List Item). map item_of r.front ++ l) y.spells ∙ sym (map_items r.front r.back)
+          ∙ sym (ap (map item_of) r.joined);
     }
 
 pub seq_makes : {env : Trees} {a b : Grammar} {ts us : List Place} → Makes env a ts → Makes env b us → Makes env (seq a b) (ts ++ us)
@@ -94,11 +102,13 @@ second_makes {env} {b} {ts} ks a m = record { made = λ ps s. let x = m.made ps 
 pub many_none : {env : Trees} (ks : List Terminal) (g : Grammar) → Makes env (many ks g) []
 many_none {env} ks g = record { made = none_made env (many ks g) (many_nil env ks g) }
 
-pub many_more : {env : Trees} {g : Grammar} {ts us : List Place} (ks : List Terminal) → Makes env g ts → Makes env (many ks g) us → Makes env (many ks g) (ts ++ us)
+pub many_more : {env : Trees} {g : Grammar} {ts us : List Place} (ks : List Terminal) → Makes env g ts → Makes env (many ks g) us
+    → Makes env (many ks g) (ts ++ us)
 many_more {env} {g} {ts} {us} ks m n = record { made = pair_made env g (many ks g) (many ks g) (many_cons env ks g) ts us m n }
 
 -- parts, each behind a separator
-pub many_makes : {T : Type 0} {env : Trees} (ks : List Terminal) (g : Grammar) (separator : Fixed) (item : T → List Place) → ((t : T) → Makes env g (Quoted separator ∷ item t))
+pub many_makes : {T : Type 0} {env : Trees} (ks : List Terminal) (g : Grammar) (separator : Fixed) (item : T → List Place)
+    → ((t : T) → Makes env g (Quoted separator ∷ item t))
     → (l : List T) → Makes env (many ks g) (further_places separator item l)
 many_makes ks g separator item each [] = many_none ks g
 many_makes ks g separator item each (t ∷ l) = many_more ks (each t) (many_makes ks g separator item each l)

@@ -4,9 +4,11 @@ use Rattle.grammar.specs.declared.terminals.Terminal.TheVariants as k
 use Rattle.grammar.specs.Grammars.{by_end, statement, factor, level, word}
 use Rattle.pas_tree.specs.Rules as r
 use Rattle.small_program.specs.declared.terminals.Fixed.TheVariants as fixed
-use Rattle.small_program.specs.Small.{Piece, Quoted, Value, Spelled, This, Set, SetSum, Step, Assigns, Calls, Body, step_places, further_places, name_places, body_places}
+use Rattle.small_program.specs.Small.{Piece, Quoted, Value, Spelled, This, Set, SetSum, Step, Assigns, Calls, Body, step_places, further_places, name_places}
+use Rattle.small_program.specs.Small.{body_places}
 use Rattle.small_program.specs.Small.{Terminal as Place}
-use Rattle.small_text.proofs.Makes.{Makes, Within, placed, token_makes, nothing_makes, seq_makes, first_makes, second_makes, many_none, many_more, many_makes, level_makes}
+use Rattle.small_text.proofs.Makes.{Makes, Within, placed, token_makes, nothing_makes, seq_makes, first_makes, second_makes, many_none, many_more, many_makes}
+use Rattle.small_text.proofs.Makes.{level_makes}
 
 -- ---- expressions
 
@@ -41,16 +43,19 @@ added n v = seq_makes (token_makes r.adding (Quoted fixed.Plus) refl) (factor_te
 sum_expression : (n : ℕ) (y : Piece) (v : ℕ) → Makes (Within (suc n)) r.expression_rule (This y ∷ Quoted fixed.Plus ∷ Value v ∷ [])
 unfolding r.expression_rule r.simple_rule
 sum_expression n y v =
-    seq_makes (seq_makes (no_sign (suc n)) (seq_makes (factor_term n (This y) (name_factor n y)) (many_more _ (added n v) (many_none _ _)))) (no_relation (suc n))
+    seq_makes (seq_makes (no_sign (suc n)) (seq_makes (factor_term n (This y) (name_factor n y)) (many_more _ (added n v) (many_none _ _))))
+    (no_relation (suc n))
 
 -- ---- statements
 
 pub name_there : (n : ℕ) (x : Piece) → Makes (Within n) (word k.Name) (This x ∷ [])
 name_there n x = token_makes (k.Name ∷ []) (This x) refl
 
-assigned : (n : ℕ) (x : Piece) (ts : List Place) → Makes (Within n) r.expression_rule ts → Makes (Within n) r.named_statement_rule (This x ∷ Quoted fixed.Becomes ∷ ts)
+assigned : (n : ℕ) (x : Piece) (ts : List Place) → Makes (Within n) r.expression_rule ts
+    → Makes (Within n) r.named_statement_rule (This x ∷ Quoted fixed.Becomes ∷ ts)
 unfolding r.named_statement_rule r.assignment_rule r.selectors_rule
-assigned n x ts m = seq_makes (name_there n x) (second_makes _ _ (first_makes _ _ (seq_makes (many_none _ _) (seq_makes (token_makes (k.Becomes ∷ []) (Quoted fixed.Becomes) refl) m))))
+assigned n x ts m = seq_makes (name_there n x) (second_makes _ _
+    (first_makes _ _ (seq_makes (many_none _ _) (seq_makes (token_makes (k.Becomes ∷ []) (Quoted fixed.Becomes) refl) m))))
 
 called : (n : ℕ) (x : Piece) → Makes (Within n) r.named_statement_rule (This x ∷ [])
 unfolding r.named_statement_rule
@@ -76,14 +81,16 @@ next_step : (n : ℕ) (s : Step) → Makes (Within (suc (suc n))) (r.next_statem
 unfolding r.next_statement_rule
 next_step n s = seq_makes (token_makes (k.Semicolon ∷ []) (Quoted fixed.Semicolon) refl) (step_there n s)
 
-steps_there : (n : ℕ) (b : Body) → Makes (Within (suc (suc n))) (r.statements_rule by_end) (step_places b.first ++ further_places fixed.Semicolon step_places b.others)
+steps_there : (n : ℕ) (b : Body) → Makes (Within (suc (suc n))) (r.statements_rule by_end)
+    (step_places b.first ++ further_places fixed.Semicolon step_places b.others)
 unfolding r.statements_rule
 steps_there n b = seq_makes (step_there n b.first) (many_makes _ (r.next_statement_rule by_end) fixed.Semicolon step_places (next_step n) b.others)
 
 pub body_there : (n : ℕ) (b : Body) → Makes (Within (suc (suc n))) r.compound_rule (body_places b)
 unfolding r.compound_rule
 body_there n b =
-    placed _ _ _ _ (ap (λ (l : List Place). Quoted fixed.Begin ∷ l) (append_assoc (step_places b.first) (further_places fixed.Semicolon step_places b.others) (Quoted fixed.End ∷ [])))
+    placed _ _ _ _ (ap (λ (l : List Place). Quoted fixed.Begin ∷ l)
+    (append_assoc (step_places b.first) (further_places fixed.Semicolon step_places b.others) (Quoted fixed.End ∷ [])))
     (seq_makes (token_makes (k.WBegin ∷ []) (Quoted fixed.Begin) refl) (seq_makes (steps_there n b) (token_makes (k.WEnd ∷ []) (Quoted fixed.End) refl)))
 
 -- ---- the variable part

@@ -11,16 +11,19 @@ use Rattle.pas_phrases.specs.Items.{numbered, items_from}
 use Rattle.pas_parser.specs.Kinds.{terminals_of}
 use Rattle.pas_parser.specs.Formed.{IsFormed, items_of}
 use Rattle.small_program.specs.declared.terminals.Fixed.TheVariants as fixed
-use Rattle.small_program.specs.Small.{Piece, Quoted, Spelled, This, Body, Procedure, Small, piece_of, pieces, pieces_from, further_places, name_places, variable_part, body_places, procedure_places, places}
+use Rattle.small_program.specs.Small.{Piece, Quoted, Spelled, This, Body, Procedure, Small, piece_of, pieces, pieces_from, further_places, name_places}
+use Rattle.small_program.specs.Small.{variable_part, body_places, procedure_places, places}
 use Rattle.small_program.specs.Small.{Terminal as Place}
 use Rattle.small_text.specs.Laws.{SmallIsText}
-use Rattle.small_text.proofs.Makes.{Makes, Made, Within, item_of, placed, token_makes, nothing_makes, seq_makes, first_makes, second_makes, many_none, many_makes, level_makes}
+use Rattle.small_text.proofs.Makes.{Makes, Made, Within, item_of, placed, token_makes, nothing_makes, seq_makes, first_makes, second_makes, many_none}
+use Rattle.small_text.proofs.Makes.{many_makes, level_makes}
 use Rattle.small_text.proofs.Parts.{body_there, name_there, names_there, name_denoter}
 
 -- ---- the variable part
 
 variables_declared : (n : ℕ) (x : Piece) (xs : List Piece)
-    → Makes (Within (suc n)) r.variable_declaration_rule (This x ∷ (further_places fixed.Comma name_places xs ++ Quoted fixed.Colon ∷ Spelled (codes "integer") ∷ Quoted fixed.Semicolon ∷ []))
+    → Makes (Within (suc n)) r.variable_declaration_rule (This x ∷
+    (further_places fixed.Comma name_places xs ++ Quoted fixed.Colon ∷ Spelled (codes "integer") ∷ Quoted fixed.Semicolon ∷ []))
 unfolding r.variable_declaration_rule
 variables_declared n x xs =
     seq_makes (names_there (suc n) x xs) (seq_makes (token_makes (k.Colon ∷ []) (Quoted fixed.Colon) refl)
@@ -31,7 +34,8 @@ unfolding r.variable_part_rule
 variables_there n [] = second_makes _ _ nothing_makes
 variables_there n (x ∷ xs) =
     let ts = This x ∷ (further_places fixed.Comma name_places xs ++ Quoted fixed.Colon ∷ Spelled (codes "integer") ∷ Quoted fixed.Semicolon ∷ []) in
-    first_makes _ _ (seq_makes (token_makes (k.WVar ∷ []) (Quoted fixed.Var) refl) (placed _ _ _ _ (append-nil ts) (seq_makes (variables_declared n x xs) (many_none _ _))))
+    first_makes _ _ (seq_makes (token_makes (k.WVar ∷ []) (Quoted fixed.Var) refl)
+    (placed _ _ _ _ (append-nil ts) (seq_makes (variables_declared n x xs) (many_none _ _))))
 
 -- ---- procedures
 
@@ -47,7 +51,8 @@ no_type_part : (n : ℕ) → Makes (Within n) r.type_part_rule []
 unfolding r.type_part_rule
 no_type_part n = second_makes _ _ nothing_makes
 
-blocks : (n : ℕ) (ts us vs : List Place) → Makes (Within n) r.variable_part_rule ts → Makes (Within n) r.routines_rule us → Makes (Within n) r.compound_rule vs → Makes (Within n) r.block_rule (ts ++ (us ++ vs))
+blocks : (n : ℕ) (ts us vs : List Place) → Makes (Within n) r.variable_part_rule ts → Makes (Within n) r.routines_rule us → Makes (Within n) r.compound_rule vs
+    → Makes (Within n) r.block_rule (ts ++ (us ++ vs))
 unfolding r.block_rule
 blocks n ts us vs a b c = seq_makes (no_label_part n) (seq_makes (no_constant_part n) (seq_makes (no_type_part n) (seq_makes a (seq_makes b c))))
 
@@ -60,7 +65,8 @@ procedure_block n b = blocks (suc (suc n)) [] [] (body_places b) (variables_ther
 
 procedure_heading : (n : ℕ) (x : Piece) → Makes (Within n) r.heading_rule (Quoted fixed.Procedure ∷ This x ∷ [])
 unfolding r.heading_rule r.procedure_rule
-procedure_heading n x = first_makes _ _ (seq_makes (token_makes (k.WProcedure ∷ []) (Quoted fixed.Procedure) refl) (seq_makes (name_there n x) (second_makes _ _ nothing_makes)))
+procedure_heading n x = first_makes _ _ (seq_makes (token_makes (k.WProcedure ∷ []) (Quoted fixed.Procedure) refl)
+    (seq_makes (name_there n x) (second_makes _ _ nothing_makes)))
 
 procedure_body : (n : ℕ) (b : Body) → Makes (Within (suc (suc (suc n)))) r.body_rule (body_places b)
 unfolding r.body_rule
@@ -69,7 +75,8 @@ procedure_body n b = second_makes _ _ (level_makes (suc (suc n)) block (procedur
 procedure_there : (n : ℕ) (q : Procedure) → Makes (Within (suc (suc (suc n)))) r.routine_rule (Quoted fixed.Procedure ∷ procedure_places q)
 unfolding r.routine_rule
 procedure_there n q =
-    seq_makes (level_makes (suc (suc n)) heading (procedure_heading (suc (suc n)) q.name)) (seq_makes (token_makes (k.Semicolon ∷ []) (Quoted fixed.Semicolon) refl)
+    seq_makes (level_makes (suc (suc n)) heading (procedure_heading (suc (suc n)) q.name))
+    (seq_makes (token_makes (k.Semicolon ∷ []) (Quoted fixed.Semicolon) refl)
     (seq_makes (procedure_body n q.body) (token_makes (k.Semicolon ∷ []) (Quoted fixed.Semicolon) refl)))
 
 procedures_there : (n : ℕ) (l : List Procedure) → Makes (Within (suc (suc (suc n)))) r.routines_rule (further_places fixed.Procedure procedure_places l)
@@ -78,7 +85,8 @@ procedures_there n l = many_makes _ r.routine_rule fixed.Procedure procedure_pla
 
 -- ---- the program
 
-program_block : (n : ℕ) (s : Small) → Makes (Within (suc (suc (suc n)))) r.block_rule (variable_part s.variables ++ (further_places fixed.Procedure procedure_places s.procedures ++ body_places s.body))
+program_block : (n : ℕ) (s : Small) → Makes (Within (suc (suc (suc n)))) r.block_rule
+    (variable_part s.variables ++ (further_places fixed.Procedure procedure_places s.procedures ++ body_places s.body))
 program_block n s =
     blocks (suc (suc (suc n))) (variable_part s.variables) (further_places fixed.Procedure procedure_places s.procedures) (body_places s.body)
     (variables_there (suc (suc n)) s.variables) (procedures_there n s.procedures) (body_there (suc n) s.body)
@@ -91,10 +99,13 @@ joined : (a b c d : List Place) → (a ++ (b ++ c)) ++ d ≡ a ++ (b ++ (c ++ d)
 joined a b c d = append_assoc a (b ++ c) d ∙ ap (λ (l : List Place). a ++ l) (append_assoc b c d)
 
 whole_places : (s : Small)
-    → Quoted fixed.Program ∷ This s.name ∷ Quoted fixed.Semicolon ∷ ((variable_part s.variables ++ (further_places fixed.Procedure procedure_places s.procedures ++ body_places s.body)) ++ Quoted fixed.Dot ∷ Quoted fixed.Finish ∷ []) ≡ places s
+    → Quoted fixed.Program ∷ This s.name ∷ Quoted fixed.Semicolon ∷
+    ((variable_part s.variables ++ (further_places fixed.Procedure procedure_places s.procedures ++ body_places s.body))
+    ++ Quoted fixed.Dot ∷ Quoted fixed.Finish ∷ []) ≡ places s
 whole_places s =
     ap (λ (l : List Place). Quoted fixed.Program ∷ This s.name ∷ Quoted fixed.Semicolon ∷ l)
-    (joined (variable_part s.variables) (further_places fixed.Procedure procedure_places s.procedures) (body_places s.body) (Quoted fixed.Dot ∷ Quoted fixed.Finish ∷ []))
+    (joined (variable_part s.variables) (further_places fixed.Procedure procedure_places s.procedures) (body_places s.body)
+    (Quoted fixed.Dot ∷ Quoted fixed.Finish ∷ []))
 
 program_there : (n : ℕ) (s : Small) → Makes (Within (suc (suc (suc (suc n))))) r.program_rule (places s)
 unfolding r.program_rule
@@ -118,7 +129,8 @@ unfolding items_from
 all_items t = items_are t.source 0 t.tokens
 
 nested : (x : Node) → FreeIn (Within 4) r.program_rule IsNone x None → IsFormed x
-nested x f = free_up (FreeWithin r.rule 4) (FreeWithin r.rule 200) (free_within_up r.rule 4 200 (omega arith)) r.program_rule IsNone IsNone (all_in IsNone) x None f
+nested x f = free_up (FreeWithin r.rule 4) (FreeWithin r.rule 200) (free_within_up r.rule 4 200 (omega arith)) r.program_rule IsNone IsNone (all_in IsNone) x
+    None f
 
 pub small_is_text : SmallIsText
 small_is_text t s h =

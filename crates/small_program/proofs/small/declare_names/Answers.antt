@@ -20,12 +20,14 @@ pub returns-in_err-next-2 : goal.returns-in_err-next-2
 returns-in_err-next-2 c = λ t.
     let ps = pieces c.args.tokens.now in
     let p = err_from_is_err_and c.from_residual-in_err-next-2.result c.from_residual-in_err-next-2.ensures.1 in
-    rw (p.1, p.2) (names_more_fails ps (names_at (drop c.args.at ps)) c.names.names c.declare_name-in-Some.new.names c.names.next c.in-Some.after c.in_err-next-2.field-0.0 (c.names.invariant t) c.in-Some.ensures c.in_err-next-2.ensures.gives)
+    rw (p.1, p.2) (names_more_fails ps (names_at (drop c.args.at ps)) c.names.names c.declare_name-in-Some.new.names c.names.next c.in-Some.after
+    c.in_err-next-2.field-0.0 (c.names.invariant t) c.in-Some.ensures c.in_err-next-2.ensures.gives)
 
 pub names-preserved : goal.names-preserved
 names-preserved c = λ t.
     let ps = pieces c.args.tokens.now in
-    names_more ps (names_at (drop c.args.at ps)) c.names.names c.declare_name-in-Some.new.names c.names.next c.in-Some.after c.in_ok-next-2.next (c.names.invariant t) c.in-Some.ensures c.in_ok-next-2.ensures.gives
+    names_more ps (names_at (drop c.args.at ps)) c.names.names c.declare_name-in-Some.new.names c.names.next c.in-Some.after c.in_ok-next-2.next
+    (c.names.invariant t) c.in-Some.ensures c.in_ok-next-2.ensures.gives
 
 pub returns : goal.returns
 returns c = λ t.
