@@ -1,6 +1,5 @@
 -- A call that is left ends with the last call entered.
-use Rattle.std.proofs.Common.{◌≡◌, ◌≢◌, ℕ, ◌<◌, ◌≤◌, ◌+◌, ◌-◌, List, [], ◌∷◌, ◌++◌, length, Option, Some, None, refl, ap, sym, ◌∙◌, arith, inl, inr, ◌⊎◌}
-use Rattle.std.proofs.Common.{get_or, set, get_or-set_same, get_or-set_other}
+use Rattle.std.proofs.Common.{◌≡◌, ◌≢◌, ℕ, ◌<◌, ◌≤◌, ◌-◌, List, [], ◌∷◌, ◌++◌, length, Option, Some, refl, ap, sym, ◌∙◌, arith, inl, inr, get_or, set, get_or-set_same, get_or-set_other}
 use Rattle.std.specs.Prelude.{reverse, slice_get}
 use Rattle.std.proofs.lemmas.Option.{slice_get_read, slice_get_within}
 use Rattle.std.proofs.lemmas.Bool.{cases_eq, cases_lt}
@@ -10,10 +9,10 @@ use Rattle.cell_value.specs.declared.values.Value.{Value}
 use Rattle.cell_value.specs.declared.ways_out.WayOut.{WayOut}
 use Rattle.call_tree.specs.declared.records.Call.{Call}
 use Rattle.call_tree.specs.declared.records.Side.{Side}
-use Rattle.call_tree.specs.Recording.{depths_of, lasts_of, left, left_call, parents_of, Recording}
-use Rattle.call_tree.specs.Nesting.{IsNested, IsOpen, IsUnder, IsChain}
-use Rattle.call_tree.specs.Numbering.{IsNumbered, AreIntervals, IsParent}
-use Rattle.call_tree.proofs.OpenCalls.{innermost_is_open, open_to_innermost}
+use Rattle.call_tree.specs.Recording.{depths_of, lasts_of, left, left_call, parents_of}
+use Rattle.call_tree.specs.Nesting.{IsNested, IsOpen}
+use Rattle.call_tree.specs.Numbering.{IsNumbered, IsParent}
+use Rattle.call_tree.proofs.OpenCalls.{innermost_is_open}
 
 module _ (parent : List (Option ℕ)) (last depth : List ℕ) (number : ℕ) (outer : List ℕ) (nested : IsNested parent last depth (number ∷ outer)) where
   abbrev last' : List ℕ

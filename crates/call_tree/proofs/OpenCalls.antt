@@ -1,10 +1,8 @@
 -- The open calls follow one another.
-use Rattle.std.proofs.Common.{◌≡◌, ℕ, ◌<◌, ◌≤◌, List, [], ◌∷◌, ◌++◌, length, length-append, Option, Some, None, refl, ap, sym, ◌∙◌, subst, arith, inl, inr, ◌⊎◌}
-use Rattle.std.proofs.Common.{get_or, ◌+◌}
+use Rattle.std.proofs.Common.{◌≡◌, ℕ, ◌<◌, ◌≤◌, List, [], ◌∷◌, ◌++◌, length, length-append, Option, Some, ◌∙◌, arith, inl, inr, get_or, ◌+◌}
 use Rattle.std.specs.Prelude.{slice_get}
-use Rattle.std.proofs.lemmas.Option.{slice_get_within}
 use Rattle.std.proofs.Math.ListN.{get_or-append}
-use Rattle.call_tree.specs.Nesting.{IsOpen, IsUnder, IsChain}
+use Rattle.call_tree.specs.Nesting.{IsOpen, IsChain}
 use Rattle.call_tree.specs.Numbering.{IsParent}
 use Rattle.call_tree.proofs.Places.{get_snoc_before}
 

@@ -1,5 +1,5 @@
 -- How a recording is kept: the calls, two of their columns, and the open calls from the outermost to the innermost.
-use Rattle.std.specs.Prelude.{◌≡◌, ◌<◌, ◌≤◌, ℕ, All, length, reverse, vec_len}
+use Rattle.std.specs.Prelude.{◌≡◌, ◌<◌, ◌≤◌, All, reverse, vec_len}
 use Rattle.call_tree.specs.declared.calls.Calls.TheInside.{Inside}
 use Rattle.call_tree.specs.Recording.{Recording, depths_of, lasts_of, parents_of, routines_of}
 use Rattle.call_tree.specs.Nesting.{IsNested}

@@ -1,5 +1,5 @@
 -- One more touch aside leaves the touches of the entries as they are.
-use Rattle.std.proofs.Common.{◌≡◌, ℕ, ◌<◌, suc, zero, List, [], ◌∷◌, ◌++◌, length, refl, ap, ◌∙◌, arith}
+use Rattle.std.proofs.Common.{◌≡◌, suc, List, [], ◌∷◌, ◌++◌, length, refl, arith}
 use Rattle.std.specs.Prelude.{All, map}
 use Rattle.std.proofs.Math.ListN.{get_or-append}
 use Rattle.cell_value.specs.declared.entries.Touch.{Touch}

@@ -1,12 +1,8 @@
 -- The cells of a block are changed one after another, and what a touch does not name stays.
-use Rattle.std.proofs.Common.{◌≡◌, ◌≢◌, ℕ, ◌<◌, ◌≤◌, ◌+◌, List, [], Option, Some, None, refl, ap, sym, ◌∙◌, arith, inl, inr, true, false, cond, Bool}
+use Rattle.std.proofs.Common.{◌≡◌, ◌≢◌, ℕ, ◌≤◌, ◌+◌, Option, Some, None, refl, ap, sym, ◌∙◌, arith, inl, inr, true, false, cond, Bool}
 use Rattle.std.specs.Prelude.{◌==◌, ◌&&◌, nat_le, nat_lt}
-use Rattle.std.specs.BTreeMap.{BTreeMap, IsEmpty}
-use Rattle.std.specs.Map.{lookup}
-use Rattle.std.specs.BTreeMap as tree
-use Rattle.std.specs.Ordering.{nat_cmp}
+use Rattle.std.specs.BTreeMap.{BTreeMap}
 use Rattle.std.proofs.lemmas.Bool.Decides.{eqb_tells, nat_tests}
-use Rattle.cell_value.specs.declared.values.Value.{Value}
 use Rattle.cell_value.specs.declared.entries.Seen.{Seen}
 use Rattle.cell_value.specs.declared.entries.Seen.TheVariants.{Held, There, Absent}
 use Rattle.cell_value.specs.declared.entries.Change.{Change}

@@ -1,6 +1,5 @@
 -- A slice of a list goes on with the element after it, which a longer slice has too.
-use Rattle.std.proofs.Common.{◌≡◌, ℕ, ◌<◌, ◌≤◌, ◌+◌, ◌-◌, suc, zero, List, [], ◌∷◌, ◌++◌, length, get_or, take, drop, Some, refl, ap, sym, ◌∙◌, subst, arith}
-use Rattle.std.proofs.Common.{zero-add}
+use Rattle.std.proofs.Common.{◌≡◌, ℕ, ◌<◌, ◌≤◌, ◌+◌, ◌-◌, suc, zero, List, [], ◌∷◌, ◌++◌, length, get_or, take, drop, Some, refl, ap, ◌∙◌, subst, arith, zero-add}
 use Rattle.std.specs.Prelude.{All, slice_get, slice_range, sum_by}
 use Rattle.std.proofs.lemmas.List.{get_or-drop, get_or-take, length-drop, length-take-le, take_more}
 use Rattle.std.proofs.lemmas.List.Sums.{sum_by-append, sum_by-take-le}

@@ -1,14 +1,9 @@
 -- What is found in touches, one more touch at a time.
-use Rattle.std.proofs.Common.{◌≡◌, ℕ, ◌<◌, ◌≤◌, ◌+◌, List, [], ◌∷◌, ◌++◌, Option, Some, None, refl, ap, sym, ◌∙◌, arith, true, false, cond, Bool, max, inl, inr}
-use Rattle.std.proofs.Common.{◌⊎◌, take}
+use Rattle.std.proofs.Common.{◌≡◌, ℕ, ◌+◌, List, [], ◌∷◌, ◌++◌, Option, Some, None, refl, ap, sym, ◌∙◌, true, false, cond, Bool, max, inl, inr, ◌⊎◌, take}
 use Rattle.std.proofs.Common.{zero-add}
 use Rattle.std.proofs.Math.Numerals.{one-add}
 use Rattle.std.specs.Prelude.{is_some, not, fold, map, sum_by, option_to_list}
-use Rattle.std.specs.BTreeMap.{BTreeMap}
-use Rattle.std.specs.BTreeMap as tree
-use Rattle.std.specs.Map.{lookup}
-use Rattle.std.specs.Ordering.{nat_cmp}
-use Rattle.std.specs.List.{before_first, cons_option, filter_map, position_or_len, prefix_len}
+use Rattle.std.specs.List.{before_first, cons_option, filter_map, prefix_len}
 use Rattle.effect_log.proofs.BlocksChange.{nothing_seen}
 use Rattle.std.proofs.lemmas.List.{append-nil, map-append}
 use Rattle.std.proofs.lemmas.List.Elements.{filter_map-append}
@@ -16,13 +11,10 @@ use Rattle.std.proofs.lemmas.List.Sums.{fold-append, sum_by-append}
 use Rattle.cell_value.specs.declared.values.Value.{Value}
 use Rattle.cell_value.specs.declared.entries.Touch.{Touch}
 use Rattle.cell_value.specs.declared.entries.Touch.TheVariants.{Read, Has, Write, Make, Drop, Look, Take, Give}
-use Rattle.cell_value.specs.declared.entries.Seen.{Seen}
-use Rattle.cell_value.specs.declared.entries.Seen.TheVariants.{Held, There, Absent}
 use Rattle.cell_value.specs.declared.entries.Change.{Change}
-use Rattle.cell_value.specs.Effects.{asked_by, byte_by, change_at, change_by, first_of, given_of, is_shared, last_of, looked_by, looked_of, made_by, made_of}
-use Rattle.cell_value.specs.Effects.{read_by, seen_at, seen_by, shared, shown_by, taken_by, taken_of}
+use Rattle.cell_value.specs.Effects.{asked_by, byte_by, change_at, change_by, first_of, given_of, is_shared, last_of, looked_by, looked_of, made_by, read_by, seen_at, seen_by, shown_by, taken_by}
 use Rattle.effect_log.specs.declared.found.Found.{Found}
-use Rattle.effect_log.specs.Passing.{ChangesBy, IsFound, Sees, TakesIn, found_at, later, seen_next}
+use Rattle.effect_log.specs.Passing.{IsFound, TakesIn, found_at, later, seen_next}
 
 -- ---- the last and the first of a list with one more element, or none more
 last_snoc : {X : Type 0} (xs : List X) (y : X) → last_of (xs ++ y ∷ []) ≡ Some y

@@ -1,5 +1,5 @@
 -- How a log is kept: an entry for each touch, and aside the touches with sets.
-use Rattle.std.specs.Prelude.{ℕ, ◌≤◌, All, List, map, length, vec_len}
+use Rattle.std.specs.Prelude.{◌≤◌, All, List, map, length, vec_len}
 use Rattle.cell_value.specs.declared.entries.Touch.{Touch}
 use Rattle.effect_log.specs.declared.log.Log.TheInside.{Inside}
 use Rattle.effect_log.specs.Entries.{IsWithin, touch_of}

@@ -1,6 +1,5 @@
 -- One pass over touches: what has been found after some of them, and how one more touch adds to it.
-use Rattle.std.specs.Prelude.{◌≡◌, ℕ, Bool, true, false, ◌+◌, ◌==◌, ◌++◌, if◌then◌else◌, max, List, Option, Some, None}
-use Rattle.std.specs.Prelude.{option_to_list}
+use Rattle.std.specs.Prelude.{◌≡◌, ℕ, Bool, true, false, ◌+◌, ◌++◌, if◌then◌else◌, max, List, Option, Some, None, option_to_list}
 use Rattle.std.specs.Ordering.{nat_cmp}
 use Rattle.std.specs.BTreeMap.{BTreeMap, get}
 use Rattle.cell_value.specs.declared.values.Value.{Value}

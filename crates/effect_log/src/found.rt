@@ -138,13 +138,8 @@ impl Found {
             )?,
             Touch::Write(addr, value) => change_cell(&mut self.changes, base, addr, value)?,
             Touch::Make(first, cells, _) => {
-                change_block(
-                    &mut self.changes,
-                    base,
-                    first,
-                    first + cells,
-                    Change::Set(Value::Undefined),
-                )?;
+                let made = Change::Set(Value::Undefined);
+                change_block(&mut self.changes, base, first, first + cells, made)?;
                 self.made += cells;
             }
             Touch::Drop(first, cells) => {

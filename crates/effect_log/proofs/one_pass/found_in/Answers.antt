@@ -1,5 +1,5 @@
-use Rattle.std.proofs.Common.{◌≡◌, ◌<◌, ◌≤◌, [], ap, sym, ◌∙◌, arith, refl, take, drop, ◌-◌}
-use Rattle.std.specs.Prelude.{slice_range, sum_by}
+use Rattle.std.proofs.Common.{◌≡◌, [], ap, arith, take, drop, ◌-◌}
+use Rattle.std.specs.Prelude.{slice_range}
 use Rattle.cell_value.specs.Effects.{IsCountable, made_by, taken_by}
 use Rattle.effect_log.proofs.SlicesGoOn.{slice_has, slice_more, slice_sum}
 use Rattle.effect_log.proofs.TouchesAddUp.{one_more_found}

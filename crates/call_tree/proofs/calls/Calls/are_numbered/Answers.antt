@@ -1,7 +1,5 @@
 use Rattle.std.proofs.Common.{◌≡◌, [], ap, ◌∙◌}
 use Rattle.std.specs.Prelude.{reverse}
-use Rattle.call_tree.specs.Nesting.{IsNested}
-use Rattle.call_tree.specs.Recording.{depths_of, lasts_of, parents_of}
 use Rattle.call_tree.proofs.LeavingKeepsNesting.{left_calls_are_numbered}
 use Rattle.call_tree.proofs.calls.Calls.are_numbered.Goals as goal
 

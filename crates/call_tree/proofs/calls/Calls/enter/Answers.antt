@@ -1,12 +1,9 @@
-use Rattle.std.proofs.Common.{◌≡◌, ℕ, List, ◌∷◌, [], ◌++◌, Option, None, ap, refl, sym, ◌∙◌, length, arith, ◌<◌, ◌+◌, vec_len}
+use Rattle.std.proofs.Common.{◌≡◌, ℕ, List, ◌∷◌, [], ◌++◌, None, ap, refl, sym, ◌∙◌, length, arith, ◌<◌, ◌+◌, vec_len}
 use Rattle.std.specs.Prelude.{slice_get, ◌-◌, reverse}
 use Rattle.std.proofs.lemmas.List.{length-reverse, map-append, reverse-append}
 use Rattle.std.proofs.lemmas.List.Elements.{All-push}
-use Rattle.cell_value.specs.declared.values.Value.{Value}
 use Rattle.cell_value.specs.declared.ways_out.WayOut.TheVariants.{Returned}
 use Rattle.call_tree.specs.declared.records.Call.{Call}
-use Rattle.call_tree.specs.declared.records.Side.{Side}
-use Rattle.call_tree.specs.Recording.{new_call, lasts_of, routines_of}
 use Rattle.call_tree.proofs.EnteringKeepsNesting.{entered_calls_are_nested}
 use Rattle.call_tree.proofs.Places.{last_is_first_reversed}
 use Rattle.call_tree.proofs.calls.Calls.enter.Goals as goal

@@ -1,10 +1,10 @@
-use Rattle.std.proofs.Common.{◌≡◌, ℕ, ap, sym, ◌∙◌, length, arith, set, ◌<◌, get_or}
-use Rattle.std.specs.Prelude.{◌-◌, All, reverse}
+use Rattle.std.proofs.Common.{◌≡◌, ap, sym, ◌∙◌, length, arith, set, ◌<◌}
+use Rattle.std.specs.Prelude.{◌-◌}
 use Rattle.std.proofs.lemmas.List.{map-set}
 use Rattle.std.proofs.lemmas.List.Elements.{All-get_or, All-set}
 use Rattle.std.proofs.Math.Seq.{map-set_same}
 use Rattle.call_tree.specs.declared.records.Call.{Call}
-use Rattle.call_tree.specs.Recording.{left, left_call, Recording}
+use Rattle.call_tree.specs.Recording.{left_call}
 use Rattle.call_tree.proofs.LeavingKeepsNesting.{left_calls_are_nested, left_recording, number_inside}
 use Rattle.call_tree.proofs.calls.Calls.leave.Goals as goal
 
