@@ -10,12 +10,12 @@ use Rattle.plain_search.specs.Laws.{left_after, IsBest}
 use Rattle.debuggee.specs.Execution.{Execution, lasts_of, parents_of}
 use Rattle.debug_cli.specs.Laws.{suspects, IsBestQuestion}
 
-pub best_of : (h : Execution) (entries : List Entry) (call weight count left : ℕ)
+pub best_of : (h : Execution) (entries : List Entry) (call count left : ℕ)
     → ((other : ℕ) → IsNumbered (parents_of h.calls) (lasts_of h.calls) → Contains (suspects_after (lasts_of h.calls) entries) other
     → left_of (lasts_of h.calls) (suspects_after (lasts_of h.calls) entries) other ≡ max (left_after (lasts_of h.calls) entries other judgement.Wrong)
     (left_after (lasts_of h.calls) entries other judgement.Right))
-    → IsNumbered (parents_of h.calls) (lasts_of h.calls) → IsBest (lasts_of h.calls) entries call weight count left → IsBestQuestion h entries call count left
-best_of h entries call weight count left worse numbered b = record {
+    → IsNumbered (parents_of h.calls) (lasts_of h.calls) → IsBest (lasts_of h.calls) entries call count left → IsBestQuestion h entries call count left
+best_of h entries call count left worse numbered b = record {
   a_suspect = b.a_suspect;
   all_suspects = b.all_suspects;
   its_left = b.its_left ∙ worse call numbered b.a_suspect;

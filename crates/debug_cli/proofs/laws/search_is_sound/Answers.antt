@@ -7,10 +7,10 @@ use Rattle.debug_cli.proofs.laws.search_is_sound.Goals as goal
 
 pub returns-clause-asks : goal.returns-clause-asks
 returns-clause-asks c = λ t s entries call weight count left e.
-    best_of (execution_of t s) entries call weight count left
+    best_of (execution_of t s) entries call count left
     (c.answers_leave_what_is_counted.ensures.worse (parents_of (execution_of t s).calls) (lasts_of (execution_of t s).calls) entries)
     (run_numbered c.numbers_tell_the_tree.ensures.subtree c.numbers_tell_the_tree.ensures.last (program_of s) default_budget)
-    (c.question_is_best.ensures.best (lasts_of (execution_of t s).calls) entries call weight count left e)
+    (c.question_is_best.ensures.best (lasts_of (execution_of t s).calls) entries call weight count left e).0
 
 pub returns-clause-finds : goal.returns-clause-finds
 returns-clause-finds c = λ t s entries call e.
