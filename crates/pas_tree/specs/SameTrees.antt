@@ -100,5 +100,5 @@ NodesTellTrees = (a b : Tree) → tree_node a ≡ tree_node b → SameTree a b
 -- and so are the formed trees of one text, in which at most n levels are nested
 abbrev pub TextTellsTree : Type 0
 TextTellsTree =
-    (n : ℕ) (a b : Tree) → IsFormedBy pascal n program_rule (tree_node a) → IsFormedBy pascal n program_rule (tree_node b)
-    → spell (tree_node a) ≡ spell (tree_node b) → SameTree a b
+    (n : ℕ) (a b : Tree) → IsFormedBy pascal n program_rule (tree_node a)
+    → IsFormedBy pascal n program_rule (tree_node b) → spell (tree_node a) ≡ spell (tree_node b) → SameTree a b
