@@ -12,9 +12,13 @@ use Rattle.pas_tree.specs.declared.blocks.TypeDefinition.{TypeDefinition}
 use Rattle.pas_tree.specs.declared.blocks.VariablePart.{VariablePart}
 use Rattle.pas_tree.specs.declared.blocks.VariableDeclaration.{VariableDeclaration}
 use Rattle.pas_tree.specs.declared.blocks.Body.{Body, Directive, Block'}
+use Rattle.grammar.proofs.Texts.{one_tree}
+use Rattle.pas_tree.specs.Rules.{program_rule}
+use Rattle.pas_tree.specs.FirstFollow.{pascal}
 use Rattle.pas_tree.specs.Blocks as node
 use Rattle.pas_tree.specs.SameTrees as same
 use Rattle.pas_tree.proofs.Told.{form, number, left, right, left_number, second, rest, names_told, constant_told, all_told}
+use Rattle.pas_tree.proofs.Decided.{pascal_decided}
 use Rattle.pas_tree.proofs.DenotersTold.{denoter_told}
 use Rattle.pas_tree.proofs.HeadingsTold.{heading_told}
 use Rattle.pas_tree.proofs.StatementsTold.{compound_told}
@@ -125,3 +129,6 @@ trees_told a b q =
       ap number (ap second block),
       ap number (ap rest block),
     )
+
+pub text_told : same.TextTellsTree
+text_told n a b f g e = trees_told a b (one_tree pascal program_rule pascal_decided n (node.tree_node a) (node.tree_node b) f g e)

@@ -1,6 +1,8 @@
 -- When two programs' trees are the same wherever their boxes and vectors lie in memory: the same variants, and the same
 -- tokens and parts in the same order.
-use Rattle.std.specs.Prelude.{◌≡◌, Option, Some, None}
+use Rattle.std.specs.Prelude.{◌≡◌, ℕ, Option, Some, None}
+use Rattle.grammar.specs.Nodes.{spell}
+use Rattle.grammar.specs.Laws.{IsFormedBy}
 use Rattle.pas_tree.specs.declared.blocks.Tree.{Tree}
 use Rattle.pas_tree.specs.declared.blocks.Parameters.{Parameters}
 use Rattle.pas_tree.specs.declared.blocks.Block.{Block, Block' as BlockTree', Row_of-Routine, end_of-Routine}
@@ -19,6 +21,8 @@ use Rattle.pas_tree.specs.SameDenoters.{SameDenoter}
 use Rattle.pas_tree.specs.SameHeadings.{SameHeading}
 use Rattle.pas_tree.specs.SameStatements.{SameCompound}
 use Rattle.pas_tree.specs.Blocks.{tree_node}
+use Rattle.pas_tree.specs.Rules.{program_rule}
+use Rattle.pas_tree.specs.FirstFollow.{pascal}
 
 abbrev pub SameNextLabel : NextLabel → NextLabel → Type 0
 SameNextLabel a b = (a.comma ≡ b.comma) × (a.number ≡ b.number)
@@ -92,3 +96,9 @@ SameTree a b =
 -- trees with equal nodes are the same
 abbrev pub NodesTellTrees : Type 0
 NodesTellTrees = (a b : Tree) → tree_node a ≡ tree_node b → SameTree a b
+
+-- and so are the formed trees of one text, in which at most n levels are nested
+abbrev pub TextTellsTree : Type 0
+TextTellsTree =
+    (n : ℕ) (a b : Tree) → IsFormedBy pascal n program_rule (tree_node a)
+    → IsFormedBy pascal n program_rule (tree_node b) → spell (tree_node a) ≡ spell (tree_node b) → SameTree a b

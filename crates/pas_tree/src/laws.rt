@@ -8,7 +8,7 @@ ghost use Rattle.pas_tree.specs.Blocks.{tree_node};
 ghost use Rattle.pas_tree.specs.FirstFollow.{pascal};
 ghost use Rattle.pas_tree.specs.FirstRefused.{IsExactWhereFirst, IsExactWhereRead};
 ghost use Rattle.pas_tree.specs.Rules.{program_rule, rule};
-ghost use Rattle.pas_tree.specs.SameTrees.{NodesTellTrees};
+ghost use Rattle.pas_tree.specs.SameTrees.{NodesTellTrees, TextTellsTree};
 
 /// In the grammar of Pascal the next token decides each choice, and the tables of what begins and
 /// follows each construct are right.
@@ -22,8 +22,10 @@ pub fn trees_fit_the_grammar()
 {}
 
 /// Trees with equal nodes are the same wherever they lie in memory: a node keeps all that a tree says.
+/// So a text has at most one formed tree.
 pub fn nodes_tell_trees()
-    ensures { NodesTellTrees }
+    ensures nodes { NodesTellTrees }
+    ensures text { TextTellsTree }
 {}
 
 /// What a reader's answer says of a program: which token is the first that is too deep, or else the first
