@@ -7,7 +7,7 @@ use Rattle.plain_search.specs.State.{suspects_after}
 use Rattle.plain_search.specs.Numbering.{IsNumbered}
 use Rattle.plain_search.specs.Question.{left_of}
 use Rattle.plain_search.specs.Laws.{left_after, IsBest}
-use Rattle.debug_cli.specs.Execution.{Execution, lasts_of, parents_of}
+use Rattle.debuggee.specs.Execution.{Execution, lasts_of, parents_of}
 use Rattle.debug_cli.specs.Laws.{suspects, IsBestQuestion}
 
 pub best_of : (h : Execution) (entries : List Entry) (call weight count left : ℕ)

@@ -10,7 +10,7 @@ use Rattle.edge_ports.proofs.WholeLines.{heard_in_order}
 use Rattle.debug_cli.specs.declared.dialog.Ending.{Ending}
 use Rattle.debug_cli.specs.declared.dialog.Ending.TheVariants as ending
 use Rattle.plain_search.specs.declared.entries.Entry.{Entry}
-use Rattle.debug_cli.specs.Execution.{Execution}
+use Rattle.debuggee.specs.Execution.{Execution}
 use Rattle.debug_cli.specs.Dialog.{replies, reply_to, entries_after_line, ends_session, ends_among}
 use Rattle.plain_search.specs.Standing.{first_entries}
 use Rattle.debug_cli.specs.Heard.{Heard, IsHeard, EndedBy, GaveBy, lines_in}

@@ -21,8 +21,8 @@ use Rattle.plain_search.specs.Standing.{first_entries}
 use Rattle.debug_cli.specs.declared.dialog.Ending.TheVariants as ending
 use Rattle.debug_cli.specs.declared.status.Status.{Status}
 use Rattle.debug_cli.specs.declared.status.Status.TheVariants as status
-use Rattle.debug_cli.specs.Program.{IsProgram, NoProgram}
-use Rattle.debug_cli.specs.Execution.{Execution, execution_of}
+use Rattle.debuggee.specs.Program.{IsProgram, NoProgram}
+use Rattle.debuggee.specs.Execution.{Execution, execution_of}
 use Rattle.debug_cli.specs.Laws.{OneRun}
 use Rattle.debug_cli.specs.Dialog.{opening, replies, ends_among}
 use Rattle.debug_cli.specs.Heard.{Heard, lines_in, IsHeard, EndedBy}

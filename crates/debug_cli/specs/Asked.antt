@@ -15,11 +15,11 @@ use Rattle.small_program.specs.Small.{Small}
 use Rattle.plain_search.specs.Standing.{first_entries}
 use Rattle.debug_cli.specs.declared.dialog.Ending.{Ending}
 use Rattle.debug_cli.specs.declared.dialog.Ending.TheVariants as ending
-use Rattle.debug_cli.specs.declared.refusal.Refusal.{Refusal}
+use Rattle.debuggee.specs.declared.refusal.Refusal.{Refusal}
 use Rattle.debug_cli.specs.declared.status.Status.{Status}
 use Rattle.debug_cli.specs.declared.status.Status.TheVariants as status
-use Rattle.debug_cli.specs.Program.{IsProgram, NoProgram, Refuses}
-use Rattle.debug_cli.specs.Execution.{Execution, execution_of}
+use Rattle.debuggee.specs.Program.{IsProgram, NoProgram, Refuses}
+use Rattle.debuggee.specs.Execution.{Execution, execution_of}
 use Rattle.debug_cli.specs.Texts.{file_line, refused_line}
 use Rattle.debug_cli.specs.Dialog.{opening, replies}
 use Rattle.debug_cli.specs.Heard.{Heard, lines_in, IsHeard, EndedBy, GaveBy, session_status}

@@ -14,7 +14,7 @@ use Rattle.debug_cli.specs.declared.commands.Command.{Command}
 use Rattle.debug_cli.specs.declared.commands.Command.TheVariants.{Nothing, Right, Wrong, Quit, Other}
 use Rattle.debug_cli.specs.Limits.{book_entries}
 use Rattle.debug_cli.specs.Commands.{command_of}
-use Rattle.debug_cli.specs.Execution.{Execution, lasts_of}
+use Rattle.debuggee.specs.Execution.{Execution, lasts_of}
 use Rattle.debug_cli.specs.Texts.{card, report}
 
 -- the state of the search, from scratch, after these entries

@@ -7,8 +7,8 @@ use Rattle.plain_search.specs.declared.entries.Judgement.TheVariants as judgemen
 use Rattle.plain_search.specs.State.{suspects_after}
 use Rattle.plain_search.specs.Laws.{left_after, IsAtFault}
 use Rattle.small_program.specs.Small.{Small}
-use Rattle.debug_cli.specs.Program.{IsProgram}
-use Rattle.debug_cli.specs.Execution.{Execution, execution_of, lasts_of, parents_of}
+use Rattle.debuggee.specs.Program.{IsProgram}
+use Rattle.debuggee.specs.Execution.{Execution, execution_of, lasts_of, parents_of}
 use Rattle.debug_cli.specs.Dialog.{state}
 
 -- a source is one small program at most, and has one run

@@ -1,8 +1,6 @@
 pub mod Commands
-pub mod Execution
 pub mod Texts
 pub mod Dialog
-pub mod Program
 pub mod Status
 pub mod Outside
 pub mod Asked

@@ -5,8 +5,8 @@ use Rattle.edge_ports.specs.Lines.{whole_lines}
 use Rattle.edge_ports.specs.Limits.{console_bytes}
 use Rattle.pas_lexer.specs.Lexed.{Lexed}
 use Rattle.small_program.specs.Small.{Small}
-use Rattle.debug_cli.specs.Program.{IsProgram}
-use Rattle.debug_cli.specs.Execution.{execution_of}
+use Rattle.debuggee.specs.Program.{IsProgram}
+use Rattle.debuggee.specs.Execution.{execution_of}
 use Rattle.debug_cli.specs.Dialog.{ends_among}
 use Rattle.debug_cli.specs.Asked.{Words, source_of, transcript}
 

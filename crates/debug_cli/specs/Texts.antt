@@ -9,9 +9,9 @@ use Rattle.cell_value.specs.declared.ways_out.WayOut.TheVariants as way
 use Rattle.core_program.specs.declared.calls.CallRow.{CallRow}
 use Rattle.plain_search.specs.declared.state.SearchState.{SearchState}
 use Rattle.plain_search.specs.declared.state.SearchState.TheVariants.{Ask, Found, NothingWrong}
-use Rattle.debug_cli.specs.declared.refusal.Refusal.{Refusal}
-use Rattle.debug_cli.specs.declared.refusal.Refusal.TheVariants as refusal
-use Rattle.debug_cli.specs.Execution.{Execution, name_of}
+use Rattle.debuggee.specs.declared.refusal.Refusal.{Refusal}
+use Rattle.debuggee.specs.declared.refusal.Refusal.TheVariants as refusal
+use Rattle.debuggee.specs.Execution.{Execution, name_of}
 use Rattle.edge_ports.specs.declared.ports.FetchFault.{FetchFault}
 use Rattle.edge_ports.specs.declared.ports.FetchFault.TheVariants as fetch
 

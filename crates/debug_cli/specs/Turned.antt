@@ -10,7 +10,7 @@ use Rattle.plain_search.specs.Standing.{first_entries}
 use Rattle.debug_cli.specs.declared.dialog.Ending.{Ending}
 use Rattle.debug_cli.specs.declared.dialog.Ending.TheVariants as ending
 use Rattle.debug_cli.specs.Status.{is_screen, is_console}
-use Rattle.debug_cli.specs.Execution.{Execution}
+use Rattle.debuggee.specs.Execution.{Execution}
 use Rattle.debug_cli.specs.Dialog.{state, replies, reply_judged, entries_judged, reply_to, entries_after_line}
 use Rattle.debug_cli.specs.Dialog.{ends_session, ends_among}
 use Rattle.debug_cli.specs.Heard.{session_status}

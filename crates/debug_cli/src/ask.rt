@@ -7,7 +7,7 @@ ghost use Rattle.edge_ports.specs.Told.{GaveAll, GavePrefix};
 ghost use Rattle.pas_lexer.specs.Limits.{source_bytes};
 ghost use Rattle.debug_cli.specs.declared.status.Status.{Status};
 ghost use Rattle.debug_cli.specs.declared.dialog.Ending.TheVariants as ending;
-ghost use Rattle.debug_cli.specs.Program.{NoProgram};
+ghost use Rattle.debuggee.specs.Program.{NoProgram};
 ghost use Rattle.debug_cli.specs.Texts.{usage_line, file_line, refused_line};
 ghost use Rattle.debug_cli.specs.Laws.{AsksTheBest, FindsTheFault, OneRun};
 ghost use Rattle.debug_cli.specs.Status.{code_of, is_after_fetch, is_console, is_screen};
@@ -17,12 +17,11 @@ ghost use Rattle.debug_cli.specs.Asked.{Words, source_of, said_in, GivesLine, Gi
 ghost use Rattle.debug_cli.specs.Asked.{Session, SourceRefused, NotFetched};
 ghost use Rattle.debug_cli.specs.Setting.{Stored, Setting, transcript_of, EndsInTime, GoesOn};
 
-use crate::debuggee::{SourceFault, run_source};
 use crate::laws;
-use crate::refusal::Refusal;
 use crate::session::{give_line, hold_session, status_of};
 use crate::status::Status;
 use crate::texts::{absent_text, failed_text, refused_text, too_long_text};
+use debuggee::{Refusal, SourceFault, run_source};
 use edge_ports::{Bytes, FetchFault, Keeper, Sink, Source};
 use std::alloc::{AllocError, Global};
 

@@ -6,7 +6,7 @@ ghost use Rattle.edge_ports.specs.Told.{GaveAll, GavePrefix};
 ghost use Rattle.edge_ports.specs.Lines.{Moves};
 ghost use Rattle.edge_ports.specs.Limits.{line_bytes};
 ghost use Rattle.edge_ports.specs.Turns.{IsConsistent};
-ghost use Rattle.debug_cli.specs.Execution.{execution, IsReady};
+ghost use Rattle.debuggee.specs.Execution.{execution, IsReady};
 ghost use Rattle.debug_cli.specs.Status.{is_console, is_screen};
 ghost use Rattle.debug_cli.specs.Dialog.{replies};
 ghost use Rattle.plain_search.specs.Standing.{first_entries};
@@ -14,8 +14,8 @@ ghost use Rattle.debug_cli.specs.Heard.{Heard, IsHeard, lines_in, EndedBy, GaveB
 ghost use Rattle.debug_cli.specs.Turned.{Answers, NextReply, Turned, console_failed, screen_failed};
 
 use crate::commands::{Command, command_in};
-use crate::debuggee::Debuggee;
 use crate::judging::{judge, text_of};
+use debuggee::Debuggee;
 use edge_ports::{Bytes, LineFault, Lines, Sink, Source, Turn, write_all};
 use plain_search::{Entry, Judgement};
 use std::alloc::{AllocError, AllocFailed, Global};

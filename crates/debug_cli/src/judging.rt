@@ -1,13 +1,13 @@
 //! A judgement on the call that is asked about.
 ghost use Rattle.std.specs.Prelude.{◌≡◌, ◌<◌, ◌++◌, ◌∷◌, [], IfOk, IfErr, length};
-ghost use Rattle.debug_cli.specs.Execution.{execution, IsReady};
+ghost use Rattle.debuggee.specs.Execution.{execution, IsReady};
 ghost use Rattle.debug_cli.specs.Texts.{report};
 ghost use Rattle.debug_cli.specs.Dialog.{state, entered};
 ghost use Rattle.debug_cli.specs.Turned.{Judges};
 
-use crate::debuggee::Debuggee;
 use crate::dialog::Ending;
 use crate::texts::{write_number, write_report};
+use debuggee::Debuggee;
 use edge_ports::Bytes;
 use plain_search::{Entry, Judgement, SearchState, search};
 use std::alloc::{AllocError, Global};

@@ -5,11 +5,9 @@
 
 mod ask;
 mod commands;
-mod debuggee;
 mod dialog;
 mod judging;
 mod laws;
-mod refusal;
 mod session;
 mod status;
 mod texts;

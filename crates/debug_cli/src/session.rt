@@ -1,18 +1,18 @@
 //! A session on the console: what it opens with, and the dialog.
 ghost use Rattle.std.specs.Prelude.{◌≡◌, false, IsTrue, IfOk};
 ghost use Rattle.edge_ports.specs.Counts.{Counted};
-ghost use Rattle.debug_cli.specs.Execution.{execution, IsReady};
+ghost use Rattle.debuggee.specs.Execution.{execution, IsReady};
 ghost use Rattle.debug_cli.specs.Status.{is_console, is_screen};
 ghost use Rattle.debug_cli.specs.Dialog.{opening};
 ghost use Rattle.plain_search.specs.Standing.{first_entries};
 ghost use Rattle.debug_cli.specs.Heard.{Heard, IsHeard, lines_in, EndedBy, GaveBy, session_status};
 ghost use Rattle.debug_cli.specs.Asked.{GivesLine, said};
 
-use crate::debuggee::Debuggee;
 use crate::dialog::{Ending, converse};
 use crate::judging::find_state;
 use crate::status::Status;
 use crate::texts::{write_card, write_report};
+use debuggee::Debuggee;
 use edge_ports::{Bytes, Lines, Sink, Source, write_all};
 use plain_search::{Entry, Judgement};
 use std::alloc::{AllocError, AllocFailed, Global};

@@ -1,14 +1,13 @@
 //! The texts of a call and of the state of the search.
 ghost use Rattle.std.specs.Prelude.{◌≡◌, ◌++◌, IfOk, OnOk, decimal, codes, slice_get};
-ghost use Rattle.debug_cli.specs.Execution.{execution, name_of, text_at};
+ghost use Rattle.debuggee.specs.Execution.{execution, name_of, text_at};
 ghost use Rattle.debug_cli.specs.Texts.{kind_text, limit_text, way_text, inner_line, call_text, in_parent};
 ghost use Rattle.debug_cli.specs.Texts.{card, found_text, question_line, report};
 ghost use Rattle.debug_cli.specs.Texts.{absent_line, failed_line, too_long_line, refusal_text, refused_line};
 
-use crate::debuggee::Debuggee;
-use crate::refusal::Refusal;
 use cell_value::{Kind, WayOut, Which};
 use core_program::CallRow;
+use debuggee::{Debuggee, Refusal};
 use edge_ports::Bytes;
 use itoa::Buffer;
 use pas_lexer::Tokens;

@@ -1,6 +1,6 @@
 use Rattle.std.proofs.Common.{inl, inr, subst}
 use Rattle.debug_cli.specs.Heard.{GaveBy, lines_in}
-use Rattle.debug_cli.specs.Execution.{Execution}
+use Rattle.debuggee.specs.Execution.{Execution}
 use Rattle.debug_cli.specs.Asked.{said}
 use Rattle.debug_cli.proofs.ask.ask_source.Goals as goal
 

@@ -1,6 +1,6 @@
 use Rattle.std.proofs.Common.{ap, ◌∙◌}
 use Rattle.edge_ports.proofs.Filling.{moves_more}
-use Rattle.debug_cli.specs.Execution.{execution}
+use Rattle.debuggee.specs.Execution.{execution}
 use Rattle.debug_cli.specs.Turned.{Stage}
 use Rattle.debug_cli.proofs.RepliesInOrder.{answered_more, talk_ends, heard_of}
 use Rattle.debug_cli.proofs.dialog.converse.Goals as goal

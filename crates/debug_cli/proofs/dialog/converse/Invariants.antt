@@ -2,7 +2,7 @@ use Rattle.std.proofs.Common.{◌≡◌, ◌-◌, IsTrue}
 use Rattle.std.specs.Io.KnownBytes.{IsAtEnd}
 use Rattle.edge_ports.specs.Lines.{Moves}
 use Rattle.edge_ports.specs.Limits.{console_bytes}
-use Rattle.debug_cli.specs.Execution.{execution}
+use Rattle.debuggee.specs.Execution.{execution}
 use Rattle.debug_cli.specs.Turned.{Answered}
 use Rattle.debug_cli.proofs.dialog.converse.Given as goal
 

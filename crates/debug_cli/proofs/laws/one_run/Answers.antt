@@ -1,4 +1,4 @@
-use Rattle.debug_cli.proofs.SourceIsRun.{one_run}
+use Rattle.debuggee.proofs.SourceIsRun.{one_run}
 use Rattle.debug_cli.proofs.laws.one_run.Goals as goal
 
 pub returns : goal.returns

@@ -1,7 +1,7 @@
 use Rattle.small_program.specs.Small.{program_of}
-use Rattle.debug_cli.specs.Execution.{execution_of, lasts_of, parents_of}
-use Rattle.debug_cli.specs.Limits.{default_budget}
-use Rattle.debug_cli.proofs.CallsAreNumbered.{run_numbered}
+use Rattle.debuggee.specs.Execution.{execution_of, lasts_of, parents_of}
+use Rattle.debuggee.specs.Limits.{default_budget}
+use Rattle.debuggee.proofs.CallsAreNumbered.{run_numbered}
 use Rattle.debug_cli.proofs.QuestionIsBest.{best_of}
 use Rattle.debug_cli.proofs.laws.search_is_sound.Goals as goal
 

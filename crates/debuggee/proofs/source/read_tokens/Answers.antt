@@ -1,5 +1,5 @@
-use Rattle.debug_cli.proofs.SourceIsRun.{misfit_unlexed, misfit_only}
-use Rattle.debug_cli.proofs.debuggee.read_tokens.Goals as goal
+use Rattle.debuggee.proofs.SourceIsRun.{misfit_unlexed, misfit_only}
+use Rattle.debuggee.proofs.source.read_tokens.Goals as goal
 
 pub returns-in-Err-clause-only : goal.returns-in-Err-clause-only
 returns-in-Err-clause-only c = misfit_only c.args.source.now c.in-Err.fault c.misfit.result c.in-Err.ensures.only c.misfit.ensures.memory

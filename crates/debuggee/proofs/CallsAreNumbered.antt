@@ -12,8 +12,8 @@ use Rattle.core_program.specs.declared.calls.CallRow.{CallRow}
 use Rattle.core_program.specs.Run.{Call}
 use Rattle.core_program.specs.Numbering.{greatest, belows, last_of, parent_of, is_below, each_from, row_of, numbered, InSubtree, Root, Child}
 use Rattle.plain_search.specs.Numbering.{AreIntervals, IsParent, IsNumbered}
-use Rattle.debug_cli.specs.Execution.{parents_of, lasts_of, calls_within, IsReady}
-use Rattle.debug_cli.specs.declared.debuggee.Debuggee.{Debuggee}
+use Rattle.debuggee.specs.Execution.{parents_of, lasts_of, calls_within, IsReady}
+use Rattle.debuggee.specs.declared.source.Debuggee.{Debuggee}
 use Rattle.core_program.specs.Tables.{Tables}
 use Rattle.core_program.specs.Run.{Outcome, run}
 use Rattle.core_program.specs.Numbering.{calls_of}

@@ -8,8 +8,8 @@ use Rattle.core_program.specs.Tables.{Tables}
 use Rattle.core_program.specs.Run.{run}
 use Rattle.core_program.specs.Numbering.{numbered, calls_of}
 use Rattle.plain_search.specs.Numbering.{AreIntervals}
-use Rattle.debug_cli.specs.declared.debuggee.Debuggee.{Debuggee}
-use Rattle.debug_cli.specs.Limits.{default_budget}
+use Rattle.debuggee.specs.declared.source.Debuggee.{Debuggee}
+use Rattle.debuggee.specs.Limits.{default_budget}
 use Rattle.small_program.specs.Small.{Small, program_of}
 
 -- the tokens of a source, the program that they are, and the calls of its run in order of entry

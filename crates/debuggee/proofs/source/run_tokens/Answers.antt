@@ -1,6 +1,6 @@
-use Rattle.debug_cli.specs.Limits.{default_budget}
-use Rattle.debug_cli.proofs.CallsAreNumbered.{ready_of}
-use Rattle.debug_cli.proofs.debuggee.run_tokens.Goals as goal
+use Rattle.debuggee.specs.Limits.{default_budget}
+use Rattle.debuggee.proofs.CallsAreNumbered.{ready_of}
+use Rattle.debuggee.proofs.source.run_tokens.Goals as goal
 
 pub returns-clause-ready : goal.returns-clause-ready
 returns-clause-ready c =

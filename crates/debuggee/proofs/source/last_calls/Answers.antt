@@ -1,6 +1,6 @@
 use Rattle.std.proofs.Common.{◌∙◌, ap, sym, ◌++◌, ◌∷◌, [], List, ℕ, arith}
-use Rattle.debug_cli.proofs.CallsAreNumbered.{lasts_more}
-use Rattle.debug_cli.proofs.debuggee.last_calls.Goals as goal
+use Rattle.debuggee.proofs.CallsAreNumbered.{lasts_more}
+use Rattle.debuggee.proofs.source.last_calls.Goals as goal
 
 pub calls-preserved : goal.calls-preserved
 calls-preserved c =

@@ -4,19 +4,19 @@ use Rattle.pas_lexer.specs.declared.kinds.Token.{Token}
 use Rattle.pas_lexer.specs.declared.kinds.LexFault.{LexFault}
 use Rattle.pas_lexer.specs.declared.kinds.LexFault.TheVariants as lexis
 use Rattle.pas_lexer.specs.Lexed.{Lexed}
-use Rattle.debug_cli.specs.declared.refusal.Refusal.{Refusal}
+use Rattle.debuggee.specs.declared.refusal.Refusal.{Refusal}
 use Rattle.pas_lexer.specs.Division.{IsLexed}
 use Rattle.core_program.specs.Tables.{Tables}
-use Rattle.debug_cli.specs.declared.debuggee.SourceFault.{SourceFault}
-use Rattle.debug_cli.specs.declared.debuggee.SourceFault.TheVariants.{Refused, Memory}
-use Rattle.debug_cli.specs.Limits.{default_budget}
+use Rattle.debuggee.specs.declared.source.SourceFault.{SourceFault}
+use Rattle.debuggee.specs.declared.source.SourceFault.TheVariants.{Refused, Memory}
+use Rattle.debuggee.specs.Limits.{default_budget}
 use Rattle.small_program.specs.Small.{Piece, pieces, Small, IsSmall, program_of}
 use Rattle.small_program.specs.Reading.{Read}
 use Rattle.small_program.proofs.Whole.{small_whole}
-use Rattle.debug_cli.specs.Execution.{Execution, execution_of, calls_within}
+use Rattle.debuggee.specs.Execution.{Execution, execution_of, calls_within}
 use Rattle.pas_parser.specs.Formed.{IsText}
 use Rattle.small_text.specs.Laws.{SmallIsText}
-use Rattle.debug_cli.specs.Program.{IsProgram, Keeps, Refuses, IsRefused, IsMisfit, IsUnlexed, IsUnparsed, IsUnread, TokensAre, ProgramIs}
+use Rattle.debuggee.specs.Program.{IsProgram, Keeps, Refuses, IsRefused, IsMisfit, IsUnlexed, IsUnparsed, IsUnread, TokensAre, ProgramIs}
 
 -- ---- no tokens
 

@@ -8,12 +8,12 @@ use Rattle.pas_phrases.specs.declared.fault.ParseFault.TheVariants as parser
 use Rattle.pas_parser.specs.Exact.{IsExact}
 use Rattle.pas_parser.specs.Formed.{IsText}
 use Rattle.core_program.specs.Tables.{Tables}
-use Rattle.debug_cli.specs.declared.refusal.Refusal.{Refusal}
-use Rattle.debug_cli.specs.declared.refusal.Refusal.TheVariants as refusal
-use Rattle.debug_cli.specs.declared.debuggee.SourceFault.{SourceFault}
-use Rattle.debug_cli.specs.declared.debuggee.SourceFault.TheVariants.{Refused, Memory}
-use Rattle.debug_cli.specs.declared.debuggee.Debuggee.{Debuggee}
-use Rattle.debug_cli.specs.Execution.{Execution, execution}
+use Rattle.debuggee.specs.declared.refusal.Refusal.{Refusal}
+use Rattle.debuggee.specs.declared.refusal.Refusal.TheVariants as refusal
+use Rattle.debuggee.specs.declared.source.SourceFault.{SourceFault}
+use Rattle.debuggee.specs.declared.source.SourceFault.TheVariants.{Refused, Memory}
+use Rattle.debuggee.specs.declared.source.Debuggee.{Debuggee}
+use Rattle.debuggee.specs.Execution.{Execution, execution}
 use Rattle.small_program.specs.Small.{pieces, Small, IsSmall, BeginsNone}
 
 -- the source has these tokens, which are this small program

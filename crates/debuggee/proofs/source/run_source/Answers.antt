@@ -1,8 +1,8 @@
 use Rattle.std.proofs.lemmas.Result.{err_from_is_err_and}
-use Rattle.debug_cli.specs.Execution.{execution}
-use Rattle.debug_cli.proofs.SourceIsRun.{no_tokens_only, no_tokens_refused, IsDivided, no_program_only, no_program_refused}
-use Rattle.debug_cli.proofs.SourceIsRun.{no_text_only, no_text_refused, run_only, run_found}
-use Rattle.debug_cli.proofs.debuggee.run_source.Goals as goal
+use Rattle.debuggee.specs.Execution.{execution}
+use Rattle.debuggee.proofs.SourceIsRun.{no_tokens_only, no_tokens_refused, IsDivided, no_program_only, no_program_refused}
+use Rattle.debuggee.proofs.SourceIsRun.{no_text_only, no_text_refused, run_only, run_found}
+use Rattle.debuggee.proofs.source.run_source.Goals as goal
 
 pub returns-in_err-tokens-clause-only : goal.returns-in_err-tokens-clause-only
 returns-in_err-tokens-clause-only c = λ t s r.

@@ -6,12 +6,12 @@ ghost use Rattle.pas_lexer.specs.Limits.{source_bytes};
 ghost use Rattle.pas_lexer.specs.Lexed.{Lexed, EndsOnce};
 ghost use Rattle.pas_lexer.specs.Division.{line_at, IsLexed, IsFault};
 ghost use Rattle.pas_parser.specs.Formed.{IsText};
-ghost use Rattle.debug_cli.specs.declared.debuggee.SourceFault.TheVariants.{Refused, Memory};
+ghost use Rattle.debuggee.specs.declared.source.SourceFault.TheVariants.{Refused, Memory};
 ghost use Rattle.small_program.specs.Small.{Small, IsSmall, pieces, program_of};
-ghost use Rattle.debug_cli.specs.Program.{IsProgram, Keeps, IsRefused, IsMisfit, IsUnlexed, IsUnparsed, IsUnread};
-ghost use Rattle.debug_cli.specs.Program.{StandsAt, TokensAre, ProgramIs};
-ghost use Rattle.debug_cli.specs.Execution.{execution, execution_of, calls_within, lasts_of, IsReady};
-ghost use Rattle.debug_cli.specs.Limits.{default_budget};
+ghost use Rattle.debuggee.specs.Program.{IsProgram, Keeps, IsRefused, IsMisfit, IsUnlexed, IsUnparsed, IsUnread};
+ghost use Rattle.debuggee.specs.Program.{StandsAt, TokensAre, ProgramIs};
+ghost use Rattle.debuggee.specs.Execution.{execution, execution_of, calls_within, lasts_of, IsReady};
+ghost use Rattle.debuggee.specs.Limits.{default_budget};
 
 use crate::refusal::Refusal;
 use core_program::{Calls, Program, numbers_tell_the_tree, run_calls};
@@ -50,7 +50,7 @@ pub enum SourceFault {
 }
 
 impl From<AllocError> for SourceFault {
-    ghost use Rattle.debug_cli.specs.declared.debuggee.SourceFault.TheVariants.{Memory};
+    ghost use Rattle.debuggee.specs.declared.source.SourceFault.TheVariants.{Memory};
 
     ghost from_gives = { λ _ e. e ≡ Memory };
 

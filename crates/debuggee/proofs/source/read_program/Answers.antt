@@ -1,5 +1,5 @@
 use Rattle.std.proofs.Common.{refl}
-use Rattle.debug_cli.proofs.debuggee.read_program.Goals as goal
+use Rattle.debuggee.proofs.source.read_program.Goals as goal
 
 pub returns-in-Err-Unbuilt-clause-refused : goal.returns-in-Err-Unbuilt-clause-refused
 returns-in-Err-Unbuilt-clause-refused c =

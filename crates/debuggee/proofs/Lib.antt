@@ -1,0 +1,2 @@
+pub mod SourceIsRun
+pub mod CallsAreNumbered

@@ -1,0 +1,3 @@
+pub mod Execution
+pub mod Program
+pub mod Limits
