@@ -15,7 +15,7 @@ use Rattle.debug_cli.specs.Dialog.{replies, reply_to, entries_after_line, ends_s
 use Rattle.plain_search.specs.Standing.{first_entries}
 use Rattle.debug_cli.specs.Heard.{Heard, IsHeard, EndedBy, GaveBy, lines_in}
 use Rattle.debug_cli.specs.Asked.{said}
-use Rattle.debug_cli.specs.Turned.{entries_through, Progress, Stage, Answered, Hands, HandsNone, NextReply, Turned}
+use Rattle.debug_cli.specs.Turned.{entries_through, Stage, Answered, Hands, HandsNone, NextReply, Turned}
 
 -- ---- lines
 

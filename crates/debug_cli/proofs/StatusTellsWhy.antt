@@ -1,7 +1,7 @@
 -- By the status that the command answers: why it came, and what the screen got.
 use Rattle.std.proofs.Common.{◌≡◌, ◌⊎◌, inl, inr, ℕ, List, Option, Some, Err, refl, sym, ap, subst, ◌∙◌}
-use Rattle.edge_ports.specs.Counts.{KeeperCounts, CountsFetch, Counted}
-use Rattle.edge_ports.specs.Told.{GaveAll, GavePrefix}
+use Rattle.edge_ports.specs.Counts.{KeeperCounts, CountsFetch}
+use Rattle.edge_ports.specs.Told.{GaveAll}
 use Rattle.edge_ports.specs.Files.{FileMap, LacksFile, HoldsLonger}
 use Rattle.edge_ports.specs.declared.ports.FetchFault.{FetchFault}
 use Rattle.edge_ports.specs.declared.ports.FetchFault.TheVariants as fetch
@@ -10,10 +10,10 @@ use Rattle.debug_cli.specs.declared.dialog.Ending.{Ending}
 use Rattle.debug_cli.specs.declared.dialog.Ending.TheVariants as ending
 use Rattle.debug_cli.specs.declared.status.Status.{Status}
 use Rattle.debug_cli.specs.declared.status.Status.TheVariants as status
-use Rattle.debug_cli.specs.Status.{code_of, is_console, is_screen}
+use Rattle.debug_cli.specs.Status.{code_of}
 use Rattle.debug_cli.specs.Texts.{file_line, refused_line}
 use Rattle.debug_cli.specs.Heard.{EndedBy, GaveBy, session_status}
-use Rattle.debug_cli.specs.Outside.{Outside, NotRisen, NoneRisen}
+use Rattle.debug_cli.specs.Outside.{Outside, NoneRisen}
 use Rattle.debug_cli.specs.Asked.{Words, source_of, said_in, GivesLine, GivesNothing, Fetched, Session, SourceRefused, FileFault, NotFetched}
 use Rattle.debug_cli.specs.Asked.{SourceGoes, Owed, Goes}
 use Rattle.debug_cli.proofs.StatusByCode.{code_is}
