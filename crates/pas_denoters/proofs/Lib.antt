@@ -1,2 +1,1 @@
-pub mod VariantStarts
 pub mod FieldSeries

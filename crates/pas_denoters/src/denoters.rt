@@ -372,7 +372,7 @@ fn read_sections_end(
 }
 
 #[cycle(denoters)]
-#[tactic(auto, using(crate::proofs::VariantStarts::expects_variants, pas_tree::proofs::DenoterRolls::variants_rolled), unfolding(grammar::specs::Reading::read, grammar::specs::Reading::levels, pas_tree::specs::Rules::variant_part_rule))]
+#[tactic(auto, using(pas_tree::proofs::DenoterRolls::variants_rolled), unfolding(grammar::specs::Reading::read, grammar::specs::Reading::levels, pas_tree::specs::Rules::variant_part_rule))]
 fn read_variants(
     alloc: Global,
     tokens: &TerminalList,
@@ -383,7 +383,7 @@ fn read_variants(
     ensures forward { IfOk result (λ x. at ≤ x.1) }
 {
     if depth == 0 {
-        if tokens.is_next(at, Terminal::WCase) {
+        if expects_variants(tokens, at) {
             return Err(ParseFault::TooDeep(at));
         }
         return Err(ParseFault::NotProgram(at));
@@ -525,4 +525,20 @@ fn is_denoter_start(kind: Terminal) -> bool
             | Terminal::WRecord
             | Terminal::WSet
     )
+}
+
+/// Whether a variant part may begin here.
+fn expects_variants(tokens: &TerminalList, at: u32) -> bool
+    ensures { result ≡ expects pascal variant_part (next (items_from tokens.now at)) }
+{
+    match tokens.get(at) {
+        Some(kind) => is_variants_start(kind),
+        None => false,
+    }
+}
+
+fn is_variants_start(kind: Terminal) -> bool
+    ensures { result ≡ first_of variant_part kind }
+{
+    matches!(kind, Terminal::WCase)
 }

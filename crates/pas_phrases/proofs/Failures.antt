@@ -1,13 +1,30 @@
--- A failure that `?` hands on is one of the whole.
-use Rattle.std.proofs.Common.{◌≡◌, ℕ, List, Result}
+-- A failure of a part is one of the whole.
+use Rattle.std.proofs.Common.{◌≡◌, ℕ, List, Result, Ok, ap, ◌∙◌}
 use Rattle.std.specs.Prelude.{IsErrAnd}
 use Rattle.std.proofs.lemmas.Result.{err_from_is_err_and}
 use Rattle.grammar.specs.declared.terminals.Terminal.{Terminal}
-use Rattle.grammar.specs.Nodes.{Node}
-use Rattle.grammar.specs.Reading.{Read}
+use Rattle.grammar.specs.Nodes.{Item, Node, Pair}
+use Rattle.grammar.specs.Grammars.{Grammar, seq}
+use Rattle.grammar.specs.Reading.{Read, ◌>>=◌, then_pair, read}
+use Rattle.pas_tree.specs.FirstFollow.{pascal}
 use Rattle.pas_phrases.specs.declared.fault.ParseFault.{ParseFault}
+use Rattle.pas_phrases.specs.declared.fault.ParseFault.TheVariants.{NotProgram, TooDeep, Memory}
 use Rattle.pas_phrases.specs.Items.{Fails, ReadsAs}
 
+-- where `?` hands it on
 pub handed_on : {X : Type 0} (whole : Read) (kinds : List Terminal) (view : X → Node) (result : Result (X × ℕ) ParseFault) (e : ParseFault)
     → IsErrAnd result (λ y. y ≡ e) → Fails kinds e whole → ReadsAs kinds view result whole
 handed_on whole kinds view result e exit f = let p = err_from_is_err_and result exit in rw (p.1, p.2) f
+
+-- the pair of a tree and those of what is read after it
+abbrev after_first : Node → Read → Read
+after_first x r = r >>= λ y. Ok (Pair x y.0, y.1)
+
+-- a second part that fails
+pub second_fails : (n : ℕ) (a b : Grammar) (l : List Item) {m : List Item} {x : Node} (kinds : List Terminal) (e : ParseFault)
+    → read pascal n a l ≡ Ok (x, m) → Fails kinds e (read pascal n b m)
+    → Fails kinds e (read pascal n (seq a b) l)
+unfolding read
+second_fails n a b l {x = x} kinds (NotProgram i) h f = ap (λ (z : Read). then_pair z (read pascal n b)) h ∙ ap (after_first x) f
+second_fails n a b l {x = x} kinds (TooDeep i) h f = ap (λ (z : Read). then_pair z (read pascal n b)) h ∙ ap (after_first x) f
+second_fails n a b l kinds Memory h f = tt

@@ -1,5 +1,4 @@
 pub mod Failures
 pub mod NextToken
 pub mod ReadLists
-pub mod ReadPairs
 pub mod ReadSeries

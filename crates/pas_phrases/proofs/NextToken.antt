@@ -28,14 +28,6 @@ token_there ks all at found same h e =
 pub token_nowhere : (ks all : List Terminal) (at : ℕ) → ks ≡ all → length ks ≤ at → items_from all at ≡ []
 token_nowhere ks all at same h = subst (λ (l : List Terminal). items_from l at ≡ []) same (items_end ks at h)
 
-pub one_of_cons : (w : Terminal) (ks : List Terminal) (k : Terminal) → one_of (w ∷ ks) k ≡ (if is w k then true else one_of ks k)
-one_of_cons w [] k = same (is w k)
-  where
-    same : (b : Bool) → b ≡ (if b then true else false)
-    same true = refl
-    same false = refl
-one_of_cons w (x ∷ ks) k = refl
-
 pub second_there : (ks : List Terminal) (at : ℕ) → at < length ks → second (items_from ks at) ≡ next (items_from ks (at + 1))
 second_there [] at h = absurd (omega arith)
 second_there (k ∷ ks) at h = ap second (items_cons (k ∷ ks) at k h)
