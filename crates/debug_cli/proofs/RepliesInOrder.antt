@@ -5,8 +5,8 @@ use Rattle.std.specs.Io.KnownBytes.{IsAtEnd}
 use Rattle.edge_ports.specs.Lines.{LinesState, lines_heard, handed_lines, unread, Moves}
 use Rattle.edge_ports.specs.Turns.{IsConsistent}
 use Rattle.edge_ports.specs.Told.{TookAll, GaveAll, GavePrefix}
-use Rattle.edge_ports.proofs.ToldLemmas.{gave_nothing, gave_more, gave_prefix_after, gave_prefix_before, gave_prefix_whole, took_nothing}
-use Rattle.edge_ports.proofs.WholeLines.{heard_in_order}
+use Rattle.edge_ports.proofs.PiecesAddUp.{gave_nothing, gave_more, gave_prefix_after, gave_prefix_before, gave_prefix_whole, took_nothing}
+use Rattle.edge_ports.proofs.HandedLinesAreHeard.{heard_in_order}
 use Rattle.debug_cli.specs.declared.dialog.Ending.{Ending}
 use Rattle.debug_cli.specs.declared.dialog.Ending.TheVariants as ending
 use Rattle.plain_search.specs.declared.entries.Entry.{Entry}
@@ -109,7 +109,7 @@ module _ (h : Execution) where
         entries_are = t.1.4 ∙ ap (λ (es : List Entry). entries_after_line h es line) a.entries_are
             ∙ sym (through_append first_entries before (line ∷ [])) ∙ ap (entries_through h first_entries) (sym hands);
         gave = subst (λ (text : List ℕ). GaveAll first new.given text) (sym said)
-            (gave_more first old.given new.given (replies h first_entries before) t.0 a.gave t.2);
+            (gave_more first (replies h first_entries before) t.0 a.gave t.2);
       }
 
   -- ---- the end of the dialog
@@ -179,7 +179,7 @@ module _ (h : Execution) where
         ∙ ap (λ (t : List ℕ). replies h first_entries before ++ t) (replied h after line rest n.2
         ∙ ap (λ (t : List ℕ). t ++ more) (ap (λ (es : List Entry). reply_to h es line) (sym a.entries_are) ∙ sym n.3)) in
         subst GaveFront (sym said)
-        (gave_prefix_after first old.given new.given (replies h first_entries before) (reply ++ more) a.gave
+        (gave_prefix_after first (replies h first_entries before) a.gave
         (gave_prefix_before old.given new.given reply more g))
 
     memory_ends : (more : List (List ℕ)) → handed_lines reader ≡ before ++ more → new.given ≡ old.given → GaveFront (replies h first_entries heard)
@@ -232,8 +232,8 @@ ended_at_once h left given = (nothing, heard_nothing left, nothing_is_prefix giv
 
 -- what a dialog gave after the opening
 pub gave_after_opening : (e : Ending) (k0 k1 k2 : Option (List ℕ)) (a b : List ℕ) → GaveAll k0 k1 a → GaveBy e k1 k2 b → GaveBy e k0 k2 (a ++ b)
-gave_after_opening ending.Done k0 k1 k2 a b f g = gave_more k0 k1 k2 a b f g
-gave_after_opening ending.Console k0 k1 k2 a b f g = gave_more k0 k1 k2 a b f g
-gave_after_opening ending.Spent k0 k1 k2 a b f g = gave_more k0 k1 k2 a b f g
-gave_after_opening ending.Screen k0 k1 k2 a b f g = gave_prefix_after k0 k1 k2 a b f g
-gave_after_opening ending.Memory k0 k1 k2 a b f g = gave_prefix_after k0 k1 k2 a b f g
+gave_after_opening ending.Done k0 k1 k2 a b f g = gave_more k0 a b f g
+gave_after_opening ending.Console k0 k1 k2 a b f g = gave_more k0 a b f g
+gave_after_opening ending.Spent k0 k1 k2 a b f g = gave_more k0 a b f g
+gave_after_opening ending.Screen k0 k1 k2 a b f g = gave_prefix_after k0 a f g
+gave_after_opening ending.Memory k0 k1 k2 a b f g = gave_prefix_after k0 a f g

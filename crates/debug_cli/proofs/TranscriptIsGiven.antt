@@ -11,9 +11,9 @@ use Rattle.edge_ports.specs.Files.{FileMap, file_at, HoldsFile, LacksFile, Holds
 use Rattle.edge_ports.specs.Lines.{lines_of, whole_lines, lines_heard}
 use Rattle.edge_ports.specs.declared.ports.FetchFault.{FetchFault}
 use Rattle.edge_ports.specs.declared.ports.FetchFault.TheVariants as fetch
-use Rattle.edge_ports.proofs.ToldLemmas.{gave_prefix_before, gave_prefix_whole}
-use Rattle.edge_ports.proofs.Filling.{told_still}
-use Rattle.edge_ports.proofs.WholeLines.{heard_longer}
+use Rattle.edge_ports.proofs.PiecesAddUp.{gave_prefix_before, gave_prefix_whole}
+use Rattle.edge_ports.proofs.SameBytesCome.{told_still}
+use Rattle.edge_ports.proofs.HandedLinesAreHeard.{heard_longer}
 use Rattle.pas_lexer.specs.Lexed.{Lexed}
 use Rattle.pas_lexer.specs.Limits.{source_bytes}
 use Rattle.small_program.specs.Small.{Small}

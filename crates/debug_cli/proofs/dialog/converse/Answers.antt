@@ -1,5 +1,5 @@
 use Rattle.std.proofs.Common.{ap, ◌∙◌}
-use Rattle.edge_ports.proofs.Filling.{moves_more}
+use Rattle.edge_ports.proofs.PiecesAddUp.{moves_more}
 use Rattle.debuggee.specs.Execution.{execution}
 use Rattle.debug_cli.specs.Turned.{Stage}
 use Rattle.debug_cli.proofs.RepliesInOrder.{answered_more, talk_ends, heard_of}
@@ -13,8 +13,7 @@ lines-preserved g c =
     let new : Stage = record { progress = record { entries = c.turn.new.entries.items; lines = c.turn.new.lines }; given = given c.turn.new.screen } in
     record {
       answered = answered_more (execution c.args.debuggee.now) (given c.args.screen.now) old new tt c.lines.invariant.answered c.in-Ok.ensures.turned;
-      moved = moves_more c.args.lines.now.taken c.lines.lines.taken c.turn.new.lines.taken
-          (left c.args.console.now) (left c.lines.console) (left c.turn.new.console) c.lines.invariant.moved c.turn.ensures.moved;
+      moved = moves_more c.lines.invariant.moved c.turn.ensures.moved;
       at_end = c.turn.ensures.at_end c.lines.invariant.at_end;
       console_faults = c.in-Ok.ensures.console_faults ∙ c.lines.invariant.console_faults;
       screen_faults = c.in-Ok.ensures.screen_faults ∙ c.lines.invariant.screen_faults;
@@ -28,8 +27,7 @@ returns-in-Err-clause-goes g c =
     let new : Stage = record { progress = record { entries = c.turn.new.entries.items; lines = c.turn.new.lines }; given = given c.turn.new.screen } in
     let ends = talk_ends (execution c.args.debuggee.now) (given c.args.screen.now) old new c.lines.invariant.answered c.turn.ensures.consistent
     c.in-Err.ending c.in-Err.ensures.turned in
-    let moved = moves_more c.args.lines.now.taken c.lines.lines.taken c.turn.new.lines.taken
-    (left c.args.console.now) (left c.lines.console) (left c.turn.new.console) c.lines.invariant.moved c.turn.ensures.moved in (
+    let moved = moves_more c.lines.invariant.moved c.turn.ensures.moved in (
       record { bytes = c.turn.new.lines.taken; ended = c.turn.new.lines.ended },
       heard_of c.args.lines.now.taken c.turn.new.lines (left c.args.console.now) (left c.turn.new.console) (ap (λ s. s.taken) c.requires.fresh)
           moved c.turn.ensures.consistent (c.turn.ensures.at_end c.lines.invariant.at_end),

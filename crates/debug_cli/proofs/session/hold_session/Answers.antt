@@ -1,6 +1,6 @@
 use Rattle.std.proofs.Common.{ℕ, List, subst, ◌∙◌}
 use Rattle.edge_ports.specs.Told.{GaveAll, GavePrefix}
-use Rattle.edge_ports.proofs.ToldLemmas.{gave_prefix_before}
+use Rattle.edge_ports.proofs.PiecesAddUp.{gave_prefix_before}
 use Rattle.debuggee.specs.Execution.{execution}
 use Rattle.debug_cli.specs.Dialog.{opening, replies}
 use Rattle.plain_search.specs.Standing.{first_entries}
