@@ -1,4 +1,4 @@
-//! A test of the whole command in which allocations may be made to fail. All that files can say of the command and
+//! Tests of the whole command: of little memory, and of the native stack. All that files can say of the command and
 //! the parser is a case of `worked_cases`.
 #![tactic(auto)]
 

@@ -1,6 +1,7 @@
-// What no file can say: that the command ends in order wherever memory runs out.
+// What no file can say: that the command ends in order wherever memory runs out, and that the native stack suffices.
 use debug_cli::ask_pascal;
 use edge_ports::{Page, Shelf, Tape};
+use std::alloc::Global;
 use std::test::Fail;
 
 const ADDERS: &[u8] =
@@ -24,5 +25,41 @@ fn little_memory(rt: HostRuntime) -> Result<(), Fail> {
     assert!(rt; status == 0 || status == 7);
     assert!(rt; SHOWN.starts_with(screen.given()));
     assert!(rt; status == 7 || screen.given() == SHOWN);
+    Ok(())
+}
+
+// What the command says of a program whose statement is so many repeats, each in the one before it.
+fn said_of_repeats(alloc: Global, count: usize) -> Result<Page, Fail> {
+    let mut source = Vec::from_slice(alloc, b"program p; begin ")?;
+    for _ in 0..count {
+        source.extend_from_slice(b"repeat ")?;
+    }
+    for _ in 0..count {
+        source.extend_from_slice(b"until a ")?;
+    }
+    source.extend_from_slice(b"end.")?;
+    let words = vec![in alloc; "pasask".to_string(alloc)?, "F".to_string(alloc)?]?;
+    let mut keeper = Shelf::new(alloc, &[])?;
+    keeper.put("F", &source)?;
+    let mut console = Tape::new(alloc, b"", &[])?;
+    let mut screen = Page::new(alloc, 4_096, &[])?;
+    ask_pascal(alloc, &words, &mut keeper, &mut console, &mut screen);
+    Ok(screen)
+}
+
+// The native stack suffices for statements nested 200 deep: repeats take the most of it, and more than the worked cases
+// have as Rattle's own compiler builds them.
+#[test]
+fn deepest_repeats(rt: HostRuntime) -> Result<(), Fail> {
+    let taken = said_of_repeats(rt.alloc(), 198)?;
+    assert_eq!(rt;
+        taken.given(),
+        b"refused: Unbuilt, line 1, byte 17\n".as_slice()
+    );
+    let refused = said_of_repeats(rt.alloc(), 199)?;
+    assert_eq!(rt;
+        refused.given(),
+        b"refused: TooDeep, line 1, byte 1410\n".as_slice()
+    );
     Ok(())
 }
