@@ -11,16 +11,12 @@ use Rattle.pas_tree.specs.FirstFollow.{pascal}
 use Rattle.pas_phrases.specs.declared.fault.ParseFault.{ParseFault}
 use Rattle.pas_phrases.specs.declared.fault.ParseFault.TheVariants as faults
 use Rattle.pas_phrases.specs.Items.{numbered, items_from, Fails}
-use Rattle.pas_phrases.proofs.Ahead.{items_end}
+use Rattle.pas_phrases.proofs.NextToken.{items_end}
 use Rattle.pas_tree.specs.FirstRefused.{HasNeither}
 use Rattle.pas_tree.proofs.FirstRefused.{deep_is_first, stop_is_first, whole_has_neither}
 use Rattle.pas_parser.specs.Kinds.{terminal_of, terminals_of}
 use Rattle.pas_parser.specs.Exact.{IsExact}
-use Rattle.pas_parser.proofs.Wholes.{refused_there}
-
-length-numbered : (n : ℕ) (ks : List Terminal) → length (numbered n ks) ≡ length ks
-length-numbered n [] = refl
-length-numbered n (k ∷ ks) = ap suc (length-numbered (n + 1) ks)
+use Rattle.pas_parser.proofs.WholePrograms.{program_read, IsRead, length-numbered, refused_there}
 
 numbered_drop : (ks : List Terminal) (i m : ℕ) → numbered (m + i) (drop i ks) ≡ drop i (numbered m ks)
 numbered_drop ks zero m = let e : m + 0 ≡ m = omega arith in ap (λ (n : ℕ). numbered n ks) e
@@ -47,7 +43,7 @@ inside_tokens : (tokens : List Token) (i : ℕ) → i < length (terminals_of tok
 inside_tokens tokens i h = omega (arith, length-terminals tokens)
 
 -- a token that is refused
-pub exactly_there : (tokens : List Token) (e : ParseFault) → EndsOnce tokens → Fails (terminals_of tokens) e (read pascal 200 program_rule (items_from (terminals_of tokens) 0)) → IsExact tokens (Err e)
+pub exactly_there : (tokens : List Token) (e : ParseFault) → EndsOnce tokens → Fails (terminals_of tokens) e (program_read (terminals_of tokens)) → IsExact tokens (Err e)
 exactly_there tokens (faults.NotProgram i) ended given =
     let ks = terminals_of tokens in
     let h = (refused_there tokens (faults.NotProgram i) ended given).0 in
@@ -58,12 +54,12 @@ exactly_there tokens (faults.TooDeep i) ended given =
     (inside_tokens tokens i h, deep_is_first 200 (items_from ks 0) i (inside_all ks i h) (given ∙ ap (λ (l : List Item). Err (Deep l)) (items_drop ks i)))
 exactly_there tokens faults.Memory ended given = tt
 
--- one that stands behind a whole program
-pub exactly_behind : (tokens : List Token) (y : Node) (after : ℕ) → read pascal 200 program_rule (items_from (terminals_of tokens) 0) ≡ Ok (y, items_from (terminals_of tokens) after) → after < length (terminals_of tokens) → IsExact tokens (Err (faults.NotProgram after))
-exactly_behind tokens y after given h =
+-- one that stands after a whole program
+pub exactly_after : (tokens : List Token) (y : Node) (after : ℕ) → IsRead (terminals_of tokens) y after → after < length (terminals_of tokens) → IsExact tokens (Err (faults.NotProgram after))
+exactly_after tokens y after given h =
     let ks = terminals_of tokens in
     (inside_tokens tokens after h, stop_is_first 200 (items_from ks 0) after (inside_all ks after h) (inr (y, given ∙ ap (λ (l : List Item). Ok (y, l)) (items_drop ks after))))
 
 -- none
-pub exactly_none : (ks : List Terminal) (y : Node) (after : ℕ) → read pascal 200 program_rule (items_from ks 0) ≡ Ok (y, items_from ks after) → length ks ≤ after → HasNeither 200 (items_from ks 0)
+pub exactly_none : (ks : List Terminal) (y : Node) (after : ℕ) → IsRead ks y after → length ks ≤ after → HasNeither 200 (items_from ks 0)
 exactly_none ks y after given h = whole_has_neither 200 (items_from ks 0) y (given ∙ ap (λ (l : List Item). Ok (y, l)) (items_end ks after h))

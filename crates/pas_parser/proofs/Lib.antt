@@ -1,4 +1,4 @@
-mod Exactly
-mod Failing
-mod Steps
-mod Wholes
+mod FirstRefusedToken
+pub mod StatementLists
+mod TerminalsOfTokens
+mod WholePrograms

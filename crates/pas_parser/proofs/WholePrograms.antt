@@ -3,7 +3,7 @@ use Rattle.std.proofs.Common.{◌≡◌, ℕ, zero, suc, ◌+◌, ◌<◌, ◌�
 use Rattle.std.proofs.lemmas.List.{take_at, map_push}
 use Rattle.grammar.specs.declared.terminals.Terminal.{Terminal}
 use Rattle.grammar.specs.Nodes.{Item, Node, spell, next}
-use Rattle.grammar.specs.Reading.{Refusal, Unfit, Deep, left_of, read}
+use Rattle.grammar.specs.Reading.{Read, Refusal, Unfit, Deep, left_of, read}
 use Rattle.grammar.specs.Laws.{NoneGoesOn}
 use Rattle.grammar.specs.Ending.{IsLast, Has}
 use Rattle.grammar.proofs.Ending.{refused_inside}
@@ -21,10 +21,18 @@ use Rattle.pas_tree.proofs.Decided.{pascal_decided}
 use Rattle.pas_phrases.specs.declared.fault.ParseFault.{ParseFault}
 use Rattle.pas_phrases.specs.declared.fault.ParseFault.TheVariants as faults
 use Rattle.pas_phrases.specs.Items.{numbered, items_from, Fails}
-use Rattle.pas_phrases.proofs.Ahead.{items_cons, items_end}
+use Rattle.pas_phrases.proofs.NextToken.{items_cons, items_end}
 use Rattle.pas_parser.specs.Formed.{IsFormed, IsRefusedAt, IsRefusal, IsTheTree, NoFormedGoesOn}
 
-length-numbered : (n : ℕ) (ks : List Terminal) → length (numbered n ks) ≡ length ks
+-- what the reader makes of the terminals of a source
+abbrev pub program_read : List Terminal → Read
+program_read ks = read pascal 200 program_rule (items_from ks 0)
+
+-- it reads this tree, up to this place
+abbrev pub IsRead : List Terminal → Node → ℕ → Type 0
+IsRead ks y after = program_read ks ≡ Ok (y, items_from ks after)
+
+pub length-numbered : (n : ℕ) (ks : List Terminal) → length (numbered n ks) ≡ length ks
 length-numbered n [] = refl
 length-numbered n (k ∷ ks) = ap suc (length-numbered (n + 1) ks)
 
@@ -42,7 +50,7 @@ begins_at ks front i d h e =
     omega (arith, length-append front (here ∷ []), length-append front (items_from ks i), ap length e, length-items ks i (omega arith), length-items ks 0 (omega arith)) in
     ap (take (i + 1)) all ∙ take_at (front ++ here ∷ []) (items_from ks (i + 1)) (i + 1) len
 
--- the token behind the last one stands there alone
+-- the token after the last one stands there alone
 pascal_ends : IsLast k.End pascal program_rule ≡ true
 unfolding r.next_factor_rule r.term_rule r.next_term_rule r.sign_rule r.simple_rule r.relation_rule r.expression_rule r.next_expression_rule r.index_rule r.selector_rule r.selectors_rule r.access_rule r.arguments_rule r.member_rule r.next_member_rule r.members_rule r.named_factor_rule r.paren_rule r.factor_rule r.next_name_rule r.names_rule r.constant_rule r.next_constant_rule r.constants_rule r.range_rule r.limit_rule r.enumeration_rule r.next_denoter_rule r.array_rule r.section_rule r.variants_rule r.fixed_rule r.fields_rule r.arm_rule r.tag_rule r.variant_part_rule r.record_rule r.set_rule r.structure_rule r.structured_rule r.named_denoter_rule r.subrange_rule r.denoter_rule r.variables_formal_rule r.formal_rule r.next_formal_rule r.formals_rule r.procedure_rule r.result_rule r.function_rule r.heading_rule r.next_statement_rule r.statements_rule r.compound_rule r.actual_rule r.next_actual_rule r.actuals_rule r.assignment_rule r.named_statement_rule r.alternative_rule r.else_rule r.if_rule r.branch_rule r.case_rule r.repeat_rule r.while_rule r.for_rule r.next_access_rule r.with_rule r.goto_rule r.counted_rule r.plain_rule r.label_rule r.statement_rule r.next_label_rule r.label_part_rule r.constant_definition_rule r.constant_part_rule r.type_definition_rule r.type_part_rule r.variable_declaration_rule r.variable_part_rule r.body_rule r.routine_rule r.routines_rule r.block_rule r.parameters_rule r.program_rule
 pascal_ends = refl
@@ -77,32 +85,32 @@ no_formed_goes_on (d ∷ ks') i h r = λ x formed b.
     let same : spell x ≡ r.0 ++ (here ∷ b.0) = b.1 ∙ ap (λ (l : List Item). l ++ b.0) (begins_at ks r.0 i d h r.1) ∙ append_assoc r.0 (here ∷ []) b.0 in
     r.2 x (here ∷ b.0) formed same (sym (ap next (items_cons ks i d h)))
 
-at_token : (ks : List Terminal) (i : ℕ) (r : Refusal) → left_of r ≡ items_from ks i → Has k.End (items_from ks 0) → read pascal 200 program_rule (items_from ks 0) ≡ Err r → IsRefusedAt ks i
+at_token : (ks : List Terminal) (i : ℕ) (r : Refusal) → left_of r ≡ items_from ks i → Has k.End (items_from ks 0) → program_read ks ≡ Err r → IsRefusedAt ks i
 at_token ks i r left h given =
     let there = subst (Has k.End) left (refused_inside k.End pascal program_rule pascal_ends 200 (items_from ks 0) r h given) in
     let inside = has_inside ks i there in
     (inside, no_formed_goes_on ks i inside (subst (NoneGoesOn IsFormed (items_from ks 0)) left (refused_wrong pascal program_rule pascal_decided 200 (items_from ks 0) r given)))
 
-pub refused_there : (tokens : List Token) (e : ParseFault) → EndsOnce tokens → Fails (terminals_of tokens) e (read pascal 200 program_rule (items_from (terminals_of tokens) 0)) → IsRefusal tokens (Err e)
+pub refused_there : (tokens : List Token) (e : ParseFault) → EndsOnce tokens → Fails (terminals_of tokens) e (program_read (terminals_of tokens)) → IsRefusal tokens (Err e)
 refused_there tokens (faults.NotProgram i) ended given = at_token (terminals_of tokens) i (Unfit (items_from (terminals_of tokens) i)) refl (ends_there tokens ended) given
 refused_there tokens (faults.TooDeep i) ended given = at_token (terminals_of tokens) i (Deep (items_from (terminals_of tokens) i)) refl (ends_there tokens ended) given
 refused_there tokens faults.Memory ended given = tt
 
-again : (ks : List Terminal) (x : Node) → IsFormed x → spell x ≡ items_from ks 0 → read pascal 200 program_rule (items_from ks 0) ≡ Ok (x, [])
+again : (ks : List Terminal) (x : Node) → IsFormed x → spell x ≡ items_from ks 0 → program_read ks ≡ Ok (x, [])
 again ks x formed same = ap (read pascal 200 program_rule) (sym same) ∙ formed_found pascal program_rule pascal_decided 200 x formed
 
-pub not_that : (ks : List Terminal) (e : ParseFault) (x : Node) → Fails ks e (read pascal 200 program_rule (items_from ks 0)) → IsFormed x → spell x ≡ items_from ks 0 → IsTheTree x (Err e)
+pub not_that : (ks : List Terminal) (e : ParseFault) (x : Node) → Fails ks e (program_read ks) → IsFormed x → spell x ≡ items_from ks 0 → IsTheTree x (Err e)
 not_that ks (faults.NotProgram i) x given formed same = ok_no_err (x, []) (Unfit (items_from ks i)) (sym (again ks x formed same) ∙ given)
 not_that ks (faults.TooDeep i) x given formed same = ok_no_err (x, []) (Deep (items_from ks i)) (sym (again ks x formed same) ∙ given)
 not_that ks faults.Memory x given formed same = tt
 
-pub that : (ks : List Terminal) (y x : Node) (after : ℕ) → read pascal 200 program_rule (items_from ks 0) ≡ Ok (y, items_from ks after) → IsFormed x → spell x ≡ items_from ks 0 → y ≡ x
+pub that : (ks : List Terminal) (y x : Node) (after : ℕ) → IsRead ks y after → IsFormed x → spell x ≡ items_from ks 0 → y ≡ x
 that ks y x after given formed same = ap (λ (z : Node × List Item). z.0) (ok_is (y, items_from ks after) (x, []) (sym given ∙ again ks x formed same))
 
-pub whole : (ks : List Terminal) (y : Node) (after : ℕ) → read pascal 200 program_rule (items_from ks 0) ≡ Ok (y, items_from ks after) → length ks ≤ after → IsFormed y × (spell y ≡ items_from ks 0)
+pub whole : (ks : List Terminal) (y : Node) (after : ℕ) → IsRead ks y after → length ks ≤ after → IsFormed y × (spell y ≡ items_from ks 0)
 whole ks y after given h = found pascal program_rule pascal_decided 200 (items_from ks 0) y (given ∙ ap (λ (l : List Item). Ok (y, l)) (items_end ks after h))
 
-pub too_long : (ks : List Terminal) (y : Node) (after : ℕ) → read pascal 200 program_rule (items_from ks 0) ≡ Ok (y, items_from ks after) → after < length ks → NoFormedGoesOn ks after
+pub too_long : (ks : List Terminal) (y : Node) (after : ℕ) → IsRead ks y after → after < length ks → NoFormedGoesOn ks after
 too_long [] y after given h = λ x formed b. omega arith
 too_long (d ∷ ks') y after given h =
     let ks = d ∷ ks' in
@@ -111,9 +119,16 @@ too_long (d ∷ ks') y after given h =
     let none = surplus_wrong pascal program_rule pascal_decided 200 (items_from ks 0) y here (items_from ks (after + 1)) (given ∙ ap (λ (l : List Item). Ok (y, l)) left) in
     no_formed_goes_on ks after h (subst (NoneGoesOn IsFormed (items_from ks 0)) (sym left) none)
 
-pub not_that_either : (ks : List Terminal) (y x : Node) (after : ℕ) → read pascal 200 program_rule (items_from ks 0) ≡ Ok (y, items_from ks after) → after < length ks → IsFormed x → spell x ≡ items_from ks 0 → ⊥
+pub not_that_either : (ks : List Terminal) (y x : Node) (after : ℕ) → IsRead ks y after → after < length ks → IsFormed x → spell x ≡ items_from ks 0 → ⊥
 not_that_either [] y x after given h formed same = absurd (omega arith)
 not_that_either (d ∷ ks') y x after given h formed same =
     let rests : items_from (d ∷ ks') after ≡ [] = ap (λ (z : Node × List Item). z.1) (ok_is (y, items_from (d ∷ ks') after) (x, []) (sym given ∙ again (d ∷ ks') x formed same)) in
     let more = items_cons (d ∷ ks') after d h in
     cc
+
+-- the same of terminals that are those of tokens
+pub failed_there : (ks all : List Terminal) (e : ParseFault) → ks ≡ all → Fails ks e (program_read ks) → Fails all e (program_read all)
+failed_there ks all e same f = subst (λ (l : List Terminal). Fails l e (program_read l)) same f
+
+pub read_there : (ks all : List Terminal) (y : Node) (after : ℕ) → ks ≡ all → IsRead ks y after → IsRead all y after
+read_there ks all y after same h = subst (λ (l : List Terminal). IsRead l y after) same h

@@ -1,8 +1,8 @@
--- What closes a list of statements.
+-- What closes a list of statements, by its word.
 use Rattle.grammar.specs.Grammars.{Closer, by_end, by_until}
-use Rattle.pas_parser.specs.declared.statements.Closer.{Closer as CloserTree}
-use Rattle.pas_parser.specs.declared.statements.Closer.TheVariants as closer
+use Rattle.pas_parser.specs.declared.statements.ClosingWord.{ClosingWord}
+use Rattle.pas_parser.specs.declared.statements.ClosingWord.TheVariants as words
 
-abbrev pub closer_of : CloserTree → Closer
-closer_of closer.End = by_end
-closer_of closer.Until = by_until
+abbrev pub closer_of : ClosingWord → Closer
+closer_of words.End = by_end
+closer_of words.Until = by_until

@@ -10,6 +10,7 @@ ghost use Rattle.grammar.specs.Deciding.{expects};
 ghost use Rattle.pas_tree.specs.Blocks.{block_node, body_node, constant_definition_node, constant_part_node, label_part_node, next_label_node, parameters_node, routine_node, tree_node, type_definition_node, type_part_node, variable_declaration_node, variable_part_node};
 ghost use Rattle.pas_tree.specs.Rules.{block_rule, body_rule, constant_definition_rule, constant_part_rule, heading_starts, label_part_rule, next_label_rule, parameters_rule, program_rule, routine_rule, type_definition_rule, type_part_rule, variable_declaration_rule, variable_part_rule};
 ghost use Rattle.pas_tree.specs.FirstFollow.{first_of, pascal};
+ghost use Rattle.pas_tree.proofs.Parts.{parts};
 ghost use Rattle.pas_phrases.specs.Items.{ReadsAs, items_from};
 
 use crate::statements::read_compound;
@@ -17,6 +18,7 @@ use grammar::Terminal;
 use pas_denoters::{read_denoter, read_heading};
 use pas_phrases::ParseFault;
 use pas_phrases::constants::{read_constant, read_names};
+use pas_phrases::lists::{Part, read_list};
 use pas_phrases::looking::TerminalList;
 use pas_tree::blocks::{
     Block, Body, ConstantDefinition, ConstantPart, LabelPart, NextLabel, Parameters, Routine, Tree,
@@ -68,7 +70,7 @@ fn read_rest(
     Ok(((block, dot, end), after))
 }
 
-/// Reads the dot of a program, and takes the token behind the last one.
+/// Reads the dot of a program, and takes the token after the last one.
 #[tactic(auto, unfolding(grammar::specs::Reading::read))]
 fn read_end(tokens: &TerminalList, at: u32, _depth: u32) -> Result<((u32, u32), u32), ParseFault>
     ensures gives { ReadsAs tokens.now (λ p. Pair (leaf k.Dot p.0) (leaf k.End p.1)) result (read pascal _depth (seq (word k.Dot) (word k.End)) (items_from tokens.now at)) }
@@ -147,6 +149,7 @@ fn read_inner_block(
 }
 
 #[cycle(blocks)]
+#[tactic(auto, using(pas_phrases::proofs::ReadLists::list_reading, pas_tree::proofs::Parts::parts))]
 fn read_routines(
     alloc: Global,
     tokens: &TerminalList,
@@ -224,7 +227,7 @@ fn read_label_part(
     }
     let (word, after) = tokens.expect(at, Terminal::WLabel)?;
     let (first, after) = tokens.expect(after, Terminal::Number)?;
-    let (others, after) = read_next_labels(alloc, tokens, after, depth)?;
+    let (others, after) = read_list::<NextLabels>(alloc, tokens, after, depth)?;
     let (semicolon, after) = tokens.expect(after, Terminal::Semicolon)?;
     let part = LabelPart {
         word,
@@ -235,33 +238,35 @@ fn read_label_part(
     Ok((Some(part), after))
 }
 
-fn read_next_labels(
-    alloc: Global,
-    tokens: &TerminalList,
-    at: u32,
-    depth: u32,
-) -> Result<(Vec<NextLabel>, u32), ParseFault>
-    ensures gives { ReadsAs tokens.now (λ v. row (map next_label_node v.items)) result (read pascal depth (many (k.Comma ∷ []) next_label_rule) (items_from tokens.now at)) }
-    ensures forward { IfOk result (λ x. at ≤ x.1) }
-{
-    let mut others = Vec::new(alloc);
-    let mut next = at;
-    'labels: while tokens.is_next(next, Terminal::Comma) {
-        let (other, after) = read_next_label(tokens, next, depth)?;
-        others.push(other)?;
-        next = after;
-    }
-    Ok((others, next))
-}
+/// The labels after the first one.
+struct NextLabels;
 
-#[tactic(auto, unfolding(grammar::specs::Reading::read, pas_tree::specs::Rules::next_label_rule))]
-fn read_next_label(tokens: &TerminalList, at: u32, _depth: u32) -> Result<(NextLabel, u32), ParseFault>
-    ensures gives { ReadsAs tokens.now next_label_node result (read pascal _depth next_label_rule (items_from tokens.now at)) }
-    ensures forward { IfOk result (λ x. at < x.1) }
-{
-    let (comma, after) = tokens.expect(at, Terminal::Comma)?;
-    let (number, after) = tokens.expect(after, Terminal::Number)?;
-    Ok((NextLabel { comma, number }, after))
+impl Part for NextLabels {
+    type Tree = NextLabel;
+
+    ghost node = { next_label_node };
+
+    ghost rule = { next_label_rule };
+
+    ghost starts = { k.Comma ∷ [] };
+
+    ghost repeats = { parts.next_label };
+
+    fn is_next(tokens: &TerminalList, at: u32) -> bool {
+        tokens.is_next(at, Terminal::Comma)
+    }
+
+    #[tactic(auto, unfolding(grammar::specs::Reading::read, pas_tree::specs::Rules::next_label_rule))]
+    fn read(
+        _alloc: Global,
+        tokens: &TerminalList,
+        at: u32,
+        _depth: u32,
+    ) -> Result<(NextLabel, u32), ParseFault> {
+        let (comma, after) = tokens.expect(at, Terminal::Comma)?;
+        let (number, after) = tokens.expect(after, Terminal::Number)?;
+        Ok((NextLabel { comma, number }, after))
+    }
 }
 
 #[tactic(auto, unfolding(grammar::specs::Reading::read, pas_tree::specs::Rules::constant_part_rule))]
@@ -278,8 +283,8 @@ fn read_constant_part(
         return Ok((None, at));
     }
     let (word, after) = tokens.expect(at, Terminal::WConst)?;
-    let (first, after) = read_constant_definition(tokens, after, depth)?;
-    let (others, after) = read_constant_definitions(alloc, tokens, after, depth)?;
+    let (first, after) = ConstantDefinitions::read(alloc, tokens, after, depth)?;
+    let (others, after) = read_list::<ConstantDefinitions>(alloc, tokens, after, depth)?;
     let part = ConstantPart {
         word,
         first,
@@ -288,23 +293,43 @@ fn read_constant_part(
     Ok((Some(part), after))
 }
 
-fn read_constant_definitions(
-    alloc: Global,
-    tokens: &TerminalList,
-    at: u32,
-    depth: u32,
-) -> Result<(Vec<ConstantDefinition>, u32), ParseFault>
-    ensures gives { ReadsAs tokens.now (λ v. row (map constant_definition_node v.items)) result (read pascal depth (many (k.Name ∷ []) constant_definition_rule) (items_from tokens.now at)) }
-    ensures forward { IfOk result (λ x. at ≤ x.1) }
-{
-    let mut others = Vec::new(alloc);
-    let mut next = at;
-    'constant_definitions: while tokens.is_next(next, Terminal::Name) {
-        let (other, after) = read_constant_definition(tokens, next, depth)?;
-        others.push(other)?;
-        next = after;
+/// The definitions of constants.
+struct ConstantDefinitions;
+
+impl Part for ConstantDefinitions {
+    type Tree = ConstantDefinition;
+
+    ghost node = { constant_definition_node };
+
+    ghost rule = { constant_definition_rule };
+
+    ghost starts = { k.Name ∷ [] };
+
+    ghost repeats = { parts.constant_definition };
+
+    fn is_next(tokens: &TerminalList, at: u32) -> bool {
+        tokens.is_next(at, Terminal::Name)
     }
-    Ok((others, next))
+
+    #[tactic(auto, unfolding(grammar::specs::Reading::read, pas_tree::specs::Rules::constant_definition_rule))]
+    fn read(
+        _alloc: Global,
+        tokens: &TerminalList,
+        at: u32,
+        depth: u32,
+    ) -> Result<(ConstantDefinition, u32), ParseFault> {
+        let (name, after) = tokens.expect(at, Terminal::Name)?;
+        let (equal, after) = tokens.expect(after, Terminal::Equal)?;
+        let (constant, after) = read_constant(tokens, after, depth)?;
+        let (semicolon, after) = tokens.expect(after, Terminal::Semicolon)?;
+        let definition = ConstantDefinition {
+            name,
+            equal,
+            constant,
+            semicolon,
+        };
+        Ok((definition, after))
+    }
 }
 
 #[tactic(auto, unfolding(grammar::specs::Reading::read, pas_tree::specs::Rules::type_part_rule))]
@@ -321,8 +346,8 @@ fn read_type_part(
         return Ok((None, at));
     }
     let (word, after) = tokens.expect(at, Terminal::WType)?;
-    let (first, after) = read_type_definition(alloc, tokens, after, depth)?;
-    let (others, after) = read_type_definitions(alloc, tokens, after, depth)?;
+    let (first, after) = TypeDefinitions::read(alloc, tokens, after, depth)?;
+    let (others, after) = read_list::<TypeDefinitions>(alloc, tokens, after, depth)?;
     let part = TypePart {
         word,
         first,
@@ -331,23 +356,43 @@ fn read_type_part(
     Ok((Some(part), after))
 }
 
-fn read_type_definitions(
-    alloc: Global,
-    tokens: &TerminalList,
-    at: u32,
-    depth: u32,
-) -> Result<(Vec<TypeDefinition>, u32), ParseFault>
-    ensures gives { ReadsAs tokens.now (λ v. row (map type_definition_node v.items)) result (read pascal depth (many (k.Name ∷ []) type_definition_rule) (items_from tokens.now at)) }
-    ensures forward { IfOk result (λ x. at ≤ x.1) }
-{
-    let mut others = Vec::new(alloc);
-    let mut next = at;
-    'type_definitions: while tokens.is_next(next, Terminal::Name) {
-        let (other, after) = read_type_definition(alloc, tokens, next, depth)?;
-        others.push(other)?;
-        next = after;
+/// The definitions of types.
+struct TypeDefinitions;
+
+impl Part for TypeDefinitions {
+    type Tree = TypeDefinition;
+
+    ghost node = { type_definition_node };
+
+    ghost rule = { type_definition_rule };
+
+    ghost starts = { k.Name ∷ [] };
+
+    ghost repeats = { parts.type_definition };
+
+    fn is_next(tokens: &TerminalList, at: u32) -> bool {
+        tokens.is_next(at, Terminal::Name)
     }
-    Ok((others, next))
+
+    #[tactic(auto, unfolding(grammar::specs::Reading::read, pas_tree::specs::Rules::type_definition_rule))]
+    fn read(
+        alloc: Global,
+        tokens: &TerminalList,
+        at: u32,
+        depth: u32,
+    ) -> Result<(TypeDefinition, u32), ParseFault> {
+        let (name, after) = tokens.expect(at, Terminal::Name)?;
+        let (equal, after) = tokens.expect(after, Terminal::Equal)?;
+        let (denoter, after) = read_denoter(alloc, tokens, after, depth)?;
+        let (semicolon, after) = tokens.expect(after, Terminal::Semicolon)?;
+        let definition = TypeDefinition {
+            name,
+            equal,
+            denoter,
+            semicolon,
+        };
+        Ok((definition, after))
+    }
 }
 
 #[tactic(auto, unfolding(grammar::specs::Reading::read, pas_tree::specs::Rules::variable_part_rule))]
@@ -364,8 +409,8 @@ fn read_variable_part(
         return Ok((None, at));
     }
     let (word, after) = tokens.expect(at, Terminal::WVar)?;
-    let (first, after) = read_variable_declaration(alloc, tokens, after, depth)?;
-    let (others, after) = read_variable_declarations(alloc, tokens, after, depth)?;
+    let (first, after) = VariableDeclarations::read(alloc, tokens, after, depth)?;
+    let (others, after) = read_list::<VariableDeclarations>(alloc, tokens, after, depth)?;
     let part = VariablePart {
         word,
         first,
@@ -374,91 +419,43 @@ fn read_variable_part(
     Ok((Some(part), after))
 }
 
-fn read_variable_declarations(
-    alloc: Global,
-    tokens: &TerminalList,
-    at: u32,
-    depth: u32,
-) -> Result<(Vec<VariableDeclaration>, u32), ParseFault>
-    ensures gives { ReadsAs tokens.now (λ v. row (map variable_declaration_node v.items)) result (read pascal depth (many (k.Name ∷ []) variable_declaration_rule) (items_from tokens.now at)) }
-    ensures forward { IfOk result (λ x. at ≤ x.1) }
-{
-    let mut others = Vec::new(alloc);
-    let mut next = at;
-    'variable_declarations: while tokens.is_next(next, Terminal::Name) {
-        let (other, after) = read_variable_declaration(alloc, tokens, next, depth)?;
-        others.push(other)?;
-        next = after;
+/// The declarations of variables.
+struct VariableDeclarations;
+
+impl Part for VariableDeclarations {
+    type Tree = VariableDeclaration;
+
+    ghost node = { variable_declaration_node };
+
+    ghost rule = { variable_declaration_rule };
+
+    ghost starts = { k.Name ∷ [] };
+
+    ghost repeats = { parts.variable_declaration };
+
+    fn is_next(tokens: &TerminalList, at: u32) -> bool {
+        tokens.is_next(at, Terminal::Name)
     }
-    Ok((others, next))
-}
 
-#[tactic(auto, unfolding(grammar::specs::Reading::read, pas_tree::specs::Rules::constant_definition_rule))]
-fn read_constant_definition(
-    tokens: &TerminalList,
-    at: u32,
-    depth: u32,
-) -> Result<(ConstantDefinition, u32), ParseFault>
-    ensures gives { ReadsAs tokens.now constant_definition_node result (read pascal depth constant_definition_rule (items_from tokens.now at)) }
-    ensures forward { IfOk result (λ x. at < x.1) }
-{
-    let (name, after) = tokens.expect(at, Terminal::Name)?;
-    let (equal, after) = tokens.expect(after, Terminal::Equal)?;
-    let (constant, after) = read_constant(tokens, after, depth)?;
-    let (semicolon, after) = tokens.expect(after, Terminal::Semicolon)?;
-    let definition = ConstantDefinition {
-        name,
-        equal,
-        constant,
-        semicolon,
-    };
-    Ok((definition, after))
-}
-
-#[tactic(auto, unfolding(grammar::specs::Reading::read, pas_tree::specs::Rules::type_definition_rule))]
-fn read_type_definition(
-    alloc: Global,
-    tokens: &TerminalList,
-    at: u32,
-    depth: u32,
-) -> Result<(TypeDefinition, u32), ParseFault>
-    ensures gives { ReadsAs tokens.now type_definition_node result (read pascal depth type_definition_rule (items_from tokens.now at)) }
-    ensures forward { IfOk result (λ x. at < x.1) }
-{
-    let (name, after) = tokens.expect(at, Terminal::Name)?;
-    let (equal, after) = tokens.expect(after, Terminal::Equal)?;
-    let (denoter, after) = read_denoter(alloc, tokens, after, depth)?;
-    let (semicolon, after) = tokens.expect(after, Terminal::Semicolon)?;
-    let definition = TypeDefinition {
-        name,
-        equal,
-        denoter,
-        semicolon,
-    };
-    Ok((definition, after))
-}
-
-#[tactic(auto, unfolding(grammar::specs::Reading::read, pas_tree::specs::Rules::variable_declaration_rule))]
-fn read_variable_declaration(
-    alloc: Global,
-    tokens: &TerminalList,
-    at: u32,
-    depth: u32,
-) -> Result<(VariableDeclaration, u32), ParseFault>
-    ensures gives { ReadsAs tokens.now variable_declaration_node result (read pascal depth variable_declaration_rule (items_from tokens.now at)) }
-    ensures forward { IfOk result (λ x. at < x.1) }
-{
-    let (names, after) = read_names(alloc, tokens, at, depth)?;
-    let (colon, after) = tokens.expect(after, Terminal::Colon)?;
-    let (denoter, after) = read_denoter(alloc, tokens, after, depth)?;
-    let (semicolon, after) = tokens.expect(after, Terminal::Semicolon)?;
-    let declaration = VariableDeclaration {
-        names,
-        colon,
-        denoter,
-        semicolon,
-    };
-    Ok((declaration, after))
+    #[tactic(auto, unfolding(grammar::specs::Reading::read, pas_tree::specs::Rules::variable_declaration_rule))]
+    fn read(
+        alloc: Global,
+        tokens: &TerminalList,
+        at: u32,
+        depth: u32,
+    ) -> Result<(VariableDeclaration, u32), ParseFault> {
+        let (names, after) = read_names(alloc, tokens, at, depth)?;
+        let (colon, after) = tokens.expect(after, Terminal::Colon)?;
+        let (denoter, after) = read_denoter(alloc, tokens, after, depth)?;
+        let (semicolon, after) = tokens.expect(after, Terminal::Semicolon)?;
+        let declaration = VariableDeclaration {
+            names,
+            colon,
+            denoter,
+            semicolon,
+        };
+        Ok((declaration, after))
+    }
 }
 
 /// Whether a heading is next.

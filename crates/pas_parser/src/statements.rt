@@ -11,6 +11,7 @@ ghost use Rattle.pas_tree.specs.Denoters.{last_semicolon_node};
 ghost use Rattle.pas_tree.specs.Statements.{actual_node, actuals_node, alternative_node, branch_node, branch_step, case_node, compound_node, for_node, if_node, label_node, next_access_node, next_actual_node, next_statement_node, plain_node, repeat_node, statement_node, statements_node, while_node, with_node};
 ghost use Rattle.pas_tree.specs.Rules.{actual_rule, actuals_rule, alternative_rule, assignment_starts, branch_rule, case_rule, compound_rule, constant_starts, counted_rule, for_rule, if_rule, label_rule, named_statement_rule, next_access_rule, next_actual_rule, next_statement_rule, plain_rule, repeat_rule, statement_rule, statements_rule, while_rule, with_rule};
 ghost use Rattle.pas_tree.specs.FirstFollow.{first_of, follow_of, pascal};
+ghost use Rattle.pas_tree.proofs.Parts.{parts};
 ghost use Rattle.pas_phrases.specs.Items.{ReadsAs, items_from};
 ghost use Rattle.pas_parser.specs.Closers.{closer_of};
 
@@ -18,6 +19,7 @@ use grammar::Terminal;
 use pas_expressions::{read_access, read_expression, read_selectors};
 use pas_phrases::ParseFault;
 use pas_phrases::constants::read_constants;
+use pas_phrases::lists::{Part, read_list};
 use pas_phrases::looking::TerminalList;
 use pas_phrases::operators::expect_direction;
 use pas_phrases::separators::{is_next_case, read_last_semicolon};
@@ -29,9 +31,9 @@ use pas_tree::statements::{
 };
 use std::alloc::Global;
 
-/// What closes a list of statements.
+/// The word that closes a list of statements: `end` or `until`.
 #[derive(Clone, Copy)]
-pub enum Closer {
+pub enum ClosingWord {
     End,
     Until,
 }
@@ -49,7 +51,7 @@ pub fn read_compound(
     ensures forward { IfOk result (λ x. at < x.1) }
 {
     let (begin, after) = tokens.expect(at, Terminal::WBegin)?;
-    let (statements, after) = read_statements(alloc, tokens, after, depth, Closer::End)?;
+    let (statements, after) = read_statements(alloc, tokens, after, depth, ClosingWord::End)?;
     let (end, after) = tokens.expect(after, Terminal::WEnd)?;
     let compound = Compound {
         begin,
@@ -66,7 +68,7 @@ fn read_statements(
     tokens: &TerminalList,
     at: u32,
     depth: u32,
-    closer: Closer,
+    closer: ClosingWord,
 ) -> Result<(Statements, u32), ParseFault>
     ensures gives { ReadsAs tokens.now statements_node result (read pascal depth (statements_rule (closer_of closer)) (items_from tokens.now at)) }
     ensures forward { IfOk result (λ x. at ≤ x.1) }
@@ -77,12 +79,13 @@ fn read_statements(
 }
 
 #[cycle(statements)]
+#[tactic(auto, using(pas_phrases::proofs::ReadLists::list_reading, crate::proofs::StatementLists::next_statement_repeats))]
 fn read_next_statements(
     alloc: Global,
     tokens: &TerminalList,
     at: u32,
     depth: u32,
-    closer: Closer,
+    closer: ClosingWord,
 ) -> Result<(Vec<NextStatement>, u32), ParseFault>
     ensures gives { ReadsAs tokens.now (λ v. row (map next_statement_node v.items)) result (read pascal depth (many (k.Semicolon ∷ []) (next_statement_rule (closer_of closer))) (items_from tokens.now at)) }
     ensures forward { IfOk result (λ x. at ≤ x.1) }
@@ -104,7 +107,7 @@ fn read_next_statement(
     tokens: &TerminalList,
     at: u32,
     depth: u32,
-    closer: Closer,
+    closer: ClosingWord,
 ) -> Result<(NextStatement, u32), ParseFault>
     ensures gives { ReadsAs tokens.now next_statement_node result (read pascal depth (next_statement_rule (closer_of closer)) (items_from tokens.now at)) }
     ensures forward { IfOk result (λ x. at < x.1) }
@@ -119,14 +122,14 @@ fn read_next_statement(
 }
 
 #[cycle(statements)]
-#[tactic(auto, unfolding(grammar::specs::Reading::read, grammar::specs::Reading::levels))]
+#[tactic(auto, unfolding(grammar::specs::Reading::read, grammar::specs::Reading::levels, pas_tree::specs::Rules::statement_rule))]
 fn read_statement(
     alloc: Global,
     tokens: &TerminalList,
     at: u32,
     depth: u32,
     inner: bool,
-    closer: Closer,
+    closer: ClosingWord,
 ) -> Result<(Statement, u32), ParseFault>
     ensures gives { ReadsAs tokens.now statement_node result (levels pascal depth (statement inner (closer_of closer)) (items_from tokens.now at)) }
     ensures forward { IfOk result (λ x. at ≤ x.1) }
@@ -137,29 +140,18 @@ fn read_statement(
         }
         return Err(ParseFault::NotProgram(at));
     }
-    read_inner_statement(alloc, tokens, at, depth - 1, inner, closer)
-}
-
-#[cycle(statements)]
-#[tactic(auto, unfolding(grammar::specs::Reading::read, pas_tree::specs::Rules::statement_rule))]
-fn read_inner_statement(
-    alloc: Global,
-    tokens: &TerminalList,
-    at: u32,
-    depth: u32,
-    inner: bool,
-    closer: Closer,
-) -> Result<(Statement, u32), ParseFault>
-    ensures gives { ReadsAs tokens.now statement_node result (read pascal depth (statement_rule inner (closer_of closer)) (items_from tokens.now at)) }
-    ensures forward { IfOk result (λ x. at ≤ x.1) }
-{
+    let depth = depth - 1;
     let (label, after) = read_label(tokens, at, depth)?;
     let (plain, after) = read_plain(alloc, tokens, after, depth, inner, closer)?;
     Ok((Statement { label, plain }, after))
 }
 
 #[tactic(auto, unfolding(grammar::specs::Reading::read, pas_tree::specs::Rules::label_rule))]
-fn read_label(tokens: &TerminalList, at: u32, _depth: u32) -> Result<(Option<Label>, u32), ParseFault>
+fn read_label(
+    tokens: &TerminalList,
+    at: u32,
+    _depth: u32,
+) -> Result<(Option<Label>, u32), ParseFault>
     ensures gives { ReadsAs tokens.now label_node result (read pascal _depth label_rule (items_from tokens.now at)) }
     ensures forward { IfOk result (λ x. at ≤ x.1) }
 {
@@ -179,7 +171,7 @@ fn read_plain(
     at: u32,
     depth: u32,
     inner: bool,
-    closer: Closer,
+    closer: ClosingWord,
 ) -> Result<(Plain, u32), ParseFault>
     ensures gives { ReadsAs tokens.now plain_node result (read pascal depth (plain_rule inner (closer_of closer)) (items_from tokens.now at)) }
     ensures forward { IfOk result (λ x. at ≤ x.1) }
@@ -219,7 +211,7 @@ fn read_counted(
     at: u32,
     depth: u32,
     inner: bool,
-    closer: Closer,
+    closer: ClosingWord,
 ) -> Result<(Plain, u32), ParseFault>
     ensures gives { ReadsAs tokens.now plain_node result (read pascal depth (counted_rule inner (closer_of closer)) (items_from tokens.now at)) }
     ensures forward { IfOk result (λ x. at ≤ x.1) }
@@ -281,7 +273,7 @@ fn read_actuals(
 {
     let (open, after) = tokens.expect(at, Terminal::LeftParen)?;
     let (first, after) = read_actual(alloc, tokens, after, depth)?;
-    let (others, after) = read_next_actuals(alloc, tokens, after, depth)?;
+    let (others, after) = read_list::<NextActuals>(alloc, tokens, after, depth)?;
     let (close, after) = tokens.expect(after, Terminal::RightParen)?;
     let actuals = Actuals {
         open,
@@ -292,38 +284,35 @@ fn read_actuals(
     Ok((actuals, after))
 }
 
-fn read_next_actuals(
-    alloc: Global,
-    tokens: &TerminalList,
-    at: u32,
-    depth: u32,
-) -> Result<(Vec<NextActual>, u32), ParseFault>
-    ensures gives { ReadsAs tokens.now (λ v. row (map next_actual_node v.items)) result (read pascal depth (many (k.Comma ∷ []) next_actual_rule) (items_from tokens.now at)) }
-    ensures forward { IfOk result (λ x. at ≤ x.1) }
-{
-    let mut others = Vec::new(alloc);
-    let mut next = at;
-    'actuals: while tokens.is_next(next, Terminal::Comma) {
-        let (other, after) = read_next_actual(alloc, tokens, next, depth)?;
-        others.push(other)?;
-        next = after;
-    }
-    Ok((others, next))
-}
+/// The actual parameters after the first one.
+struct NextActuals;
 
-#[tactic(auto, unfolding(grammar::specs::Reading::read, pas_tree::specs::Rules::next_actual_rule))]
-fn read_next_actual(
-    alloc: Global,
-    tokens: &TerminalList,
-    at: u32,
-    depth: u32,
-) -> Result<(NextActual, u32), ParseFault>
-    ensures gives { ReadsAs tokens.now next_actual_node result (read pascal depth next_actual_rule (items_from tokens.now at)) }
-    ensures forward { IfOk result (λ x. at < x.1) }
-{
-    let (comma, after) = tokens.expect(at, Terminal::Comma)?;
-    let (actual, after) = read_actual(alloc, tokens, after, depth)?;
-    Ok((NextActual { comma, actual }, after))
+impl Part for NextActuals {
+    type Tree = NextActual;
+
+    ghost node = { next_actual_node };
+
+    ghost rule = { next_actual_rule };
+
+    ghost starts = { k.Comma ∷ [] };
+
+    ghost repeats = { parts.next_actual };
+
+    fn is_next(tokens: &TerminalList, at: u32) -> bool {
+        tokens.is_next(at, Terminal::Comma)
+    }
+
+    #[tactic(auto, unfolding(grammar::specs::Reading::read, pas_tree::specs::Rules::next_actual_rule))]
+    fn read(
+        alloc: Global,
+        tokens: &TerminalList,
+        at: u32,
+        depth: u32,
+    ) -> Result<(NextActual, u32), ParseFault> {
+        let (comma, after) = tokens.expect(at, Terminal::Comma)?;
+        let (actual, after) = read_actual(alloc, tokens, after, depth)?;
+        Ok((NextActual { comma, actual }, after))
+    }
 }
 
 #[tactic(auto, unfolding(grammar::specs::Reading::read, pas_tree::specs::Rules::actual_rule))]
@@ -355,7 +344,7 @@ fn read_if(
     at: u32,
     depth: u32,
     inner: bool,
-    closer: Closer,
+    closer: ClosingWord,
 ) -> Result<(If, u32), ParseFault>
     ensures gives { ReadsAs tokens.now if_node result (read pascal depth (if_rule inner (closer_of closer)) (items_from tokens.now at)) }
     ensures forward { IfOk result (λ x. at < x.1) }
@@ -395,7 +384,7 @@ fn read_else(
     at: u32,
     depth: u32,
     inner: bool,
-    closer: Closer,
+    closer: ClosingWord,
 ) -> Result<(Else, u32), ParseFault>
     ensures gives { ReadsAs tokens.now alternative_node result (read pascal depth (alternative_rule inner (closer_of closer)) (items_from tokens.now at)) }
     ensures forward { IfOk result (λ x. at < x.1) }
@@ -433,7 +422,7 @@ fn read_case(
     Ok((statement, after))
 }
 
-/// Reads the branches behind the first one, and the end of the case statement.
+/// Reads the branches after the first one, and the end of the case statement.
 #[cycle(statements)]
 #[tactic(auto, unfolding(grammar::specs::Reading::read))]
 fn read_case_end(
@@ -467,7 +456,7 @@ fn read_branches(
         others.push(other)?;
         next = after;
     }
-    let (end, after) = read_last_semicolon(tokens, next)?;
+    let (end, after) = read_last_semicolon(tokens, next, depth)?;
     Ok(((others, end), after))
 }
 
@@ -500,7 +489,7 @@ fn read_branch(
 {
     let (constants, after) = read_constants(alloc, tokens, at, depth)?;
     let (colon, after) = tokens.expect(after, Terminal::Colon)?;
-    let (statement, after) = read_statement(alloc, tokens, after, depth, false, Closer::End)?;
+    let (statement, after) = read_statement(alloc, tokens, after, depth, false, ClosingWord::End)?;
     let branch = Branch {
         constants,
         colon,
@@ -521,7 +510,7 @@ fn read_repeat(
     ensures forward { IfOk result (λ x. at < x.1) }
 {
     let (word, after) = tokens.expect(at, Terminal::WRepeat)?;
-    let (statements, after) = read_statements(alloc, tokens, after, depth, Closer::Until)?;
+    let (statements, after) = read_statements(alloc, tokens, after, depth, ClosingWord::Until)?;
     let (until, after) = tokens.expect(after, Terminal::WUntil)?;
     let (condition, after) = read_expression(alloc, tokens, after, depth)?;
     let statement = Repeat {
@@ -541,7 +530,7 @@ fn read_while(
     at: u32,
     depth: u32,
     inner: bool,
-    closer: Closer,
+    closer: ClosingWord,
 ) -> Result<(While, u32), ParseFault>
     ensures gives { ReadsAs tokens.now while_node result (read pascal depth (while_rule inner (closer_of closer)) (items_from tokens.now at)) }
     ensures forward { IfOk result (λ x. at < x.1) }
@@ -567,7 +556,7 @@ fn read_for(
     at: u32,
     depth: u32,
     inner: bool,
-    closer: Closer,
+    closer: ClosingWord,
 ) -> Result<(For, u32), ParseFault>
     ensures gives { ReadsAs tokens.now for_node result (read pascal depth (for_rule inner (closer_of closer)) (items_from tokens.now at)) }
     ensures forward { IfOk result (λ x. at < x.1) }
@@ -601,14 +590,14 @@ fn read_with(
     at: u32,
     depth: u32,
     inner: bool,
-    closer: Closer,
+    closer: ClosingWord,
 ) -> Result<(With, u32), ParseFault>
     ensures gives { ReadsAs tokens.now with_node result (read pascal depth (with_rule inner (closer_of closer)) (items_from tokens.now at)) }
     ensures forward { IfOk result (λ x. at < x.1) }
 {
     let (word, after) = tokens.expect(at, Terminal::WWith)?;
     let (first, after) = read_access(alloc, tokens, after, depth)?;
-    let (others, after) = read_next_accesses(alloc, tokens, after, depth)?;
+    let (others, after) = read_list::<NextAccesses>(alloc, tokens, after, depth)?;
     let (do_word, after) = tokens.expect(after, Terminal::WDo)?;
     let (statement, after) = read_statement(alloc, tokens, after, depth, inner, closer)?;
     let statement = With {
@@ -621,41 +610,38 @@ fn read_with(
     Ok((statement, after))
 }
 
-fn read_next_accesses(
-    alloc: Global,
-    tokens: &TerminalList,
-    at: u32,
-    depth: u32,
-) -> Result<(Vec<NextAccess>, u32), ParseFault>
-    ensures gives { ReadsAs tokens.now (λ v. row (map next_access_node v.items)) result (read pascal depth (many (k.Comma ∷ []) next_access_rule) (items_from tokens.now at)) }
-    ensures forward { IfOk result (λ x. at ≤ x.1) }
-{
-    let mut others = Vec::new(alloc);
-    let mut next = at;
-    'accesses: while tokens.is_next(next, Terminal::Comma) {
-        let (other, after) = read_next_access(alloc, tokens, next, depth)?;
-        others.push(other)?;
-        next = after;
+/// The accesses of a with statement after the first one.
+struct NextAccesses;
+
+impl Part for NextAccesses {
+    type Tree = NextAccess;
+
+    ghost node = { next_access_node };
+
+    ghost rule = { next_access_rule };
+
+    ghost starts = { k.Comma ∷ [] };
+
+    ghost repeats = { parts.next_access };
+
+    fn is_next(tokens: &TerminalList, at: u32) -> bool {
+        tokens.is_next(at, Terminal::Comma)
     }
-    Ok((others, next))
+
+    #[tactic(auto, unfolding(grammar::specs::Reading::read, pas_tree::specs::Rules::next_access_rule))]
+    fn read(
+        alloc: Global,
+        tokens: &TerminalList,
+        at: u32,
+        depth: u32,
+    ) -> Result<(NextAccess, u32), ParseFault> {
+        let (comma, after) = tokens.expect(at, Terminal::Comma)?;
+        let (access, after) = read_access(alloc, tokens, after, depth)?;
+        Ok((NextAccess { comma, access }, after))
+    }
 }
 
-#[tactic(auto, unfolding(grammar::specs::Reading::read, pas_tree::specs::Rules::next_access_rule))]
-fn read_next_access(
-    alloc: Global,
-    tokens: &TerminalList,
-    at: u32,
-    depth: u32,
-) -> Result<(NextAccess, u32), ParseFault>
-    ensures gives { ReadsAs tokens.now next_access_node result (read pascal depth next_access_rule (items_from tokens.now at)) }
-    ensures forward { IfOk result (λ x. at < x.1) }
-{
-    let (comma, after) = tokens.expect(at, Terminal::Comma)?;
-    let (access, after) = read_access(alloc, tokens, after, depth)?;
-    Ok((NextAccess { comma, access }, after))
-}
-
-/// Whether an assignment goes on here, behind its name.
+/// Whether an assignment goes on here, after its name.
 fn is_next_assignment(tokens: &TerminalList, at: u32) -> bool
     ensures { result ≡ passes assignment_starts (next (items_from tokens.now at)) }
 {
@@ -671,7 +657,7 @@ fn is_next_assignment(tokens: &TerminalList, at: u32) -> bool
 }
 
 /// Whether a statement may begin here, an empty one too.
-fn expects_statement(tokens: &TerminalList, at: u32, inner: bool, closer: Closer) -> bool
+fn expects_statement(tokens: &TerminalList, at: u32, inner: bool, closer: ClosingWord) -> bool
     ensures { result ≡ expects pascal (statement inner (closer_of closer)) (next (items_from tokens.now at)) }
 {
     match tokens.get(at) {
@@ -698,16 +684,16 @@ fn is_statement_start(kind: Terminal) -> bool
     )
 }
 
-fn is_statement_follower(kind: Terminal, inner: bool, closer: Closer) -> bool
+fn is_statement_follower(kind: Terminal, inner: bool, closer: ClosingWord) -> bool
     ensures { result ≡ follow_of (statement inner (closer_of closer)) kind }
 {
     match closer {
-        Closer::End => match kind {
+        ClosingWord::End => match kind {
             Terminal::Semicolon | Terminal::WEnd => true,
             Terminal::WElse => inner,
             _ => false,
         },
-        Closer::Until => match kind {
+        ClosingWord::Until => match kind {
             Terminal::Semicolon | Terminal::WUntil => true,
             Terminal::WElse => inner,
             _ => false,

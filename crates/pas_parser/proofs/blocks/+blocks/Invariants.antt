@@ -1,33 +1,33 @@
-use Rattle.std.proofs.Common.{◌≡◌, ◌≤◌, ◌+◌, map, length, ◌-◌, ◌*◌}
+use Rattle.std.proofs.Common.{◌≤◌, ◌+◌, length, ◌-◌, ◌*◌}
 use Rattle.grammar.specs.Grammars.{many}
 use Rattle.grammar.specs.Reading.{read}
-use Rattle.grammar.proofs.Lists.{with_front}
 use Rattle.pas_tree.specs.FirstFollow.{pascal}
-use Rattle.pas_phrases.specs.Items.{items_from}
 use Rattle.pas_tree.specs.Blocks.{routine_node}
 use Rattle.pas_tree.specs.Rules.{heading_starts, routine_rule}
+use Rattle.pas_phrases.specs.Items.{items_from}
+use Rattle.pas_phrases.proofs.ReadLists.{ListSoFar}
 use Rattle.pas_parser.proofs.blocks.+blocks.Given as goal
 
 abbrev pub invariant-read_routines-routines : goal.invariant-read_routines-routines
 invariant-read_routines-routines l = record {
-  so_far : with_front (map routine_node l.others.items) (read pascal l.depth (many heading_starts routine_rule) (items_from l.tokens l.next)) ≡ read pascal l.depth (many heading_starts routine_rule) (items_from l.tokens l.at);
+  so_far : ListSoFar routine_node l.depth heading_starts routine_rule l.others.items (items_from l.tokens l.next) (read pascal l.depth (many heading_starts routine_rule) (items_from l.tokens l.at));
   forward : l.at ≤ l.next;
 }
 
 abbrev pub decreases-read_routines-routines : goal.decreases-read_routines-routines
 decreases-read_routines-routines l = length l.tokens - l.next
 
-abbrev pub decreases-read_block : goal.decreases-read_block
-decreases-read_block l = 64 * l.depth + 0
-
 abbrev pub decreases-read_inner_block : goal.decreases-read_inner_block
-decreases-read_inner_block l = 64 * l.depth + 50
+decreases-read_inner_block l = 32 * l.depth + 4
 
 abbrev pub decreases-read_routines : goal.decreases-read_routines
-decreases-read_routines l = 64 * l.depth + 40
+decreases-read_routines l = 32 * l.depth + 3
 
 abbrev pub decreases-read_routine : goal.decreases-read_routine
-decreases-read_routine l = 64 * l.depth + 30
+decreases-read_routine l = 32 * l.depth + 2
 
 abbrev pub decreases-read_body : goal.decreases-read_body
-decreases-read_body l = 64 * l.depth + 20
+decreases-read_body l = 32 * l.depth + 1
+
+abbrev pub decreases-read_block : goal.decreases-read_block
+decreases-read_block l = 32 * l.depth

@@ -1,7 +1,7 @@
 use Rattle.std.proofs.Common.{◌∙◌, sym, ap, arith, take, List, ◌++◌, ◌∷◌, []}
 use Rattle.grammar.specs.declared.terminals.Terminal.{Terminal}
 use Rattle.pas_parser.specs.Kinds.{terminals_of}
-use Rattle.pas_parser.proofs.Steps.{one_more}
+use Rattle.pas_parser.proofs.TerminalsOfTokens.{one_more}
 use Rattle.pas_parser.proofs.kinds.terminals.Goals as goal
 
 pub tokens-preserved : goal.tokens-preserved

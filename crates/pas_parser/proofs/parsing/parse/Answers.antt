@@ -1,65 +1,59 @@
-use Rattle.std.proofs.Common.{◌≡◌, ◌<◌, ◌≤◌, length, arith, ap, subst, List, Ok}
+use Rattle.std.proofs.Common.{◌<◌, ◌≤◌, length, arith, ap}
 use Rattle.std.proofs.lemmas.Result.{err_from_is_err_and}
-use Rattle.grammar.specs.declared.terminals.Terminal.{Terminal}
-use Rattle.grammar.specs.Reading.{read}
-use Rattle.pas_tree.specs.Blocks.{tree_node}
-use Rattle.pas_tree.specs.Rules.{program_rule}
-use Rattle.pas_tree.specs.FirstFollow.{pascal}
-use Rattle.pas_phrases.specs.Items.{items_from, Fails}
 use Rattle.pas_parser.specs.Kinds.{terminals_of}
-use Rattle.pas_parser.proofs.Exactly.{exactly_there, exactly_behind, exactly_none}
-use Rattle.pas_parser.proofs.Wholes.{refused_there, not_that, that, whole, too_long, not_that_either}
+use Rattle.pas_parser.proofs.FirstRefusedToken.{exactly_there, exactly_after, exactly_none}
+use Rattle.pas_parser.proofs.WholePrograms.{failed_there, read_there, refused_there, not_that, that, whole, too_long, not_that_either}
 use Rattle.pas_parser.proofs.parsing.parse.Goals as goal
 
 pub returns-in_err-tree-clause-only : goal.returns-in_err-tree-clause-only
 returns-in_err-tree-clause-only c =
     let p = err_from_is_err_and c.from_residual-in_err-tree.result c.from_residual-in_err-tree.ensures.1 in
-    let g = subst (λ (ks : List Terminal). Fails ks c.in_err-tree.field-0.0 (read pascal 200 program_rule (items_from ks 0))) c.in_ok-terminals.ensures.all c.in_err-tree.ensures.gives in
-    rw (p.1, p.2) (λ x formed same. not_that (terminals_of c.args.tokens.now.tokens) c.in_err-tree.field-0.0 x g formed same)
+    let g = failed_there _ _ c.in_err-tree.field-0.0 c.in_ok-terminals.ensures.all c.in_err-tree.ensures.gives in
+    rw (p.1, p.2) (λ x formed same. not_that _ c.in_err-tree.field-0.0 x g formed same)
 
 pub returns-in_err-tree-clause-refused : goal.returns-in_err-tree-clause-refused
 returns-in_err-tree-clause-refused c =
     let p = err_from_is_err_and c.from_residual-in_err-tree.result c.from_residual-in_err-tree.ensures.1 in
-    let g = subst (λ (ks : List Terminal). Fails ks c.in_err-tree.field-0.0 (read pascal 200 program_rule (items_from ks 0))) c.in_ok-terminals.ensures.all c.in_err-tree.ensures.gives in
+    let g = failed_there _ _ c.in_err-tree.field-0.0 c.in_ok-terminals.ensures.all c.in_err-tree.ensures.gives in
     rw (p.1, p.2) (refused_there c.args.tokens.now.tokens c.in_err-tree.field-0.0 c.in_ok-terminals.ensures.ended g)
 
 pub returns-in_err-tree-clause-exact : goal.returns-in_err-tree-clause-exact
 returns-in_err-tree-clause-exact c =
     let p = err_from_is_err_and c.from_residual-in_err-tree.result c.from_residual-in_err-tree.ensures.1 in
-    let g = subst (λ (ks : List Terminal). Fails ks c.in_err-tree.field-0.0 (read pascal 200 program_rule (items_from ks 0))) c.in_ok-terminals.ensures.all c.in_err-tree.ensures.gives in
+    let g = failed_there _ _ c.in_err-tree.field-0.0 c.in_ok-terminals.ensures.all c.in_err-tree.ensures.gives in
     rw (p.1, p.2) (exactly_there c.args.tokens.now.tokens c.in_err-tree.field-0.0 c.in_ok-terminals.ensures.ended g)
 
 pub returns-then-after-len-clause-only : goal.returns-then-after-len-clause-only
 returns-then-after-len-clause-only c =
-    let g = subst (λ (ks : List Terminal). read pascal 200 program_rule (items_from ks 0) ≡ Ok (tree_node c.in_ok-tree.tree, items_from ks c.in_ok-tree.after)) c.in_ok-terminals.ensures.all c.in_ok-tree.ensures.gives in
+    let g = read_there _ _ _ c.in_ok-tree.after c.in_ok-terminals.ensures.all c.in_ok-tree.ensures.gives in
     let less : c.in_ok-tree.after < length (terminals_of c.args.tokens.now.tokens) = omega (arith, c.len.ensures, c.if-after-len.true, ap length c.in_ok-terminals.ensures.all) in
-    λ x formed same. not_that_either (terminals_of c.args.tokens.now.tokens) (tree_node c.in_ok-tree.tree) x c.in_ok-tree.after g less formed same
+    λ x formed same. not_that_either _ _ x c.in_ok-tree.after g less formed same
 
 pub returns-then-after-len-clause-refused : goal.returns-then-after-len-clause-refused
 returns-then-after-len-clause-refused c =
-    let g = subst (λ (ks : List Terminal). read pascal 200 program_rule (items_from ks 0) ≡ Ok (tree_node c.in_ok-tree.tree, items_from ks c.in_ok-tree.after)) c.in_ok-terminals.ensures.all c.in_ok-tree.ensures.gives in
+    let g = read_there _ _ _ c.in_ok-tree.after c.in_ok-terminals.ensures.all c.in_ok-tree.ensures.gives in
     let less : c.in_ok-tree.after < length (terminals_of c.args.tokens.now.tokens) = omega (arith, c.len.ensures, c.if-after-len.true, ap length c.in_ok-terminals.ensures.all) in
-    (less, too_long (terminals_of c.args.tokens.now.tokens) (tree_node c.in_ok-tree.tree) c.in_ok-tree.after g less)
+    (less, too_long _ _ c.in_ok-tree.after g less)
 
 pub returns-then-after-len-clause-exact : goal.returns-then-after-len-clause-exact
 returns-then-after-len-clause-exact c =
-    let g = subst (λ (ks : List Terminal). read pascal 200 program_rule (items_from ks 0) ≡ Ok (tree_node c.in_ok-tree.tree, items_from ks c.in_ok-tree.after)) c.in_ok-terminals.ensures.all c.in_ok-tree.ensures.gives in
+    let g = read_there _ _ _ c.in_ok-tree.after c.in_ok-terminals.ensures.all c.in_ok-tree.ensures.gives in
     let less : c.in_ok-tree.after < length (terminals_of c.args.tokens.now.tokens) = omega (arith, c.len.ensures, c.if-after-len.true, ap length c.in_ok-terminals.ensures.all) in
-    exactly_behind c.args.tokens.now.tokens (tree_node c.in_ok-tree.tree) c.in_ok-tree.after g less
+    exactly_after c.args.tokens.now.tokens _ c.in_ok-tree.after g less
 
 pub returns-clause-found : goal.returns-clause-found
 returns-clause-found c =
-    let g = subst (λ (ks : List Terminal). read pascal 200 program_rule (items_from ks 0) ≡ Ok (tree_node c.in_ok-tree.tree, items_from ks c.in_ok-tree.after)) c.in_ok-terminals.ensures.all c.in_ok-tree.ensures.gives in
+    let g = read_there _ _ _ c.in_ok-tree.after c.in_ok-terminals.ensures.all c.in_ok-tree.ensures.gives in
     let most : length (terminals_of c.args.tokens.now.tokens) ≤ c.in_ok-tree.after = omega (arith, c.len.ensures, c.if-after-len.false, ap length c.in_ok-terminals.ensures.all) in
-    whole (terminals_of c.args.tokens.now.tokens) (tree_node c.in_ok-tree.tree) c.in_ok-tree.after g most
+    whole _ _ c.in_ok-tree.after g most
 
 pub returns-clause-only : goal.returns-clause-only
 returns-clause-only c =
-    let g = subst (λ (ks : List Terminal). read pascal 200 program_rule (items_from ks 0) ≡ Ok (tree_node c.in_ok-tree.tree, items_from ks c.in_ok-tree.after)) c.in_ok-terminals.ensures.all c.in_ok-tree.ensures.gives in
-    λ x formed same. that (terminals_of c.args.tokens.now.tokens) (tree_node c.in_ok-tree.tree) x c.in_ok-tree.after g formed same
+    let g = read_there _ _ _ c.in_ok-tree.after c.in_ok-terminals.ensures.all c.in_ok-tree.ensures.gives in
+    λ x formed same. that _ _ x c.in_ok-tree.after g formed same
 
 pub returns-clause-exact : goal.returns-clause-exact
 returns-clause-exact c =
-    let g = subst (λ (ks : List Terminal). read pascal 200 program_rule (items_from ks 0) ≡ Ok (tree_node c.in_ok-tree.tree, items_from ks c.in_ok-tree.after)) c.in_ok-terminals.ensures.all c.in_ok-tree.ensures.gives in
+    let g = read_there _ _ _ c.in_ok-tree.after c.in_ok-terminals.ensures.all c.in_ok-tree.ensures.gives in
     let most : length (terminals_of c.args.tokens.now.tokens) ≤ c.in_ok-tree.after = omega (arith, c.len.ensures, c.if-after-len.false, ap length c.in_ok-terminals.ensures.all) in
-    exactly_none (terminals_of c.args.tokens.now.tokens) (tree_node c.in_ok-tree.tree) c.in_ok-tree.after g most
+    exactly_none _ _ c.in_ok-tree.after g most

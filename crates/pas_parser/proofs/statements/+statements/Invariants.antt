@@ -1,20 +1,20 @@
-use Rattle.std.proofs.Common.{◌≡◌, ◌≤◌, ◌+◌, ◌∷◌, [], map, length, ◌-◌, ◌*◌}
+use Rattle.std.proofs.Common.{◌≤◌, ◌+◌, ◌∷◌, [], length, ◌-◌, ◌*◌}
 use Rattle.grammar.specs.declared.terminals.Terminal.TheVariants as k
-use Rattle.grammar.specs.Grammars.{many}
+use Rattle.grammar.specs.Grammars.{many, nothing, series}
 use Rattle.grammar.specs.Reading.{read}
-use Rattle.grammar.proofs.Lists.{with_front}
 use Rattle.pas_tree.specs.FirstFollow.{pascal}
-use Rattle.pas_phrases.specs.Items.{items_from}
-use Rattle.grammar.specs.Grammars.{nothing, series}
-use Rattle.grammar.proofs.Lists.{with_steps}
 use Rattle.pas_tree.specs.Statements.{next_statement_node, branch_step}
 use Rattle.pas_tree.specs.Rules.{constant_starts, next_statement_rule, branch_rule}
+use Rattle.pas_phrases.specs.Items.{items_from}
+use Rattle.pas_phrases.proofs.ReadLists.{ListSoFar}
+use Rattle.pas_phrases.proofs.ReadSeries.{SeriesSoFar}
 use Rattle.pas_parser.specs.Closers.{closer_of}
+use Rattle.pas_parser.proofs.StatementLists.{branches}
 use Rattle.pas_parser.proofs.statements.+statements.Given as goal
 
 abbrev pub invariant-read_next_statements-statements : goal.invariant-read_next_statements-statements
 invariant-read_next_statements-statements l = record {
-  so_far : with_front (map next_statement_node l.others.items) (read pascal l.depth (many (k.Semicolon ∷ []) (next_statement_rule (closer_of l.closer))) (items_from l.tokens l.next)) ≡ read pascal l.depth (many (k.Semicolon ∷ []) (next_statement_rule (closer_of l.closer))) (items_from l.tokens l.at);
+  so_far : ListSoFar next_statement_node l.depth (k.Semicolon ∷ []) (next_statement_rule (closer_of l.closer)) l.others.items (items_from l.tokens l.next) (read pascal l.depth (many (k.Semicolon ∷ []) (next_statement_rule (closer_of l.closer))) (items_from l.tokens l.at));
   forward : l.at ≤ l.next;
 }
 
@@ -23,66 +23,63 @@ decreases-read_next_statements-statements l = length l.tokens - l.next
 
 abbrev pub invariant-read_branches-branches : goal.invariant-read_branches-branches
 invariant-read_branches-branches l = record {
-  so_far : with_steps (map branch_step l.others.items) (read pascal l.depth (series k.Semicolon constant_starts branch_rule nothing) (items_from l.tokens l.next)) ≡ read pascal l.depth (series k.Semicolon constant_starts branch_rule nothing) (items_from l.tokens l.at);
+  so_far : SeriesSoFar branch_step l.depth branches l.others.items (items_from l.tokens l.next) (read pascal l.depth (series k.Semicolon constant_starts branch_rule nothing) (items_from l.tokens l.at));
   forward : l.at ≤ l.next;
 }
 
 abbrev pub decreases-read_branches-branches : goal.decreases-read_branches-branches
 decreases-read_branches-branches l = length l.tokens - l.next
 
-abbrev pub decreases-read_statement : goal.decreases-read_statement
-decreases-read_statement l = 64 * l.depth + 0
-
-abbrev pub decreases-read_inner_statement : goal.decreases-read_inner_statement
-decreases-read_inner_statement l = 64 * l.depth + 60
-
 abbrev pub decreases-read_plain : goal.decreases-read_plain
-decreases-read_plain l = 64 * l.depth + 58
+decreases-read_plain l = 32 * l.depth + 17
 
 abbrev pub decreases-read_counted : goal.decreases-read_counted
-decreases-read_counted l = 64 * l.depth + 56
+decreases-read_counted l = 32 * l.depth + 16
 
 abbrev pub decreases-read_compound : goal.decreases-read_compound
-decreases-read_compound l = 64 * l.depth + 50
-
-abbrev pub decreases-read_statements : goal.decreases-read_statements
-decreases-read_statements l = 64 * l.depth + 40
-
-abbrev pub decreases-read_next_statements : goal.decreases-read_next_statements
-decreases-read_next_statements l = 64 * l.depth + 30
-
-abbrev pub decreases-read_next_statement : goal.decreases-read_next_statement
-decreases-read_next_statement l = 64 * l.depth + 20
-
-abbrev pub decreases-read_if : goal.decreases-read_if
-decreases-read_if l = 64 * l.depth + 50
-
-abbrev pub decreases-read_else : goal.decreases-read_else
-decreases-read_else l = 64 * l.depth + 30
-
-abbrev pub decreases-read_case : goal.decreases-read_case
-decreases-read_case l = 64 * l.depth + 50
-
-abbrev pub decreases-read_branches : goal.decreases-read_branches
-decreases-read_branches l = 64 * l.depth + 40
-
-abbrev pub decreases-read_next_branch : goal.decreases-read_next_branch
-decreases-read_next_branch l = 64 * l.depth + 35
-
-abbrev pub decreases-read_branch : goal.decreases-read_branch
-decreases-read_branch l = 64 * l.depth + 30
+decreases-read_compound l = 32 * l.depth + 15
 
 abbrev pub decreases-read_repeat : goal.decreases-read_repeat
-decreases-read_repeat l = 64 * l.depth + 50
+decreases-read_repeat l = 32 * l.depth + 14
 
 abbrev pub decreases-read_while : goal.decreases-read_while
-decreases-read_while l = 64 * l.depth + 50
+decreases-read_while l = 32 * l.depth + 13
 
 abbrev pub decreases-read_for : goal.decreases-read_for
-decreases-read_for l = 64 * l.depth + 50
+decreases-read_for l = 32 * l.depth + 12
 
 abbrev pub decreases-read_with : goal.decreases-read_with
-decreases-read_with l = 64 * l.depth + 50
+decreases-read_with l = 32 * l.depth + 11
+
+abbrev pub decreases-read_if : goal.decreases-read_if
+decreases-read_if l = 32 * l.depth + 10
+
+abbrev pub decreases-read_else : goal.decreases-read_else
+decreases-read_else l = 32 * l.depth + 9
+
+abbrev pub decreases-read_case : goal.decreases-read_case
+decreases-read_case l = 32 * l.depth + 8
 
 abbrev pub decreases-read_case_end : goal.decreases-read_case_end
-decreases-read_case_end l = 64 * l.depth + 45
+decreases-read_case_end l = 32 * l.depth + 7
+
+abbrev pub decreases-read_branches : goal.decreases-read_branches
+decreases-read_branches l = 32 * l.depth + 6
+
+abbrev pub decreases-read_next_branch : goal.decreases-read_next_branch
+decreases-read_next_branch l = 32 * l.depth + 5
+
+abbrev pub decreases-read_branch : goal.decreases-read_branch
+decreases-read_branch l = 32 * l.depth + 4
+
+abbrev pub decreases-read_statements : goal.decreases-read_statements
+decreases-read_statements l = 32 * l.depth + 3
+
+abbrev pub decreases-read_next_statements : goal.decreases-read_next_statements
+decreases-read_next_statements l = 32 * l.depth + 2
+
+abbrev pub decreases-read_next_statement : goal.decreases-read_next_statement
+decreases-read_next_statement l = 32 * l.depth + 1
+
+abbrev pub decreases-read_statement : goal.decreases-read_statement
+decreases-read_statement l = 32 * l.depth
