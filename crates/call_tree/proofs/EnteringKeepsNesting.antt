@@ -1,5 +1,6 @@
 -- A call that is entered stands last, under the innermost open call.
-use Rattle.std.proofs.Common.{◌≡◌, ◌≢◌, ℕ, ◌<◌, ◌≤◌, ◌+◌, List, [], ◌∷◌, ◌++◌, length, length-append, Option, Some, None, refl, ap, sym, ◌∙◌, arith, inl, inr, ◌⊎◌, get_or}
+use Rattle.std.proofs.Common.{◌≡◌, ◌≢◌, ℕ, ◌<◌, ◌≤◌, ◌+◌, List, [], ◌∷◌, ◌++◌, length, length-append, Option, Some, None, refl, ap, sym, ◌∙◌, arith, inl, inr}
+use Rattle.std.proofs.Common.{◌⊎◌, get_or}
 use Rattle.std.specs.Prelude.{reverse, slice_get, ◌-◌}
 use Rattle.std.proofs.lemmas.Option.{slice_get_within}
 use Rattle.std.proofs.lemmas.Bool.{cases_lt}
@@ -101,13 +102,18 @@ module _ (parent : List (Option ℕ)) (last depth open_calls : List ℕ) (nested
         let same = nested.depths in
         let at : 0 ≡ length depth = omega arith in
         let empty : length parent ≡ 0 = let p = nested.parents in omega arith in
-        ap (λ k. get_or depth' k 0) at ∙ get_or-append_seam depth (length open_calls) [] 0 ∙ no_open open_calls (none_open parent depth open_calls nested.chain empty)
+        ap (λ k. get_or depth' k 0) at ∙ get_or-append_seam depth (length open_calls) [] 0
+        ∙ no_open open_calls (none_open parent depth open_calls nested.chain empty)
 
   pub entering_keeps_nesting : (0 < length last → 0 < length open_calls) → IsNested parent' last' depth' (length last ∷ open_calls)
   entering_keeps_nesting under = record {
     parents = let same = nested.parents in simp length-append (omega arith);
     depths = let same = nested.depths in simp length-append (omega arith);
-    chain = (new_is_under, chain_goes_on parent depth open_calls (slice_get open_calls 0) (length open_calls) (nested.parents ∙ sym nested.depths) nested.chain);
+    chain = (
+      new_is_under,
+      chain_goes_on parent depth open_calls (slice_get open_calls 0) (length open_calls) (nested.parents ∙ sym nested.depths)
+          nested.chain,
+    );
     rooted = rooted' under;
     child_is_later = λ above call is. elim (parent_before above call is) [
       | inl h ↦ nested.child_is_later above call h
@@ -173,7 +179,8 @@ module _ (parent : List (Option ℕ)) (last depth open_calls : List ℕ) (nested
     }
 
 -- the same of calls, whose open ones are kept from the outermost to the innermost
-pub entered_calls_are_nested : (calls : List Call) (open_items : List ℕ) (call : Call) (number : ℕ) → number ≡ length calls → call.parent ≡ slice_get open_items (length open_items - 1) → call.depth ≡ length open_items → call.last ≡ number
+pub entered_calls_are_nested : (calls : List Call) (open_items : List ℕ) (call : Call) (number : ℕ) → number ≡ length calls
+    → call.parent ≡ slice_get open_items (length open_items - 1) → call.depth ≡ length open_items → call.last ≡ number
     → (0 < length calls → 0 < length (reverse open_items)) → IsNested (parents_of calls) (lasts_of calls) (depths_of calls) (reverse open_items)
     → IsNested (parents_of (calls ++ call ∷ [])) (lasts_of (calls ++ call ∷ [])) (depths_of (calls ++ call ∷ [])) (reverse (open_items ++ number ∷ []))
 entered_calls_are_nested calls open_items call number is parent_is depth_is last_is under nested =

@@ -1,5 +1,6 @@
 -- A call that is left ends with the last call entered.
-use Rattle.std.proofs.Common.{◌≡◌, ◌≢◌, ℕ, ◌<◌, ◌≤◌, ◌-◌, List, [], ◌∷◌, ◌++◌, length, Option, Some, refl, ap, sym, ◌∙◌, arith, inl, inr, get_or, set, get_or-set_same, get_or-set_other}
+use Rattle.std.proofs.Common.{◌≡◌, ◌≢◌, ℕ, ◌<◌, ◌≤◌, ◌-◌, List, [], ◌∷◌, ◌++◌, length, Option, Some, refl, ap, sym, ◌∙◌, arith, inl, inr, get_or, set}
+use Rattle.std.proofs.Common.{get_or-set_same, get_or-set_other}
 use Rattle.std.specs.Prelude.{reverse, slice_get}
 use Rattle.std.proofs.lemmas.Option.{slice_get_read, slice_get_within}
 use Rattle.std.proofs.lemmas.Bool.{cases_eq, cases_lt}
@@ -102,19 +103,25 @@ left_calls_are_numbered parent last depth nested = record {
 }
 
 -- the same of calls, whose open ones are kept from the outermost to the innermost
-module _ (calls : List Call) (open_items outer : List ℕ) (number : ℕ) (call : Call) (popped : open_items ≡ outer ++ number ∷ []) (is : call ≡ get_or calls number call) where
+module _ (calls : List Call) (open_items outer : List ℕ) (number : ℕ) (call : Call) (popped : open_items ≡ outer ++ number ∷ [])
+    (is : call ≡ get_or calls number call) where
   reversed : reverse open_items ≡ number ∷ reverse outer
   reversed = ap reverse popped ∙ reverse-append outer (number ∷ [])
 
-  pub left_calls_are_nested : (exit : Side) (way : WayOut) (answer : Option Value) → IsNested (parents_of calls) (lasts_of calls) (depths_of calls) (reverse open_items)
-      → let after : List Call = set calls number (left_call call (length calls) exit way answer) in IsNested (parents_of after) (lasts_of after) (depths_of after) (reverse outer)
+  pub left_calls_are_nested : (exit : Side) (way : WayOut) (answer : Option Value)
+      → IsNested (parents_of calls) (lasts_of calls) (depths_of calls) (reverse open_items)
+      → let after : List Call = set calls number (left_call call (length calls) exit way answer) in
+      IsNested (parents_of after) (lasts_of after) (depths_of after) (reverse outer)
   left_calls_are_nested exit way answer nested =
       let same : length (lasts_of calls) ≡ length calls = length-map calls (λ (k : Call). k.last) in
       let kept = leaving_keeps_nesting (parents_of calls) (lasts_of calls) (depths_of calls) number (reverse outer) (rw reversed at nested) in
       let after : Call = left_call call (length calls) exit way answer in
-      let parents : parents_of (set calls number after) ≡ parents_of calls = map-set_same (λ (k : Call). k.parent) calls number after call (ap (λ (k : Call). k.parent) is) in
-      let depths : depths_of (set calls number after) ≡ depths_of calls = map-set_same (λ (k : Call). k.depth) calls number after call (ap (λ (k : Call). k.depth) is) in
-      let lasts : lasts_of (set calls number after) ≡ set (lasts_of calls) number (length (lasts_of calls) - 1) = map-set (λ (k : Call). k.last) calls number after ∙ ap (λ n. set (lasts_of calls) number (n - 1)) (sym same) in
+      let parents : parents_of (set calls number after) ≡ parents_of calls =
+      map-set_same (λ (k : Call). k.parent) calls number after call (ap (λ (k : Call). k.parent) is) in
+      let depths : depths_of (set calls number after) ≡ depths_of calls =
+      map-set_same (λ (k : Call). k.depth) calls number after call (ap (λ (k : Call). k.depth) is) in
+      let lasts : lasts_of (set calls number after) ≡ set (lasts_of calls) number (length (lasts_of calls) - 1) =
+      map-set (λ (k : Call). k.last) calls number after ∙ ap (λ n. set (lasts_of calls) number (n - 1)) (sym same) in
       rw (parents, depths, lasts) kept
 
   pub number_inside : IsNested (parents_of calls) (lasts_of calls) (depths_of calls) (reverse open_items) → number < length calls
@@ -125,7 +132,8 @@ module _ (calls : List Call) (open_items outer : List ℕ) (number : ℕ) (call 
       omega arith
 
   pub left_recording : (routines : ℕ) (exit : Side) (way : WayOut) (answer : Option Value) → number < length calls
-      → record { calls = set calls number (left_call call (length calls) exit way answer); open_calls = reverse outer; routines = routines } ≡ left (record { calls = calls; open_calls = reverse open_items; routines = routines }) exit way answer
+      → record { calls = set calls number (left_call call (length calls) exit way answer); open_calls = reverse outer; routines = routines }
+      ≡ left (record { calls = calls; open_calls = reverse open_items; routines = routines }) exit way answer
   left_recording routines exit way answer inside =
       let found : slice_get calls number ≡ Some call = slice_get_read calls (length calls) number call refl inside is in
       rw (reversed, found) refl

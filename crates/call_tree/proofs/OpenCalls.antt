@@ -7,13 +7,15 @@ use Rattle.call_tree.specs.Numbering.{IsParent}
 use Rattle.call_tree.proofs.Places.{get_snoc_before}
 
 -- each is a call
-pub open_is_call : (parent : List (Option ℕ)) (depth open_calls : List ℕ) (call : ℕ) → IsChain parent depth open_calls → IsOpen call open_calls → call < length parent
+pub open_is_call : (parent : List (Option ℕ)) (depth open_calls : List ℕ) (call : ℕ) → IsChain parent depth open_calls → IsOpen call open_calls
+    → call < length parent
 open_is_call parent depth [] call chain h = absurd h
 open_is_call parent depth (number ∷ outer) call chain (inl e) = let inside = chain.0.a_call in omega arith
 open_is_call parent depth (number ∷ outer) call chain (inr h) = open_is_call parent depth outer call chain.1 h
 
 -- none is later than the innermost
-pub open_to_innermost : (parent : List (Option ℕ)) (depth open_calls : List ℕ) (call innermost : ℕ) → IsChain parent depth open_calls → IsOpen call open_calls → slice_get open_calls 0 ≡ Some innermost → call ≤ innermost
+pub open_to_innermost : (parent : List (Option ℕ)) (depth open_calls : List ℕ) (call innermost : ℕ) → IsChain parent depth open_calls → IsOpen call open_calls
+    → slice_get open_calls 0 ≡ Some innermost → call ≤ innermost
 open_to_innermost parent depth [] call innermost chain h is = absurd h
 open_to_innermost parent depth (number ∷ outer) call innermost chain (inl e) is = let same : number ≡ innermost = cc in omega arith
 open_to_innermost parent depth (number ∷ outer) call innermost chain (inr h) is =
@@ -23,7 +25,8 @@ pub innermost_is_open : (open_calls : List ℕ) (innermost : ℕ) → slice_get 
 innermost_is_open [] innermost is = cc
 innermost_is_open (number ∷ outer) innermost is = inl cc
 
-pub innermost_depth : (parent : List (Option ℕ)) (depth open_calls : List ℕ) (innermost : ℕ) → IsChain parent depth open_calls → slice_get open_calls 0 ≡ Some innermost → get_or depth innermost 0 + 1 ≡ length open_calls
+pub innermost_depth : (parent : List (Option ℕ)) (depth open_calls : List ℕ) (innermost : ℕ) → IsChain parent depth open_calls
+    → slice_get open_calls 0 ≡ Some innermost → get_or depth innermost 0 + 1 ≡ length open_calls
 innermost_depth parent depth [] innermost chain is = cc
 innermost_depth parent depth (number ∷ outer) innermost chain is =
     let same : innermost ≡ number = cc in
@@ -31,7 +34,8 @@ innermost_depth parent depth (number ∷ outer) innermost chain is =
     rw same (omega (arith, deep))
 
 -- what calls an open one is open
-pub parent_is_open : (parent : List (Option ℕ)) (depth open_calls : List ℕ) (above call : ℕ) → IsChain parent depth open_calls → IsParent parent above call → IsOpen call open_calls → IsOpen above open_calls
+pub parent_is_open : (parent : List (Option ℕ)) (depth open_calls : List ℕ) (above call : ℕ) → IsChain parent depth open_calls → IsParent parent above call
+    → IsOpen call open_calls → IsOpen above open_calls
 parent_is_open parent depth [] above call chain is h = absurd h
 parent_is_open parent depth (number ∷ outer) above call chain is (inl e) =
     let first : slice_get parent call ≡ Some (slice_get outer 0) = rw e chain.0.parent_is in
@@ -40,7 +44,8 @@ parent_is_open parent depth (number ∷ outer) above call chain is (inl e) =
 parent_is_open parent depth (number ∷ outer) above call chain is (inr h) = inr (parent_is_open parent depth outer above call chain.1 is h)
 
 -- one more call leaves them as they were
-pub chain_goes_on : (parent : List (Option ℕ)) (depth open_calls : List ℕ) (above : Option ℕ) (deep : ℕ) → length parent ≡ length depth → IsChain parent depth open_calls → IsChain (parent ++ above ∷ []) (depth ++ deep ∷ []) open_calls
+pub chain_goes_on : (parent : List (Option ℕ)) (depth open_calls : List ℕ) (above : Option ℕ) (deep : ℕ) → length parent ≡ length depth
+    → IsChain parent depth open_calls → IsChain (parent ++ above ∷ []) (depth ++ deep ∷ []) open_calls
 chain_goes_on parent depth [] above deep same chain = tt
 chain_goes_on parent depth (call ∷ outer) above deep same chain =
     let inside = chain.0.a_call in

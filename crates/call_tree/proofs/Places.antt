@@ -4,7 +4,8 @@ use Rattle.std.specs.Prelude.{reverse, slice_get, ◌-◌}
 use Rattle.std.proofs.lemmas.List.{get_or-reverse, length-reverse}
 use Rattle.std.proofs.lemmas.Option.{slice_get-get_or}
 
-pub get_snoc : {X : Type 0} (xs : List X) (y : X) (k : ℕ) (z : X) → slice_get (xs ++ y ∷ []) k ≡ Some z → ((k < length xs) × (slice_get xs k ≡ Some z)) ⊎ ((k ≡ length xs) × (y ≡ z))
+pub get_snoc : {X : Type 0} (xs : List X) (y : X) (k : ℕ) (z : X) → slice_get (xs ++ y ∷ []) k ≡ Some z → ((k < length xs) × (slice_get xs k ≡ Some z))
+    ⊎ ((k ≡ length xs) × (y ≡ z))
 get_snoc [] y zero z h = inr (refl, cc)
 get_snoc [] y (suc k) z h = cc
 get_snoc (x ∷ xs) y zero z h = inl (omega arith, h)

@@ -5,7 +5,11 @@ use Rattle.call_tree.specs.Recording.{Recording, depths_of, lasts_of, parents_of
 use Rattle.call_tree.specs.Nesting.{IsNested}
 
 abbrev pub recording_of : Inside → Recording
-recording_of kept = record { calls = kept.calls.items; open_calls = reverse kept.open_calls.items; routines = kept.routines }
+recording_of kept = record {
+  calls = kept.calls.items;
+  open_calls = reverse kept.open_calls.items;
+  routines = kept.routines;
+}
 
 pub record IsKept (kept : Inside) : Type 0 where
   pub few : vec_len kept.calls ≤ 500000
@@ -13,4 +17,5 @@ pub record IsKept (kept : Inside) : Type 0 where
   pub routine_column : kept.routine_column.items ≡ routines_of kept.calls.items
   pub last_column : kept.last_column.items ≡ lasts_of kept.calls.items
   pub known : All (λ call. call.routine < kept.routines) kept.calls.items
-  pub nested : IsNested (parents_of kept.calls.items) (lasts_of kept.calls.items) (depths_of kept.calls.items) (reverse kept.open_calls.items)
+  pub nested : IsNested (parents_of kept.calls.items) (lasts_of kept.calls.items) (depths_of kept.calls.items)
+      (reverse kept.open_calls.items)

@@ -1,6 +1,7 @@
 -- How the calls of a run stand in one another, while it goes on: their parents, the last calls of their subtrees and
 -- their depths, as columns in order of entry, and the open calls, the innermost first.
-use Rattle.std.specs.Prelude.{◌≡◌, ℕ, ◌+◌, ◌<◌, ◌≤◌, ◌⊎◌, List, [], ◌∷◌, Option, Some, None, length, slice_get, slice_index}
+use Rattle.std.specs.Prelude.{◌≡◌, ℕ, ◌+◌, ◌<◌, ◌≤◌, ◌⊎◌, List, [], ◌∷◌, Option, Some, None, length, slice_get}
+use Rattle.std.specs.Prelude.{slice_index}
 use Rattle.call_tree.specs.Numbering.{IsParent}
 
 -- the first call alone has no parent, and the depth of a call is the number of calls above it
@@ -42,5 +43,6 @@ pub record IsNested (parent : List (Option ℕ)) (last depth open_calls : List �
       → slice_index last call ≤ slice_index last above
   pub under_open : (top call : ℕ) → IsOpen top open_calls → top < call → call < length last
       → (above : ℕ) × (top ≤ above) × IsParent parent above call
-  pub under_left : (top call : ℕ) → top < length last → ¬ IsOpen top open_calls → top < call → call ≤ slice_index last top
+  pub under_left : (top call : ℕ) → top < length last → ¬ IsOpen top open_calls → top < call
+      → call ≤ slice_index last top
       → (above : ℕ) × (top ≤ above) × IsParent parent above call

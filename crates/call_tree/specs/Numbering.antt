@@ -17,4 +17,5 @@ pub record IsNumbered (parent : List (Option ℕ)) (last : List ℕ) : Type 0 wh
   pub intervals : AreIntervals last
   pub child_is_later : (above call : ℕ) → IsParent parent above call → above < call
   pub child_ends_within : (above call : ℕ) → IsParent parent above call → slice_index last call ≤ slice_index last above
-  pub parent_is_within : (top call : ℕ) → top < call → call ≤ slice_index last top → (above : ℕ) × (top ≤ above) × IsParent parent above call
+  pub parent_is_within : (top call : ℕ) → top < call → call ≤ slice_index last top → (above : ℕ) × (top ≤ above)
+      × IsParent parent above call

@@ -1,5 +1,6 @@
 -- What is recorded of the calls of a run while it goes on, and how a call is entered and left.
-use Rattle.std.specs.Prelude.{ℕ, ◌-◌, List, [], ◌∷◌, ◌++◌, Option, Some, None, drop, length, map, refl, slice_get, slice_set}
+use Rattle.std.specs.Prelude.{ℕ, ◌-◌, List, [], ◌∷◌, ◌++◌, Option, Some, None, drop, length, map, refl, slice_get}
+use Rattle.std.specs.Prelude.{slice_set}
 use Rattle.std.specs.Coded.{Coded, code_by, coded×, coded_list, coded_ℕ}
 use Rattle.std.specs.FinMap as map
 use Rattle.cell_value.specs.declared.values.Value.{Value}
@@ -31,7 +32,9 @@ parents_of calls = map (λ call. call.parent) calls
 -- a recording is stored as the tuple of its fields
 abbrev pub recording_code : Coded Call → Coded Recording
 recording_code call =
-    code_by ((List Call × List ℕ) × ℕ) (coded× (coded× (coded_list call) (coded_list coded_ℕ)) coded_ℕ) (λ r. ((r.calls, r.open_calls), r.routines)) (λ p. record { calls = p.0.0; open_calls = p.0.1; routines = p.1 }) (λ _. refl)
+    code_by ((List Call × List ℕ) × ℕ) (coded× (coded× (coded_list call) (coded_list coded_ℕ)) coded_ℕ)
+    (λ r. ((r.calls, r.open_calls), r.routines))
+    (λ p. record { calls = p.0.0; open_calls = p.0.1; routines = p.1 }) (λ _. refl)
 
 -- no call was entered yet
 abbrev pub nothing_entered : ℕ → Recording
@@ -65,11 +68,13 @@ entered r routine args entry = record {
 
 -- a call when it is left, after which this many calls were entered: the last of those ends its subtree
 abbrev pub left_call : Call → ℕ → Side → WayOut → Option Value → Call
-left_call call entered_calls exit way answer = record call { last = entered_calls - 1; exit = exit; way = way; result = answer }
+left_call call entered_calls exit way answer = record call
+    { last = entered_calls - 1; exit = exit; way = way; result = answer }
 
 -- the calls when this one of them is left
 abbrev pub leaving : List Call → ℕ → Option Call → Side → WayOut → Option Value → List Call
-leaving calls number (Some call) exit way answer = slice_set calls number (left_call call (length calls) exit way answer)
+leaving calls number (Some call) exit way answer =
+    slice_set calls number (left_call call (length calls) exit way answer)
 leaving calls number None exit way answer = calls
 
 abbrev pub calls_left : List Call → List ℕ → Side → WayOut → Option Value → List Call

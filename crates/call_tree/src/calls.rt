@@ -1,7 +1,8 @@
 //! The calls of a run as they are recorded.
 ghost use Rattle.std.specs.Prelude.{◌≡◌, ◌<◌, ◌≤◌, ◌↔◌, [], All, IsTrue, IfOk, OnOk, OnErr, Some, length, slice_get};
 ghost use Rattle.call_tree.specs.Numbering.{IsNumbered};
-ghost use Rattle.call_tree.specs.Recording.{blank_side, depths_of, entered, lasts_of, left, nothing_entered, parents_of, routines_of};
+ghost use Rattle.call_tree.specs.Recording.{blank_side, depths_of, entered, lasts_of, left, nothing_entered};
+ghost use Rattle.call_tree.specs.Recording.{parents_of, routines_of};
 ghost use Rattle.call_tree.specs.Nesting.{IsRooted};
 
 use crate::records::{Call, Side};

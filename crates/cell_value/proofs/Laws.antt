@@ -100,7 +100,8 @@ above_zero : (j : ℤ) → int_le j (pos 0) ≡ false → pos 0 <ℤ j
 above_zero j e = grind (arith, ints)
 
 -- the law of `div`
-pub quotient_law : (op : ArithOp) (left right : Value) (i j q : ℤ) → op ≡ Div → left ≡ Number i → right ≡ Number j → arith_of op left right ≡ Ok (Number q) → IsQuotient i j q
+pub quotient_law : (op : ArithOp) (left right : Value) (i j q : ℤ) → op ≡ Div → left ≡ Number i → right ≡ Number j → arith_of op left right ≡ Ok (Number q)
+    → IsQuotient i j q
 quotient_law op left right i j q o l r e =
     let at_numbers : of_numbers Div i j ≡ Ok (Number q) = rw (o, l, r) at e in
     let given = cond_gives (unsigned_abs j == 0) ZeroDivisor (int_div i j) q at_numbers in
@@ -108,7 +109,8 @@ quotient_law op left right i j q o l r e =
     subst (IsQuotient i j) given.1 (int_div_is i j divisor)
 
 -- the law of `mod`
-pub remainder_law : (op : ArithOp) (left right : Value) (i j n : ℤ) → op ≡ Mod → left ≡ Number i → right ≡ Number j → arith_of op left right ≡ Ok (Number n) → IsRemainder i j n
+pub remainder_law : (op : ArithOp) (left right : Value) (i j n : ℤ) → op ≡ Mod → left ≡ Number i → right ≡ Number j → arith_of op left right ≡ Ok (Number n)
+    → IsRemainder i j n
 remainder_law op left right i j n o l r e =
     let at_numbers : of_numbers Mod i j ≡ Ok (Number n) = rw (o, l, r) at e in
     let given = cond_gives (int_le j (pos 0)) BadModulus (int_rem_euclid i j) n at_numbers in

@@ -1,7 +1,8 @@
 -- The effect of a call, which stands for its body where the call is judged: what a list of touches shows of the state
 -- before them, and what they change in it (Fritzson, Shahmehri, Kamkar and Gyimothy, "Generalized Algorithmic
 -- Debugging and Testing", 1992). Each address is looked at by itself.
-use Rattle.std.specs.Prelude.{ℕ, ◌<◌, ◌≤◌, Bool, true, false, ◌+◌, ◌-◌, ◌==◌, ◌&&◌, ◌||◌, if◌then◌else◌, nat_le, nat_lt, max, is_some, List, [], ◌∷◌, Option, Some, None, map, fold, sum_by}
+use Rattle.std.specs.Prelude.{ℕ, ◌<◌, ◌≤◌, Bool, true, false, ◌+◌, ◌-◌, ◌==◌, ◌&&◌, ◌||◌, if◌then◌else◌, nat_le, nat_lt}
+use Rattle.std.specs.Prelude.{max, is_some, List, [], ◌∷◌, Option, Some, None, map, fold, sum_by}
 use Rattle.std.specs.Option.{option_map}
 use Rattle.std.specs.List.{before_first, filter_map, range_with_len}
 use Rattle.cell_value.specs.declared.values.Value.{Value}
@@ -64,7 +65,8 @@ seen_by None None = None
 
 -- what touches none of which changes the address show of it
 abbrev pub shown_by : ℕ → List Touch → Option Seen
-shown_by addr touches = seen_by (first_of (filter_map (read_by addr) touches)) (first_of (filter_map (asked_by addr) touches))
+shown_by addr touches = seen_by (first_of (filter_map (read_by addr) touches))
+    (first_of (filter_map (asked_by addr) touches))
 
 -- what the touches show of the address as it was: those before the first that changes it count
 unfoldable pub seen_at : ℕ → List Touch → Option Seen

@@ -1,6 +1,7 @@
 //! The operators on integers.
 ghost use Rattle.std.specs.Prelude.{◌≡◌, ℤ, IfOk};
-ghost use Rattle.cell_value.specs.Arithmetic.{IsInteger, IsQuotient, IsRemainder, arith_of, checked, in_range_of, negate_of, of_numbers};
+ghost use Rattle.cell_value.specs.Arithmetic.{IsInteger, IsQuotient, IsRemainder, arith_of, checked, in_range_of};
+ghost use Rattle.cell_value.specs.Arithmetic.{negate_of, of_numbers};
 
 use crate::faults::OpFault;
 use crate::values::Value;

@@ -12,7 +12,8 @@ touch_stays : (aside : List Touch) (more : Touch) (entry : Entry) → IsWithin (
 touch_stays aside more (Aside place) h = get_or-append aside (more ∷ []) (touch.Look 0) place h
 touch_stays aside more _ h = refl
 
-pub touches_stay : (aside : List Touch) (more : Touch) (entries : List Entry) → All (IsWithin (length aside)) entries → map (touch_of (aside ++ more ∷ [])) entries ≡ map (touch_of aside) entries
+pub touches_stay : (aside : List Touch) (more : Touch) (entries : List Entry) → All (IsWithin (length aside)) entries
+    → map (touch_of (aside ++ more ∷ [])) entries ≡ map (touch_of aside) entries
 touches_stay aside more [] h = refl
 touches_stay aside more (entry ∷ entries) h =
     let first = touch_stays aside more entry (h 0 entry (omega arith)) in

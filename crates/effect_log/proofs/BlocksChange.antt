@@ -23,7 +23,8 @@ nothing_seen None None = refl
 -- a touch that neither reads nor asks leaves what is seen
 pub sees_nothing : (base : ℕ) (changes : BTreeMap ℕ Change) (reads : BTreeMap ℕ Seen) → Sees base (λ at. None) (λ at. None) changes reads reads
 sees_nothing base changes reads = record {
-  at = λ addr. either (is_shared base addr) (found_at reads addr) ∙ ap (λ o. cond (is_shared base addr) o (found_at reads addr)) (nothing_seen (found_at changes addr) (found_at reads addr));
+  at = λ addr. either (is_shared base addr) (found_at reads addr)
+      ∙ ap (λ o. cond (is_shared base addr) o (found_at reads addr)) (nothing_seen (found_at changes addr) (found_at reads addr));
 }
 
 -- a touch that changes no cell leaves what is changed
@@ -41,9 +42,13 @@ module _ (base first addr : ℕ) (change : Change) where
   here q same from = let inside : (nat_le first q && nat_lt q (addr + 1)) ≡ true = grind (arith, nat_tests) in ap (λ b. cond b (Some change) None) inside
 
   pub block_begins : (m : BTreeMap ℕ Change) → ChangesBy base (changed_block first first change) m m
-  block_begins m = record { at = λ q. either (is_shared base q) (found_at m q) ∙ ap (λ o. cond (is_shared base q) (later o (found_at m q)) (found_at m q)) (sym (none_yet q)) }
+  block_begins m = record {
+    at = λ q. either (is_shared base q) (found_at m q)
+        ∙ ap (λ o. cond (is_shared base q) (later o (found_at m q)) (found_at m q)) (sym (none_yet q));
+  }
 
-  pub block_goes_on : (old m new : BTreeMap ℕ Change) → first ≤ addr → is_shared base addr ≡ true → ChangesBy base (changed_block first addr change) old m → ((q : ℕ) → found_at new q ≡ cond (q == addr) (Some change) (found_at m q)) → ChangesBy base (changed_block first (addr + 1) change) old new
+  pub block_goes_on : (old m new : BTreeMap ℕ Change) → first ≤ addr → is_shared base addr ≡ true → ChangesBy base (changed_block first addr change) old m
+      → ((q : ℕ) → found_at new q ≡ cond (q == addr) (Some change) (found_at m q)) → ChangesBy base (changed_block first (addr + 1) change) old new
   block_goes_on old m new from is_in so_far set = record {
     at = λ q. elim (eqb_tells q addr) [
       | inl h ↦
@@ -56,7 +61,8 @@ module _ (base first addr : ℕ) (change : Change) where
     ];
   }
 
-  pub block_passes_by : (old m : BTreeMap ℕ Change) → is_shared base addr ≡ false → ChangesBy base (changed_block first addr change) old m → ChangesBy base (changed_block first (addr + 1) change) old m
+  pub block_passes_by : (old m : BTreeMap ℕ Change) → is_shared base addr ≡ false → ChangesBy base (changed_block first addr change) old m
+      → ChangesBy base (changed_block first (addr + 1) change) old m
   block_passes_by old m is_out so_far = record {
     at = λ q. elim (eqb_tells q addr) [
       | inl h ↦

@@ -1,5 +1,6 @@
 -- A map's entries by rising key are what it gives at each key, one key after another.
-use Rattle.std.proofs.Common.{◌≡◌, ◌≢◌, ℕ, ◌≤◌, ◌+◌, suc, zero, List, [], ◌∷◌, length, Option, Some, None, refl, ap, sym, ◌∙◌, subst, arith, inl, inr, true, false, cond}
+use Rattle.std.proofs.Common.{◌≡◌, ◌≢◌, ℕ, ◌≤◌, ◌+◌, suc, zero, List, [], ◌∷◌, length, Option, Some, None, refl, ap, sym, ◌∙◌, subst, arith, inl, inr, true}
+use Rattle.std.proofs.Common.{false, cond}
 use Rattle.std.specs.Prelude.{◌==◌}
 use Rattle.std.specs.Option.{option_map}
 use Rattle.std.specs.Ordering.{nat_cmp}
@@ -26,17 +27,20 @@ module _ {X : Type 0} where
   rest_from e (g ∷ es) sorted = let rises = below_from_sorted (keys_of (e ∷ g ∷ es)) 0 1 0 sorted (omega arith) (omega arith) in omega arith
 
   at_other : (q : ℕ) (e : ℕ × X) (es : List (ℕ × X)) → q ≢ e.0 → lookup (is_at (nat_cmp q)) (e ∷ es) ≡ lookup (is_at (nat_cmp q)) es
-  at_other q e es other = let differs : (q == e.0) ≡ false = grind (arith, nat_tests) in ap (λ b. cond b (Some e.1) (lookup (is_at (nat_cmp q)) es)) (unsigned_tied q e.0 ∙ differs)
+  at_other q e es other = let differs : (q == e.0) ≡ false = grind (arith, nat_tests) in
+      ap (λ b. cond b (Some e.1) (lookup (is_at (nat_cmp q)) es)) (unsigned_tied q e.0 ∙ differs)
 
   at_key : (q : ℕ) (e : ℕ × X) (es : List (ℕ × X)) → q ≡ e.0 → lookup (is_at (nat_cmp q)) (e ∷ es) ≡ Some e.1
-  at_key q e es same = let is : (q == e.0) ≡ true = grind (arith, nat_tests) in ap (λ b. cond b (Some e.1) (lookup (is_at (nat_cmp q)) es)) (unsigned_tied q e.0 ∙ is)
+  at_key q e es same = let is : (q == e.0) ≡ true = grind (arith, nat_tests) in
+      ap (λ b. cond b (Some e.1) (lookup (is_at (nat_cmp q)) es)) (unsigned_tied q e.0 ∙ is)
 
   none_before : (a : ℕ) (es : List (ℕ × X)) → IsStrictlySortedBy nat_cmp (keys_of es) → IsFrom (a + 1) es → lookup (is_at (nat_cmp a)) es ≡ None
   none_before a [] sorted from = refl
   none_before a (e ∷ es) sorted from =
       let later : a + 1 ≤ e.0 = from in
       let other : a ≢ e.0 = omega arith in
-      at_other a e es other ∙ none_before a es (sorted_tail nat_cmp e.0 (keys_of es) sorted) (from_more (e.0 + 1) (a + 1) es (omega arith) (rest_from e es sorted))
+      at_other a e es other ∙ none_before a es (sorted_tail nat_cmp e.0 (keys_of es) sorted)
+      (from_more (e.0 + 1) (a + 1) es (omega arith) (rest_from e es sorted))
     where
       from_more : (b c : ℕ) (fs : List (ℕ × X)) → c ≤ b → IsFrom b fs → IsFrom c fs
       from_more b c [] l h = tt
@@ -45,7 +49,8 @@ module _ {X : Type 0} where
   from_next : (a : ℕ) (e : ℕ × X) (es : List (ℕ × X)) → e.0 ≡ a → IsStrictlySortedBy nat_cmp (keys_of (e ∷ es)) → IsFrom (a + 1) es
   from_next a e es same sorted = subst (λ k. IsFrom (k + 1) es) same (rest_from e es sorted)
 
-  pub rising_entries : (n a : ℕ) (es : List (ℕ × X)) (f : ℕ → Option X) → IsStrictlySortedBy nat_cmp (keys_of es) → IsFrom a es → ((q : ℕ) → a ≤ q → lookup (is_at (nat_cmp q)) es ≡ f q) → ((q : ℕ) → a + n ≤ q → f q ≡ None) → es ≡ pairs f a n
+  pub rising_entries : (n a : ℕ) (es : List (ℕ × X)) (f : ℕ → Option X) → IsStrictlySortedBy nat_cmp (keys_of es) → IsFrom a es
+      → ((q : ℕ) → a ≤ q → lookup (is_at (nat_cmp q)) es ≡ f q) → ((q : ℕ) → a + n ≤ q → f q ≡ None) → es ≡ pairs f a n
   rising_entries zero a [] f sorted from same none = refl
   rising_entries zero a (e ∷ es) f sorted from same none =
       let later : a ≤ e.0 = from in
@@ -75,13 +80,15 @@ module _ {X : Type 0} where
 
   length_pairs : (n a : ℕ) (f : ℕ → Option X) → length (pairs f a n) ≤ n
   length_pairs zero a f = omega arith
-  length_pairs (suc n) a f = let rest = length_pairs n (a + 1) f in elim (f a) as (λ o. length (cons_option (option_map (λ x. (a, x)) o) (pairs f (a + 1) n)) ≤ suc n) [
-    | Some x ↦ omega arith
-    | None ↦ omega arith
-  ]
+  length_pairs (suc n) a f = let rest = length_pairs n (a + 1) f in
+      elim (f a) as (λ o. length (cons_option (option_map (λ x. (a, x)) o) (pairs f (a + 1) n)) ≤ suc n) [
+        | Some x ↦ omega arith
+        | None ↦ omega arith
+      ]
 
   -- the same of all addresses
-  pub rising_is_listed : (es : List (ℕ × X)) (f : ℕ → Option X) → IsStrictlySortedBy nat_cmp (keys_of es) → ((q : ℕ) → lookup (is_at (nat_cmp q)) es ≡ f q) → ((q : ℕ) → 1048576 ≤ q → f q ≡ None) → es ≡ listed f
+  pub rising_is_listed : (es : List (ℕ × X)) (f : ℕ → Option X) → IsStrictlySortedBy nat_cmp (keys_of es) → ((q : ℕ) → lookup (is_at (nat_cmp q)) es ≡ f q)
+      → ((q : ℕ) → 1048576 ≤ q → f q ≡ None) → es ≡ listed f
   unfolding listed
   rising_is_listed es f sorted same none = rising_entries 1048576 0 es f sorted (from_zero es) (λ q l. same q) (λ q l. none q (omega arith)) where
     from_zero : (fs : List (ℕ × X)) → IsFrom 0 fs

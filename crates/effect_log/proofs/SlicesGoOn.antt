@@ -1,5 +1,6 @@
 -- A slice of a list goes on with the element after it, which a longer slice has too.
-use Rattle.std.proofs.Common.{◌≡◌, ℕ, ◌<◌, ◌≤◌, ◌+◌, ◌-◌, suc, zero, List, [], ◌∷◌, ◌++◌, length, get_or, take, drop, Some, refl, ap, ◌∙◌, subst, arith, zero-add}
+use Rattle.std.proofs.Common.{◌≡◌, ℕ, ◌<◌, ◌≤◌, ◌+◌, ◌-◌, suc, zero, List, [], ◌∷◌, ◌++◌, length, get_or, take, drop, Some, refl, ap, ◌∙◌, subst, arith}
+use Rattle.std.proofs.Common.{zero-add}
 use Rattle.std.specs.Prelude.{All, slice_get, slice_range, sum_by}
 use Rattle.std.proofs.lemmas.List.{get_or-drop, get_or-take, length-drop, length-take-le, take_more}
 use Rattle.std.proofs.lemmas.List.Sums.{sum_by-append, sum_by-take-le}
@@ -31,8 +32,10 @@ module _ {X : Type 0} (xs : List X) (from i : ℕ) (x : X) (later : from ≤ i) 
 
   pub slice_sum : (f : X → ℕ) (to : ℕ) → i < to → sum_by f (slice_range xs from i) + f x ≤ sum_by f (slice_range xs from to)
   slice_sum f to before =
-      let part : take ((i + 1) - from) (slice_range xs from to) ≡ slice_range xs from (i + 1) = take_twice ((i + 1) - from) (to - from) (drop from xs) (omega arith) in
-      let sum : sum_by f (slice_range xs from (i + 1)) ≡ sum_by f (slice_range xs from i) + f x = ap (sum_by f) slice_more ∙ sum_by-append f (slice_range xs from i) (x ∷ []) ∙ ap (λ n. sum_by f (slice_range xs from i) + n) (zero-add (f x)) in
+      let part : take ((i + 1) - from) (slice_range xs from to) ≡ slice_range xs from (i + 1) =
+      take_twice ((i + 1) - from) (to - from) (drop from xs) (omega arith) in
+      let sum : sum_by f (slice_range xs from (i + 1)) ≡ sum_by f (slice_range xs from i) + f x =
+      ap (sum_by f) slice_more ∙ sum_by-append f (slice_range xs from i) (x ∷ []) ∙ ap (λ n. sum_by f (slice_range xs from i) + n) (zero-add (f x)) in
       let whole = sum_by-take-le f (slice_range xs from to) ((i + 1) - from) in
       let same : sum_by f (take ((i + 1) - from) (slice_range xs from to)) ≡ sum_by f (slice_range xs from i) + f x = ap (sum_by f) part ∙ sum in
       omega arith

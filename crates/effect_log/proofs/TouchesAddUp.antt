@@ -12,7 +12,8 @@ use Rattle.cell_value.specs.declared.values.Value.{Value}
 use Rattle.cell_value.specs.declared.entries.Touch.{Touch}
 use Rattle.cell_value.specs.declared.entries.Touch.TheVariants.{Read, Has, Write, Make, Drop, Look, Take, Give}
 use Rattle.cell_value.specs.declared.entries.Change.{Change}
-use Rattle.cell_value.specs.Effects.{asked_by, byte_by, change_at, change_by, first_of, given_of, is_shared, last_of, looked_by, looked_of, made_by, read_by, seen_at, seen_by, shown_by, taken_by}
+use Rattle.cell_value.specs.Effects.{asked_by, byte_by, change_at, change_by, first_of, given_of, is_shared, last_of, looked_by, looked_of, made_by, read_by}
+use Rattle.cell_value.specs.Effects.{seen_at, seen_by, shown_by, taken_by}
 use Rattle.effect_log.specs.declared.found.Found.{Found}
 use Rattle.effect_log.specs.Passing.{IsFound, TakesIn, found_at, later, seen_next}
 
@@ -82,7 +83,8 @@ module _ {T C : Type 0} (h : T → Option C) where
   before_some [] t c e = cc
   before_some (s ∷ ts) t c e = elim (option_cases (h s)) [
     | inl w ↦ before_changing s (ts ++ t ∷ []) w.0 w.1 ∙ sym (before_changing s ts w.0 w.1)
-    | inr none ↦ before_other s (ts ++ t ∷ []) none ∙ ap (λ xs. s ∷ xs) (before_some ts t c (ap last_of (sym (kept_other s ts none)) ∙ e)) ∙ sym (before_other s ts none)
+    | inr none ↦ before_other s (ts ++ t ∷ []) none ∙ ap (λ xs. s ∷ xs) (before_some ts t c (ap last_of (sym (kept_other s ts none)) ∙ e))
+        ∙ sym (before_other s ts none)
   ]
 
 -- ---- one address
@@ -98,7 +100,8 @@ changing_reads_not addr (Look at) c e = cc
 changing_reads_not addr (Take items) c e = cc
 changing_reads_not addr (Give byte) c e = cc
 
-seen_more : (f : Option Value) (a : Option Bool) (read : Option Value) (asked : Option Bool) → seen_by (sooner f read) (sooner a asked) ≡ seen_next None (seen_by f a) read asked
+seen_more : (f : Option Value) (a : Option Bool) (read : Option Value) (asked : Option Bool)
+    → seen_by (sooner f read) (sooner a asked) ≡ seen_next None (seen_by f a) read asked
 seen_more (Some v) a read asked = refl
 seen_more None (Some true) (Some w) asked = refl
 seen_more None (Some true) None asked = refl
@@ -110,16 +113,20 @@ seen_more None None None asked = refl
 -- what touches show with one more that does not change the address
 shown_more : (addr : ℕ) (ts : List Touch) (t : Touch) → shown_by addr (ts ++ t ∷ []) ≡ seen_next None (shown_by addr ts) (read_by addr t) (asked_by addr t)
 shown_more addr ts t =
-    let reads : first_of (filter_map (read_by addr) (ts ++ t ∷ [])) ≡ sooner (first_of (filter_map (read_by addr) ts)) (read_by addr t) = ap first_of (filter_map-append (read_by addr) ts (t ∷ [])) ∙ first_more (filter_map (read_by addr) ts) (read_by addr t) in
-    let asks : first_of (filter_map (asked_by addr) (ts ++ t ∷ [])) ≡ sooner (first_of (filter_map (asked_by addr) ts)) (asked_by addr t) = ap first_of (filter_map-append (asked_by addr) ts (t ∷ [])) ∙ first_more (filter_map (asked_by addr) ts) (asked_by addr t) in
-    ap (λ r. seen_by r (first_of (filter_map (asked_by addr) (ts ++ t ∷ [])))) reads ∙ ap (seen_by (sooner (first_of (filter_map (read_by addr) ts)) (read_by addr t))) asks
+    let reads : first_of (filter_map (read_by addr) (ts ++ t ∷ [])) ≡ sooner (first_of (filter_map (read_by addr) ts)) (read_by addr t) =
+    ap first_of (filter_map-append (read_by addr) ts (t ∷ [])) ∙ first_more (filter_map (read_by addr) ts) (read_by addr t) in
+    let asks : first_of (filter_map (asked_by addr) (ts ++ t ∷ [])) ≡ sooner (first_of (filter_map (asked_by addr) ts)) (asked_by addr t) =
+    ap first_of (filter_map-append (asked_by addr) ts (t ∷ [])) ∙ first_more (filter_map (asked_by addr) ts) (asked_by addr t) in
+    ap (λ r. seen_by r (first_of (filter_map (asked_by addr) (ts ++ t ∷ [])))) reads
+    ∙ ap (seen_by (sooner (first_of (filter_map (read_by addr) ts)) (read_by addr t))) asks
     ∙ seen_more (first_of (filter_map (read_by addr) ts)) (first_of (filter_map (asked_by addr) ts)) (read_by addr t) (asked_by addr t)
 
 change_more : (addr : ℕ) (ts : List Touch) (t : Touch) → change_at addr (ts ++ t ∷ []) ≡ later (change_by addr t) (change_at addr ts)
 unfolding change_at
 change_more addr ts t = ap last_of (filter_map-append (change_by addr) ts (t ∷ [])) ∙ last_more (filter_map (change_by addr) ts) (change_by addr t)
 
-seen_at_more : (addr : ℕ) (ts : List Touch) (t : Touch) → seen_at addr (ts ++ t ∷ []) ≡ seen_next (change_at addr ts) (seen_at addr ts) (read_by addr t) (asked_by addr t)
+seen_at_more : (addr : ℕ) (ts : List Touch) (t : Touch) → seen_at addr (ts ++ t ∷ [])
+    ≡ seen_next (change_at addr ts) (seen_at addr ts) (read_by addr t) (asked_by addr t)
 unfolding seen_at change_at
 seen_at_more addr ts t = elim (option_cases (change_by addr) (last_of (filter_map (change_by addr) ts))) [
   | inl w ↦
@@ -128,7 +135,8 @@ seen_at_more addr ts t = elim (option_cases (change_by addr) (last_of (filter_ma
   | inr none ↦
       let before : before_first (changes (change_by addr)) ts ≡ ts = all_before (change_by addr) ts none in
       let more = ap (shown_by addr) (before_none (change_by addr) ts t none) in
-      let last : shown_by addr (ts ++ before_first (changes (change_by addr)) (t ∷ [])) ≡ seen_next None (shown_by addr ts) (read_by addr t) (asked_by addr t) = elim (option_cases (change_by addr) (change_by addr t)) [
+      let last : shown_by addr (ts ++ before_first (changes (change_by addr)) (t ∷ []))
+      ≡ seen_next None (shown_by addr ts) (read_by addr t) (asked_by addr t) = elim (option_cases (change_by addr) (change_by addr t)) [
         | inl w ↦
             let not_read = changing_reads_not addr t w.0 w.1 in
             ap (λ xs. shown_by addr (ts ++ xs)) (before_changing (change_by addr) t [] w.0 w.1) ∙ ap (shown_by addr) (append-nil ts)
@@ -147,7 +155,8 @@ under_test : {X : Type 0} (b : Bool) (was now : Option X) (step : Option X → O
 under_test true was now step e = ap step e
 under_test false was now step e = e
 
-under_both : {X Y : Type 0} (b : Bool) (other other_now : Option Y) (was now : Option X) (step : Option Y → Option X → Option X) → other ≡ cond b other_now None → was ≡ cond b now None → cond b (step other was) was ≡ cond b (step other_now now) None
+under_both : {X Y : Type 0} (b : Bool) (other other_now : Option Y) (was now : Option X) (step : Option Y → Option X → Option X)
+    → other ≡ cond b other_now None → was ≡ cond b now None → cond b (step other was) was ≡ cond b (step other_now now) None
 under_both true other other_now was now step d e = ap (λ o. step o was) d ∙ ap (step other_now) e
 under_both false other other_now was now step d e = e
 
@@ -161,11 +170,13 @@ one_option : {X : Type 0} (o : Option X) → cons_option o [] ≡ option_to_list
 one_option (Some x) = refl
 one_option None = refl
 
-pub one_more_found : (base place : ℕ) (ts : List Touch) (t : Touch) (old new : Found) → IsFound base place ts old → TakesIn base place t old new → IsFound base place (ts ++ t ∷ []) new
+pub one_more_found : (base place : ℕ) (ts : List Touch) (t : Touch) (old new : Found) → IsFound base place ts old → TakesIn base place t old new
+    → IsFound base place (ts ++ t ∷ []) new
 one_more_found base place ts t old new found takes = record {
   reads = λ addr.
       takes.reads.at addr
-      ∙ under_both (is_shared base addr) (found_at old.changes addr) (change_at addr ts) (found_at old.reads addr) (seen_at addr ts) (λ c s. seen_next c s (read_by addr t) (asked_by addr t)) (found.changes addr) (found.reads addr)
+      ∙ under_both (is_shared base addr) (found_at old.changes addr) (change_at addr ts) (found_at old.reads addr) (seen_at addr ts)
+      (λ c s. seen_next c s (read_by addr t) (asked_by addr t)) (found.changes addr) (found.reads addr)
       ∙ ap (λ s. cond (is_shared base addr) s None) (sym (seen_at_more addr ts t));
   changes = λ addr.
       takes.changes.at addr
@@ -174,5 +185,6 @@ one_more_found base place ts t old new found takes = record {
   made = takes.made ∙ ap (λ n. n + made_by t) found.made ∙ sym (sum_more made_by ts t);
   looked = takes.looked ∙ ap (λ n. max n (looked_by place t)) found.looked ∙ sym (looked_more place ts t);
   taken = takes.taken ∙ ap (λ n. n + taken_by t) found.taken ∙ sym (sum_more taken_by ts t);
-  given = takes.given ∙ ap (λ bs. bs ++ option_to_list (byte_by t)) found.given ∙ ap (λ bs. given_of ts ++ bs) (sym (one_option (byte_by t))) ∙ sym (filter_map-append byte_by ts (t ∷ []));
+  given = takes.given ∙ ap (λ bs. bs ++ option_to_list (byte_by t)) found.given ∙ ap (λ bs. given_of ts ++ bs) (sym (one_option (byte_by t)))
+      ∙ sym (filter_map-append byte_by ts (t ∷ []));
 }

@@ -4,7 +4,10 @@ use Rattle.cell_value.specs.declared.values.Value.TheVariants as value
 use Rattle.cell_value.specs.declared.entries.Touch.{Touch}
 use Rattle.cell_value.specs.declared.entries.Touch.TheVariants as touch
 use Rattle.effect_log.specs.declared.log.Entry.{Entry}
-use Rattle.effect_log.specs.declared.log.Entry.TheVariants.{ReadUndefined, ReadNumber, ReadNil, ReadHeap, ReadPlace, ReadFrame, ReadRoutine, Has, WriteUndefined, WriteNumber, WriteNil, WriteHeap, WritePlace, WriteFrame, WriteRoutine, Make, Drop, Look, Take, Give, Aside}
+use Rattle.effect_log.specs.declared.log.Entry.TheVariants.{ReadUndefined, ReadNumber, ReadNil, ReadHeap, ReadPlace}
+use Rattle.effect_log.specs.declared.log.Entry.TheVariants.{ReadFrame, ReadRoutine, Has, WriteUndefined, WriteNumber}
+use Rattle.effect_log.specs.declared.log.Entry.TheVariants.{WriteNil, WriteHeap, WritePlace, WriteFrame, WriteRoutine}
+use Rattle.effect_log.specs.declared.log.Entry.TheVariants.{Make, Drop, Look, Take, Give, Aside}
 
 -- the touch of an entry, where these touches stand aside
 abbrev pub touch_of : List Touch → Entry → Touch

@@ -1,5 +1,6 @@
 -- One pass over touches: what has been found after some of them, and how one more touch adds to it.
-use Rattle.std.specs.Prelude.{◌≡◌, ℕ, Bool, true, false, ◌+◌, ◌++◌, if◌then◌else◌, max, List, Option, Some, None, option_to_list}
+use Rattle.std.specs.Prelude.{◌≡◌, ℕ, Bool, true, false, ◌+◌, ◌++◌, if◌then◌else◌, max, List, Option, Some, None}
+use Rattle.std.specs.Prelude.{option_to_list}
 use Rattle.std.specs.Ordering.{nat_cmp}
 use Rattle.std.specs.BTreeMap.{BTreeMap, get}
 use Rattle.cell_value.specs.declared.values.Value.{Value}
@@ -7,7 +8,8 @@ use Rattle.cell_value.specs.declared.entries.Touch.{Touch}
 use Rattle.cell_value.specs.declared.entries.Seen.{Seen}
 use Rattle.cell_value.specs.declared.entries.Seen.TheVariants.{Held, There, Absent}
 use Rattle.cell_value.specs.declared.entries.Change.{Change}
-use Rattle.cell_value.specs.Effects.{asked_by, byte_by, change_at, change_by, given_of, is_shared, looked_by, looked_of, made_by, made_of, read_by, seen_at, seen_by, shared, taken_by, taken_of}
+use Rattle.cell_value.specs.Effects.{asked_by, byte_by, change_at, change_by, given_of, is_shared, looked_by, looked_of}
+use Rattle.cell_value.specs.Effects.{made_by, made_of, read_by, seen_at, seen_by, shared, taken_by, taken_of}
 use Rattle.effect_log.specs.declared.found.Found.{Found}
 
 -- what a map has at each address
@@ -35,12 +37,15 @@ seen_next None (Some Absent) None asked = Some Absent
 seen_next None None None asked = seen_by None asked
 
 -- the map of what is seen takes in a touch that reads and answers so
-pub record Sees (base : ℕ) (read : ℕ → Option Value) (asked : ℕ → Option Bool) (changes : BTreeMap ℕ Change) (old new : BTreeMap ℕ Seen) : Type 0 where
-  pub at : (addr : ℕ) → found_at new addr ≡ (if is_shared base addr then seen_next (found_at changes addr) (found_at old addr) (read addr) (asked addr) else found_at old addr)
+pub record Sees (base : ℕ) (read : ℕ → Option Value) (asked : ℕ → Option Bool) (changes : BTreeMap ℕ Change)
+    (old new : BTreeMap ℕ Seen) : Type 0 where
+  pub at : (addr : ℕ) → found_at new addr ≡ (if is_shared base addr then seen_next (found_at changes addr)
+      (found_at old addr) (read addr) (asked addr) else found_at old addr)
 
 -- the map of what is changed takes in a touch that changes each address so
 pub record ChangesBy (base : ℕ) (change : ℕ → Option Change) (old new : BTreeMap ℕ Change) : Type 0 where
-  pub at : (addr : ℕ) → found_at new addr ≡ (if is_shared base addr then later (change addr) (found_at old addr) else found_at old addr)
+  pub at : (addr : ℕ) → found_at new addr ≡ (if is_shared base addr then later (change addr) (found_at old addr) else
+      found_at old addr)
 
 -- one more touch is taken in
 pub record TakesIn (base place : ℕ) (touch : Touch) (old new : Found) : Type 0 where

@@ -2,7 +2,8 @@
 ghost use Rattle.std.specs.Prelude.{◌≡◌, ◌<◌, ◌≤◌, ◌+◌, ◌^◌, OnOk, Some, None, [], ℕ};
 ghost use Rattle.cell_value.specs.declared.entries.Change.{Change as CellChange};
 ghost use Rattle.cell_value.specs.declared.entries.Touch.TheVariants as touch;
-ghost use Rattle.cell_value.specs.Effects.{IsCountable, asked_by, change_by, changed_block, given_of, looked_by, made_by, read_by, taken_by};
+ghost use Rattle.cell_value.specs.Effects.{IsCountable, asked_by, change_by, changed_block, given_of, looked_by};
+ghost use Rattle.cell_value.specs.Effects.{made_by, read_by, taken_by};
 ghost use Rattle.effect_log.specs.Passing.{ChangesBy, IsFound, Sees, TakesIn, was_read_lem};
 
 use crate::cells_found::{find, is_shared_cell, put};
@@ -37,7 +38,8 @@ fn see_value(
     addr: u32,
     value: Value,
 ) -> Result<(), Memory>
-    ensures { OnOk result (Sees base (λ at. read_by at (touch.Read addr value)) (λ at. None) changes.now reads.old reads.new) }
+    ensures { OnOk result (Sees base (λ at. read_by at (touch.Read addr value)) (λ at. None) changes.now reads.old
+        reads.new) }
 {
     if !is_shared_cell(base, addr) || find(changes, addr).is_some() || was_read(find(reads, addr)) {
         return Ok(());
@@ -53,7 +55,8 @@ fn see_answer(
     addr: u32,
     there: bool,
 ) -> Result<(), Memory>
-    ensures { OnOk result (Sees base (λ at. None) (λ at. asked_by at (touch.Has addr there)) changes.now reads.old reads.new) }
+    ensures { OnOk result (Sees base (λ at. None) (λ at. asked_by at (touch.Has addr there)) changes.now reads.old
+        reads.new) }
 {
     if !is_shared_cell(base, addr) || find(changes, addr).is_some() || find(reads, addr).is_some() {
         return Ok(());

@@ -7,9 +7,14 @@ ghost use Rattle.grammar.specs.Nodes.{chain, next, row, step_node};
 ghost use Rattle.grammar.specs.Grammars.{choice, denoter, many, nothing, seq, series, variant_part, word};
 ghost use Rattle.grammar.specs.Reading.{levels, read};
 ghost use Rattle.grammar.specs.Deciding.{expects};
-ghost use Rattle.pas_tree.specs.Denoters.{arm_node, arm_step, array_node, denoter_node, enumeration_node, fields_node, last_semicolon_node, next_denoter_node, record_node, section_node, section_step, set_node, structure_node, tag_node, variants_node};
+ghost use Rattle.pas_tree.specs.Denoters.{arm_node, arm_step, array_node, denoter_node, enumeration_node, fields_node};
+ghost use Rattle.pas_tree.specs.Denoters.{last_semicolon_node, next_denoter_node, record_node, section_node};
+ghost use Rattle.pas_tree.specs.Denoters.{section_step, set_node, structure_node, tag_node, variants_node};
 ghost use Rattle.pas_tree.specs.Operators.{token_node};
-ghost use Rattle.pas_tree.specs.Rules.{arm_rule, array_rule, constant_starts, denoter_rule, enumeration_rule, fields_rule, named_denoter_rule, next_denoter_rule, optional, record_rule, section_rule, set_rule, structure_rule, structured_rule, subrange_rule, limit_starts, fixed_rule, tag_rule, variant_part_rule, variants_rule};
+ghost use Rattle.pas_tree.specs.Rules.{arm_rule, array_rule, constant_starts, denoter_rule, enumeration_rule};
+ghost use Rattle.pas_tree.specs.Rules.{fields_rule, named_denoter_rule, next_denoter_rule, optional, record_rule};
+ghost use Rattle.pas_tree.specs.Rules.{section_rule, set_rule, structure_rule, structured_rule, subrange_rule};
+ghost use Rattle.pas_tree.specs.Rules.{limit_starts, fixed_rule, tag_rule, variant_part_rule, variants_rule};
 ghost use Rattle.pas_tree.specs.FirstFollow.{first_of, pascal};
 ghost use Rattle.pas_phrases.specs.Items.{ReadsAs, items_from, optional_token};
 ghost use Rattle.pas_denoters.specs.Ends.{sections_end_node};
@@ -77,7 +82,8 @@ fn read_named_denoter(
     at: u32,
     depth: u32,
 ) -> Result<(Denoter, u32), ParseFault>
-    ensures gives { ReadsAs tokens.now denoter_node result (read pascal depth named_denoter_rule (items_from tokens.now at)) }
+    ensures gives { ReadsAs tokens.now denoter_node result
+        (read pascal depth named_denoter_rule (items_from tokens.now at)) }
     ensures forward { IfOk result (λ x. at < x.1) }
 {
     let (name, after) = tokens.expect(at, Terminal::Name)?;
@@ -92,7 +98,8 @@ fn read_named_denoter(
 
 #[tactic(auto, unfolding(grammar::specs::Reading::read, pas_tree::specs::Rules::subrange_rule, pas_tree::specs::Rules::range_rule))]
 fn read_subrange(tokens: &TerminalList, at: u32, depth: u32) -> Result<(Denoter, u32), ParseFault>
-    ensures gives { ReadsAs tokens.now denoter_node result (read pascal depth subrange_rule (items_from tokens.now at)) }
+    ensures gives { ReadsAs tokens.now denoter_node result
+        (read pascal depth subrange_rule (items_from tokens.now at)) }
     ensures forward { IfOk result (λ x. at < x.1) }
 {
     let (first, after) = read_limit(tokens, at, depth)?;
@@ -108,7 +115,8 @@ fn read_enumeration(
     at: u32,
     depth: u32,
 ) -> Result<(Enumeration, u32), ParseFault>
-    ensures gives { ReadsAs tokens.now enumeration_node result (read pascal depth enumeration_rule (items_from tokens.now at)) }
+    ensures gives { ReadsAs tokens.now enumeration_node result
+        (read pascal depth enumeration_rule (items_from tokens.now at)) }
     ensures forward { IfOk result (λ x. at < x.1) }
 {
     let (open, after) = tokens.expect(at, Terminal::LeftParen)?;
@@ -118,7 +126,8 @@ fn read_enumeration(
 }
 
 fn read_packed(tokens: &TerminalList, at: u32) -> Result<(Option<u32>, u32), ParseFault>
-    ensures gives { ReadsAs tokens.now (token_node k.WPacked) result (optional_token (k.WPacked ∷ []) (items_from tokens.now at)) }
+    ensures gives { ReadsAs tokens.now (token_node k.WPacked) result
+        (optional_token (k.WPacked ∷ []) (items_from tokens.now at)) }
     ensures forward { IfOk result (λ x. at ≤ x.1) }
 {
     if !tokens.is_next(at, Terminal::WPacked) {
@@ -136,7 +145,8 @@ fn read_structured(
     at: u32,
     depth: u32,
 ) -> Result<(Denoter, u32), ParseFault>
-    ensures gives { ReadsAs tokens.now denoter_node result (read pascal depth structured_rule (items_from tokens.now at)) }
+    ensures gives { ReadsAs tokens.now denoter_node result
+        (read pascal depth structured_rule (items_from tokens.now at)) }
     ensures forward { IfOk result (λ x. at ≤ x.1) }
 {
     let (packed, after) = read_packed(tokens, at)?;
@@ -153,7 +163,8 @@ fn read_structure(
     at: u32,
     depth: u32,
 ) -> Result<(Structure, u32), ParseFault>
-    ensures gives { ReadsAs tokens.now structure_node result (read pascal depth structure_rule (items_from tokens.now at)) }
+    ensures gives { ReadsAs tokens.now structure_node result
+        (read pascal depth structure_rule (items_from tokens.now at)) }
     ensures forward { IfOk result (λ x. at < x.1) }
 {
     if tokens.is_next(at, Terminal::WArray) {
@@ -211,7 +222,8 @@ fn read_next_denoters(
     at: u32,
     depth: u32,
 ) -> Result<(Vec<NextDenoter>, u32), ParseFault>
-    ensures gives { ReadsAs tokens.now (λ v. row (map next_denoter_node v.items)) result (read pascal depth (many (k.Comma ∷ []) next_denoter_rule) (items_from tokens.now at)) }
+    ensures gives { ReadsAs tokens.now (λ v. row (map next_denoter_node v.items)) result
+        (read pascal depth (many (k.Comma ∷ []) next_denoter_rule) (items_from tokens.now at)) }
     ensures forward { IfOk result (λ x. at ≤ x.1) }
 {
     let mut others = Vec::new(alloc);
@@ -232,7 +244,8 @@ fn read_next_denoter(
     at: u32,
     depth: u32,
 ) -> Result<(NextDenoter, u32), ParseFault>
-    ensures gives { ReadsAs tokens.now next_denoter_node result (read pascal depth next_denoter_rule (items_from tokens.now at)) }
+    ensures gives { ReadsAs tokens.now next_denoter_node result
+        (read pascal depth next_denoter_rule (items_from tokens.now at)) }
     ensures forward { IfOk result (λ x. at < x.1) }
 {
     let (comma, after) = tokens.expect(at, Terminal::Comma)?;
@@ -314,7 +327,8 @@ fn read_sections(
     at: u32,
     depth: u32,
 ) -> Result<((Vec<NextSection>, SectionsEnd), u32), ParseFault>
-    ensures gives { ReadsAs tokens.now (λ p. chain (map section_step p.0.items) (sections_end_node p.1)) result (read pascal depth (series k.Semicolon (k.Name ∷ []) section_rule variants_rule) (items_from tokens.now at)) }
+    ensures gives { ReadsAs tokens.now (λ p. chain (map section_step p.0.items) (sections_end_node p.1)) result
+        (read pascal depth (series k.Semicolon (k.Name ∷ []) section_rule variants_rule) (items_from tokens.now at)) }
     ensures forward { IfOk result (λ x. at ≤ x.1) }
 {
     let mut others = Vec::new(alloc);
@@ -336,7 +350,8 @@ fn read_next_section(
     at: u32,
     depth: u32,
 ) -> Result<(NextSection, u32), ParseFault>
-    ensures gives { ReadsAs tokens.now (λ n. step_node (section_step n)) result (read pascal depth (seq (word k.Semicolon) section_rule) (items_from tokens.now at)) }
+    ensures gives { ReadsAs tokens.now (λ n. step_node (section_step n)) result
+        (read pascal depth (seq (word k.Semicolon) section_rule) (items_from tokens.now at)) }
     ensures forward { IfOk result (λ x. at < x.1) }
 {
     let (semicolon, after) = tokens.expect(at, Terminal::Semicolon)?;
@@ -352,7 +367,9 @@ fn read_sections_end(
     at: u32,
     depth: u32,
 ) -> Result<(SectionsEnd, u32), ParseFault>
-    ensures gives { ReadsAs tokens.now sections_end_node result (read pascal depth (choice (k.Semicolon ∷ []) (seq (word k.Semicolon) variants_rule) nothing) (items_from tokens.now at)) }
+    ensures gives { ReadsAs tokens.now sections_end_node result
+        (read pascal depth (choice (k.Semicolon ∷ []) (seq (word k.Semicolon) variants_rule) nothing)
+        (items_from tokens.now at)) }
     ensures forward { IfOk result (λ x. at ≤ x.1) }
 {
     if !tokens.is_next(at, Terminal::Semicolon) {
@@ -379,7 +396,8 @@ fn read_variants(
     at: u32,
     depth: u32,
 ) -> Result<((Variants, Option<u32>), u32), ParseFault>
-    ensures gives { ReadsAs tokens.now (λ p. variants_node p.0 p.1) result (levels pascal depth variant_part (items_from tokens.now at)) }
+    ensures gives { ReadsAs tokens.now (λ p. variants_node p.0 p.1) result
+        (levels pascal depth variant_part (items_from tokens.now at)) }
     ensures forward { IfOk result (λ x. at ≤ x.1) }
 {
     if depth == 0 {
@@ -453,7 +471,8 @@ fn read_arms(
     at: u32,
     depth: u32,
 ) -> Result<((Vec<NextArm>, Option<u32>), u32), ParseFault>
-    ensures gives { ReadsAs tokens.now (λ p. chain (map arm_step p.0.items) (last_semicolon_node p.1)) result (read pascal depth (series k.Semicolon constant_starts arm_rule nothing) (items_from tokens.now at)) }
+    ensures gives { ReadsAs tokens.now (λ p. chain (map arm_step p.0.items) (last_semicolon_node p.1)) result
+        (read pascal depth (series k.Semicolon constant_starts arm_rule nothing) (items_from tokens.now at)) }
     ensures forward { IfOk result (λ x. at ≤ x.1) }
 {
     let mut others = Vec::new(alloc);
@@ -475,7 +494,8 @@ fn read_next_arm(
     at: u32,
     depth: u32,
 ) -> Result<(NextArm, u32), ParseFault>
-    ensures gives { ReadsAs tokens.now (λ n. step_node (arm_step n)) result (read pascal depth (seq (word k.Semicolon) arm_rule) (items_from tokens.now at)) }
+    ensures gives { ReadsAs tokens.now (λ n. step_node (arm_step n)) result
+        (read pascal depth (seq (word k.Semicolon) arm_rule) (items_from tokens.now at)) }
     ensures forward { IfOk result (λ x. at < x.1) }
 {
     let (semicolon, after) = tokens.expect(at, Terminal::Semicolon)?;

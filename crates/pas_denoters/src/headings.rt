@@ -6,8 +6,10 @@ ghost use Rattle.grammar.specs.Nodes.{next, row};
 ghost use Rattle.grammar.specs.Grammars.{heading, many};
 ghost use Rattle.grammar.specs.Reading.{levels, read};
 ghost use Rattle.grammar.specs.Deciding.{expects};
-ghost use Rattle.pas_tree.specs.Headings.{formal_names_node, formal_node, formals_node, function_node, heading_node, next_formal_node, procedure_node, result_node};
-ghost use Rattle.pas_tree.specs.Rules.{formal_rule, formals_rule, function_rule, heading_rule, next_formal_rule, procedure_rule, result_rule, variables_formal_rule};
+ghost use Rattle.pas_tree.specs.Headings.{formal_names_node, formal_node, formals_node, function_node, heading_node};
+ghost use Rattle.pas_tree.specs.Headings.{next_formal_node, procedure_node, result_node};
+ghost use Rattle.pas_tree.specs.Rules.{formal_rule, formals_rule, function_rule, heading_rule, next_formal_rule};
+ghost use Rattle.pas_tree.specs.Rules.{procedure_rule, result_rule, variables_formal_rule};
 ghost use Rattle.pas_tree.specs.FirstFollow.{first_of, pascal};
 ghost use Rattle.pas_phrases.specs.Items.{ReadsAs, items_from};
 
@@ -56,7 +58,8 @@ fn read_procedure(
     at: u32,
     depth: u32,
 ) -> Result<(ProcedureHeading, u32), ParseFault>
-    ensures gives { ReadsAs tokens.now procedure_node result (read pascal depth procedure_rule (items_from tokens.now at)) }
+    ensures gives { ReadsAs tokens.now procedure_node result
+        (read pascal depth procedure_rule (items_from tokens.now at)) }
     ensures forward { IfOk result (λ x. at < x.1) }
 {
     let (word, after) = tokens.expect(at, Terminal::WProcedure)?;
@@ -88,7 +91,8 @@ fn read_function(
     at: u32,
     depth: u32,
 ) -> Result<(FunctionHeading, u32), ParseFault>
-    ensures gives { ReadsAs tokens.now function_node result (read pascal depth function_rule (items_from tokens.now at)) }
+    ensures gives { ReadsAs tokens.now function_node result
+        (read pascal depth function_rule (items_from tokens.now at)) }
     ensures forward { IfOk result (λ x. at < x.1) }
 {
     let (word, after) = tokens.expect(at, Terminal::WFunction)?;
@@ -165,7 +169,8 @@ fn read_next_formals(
     at: u32,
     depth: u32,
 ) -> Result<(Vec<NextFormal>, u32), ParseFault>
-    ensures gives { ReadsAs tokens.now (λ v. row (map next_formal_node v.items)) result (read pascal depth (many (k.Semicolon ∷ []) next_formal_rule) (items_from tokens.now at)) }
+    ensures gives { ReadsAs tokens.now (λ v. row (map next_formal_node v.items)) result
+        (read pascal depth (many (k.Semicolon ∷ []) next_formal_rule) (items_from tokens.now at)) }
     ensures forward { IfOk result (λ x. at ≤ x.1) }
 {
     let mut others = Vec::new(alloc);
@@ -186,7 +191,8 @@ fn read_next_formal(
     at: u32,
     depth: u32,
 ) -> Result<(NextFormal, u32), ParseFault>
-    ensures gives { ReadsAs tokens.now next_formal_node result (read pascal depth next_formal_rule (items_from tokens.now at)) }
+    ensures gives { ReadsAs tokens.now next_formal_node result
+        (read pascal depth next_formal_rule (items_from tokens.now at)) }
     ensures forward { IfOk result (λ x. at < x.1) }
 {
     let (semicolon, after) = tokens.expect(at, Terminal::Semicolon)?;
@@ -225,7 +231,8 @@ fn read_formal_names(
     at: u32,
     depth: u32,
 ) -> Result<(FormalNames, u32), ParseFault>
-    ensures gives { ReadsAs tokens.now formal_names_node result (read pascal depth variables_formal_rule (items_from tokens.now at)) }
+    ensures gives { ReadsAs tokens.now formal_names_node result
+        (read pascal depth variables_formal_rule (items_from tokens.now at)) }
     ensures forward { IfOk result (λ x. at < x.1) }
 {
     let (names, after) = read_names(alloc, tokens, at, depth)?;

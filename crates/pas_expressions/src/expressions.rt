@@ -6,8 +6,13 @@ ghost use Rattle.grammar.specs.Nodes.{next, row};
 ghost use Rattle.grammar.specs.Grammars.{factor, many};
 ghost use Rattle.grammar.specs.Reading.{levels, read};
 ghost use Rattle.grammar.specs.Deciding.{expects};
-ghost use Rattle.pas_tree.specs.Expressions.{access_node, arguments_node, expression_node, factor_node, index_node, member_node, members_node, next_expression_node, next_factor_node, next_member_node, next_term_node, selector_node, simple_node, term_node};
-ghost use Rattle.pas_tree.specs.Rules.{access_rule, adding, arguments_rule, expression_rule, factor_rule, index_rule, member_rule, members_rule, multiplying, named_factor_rule, next_expression_rule, next_factor_rule, next_member_rule, next_term_rule, paren_rule, selector_rule, selector_starts, selectors_rule, simple_rule, term_rule};
+ghost use Rattle.pas_tree.specs.Expressions.{access_node, arguments_node, expression_node, factor_node, index_node};
+ghost use Rattle.pas_tree.specs.Expressions.{member_node, members_node, next_expression_node, next_factor_node};
+ghost use Rattle.pas_tree.specs.Expressions.{next_member_node, next_term_node, selector_node, simple_node, term_node};
+ghost use Rattle.pas_tree.specs.Rules.{access_rule, adding, arguments_rule, expression_rule, factor_rule, index_rule};
+ghost use Rattle.pas_tree.specs.Rules.{member_rule, members_rule, multiplying, named_factor_rule, next_expression_rule};
+ghost use Rattle.pas_tree.specs.Rules.{next_factor_rule, next_member_rule, next_term_rule, paren_rule, selector_rule};
+ghost use Rattle.pas_tree.specs.Rules.{selector_starts, selectors_rule, simple_rule, term_rule};
 ghost use Rattle.pas_tree.specs.FirstFollow.{first_of, pascal};
 ghost use Rattle.pas_phrases.specs.Items.{ReadsAs, items_from};
 
@@ -33,7 +38,8 @@ pub fn read_expression(
     at: u32,
     depth: u32,
 ) -> Result<(Expression, u32), ParseFault>
-    ensures gives { ReadsAs tokens.now expression_node result (read pascal depth expression_rule (items_from tokens.now at)) }
+    ensures gives { ReadsAs tokens.now expression_node result
+        (read pascal depth expression_rule (items_from tokens.now at)) }
     ensures forward { IfOk result (λ x. at ≤ x.1) }
 {
     let (left, after) = read_simple(alloc, tokens, at, depth)?;
@@ -77,7 +83,8 @@ fn read_next_terms(
     at: u32,
     depth: u32,
 ) -> Result<(Vec<NextTerm>, u32), ParseFault>
-    ensures gives { ReadsAs tokens.now (λ v. row (map next_term_node v.items)) result (read pascal depth (many adding next_term_rule) (items_from tokens.now at)) }
+    ensures gives { ReadsAs tokens.now (λ v. row (map next_term_node v.items)) result
+        (read pascal depth (many adding next_term_rule) (items_from tokens.now at)) }
     ensures forward { IfOk result (λ x. at ≤ x.1) }
 {
     let mut others = Vec::new(alloc);
@@ -98,7 +105,8 @@ fn read_next_term(
     at: u32,
     depth: u32,
 ) -> Result<(NextTerm, u32), ParseFault>
-    ensures gives { ReadsAs tokens.now next_term_node result (read pascal depth next_term_rule (items_from tokens.now at)) }
+    ensures gives { ReadsAs tokens.now next_term_node result
+        (read pascal depth next_term_rule (items_from tokens.now at)) }
     ensures forward { IfOk result (λ x. at < x.1) }
 {
     let (operator, after) = expect_adding(tokens, at)?;
@@ -130,7 +138,8 @@ fn read_next_factors(
     at: u32,
     depth: u32,
 ) -> Result<(Vec<NextFactor>, u32), ParseFault>
-    ensures gives { ReadsAs tokens.now (λ v. row (map next_factor_node v.items)) result (read pascal depth (many multiplying next_factor_rule) (items_from tokens.now at)) }
+    ensures gives { ReadsAs tokens.now (λ v. row (map next_factor_node v.items)) result
+        (read pascal depth (many multiplying next_factor_rule) (items_from tokens.now at)) }
     ensures forward { IfOk result (λ x. at ≤ x.1) }
 {
     let mut others = Vec::new(alloc);
@@ -151,7 +160,8 @@ fn read_next_factor(
     at: u32,
     depth: u32,
 ) -> Result<(NextFactor, u32), ParseFault>
-    ensures gives { ReadsAs tokens.now next_factor_node result (read pascal depth next_factor_rule (items_from tokens.now at)) }
+    ensures gives { ReadsAs tokens.now next_factor_node result
+        (read pascal depth next_factor_rule (items_from tokens.now at)) }
     ensures forward { IfOk result (λ x. at < x.1) }
 {
     let (operator, after) = expect_multiplying(tokens, at)?;
@@ -203,7 +213,8 @@ fn read_named_factor(
     at: u32,
     depth: u32,
 ) -> Result<(Factor, u32), ParseFault>
-    ensures gives { ReadsAs tokens.now factor_node result (read pascal depth named_factor_rule (items_from tokens.now at)) }
+    ensures gives { ReadsAs tokens.now factor_node result
+        (read pascal depth named_factor_rule (items_from tokens.now at)) }
     ensures forward { IfOk result (λ x. at < x.1) }
 {
     let (name, after) = tokens.expect(at, Terminal::Name)?;
@@ -250,7 +261,8 @@ fn read_next_expressions(
     at: u32,
     depth: u32,
 ) -> Result<(Vec<NextExpression>, u32), ParseFault>
-    ensures gives { ReadsAs tokens.now (λ v. row (map next_expression_node v.items)) result (read pascal depth (many (k.Comma ∷ []) next_expression_rule) (items_from tokens.now at)) }
+    ensures gives { ReadsAs tokens.now (λ v. row (map next_expression_node v.items)) result
+        (read pascal depth (many (k.Comma ∷ []) next_expression_rule) (items_from tokens.now at)) }
     ensures forward { IfOk result (λ x. at ≤ x.1) }
 {
     let mut others = Vec::new(alloc);
@@ -271,7 +283,8 @@ fn read_next_expression(
     at: u32,
     depth: u32,
 ) -> Result<(NextExpression, u32), ParseFault>
-    ensures gives { ReadsAs tokens.now next_expression_node result (read pascal depth next_expression_rule (items_from tokens.now at)) }
+    ensures gives { ReadsAs tokens.now next_expression_node result
+        (read pascal depth next_expression_rule (items_from tokens.now at)) }
     ensures forward { IfOk result (λ x. at < x.1) }
 {
     let (comma, after) = tokens.expect(at, Terminal::Comma)?;
@@ -288,7 +301,8 @@ pub fn read_selectors(
     at: u32,
     depth: u32,
 ) -> Result<(Vec<Selector>, u32), ParseFault>
-    ensures gives { ReadsAs tokens.now (λ v. row (map selector_node v.items)) result (read pascal depth selectors_rule (items_from tokens.now at)) }
+    ensures gives { ReadsAs tokens.now (λ v. row (map selector_node v.items)) result
+        (read pascal depth selectors_rule (items_from tokens.now at)) }
     ensures forward { IfOk result (λ x. at ≤ x.1) }
 {
     let mut others = Vec::new(alloc);
@@ -309,7 +323,8 @@ fn read_selector(
     at: u32,
     depth: u32,
 ) -> Result<(Selector, u32), ParseFault>
-    ensures gives { ReadsAs tokens.now selector_node result (read pascal depth selector_rule (items_from tokens.now at)) }
+    ensures gives { ReadsAs tokens.now selector_node result
+        (read pascal depth selector_rule (items_from tokens.now at)) }
     ensures forward { IfOk result (λ x. at < x.1) }
 {
     if tokens.is_next(at, Terminal::LeftBracket) {
@@ -370,7 +385,8 @@ fn read_next_members(
     at: u32,
     depth: u32,
 ) -> Result<(Vec<NextMember>, u32), ParseFault>
-    ensures gives { ReadsAs tokens.now (λ v. row (map next_member_node v.items)) result (read pascal depth (many (k.Comma ∷ []) next_member_rule) (items_from tokens.now at)) }
+    ensures gives { ReadsAs tokens.now (λ v. row (map next_member_node v.items)) result
+        (read pascal depth (many (k.Comma ∷ []) next_member_rule) (items_from tokens.now at)) }
     ensures forward { IfOk result (λ x. at ≤ x.1) }
 {
     let mut others = Vec::new(alloc);
@@ -391,7 +407,8 @@ fn read_next_member(
     at: u32,
     depth: u32,
 ) -> Result<(NextMember, u32), ParseFault>
-    ensures gives { ReadsAs tokens.now next_member_node result (read pascal depth next_member_rule (items_from tokens.now at)) }
+    ensures gives { ReadsAs tokens.now next_member_node result
+        (read pascal depth next_member_rule (items_from tokens.now at)) }
     ensures forward { IfOk result (λ x. at < x.1) }
 {
     let (comma, after) = tokens.expect(at, Terminal::Comma)?;

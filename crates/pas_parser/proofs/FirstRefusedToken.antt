@@ -43,11 +43,15 @@ inside_tokens : (tokens : List Token) (i : ℕ) → i < length (terminals_of tok
 inside_tokens tokens i h = omega (arith, length-terminals tokens)
 
 -- a token that is refused
-pub exactly_there : (tokens : List Token) (e : ParseFault) → EndsOnce tokens → Fails (terminals_of tokens) e (program_read (terminals_of tokens)) → IsExact tokens (Err e)
+pub exactly_there : (tokens : List Token) (e : ParseFault) → EndsOnce tokens → Fails (terminals_of tokens) e (program_read (terminals_of tokens))
+    → IsExact tokens (Err e)
 exactly_there tokens (faults.NotProgram i) ended given =
     let ks = terminals_of tokens in
-    let h = (refused_there tokens (faults.NotProgram i) ended given).0 in
-    (inside_tokens tokens i h, stop_is_first 200 (items_from ks 0) i (inside_all ks i h) (inl (given ∙ ap (λ (l : List Item). Err (Unfit l)) (items_drop ks i))))
+    let h = (refused_there tokens (faults.NotProgram i) ended given).0 in (
+      inside_tokens tokens i h,
+      stop_is_first 200 (items_from ks 0) i (inside_all ks i h)
+          (inl (given ∙ ap (λ (l : List Item). Err (Unfit l)) (items_drop ks i))),
+    )
 exactly_there tokens (faults.TooDeep i) ended given =
     let ks = terminals_of tokens in
     let h = (refused_there tokens (faults.TooDeep i) ended given).0 in
@@ -55,10 +59,14 @@ exactly_there tokens (faults.TooDeep i) ended given =
 exactly_there tokens faults.Memory ended given = tt
 
 -- one that stands after a whole program
-pub exactly_after : (tokens : List Token) (y : Node) (after : ℕ) → IsRead (terminals_of tokens) y after → after < length (terminals_of tokens) → IsExact tokens (Err (faults.NotProgram after))
+pub exactly_after : (tokens : List Token) (y : Node) (after : ℕ) → IsRead (terminals_of tokens) y after → after < length (terminals_of tokens)
+    → IsExact tokens (Err (faults.NotProgram after))
 exactly_after tokens y after given h =
-    let ks = terminals_of tokens in
-    (inside_tokens tokens after h, stop_is_first 200 (items_from ks 0) after (inside_all ks after h) (inr (y, given ∙ ap (λ (l : List Item). Ok (y, l)) (items_drop ks after))))
+    let ks = terminals_of tokens in (
+      inside_tokens tokens after h,
+      stop_is_first 200 (items_from ks 0) after (inside_all ks after h)
+          (inr (y, given ∙ ap (λ (l : List Item). Ok (y, l)) (items_drop ks after))),
+    )
 
 -- none
 pub exactly_none : (ks : List Terminal) (y : Node) (after : ℕ) → IsRead ks y after → length ks ≤ after → HasNeither 200 (items_from ks 0)

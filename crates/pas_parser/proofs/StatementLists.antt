@@ -11,4 +11,11 @@ pub next_statement_repeats : (closer : Closer) → Repeats (next_statement_rule 
 next_statement_repeats closer = parts.next_statement closer
 
 abbrev pub branches : Series
-branches = record { separator = k.Semicolon; starts = constant_starts; part = branch_rule; end = nothing; part_closed = parts.branch.is_closed; end_closed = refl }
+branches = record {
+  separator = k.Semicolon;
+  starts = constant_starts;
+  part = branch_rule;
+  end = nothing;
+  part_closed = parts.branch.is_closed;
+  end_closed = refl;
+}

@@ -1,5 +1,6 @@
 -- What reading says of whole programs.
-use Rattle.std.proofs.Common.{◌≡◌, ℕ, zero, suc, ◌+◌, ◌<◌, ◌≤◌, true, List, [], ◌∷◌, ◌++◌, length, take, drop, get_or, Ok, Err, refl, sym, ap, subst, ◌∙◌, append_assoc, arith, inl, inr, length-append, length-drop}
+use Rattle.std.proofs.Common.{◌≡◌, ℕ, zero, suc, ◌+◌, ◌<◌, ◌≤◌, true, List, [], ◌∷◌, ◌++◌, length, take, drop, get_or, Ok, Err, refl, sym, ap, subst, ◌∙◌}
+use Rattle.std.proofs.Common.{append_assoc, arith, inl, inr, length-append, length-drop}
 use Rattle.std.proofs.lemmas.List.{take_at, map_push}
 use Rattle.grammar.specs.declared.terminals.Terminal.{Terminal}
 use Rattle.grammar.specs.Nodes.{Item, Node, spell, next}
@@ -41,18 +42,37 @@ unfolding items_from
 length-items ks n h = omega (arith, length-numbered n (drop n ks), length-drop n ks)
 
 -- a list cut at a place
-begins_at : (ks : List Terminal) (front : List Item) (i : ℕ) (d : Terminal) → i < length ks → items_from ks 0 ≡ front ++ items_from ks i → take (i + 1) (items_from ks 0) ≡ front ++ record { kind = get_or ks i d; number = i } ∷ []
+begins_at : (ks : List Terminal) (front : List Item) (i : ℕ) (d : Terminal) → i < length ks → items_from ks 0 ≡ front ++ items_from ks i
+    → take (i + 1) (items_from ks 0) ≡ front ++ record { kind = get_or ks i d; number = i } ∷ []
 begins_at ks front i d h e =
     let here : Item = record { kind = get_or ks i d; number = i } in
     let left : items_from ks i ≡ here ∷ items_from ks (i + 1) = items_cons ks i d h in
-    let all : items_from ks 0 ≡ (front ++ here ∷ []) ++ items_from ks (i + 1) = e ∙ ap (λ (l : List Item). front ++ l) left ∙ sym (append_assoc front (here ∷ []) (items_from ks (i + 1))) in
+    let all : items_from ks 0 ≡ (front ++ here ∷ []) ++ items_from ks (i + 1) =
+    e ∙ ap (λ (l : List Item). front ++ l) left ∙ sym (append_assoc front (here ∷ []) (items_from ks (i + 1))) in
     let len : length (front ++ here ∷ []) ≡ i + 1 =
-    omega (arith, length-append front (here ∷ []), length-append front (items_from ks i), ap length e, length-items ks i (omega arith), length-items ks 0 (omega arith)) in
+    omega (
+      arith,
+      length-append front (here ∷ []),
+      length-append front (items_from ks i),
+      ap length e,
+      length-items ks i (omega arith),
+      length-items ks 0
+          (omega arith),
+    ) in
     ap (take (i + 1)) all ∙ take_at (front ++ here ∷ []) (items_from ks (i + 1)) (i + 1) len
 
 -- the token after the last one stands there alone
 pascal_ends : IsLast k.End pascal program_rule ≡ true
-unfolding r.next_factor_rule r.term_rule r.next_term_rule r.sign_rule r.simple_rule r.relation_rule r.expression_rule r.next_expression_rule r.index_rule r.selector_rule r.selectors_rule r.access_rule r.arguments_rule r.member_rule r.next_member_rule r.members_rule r.named_factor_rule r.paren_rule r.factor_rule r.next_name_rule r.names_rule r.constant_rule r.next_constant_rule r.constants_rule r.range_rule r.limit_rule r.enumeration_rule r.next_denoter_rule r.array_rule r.section_rule r.variants_rule r.fixed_rule r.fields_rule r.arm_rule r.tag_rule r.variant_part_rule r.record_rule r.set_rule r.structure_rule r.structured_rule r.named_denoter_rule r.subrange_rule r.denoter_rule r.variables_formal_rule r.formal_rule r.next_formal_rule r.formals_rule r.procedure_rule r.result_rule r.function_rule r.heading_rule r.next_statement_rule r.statements_rule r.compound_rule r.actual_rule r.next_actual_rule r.actuals_rule r.assignment_rule r.named_statement_rule r.alternative_rule r.else_rule r.if_rule r.branch_rule r.case_rule r.repeat_rule r.while_rule r.for_rule r.next_access_rule r.with_rule r.goto_rule r.counted_rule r.plain_rule r.label_rule r.statement_rule r.next_label_rule r.label_part_rule r.constant_definition_rule r.constant_part_rule r.type_definition_rule r.type_part_rule r.variable_declaration_rule r.variable_part_rule r.body_rule r.routine_rule r.routines_rule r.block_rule r.parameters_rule r.program_rule
+unfolding r.next_factor_rule r.term_rule r.next_term_rule r.sign_rule r.simple_rule r.relation_rule r.expression_rule r.next_expression_rule r.index_rule
+    r.selector_rule r.selectors_rule r.access_rule r.arguments_rule r.member_rule r.next_member_rule r.members_rule r.named_factor_rule r.paren_rule
+    r.factor_rule r.next_name_rule r.names_rule r.constant_rule r.next_constant_rule r.constants_rule r.range_rule r.limit_rule r.enumeration_rule
+    r.next_denoter_rule r.array_rule r.section_rule r.variants_rule r.fixed_rule r.fields_rule r.arm_rule r.tag_rule r.variant_part_rule r.record_rule
+    r.set_rule r.structure_rule r.structured_rule r.named_denoter_rule r.subrange_rule r.denoter_rule r.variables_formal_rule r.formal_rule r.next_formal_rule
+    r.formals_rule r.procedure_rule r.result_rule r.function_rule r.heading_rule r.next_statement_rule r.statements_rule r.compound_rule r.actual_rule
+    r.next_actual_rule r.actuals_rule r.assignment_rule r.named_statement_rule r.alternative_rule r.else_rule r.if_rule r.branch_rule r.case_rule r.repeat_rule
+    r.while_rule r.for_rule r.next_access_rule r.with_rule r.goto_rule r.counted_rule r.plain_rule r.label_rule r.statement_rule r.next_label_rule
+    r.label_part_rule r.constant_definition_rule r.constant_part_rule r.type_definition_rule r.type_part_rule r.variable_declaration_rule r.variable_part_rule
+    r.body_rule r.routine_rule r.routines_rule r.block_rule r.parameters_rule r.program_rule
 pascal_ends = refl
 
 has_drop : (ks : List Terminal) (i m : ℕ) → Has k.End (numbered m (drop i ks)) → i < length ks
@@ -74,7 +94,8 @@ pub ends_there : (tokens : List Token) → EndsOnce tokens → Has k.End (items_
 unfolding items_from
 ends_there tokens e =
     let f : Token → Terminal = λ t. terminal_of t.kind in
-    let same : terminals_of tokens ≡ terminals_of e.0 ++ k.End ∷ [] = ap terminals_of e.2 ∙ map_push f e.0 e.1 ∙ ap (λ (x : Kind). terminals_of e.0 ++ terminal_of x ∷ []) e.3 in
+    let same : terminals_of tokens ≡ terminals_of e.0 ++ k.End ∷ [] =
+    ap terminals_of e.2 ∙ map_push f e.0 e.1 ∙ ap (λ (x : Kind). terminals_of e.0 ++ terminal_of x ∷ []) e.3 in
     subst (λ (l : List Terminal). Has k.End (numbered 0 l)) (sym same) (has_numbered (terminals_of e.0) 0)
 
 no_formed_goes_on : (ks : List Terminal) (i : ℕ) → i < length ks → NoneGoesOn IsFormed (items_from ks 0) (items_from ks i) → NoFormedGoesOn ks i
@@ -88,12 +109,18 @@ no_formed_goes_on (d ∷ ks') i h r = λ x formed b.
 at_token : (ks : List Terminal) (i : ℕ) (r : Refusal) → left_of r ≡ items_from ks i → Has k.End (items_from ks 0) → program_read ks ≡ Err r → IsRefusedAt ks i
 at_token ks i r left h given =
     let there = subst (Has k.End) left (refused_inside k.End pascal program_rule pascal_ends 200 (items_from ks 0) r h given) in
-    let inside = has_inside ks i there in
-    (inside, no_formed_goes_on ks i inside (subst (NoneGoesOn IsFormed (items_from ks 0)) left (refused_wrong pascal program_rule pascal_decided 200 (items_from ks 0) r given)))
+    let inside = has_inside ks i there in (
+      inside,
+      no_formed_goes_on ks i inside (subst (NoneGoesOn IsFormed (items_from ks 0)) left
+          (refused_wrong pascal program_rule pascal_decided 200 (items_from ks 0) r given)),
+    )
 
-pub refused_there : (tokens : List Token) (e : ParseFault) → EndsOnce tokens → Fails (terminals_of tokens) e (program_read (terminals_of tokens)) → IsRefusal tokens (Err e)
-refused_there tokens (faults.NotProgram i) ended given = at_token (terminals_of tokens) i (Unfit (items_from (terminals_of tokens) i)) refl (ends_there tokens ended) given
-refused_there tokens (faults.TooDeep i) ended given = at_token (terminals_of tokens) i (Deep (items_from (terminals_of tokens) i)) refl (ends_there tokens ended) given
+pub refused_there : (tokens : List Token) (e : ParseFault) → EndsOnce tokens → Fails (terminals_of tokens) e (program_read (terminals_of tokens))
+    → IsRefusal tokens (Err e)
+refused_there tokens (faults.NotProgram i) ended given = at_token (terminals_of tokens) i (Unfit (items_from (terminals_of tokens) i)) refl
+    (ends_there tokens ended) given
+refused_there tokens (faults.TooDeep i) ended given = at_token (terminals_of tokens) i (Deep (items_from (terminals_of tokens) i)) refl
+    (ends_there tokens ended) given
 refused_there tokens faults.Memory ended given = tt
 
 again : (ks : List Terminal) (x : Node) → IsFormed x → spell x ≡ items_from ks 0 → program_read ks ≡ Ok (x, [])
@@ -116,13 +143,15 @@ too_long (d ∷ ks') y after given h =
     let ks = d ∷ ks' in
     let here : Item = record { kind = get_or ks after d; number = after } in
     let left : items_from ks after ≡ here ∷ items_from ks (after + 1) = items_cons ks after d h in
-    let none = surplus_wrong pascal program_rule pascal_decided 200 (items_from ks 0) y here (items_from ks (after + 1)) (given ∙ ap (λ (l : List Item). Ok (y, l)) left) in
+    let none = surplus_wrong pascal program_rule pascal_decided 200 (items_from ks 0) y here (items_from ks (after + 1))
+    (given ∙ ap (λ (l : List Item). Ok (y, l)) left) in
     no_formed_goes_on ks after h (subst (NoneGoesOn IsFormed (items_from ks 0)) (sym left) none)
 
 pub not_that_either : (ks : List Terminal) (y x : Node) (after : ℕ) → IsRead ks y after → after < length ks → IsFormed x → spell x ≡ items_from ks 0 → ⊥
 not_that_either [] y x after given h formed same = absurd (omega arith)
 not_that_either (d ∷ ks') y x after given h formed same =
-    let rests : items_from (d ∷ ks') after ≡ [] = ap (λ (z : Node × List Item). z.1) (ok_is (y, items_from (d ∷ ks') after) (x, []) (sym given ∙ again (d ∷ ks') x formed same)) in
+    let rests : items_from (d ∷ ks') after ≡ [] = ap (λ (z : Node × List Item). z.1)
+    (ok_is (y, items_from (d ∷ ks') after) (x, []) (sym given ∙ again (d ∷ ks') x formed same)) in
     let more = items_cons (d ∷ ks') after d h in
     cc
 

@@ -7,7 +7,8 @@ use Rattle.pas_phrases.specs.declared.fault.ParseFault.TheVariants.{NotProgram, 
 use Rattle.pas_tree.specs.FirstRefused.{IsFirstTooDeep, IsFirstHopeless, HasNeither}
 use Rattle.pas_parser.specs.Formed.{items_of}
 
--- `TooDeep(i)`: token i is the first that is too deep, at a nesting of 201. `NotProgram(i)`: none is too deep, and token i is
+-- `TooDeep(i)`: token i is the first that is too deep, at a nesting of 201. `NotProgram(i)`: none is too deep, and
+-- token i is
 -- the first with which no shaped tree goes on. A tree: none is too deep, and with each a shaped tree goes on.
 abbrev pub IsExact : List Token → Result Tree ParseFault → Type 0
 IsExact tokens (Ok t) = HasNeither 200 (items_of tokens)

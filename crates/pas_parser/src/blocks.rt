@@ -7,8 +7,14 @@ ghost use Rattle.grammar.specs.Nodes.{Pair, leaf, next, row};
 ghost use Rattle.grammar.specs.Grammars.{block, level, many, seq, word};
 ghost use Rattle.grammar.specs.Reading.{levels, read};
 ghost use Rattle.grammar.specs.Deciding.{expects};
-ghost use Rattle.pas_tree.specs.Blocks.{block_node, body_node, constant_definition_node, constant_part_node, label_part_node, next_label_node, parameters_node, routine_node, tree_node, type_definition_node, type_part_node, variable_declaration_node, variable_part_node};
-ghost use Rattle.pas_tree.specs.Rules.{block_rule, body_rule, constant_definition_rule, constant_part_rule, heading_starts, label_part_rule, next_label_rule, parameters_rule, program_rule, routine_rule, type_definition_rule, type_part_rule, variable_declaration_rule, variable_part_rule};
+ghost use Rattle.pas_tree.specs.Blocks.{block_node, body_node, constant_definition_node, constant_part_node};
+ghost use Rattle.pas_tree.specs.Blocks.{label_part_node, next_label_node, parameters_node, routine_node, tree_node};
+ghost use Rattle.pas_tree.specs.Blocks.{type_definition_node, type_part_node, variable_declaration_node};
+ghost use Rattle.pas_tree.specs.Blocks.{variable_part_node};
+ghost use Rattle.pas_tree.specs.Rules.{block_rule, body_rule, constant_definition_rule, constant_part_rule};
+ghost use Rattle.pas_tree.specs.Rules.{heading_starts, label_part_rule, next_label_rule, parameters_rule, program_rule};
+ghost use Rattle.pas_tree.specs.Rules.{routine_rule, type_definition_rule, type_part_rule, variable_declaration_rule};
+ghost use Rattle.pas_tree.specs.Rules.{variable_part_rule};
 ghost use Rattle.pas_tree.specs.FirstFollow.{first_of, pascal};
 ghost use Rattle.pas_tree.proofs.Parts.{parts};
 ghost use Rattle.pas_phrases.specs.Items.{ReadsAs, items_from};
@@ -62,7 +68,8 @@ fn read_rest(
     at: u32,
     depth: u32,
 ) -> Result<((Block, u32, u32), u32), ParseFault>
-    ensures gives { ReadsAs tokens.now (λ p. Pair (block_node p.0) (Pair (leaf k.Dot p.1) (leaf k.End p.2))) result (read pascal depth (seq (level block) (seq (word k.Dot) (word k.End))) (items_from tokens.now at)) }
+    ensures gives { ReadsAs tokens.now (λ p. Pair (block_node p.0) (Pair (leaf k.Dot p.1) (leaf k.End p.2))) result
+        (read pascal depth (seq (level block) (seq (word k.Dot) (word k.End))) (items_from tokens.now at)) }
     ensures forward { IfOk result (λ x. at < x.1) }
 {
     let (block, after) = read_block(alloc, tokens, at, depth)?;
@@ -73,7 +80,8 @@ fn read_rest(
 /// Reads the dot of a program, and takes the token after the last one.
 #[tactic(auto, unfolding(grammar::specs::Reading::read))]
 fn read_end(tokens: &TerminalList, at: u32, _depth: u32) -> Result<((u32, u32), u32), ParseFault>
-    ensures gives { ReadsAs tokens.now (λ p. Pair (leaf k.Dot p.0) (leaf k.End p.1)) result (read pascal _depth (seq (word k.Dot) (word k.End)) (items_from tokens.now at)) }
+    ensures gives { ReadsAs tokens.now (λ p. Pair (leaf k.Dot p.0) (leaf k.End p.1)) result
+        (read pascal _depth (seq (word k.Dot) (word k.End)) (items_from tokens.now at)) }
     ensures forward { IfOk result (λ x. at < x.1) }
 {
     let (dot, after) = tokens.expect(at, Terminal::Dot)?;
@@ -88,7 +96,8 @@ fn read_parameters(
     at: u32,
     depth: u32,
 ) -> Result<(Option<Parameters>, u32), ParseFault>
-    ensures gives { ReadsAs tokens.now parameters_node result (read pascal depth parameters_rule (items_from tokens.now at)) }
+    ensures gives { ReadsAs tokens.now parameters_node result
+        (read pascal depth parameters_rule (items_from tokens.now at)) }
     ensures forward { IfOk result (λ x. at ≤ x.1) }
 {
     if !tokens.is_next(at, Terminal::LeftParen) {
@@ -156,7 +165,8 @@ fn read_routines(
     at: u32,
     depth: u32,
 ) -> Result<(Vec<Routine>, u32), ParseFault>
-    ensures gives { ReadsAs tokens.now (λ v. row (map routine_node v.items)) result (read pascal depth (many heading_starts routine_rule) (items_from tokens.now at)) }
+    ensures gives { ReadsAs tokens.now (λ v. row (map routine_node v.items)) result
+        (read pascal depth (many heading_starts routine_rule) (items_from tokens.now at)) }
     ensures forward { IfOk result (λ x. at ≤ x.1) }
 {
     let mut others = Vec::new(alloc);
@@ -219,7 +229,8 @@ fn read_label_part(
     at: u32,
     depth: u32,
 ) -> Result<(Option<LabelPart>, u32), ParseFault>
-    ensures gives { ReadsAs tokens.now label_part_node result (read pascal depth label_part_rule (items_from tokens.now at)) }
+    ensures gives { ReadsAs tokens.now label_part_node result
+        (read pascal depth label_part_rule (items_from tokens.now at)) }
     ensures forward { IfOk result (λ x. at ≤ x.1) }
 {
     if !tokens.is_next(at, Terminal::WLabel) {
@@ -276,7 +287,8 @@ fn read_constant_part(
     at: u32,
     depth: u32,
 ) -> Result<(Option<ConstantPart>, u32), ParseFault>
-    ensures gives { ReadsAs tokens.now constant_part_node result (read pascal depth constant_part_rule (items_from tokens.now at)) }
+    ensures gives { ReadsAs tokens.now constant_part_node result
+        (read pascal depth constant_part_rule (items_from tokens.now at)) }
     ensures forward { IfOk result (λ x. at ≤ x.1) }
 {
     if !tokens.is_next(at, Terminal::WConst) {
@@ -339,7 +351,8 @@ fn read_type_part(
     at: u32,
     depth: u32,
 ) -> Result<(Option<TypePart>, u32), ParseFault>
-    ensures gives { ReadsAs tokens.now type_part_node result (read pascal depth type_part_rule (items_from tokens.now at)) }
+    ensures gives { ReadsAs tokens.now type_part_node result
+        (read pascal depth type_part_rule (items_from tokens.now at)) }
     ensures forward { IfOk result (λ x. at ≤ x.1) }
 {
     if !tokens.is_next(at, Terminal::WType) {
@@ -402,7 +415,8 @@ fn read_variable_part(
     at: u32,
     depth: u32,
 ) -> Result<(Option<VariablePart>, u32), ParseFault>
-    ensures gives { ReadsAs tokens.now variable_part_node result (read pascal depth variable_part_rule (items_from tokens.now at)) }
+    ensures gives { ReadsAs tokens.now variable_part_node result
+        (read pascal depth variable_part_rule (items_from tokens.now at)) }
     ensures forward { IfOk result (λ x. at ≤ x.1) }
 {
     if !tokens.is_next(at, Terminal::WVar) {

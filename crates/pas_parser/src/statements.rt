@@ -8,8 +8,15 @@ ghost use Rattle.grammar.specs.Grammars.{by_end, by_until, many, nothing, seq, s
 ghost use Rattle.grammar.specs.Reading.{levels, read};
 ghost use Rattle.grammar.specs.Deciding.{expects};
 ghost use Rattle.pas_tree.specs.Denoters.{last_semicolon_node};
-ghost use Rattle.pas_tree.specs.Statements.{actual_node, actuals_node, alternative_node, branch_node, branch_step, case_node, compound_node, for_node, if_node, label_node, next_access_node, next_actual_node, next_statement_node, plain_node, repeat_node, statement_node, statements_node, while_node, with_node};
-ghost use Rattle.pas_tree.specs.Rules.{actual_rule, actuals_rule, alternative_rule, assignment_starts, branch_rule, case_rule, compound_rule, constant_starts, counted_rule, for_rule, if_rule, label_rule, named_statement_rule, next_access_rule, next_actual_rule, next_statement_rule, plain_rule, repeat_rule, statement_rule, statements_rule, while_rule, with_rule};
+ghost use Rattle.pas_tree.specs.Statements.{actual_node, actuals_node, alternative_node, branch_node, branch_step};
+ghost use Rattle.pas_tree.specs.Statements.{case_node, compound_node, for_node, if_node, label_node, next_access_node};
+ghost use Rattle.pas_tree.specs.Statements.{next_actual_node, next_statement_node, plain_node, repeat_node};
+ghost use Rattle.pas_tree.specs.Statements.{statement_node, statements_node, while_node, with_node};
+ghost use Rattle.pas_tree.specs.Rules.{actual_rule, actuals_rule, alternative_rule, assignment_starts, branch_rule};
+ghost use Rattle.pas_tree.specs.Rules.{case_rule, compound_rule, constant_starts, counted_rule, for_rule, if_rule};
+ghost use Rattle.pas_tree.specs.Rules.{label_rule, named_statement_rule, next_access_rule, next_actual_rule};
+ghost use Rattle.pas_tree.specs.Rules.{next_statement_rule, plain_rule, repeat_rule, statement_rule, statements_rule};
+ghost use Rattle.pas_tree.specs.Rules.{while_rule, with_rule};
 ghost use Rattle.pas_tree.specs.FirstFollow.{first_of, follow_of, pascal};
 ghost use Rattle.pas_tree.proofs.Parts.{parts};
 ghost use Rattle.pas_phrases.specs.Items.{ReadsAs, items_from};
@@ -47,7 +54,8 @@ pub fn read_compound(
     at: u32,
     depth: u32,
 ) -> Result<(Compound, u32), ParseFault>
-    ensures gives { ReadsAs tokens.now compound_node result (read pascal depth compound_rule (items_from tokens.now at)) }
+    ensures gives { ReadsAs tokens.now compound_node result
+        (read pascal depth compound_rule (items_from tokens.now at)) }
     ensures forward { IfOk result (λ x. at < x.1) }
 {
     let (begin, after) = tokens.expect(at, Terminal::WBegin)?;
@@ -70,7 +78,8 @@ fn read_statements(
     depth: u32,
     closer: ClosingWord,
 ) -> Result<(Statements, u32), ParseFault>
-    ensures gives { ReadsAs tokens.now statements_node result (read pascal depth (statements_rule (closer_of closer)) (items_from tokens.now at)) }
+    ensures gives { ReadsAs tokens.now statements_node result
+        (read pascal depth (statements_rule (closer_of closer)) (items_from tokens.now at)) }
     ensures forward { IfOk result (λ x. at ≤ x.1) }
 {
     let (first, after) = read_statement(alloc, tokens, at, depth, false, closer)?;
@@ -87,7 +96,9 @@ fn read_next_statements(
     depth: u32,
     closer: ClosingWord,
 ) -> Result<(Vec<NextStatement>, u32), ParseFault>
-    ensures gives { ReadsAs tokens.now (λ v. row (map next_statement_node v.items)) result (read pascal depth (many (k.Semicolon ∷ []) (next_statement_rule (closer_of closer))) (items_from tokens.now at)) }
+    ensures gives { ReadsAs tokens.now (λ v. row (map next_statement_node v.items)) result
+        (read pascal depth (many (k.Semicolon ∷ []) (next_statement_rule (closer_of closer)))
+        (items_from tokens.now at)) }
     ensures forward { IfOk result (λ x. at ≤ x.1) }
 {
     let mut others = Vec::new(alloc);
@@ -109,7 +120,8 @@ fn read_next_statement(
     depth: u32,
     closer: ClosingWord,
 ) -> Result<(NextStatement, u32), ParseFault>
-    ensures gives { ReadsAs tokens.now next_statement_node result (read pascal depth (next_statement_rule (closer_of closer)) (items_from tokens.now at)) }
+    ensures gives { ReadsAs tokens.now next_statement_node result
+        (read pascal depth (next_statement_rule (closer_of closer)) (items_from tokens.now at)) }
     ensures forward { IfOk result (λ x. at < x.1) }
 {
     let (semicolon, after) = tokens.expect(at, Terminal::Semicolon)?;
@@ -131,7 +143,8 @@ fn read_statement(
     inner: bool,
     closer: ClosingWord,
 ) -> Result<(Statement, u32), ParseFault>
-    ensures gives { ReadsAs tokens.now statement_node result (levels pascal depth (statement inner (closer_of closer)) (items_from tokens.now at)) }
+    ensures gives { ReadsAs tokens.now statement_node result
+        (levels pascal depth (statement inner (closer_of closer)) (items_from tokens.now at)) }
     ensures forward { IfOk result (λ x. at ≤ x.1) }
 {
     if depth == 0 {
@@ -173,7 +186,8 @@ fn read_plain(
     inner: bool,
     closer: ClosingWord,
 ) -> Result<(Plain, u32), ParseFault>
-    ensures gives { ReadsAs tokens.now plain_node result (read pascal depth (plain_rule inner (closer_of closer)) (items_from tokens.now at)) }
+    ensures gives { ReadsAs tokens.now plain_node result
+        (read pascal depth (plain_rule inner (closer_of closer)) (items_from tokens.now at)) }
     ensures forward { IfOk result (λ x. at ≤ x.1) }
 {
     if tokens.is_next(at, Terminal::Name) {
@@ -213,7 +227,8 @@ fn read_counted(
     inner: bool,
     closer: ClosingWord,
 ) -> Result<(Plain, u32), ParseFault>
-    ensures gives { ReadsAs tokens.now plain_node result (read pascal depth (counted_rule inner (closer_of closer)) (items_from tokens.now at)) }
+    ensures gives { ReadsAs tokens.now plain_node result
+        (read pascal depth (counted_rule inner (closer_of closer)) (items_from tokens.now at)) }
     ensures forward { IfOk result (λ x. at ≤ x.1) }
 {
     if tokens.is_next(at, Terminal::WWhile) {
@@ -238,7 +253,8 @@ fn read_named(
     at: u32,
     depth: u32,
 ) -> Result<(Plain, u32), ParseFault>
-    ensures gives { ReadsAs tokens.now plain_node result (read pascal depth named_statement_rule (items_from tokens.now at)) }
+    ensures gives { ReadsAs tokens.now plain_node result
+        (read pascal depth named_statement_rule (items_from tokens.now at)) }
     ensures forward { IfOk result (λ x. at < x.1) }
 {
     let (name, after) = tokens.expect(at, Terminal::Name)?;
@@ -346,7 +362,8 @@ fn read_if(
     inner: bool,
     closer: ClosingWord,
 ) -> Result<(If, u32), ParseFault>
-    ensures gives { ReadsAs tokens.now if_node result (read pascal depth (if_rule inner (closer_of closer)) (items_from tokens.now at)) }
+    ensures gives { ReadsAs tokens.now if_node result
+        (read pascal depth (if_rule inner (closer_of closer)) (items_from tokens.now at)) }
     ensures forward { IfOk result (λ x. at < x.1) }
 {
     let (word, after) = tokens.expect(at, Terminal::WIf)?;
@@ -386,7 +403,8 @@ fn read_else(
     inner: bool,
     closer: ClosingWord,
 ) -> Result<(Else, u32), ParseFault>
-    ensures gives { ReadsAs tokens.now alternative_node result (read pascal depth (alternative_rule inner (closer_of closer)) (items_from tokens.now at)) }
+    ensures gives { ReadsAs tokens.now alternative_node result
+        (read pascal depth (alternative_rule inner (closer_of closer)) (items_from tokens.now at)) }
     ensures forward { IfOk result (λ x. at < x.1) }
 {
     let (word, after) = tokens.expect(at, Terminal::WElse)?;
@@ -431,7 +449,9 @@ fn read_case_end(
     at: u32,
     depth: u32,
 ) -> Result<((Vec<NextBranch>, Option<u32>, u32), u32), ParseFault>
-    ensures gives { ReadsAs tokens.now (λ p. Pair (chain (map branch_step p.0.items) (last_semicolon_node p.1)) (leaf k.WEnd p.2)) result (read pascal depth (seq (series k.Semicolon constant_starts branch_rule nothing) (word k.WEnd)) (items_from tokens.now at)) }
+    ensures gives { ReadsAs tokens.now (λ p. Pair (chain (map branch_step p.0.items) (last_semicolon_node p.1))
+        (leaf k.WEnd p.2)) result (read pascal depth
+        (seq (series k.Semicolon constant_starts branch_rule nothing) (word k.WEnd)) (items_from tokens.now at)) }
     ensures forward { IfOk result (λ x. at < x.1) }
 {
     let ((others, semicolon), after) = read_branches(alloc, tokens, at, depth)?;
@@ -446,7 +466,8 @@ fn read_branches(
     at: u32,
     depth: u32,
 ) -> Result<((Vec<NextBranch>, Option<u32>), u32), ParseFault>
-    ensures gives { ReadsAs tokens.now (λ p. chain (map branch_step p.0.items) (last_semicolon_node p.1)) result (read pascal depth (series k.Semicolon constant_starts branch_rule nothing) (items_from tokens.now at)) }
+    ensures gives { ReadsAs tokens.now (λ p. chain (map branch_step p.0.items) (last_semicolon_node p.1)) result
+        (read pascal depth (series k.Semicolon constant_starts branch_rule nothing) (items_from tokens.now at)) }
     ensures forward { IfOk result (λ x. at ≤ x.1) }
 {
     let mut others = Vec::new(alloc);
@@ -468,7 +489,8 @@ fn read_next_branch(
     at: u32,
     depth: u32,
 ) -> Result<(NextBranch, u32), ParseFault>
-    ensures gives { ReadsAs tokens.now (λ n. step_node (branch_step n)) result (read pascal depth (seq (word k.Semicolon) branch_rule) (items_from tokens.now at)) }
+    ensures gives { ReadsAs tokens.now (λ n. step_node (branch_step n)) result
+        (read pascal depth (seq (word k.Semicolon) branch_rule) (items_from tokens.now at)) }
     ensures forward { IfOk result (λ x. at < x.1) }
 {
     let (semicolon, after) = tokens.expect(at, Terminal::Semicolon)?;
@@ -532,7 +554,8 @@ fn read_while(
     inner: bool,
     closer: ClosingWord,
 ) -> Result<(While, u32), ParseFault>
-    ensures gives { ReadsAs tokens.now while_node result (read pascal depth (while_rule inner (closer_of closer)) (items_from tokens.now at)) }
+    ensures gives { ReadsAs tokens.now while_node result
+        (read pascal depth (while_rule inner (closer_of closer)) (items_from tokens.now at)) }
     ensures forward { IfOk result (λ x. at < x.1) }
 {
     let (word, after) = tokens.expect(at, Terminal::WWhile)?;
@@ -558,7 +581,8 @@ fn read_for(
     inner: bool,
     closer: ClosingWord,
 ) -> Result<(For, u32), ParseFault>
-    ensures gives { ReadsAs tokens.now for_node result (read pascal depth (for_rule inner (closer_of closer)) (items_from tokens.now at)) }
+    ensures gives { ReadsAs tokens.now for_node result
+        (read pascal depth (for_rule inner (closer_of closer)) (items_from tokens.now at)) }
     ensures forward { IfOk result (λ x. at < x.1) }
 {
     let (word, after) = tokens.expect(at, Terminal::WFor)?;
@@ -592,7 +616,8 @@ fn read_with(
     inner: bool,
     closer: ClosingWord,
 ) -> Result<(With, u32), ParseFault>
-    ensures gives { ReadsAs tokens.now with_node result (read pascal depth (with_rule inner (closer_of closer)) (items_from tokens.now at)) }
+    ensures gives { ReadsAs tokens.now with_node result
+        (read pascal depth (with_rule inner (closer_of closer)) (items_from tokens.now at)) }
     ensures forward { IfOk result (λ x. at < x.1) }
 {
     let (word, after) = tokens.expect(at, Terminal::WWith)?;

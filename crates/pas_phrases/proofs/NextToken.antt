@@ -1,5 +1,6 @@
 -- The next token of a list of terminals.
-use Rattle.std.proofs.Common.{◌≡◌, ℕ, suc, ◌+◌, ◌<◌, ◌≤◌, Bool, true, false, if◌then◌else◌, List, [], ◌∷◌, length, get_or, drop, refl, sym, ap, subst, ◌∙◌, arith}
+use Rattle.std.proofs.Common.{◌≡◌, ℕ, suc, ◌+◌, ◌<◌, ◌≤◌, Bool, true, false, if◌then◌else◌, List, [], ◌∷◌, length, get_or, drop, refl, sym, ap, subst, ◌∙◌}
+use Rattle.std.proofs.Common.{arith}
 use Rattle.std.proofs.Math.Seq.{drop-cons}
 use Rattle.std.proofs.Math.ListN.{drop_of_length-le}
 use Rattle.grammar.specs.declared.terminals.Terminal.{Terminal}
@@ -8,7 +9,8 @@ use Rattle.grammar.specs.Nodes.{Item, next, second}
 use Rattle.grammar.specs.Reading.{token_at}
 use Rattle.pas_phrases.specs.Items.{numbered, items_from}
 
-pub items_cons : (ks : List Terminal) (n : ℕ) (d : Terminal) → n < length ks → items_from ks n ≡ record { kind = get_or ks n d; number = n } ∷ items_from ks (n + 1)
+pub items_cons : (ks : List Terminal) (n : ℕ) (d : Terminal) → n < length ks
+    → items_from ks n ≡ record { kind = get_or ks n d; number = n } ∷ items_from ks (n + 1)
 unfolding items_from
 items_cons ks n d h =
     let e : suc n ≡ n + 1 = omega arith in

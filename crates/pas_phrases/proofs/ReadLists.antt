@@ -18,15 +18,18 @@ use Rattle.pas_phrases.proofs.Failures.{handed_on}
 pub record ListSoFar {X : Type 0} (view : X → Node) (n : ℕ) (ks : List Terminal) (g : Grammar) (xs : List X) (l : List Item) (whole : Read) : Type 0 where
   pub same : with_front (map view xs) (read pascal n (many ks g) l) ≡ whole
 
-pub list_more : {X : Type 0} {view : X → Node} {n : ℕ} {ks : List Terminal} {g : Grammar} {xs : List X} {l rest : List Item} {whole : Read} {ys : List X} (x : X)
-    → Repeats g → ListSoFar view n ks g xs l whole → passes ks (next l) ≡ true → read pascal n g l ≡ Ok (view x, rest) → ys ≡ xs ++ x ∷ [] → ListSoFar view n ks g ys rest whole
+pub list_more : {X : Type 0} {view : X → Node} {n : ℕ} {ks : List Terminal} {g : Grammar} {xs : List X} {l rest : List Item} {whole : Read} {ys : List X}
+    (x : X)
+    → Repeats g → ListSoFar view n ks g xs l whole → passes ks (next l) ≡ true → read pascal n g l ≡ Ok (view x, rest) → ys ≡ xs ++ x ∷ []
+    → ListSoFar view n ks g ys rest whole
 list_more {X} {view} {n} {ks} {g} {xs} {l} {rest} {whole} x r s h e more = record {
   same = ap (λ (front : List Node). with_front front (read pascal n (many ks g) rest)) (ap (map view) more ∙ map_push view xs x)
       ∙ goes_on pascal pascal_sane n ks g r.is_closed r.is_solid (map view xs) l (view x) rest whole h e s.same;
 }
 
 -- a part that fails
-pub list_fails : {X : Type 0} {view : X → Node} {n : ℕ} {ks : List Terminal} {g : Grammar} {xs : List X} {l : List Item} {whole : Read} (kinds : List Terminal) (e : ParseFault)
+pub list_fails : {X : Type 0} {view : X → Node} {n : ℕ} {ks : List Terminal} {g : Grammar} {xs : List X} {l : List Item} {whole : Read} (kinds : List Terminal)
+    (e : ParseFault)
     → Repeats g → ListSoFar view n ks g xs l whole → passes ks (next l) ≡ true → Fails kinds e (read pascal n g l) → Fails kinds e whole
 list_fails {X} {view} {n} {ks} {g} {xs} {l} {whole} kinds (NotProgram i) r s h f =
     stops pascal pascal_sane n ks g r.is_closed r.is_solid (map view xs) l (Unfit _) whole h f s.same

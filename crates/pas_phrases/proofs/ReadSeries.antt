@@ -33,7 +33,8 @@ pub record SeriesSoFar {X : Type 0} (step : X → Step) (n : ℕ) (q : Series) (
   pub same : with_steps (map step xs) (read pascal n (series_of q) l) ≡ whole
 
 pub series_more : {X : Type 0} {step : X → Step} {n : ℕ} {q : Series} {xs : List X} {l rest : List Item} {whole : Read} {ys : List X} (x : X)
-    → SeriesSoFar step n q xs l whole → goes_further q.separator q.starts l ≡ true → read pascal n (seq (word q.separator) q.part) l ≡ Ok (step_node (step x), rest)
+    → SeriesSoFar step n q xs l whole → goes_further q.separator q.starts l ≡ true
+    → read pascal n (seq (word q.separator) q.part) l ≡ Ok (step_node (step x), rest)
     → ys ≡ xs ++ x ∷ [] → SeriesSoFar step n q ys rest whole
 series_more {X} {step} {n} {q} {xs} {l} {rest} {whole} x s h e more = record {
   same = ap (λ (front : List Step). with_steps front (read pascal n (series_of q) rest)) (ap (map step) more ∙ map_push step xs x)
@@ -42,7 +43,8 @@ series_more {X} {step} {n} {q} {xs} {l} {rest} {whole} x s h e more = record {
 
 -- a part, and the end, that fails
 pub series_fails : {X : Type 0} {step : X → Step} {n : ℕ} {q : Series} {xs : List X} {l : List Item} {whole : Read} (kinds : List Terminal) (e : ParseFault)
-    → SeriesSoFar step n q xs l whole → goes_further q.separator q.starts l ≡ true → Fails kinds e (read pascal n (seq (word q.separator) q.part) l) → Fails kinds e whole
+    → SeriesSoFar step n q xs l whole → goes_further q.separator q.starts l ≡ true → Fails kinds e (read pascal n (seq (word q.separator) q.part) l)
+    → Fails kinds e whole
 series_fails {X} {step} {n} {q} {xs} {l} {whole} kinds (NotProgram i) s h f =
     steps_stop pascal pascal_sane n q.separator q.starts q.part q.end q.part_closed q.end_closed (map step xs) l (Unfit _) whole h f s.same
 series_fails {X} {step} {n} {q} {xs} {l} {whole} kinds (TooDeep i) s h f =
@@ -58,6 +60,7 @@ series_end_fails {X} {step} {n} {q} {xs} {l} {whole} kinds (TooDeep i) s h f =
 series_end_fails kinds Memory s h f = tt
 
 pub series_read : {X : Type 0} {step : X → Step} {n : ℕ} {q : Series} {xs : List X} {l rest : List Item} {whole : Read} {end : Node}
-    → SeriesSoFar step n q xs l whole → goes_further q.separator q.starts l ≡ false → read pascal n (end_of q) l ≡ Ok (end, rest) → whole ≡ Ok (chain (map step xs) end, rest)
+    → SeriesSoFar step n q xs l whole → goes_further q.separator q.starts l ≡ false → read pascal n (end_of q) l ≡ Ok (end, rest)
+    → whole ≡ Ok (chain (map step xs) end, rest)
 series_read {X} {step} {n} {q} {xs} {l} {rest} {whole} {end} s h e =
     steps_done pascal pascal_sane n q.separator q.starts q.part q.end q.part_closed q.end_closed (map step xs) l end rest whole h e s.same

@@ -1,5 +1,6 @@
 -- The terminals of a source as items with their numbers, and what a reader made of them.
-use Rattle.std.specs.Prelude.{◌≡◌, ℕ, ◌+◌, ◌<◌, ◌^◌, length, if◌then◌else◌, Bool, true, false, List, [], ◌∷◌, drop, Option, Some, None, Result, Ok, Err}
+use Rattle.std.specs.Prelude.{◌≡◌, ℕ, ◌+◌, ◌<◌, ◌^◌, length, if◌then◌else◌, Bool, true, false, List, [], ◌∷◌, drop}
+use Rattle.std.specs.Prelude.{Option, Some, None, Result, Ok, Err}
 use Rattle.grammar.specs.declared.terminals.Terminal.{Terminal}
 use Rattle.grammar.specs.declared.terminals.Terminal.TheVariants as k
 use Rattle.grammar.specs.Terminals.{one_of, passes}
@@ -51,7 +52,8 @@ IsSeen ks view kind n (Some x) = (one_of ks kind ≡ true) × (view x ≡ leaf k
 -- what is known of a place where there is a terminal, and where there is none
 abbrev pub IsInside : List Terminal → ℕ → Option Terminal → Type 0
 IsInside ks at None = items_from ks at ≡ []
-IsInside ks at (Some k) = (at < length ks) × (at + 1 < 2 ^ 32) × (items_from ks at ≡ record { kind = k; number = at } ∷ items_from ks (at + 1))
+IsInside ks at (Some k) = (at < length ks) × (at + 1 < 2 ^ 32)
+    × (items_from ks at ≡ record { kind = k; number = at } ∷ items_from ks (at + 1))
 
 -- a number or a name, after a sign that was read
 abbrev pub signed_plain : Option Sign → List Item → Read

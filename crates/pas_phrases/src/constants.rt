@@ -5,8 +5,10 @@ ghost use Rattle.grammar.specs.declared.terminals.Terminal.TheVariants as k;
 ghost use Rattle.grammar.specs.Nodes.{row};
 ghost use Rattle.grammar.specs.Grammars.{many};
 ghost use Rattle.grammar.specs.Reading.{read};
-ghost use Rattle.pas_tree.specs.Constants.{constant_node, constants_node, names_node, next_constant_node, next_name_node, signed_node};
-ghost use Rattle.pas_tree.specs.Rules.{constant_rule, constants_rule, limit_rule, names_rule, next_constant_rule, next_name_rule};
+ghost use Rattle.pas_tree.specs.Constants.{constant_node, constants_node, names_node, next_constant_node};
+ghost use Rattle.pas_tree.specs.Constants.{next_name_node, signed_node};
+ghost use Rattle.pas_tree.specs.Rules.{constant_rule, constants_rule, limit_rule, names_rule, next_constant_rule};
+ghost use Rattle.pas_tree.specs.Rules.{next_name_rule};
 ghost use Rattle.pas_tree.specs.FirstFollow.{pascal};
 ghost use Rattle.pas_tree.proofs.Parts.{parts};
 ghost use Rattle.pas_phrases.specs.Items.{ReadsAs, items_from, signed_plain};
@@ -73,7 +75,8 @@ pub fn read_constant(
     at: u32,
     _depth: u32,
 ) -> Result<(Constant, u32), ParseFault>
-    ensures gives { ReadsAs tokens.now constant_node result (read pascal _depth constant_rule (items_from tokens.now at)) }
+    ensures gives { ReadsAs tokens.now constant_node result
+        (read pascal _depth constant_rule (items_from tokens.now at)) }
     ensures forward { IfOk result (λ x. at < x.1) }
 {
     if tokens.is_next(at, Terminal::Text) {
@@ -135,7 +138,8 @@ pub fn read_constants(
     at: u32,
     depth: u32,
 ) -> Result<(Constants, u32), ParseFault>
-    ensures gives { ReadsAs tokens.now constants_node result (read pascal depth constants_rule (items_from tokens.now at)) }
+    ensures gives { ReadsAs tokens.now constants_node result
+        (read pascal depth constants_rule (items_from tokens.now at)) }
     ensures forward { IfOk result (λ x. at < x.1) }
 {
     let (first, after) = read_constant(tokens, at, depth)?;

@@ -53,7 +53,8 @@ pub fn read_list<P: Part>(
     at: u32,
     depth: u32,
 ) -> Result<(Vec<P::Tree>, u32), ParseFault>
-    ensures gives { ReadsAs tokens.now (λ v. row (map P.node v.items)) result (read pascal depth (many P.starts P.rule) (items_from tokens.now at)) }
+    ensures gives { ReadsAs tokens.now (λ v. row (map P.node v.items)) result
+        (read pascal depth (many P.starts P.rule) (items_from tokens.now at)) }
     ensures forward { IfOk result (λ x. at ≤ x.1) }
 {
     let mut parts = Vec::new(alloc);

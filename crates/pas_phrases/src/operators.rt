@@ -5,8 +5,10 @@ ghost use Rattle.grammar.specs.Terminals.{passes};
 ghost use Rattle.grammar.specs.Nodes.{next};
 ghost use Rattle.grammar.specs.Reading.{token_at};
 ghost use Rattle.pas_tree.specs.Expressions.{factor_node};
-ghost use Rattle.pas_tree.specs.Operators.{adding_node, multiplying_node, relational_node, sign_leaf, sign_node, direction_node};
-ghost use Rattle.pas_tree.specs.Rules.{adding, multiplying, relations, signs, directions, literals, selector_starts, constant_starts};
+ghost use Rattle.pas_tree.specs.Operators.{adding_node, multiplying_node, relational_node, sign_leaf, sign_node};
+ghost use Rattle.pas_tree.specs.Operators.{direction_node};
+ghost use Rattle.pas_tree.specs.Rules.{adding, multiplying, relations, signs, directions, literals, selector_starts};
+ghost use Rattle.pas_tree.specs.Rules.{constant_starts};
 ghost use Rattle.pas_phrases.specs.Items.{items_from, ReadsAs, IsSeen, optional_token};
 
 use crate::fault::ParseFault;

@@ -19,7 +19,8 @@ pub fn read_last_semicolon(
     at: u32,
     _depth: u32,
 ) -> Result<(Option<u32>, u32), ParseFault>
-    ensures gives { ReadsAs tokens.now last_semicolon_node result (read pascal _depth last_semicolon (items_from tokens.now at)) }
+    ensures gives { ReadsAs tokens.now last_semicolon_node result
+        (read pascal _depth last_semicolon (items_from tokens.now at)) }
     ensures forward { IfOk result (λ x. at ≤ x.1) }
 {
     if !tokens.is_next(at, Terminal::Semicolon) {

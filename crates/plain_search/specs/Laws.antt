@@ -41,7 +41,8 @@ LeftIsTheWorse =
     → left_of last (suspects_after last entries) call ≡ max (left_after last entries call judgement.Wrong)
     (left_after last entries call judgement.Right)
 
--- a suspect, with the number of all suspects and what it leaves, that no other is better than; of those that are as good
+-- a suspect, with the number of all suspects and what it leaves, that no other is better than; of those that are as
+-- good
 -- it is the first
 pub record IsBest (last : List ℕ) (entries : List Entry) (call suspects left : ℕ) : Type 0 where
   pub a_suspect : Contains (suspects_after last entries) call

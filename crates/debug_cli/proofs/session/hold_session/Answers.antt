@@ -12,10 +12,12 @@ pub returns-in_default-clause-goes : goal.returns-in_default-clause-goes
 returns-in_default-clause-goes g c = ended_at_once (execution c.args.debuggee.now) (g.I.Source.left c.args.console.now) (g.O.Sink.given c.args.screen.now)
 
 pub returns-in_default-begin_entries-clause-goes : goal.returns-in_default-begin_entries-clause-goes
-returns-in_default-begin_entries-clause-goes g c = ended_at_once (execution c.args.debuggee.now) (g.I.Source.left c.args.console.now) (g.O.Sink.given c.args.screen.now)
+returns-in_default-begin_entries-clause-goes g c = ended_at_once (execution c.args.debuggee.now) (g.I.Source.left c.args.console.now)
+    (g.O.Sink.given c.args.screen.now)
 
 pub returns-in_default-opening_text-clause-goes : goal.returns-in_default-opening_text-clause-goes
-returns-in_default-opening_text-clause-goes g c = ended_at_once (execution c.args.debuggee.now) (g.I.Source.left c.args.console.now) (g.O.Sink.given c.args.screen.now)
+returns-in_default-opening_text-clause-goes g c = ended_at_once (execution c.args.debuggee.now) (g.I.Source.left c.args.console.now)
+    (g.O.Sink.given c.args.screen.now)
 
 pub returns-clause-goes : goal.returns-clause-goes
 returns-clause-goes g c =

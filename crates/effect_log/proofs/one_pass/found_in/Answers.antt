@@ -13,7 +13,8 @@ loop-i-init c =
 
 pub take_in-requires-clause-countable : goal.take_in-requires-clause-countable
 take_in-requires-clause-countable c =
-    slice_has c.args.log.now c.args.from c.loop-i.i c.at.result c.loop-i.auto.i c.at.ensures.found IsCountable c.args.to c.loop-i-test.true c.requires.in_log c.requires.countable
+    slice_has c.args.log.now c.args.from c.loop-i.i c.at.result c.loop-i.auto.i c.at.ensures.found IsCountable c.args.to c.loop-i-test.true c.requires.in_log
+    c.requires.countable
 
 pub take_in-requires-clause-made_fits : goal.take_in-requires-clause-made_fits
 take_in-requires-clause-made_fits c =

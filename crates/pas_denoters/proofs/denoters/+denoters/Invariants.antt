@@ -13,7 +13,8 @@ use Rattle.pas_denoters.proofs.denoters.+denoters.Given as goal
 
 abbrev pub invariant-read_next_denoters-denoters : goal.invariant-read_next_denoters-denoters
 invariant-read_next_denoters-denoters l = record {
-  so_far : ListSoFar next_denoter_node l.depth (k.Comma ∷ []) next_denoter_rule l.others.items (items_from l.tokens l.next) (read pascal l.depth (many (k.Comma ∷ []) next_denoter_rule) (items_from l.tokens l.at));
+  so_far : ListSoFar next_denoter_node l.depth (k.Comma ∷ []) next_denoter_rule l.others.items (items_from l.tokens l.next)
+      (read pascal l.depth (many (k.Comma ∷ []) next_denoter_rule) (items_from l.tokens l.at));
   forward : l.at ≤ l.next;
 }
 
@@ -22,7 +23,8 @@ decreases-read_next_denoters-denoters l = length l.tokens - l.next
 
 abbrev pub invariant-read_sections-sections : goal.invariant-read_sections-sections
 invariant-read_sections-sections l = record {
-  so_far : SeriesSoFar section_step l.depth sections l.others.items (items_from l.tokens l.next) (read pascal l.depth (series k.Semicolon (k.Name ∷ []) section_rule variants_rule) (items_from l.tokens l.at));
+  so_far : SeriesSoFar section_step l.depth sections l.others.items (items_from l.tokens l.next)
+      (read pascal l.depth (series k.Semicolon (k.Name ∷ []) section_rule variants_rule) (items_from l.tokens l.at));
   forward : l.at ≤ l.next;
 }
 
@@ -31,7 +33,8 @@ decreases-read_sections-sections l = length l.tokens - l.next
 
 abbrev pub invariant-read_arms-arms : goal.invariant-read_arms-arms
 invariant-read_arms-arms l = record {
-  so_far : SeriesSoFar arm_step l.depth arms l.others.items (items_from l.tokens l.next) (read pascal l.depth (series k.Semicolon constant_starts arm_rule nothing) (items_from l.tokens l.at));
+  so_far : SeriesSoFar arm_step l.depth arms l.others.items (items_from l.tokens l.next)
+      (read pascal l.depth (series k.Semicolon constant_starts arm_rule nothing) (items_from l.tokens l.at));
   forward : l.at ≤ l.next;
 }
 

@@ -11,7 +11,8 @@ use Rattle.pas_denoters.proofs.headings.+headings.Given as goal
 
 abbrev pub invariant-read_next_formals-formals : goal.invariant-read_next_formals-formals
 invariant-read_next_formals-formals l = record {
-  so_far : ListSoFar next_formal_node l.depth (k.Semicolon ∷ []) next_formal_rule l.others.items (items_from l.tokens l.next) (read pascal l.depth (many (k.Semicolon ∷ []) next_formal_rule) (items_from l.tokens l.at));
+  so_far : ListSoFar next_formal_node l.depth (k.Semicolon ∷ []) next_formal_rule l.others.items (items_from l.tokens l.next)
+      (read pascal l.depth (many (k.Semicolon ∷ []) next_formal_rule) (items_from l.tokens l.at));
   forward : l.at ≤ l.next;
 }
 

@@ -11,7 +11,8 @@ use Rattle.pas_expressions.proofs.expressions.+expressions.Given as goal
 
 abbrev pub invariant-read_next_terms-terms : goal.invariant-read_next_terms-terms
 invariant-read_next_terms-terms l = record {
-  so_far : ListSoFar next_term_node l.depth adding next_term_rule l.others.items (items_from l.tokens l.next) (read pascal l.depth (many adding next_term_rule) (items_from l.tokens l.at));
+  so_far : ListSoFar next_term_node l.depth adding next_term_rule l.others.items (items_from l.tokens l.next)
+      (read pascal l.depth (many adding next_term_rule) (items_from l.tokens l.at));
   forward : l.at ≤ l.next;
 }
 
@@ -20,7 +21,8 @@ decreases-read_next_terms-terms l = length l.tokens - l.next
 
 abbrev pub invariant-read_next_factors-factors : goal.invariant-read_next_factors-factors
 invariant-read_next_factors-factors l = record {
-  so_far : ListSoFar next_factor_node l.depth multiplying next_factor_rule l.others.items (items_from l.tokens l.next) (read pascal l.depth (many multiplying next_factor_rule) (items_from l.tokens l.at));
+  so_far : ListSoFar next_factor_node l.depth multiplying next_factor_rule l.others.items (items_from l.tokens l.next)
+      (read pascal l.depth (many multiplying next_factor_rule) (items_from l.tokens l.at));
   forward : l.at ≤ l.next;
 }
 
@@ -29,7 +31,8 @@ decreases-read_next_factors-factors l = length l.tokens - l.next
 
 abbrev pub invariant-read_next_expressions-expressions : goal.invariant-read_next_expressions-expressions
 invariant-read_next_expressions-expressions l = record {
-  so_far : ListSoFar next_expression_node l.depth (k.Comma ∷ []) next_expression_rule l.others.items (items_from l.tokens l.next) (read pascal l.depth (many (k.Comma ∷ []) next_expression_rule) (items_from l.tokens l.at));
+  so_far : ListSoFar next_expression_node l.depth (k.Comma ∷ []) next_expression_rule l.others.items (items_from l.tokens l.next)
+      (read pascal l.depth (many (k.Comma ∷ []) next_expression_rule) (items_from l.tokens l.at));
   forward : l.at ≤ l.next;
 }
 
@@ -38,7 +41,8 @@ decreases-read_next_expressions-expressions l = length l.tokens - l.next
 
 abbrev pub invariant-read_selectors-selectors : goal.invariant-read_selectors-selectors
 invariant-read_selectors-selectors l = record {
-  so_far : ListSoFar selector_node l.depth selector_starts selector_rule l.others.items (items_from l.tokens l.next) (read pascal l.depth (many selector_starts selector_rule) (items_from l.tokens l.at));
+  so_far : ListSoFar selector_node l.depth selector_starts selector_rule l.others.items (items_from l.tokens l.next)
+      (read pascal l.depth (many selector_starts selector_rule) (items_from l.tokens l.at));
   forward : l.at ≤ l.next;
 }
 
@@ -47,7 +51,8 @@ decreases-read_selectors-selectors l = length l.tokens - l.next
 
 abbrev pub invariant-read_next_members-members : goal.invariant-read_next_members-members
 invariant-read_next_members-members l = record {
-  so_far : ListSoFar next_member_node l.depth (k.Comma ∷ []) next_member_rule l.others.items (items_from l.tokens l.next) (read pascal l.depth (many (k.Comma ∷ []) next_member_rule) (items_from l.tokens l.at));
+  so_far : ListSoFar next_member_node l.depth (k.Comma ∷ []) next_member_rule l.others.items (items_from l.tokens l.next)
+      (read pascal l.depth (many (k.Comma ∷ []) next_member_rule) (items_from l.tokens l.at));
   forward : l.at ≤ l.next;
 }
 

@@ -10,7 +10,8 @@ use Rattle.pas_parser.proofs.blocks.+blocks.Given as goal
 
 abbrev pub invariant-read_routines-routines : goal.invariant-read_routines-routines
 invariant-read_routines-routines l = record {
-  so_far : ListSoFar routine_node l.depth heading_starts routine_rule l.others.items (items_from l.tokens l.next) (read pascal l.depth (many heading_starts routine_rule) (items_from l.tokens l.at));
+  so_far : ListSoFar routine_node l.depth heading_starts routine_rule l.others.items (items_from l.tokens l.next)
+      (read pascal l.depth (many heading_starts routine_rule) (items_from l.tokens l.at));
   forward : l.at ≤ l.next;
 }
 

@@ -7,4 +7,5 @@ use Rattle.pas_parser.proofs.blocks.read_rest.Goals as goal
 pub returns-in_err-dot-clause-gives : goal.returns-in_err-dot-clause-gives
 unfolding read
 returns-in_err-dot-clause-gives c =
-    handed_on _ _ _ _ _ c.from_residual-in_err-dot.ensures.1 (second_fails c.args.depth (level block) (seq (word k.Dot) (word k.End)) _ _ _ c.in_ok-block.ensures.gives c.in_err-dot.ensures.gives)
+    handed_on _ _ _ _ _ c.from_residual-in_err-dot.ensures.1 (second_fails c.args.depth (level block) (seq (word k.Dot) (word k.End)) _ _ _
+    c.in_ok-block.ensures.gives c.in_err-dot.ensures.gives)

@@ -26,25 +26,29 @@ returns-in_err-tree-clause-exact c =
 pub returns-then-after-len-clause-only : goal.returns-then-after-len-clause-only
 returns-then-after-len-clause-only c =
     let g = read_there _ _ _ c.in_ok-tree.after c.in_ok-terminals.ensures.all c.in_ok-tree.ensures.gives in
-    let less : c.in_ok-tree.after < length (terminals_of c.args.tokens.now.tokens) = omega (arith, c.len.ensures, c.if-after-len.true, ap length c.in_ok-terminals.ensures.all) in
+    let less : c.in_ok-tree.after < length (terminals_of c.args.tokens.now.tokens) =
+    omega (arith, c.len.ensures, c.if-after-len.true, ap length c.in_ok-terminals.ensures.all) in
     λ x formed same. not_that_either _ _ x c.in_ok-tree.after g less formed same
 
 pub returns-then-after-len-clause-refused : goal.returns-then-after-len-clause-refused
 returns-then-after-len-clause-refused c =
     let g = read_there _ _ _ c.in_ok-tree.after c.in_ok-terminals.ensures.all c.in_ok-tree.ensures.gives in
-    let less : c.in_ok-tree.after < length (terminals_of c.args.tokens.now.tokens) = omega (arith, c.len.ensures, c.if-after-len.true, ap length c.in_ok-terminals.ensures.all) in
+    let less : c.in_ok-tree.after < length (terminals_of c.args.tokens.now.tokens) =
+    omega (arith, c.len.ensures, c.if-after-len.true, ap length c.in_ok-terminals.ensures.all) in
     (less, too_long _ _ c.in_ok-tree.after g less)
 
 pub returns-then-after-len-clause-exact : goal.returns-then-after-len-clause-exact
 returns-then-after-len-clause-exact c =
     let g = read_there _ _ _ c.in_ok-tree.after c.in_ok-terminals.ensures.all c.in_ok-tree.ensures.gives in
-    let less : c.in_ok-tree.after < length (terminals_of c.args.tokens.now.tokens) = omega (arith, c.len.ensures, c.if-after-len.true, ap length c.in_ok-terminals.ensures.all) in
+    let less : c.in_ok-tree.after < length (terminals_of c.args.tokens.now.tokens) =
+    omega (arith, c.len.ensures, c.if-after-len.true, ap length c.in_ok-terminals.ensures.all) in
     exactly_after c.args.tokens.now.tokens _ c.in_ok-tree.after g less
 
 pub returns-clause-found : goal.returns-clause-found
 returns-clause-found c =
     let g = read_there _ _ _ c.in_ok-tree.after c.in_ok-terminals.ensures.all c.in_ok-tree.ensures.gives in
-    let most : length (terminals_of c.args.tokens.now.tokens) ≤ c.in_ok-tree.after = omega (arith, c.len.ensures, c.if-after-len.false, ap length c.in_ok-terminals.ensures.all) in
+    let most : length (terminals_of c.args.tokens.now.tokens) ≤ c.in_ok-tree.after =
+    omega (arith, c.len.ensures, c.if-after-len.false, ap length c.in_ok-terminals.ensures.all) in
     whole _ _ c.in_ok-tree.after g most
 
 pub returns-clause-only : goal.returns-clause-only
@@ -55,5 +59,6 @@ returns-clause-only c =
 pub returns-clause-exact : goal.returns-clause-exact
 returns-clause-exact c =
     let g = read_there _ _ _ c.in_ok-tree.after c.in_ok-terminals.ensures.all c.in_ok-tree.ensures.gives in
-    let most : length (terminals_of c.args.tokens.now.tokens) ≤ c.in_ok-tree.after = omega (arith, c.len.ensures, c.if-after-len.false, ap length c.in_ok-terminals.ensures.all) in
+    let most : length (terminals_of c.args.tokens.now.tokens) ≤ c.in_ok-tree.after =
+    omega (arith, c.len.ensures, c.if-after-len.false, ap length c.in_ok-terminals.ensures.all) in
     exactly_none _ _ c.in_ok-tree.after g most

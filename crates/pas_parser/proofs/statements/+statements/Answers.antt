@@ -26,7 +26,8 @@ read_branches-returns-clause-gives t c = series_read {q = branches} c.branches.i
 
 pub read_next_statements-returns-in_err-other-clause-gives : goal.read_next_statements-returns-in_err-other-clause-gives
 read_next_statements-returns-in_err-other-clause-gives t c =
-    handed_on _ _ _ _ _ c.from_residual.ensures.1 (list_fails _ _ (next_statement_repeats (closer_of c.args.closer)) c.statements.invariant.so_far (cc) c.in_err-other.ensures.gives)
+    handed_on _ _ _ _ _ c.from_residual.ensures.1 (list_fails _ _ (next_statement_repeats (closer_of c.args.closer)) c.statements.invariant.so_far (cc)
+    c.in_err-other.ensures.gives)
 
 pub read_next_statements-returns-clause-gives : goal.read_next_statements-returns-clause-gives
 read_next_statements-returns-clause-gives t c = list_read (next_statement_repeats (closer_of c.args.closer)) c.statements.invariant.so_far (cc)

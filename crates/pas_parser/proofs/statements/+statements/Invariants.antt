@@ -14,7 +14,8 @@ use Rattle.pas_parser.proofs.statements.+statements.Given as goal
 
 abbrev pub invariant-read_next_statements-statements : goal.invariant-read_next_statements-statements
 invariant-read_next_statements-statements l = record {
-  so_far : ListSoFar next_statement_node l.depth (k.Semicolon ∷ []) (next_statement_rule (closer_of l.closer)) l.others.items (items_from l.tokens l.next) (read pascal l.depth (many (k.Semicolon ∷ []) (next_statement_rule (closer_of l.closer))) (items_from l.tokens l.at));
+  so_far : ListSoFar next_statement_node l.depth (k.Semicolon ∷ []) (next_statement_rule (closer_of l.closer)) l.others.items (items_from l.tokens l.next)
+      (read pascal l.depth (many (k.Semicolon ∷ []) (next_statement_rule (closer_of l.closer))) (items_from l.tokens l.at));
   forward : l.at ≤ l.next;
 }
 
@@ -23,7 +24,8 @@ decreases-read_next_statements-statements l = length l.tokens - l.next
 
 abbrev pub invariant-read_branches-branches : goal.invariant-read_branches-branches
 invariant-read_branches-branches l = record {
-  so_far : SeriesSoFar branch_step l.depth branches l.others.items (items_from l.tokens l.next) (read pascal l.depth (series k.Semicolon constant_starts branch_rule nothing) (items_from l.tokens l.at));
+  so_far : SeriesSoFar branch_step l.depth branches l.others.items (items_from l.tokens l.next)
+      (read pascal l.depth (series k.Semicolon constant_starts branch_rule nothing) (items_from l.tokens l.at));
   forward : l.at ≤ l.next;
 }
 

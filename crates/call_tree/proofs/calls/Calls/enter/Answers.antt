@@ -13,13 +13,27 @@ invariant_of-self-2 c =
     let kept = c.self.invariant in
     let old : List Call = c.self.inside.calls.items in
     let open_items : List ℕ = c.self.inside.open_calls.items in
-    let call : Call = record { routine = c.args.routine; parent = c.copied.result; depth = c.len.result; last = c.len-number.result; args = c.args.args; entry = c.args.entry; exit = c.blank.result; way = Returned; result = None } in
+    let call : Call = record {
+      routine = c.args.routine;
+      parent = c.copied.result;
+      depth = c.len.result;
+      last = c.len-number.result;
+      args = c.args.args;
+      entry = c.args.entry;
+      exit = c.blank.result;
+      way = Returned;
+      result = None;
+    } in
     let calls : c.push.new.self.items ≡ old ++ call ∷ [] = c.in_ok-push.ensures.items in
-    let routine_column : c.push-2.new.self.items ≡ c.self.inside.routine_column.items ++ c.args.routine ∷ [] = c.in_ok-push-2.ensures.items ∙ ap (λ (xs : List ℕ). xs ++ c.args.routine ∷ []) c.in_ok-reserve.ensures.items in
-    let last_column : c.push-3.new.self.items ≡ c.self.inside.last_column.items ++ c.len-number.result ∷ [] = c.in_ok-push-3.ensures.items ∙ ap (λ (xs : List ℕ). xs ++ c.len-number.result ∷ []) c.in_ok-reserve-2.ensures.items in
-    let open_calls : c.push-4.new.self.items ≡ open_items ++ c.len-number.result ∷ [] = c.in_ok-push-4.ensures.items ∙ ap (λ (xs : List ℕ). xs ++ c.len-number.result ∷ []) c.in_ok-reserve-3.ensures.items in
+    let routine_column : c.push-2.new.self.items ≡ c.self.inside.routine_column.items ++ c.args.routine ∷ [] =
+    c.in_ok-push-2.ensures.items ∙ ap (λ (xs : List ℕ). xs ++ c.args.routine ∷ []) c.in_ok-reserve.ensures.items in
+    let last_column : c.push-3.new.self.items ≡ c.self.inside.last_column.items ++ c.len-number.result ∷ [] =
+    c.in_ok-push-3.ensures.items ∙ ap (λ (xs : List ℕ). xs ++ c.len-number.result ∷ []) c.in_ok-reserve-2.ensures.items in
+    let open_calls : c.push-4.new.self.items ≡ open_items ++ c.len-number.result ∷ [] =
+    c.in_ok-push-4.ensures.items ∙ ap (λ (xs : List ℕ). xs ++ c.len-number.result ∷ []) c.in_ok-reserve-3.ensures.items in
     let seen : c.deref.result.now ≡ open_items = c.deref.ensures.value ∙ c.in_ok-reserve-3.ensures.items in
-    let parent : c.copied.result ≡ slice_get open_items (length open_items - 1) = c.copied.ensures ∙ c.last.ensures.value ∙ ap (λ (xs : List ℕ). slice_get xs (length xs - 1)) seen in
+    let parent : c.copied.result ≡ slice_get open_items (length open_items - 1) =
+    c.copied.ensures ∙ c.last.ensures.value ∙ ap (λ (xs : List ℕ). slice_get xs (length xs - 1)) seen in
     let depth : c.len.result ≡ length open_items = c.len.ensures ∙ c.in_ok-reserve-3.ensures.len ∙ c.self.inside.open_calls.ok.0 in
     let number : c.len-number.result ≡ length old = c.len-number.ensures ∙ c.self.inside.calls.ok.0 in
     let known : c.args.routine < c.self.inside.routines = rw (← c.self.view_is) at c.requires.known in
@@ -41,12 +55,26 @@ pub returns-clause-entered : goal.returns-clause-entered
 returns-clause-entered c =
     let old : List Call = c.self.inside.calls.items in
     let open_items : List ℕ = c.self.inside.open_calls.items in
-    let calls : c.push.new.self.items ≡ old ++ record { routine = c.args.routine; parent = c.copied.result; depth = c.len.result; last = c.len-number.result; args = c.args.args; entry = c.args.entry; exit = c.blank.result; way = Returned; result = None } ∷ [] = c.in_ok-push.ensures.items in
-    let open_calls : c.push-4.new.self.items ≡ open_items ++ c.len-number.result ∷ [] = c.in_ok-push-4.ensures.items ∙ ap (λ (xs : List ℕ). xs ++ c.len-number.result ∷ []) c.in_ok-reserve-3.ensures.items in
+    let calls : c.push.new.self.items ≡ old ++ record {
+      routine = c.args.routine;
+      parent = c.copied.result;
+      depth = c.len.result;
+      last = c.len-number.result;
+      args = c.args.args;
+      entry = c.args.entry;
+      exit = c.blank.result;
+      way = Returned;
+      result = None;
+    } ∷ [] = c.in_ok-push.ensures.items in
+    let open_calls : c.push-4.new.self.items ≡ open_items ++ c.len-number.result ∷ [] =
+    c.in_ok-push-4.ensures.items ∙ ap (λ (xs : List ℕ). xs ++ c.len-number.result ∷ []) c.in_ok-reserve-3.ensures.items in
     let seen : c.deref.result.now ≡ open_items = c.deref.ensures.value ∙ c.in_ok-reserve-3.ensures.items in
-    let parent : c.copied.result ≡ slice_get (reverse open_items) 0 = c.copied.ensures ∙ c.last.ensures.value ∙ ap (λ (xs : List ℕ). slice_get xs (length xs - 1)) seen ∙ last_is_first_reversed open_items in
-    let depth : c.len.result ≡ length (reverse open_items) = c.len.ensures ∙ c.in_ok-reserve-3.ensures.len ∙ c.self.inside.open_calls.ok.0 ∙ sym (length-reverse open_items) in
+    let parent : c.copied.result ≡ slice_get (reverse open_items) 0 =
+    c.copied.ensures ∙ c.last.ensures.value ∙ ap (λ (xs : List ℕ). slice_get xs (length xs - 1)) seen ∙ last_is_first_reversed open_items in
+    let depth : c.len.result ≡ length (reverse open_items) = c.len.ensures ∙ c.in_ok-reserve-3.ensures.len ∙ c.self.inside.open_calls.ok.0
+    ∙ sym (length-reverse open_items) in
     let number : c.len-number.result ≡ length old = c.len-number.ensures ∙ c.self.inside.calls.ok.0 in
-    let reversed : reverse (open_items ++ c.len-number.result ∷ []) ≡ c.len-number.result ∷ reverse open_items = reverse-append open_items (c.len-number.result ∷ []) in
+    let reversed : reverse (open_items ++ c.len-number.result ∷ []) ≡ c.len-number.result ∷ reverse open_items =
+    reverse-append open_items (c.len-number.result ∷ []) in
     let blank = c.blank.ensures in
     rw (calls, open_calls, reversed, parent, depth, number, blank, ← c.self.view_is) refl

@@ -21,9 +21,12 @@ invariant_of-self c =
     rw all_calls record {
       few = kept.few;
       few_open = omega arith;
-      routine_column = kept.routine_column ∙ sym (map-set_same (λ (k : Call). k.routine) calls number (left_call call (length calls) c.args.exit c.args.way c.args.answer) call (ap (λ (k : Call). k.routine) is));
-      last_column = ap (λ xs. set xs number (length calls - 1)) kept.last_column ∙ sym (map-set (λ (k : Call). k.last) calls number (left_call call (length calls) c.args.exit c.args.way c.args.answer));
-      known = All-set (λ (k : Call). k.routine < c.self.inside.routines) calls number _ (rw (ap (λ (k : Call). k.routine) is) (All-get_or (λ (k : Call). k.routine < c.self.inside.routines) calls number call inside kept.known)) kept.known;
+      routine_column = kept.routine_column ∙ sym (map-set_same (λ (k : Call). k.routine) calls number
+          (left_call call (length calls) c.args.exit c.args.way c.args.answer) call (ap (λ (k : Call). k.routine) is));
+      last_column = ap (λ xs. set xs number (length calls - 1)) kept.last_column
+          ∙ sym (map-set (λ (k : Call). k.last) calls number (left_call call (length calls) c.args.exit c.args.way c.args.answer));
+      known = All-set (λ (k : Call). k.routine < c.self.inside.routines) calls number _
+          (rw (ap (λ (k : Call). k.routine) is) (All-get_or (λ (k : Call). k.routine < c.self.inside.routines) calls number call inside kept.known)) kept.known;
       nested = left_calls_are_nested calls _ _ number call popped is c.args.exit c.args.way c.args.answer kept.nested;
     }
 

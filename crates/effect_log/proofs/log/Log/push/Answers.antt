@@ -24,7 +24,8 @@ invariant_of-self-in-Some c =
     record {
       few = omega (arith, longer);
       few_aside = omega (arith, longer);
-      within = rw items (All-push (IsWithin (length c.self.inside.aside.items)) entries c.in-Some.entry kept.within (is.within (length c.self.inside.aside.items)));
+      within = rw items (All-push (IsWithin (length c.self.inside.aside.items)) entries c.in-Some.entry kept.within
+          (is.within (length c.self.inside.aside.items)));
     }
 
 pub returns-in_ok-push-in-None-2-clause-added : goal.returns-in_ok-push-in-None-2-clause-added
@@ -33,6 +34,7 @@ returns-in_ok-push-in-None-2-clause-added c =
     let entries : List Entry = c.self.inside.entries.items in
     let place : c.len-place.result ≡ length aside = c.len-place.ensures ∙ c.self.inside.aside.ok.0 in
     let asides : c.push-in-None.new.self.items ≡ aside ++ c.args.touch ∷ [] = c.in_ok-push-in-None.ensures.items in
-    let items : c.push-in-None-2.new.self.items ≡ entries ++ Aside c.len-place.result ∷ [] = c.in_ok-push-in-None-2.ensures.items ∙ ap (λ (xs : List Entry). xs ++ Aside c.len-place.result ∷ []) c.in_ok-reserve-in-None.ensures.items in
+    let items : c.push-in-None-2.new.self.items ≡ entries ++ Aside c.len-place.result ∷ [] =
+    c.in_ok-push-in-None-2.ensures.items ∙ ap (λ (xs : List Entry). xs ++ Aside c.len-place.result ∷ []) c.in_ok-reserve-in-None.ensures.items in
     let last = get_or-append_seam aside c.args.touch [] (touch.Look 0) in
     rw (asides, items, ← c.self.view_is, map-append, touches_stay aside c.args.touch entries c.self.invariant.within, place, last) refl

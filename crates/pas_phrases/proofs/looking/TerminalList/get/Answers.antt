@@ -5,7 +5,8 @@ use Rattle.pas_phrases.proofs.looking.TerminalList.get.Goals as goal
 
 pub returns-in-Some-clause-next : goal.returns-in-Some-clause-next
 returns-in-Some-clause-next c =
-    sym (ap next (token_there _ _ c.args.at c.in-Some.found.now (c.deref.ensures.value ∙ c.self.view_is) c.in-Some.ensures.lookup.3.0 c.in-Some.ensures.lookup.1))
+    sym (ap next (token_there _ _ c.args.at c.in-Some.found.now (c.deref.ensures.value ∙ c.self.view_is) c.in-Some.ensures.lookup.3.0
+    c.in-Some.ensures.lookup.1))
 
 pub returns-in-Some-clause-inside : goal.returns-in-Some-clause-inside
 returns-in-Some-clause-inside c =
