@@ -51,7 +51,8 @@ get-map_below (suc n) f q inside = elim (cases_lt q n) [
 ]
 
 -- a map of all addresses, as the map of two functions that agree below a bound
-inside_or_past : {V : Type 0} (n : ℕ) (f : ℕ → Option V) (m : FinMap nat_cmp V) → ((q : ℕ) → q < n → get m q ≡ f q) → ((q : ℕ) → n ≤ q → get m q ≡ None) → map_below n f ≡ m
+inside_or_past : {V : Type 0} (n : ℕ) (f : ℕ → Option V) (m : FinMap nat_cmp V) → ((q : ℕ) → q < n → get m q ≡ f q) → ((q : ℕ) → n ≤ q → get m q ≡ None)
+    → map_below n f ≡ m
 inside_or_past n f m inside past = same_map nat_cmp_total nat_cmp-IsAntisymmetric (map_below n f) m (λ q. elim (cases_lt q n) [
   | inl h ↦ get-map_below n f q h ∙ sym (inside q h)
   | inr h ↦ get-map_below_past n f q h ∙ sym (past q h)
@@ -60,12 +61,14 @@ inside_or_past n f m inside past = same_map nat_cmp_total nat_cmp-IsAntisymmetri
 not_past : (n q addr : ℕ) → addr < n → n ≤ q → (q == addr) ≡ false
 not_past n q addr inside past = grind (arith, nat_tests)
 
-map_below-insert : {V : Type 0} (n : ℕ) (old new : ℕ → Option V) (addr : ℕ) (value : V) → addr < n → ChangesAt old new addr (Some value) → map_below n new ≡ insert (map_below n old) addr value
+map_below-insert : {V : Type 0} (n : ℕ) (old new : ℕ → Option V) (addr : ℕ) (value : V) → addr < n → ChangesAt old new addr (Some value)
+    → map_below n new ≡ insert (map_below n old) addr value
 map_below-insert n old new addr value inside changes = inside_or_past n new (insert (map_below n old) addr value)
     (λ q h. get-insert_nat (map_below n old) addr q value ∙ ap (cond (q == addr) (Some value)) (get-map_below n old q h) ∙ sym (changes.at q))
     (λ q h. get-insert_nat (map_below n old) addr q value ∙ chosen_false (q == addr) _ _ (not_past n q addr inside h) ∙ get-map_below_past n old q h)
 
-map_below-remove : {V : Type 0} (n : ℕ) (old new : ℕ → Option V) (addr : ℕ) → addr < n → ChangesAt old new addr None → map_below n new ≡ remove (map_below n old) addr
+map_below-remove : {V : Type 0} (n : ℕ) (old new : ℕ → Option V) (addr : ℕ) → addr < n → ChangesAt old new addr None
+    → map_below n new ≡ remove (map_below n old) addr
 map_below-remove n old new addr inside changes = inside_or_past n new (remove (map_below n old) addr)
     (λ q h. get-remove_nat (map_below n old) addr q ∙ ap (cond (q == addr) None) (get-map_below n old q h) ∙ sym (changes.at q))
     (λ q h. get-remove_nat (map_below n old) addr q ∙ chosen_false (q == addr) _ _ (not_past n q addr inside h) ∙ get-map_below_past n old q h)
@@ -79,7 +82,8 @@ pub get-map_of_past : {V : Type 0} (f : ℕ → Option V) (q : ℕ) → 1048576 
 unfolding map_of
 get-map_of_past f q past = get-map_below_past 1048576 f q past
 
-pub map_of-insert : {V : Type 0} (old new : ℕ → Option V) (addr : ℕ) (value : V) → addr < 1048576 → ChangesAt old new addr (Some value) → map_of new ≡ insert (map_of old) addr value
+pub map_of-insert : {V : Type 0} (old new : ℕ → Option V) (addr : ℕ) (value : V) → addr < 1048576 → ChangesAt old new addr (Some value)
+    → map_of new ≡ insert (map_of old) addr value
 unfolding map_of
 map_of-insert old new addr value inside changes = map_below-insert 1048576 old new addr value inside changes
 
@@ -87,7 +91,8 @@ pub map_of-remove : {V : Type 0} (old new : ℕ → Option V) (addr : ℕ) → a
 unfolding map_of
 map_of-remove old new addr inside changes = map_below-remove 1048576 old new addr inside changes
 
-pub map_of-with_cell : {V : Type 0} (old new : ℕ → Option V) (addr : ℕ) (cell : Option V) → addr < 1048576 → ChangesAt old new addr cell → map_of new ≡ with_cell (map_of old) addr cell
+pub map_of-with_cell : {V : Type 0} (old new : ℕ → Option V) (addr : ℕ) (cell : Option V) → addr < 1048576 → ChangesAt old new addr cell
+    → map_of new ≡ with_cell (map_of old) addr cell
 map_of-with_cell old new addr (Some value) inside changes = map_of-insert old new addr value inside changes
 map_of-with_cell old new addr None inside changes = map_of-remove old new addr inside changes
 
@@ -115,5 +120,6 @@ tied : (k q : ℕ) → tree.is_at (nat_cmp k) q ≡ (q == k)
 tied k q = unsigned_tied k q ∙ grind (arith, nat_tests)
 
 -- one key of a tree is changed
-pub tree_changes : {V : Type 0} (m n : tree.BTreeMap ℕ V) (k : ℕ) (w : Option V) → tree.Updates nat_cmp m n k w → ChangesAt (tree.get nat_cmp m) (tree.get nat_cmp n) k w
+pub tree_changes : {V : Type 0} (m n : tree.BTreeMap ℕ V) (k : ℕ) (w : Option V) → tree.Updates nat_cmp m n k w
+    → ChangesAt (tree.get nat_cmp m) (tree.get nat_cmp n) k w
 tree_changes m n k w updates = record { at = λ q. updates.0 q ∙ ap (λ b. cond b w (tree.get nat_cmp m q)) (tied k q) }

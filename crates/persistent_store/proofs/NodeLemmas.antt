@@ -1,5 +1,6 @@
 -- Lemmas on the nodes of the trie.
-use Rattle.std.proofs.Common.{◌≡◌, ℕ, ◌/◌, ◌%◌, ◌<◌, List, [], ◌∷◌, length, get_or, set, Option, Some, None, refl, ap, sym, subst, ◌∙◌, arith, cond, true, false, inl, inr, Bool}
+use Rattle.std.proofs.Common.{◌≡◌, ℕ, ◌/◌, ◌%◌, ◌<◌, List, [], ◌∷◌, length, get_or, set, Option, Some, None, refl, ap, sym, subst, ◌∙◌, arith, cond, true}
+use Rattle.std.proofs.Common.{false, inl, inr, Bool}
 use Rattle.std.specs.Prelude.{◌==◌, IfNone}
 use Rattle.std.specs.List.{AllZip}
 use Rattle.std.specs.declared.rc.Rc.{Rc}
@@ -15,7 +16,9 @@ use Rattle.persistent_store.specs.Loans.{with_target}
 use Rattle.persistent_store.specs.Nodes.{Entries, target_of, targets, entry_at, found_in, ChangesAt}
 
 -- clones of pointers lead where the pointers lead
-pub targets_alike : {X Z : Type 0} (R : Option (Rc X Z) → Option (Rc X Z) → Type 0) → ((q : Rc X Z) → R None (Some q) → ⊥) → ((p : Rc X Z) → R (Some p) None → ⊥) → ((p q : Rc X Z) → R (Some p) (Some q) → q.value ≡ p.value) → (ps qs : List (Option (Rc X Z))) → AllZip R ps qs → targets qs ≡ targets ps
+pub targets_alike : {X Z : Type 0} (R : Option (Rc X Z) → Option (Rc X Z) → Type 0) → ((q : Rc X Z) → R None (Some q) → ⊥)
+    → ((p : Rc X Z) → R (Some p) None → ⊥) → ((p q : Rc X Z) → R (Some p) (Some q) → q.value ≡ p.value) → (ps qs : List (Option (Rc X Z))) → AllZip R ps qs
+    → targets qs ≡ targets ps
 targets_alike R new gone alike [] [] h = refl
 targets_alike R new gone alike [] (q ∷ qs) h = absurd h
 targets_alike R new gone alike (p ∷ ps) [] h = absurd h
@@ -38,13 +41,16 @@ get_or-set xs i k x d inside = elim (eqb_tells k i) [
 ]
 
 -- one entry of a node is written over
-pub entry_at-set : {X : Type 0} (xs ys : Entries X) (old : Option (Entries X)) (place : ℕ) (entry : Option X) → place < length xs → ((k : ℕ) → get_or xs k None ≡ entry_at old k) → ys ≡ set xs place entry → ChangesAt (entry_at old) (entry_at (Some ys)) place entry
+pub entry_at-set : {X : Type 0} (xs ys : Entries X) (old : Option (Entries X)) (place : ℕ) (entry : Option X) → place < length xs
+    → ((k : ℕ) → get_or xs k None ≡ entry_at old k) → ys ≡ set xs place entry → ChangesAt (entry_at old) (entry_at (Some ys)) place entry
 entry_at-set xs ys old place entry inside same is = record {
   at = λ k. ap (λ zs. get_or zs k None) is ∙ get_or-set xs place k entry None inside ∙ ap (cond (k == place) entry) (same k);
 }
 
 -- the same of a node whose entries are pointers
-pub targets-set : {X Z : Type 0} (ps : List (Option (Rc X Z))) (ys : Entries X) (old : Option (Entries X)) (place : ℕ) (pointer : Rc X Z) → place < length ps → ((k : ℕ) → get_or (targets ps) k None ≡ entry_at old k) → ys ≡ targets (set ps place (Some pointer)) → ChangesAt (entry_at old) (entry_at (Some ys)) place (Some pointer.value)
+pub targets-set : {X Z : Type 0} (ps : List (Option (Rc X Z))) (ys : Entries X) (old : Option (Entries X)) (place : ℕ) (pointer : Rc X Z) → place < length ps
+    → ((k : ℕ) → get_or (targets ps) k None ≡ entry_at old k) → ys ≡ targets (set ps place (Some pointer))
+    → ChangesAt (entry_at old) (entry_at (Some ys)) place (Some pointer.value)
 targets-set ps ys old place pointer inside same is =
     let there : place < length (targets ps) = simp length-map inside in
     entry_at-set (targets ps) ys old place (Some pointer.value) there same (is ∙ map-set _ ps place (Some pointer))
@@ -63,7 +69,10 @@ rest_tells q a span e =
 
 -- A node is changed at the place of an address, to a node below that is changed at the rest of the
 -- address: what is found is changed at that address and at no other.
-pub found_in-changed : {X V : Type 0} (span : ℕ) (find_below : Option X → ℕ → Option V) (old new : Option (Entries X)) (addr : ℕ) (below : Option X) (cell : Option V) → ChangesAt (entry_at old) (entry_at new) (addr / span) below → ChangesAt (find_below (entry_at old (addr / span))) (find_below below) (addr % span) cell → ChangesAt (found_in span find_below old) (found_in span find_below new) addr cell
+pub found_in-changed : {X V : Type 0} (span : ℕ) (find_below : Option X → ℕ → Option V) (old new : Option (Entries X)) (addr : ℕ) (below : Option X)
+    (cell : Option V) → ChangesAt (entry_at old) (entry_at new) (addr / span) below
+    → ChangesAt (find_below (entry_at old (addr / span))) (find_below below) (addr % span) cell
+    → ChangesAt (found_in span find_below old) (found_in span find_below new) addr cell
 found_in-changed span find_below old new addr below cell here there = record {
   at = λ q. elim (eqb_tells (q / span) (addr / span)) [
     | inl h ↦
@@ -86,11 +95,14 @@ target_of-with_target : {X Z : Type 0} (p : Option (Rc X Z)) (x y : X) → targe
 target_of-with_target (Some pointer) x y e = refl
 target_of-with_target None x y e = cc
 
-entries_after : {X Z : Type 0} (ps : List (Option (Rc X Z))) (i : ℕ) (d q : Option (Rc X Z)) → target_of q ≡ target_of (get_or ps i d) → targets (set ps i q) ≡ targets ps
-entries_after ps i d q same = map-set target_of ps i q ∙ ap (set (targets ps) i) same ∙ ap (set (targets ps) i) (sym (get_or-map target_of ps i d)) ∙ set-get_or (targets ps) i (target_of d)
+entries_after : {X Z : Type 0} (ps : List (Option (Rc X Z))) (i : ℕ) (d q : Option (Rc X Z)) → target_of q ≡ target_of (get_or ps i d)
+    → targets (set ps i q) ≡ targets ps
+entries_after ps i d q same = map-set target_of ps i q ∙ ap (set (targets ps) i) same ∙ ap (set (targets ps) i) (sym (get_or-map target_of ps i d))
+    ∙ set-get_or (targets ps) i (target_of d)
 
 -- a node below that is as it was leaves the node as it was
-pub restored : {X Z : Type 0} (p : Option (Rc (Entries X) Z)) (ps : List (Option (Rc X Z))) (i : ℕ) (d q : Option (Rc X Z)) → target_of p ≡ Some (targets ps) → target_of q ≡ target_of (get_or ps i d) → target_of (with_target p (targets (set ps i q))) ≡ target_of p
+pub restored : {X Z : Type 0} (p : Option (Rc (Entries X) Z)) (ps : List (Option (Rc X Z))) (i : ℕ) (d q : Option (Rc X Z)) → target_of p ≡ Some (targets ps)
+    → target_of q ≡ target_of (get_or ps i d) → target_of (with_target p (targets (set ps i q))) ≡ target_of p
 restored p ps i d q is same = target_of-with_target p _ _ is ∙ ap Some (entries_after ps i d q same) ∙ sym is
 
 -- a change at a place that is known by two names
@@ -98,22 +110,30 @@ change_at : {X : Type 0} (old new : ℕ → Option X) (i j : ℕ) (entry : Optio
 change_at old new i j entry e changes = subst (λ k. ChangesAt old new k entry) e changes
 
 -- a cell of a leaf is written
-pub written_leaf : {V Z : Type 0} (p : Option (Rc (Entries V) Z)) (cells : Entries V) (i addr : ℕ) (cell : Option V) → i ≡ addr → target_of p ≡ Some cells → i < length cells → ChangesAt (entry_at (target_of p)) (entry_at (target_of (with_target p (set cells i cell)))) addr cell
+pub written_leaf : {V Z : Type 0} (p : Option (Rc (Entries V) Z)) (cells : Entries V) (i addr : ℕ) (cell : Option V) → i ≡ addr → target_of p ≡ Some cells
+    → i < length cells → ChangesAt (entry_at (target_of p)) (entry_at (target_of (with_target p (set cells i cell)))) addr cell
 written_leaf p cells i addr cell place is inside =
-    let here : ChangesAt (entry_at (target_of p)) (entry_at (Some (set cells i cell))) i cell = entry_at-set cells (set cells i cell) (target_of p) i cell inside (λ k. ap (λ node. entry_at node k) (sym is)) refl in
+    let here : ChangesAt (entry_at (target_of p)) (entry_at (Some (set cells i cell))) i cell =
+    entry_at-set cells (set cells i cell) (target_of p) i cell inside (λ k. ap (λ node. entry_at node k) (sym is)) refl in
     let there : ChangesAt (entry_at (target_of p)) (entry_at (Some (set cells i cell))) addr cell = change_at _ _ i addr cell place here in
     rw (target_of-with_target p cells (set cells i cell) is) there
 
 -- a node below is written
-pub written_below : {X Z V : Type 0} (span : ℕ) (find_below : Option X → ℕ → Option V) (p : Option (Rc (Entries X) Z)) (ps : List (Option (Rc X Z))) (i addr : ℕ) (d q : Option (Rc X Z)) (cell : Option V) → i ≡ addr / span → target_of p ≡ Some (targets ps) → i < length ps → ChangesAt (find_below (target_of (get_or ps i d))) (find_below (target_of q)) (addr % span) cell → ChangesAt (found_in span find_below (target_of p)) (found_in span find_below (target_of (with_target p (targets (set ps i q))))) addr cell
+pub written_below : {X Z V : Type 0} (span : ℕ) (find_below : Option X → ℕ → Option V) (p : Option (Rc (Entries X) Z)) (ps : List (Option (Rc X Z)))
+    (i addr : ℕ) (d q : Option (Rc X Z)) (cell : Option V) → i ≡ addr / span → target_of p ≡ Some (targets ps) → i < length ps
+    → ChangesAt (find_below (target_of (get_or ps i d))) (find_below (target_of q)) (addr % span) cell
+    → ChangesAt (found_in span find_below (target_of p)) (found_in span find_below (target_of (with_target p (targets (set ps i q))))) addr cell
 written_below span find_below p ps i addr d q cell place is inside there =
     let ys = targets (set ps i q) in
     let room : i < length (targets ps) = simp length-map inside in
     let was : entry_at (target_of p) i ≡ target_of (get_or ps i d) = ap (λ node. entry_at node i) is ∙ get_or-map_inside target_of ps i d None inside in
-    let here : ChangesAt (entry_at (target_of p)) (entry_at (Some ys)) i (target_of q) = entry_at-set (targets ps) ys (target_of p) i (target_of q) room (λ k. ap (λ node. entry_at node k) (sym is)) (map-set target_of ps i q) in
+    let here : ChangesAt (entry_at (target_of p)) (entry_at (Some ys)) i (target_of q) =
+    entry_at-set (targets ps) ys (target_of p) i (target_of q) room (λ k. ap (λ node. entry_at node k) (sym is)) (map-set target_of ps i q) in
     let below : ChangesAt (find_below (entry_at (target_of p) i)) (find_below (target_of q)) (addr % span) cell = rw was there in
-    let below_place : ChangesAt (find_below (entry_at (target_of p) (addr / span))) (find_below (target_of q)) (addr % span) cell = subst (λ k. ChangesAt (find_below (entry_at (target_of p) k)) (find_below (target_of q)) (addr % span) cell) place below in
-    rw (target_of-with_target p (targets ps) ys is) (found_in-changed span find_below (target_of p) (Some ys) addr (target_of q) cell (change_at _ _ i (addr / span) (target_of q) place here) below_place)
+    let below_place : ChangesAt (find_below (entry_at (target_of p) (addr / span))) (find_below (target_of q)) (addr % span) cell =
+    subst (λ k. ChangesAt (find_below (entry_at (target_of p) k)) (find_below (target_of q)) (addr % span) cell) place below in
+    rw (target_of-with_target p (targets ps) ys is) (found_in-changed span find_below (target_of p) (Some ys) addr (target_of q) cell
+    (change_at _ _ i (addr / span) (target_of q) place here) below_place)
 
 pub if_none : {T : Type 0} {P : Type 0} (o : Option T) → P → IfNone o P
 if_none (Some x) h = tt
@@ -122,13 +142,17 @@ if_none None h = h
 -- ---- the cells of a leaf
 
 -- a cell of a leaf is written over
-pub values-set : (cells : List Cell) (ys : Entries Value) (old : Option (Entries Value)) (place : ℕ) (cell : Cell) → place < length cells → ((k : ℕ) → get_or (values_of cells) k None ≡ entry_at old k) → ys ≡ values_of (set cells place cell) → ChangesAt (entry_at old) (entry_at (Some ys)) place (value_of cell)
+pub values-set : (cells : List Cell) (ys : Entries Value) (old : Option (Entries Value)) (place : ℕ) (cell : Cell) → place < length cells
+    → ((k : ℕ) → get_or (values_of cells) k None ≡ entry_at old k) → ys ≡ values_of (set cells place cell)
+    → ChangesAt (entry_at old) (entry_at (Some ys)) place (value_of cell)
 values-set cells ys old place cell inside same is =
     let there : place < length (values_of cells) = simp length-map inside in
     entry_at-set (values_of cells) ys old place (value_of cell) there same (is ∙ map-set value_of cells place cell)
 
 -- the same of a leaf that is written to in place
-pub written_cell : {Z : Type 0} (p : Option (Rc (Entries Value) Z)) (cells : List Cell) (i addr : ℕ) (cell was : Cell) → cell ≡ was → i ≡ addr → target_of p ≡ Some (values_of cells) → i < length cells → ChangesAt (entry_at (target_of p)) (entry_at (target_of (with_target p (values_of (set cells i cell))))) addr (value_of was)
+pub written_cell : {Z : Type 0} (p : Option (Rc (Entries Value) Z)) (cells : List Cell) (i addr : ℕ) (cell was : Cell) → cell ≡ was → i ≡ addr
+    → target_of p ≡ Some (values_of cells) → i < length cells → ChangesAt (entry_at (target_of p))
+    (entry_at (target_of (with_target p (values_of (set cells i cell))))) addr (value_of was)
 written_cell p cells i addr cell was same place is inside =
     let there : i < length (values_of cells) = simp length-map inside in
     rw (map-set value_of cells i cell, ← same) (written_leaf p (values_of cells) i addr (value_of cell) place is there)

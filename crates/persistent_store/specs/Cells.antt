@@ -3,7 +3,8 @@ use Rattle.std.specs.Prelude.{List, map, Option, Some, None}
 use Rattle.cell_value.specs.declared.values.Value.{Value}
 use Rattle.cell_value.specs.declared.values.Value.TheVariants as value
 use Rattle.persistent_store.specs.declared.cells.Cell.{Cell}
-use Rattle.persistent_store.specs.declared.cells.Cell.TheVariants.{Absent, Undefined, Number, Bits, Nil, Heap, Place, Frame, Routine}
+use Rattle.persistent_store.specs.declared.cells.Cell.TheVariants.{Absent, Undefined, Number, Bits, Nil, Heap, Place}
+use Rattle.persistent_store.specs.declared.cells.Cell.TheVariants.{Frame, Routine}
 
 -- the value of a cell, if it has one
 abbrev pub value_of : Cell → Option Value

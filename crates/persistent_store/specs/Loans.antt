@@ -16,4 +16,5 @@ with_target None value = None
 
 -- the pointer ends with the last value behind r, and is unchanged where there is no r
 abbrev pub LendsTarget : (T : RattleType) → MutBor (Option (Rc T.Denot Global)) → Option (MutBor T.Denot) → Fml
-LendsTarget T pointer r = LendsIf (option.the_row (rc.the_row T global.the_row allocator.ghosts)) T pointer r (with_target pointer.now) pointer.now
+LendsTarget T pointer r = LendsIf (option.the_row (rc.the_row T global.the_row allocator.ghosts)) T pointer r
+    (with_target pointer.now) pointer.now

@@ -1,6 +1,7 @@
 //! The nodes of the trie: leaves with cells, and branches with nodes of the level below. Any number
 //! of stores may share a node, and one that is shared is never written to.
-ghost use Rattle.std.specs.Prelude.{◌≡◌, ◌+◌, ◌<◌, ℕ, IfOk, IfSome, OnOk, OnErr, Some, None, option_copied, length, replicate};
+ghost use Rattle.std.specs.Prelude.{◌≡◌, ◌+◌, ◌<◌, ℕ, IfOk, IfSome, OnOk, OnErr, Some, None, option_copied, length};
+ghost use Rattle.std.specs.Prelude.{replicate};
 ghost use Rattle.std.specs.Borrow.{sem};
 ghost use Rattle.persistent_store.specs.Cells.{value_of, values_of};
 ghost use Rattle.persistent_store.specs.Loans.{LendsTarget};
@@ -42,7 +43,8 @@ impl Leaf {
     /// Copies of the cells of a leaf, none of them with a value where there is no leaf.
     fn cells_of(leaf: Option<&Leaf>) -> Result<[Cell; 16], Memory>
         ensures sixteen { IfOk result (λ cells. length cells ≡ 16) }
-        ensures same { IfOk result (λ cells. (k : ℕ) → entry_at (Some (values_of cells)) k ≡ entry_at (option_copied leaf.entry) k) }
+        ensures same { IfOk result (λ cells. (k : ℕ)
+            → entry_at (Some (values_of cells)) k ≡ entry_at (option_copied leaf.entry) k) }
     {
         match leaf {
             Some(leaf) => copies_of(&leaf.cells),
@@ -60,7 +62,8 @@ impl Leaf {
         made: &mut Steps<L>,
     ) -> Result<Rc<Leaf>, Memory>
         requires { place < 16 }
-        ensures changed { IfOk result (λ new. ChangesAt (entry_at (option_copied old.entry)) (entry_at (Some new.value)) place (value_of cell)) }
+        ensures changed { IfOk result (λ new. ChangesAt (entry_at (option_copied old.entry))
+            (entry_at (Some new.value)) place (value_of cell)) }
         ensures one_node { OnOk result (made.new ≡ made.old + 1) }
         ensures no_node { OnErr result (made.new ≡ made.old) }
     {
@@ -101,7 +104,8 @@ impl<T: Drop> Branch<T> {
     /// Pointers to the nodes that a branch has, none where there is no branch.
     fn pointers_of(branch: Option<&Branch<T>>) -> Result<[Option<Rc<T>>; 16], Memory>
         ensures sixteen { IfOk result (λ p. length p ≡ 16) }
-        ensures same { IfOk result (λ p. (k : ℕ) → entry_at (Some (targets p)) k ≡ entry_at (option_copied branch.entry) k) }
+        ensures same { IfOk result (λ p. (k : ℕ) → entry_at (Some (targets p)) k
+            ≡ entry_at (option_copied branch.entry) k) }
     {
         match branch {
             Some(branch) => Ok(branch.below.clone()?),
@@ -119,7 +123,8 @@ impl<T: Drop> Branch<T> {
         made: &mut Steps<L>,
     ) -> Result<Rc<Branch<T>>, Memory>
         requires { place < 16 }
-        ensures changed { IfOk result (λ new. ChangesAt (entry_at (option_copied old.entry)) (entry_at (Some new.value)) place (Some node.value)) }
+        ensures changed { IfOk result (λ new. ChangesAt (entry_at (option_copied old.entry))
+            (entry_at (Some new.value)) place (Some node.value)) }
         ensures one_node { OnOk result (made.new ≡ made.old + 1) }
         ensures no_node { OnErr result (made.new ≡ made.old) }
     {

@@ -60,7 +60,8 @@ impl Store {
         let _root = &self.root;
     }
 
-    /// Sets or removes the value at an address: in place where the store is the only owner of each node on the way to it, and
+    /// Sets or removes the value at an address: in place where the store is the only owner of each node on the way to
+    /// it, and
     /// else by new nodes for that way.
     fn write<L>(
         &mut self,

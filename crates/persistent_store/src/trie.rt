@@ -72,7 +72,8 @@ pub(crate) fn changed<L>(
     made: &mut Steps<L>,
 ) -> Result<Rc<Root>, Memory>
     requires { addr < 1048576 }
-    ensures changed { IfOk result (λ new. ChangesAt (cell_at (option_copied root.entry)) (cell_at (Some new.value)) addr (value_of cell)) }
+    ensures changed { IfOk result (λ new. ChangesAt (cell_at (option_copied root.entry)) (cell_at (Some new.value))
+        addr (value_of cell)) }
     ensures made_rises { made.old ≤ made.new }
     ensures five_nodes { made.new ≤ made.old + 5 }
 {
@@ -96,7 +97,8 @@ pub(crate) fn written_in_place(
     cell: &mut Cell,
 ) -> Option<()>
     requires { addr < 1048576 }
-    ensures written { OnSome result (ChangesAt (cell_at (target_of root.old)) (cell_at (target_of root.new)) addr (value_of cell.old)) }
+    ensures written { OnSome result (ChangesAt (cell_at (target_of root.old)) (cell_at (target_of root.new)) addr
+        (value_of cell.old)) }
     ensures unchanged { IfNone result (target_of root.new ≡ target_of root.old) }
     ensures kept { IfNone result (cell.new ≡ cell.old) }
 {
