@@ -14,8 +14,7 @@ pub(crate) struct Section {
 }
 
 /// The sections of a file. A line that begins with `==` is a heading, `== ` and words. What stands above the first one
-/// is
-/// a note.
+/// is a note.
 pub(crate) fn sections(alloc: Global, bytes: &[u8]) -> Result<Vec<Section>> {
     let mut sections: Vec<Section> = Vec::new(alloc);
     let mut blank = Vec::new(alloc);
