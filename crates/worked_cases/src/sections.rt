@@ -13,8 +13,8 @@ pub(crate) struct Section {
     pub(crate) text: Vec<u8>,
 }
 
-/// The sections of a file. A line that begins with `==` is a heading, `== ` and words. What stands above the first one is
-/// a note.
+/// The sections of a file. A line that begins with `==` is a heading, `== ` and words. What stands above the first one
+/// is a note.
 pub(crate) fn sections(alloc: Global, bytes: &[u8]) -> Result<Vec<Section>> {
     let mut sections: Vec<Section> = Vec::new(alloc);
     let mut blank = Vec::new(alloc);
