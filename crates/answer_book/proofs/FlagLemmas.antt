@@ -1,5 +1,6 @@
 -- The flags of the calls that are judged wrong.
-use Rattle.std.proofs.Common.{◌≡◌, ℕ, zero, suc, ◌<◌, ◌≤◌, Bool, true, false, not, List, [], ◌∷◌, length, get_or, set, replicate, Option, Some, None, refl, sym, ap, ◌∙◌, inl, inr, arith}
+use Rattle.std.proofs.Common.{◌≡◌, ℕ, zero, suc, ◌<◌, ◌≤◌, Bool, true, false, not, List, [], ◌∷◌, length, get_or, set, replicate, Option, Some, None, refl, sym}
+use Rattle.std.proofs.Common.{ap, ◌∙◌, inl, inr, arith}
 use Rattle.std.specs.Prelude.{◌≢◌, ◌==◌, All, map, slice_get}
 use Rattle.std.proofs.lemmas.Bool.{eq-eqb, ne_eqb, not_from_false, not_from_true}
 use Rattle.std.proofs.lemmas.List.{length-map, length-set, length-replicate, map-set}
@@ -55,7 +56,8 @@ flag_cases : (judged : List (Option Judgement)) (wrong : List ℕ) (call : ℕ) 
 flag_cases judged wrong call are inside unset false is = is
 flag_cases judged wrong call are inside unset true is =
     let within : call < length wrong = omega (arith, inside, ap length are.flagged, length-map judged wrong_flag) in
-    absurd (unset (record { inside = within; nonzero = λ none. let e = sym is ∙ says judged wrong call are inside ∙ not_from_true (get_or wrong call 0 == 0) (eq-eqb (get_or wrong call 0) 0 none) in cc }))
+    absurd (unset (record { inside = within; nonzero = λ none. let e = sym is ∙ says judged wrong call are inside
+        ∙ not_from_true (get_or wrong call 0 == 0) (eq-eqb (get_or wrong call 0) 0 none) in cc }))
 
 not_flagged : (judged : List (Option Judgement)) (wrong : List ℕ) (call : ℕ) → AreFlagged judged wrong → call < length judged
     → ¬ (IsSet wrong call) → is_wrong_at (slice_get judged call) ≡ false

@@ -1,5 +1,6 @@
 -- A book stays kept when an entry is added or taken back.
-use Rattle.std.proofs.Common.{◌≡◌, ℕ, zero, suc, ◌+◌, ◌-◌, ◌<◌, ◌≤◌, Bool, true, false, cond, ◌||◌, List, [], ◌∷◌, ◌++◌, Option, Some, None, length, get_or, set, get_or-set_other, get_or-set_same, refl, sym, ap, ◌∙◌, inl, inr, arith}
+use Rattle.std.proofs.Common.{◌≡◌, ℕ, zero, suc, ◌+◌, ◌-◌, ◌<◌, ◌≤◌, Bool, true, false, cond, ◌||◌, List, [], ◌∷◌, ◌++◌, Option, Some, None, length, get_or}
+use Rattle.std.proofs.Common.{set, get_or-set_other, get_or-set_same, refl, sym, ap, ◌∙◌, inl, inr, arith}
 use Rattle.std.specs.Prelude.{All, map, slice_get, slice_set}
 use Rattle.std.specs.List.{filter_map, list_any}
 use Rattle.std.proofs.lemmas.Bool.{cases_eq, or_right}
@@ -49,7 +50,9 @@ pub judged_is_kept : (book : Answers) (judged : List (Option Judgement)) (truste
 judged_is_kept book judged trusted call judgement inside kept = record {
   few = kept.few;
   known = kept.known;
-  named = All-push (λ (entry : Entry). IsInRange (length book.routine) book.routines entry.what) book.entries (entry_saying (Judged call judgement)) kept.named inside;
+  named =
+      All-push (λ (entry : Entry). IsInRange (length book.routine) book.routines entry.what) book.entries
+      (entry_saying (Judged call judgement)) kept.named inside;
   judged_calls =
       ap (λ l. set l call (Some judgement)) kept.judged_calls
       ∙ column_set (last_judgement (standing_answers book.entries)) (last_judgement (standing_answers (entries_with book.entries (Judged call judgement))))
@@ -68,7 +71,9 @@ pub trusted_is_kept : (book : Answers) (judged : List (Option Judgement)) (trust
 trusted_is_kept book judged trusted routine inside kept = record {
   few = kept.few;
   known = kept.known;
-  named = All-push (λ (entry : Entry). IsInRange (length book.routine) book.routines entry.what) book.entries (entry_saying (Trusted routine)) kept.named inside;
+  named =
+      All-push (λ (entry : Entry). IsInRange (length book.routine) book.routines entry.what) book.entries
+      (entry_saying (Trusted routine)) kept.named inside;
   judged_calls =
       kept.judged_calls
       ∙ column_same (last_judgement (standing_answers book.entries)) (last_judgement (standing_answers (entries_with book.entries (Trusted routine))))
@@ -77,6 +82,8 @@ trusted_is_kept book judged trusted routine inside kept = record {
       ap (λ l. set l routine true) kept.trusted_routines
       ∙ column_set (is_trusted (standing_answers book.entries)) (is_trusted (standing_answers (entries_with book.entries (Trusted routine))))
       book.routines routine true inside
-      (trusted_with book.entries (Trusted routine) routine ∙ or_right (is_trusted (standing_answers book.entries) routine) (trusts routine (Trusted routine)) (in_its_routine routine))
-      (λ other h differs. trusted_with book.entries (Trusted routine) other ∙ or_none (is_trusted (standing_answers book.entries) other) (trusts other (Trusted routine)) (in_another routine other differs));
+      (trusted_with book.entries (Trusted routine) routine
+          ∙ or_right (is_trusted (standing_answers book.entries) routine) (trusts routine (Trusted routine)) (in_its_routine routine))
+      (λ other h differs. trusted_with book.entries (Trusted routine) other
+          ∙ or_none (is_trusted (standing_answers book.entries) other) (trusts other (Trusted routine)) (in_another routine other differs));
 }

@@ -64,7 +64,8 @@ wrong_by (Some Wrong) trusted = refl
 wrong_by (Some Unknown) trusted = refl
 
 -- a call is marked wrong where its last judgement is wrong
-pub wrong_where : (routine : List ℕ) (answers : List What) (call : ℕ) → is_wrong (mark_of routine answers call) ≡ is_wrong_judgement (last_judgement answers call)
+pub wrong_where : (routine : List ℕ) (answers : List What) (call : ℕ)
+    → is_wrong (mark_of routine answers call) ≡ is_wrong_judgement (last_judgement answers call)
 unfolding mark_of
 wrong_where routine answers call = wrong_by (last_judgement answers call) (is_trusted answers (slice_index routine call))
 

@@ -1,5 +1,6 @@
 -- A new book is kept.
-use Rattle.std.proofs.Common.{◌≡◌, ℕ, ◌<◌, ◌≤◌, Bool, false, List, [], Option, get_or, Some, None, length, set, replicate, get_or-set_other, get_or-set_same, refl, sym, ap, ◌∙◌, inl, inr, arith}
+use Rattle.std.proofs.Common.{◌≡◌, ℕ, ◌<◌, ◌≤◌, Bool, false, List, [], Option, get_or, Some, None, length, set, replicate, get_or-set_other, get_or-set_same}
+use Rattle.std.proofs.Common.{refl, sym, ap, ◌∙◌, inl, inr, arith}
 use Rattle.std.specs.Prelude.{All}
 use Rattle.std.proofs.lemmas.Bool.{cases_eq}
 use Rattle.std.proofs.lemmas.List.{get_or-replicate, length-map, length-replicate, length-set}
@@ -39,11 +40,15 @@ new_is_kept run judged trusted some few known is none =
     record {
       few = few;
       known = All-map (λ routine. routine < run.routines) (λ (call : Call). call.routine) run.calls known;
-      named = All-push (λ (entry : Entry). IsInRange n run.routines entry.what) [] (entry_saying (Judged 0 Wrong)) (All-nil (λ (entry : Entry). IsInRange n run.routines entry.what)) long;
+      named =
+          All-push (λ (entry : Entry). IsInRange n run.routines entry.what) [] (entry_saying (Judged 0 Wrong))
+          (All-nil (λ (entry : Entry). IsInRange n run.routines entry.what)) long;
       judged_calls =
           is ∙ fill_by_all (last_judgement (standing_answers first_entries)) (set (replicate n None) 0 (Some Wrong)) n None
           (length-set (replicate n None) 0 (Some Wrong) ∙ length-replicate n None) (first_judged n long);
       trusted_routines =
-          none ∙ fill_by_all (is_trusted (standing_answers first_entries)) (replicate run.routines false) run.routines false (length-replicate run.routines false)
+          none
+          ∙ fill_by_all (is_trusted (standing_answers first_entries)) (replicate run.routines false) run.routines false
+          (length-replicate run.routines false)
           (λ k inside. get_or-replicate run.routines k false false inside);
     }

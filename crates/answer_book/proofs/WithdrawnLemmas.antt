@@ -1,5 +1,6 @@
 -- A book stays kept when an entry is taken back and what it named is looked up anew.
-use Rattle.std.proofs.Common.{◌≡◌, ℕ, zero, suc, ◌+◌, ◌-◌, ◌<◌, ◌≤◌, Bool, true, false, cond, List, Option, Some, None, length, get_or, set, refl, sym, ap, subst, ◌∙◌, arith}
+use Rattle.std.proofs.Common.{◌≡◌, ℕ, zero, suc, ◌+◌, ◌-◌, ◌<◌, ◌≤◌, Bool, true, false, cond, List, Option, Some, None, length, get_or, set, refl, sym, ap}
+use Rattle.std.proofs.Common.{subst, ◌∙◌, arith}
 use Rattle.std.specs.Prelude.{◌==◌, All, map, slice_get, slice_set}
 use Rattle.std.specs.List.{filter_map, list_any}
 use Rattle.std.proofs.lemmas.List.{length-set}
@@ -69,7 +70,8 @@ same_trust entries after place what routine w off =
     ∙ list_any-set (entry_trusts routine) entries place (entry_saying what) (record { what = what; standing = false }) w.at (sym off)
     ∙ sym (trusted_by_entries entries routine)
 
-pub judgement_is_withdrawn : (book : Answers) (after : List Entry) (judged : List (Option Judgement)) (trusted : List Bool) (place call : ℕ) (judgement : Judgement)
+pub judgement_is_withdrawn : (book : Answers) (after : List Entry) (judged : List (Option Judgement)) (trusted : List Bool)
+    (place call : ℕ) (judgement : Judgement)
     → IsWithdrawn book.entries after place (Judged call judgement) → AreKept book judged trusted
     → AreKept (record book { entries = after }) (set judged call (last_of (filter_map (entry_judgement call) after))) trusted
 judgement_is_withdrawn book after judged trusted place call judgement w kept =

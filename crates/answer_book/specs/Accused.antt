@@ -13,4 +13,5 @@ is_wrong _ = false
 
 -- the accused is the greatest call that is marked wrong
 unfoldable pub accused_of : List ℕ → List What → Option ℕ
-accused_of routine answers = last_where (λ call. is_wrong (mark_of routine answers call)) (numbers_below (length routine))
+accused_of routine answers =
+    last_where (λ call. is_wrong (mark_of routine answers call)) (numbers_below (length routine))

@@ -24,7 +24,8 @@ judge_answer book call = if nat_le (length book.routine) call then Err (fault.No
 
 -- to trust in a routine
 abbrev pub trust_answer : Answers → ℕ → Result ℕ BookFault
-trust_answer book routine = if nat_le book.routines routine then Err (fault.NoRoutine routine) else next_number book.entries
+trust_answer book routine =
+    if nat_le book.routines routine then Err (fault.NoRoutine routine) else next_number book.entries
 
 -- to taking back the entry of this number
 abbrev pub take_back_answer : Answers → ℕ → Result (Unit {0}) BookFault

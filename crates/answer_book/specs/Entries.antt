@@ -1,6 +1,7 @@
 -- The entries of a book, numbered from 1 in the order in which they were made, and which of them stand. An entry stands
 -- until it is taken back, and taking back makes no entry.
-use Rattle.std.specs.Prelude.{ℕ, Bool, true, false, ◌+◌, ◌-◌, ◌==◌, if◌then◌else◌, List, [], ◌∷◌, ◌++◌, Option, Some, None, length, slice_get, slice_set}
+use Rattle.std.specs.Prelude.{ℕ, Bool, true, false, ◌+◌, ◌-◌, ◌==◌, if◌then◌else◌, List, [], ◌∷◌, ◌++◌, Option, Some}
+use Rattle.std.specs.Prelude.{None, length, slice_get, slice_set}
 use Rattle.std.specs.List.{filter_map}
 use Rattle.answer_book.specs.declared.entries.Entry.{Entry}
 use Rattle.answer_book.specs.declared.entries.Judgement.TheVariants.{Wrong}

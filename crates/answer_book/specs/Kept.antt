@@ -11,9 +11,14 @@ use Rattle.answer_book.specs.Marks.{is_trusted, last_judgement}
 use Rattle.answer_book.specs.Numbers.{numbers_below}
 
 abbrev pub answers_of : Inside → Answers
-answers_of kept = record { routine = routines_of kept.calls.value.calls; routines = kept.calls.value.routines; entries = kept.entries }
+answers_of kept = record {
+  routine = routines_of kept.calls.value.calls;
+  routines = kept.calls.value.routines;
+  entries = kept.entries;
+}
 
--- each call is of a routine, the entries name calls and routines, and the two columns are those of the answers that stand
+-- each call is of a routine, the entries name calls and routines, and the two columns are those of the answers
+-- that stand
 pub record AreKept (book : Answers) (judged : List (Option Judgement)) (trusted : List Bool) : Type 0 where
   pub few : length book.routine ≤ 500000
   pub known : All (λ routine. routine < book.routines) book.routine

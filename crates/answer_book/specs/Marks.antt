@@ -1,6 +1,7 @@
--- The mark of a call, from the answers that stand, first to last. Of several judgements on one call the last counts, and
--- a judgement counts more than trust, whichever came later; both are this project's own rules.
-use Rattle.std.specs.Prelude.{ℕ, Bool, true, false, ◌==◌, if◌then◌else◌, List, Option, Some, None, length, map, slice_index}
+-- The mark of a call, from the answers that stand, first to last. Of several judgements on one call the last counts,
+-- and a judgement counts more than trust, whichever came later; both are this project's own rules.
+use Rattle.std.specs.Prelude.{ℕ, Bool, true, false, ◌==◌, if◌then◌else◌, List, Option, Some, None, length, map}
+use Rattle.std.specs.Prelude.{slice_index}
 use Rattle.std.specs.List.{filter_map, list_any}
 use Rattle.answer_book.specs.declared.entries.Judgement.{Judgement}
 use Rattle.answer_book.specs.declared.entries.Judgement.TheVariants as judged

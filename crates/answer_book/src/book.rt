@@ -1,7 +1,8 @@
 //! The book of a search.
 ghost use Rattle.std.specs.Prelude.{◌≡◌, ◌<◌, ◌≤◌, [], true, IfOk, OnErr, OnOk, Some, length};
 ghost use Rattle.answer_book.specs.Accused.{accused_of};
-ghost use Rattle.answer_book.specs.Answers.{judge_answer, new_book, take_back_answer, take_back_last_answer, trust_answer, with_answer, without_answer};
+ghost use Rattle.answer_book.specs.Answers.{judge_answer, new_book, take_back_answer, take_back_last_answer};
+ghost use Rattle.answer_book.specs.Answers.{trust_answer, with_answer, without_answer};
 ghost use Rattle.answer_book.specs.Entries.{entry_at, is_standing, standing_answers};
 ghost use Rattle.answer_book.specs.InRange.{IsInRange};
 ghost use Rattle.answer_book.specs.Marks.{mark_of};

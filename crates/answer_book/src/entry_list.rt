@@ -1,7 +1,8 @@
 //! The list of the entries of a book.
 ghost use Rattle.std.specs.Prelude.{◌≡◌, ℕ, ◌<◌, ◌≤◌, true, IfOk, OnErr, OnOk, Some, length};
 ghost use Rattle.std.specs.List.{filter_map, list_any};
-ghost use Rattle.answer_book.specs.Entries.{entries_with, entries_without, entry_at, entry_saying, first_entries, is_standing, last_standing};
+ghost use Rattle.answer_book.specs.Entries.{entries_with, entries_without, entry_at, entry_saying, first_entries};
+ghost use Rattle.answer_book.specs.Entries.{is_standing, last_standing};
 ghost use Rattle.answer_book.specs.Numbers.{last_of};
 ghost use Rattle.answer_book.specs.Answers.{next_number};
 ghost use Rattle.answer_book.specs.Spoken.{entry_judgement, entry_trusts};

@@ -13,7 +13,9 @@ invariant_of-result c =
     let long = length-map run.calls (λ (call : Call). call.routine) in
     let few : length (routines_of run.calls) ≤ 500000 = omega (arith, c.are_numbered.ensures.few) in
     let judged : c.set.new.self ≡ set (replicate (length (routines_of run.calls)) None) 0 (Some Wrong) =
-    c.set.ensures ∙ ap (λ (l : List (Option Judgement)). set l 0 (Some Wrong)) (c.in_ok-judged.ensures ∙ ap (λ n. replicate n None) (c.len.ensures ∙ sym long)) in
+    c.set.ensures ∙ ap (λ (l : List (Option Judgement)). set l 0 (Some Wrong)) (c.in_ok-judged.ensures ∙ ap (λ n. replicate n None) (c.len.ensures
+        ∙ sym long)) in
     let trusted : c.in_ok-trusted.trusted.items ≡ replicate run.routines false =
     (let all : c.in_ok-trusted.trusted.items ≡ replicate c.routines.result false = search rules in all) ∙ ap (λ n. replicate n false) c.routines.ensures in
-    rw (c.of.ensures, c.in_ok-entries.ensures) (new_is_kept run c.set.new.self c.in_ok-trusted.trusted.items c.requires.a_call few c.are_numbered.ensures.known judged trusted)
+    rw (c.of.ensures, c.in_ok-entries.ensures)
+    (new_is_kept run c.set.new.self c.in_ok-trusted.trusted.items c.requires.a_call few c.are_numbered.ensures.known judged trusted)
