@@ -1,0 +1,9 @@
+pub mod LastWhere
+pub mod FilterMaps
+pub mod FlagLemmas
+pub mod AnswerLemmas
+pub mod EntryLemmas
+pub mod KeptLemmas
+pub mod WithdrawnLemmas
+pub mod MarkLemmas
+pub mod NewLemmas

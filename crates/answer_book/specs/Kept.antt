@@ -1,0 +1,30 @@
+-- How a book is kept: beside the entries the last judgement on each call, and which routines are trusted.
+use Rattle.std.specs.Prelude.{◌≡◌, ℕ, ◌<◌, ◌≤◌, Bool, All, List, Option, length, map}
+use Rattle.answer_book.specs.declared.book.Book.TheInside.{Inside}
+use Rattle.answer_book.specs.declared.entries.Entry.{Entry}
+use Rattle.answer_book.specs.declared.entries.Judgement.{Judgement}
+use Rattle.call_tree.specs.Recording.{routines_of}
+use Rattle.answer_book.specs.Answers.{Answers}
+use Rattle.answer_book.specs.Entries.{standing_answers}
+use Rattle.answer_book.specs.InRange.{IsInRange}
+use Rattle.answer_book.specs.Marks.{is_trusted, last_judgement}
+use Rattle.answer_book.specs.Numbers.{numbers_below}
+
+abbrev pub answers_of : Inside → Answers
+answers_of kept = record {
+  routine = routines_of kept.calls.value.calls;
+  routines = kept.calls.value.routines;
+  entries = kept.entries;
+}
+
+-- each call is of a routine, the entries name calls and routines, and the two columns are those of the answers
+-- that stand
+pub record AreKept (book : Answers) (judged : List (Option Judgement)) (trusted : List Bool) : Type 0 where
+  pub few : length book.routine ≤ 500000
+  pub known : All (λ routine. routine < book.routines) book.routine
+  pub named : All (λ entry. IsInRange (length book.routine) book.routines entry.what) book.entries
+  pub judged_calls : judged ≡ map (last_judgement (standing_answers book.entries)) (numbers_below (length book.routine))
+  pub trusted_routines : trusted ≡ map (is_trusted (standing_answers book.entries)) (numbers_below book.routines)
+
+abbrev pub IsKept : Inside → Type 0
+IsKept kept = AreKept (answers_of kept) kept.judged kept.trusted.items

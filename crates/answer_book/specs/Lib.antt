@@ -1,0 +1,11 @@
+pub mod Numbers
+pub mod Room
+pub mod Entries
+pub mod Clear
+pub mod Marks
+pub mod Accused
+pub mod Answers
+pub mod Judged
+pub mod Spoken
+pub mod InRange
+pub mod Kept
