@@ -1,10 +1,6 @@
 -- Tests joined, taken apart and put together.
-use Rattle.std.proofs.Common.{◌≡◌, Bool, true, false, not, refl, ◌⊎◌, inl, inr}
+use Rattle.std.proofs.Common.{◌≡◌, Bool, true, false, refl, ◌⊎◌, inl, inr}
 use Rattle.grammar.specs.Deciding.{both, either, implies}
-
-pub both_parts : (a b : Bool) → both a b ≡ true → (a ≡ true) × (b ≡ true)
-both_parts true b e = (refl, e)
-both_parts false b e = absurd cc
 
 pub both_make : (a b : Bool) → a ≡ true → b ≡ true → both a b ≡ true
 both_make true b e f = f
@@ -22,10 +18,10 @@ pub either_parts : (a b : Bool) → either a b ≡ true → (a ≡ true) ⊎ (b 
 either_parts true b e = inl refl
 either_parts false b e = inr e
 
+pub by_test : (b : Bool) → (b ≡ true) ⊎ (b ≡ false)
+by_test true = inl refl
+by_test false = inr refl
+
 pub implied : (a b : Bool) → implies a b ≡ true → a ≡ true → b ≡ true
 implied true b e f = e
 implied false b e f = absurd cc
-
-pub not_true : (a : Bool) → not a ≡ true → a ≡ false
-not_true true e = absurd cc
-not_true false e = refl

@@ -1,15 +1,15 @@
 -- Reading does not pass a terminal that stands at the end alone.
 use Rattle.std.proofs.Common.{◌≡◌, ℕ, zero, suc, Bool, true, false, cond, List, [], ◌∷◌, length, Ok, Err, refl, sym, ap, subst, ◌∙◌, inl, inr}
+use Rattle.std.proofs.lemmas.Bool.{and_parts, not-true}
 use Rattle.grammar.specs.declared.terminals.Terminal.{Terminal}
-use Rattle.grammar.specs.Terminals.{one_of, passes}
+use Rattle.grammar.specs.Terminals.{one_of, passes, every_of}
 use Rattle.grammar.specs.Nodes.{Item, Node, Leaf, Nothing, Pair, next}
 use Rattle.grammar.specs.Grammars.{Level, Grammar, token, nothing, seq, choice, greedy, level, loop, again}
 use Rattle.grammar.specs.Reading.{Refusal, Unfit, Deep, left_of, Read, ◌>>=◌, token_at, then_pair, unread, turns, turning, reads, levels, read}
-use Rattle.grammar.specs.Deciding.{LevelTables, expects, all_levels, every_level_of}
+use Rattle.grammar.specs.Deciding.{LevelTables, expects, all_levels}
 use Rattle.grammar.specs.Ending.{lacks, ends_in, IsLast, Has}
-use Rattle.grammar.proofs.Bools.{both_parts, not_true}
 use Rattle.grammar.proofs.Exact.{bind_err, err_is, ok_no_err, token_fails}
-use Rattle.grammar.proofs.Knot.{every_level}
+use Rattle.grammar.proofs.LevelsTested.{every_level}
 
 module _ (k : Terminal) where
   -- what is left has the terminal
@@ -50,10 +50,12 @@ module _ (k : Terminal) where
   module _ (p : Level → List Item → Read) (level_keeps : (v : Level) → Keeps (p v)) where
     keeps : (g : Grammar) → lacks k g ≡ true → (u : List Item → Read) → Keeps u → Keeps (reads p g u)
     unfolding turning
-    keeps (token ks) ok u s l h = kept_token ks (not_true (one_of ks k) ok) l h
+    keeps (token ks) ok u s l h = kept_token ks (not-true (one_of ks k) ok) l h
     keeps nothing ok u s l h = h
-    keeps (seq a b) ok u s l h = let o = both_parts (lacks k a) (lacks k b) ok in kept_then (reads p a u l) (reads p b u) (keeps a o.0 u s l h) (keeps b o.1 u s)
-    keeps (choice ks a b) ok u s l h = let o = both_parts (lacks k a) (lacks k b) ok in kept_cond (passes ks (next l)) (reads p a u l) (reads p b u l) (keeps a o.0 u s l h) (keeps b o.1 u s l h)
+    keeps (seq a b) ok u s l h = let o = and_parts (lacks k a) (lacks k b) ok in kept_then (reads p a u l) (reads p b u) (keeps a o.0 u s l h)
+        (keeps b o.1 u s)
+    keeps (choice ks a b) ok u s l h = let o = and_parts (lacks k a) (lacks k b) ok in kept_cond (passes ks (next l)) (reads p a u l) (reads p b u l)
+        (keeps a o.0 u s l h) (keeps b o.1 u s l h)
     keeps (greedy ks a) ok u s l h = kept_cond (passes ks (next l)) (reads p a u l) (Ok (Nothing, l)) (keeps a ok u s l h) h
     keeps (level v) ok u s l h = level_keeps v l h
     keeps (loop a) ok u s l h = kept_turns (reads p a) (keeps a ok) (suc (length l)) l h
@@ -62,11 +64,12 @@ module _ (k : Terminal) where
     kept_err : (r : Read) (d : Refusal) → r ≡ Err d → Kept r → Has k (left_of d)
     kept_err r d e h = subst Kept e h
 
-    last_keeps : (g : Grammar) → ends_in k g ≡ true → (u : List Item → Read) → Keeps u → (l : List Item) (r : Refusal) → Has k l → reads p g u l ≡ Err r → Has k (left_of r)
+    last_keeps : (g : Grammar) → ends_in k g ≡ true → (u : List Item → Read) → Keeps u → (l : List Item) (r : Refusal) → Has k l → reads p g u l ≡ Err r
+        → Has k (left_of r)
     last_keeps (token ks) ok u s l r h e = subst (Has k) (ap left_of (err_is (Unfit l) r (token_fails ks l r e).0)) h
     last_keeps nothing ok u s l r h e = absurd cc
     last_keeps (seq a b) ok u s l r h e =
-        let o = both_parts (lacks k a) (ends_in k b) ok in
+        let o = and_parts (lacks k a) (ends_in k b) ok in
         elim (bind_err (reads p a u l) (λ x. reads p b u x.1 >>= λ y. Ok (Pair x.0 y.0, y.1)) r e) [
           | inl f ↦ kept_err (reads p a u l) r f (keeps a o.0 u s l h)
           | inr f ↦ elim (bind_err (reads p b u f.0.1) (λ y. Ok (Pair f.0.0 y.0, y.1)) r f.2) [
@@ -88,12 +91,12 @@ module _ (k : Terminal) where
     unfolding levels
     level_keeps zero v l h = kept_cond (expects t v (next l)) (Err (Deep l)) (Err (Unfit l)) h h
     level_keeps (suc n) v l h =
-        let o = both_parts (every_level_of (λ l. lacks k (t.rule l)) all_levels) (ends_in k g) ok in
+        let o = and_parts (every_of (λ l. lacks k (t.rule l)) all_levels) (ends_in k g) ok in
         keeps (levels t n) (level_keeps n) (t.rule v) (every_level (λ l. lacks k (t.rule l)) o.0 v) unread unread_keeps l h
 
     -- A refusal stands before the last token or at it.
     pub refused_inside : (n : ℕ) (l : List Item) (r : Refusal) → Has k l → read t n g l ≡ Err r → Has k (left_of r)
     unfolding read
     refused_inside n l r h e =
-        let o = both_parts (every_level_of (λ l. lacks k (t.rule l)) all_levels) (ends_in k g) ok in
+        let o = and_parts (every_of (λ l. lacks k (t.rule l)) all_levels) (ends_in k g) ok in
         last_keeps (levels t n) (level_keeps n) g o.1 unread unread_keeps l r h e

@@ -1,20 +1,24 @@
 -- What all terminals pass, each passes.
 use Rattle.std.proofs.Common.{◌≡◌, ℕ, zero, suc, Bool, true, List, [], ◌∷◌}
+use Rattle.std.proofs.lemmas.Bool.{and_parts}
 use Rattle.grammar.specs.declared.terminals.Terminal.{Terminal}
-use Rattle.grammar.specs.declared.terminals.Terminal.TheVariants.{WAnd, WArray, WBegin, WCase, WConst, WDiv, WDo, WDownto, WElse, WEnd, WFile, WFor, WFunction, WGoto, WIf, WIn, WLabel, WMod, WNil, WNot, WOf, WOr, WPacked, WProcedure, WProgram, WRecord, WRepeat, WSet, WThen, WTo, WType, WUntil, WVar, WWhile, WWith, Plus, Minus, Star, Equal, Less, Greater, LeftBracket, RightBracket, Dot, Comma, Colon, Semicolon, Caret, LeftParen, RightParen, NotEqual, AtMost, AtLeast, Becomes, Range, Name, Number, Text, End}
+use Rattle.grammar.specs.declared.terminals.Terminal.TheVariants.{WAnd, WArray, WBegin, WCase, WConst, WDiv, WDo, WDownto, WElse, WEnd, WFile, WFor, WFunction}
+use Rattle.grammar.specs.declared.terminals.Terminal.TheVariants.{WGoto, WIf, WIn, WLabel, WMod, WNil, WNot, WOf, WOr, WPacked, WProcedure, WProgram, WRecord}
+use Rattle.grammar.specs.declared.terminals.Terminal.TheVariants.{WRepeat, WSet, WThen, WTo, WType, WUntil, WVar, WWhile, WWith, Plus, Minus, Star, Equal, Less}
+use Rattle.grammar.specs.declared.terminals.Terminal.TheVariants.{Greater, LeftBracket, RightBracket, Dot, Comma, Colon, Semicolon, Caret, LeftParen}
+use Rattle.grammar.specs.declared.terminals.Terminal.TheVariants.{RightParen, NotEqual, AtMost, AtLeast, Becomes, Range, Name, Number, Text, End}
 use Rattle.grammar.specs.Terminals.{all_terminals, every_of, every}
-use Rattle.grammar.proofs.Bools.{both_parts}
 
--- a fact of the terminal at a place of a list
-abbrev At : ℕ → List Terminal → (Terminal → Type 0) → Type 0
+-- a fact of what is at a place of a list
+abbrev pub At : {A : Type 0} → ℕ → List A → (A → Type 0) → Type 0
 At n [] p = Unit {0}
 At zero (k ∷ ks) p = p k
 At (suc n) (k ∷ ks) p = At n ks p
 
-every_at : (t : Terminal → Bool) (n : ℕ) (ks : List Terminal) → every_of t ks ≡ true → At n ks (λ k. t k ≡ true)
+pub every_at : {A : Type 0} (t : A → Bool) (n : ℕ) (ks : List A) → every_of t ks ≡ true → At n ks (λ k. t k ≡ true)
 every_at t n [] e = tt
-every_at t zero (k ∷ ks) e = (both_parts (t k) (every_of t ks) e).0
-every_at t (suc n) (k ∷ ks) e = every_at t n ks (both_parts (t k) (every_of t ks) e).1
+every_at t zero (k ∷ ks) e = (and_parts (t k) (every_of t ks) e).0
+every_at t (suc n) (k ∷ ks) e = every_at t n ks (and_parts (t k) (every_of t ks) e).1
 
 pub every_terminal : (t : Terminal → Bool) → every t ≡ true → (k : Terminal) → t k ≡ true
 every_terminal t e WAnd = every_at t 0 all_terminals e

@@ -10,7 +10,8 @@ use Rattle.grammar.specs.Reading.{Refusal, Unfit, left_of, Read, ◌>>=◌, toke
 
 -- No tree has a spelling that begins as the list does, up to the token where `left` begins.
 abbrev pub Refuses : (Node → Option Terminal → Type 0) → List Item → List Item → Type 0
-Refuses P l left = (front : List Item) × (l ≡ front ++ left) × ((x : Node) (rest more : List Item) → P x (next rest) → spell x ++ rest ≡ front ++ more → next more ≡ next left → ⊥)
+Refuses P l left = (front : List Item) × (l ≡ front ++ left) ×
+    ((x : Node) (rest more : List Item) → P x (next rest) → spell x ++ rest ≡ front ++ more → next more ≡ next left → ⊥)
 
 pub record Exact (P : Node → Option Terminal → Type 0) (p : List Item → Read) : Type 0 where
   pub sound : (l : List Item) (x : Node) (rest : List Item) → p l ≡ Ok (x, rest) → (l ≡ spell x ++ rest) × P x (next rest)
@@ -132,9 +133,11 @@ module _ (P Q : Node → Option Terminal → Type 0) (p q : List Item → Read) 
       let b = bind_ok (q a.0.1) (λ y. Ok (Pair a.0.0 y.0, y.1)) (x, rest) a.2 in
       let s = exact.sound l a.0.0 a.0.1 a.1 in
       let t = exact'.sound a.0.1 b.0.0 b.0.1 b.1 in
-      let whole : l ≡ (spell a.0.0 ++ spell b.0.0) ++ b.0.1 = s.0 ∙ ap (λ (m : List Item). spell a.0.0 ++ m) t.0 ∙ sym (append_assoc (spell a.0.0) (spell b.0.0) b.0.1) in
+      let whole : l ≡ (spell a.0.0 ++ spell b.0.0) ++ b.0.1 =
+      s.0 ∙ ap (λ (m : List Item). spell a.0.0 ++ m) t.0 ∙ sym (append_assoc (spell a.0.0) (spell b.0.0) b.0.1) in
       let at : next a.0.1 ≡ ahead (spell b.0.0) (next b.0.1) = ap next t.0 ∙ ahead_append (spell b.0.0) b.0.1 None in
-      subst (λ (z : Node × List Item). (l ≡ spell z.0 ++ z.1) × IsPair P Q z.0 (next z.1)) (ok_is (Pair a.0.0 b.0.0, b.0.1) (x, rest) b.2) (whole, (subst (P a.0.0) at s.1, t.1))
+      subst (λ (z : Node × List Item). (l ≡ spell z.0 ++ z.1) × IsPair P Q z.0 (next z.1)) (ok_is (Pair a.0.0 b.0.0, b.0.1) (x, rest) b.2)
+      (whole, (subst (P a.0.0) at s.1, t.1))
 
   pair_again : (x : Node) (rest : List Item) → IsPair P Q x (next rest) → then_pair (p (spell x ++ rest)) q ≡ Ok (x, rest)
   pair_again (Leaf item) rest h = absurd h
@@ -151,13 +154,16 @@ module _ (P Q : Node → Option Terminal → Type 0) (p q : List Item → Read) 
   no_first front left none (Pair a b) rest more h same at =
       none a (spell b ++ rest) more (subst (P a) (sym (ahead_append (spell b) rest None)) h.0) (sym (append_assoc (spell a) (spell b) rest) ∙ same) at
 
-  no_second : (a : Node) (front m left : List Item) → P a (next m) → m ≡ front ++ left → ((x : Node) (rest more : List Item) → Q x (next rest) → spell x ++ rest ≡ front ++ more → next more ≡ next left → ⊥)
+  no_second : (a : Node) (front m left : List Item) → P a (next m) → m ≡ front ++ left
+      → ((x : Node) (rest more : List Item) → Q x (next rest) → spell x ++ rest ≡ front ++ more → next more ≡ next left → ⊥)
       → (x : Node) (rest more : List Item) → IsPair P Q x (next rest) → spell x ++ rest ≡ (spell a ++ front) ++ more → next more ≡ next left → ⊥
   no_second a front m left fits whole none (Leaf item) rest more h same at = h
   no_second a front m left fits whole none Nothing rest more h same at = h
   no_second a front m left fits whole none (Pair x y) rest more h same at =
-      let e : spell x ++ (spell y ++ rest) ≡ spell a ++ (front ++ more) = sym (append_assoc (spell x) (spell y) rest) ∙ same ∙ append_assoc (spell a) front more in
-      let one : p (spell x ++ (spell y ++ rest)) ≡ Ok (x, spell y ++ rest) = exact.again x (spell y ++ rest) (subst (P x) (sym (ahead_append (spell y) rest None)) h.0) in
+      let e : spell x ++ (spell y ++ rest) ≡ spell a ++ (front ++ more) =
+      sym (append_assoc (spell x) (spell y) rest) ∙ same ∙ append_assoc (spell a) front more in
+      let one : p (spell x ++ (spell y ++ rest)) ≡ Ok (x, spell y ++ rest) =
+      exact.again x (spell y ++ rest) (subst (P x) (sym (ahead_append (spell y) rest None)) h.0) in
       let head : next m ≡ next (front ++ more) = ap next whole ∙ sym (same_next front more left at) in
       let two : p (spell a ++ (front ++ more)) ≡ Ok (a, front ++ more) = exact.again a (front ++ more) (subst (P a) head fits) in
       let both : (x, spell y ++ rest) ≡ (a, front ++ more) = ok_is (x, spell y ++ rest) (a, front ++ more) (sym one ∙ ap p e ∙ two) in
@@ -171,8 +177,11 @@ module _ (P Q : Node → Option Terminal → Type 0) (p q : List Item → Read) 
             elim (bind_err (q h.0.1) (λ y. Ok (Pair h.0.0 y.0, y.1)) r h.2) [
               | inl g ↦
                   let s = exact.sound l h.0.0 h.0.1 h.1 in
-                  let t = exact'.refused h.0.1 r g in
-                  (spell h.0.0 ++ t.0, s.0 ∙ ap (λ (m : List Item). spell h.0.0 ++ m) t.1 ∙ sym (append_assoc (spell h.0.0) t.0 (left_of r)), no_second h.0.0 t.0 h.0.1 (left_of r) s.1 t.1 t.2)
+                  let t = exact'.refused h.0.1 r g in (
+                    spell h.0.0 ++ t.0,
+                    s.0 ∙ ap (λ (m : List Item). spell h.0.0 ++ m) t.1 ∙ sym (append_assoc (spell h.0.0) t.0 (left_of r)),
+                    no_second h.0.0 t.0 h.0.1 (left_of r) s.1 t.1 t.2,
+                  )
               | inr g ↦ absurd (ok_no_err (Pair h.0.0 g.0.0, g.0.1) r g.2)
             ]
       ]
@@ -190,7 +199,8 @@ pub first_of_tree : (l : List Item) (x : Node) (rest : List Item) → l ≡ spel
 first_of_tree l x rest e = ap next e ∙ ahead_append (spell x) rest None
 
 -- what begins as l does begins with the same token
-pub first_again : (l front left : List Item) (x : Node) (rest more : List Item) → l ≡ front ++ left → spell x ++ rest ≡ front ++ more → next more ≡ next left → ahead (spell x) (next rest) ≡ next l
+pub first_again : (l front left : List Item) (x : Node) (rest more : List Item) → l ≡ front ++ left → spell x ++ rest ≡ front ++ more → next more ≡ next left
+    → ahead (spell x) (next rest) ≡ next l
 first_again l front left x rest more whole same at =
     sym (ahead_append (spell x) rest None) ∙ ap next same ∙ same_next front more left at ∙ sym (ap next whole)
 
@@ -208,8 +218,10 @@ module _ (ks : List Terminal) (P Q : Node → Option Terminal → Type 0) (p q :
   choice_again : (x : Node) (rest : List Item) → IsChoice ks P Q x (next rest) → choose ks p q (spell x ++ rest) ≡ Ok (x, rest)
   choice_again x rest h =
       elim h [
-        | inl g ↦ let b : passes ks (next (spell x ++ rest)) ≡ true = subst (λ (k : Option Terminal). passes ks k ≡ true) (sym (ahead_append (spell x) rest None)) g.0 in rw b (exact.again x rest g.1)
-        | inr g ↦ let b : passes ks (next (spell x ++ rest)) ≡ false = subst (λ (k : Option Terminal). passes ks k ≡ false) (sym (ahead_append (spell x) rest None)) g.0 in rw b (exact'.again x rest g.1)
+        | inl g ↦ let b : passes ks (next (spell x ++ rest)) ≡ true =
+            subst (λ (k : Option Terminal). passes ks k ≡ true) (sym (ahead_append (spell x) rest None)) g.0 in rw b (exact.again x rest g.1)
+        | inr g ↦ let b : passes ks (next (spell x ++ rest)) ≡ false =
+            subst (λ (k : Option Terminal). passes ks k ≡ false) (sym (ahead_append (spell x) rest None)) g.0 in rw b (exact'.again x rest g.1)
       ]
 
   choice_refused : (l : List Item) (r : Refusal) → choose ks p q l ≡ Err r → Refuses (IsChoice ks P Q) l (left_of r)

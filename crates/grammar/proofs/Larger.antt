@@ -9,11 +9,13 @@ use Rattle.grammar.specs.Tested.{Is, Within}
 abbrev pub IsPart : (Node → Option Terminal → Type 0) → (Node → Option Terminal → Type 0) → Type 0
 IsPart P Q = (x : Node) (h : Option Terminal) → P x h → Q x h
 
-abbrev pub Carries : ((Node → Option Terminal → Type 0) → Node → Option Terminal → Type 0) → ((Node → Option Terminal → Type 0) → Node → Option Terminal → Type 0) → Type 1
+abbrev pub Carries : ((Node → Option Terminal → Type 0) → Node → Option Terminal → Type 0)
+    → ((Node → Option Terminal → Type 0) → Node → Option Terminal → Type 0) → Type 1
 Carries F G = (V W : Node → Option Terminal → Type 0) → IsPart V W → IsPart (F V) (G W)
 
 -- a loop of larger rounds, and of more
-pub rounds_map : (F G : (Node → Option Terminal → Type 0) → Node → Option Terminal → Type 0) → Carries F G → (k j : ℕ) → k ≤ j → IsPart (rounds k F) (rounds j G)
+pub rounds_map : (F G : (Node → Option Terminal → Type 0) → Node → Option Terminal → Type 0) → Carries F G → (k j : ℕ) → k ≤ j
+    → IsPart (rounds k F) (rounds j G)
 rounds_map F G c zero j le x h r = absurd r
 rounds_map F G c (suc k) zero le x h r = absurd (omega arith)
 rounds_map F G c (suc k) (suc j) le x h r = c (rounds k F) (rounds j G) (rounds_map F G c k j (omega arith)) x h r
@@ -61,4 +63,5 @@ module _ (rule : Level → Grammar) where
   unfolding FreeWithin
   free_within_up zero m le v x h r = absurd r
   free_within_up (suc n) zero le v x h r = absurd (omega arith)
-  free_within_up (suc n) (suc m) le v x h r = free_up (FreeWithin rule n) (FreeWithin rule m) (free_within_up n m (omega arith)) (rule v) IsNone IsNone (all_in IsNone) x h r
+  free_within_up (suc n) (suc m) le v x h r = free_up (FreeWithin rule n) (FreeWithin rule m) (free_within_up n m (omega arith)) (rule v) IsNone IsNone
+      (all_in IsNone) x h r

@@ -3,8 +3,8 @@ pub mod Decided
 pub mod Ending
 pub mod Every
 pub mod Exact
-pub mod Knot
 pub mod Larger
+pub mod LevelsTested
 pub mod Lists
 pub mod Loops
 pub mod Somewhere

@@ -1,5 +1,5 @@
 -- Reading one part after the other, as a loop of a program does.
-use Rattle.std.proofs.Common.{◌≡◌, ℕ, Bool, true, false, cond, if◌then◌else◌, List, [], ◌∷◌, ◌++◌, Ok, Err, refl, sym, ap, ◌∙◌, ◌⊎◌, inl, inr}
+use Rattle.std.proofs.Common.{◌≡◌, ℕ, Bool, true, false, cond, if◌then◌else◌, List, [], ◌∷◌, ◌++◌, Ok, Err, refl, sym, ap, ◌∙◌, inl, inr}
 use Rattle.grammar.specs.declared.terminals.Terminal.{Terminal}
 use Rattle.grammar.specs.Terminals.{is, passes}
 use Rattle.grammar.specs.Nodes.{Item, Node, Leaf, Nothing, Pair, row, Step, chain, next, second}
@@ -7,9 +7,10 @@ use Rattle.grammar.specs.Grammars.{Level, Grammar, nothing, seq, choice, again, 
 use Rattle.grammar.specs.Tested.{Within}
 use Rattle.grammar.specs.Deciding.{closed, solid, guarded, sane, LevelTables}
 use Rattle.grammar.specs.Reading.{Refusal, Read, ◌>>=◌, token_at, then_pair, unread, turning, reads, levels, read}
-use Rattle.grammar.proofs.Loops.{Guards, closed_same, guarded_same, closed_linear, turning_again}
+use Rattle.grammar.proofs.Loops.{Guards, closed_same, guarded_same, closed_linear, turning_again, then_same, cond_same}
 use Rattle.grammar.proofs.Exact.{bind_ok, bind_err, done, ok_is, ok_no_err}
 use Rattle.grammar.proofs.Wholes.{levels_exact, level_shortens}
+use Rattle.grammar.proofs.Bools.{by_test}
 
 -- what may be repeated in a loop: it does not speak of the loop around it, and takes a token
 pub record Repeats (g : Grammar) : Type 0 where
@@ -43,17 +44,10 @@ chain_one : (front : List Step) (x : Step) (y : Node) → chain front (Pair x.se
 chain_one [] x y = refl
 chain_one (n ∷ ns) x y = ap (λ (z : Node). Pair n.separator (Pair n.part z)) (chain_one ns x y)
 
-step_one : (front : List Step) (x : Step) (r : Read) → with_steps front ((r >>= λ y. Ok (Pair x.part y.0, y.1)) >>= λ y. Ok (Pair x.separator y.0, y.1)) ≡ with_steps (front ++ x ∷ []) r
+step_one : (front : List Step) (x : Step) (r : Read) → with_steps front ((r >>= λ y. Ok (Pair x.part y.0, y.1)) >>= λ y. Ok (Pair x.separator y.0, y.1))
+    ≡ with_steps (front ++ x ∷ []) r
 step_one front x (Ok y) = ap (λ (z : Node). Ok (z, y.1)) (chain_one front x y.0)
 step_one front x (Err r) = refl
-
-then_same : (r : Read) (p q : List Item → Read) → ((m : List Item) → p m ≡ q m) → then_pair r p ≡ then_pair r q
-then_same (Ok x) p q h = ap (λ (r : Read). r >>= λ y. Ok (Pair x.0 y.0, y.1)) (h x.1)
-then_same (Err r) p q h = refl
-
-cond_same : (b : Bool) (x y z w : Read) → x ≡ y → z ≡ w → cond b x z ≡ cond b y w
-cond_same true x y z w g h = g
-cond_same false x y z w g h = h
 
 module _ (t : LevelTables) (sane_rule : (l : Level) → sane (t.rule l) ≡ true) (n : ℕ) where
   closed_read : (g : Grammar) → closed g ≡ true → (u : List Item → Read) (l : List Item) → reads (levels t n) g u l ≡ read t n g l
@@ -75,7 +69,8 @@ module _ (t : LevelTables) (sane_rule : (l : Level) → sane (t.rule l) ≡ true
         let body = choice ks (seq g again) nothing in
         let whole = turning (reads (levels t n) body) in
         turning_again (reads (levels t n) body) (body_guards body many_guarded) l
-        ∙ cond_same (passes ks (next l)) (then_pair (reads (levels t n) g whole l) whole) (then_pair (reads (levels t n) g unread l) whole) (Ok (Nothing, l)) (Ok (Nothing, l))
+        ∙ cond_same (passes ks (next l)) (then_pair (reads (levels t n) g whole l) whole) (then_pair (reads (levels t n) g unread l) whole) (Ok (Nothing, l))
+        (Ok (Nothing, l))
         (ap (λ (r : Read). then_pair r whole) (closed_read g c whole l)) refl
 
     pub goes_on : (front : List Node) (l : List Item) (x : Node) (rest : List Item) (total : Read) → passes ks (next l) ≡ true → read t n g l ≡ Ok (x, rest)
@@ -84,17 +79,19 @@ module _ (t : LevelTables) (sane_rule : (l : Level) → sane (t.rule l) ≡ true
         let turn : read t n (many ks g) l ≡ then_pair (Ok (x, rest)) (read t n (many ks g)) = many_read l ∙ rw (h, e) refl in
         sym (front_one front x (read t n (many ks g) rest)) ∙ ap (with_front front) (sym turn) ∙ so_far
 
-    pub stops : (front : List Node) (l : List Item) (r : Refusal) (total : Read) → passes ks (next l) ≡ true → read t n g l ≡ Err r → with_front front (read t n (many ks g) l) ≡ total → total ≡ Err r
+    pub stops : (front : List Node) (l : List Item) (r : Refusal) (total : Read) → passes ks (next l) ≡ true → read t n g l ≡ Err r
+        → with_front front (read t n (many ks g) l) ≡ total → total ≡ Err r
     stops front l r total h e so_far =
         let turn : read t n (many ks g) l ≡ Err r = many_read l ∙ rw (h, e) refl in
         sym so_far ∙ ap (with_front front) turn
 
-    pub is_done : (front : List Node) (l : List Item) (total : Read) → passes ks (next l) ≡ false → with_front front (read t n (many ks g) l) ≡ total → total ≡ Ok (row front, l)
+    pub is_done : (front : List Node) (l : List Item) (total : Read) → passes ks (next l) ≡ false → with_front front (read t n (many ks g) l) ≡ total
+        → total ≡ Ok (row front, l)
     is_done front l total h so_far =
         let turn : read t n (many ks g) l ≡ Ok (Nothing, l) = many_read l ∙ rw h refl in
         sym so_far ∙ ap (with_front front) turn ∙ ap (λ (z : Node). Ok (z, l)) (prepend_row front)
 
-  -- ---- parts behind separators, and an end
+  -- ---- parts after separators, and an end
 
   module _ (separator : Terminal) (ks : List Terminal) (g z : Grammar) (c : closed g ≡ true) (d : closed z ≡ true) where
     abbrev body : Grammar
@@ -103,28 +100,31 @@ module _ (t : LevelTables) (sane_rule : (l : Level) → sane (t.rule l) ≡ true
     series_guarded : guarded body ≡ true
     series_guarded = rw (c, closed_linear z d) refl
 
-    -- what stands behind a separator
+    -- what stands after a separator
     pub behind : List Item → Read
     behind m = cond (passes ks (next m)) (then_pair (read t n g m) (read t n (series separator ks g z))) (read t n z m)
 
-    pub series_read : (l : List Item) → read t n (series separator ks g z) l ≡ cond (passes (separator ∷ []) (next l)) (then_pair (token_at (separator ∷ []) l) behind) (Ok (Nothing, l))
+    pub series_read : (l : List Item) → read t n (series separator ks g z) l ≡ cond (passes (separator ∷ []) (next l))
+        (then_pair (token_at (separator ∷ []) l) behind) (Ok (Nothing, l))
     unfolding read behind
     series_read l =
         let whole = turning (reads (levels t n) body) in
         turning_again (reads (levels t n) body) (body_guards body series_guarded) l
-        ∙ cond_same (passes (separator ∷ []) (next l)) (then_pair (token_at (separator ∷ []) l) (reads (levels t n) (choice ks (seq g again) z) whole)) (then_pair (token_at (separator ∷ []) l) behind) (Ok (Nothing, l)) (Ok (Nothing, l))
+        ∙ cond_same (passes (separator ∷ []) (next l)) (then_pair (token_at (separator ∷ []) l) (reads (levels t n) (choice ks (seq g again) z) whole))
+        (then_pair (token_at (separator ∷ []) l) behind) (Ok (Nothing, l)) (Ok (Nothing, l))
         (then_same (token_at (separator ∷ []) l) (reads (levels t n) (choice ks (seq g again) z) whole) behind
-        (λ m. cond_same (passes ks (next m)) (then_pair (reads (levels t n) g whole m) whole) (then_pair (reads (levels t n) g unread m) whole) (reads (levels t n) z whole m) (reads (levels t n) z unread m)
+        (λ x m same. cond_same (passes ks (next m)) (then_pair (reads (levels t n) g whole m) whole) (then_pair (reads (levels t n) g unread m) whole)
+        (reads (levels t n) z whole m) (reads (levels t n) z unread m)
         (ap (λ (r : Read). then_pair r whole) (closed_read g c whole m)) (closed_read z d whole m))) refl
 
-    -- whether a separator comes, and behind it what begins a part
+    -- whether a separator comes, and after it what begins a part
     abbrev pub goes_further : List Item → Bool
     goes_further l = if passes (separator ∷ []) (next l) then passes ks (second l) else false
 
     abbrev pub step_rule : Grammar
     step_rule = seq (word separator) g
 
-    -- a separator and the end behind it, or nothing
+    -- a separator and the end after it, or nothing
     abbrev pub end_rule : Grammar
     end_rule = choice (separator ∷ []) (seq (word separator) z) nothing
 
@@ -132,7 +132,8 @@ module _ (t : LevelTables) (sane_rule : (l : Level) → sane (t.rule l) ≡ true
     both_true true b e = (refl, e)
     both_true false b e = absurd cc
 
-    separator_there : (l : List Item) → passes (separator ∷ []) (next l) ≡ true → (m : List Item) × (s : Node) × (token_at (separator ∷ []) l ≡ Ok (s, m)) × (second l ≡ next m)
+    separator_there : (l : List Item) → passes (separator ∷ []) (next l) ≡ true
+        → (m : List Item) × (s : Node) × (token_at (separator ∷ []) l ≡ Ok (s, m)) × (second l ≡ next m)
     separator_there [] h = absurd cc
     separator_there (x ∷ l) h = let e : is separator x.kind ≡ true = h in (l, Leaf x, rw e refl, refl)
 
@@ -151,9 +152,11 @@ module _ (t : LevelTables) (sane_rule : (l : Level) → sane (t.rule l) ≡ true
 
     led_part : (m : List Item) → passes ks (next m) ≡ true → (r : Read) → read t n g m ≡ r → behind m ≡ then_pair r (read t n (series separator ks g z))
     unfolding behind
-    led_part m h r e = ap (λ (b : Bool). cond b (then_pair (read t n g m) (read t n (series separator ks g z))) (read t n z m)) h ∙ ap (λ (r : Read). then_pair r (read t n (series separator ks g z))) e
+    led_part m h r e = ap (λ (b : Bool). cond b (then_pair (read t n g m) (read t n (series separator ks g z))) (read t n z m)) h ∙ ap
+        (λ (r : Read). then_pair r (read t n (series separator ks g z))) e
 
-    pub steps_on : (front : List Step) (l : List Item) (x : Step) (rest : List Item) (total : Read) → goes_further l ≡ true → read t n step_rule l ≡ Ok (Pair x.separator x.part, rest)
+    pub steps_on : (front : List Step) (l : List Item) (x : Step) (rest : List Item) (total : Read) → goes_further l ≡ true
+        → read t n step_rule l ≡ Ok (Pair x.separator x.part, rest)
         → with_steps front (read t n (series separator ks g z) l) ≡ total → with_steps (front ++ x ∷ []) (read t n (series separator ks g z) rest) ≡ total
     unfolding behind read
     steps_on front l x rest total h e so_far =
@@ -161,7 +164,8 @@ module _ (t : LevelTables) (sane_rule : (l : Level) → sane (t.rule l) ≡ true
         let s = separator_there l b.0 in
         let m = s.0 in
         let at : token_at (separator ∷ []) l ≡ Ok (s.1, m) = s.2 in
-        let inner : (read t n g m >>= λ y. Ok (Pair s.1 y.0, y.1)) ≡ Ok (Pair x.separator x.part, rest) = sym (ap (λ (r : Read). then_pair r (read t n g)) at) ∙ e in
+        let inner : (read t n g m >>= λ y. Ok (Pair s.1 y.0, y.1)) ≡ Ok (Pair x.separator x.part, rest) =
+        sym (ap (λ (r : Read). then_pair r (read t n g)) at) ∙ e in
         let y = bind_ok (read t n g m) (λ y. Ok (Pair s.1 y.0, y.1)) (Pair x.separator x.part, rest) inner in
         let same = pair_is s.1 y.0.0 x.separator x.part y.0.1 rest y.2 in
         let part : read t n g m ≡ Ok (x.part, rest) = y.1 ∙ ap (λ (w : Node). Ok (w, y.0.1)) same.1 ∙ ap (λ (w : List Item). Ok (x.part, w)) same.2 in
@@ -181,15 +185,12 @@ module _ (t : LevelTables) (sane_rule : (l : Level) → sane (t.rule l) ≡ true
         let m = s.0 in
         let at : token_at (separator ∷ []) l ≡ Ok (s.1, m) = s.2 in
         let inner : (read t n g m >>= λ y. Ok (Pair s.1 y.0, y.1)) ≡ Err r = sym (ap (λ (r : Read). then_pair r (read t n g)) at) ∙ e in
-        let part : read t n g m ≡ Err r = elim (bind_err (read t n g m) (λ y. Ok (Pair s.1 y.0, y.1)) r inner) [ inl f ↦ f | inr f ↦ absurd (ok_no_err (Pair s.1 f.0.0, f.0.1) r f.2) ] in
+        let part : read t n g m ≡ Err r = elim (bind_err (read t n g m) (λ y. Ok (Pair s.1 y.0, y.1)) r inner)
+        [ inl f ↦ f | inr f ↦ absurd (ok_no_err (Pair s.1 f.0.0, f.0.1) r f.2) ] in
         let leads : passes ks (next m) ≡ true = ap (passes ks) (sym s.3) ∙ b.1 in
         let turn : read t n (series separator ks g z) l ≡ then_pair (Ok (s.1, m)) behind = series_read l ∙ led l b.0 (s.1, m) at in
         let behind_is : behind m ≡ Err r = led_part m leads (Err r) part in
         sym so_far ∙ ap (with_steps front) (turn ∙ ap (λ (r : Read). r >>= λ y. Ok (Pair s.1 y.0, y.1)) behind_is)
-
-    by_test : (b : Bool) → (b ≡ true) ⊎ (b ≡ false)
-    by_test true = inl refl
-    by_test false = inr refl
 
     -- where no further part comes, the end is read
     series_ends : (l : List Item) → goes_further l ≡ false → read t n (series separator ks g z) l ≡ read t n end_rule l
@@ -210,7 +211,8 @@ module _ (t : LevelTables) (sane_rule : (l : Level) → sane (t.rule l) ≡ true
           left ∙ sym right
     ]
 
-    pub steps_done : (front : List Step) (l : List Item) (end : Node) (rest : List Item) (total : Read) → goes_further l ≡ false → read t n end_rule l ≡ Ok (end, rest)
+    pub steps_done : (front : List Step) (l : List Item) (end : Node) (rest : List Item) (total : Read) → goes_further l ≡ false
+        → read t n end_rule l ≡ Ok (end, rest)
         → with_steps front (read t n (series separator ks g z) l) ≡ total → total ≡ Ok (chain front end, rest)
     steps_done front l end rest total h e so_far = sym so_far ∙ ap (with_steps front) (series_ends l h ∙ e)
 

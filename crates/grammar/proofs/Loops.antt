@@ -1,12 +1,13 @@
 -- What a loop reads: as many rounds as tokens are enough.
 use Rattle.std.proofs.Common.{◌≡◌, ℕ, zero, suc, ◌<◌, ◌≤◌, Bool, true, false, cond, List, [], ◌∷◌, length, Ok, Err, refl, sym, ap, ◌∙◌, arith, inl, inr}
+use Rattle.std.proofs.lemmas.Bool.{and_parts}
 use Rattle.grammar.specs.declared.terminals.Terminal.{Terminal}
 use Rattle.grammar.specs.Terminals.{one_of, passes}
 use Rattle.grammar.specs.Nodes.{Item, Node, Leaf, Nothing, Pair, next}
 use Rattle.grammar.specs.Grammars.{Level, Grammar, token, nothing, seq, choice, greedy, level, loop, again}
 use Rattle.grammar.specs.Reading.{Unfit, Read, ◌>>=◌, token_at, then_pair, unread, turns, turning, reads}
 use Rattle.grammar.specs.Deciding.{both, either, closed, solid, linear, guarded}
-use Rattle.grammar.proofs.Bools.{both_parts, both_make, either_parts}
+use Rattle.grammar.proofs.Bools.{both_make, either_parts}
 use Rattle.grammar.proofs.Exact.{bind_ok, ok_is, ok_no_err, ok_or_err, done}
 
 -- ---- a reader leaves no more than it was given
@@ -40,7 +41,14 @@ pub pair_read : (p q : List Item → Read) (l : List Item) (x : Node) (rest : Li
 pair_read p q l x rest e =
     let a = bind_ok (p l) (λ x. q x.1 >>= λ y. Ok (Pair x.0 y.0, y.1)) (x, rest) e in
     let b = bind_ok (q a.0.1) (λ y. Ok (Pair a.0.0 y.0, y.1)) (x, rest) a.2 in
-    record { first = a.0; second = b.0; first_is = a.1; second_is = b.1; rest_is = ap (λ (z : Node × List Item). z.1) (ok_is (Pair a.0.0 b.0.0, b.0.1) (x, rest) b.2) }
+    record {
+      first = a.0;
+      second = b.0;
+      first_is = a.1;
+      second_is = b.1;
+      rest_is =
+          ap (λ (z : Node × List Item). z.1) (ok_is (Pair a.0.0 b.0.0, b.0.1) (x, rest) b.2);
+    }
 
 rest_of : (x y : Node × List Item) → done x ≡ Ok y → x.1 ≡ y.1
 rest_of x y e = ap (λ (z : Node × List Item). z.1) (ok_is x y e)
@@ -58,7 +66,8 @@ module _ (p : Level → List Item → Read) (shortens : (v : Level) → Shortens
       let r = pair_read (reads p a u) (reads p b u) l x rest e in
       omega (arith, no_longer a u s l r.first.0 r.first.1 r.first_is, no_longer b u s r.first.1 r.second.0 r.second.1 r.second_is, ap length r.rest_is)
   no_longer (choice ks a b) u s l x rest e =
-      elim (ok_or_err (passes ks (next l)) (reads p a u l) (reads p b u l) (Ok (x, rest)) e) [ inl h ↦ no_longer a u s l x rest h.1 | inr h ↦ no_longer b u s l x rest h.1 ]
+      elim (ok_or_err (passes ks (next l)) (reads p a u l) (reads p b u l) (Ok (x, rest)) e)
+      [ inl h ↦ no_longer a u s l x rest h.1 | inr h ↦ no_longer b u s l x rest h.1 ]
   no_longer (greedy ks a) u s l x rest e =
       elim (ok_or_err (passes ks (next l)) (reads p a u l) (Ok (Nothing, l)) (Ok (x, rest)) e) [
         | inl h ↦ no_longer a u s l x rest h.1
@@ -80,8 +89,9 @@ module _ (p : Level → List Item → Read) (shortens : (v : Level) → Shortens
         | inr h ↦ omega (arith, no_longer a u s l r.first.0 r.first.1 r.first_is, takes b u s h r.first.1 r.second.0 r.second.1 r.second_is, end)
       ]
   takes (choice ks a b) u s ok l x rest e =
-      let o = both_parts (solid a) (solid b) ok in
-      elim (ok_or_err (passes ks (next l)) (reads p a u l) (reads p b u l) (Ok (x, rest)) e) [ inl h ↦ takes a u s o.0 l x rest h.1 | inr h ↦ takes b u s o.1 l x rest h.1 ]
+      let o = and_parts (solid a) (solid b) ok in
+      elim (ok_or_err (passes ks (next l)) (reads p a u l) (reads p b u l) (Ok (x, rest)) e)
+      [ inl h ↦ takes a u s o.0 l x rest h.1 | inr h ↦ takes b u s o.1 l x rest h.1 ]
   takes (greedy ks a) u s ok l x rest e = absurd cc
   takes (level v) u s ok l x rest e = absurd cc
   takes (loop a) u s ok l x rest e = absurd cc
@@ -89,11 +99,11 @@ module _ (p : Level → List Item → Read) (shortens : (v : Level) → Shortens
 
 -- ---- what a reader asks of the loop around it
 
-then_same : (r : Read) (p q : List Item → Read) → ((x : Node) (m : List Item) → r ≡ Ok (x, m) → p m ≡ q m) → then_pair r p ≡ then_pair r q
+pub then_same : (r : Read) (p q : List Item → Read) → ((x : Node) (m : List Item) → r ≡ Ok (x, m) → p m ≡ q m) → then_pair r p ≡ then_pair r q
 then_same (Ok x) p q h = ap (λ (r : Read). r >>= λ y. Ok (Pair x.0 y.0, y.1)) (h x.0 x.1 refl)
 then_same (Err r) p q h = refl
 
-cond_same : (b : Bool) (x y z w : Read) → x ≡ y → z ≡ w → cond b x z ≡ cond b y w
+pub cond_same : (b : Bool) (x y z w : Read) → x ≡ y → z ≡ w → cond b x z ≡ cond b y w
 cond_same true x y z w g h = g
 cond_same false x y z w g h = h
 
@@ -103,12 +113,14 @@ module _ (p : Level → List Item → Read) (shortens : (v : Level) → Shortens
   closed_same (token ks) ok u w l = refl
   closed_same nothing ok u w l = refl
   closed_same (seq a b) ok u w l =
-      let o = both_parts (closed a) (closed b) ok in
-      ap (λ (r : Read). then_pair r (reads p b u)) (closed_same a o.0 u w l) ∙ then_same (reads p a w l) (reads p b u) (reads p b w) (λ x m e. closed_same b o.1 u w m)
+      let o = and_parts (closed a) (closed b) ok in
+      ap (λ (r : Read). then_pair r (reads p b u)) (closed_same a o.0 u w l) ∙ then_same (reads p a w l) (reads p b u) (reads p b w)
+      (λ x m e. closed_same b o.1 u w m)
   closed_same (choice ks a b) ok u w l =
-      let o = both_parts (closed a) (closed b) ok in
+      let o = and_parts (closed a) (closed b) ok in
       cond_same (passes ks (next l)) (reads p a u l) (reads p a w l) (reads p b u l) (reads p b w l) (closed_same a o.0 u w l) (closed_same b o.1 u w l)
-  closed_same (greedy ks a) ok u w l = cond_same (passes ks (next l)) (reads p a u l) (reads p a w l) (Ok (Nothing, l)) (Ok (Nothing, l)) (closed_same a ok u w l) refl
+  closed_same (greedy ks a) ok u w l = cond_same (passes ks (next l)) (reads p a u l) (reads p a w l) (Ok (Nothing, l)) (Ok (Nothing, l))
+      (closed_same a ok u w l) refl
   closed_same (level v) ok u w l = refl
   closed_same (loop a) ok u w l = refl
   closed_same again ok u w l = absurd cc
@@ -120,31 +132,35 @@ module _ (p : Level → List Item → Read) (shortens : (v : Level) → Shortens
   closed_takes g ok s u l x rest e = takes p shortens g unread unread_shortens s l x rest (closed_same g ok unread u l ∙ e)
 
   -- what it reads of the tokens that are left
-  linear_same : (g : Grammar) → linear g ≡ true → (u w : List Item → Read) (l : List Item) → ((m : List Item) → length m ≤ length l → u m ≡ w m) → reads p g u l ≡ reads p g w l
+  linear_same : (g : Grammar) → linear g ≡ true → (u w : List Item → Read) (l : List Item) → ((m : List Item) → length m ≤ length l → u m ≡ w m)
+      → reads p g u l ≡ reads p g w l
   linear_same (token ks) ok u w l h = refl
   linear_same nothing ok u w l h = refl
   linear_same (seq a b) ok u w l h =
-      let o = both_parts (closed a) (linear b) ok in
+      let o = and_parts (closed a) (linear b) ok in
       ap (λ (r : Read). then_pair r (reads p b u)) (closed_same a o.0 u w l)
-      ∙ then_same (reads p a w l) (reads p b u) (reads p b w) (λ x m e. let le : length m ≤ length l = closed_shortens a o.0 w l x m e in linear_same b o.1 u w m (λ n f. h n (omega (arith, f, le))))
+      ∙ then_same (reads p a w l) (reads p b u) (reads p b w)
+      (λ x m e. let le : length m ≤ length l = closed_shortens a o.0 w l x m e in linear_same b o.1 u w m (λ n f. h n (omega (arith, f, le))))
   linear_same (choice ks a b) ok u w l h =
-      let o = both_parts (linear a) (linear b) ok in
+      let o = and_parts (linear a) (linear b) ok in
       cond_same (passes ks (next l)) (reads p a u l) (reads p a w l) (reads p b u l) (reads p b w l) (linear_same a o.0 u w l h) (linear_same b o.1 u w l h)
-  linear_same (greedy ks a) ok u w l h = cond_same (passes ks (next l)) (reads p a u l) (reads p a w l) (Ok (Nothing, l)) (Ok (Nothing, l)) (linear_same a ok u w l h) refl
+  linear_same (greedy ks a) ok u w l h = cond_same (passes ks (next l)) (reads p a u l) (reads p a w l) (Ok (Nothing, l)) (Ok (Nothing, l))
+      (linear_same a ok u w l h) refl
   linear_same (level v) ok u w l h = refl
   linear_same (loop a) ok u w l h = refl
   linear_same again ok u w l h = h l (omega arith)
 
   -- and of fewer
-  pub guarded_same : (g : Grammar) → guarded g ≡ true → (u w : List Item → Read) (l : List Item) → ((m : List Item) → length m < length l → u m ≡ w m) → reads p g u l ≡ reads p g w l
+  pub guarded_same : (g : Grammar) → guarded g ≡ true → (u w : List Item → Read) (l : List Item) → ((m : List Item) → length m < length l → u m ≡ w m)
+      → reads p g u l ≡ reads p g w l
   guarded_same (token ks) ok u w l h = refl
   guarded_same nothing ok u w l h = refl
   guarded_same (seq a b) ok u w l h =
-      let o = both_parts (closed a) (either (both (solid a) (linear b)) (guarded b)) ok in
+      let o = and_parts (closed a) (either (both (solid a) (linear b)) (guarded b)) ok in
       ap (λ (r : Read). then_pair r (reads p b u)) (closed_same a o.0 u w l)
       ∙ then_same (reads p a w l) (reads p b u) (reads p b w) (λ x m e. elim (either_parts (both (solid a) (linear b)) (guarded b) o.1) [
         | inl s ↦
-            let t = both_parts (solid a) (linear b) s in
+            let t = and_parts (solid a) (linear b) s in
             let lt : length m < length l = closed_takes a o.0 t.0 w l x m e in
             linear_same b t.1 u w m (λ n f. h n (omega (arith, f, lt)))
         | inr s ↦
@@ -152,9 +168,10 @@ module _ (p : Level → List Item → Read) (shortens : (v : Level) → Shortens
             guarded_same b s u w m (λ n f. h n (omega (arith, f, le)))
       ])
   guarded_same (choice ks a b) ok u w l h =
-      let o = both_parts (guarded a) (guarded b) ok in
+      let o = and_parts (guarded a) (guarded b) ok in
       cond_same (passes ks (next l)) (reads p a u l) (reads p a w l) (reads p b u l) (reads p b w l) (guarded_same a o.0 u w l h) (guarded_same b o.1 u w l h)
-  guarded_same (greedy ks a) ok u w l h = cond_same (passes ks (next l)) (reads p a u l) (reads p a w l) (Ok (Nothing, l)) (Ok (Nothing, l)) (guarded_same a ok u w l h) refl
+  guarded_same (greedy ks a) ok u w l h = cond_same (passes ks (next l)) (reads p a u l) (reads p a w l) (Ok (Nothing, l)) (Ok (Nothing, l))
+      (guarded_same a ok u w l h) refl
   guarded_same (level v) ok u w l h = refl
   guarded_same (loop a) ok u w l h = refl
   guarded_same again ok u w l h = absurd cc
@@ -162,8 +179,8 @@ module _ (p : Level → List Item → Read) (shortens : (v : Level) → Shortens
 pub closed_linear : (g : Grammar) → closed g ≡ true → linear g ≡ true
 closed_linear (token ks) ok = refl
 closed_linear nothing ok = refl
-closed_linear (seq a b) ok = let o = both_parts (closed a) (closed b) ok in both_make (closed a) (linear b) o.0 (closed_linear b o.1)
-closed_linear (choice ks a b) ok = let o = both_parts (closed a) (closed b) ok in both_make (linear a) (linear b) (closed_linear a o.0) (closed_linear b o.1)
+closed_linear (seq a b) ok = let o = and_parts (closed a) (closed b) ok in both_make (closed a) (linear b) o.0 (closed_linear b o.1)
+closed_linear (choice ks a b) ok = let o = and_parts (closed a) (closed b) ok in both_make (linear a) (linear b) (closed_linear a o.0) (closed_linear b o.1)
 closed_linear (greedy ks a) ok = closed_linear a ok
 closed_linear (level v) ok = refl
 closed_linear (loop a) ok = refl

@@ -4,7 +4,11 @@ use Rattle.std.proofs.lemmas.Bool.Decides.{nat_tests}
 use denote.Enum.Declared.{tag_of}
 use denote.Enum.Bare.{sameb, same_true}
 use Rattle.grammar.specs.declared.terminals.Terminal.{Terminal}
-use Rattle.grammar.specs.declared.terminals.Terminal.TheVariants.{WAnd, WArray, WBegin, WCase, WConst, WDiv, WDo, WDownto, WElse, WEnd, WFile, WFor, WFunction, WGoto, WIf, WIn, WLabel, WMod, WNil, WNot, WOf, WOr, WPacked, WProcedure, WProgram, WRecord, WRepeat, WSet, WThen, WTo, WType, WUntil, WVar, WWhile, WWith, Plus, Minus, Star, Equal, Less, Greater, LeftBracket, RightBracket, Dot, Comma, Colon, Semicolon, Caret, LeftParen, RightParen, NotEqual, AtMost, AtLeast, Becomes, Range, Name, Number, Text, End}
+use Rattle.grammar.specs.declared.terminals.Terminal.TheVariants.{WAnd, WArray, WBegin, WCase, WConst, WDiv, WDo, WDownto, WElse, WEnd, WFile, WFor, WFunction}
+use Rattle.grammar.specs.declared.terminals.Terminal.TheVariants.{WGoto, WIf, WIn, WLabel, WMod, WNil, WNot, WOf, WOr, WPacked, WProcedure, WProgram, WRecord}
+use Rattle.grammar.specs.declared.terminals.Terminal.TheVariants.{WRepeat, WSet, WThen, WTo, WType, WUntil, WVar, WWhile, WWith, Plus, Minus, Star, Equal, Less}
+use Rattle.grammar.specs.declared.terminals.Terminal.TheVariants.{Greater, LeftBracket, RightBracket, Dot, Comma, Colon, Semicolon, Caret, LeftParen}
+use Rattle.grammar.specs.declared.terminals.Terminal.TheVariants.{RightParen, NotEqual, AtMost, AtLeast, Becomes, Range, Name, Number, Text, End}
 use Rattle.grammar.specs.contracts.terminals.Terminal.{the_type}
 use Rattle.grammar.specs.Terminals.{place, is}
 

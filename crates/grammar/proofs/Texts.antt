@@ -9,7 +9,7 @@ use Rattle.grammar.specs.Reading.{Refusal, left_of, read}
 use Rattle.grammar.specs.Laws.{IsFormedBy, NoneGoesOn}
 use Rattle.grammar.proofs.Exact.{Exact, ok_is}
 use Rattle.grammar.proofs.Wholes.{read_exact}
-use Rattle.grammar.proofs.Knot.{rule_sane, whole_parts, whole_tested, whole_freed}
+use Rattle.grammar.proofs.LevelsTested.{rule_sane, whole_parts, whole_tested, whole_freed}
 
 module _ (t : LevelTables) (g : Grammar) (ok : IsDecided t g ≡ true) (n : ℕ) where
   pub exact : Exact (Is (Within t.rule n) g IsNone) (read t n g)
@@ -38,7 +38,8 @@ module _ (t : LevelTables) (g : Grammar) (ok : IsDecided t g ≡ true) (n : ℕ)
         λ y more f same at.
             let one = exact.again y [] (whole_tested t g ok n y f) in
             let two : read t n g (spell x ++ more) ≡ Ok (x, more) = exact.again x more (subst (Is (Within t.rule n) g IsNone x) (sym at) s.1) in
-            let rests : [] ≡ more = ap (λ (z : Node × List Item). z.1) (ok_is (y, []) (x, more) (sym one ∙ ap (read t n g) (append-nil (spell y) ∙ same) ∙ two)) in
+            let rests : [] ≡ more = ap (λ (z : Node × List Item). z.1)
+            (ok_is (y, []) (x, more) (sym one ∙ ap (read t n g) (append-nil (spell y) ∙ same) ∙ two)) in
             let end : next [] ≡ Some z.kind = ap next rests ∙ at in
             cc,
       )

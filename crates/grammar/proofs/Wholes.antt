@@ -7,17 +7,18 @@ use Rattle.grammar.specs.Grammars.{Level, Grammar, token, nothing, seq, choice, 
 use Rattle.grammar.specs.Tested.{Is, Within}
 use Rattle.grammar.specs.Reading.{Refusal, Unfit, Deep, left_of, Read, unread, turns, turning, reads, levels}
 use Rattle.grammar.specs.Deciding.{guarded, sane, LevelTables, expects}
-use Rattle.grammar.proofs.Bools.{both_parts}
 use Rattle.grammar.proofs.Exact.{Refuses, Exact, token_exact, nothing_exact, none_exact, pair_exact, choice_exact, ok_or_err, err_is, ok_no_err}
 use Rattle.grammar.proofs.Loops.{Shortens, Guards, enough, guarded_same}
 use Rattle.grammar.proofs.Larger.{Carries, rounds_map, is_up}
 use Rattle.std.proofs.Common.{length-append}
+use Rattle.std.proofs.lemmas.Bool.{and_parts}
 
 pub exact_shortens : (P : Node → Option Terminal → Type 0) (p : List Item → Read) → Exact P p → Shortens p
 exact_shortens P p e l x rest h = let s = e.sound l x rest h in omega (arith, ap length s.0, length-append (spell x) rest)
 
 -- the same front stands before the same rest
-pub refuses_same : (P Q : Node → Option Terminal → Type 0) (l left : List Item) → Refuses P l left → (front : List Item) → l ≡ front ++ left → (x : Node) (rest more : List Item) → P x (next rest) → spell x ++ rest ≡ front ++ more → next more ≡ next left → ⊥
+pub refuses_same : (P Q : Node → Option Terminal → Type 0) (l left : List Item) → Refuses P l left → (front : List Item) → l ≡ front ++ left
+    → (x : Node) (rest more : List Item) → P x (next rest) → spell x ++ rest ≡ front ++ more → next more ≡ next left → ⊥
 refuses_same P Q l left s front whole x rest more h same at =
     let e : front ≡ s.0 = append_cancel_right front s.0 left (sym whole ∙ s.1) in
     s.2 x rest more h (same ∙ ap (λ (f : List Item). f ++ more) e) at
@@ -37,7 +38,8 @@ module _ (F : (Node → Option Terminal → Type 0) → Node → Option Terminal
   loop_again x rest h =
       let l = spell x ++ rest in
       let K = suc (h.0 + length l) in
-      enough f guards (suc (length l)) K l (omega arith) (omega arith) ∙ (rounds_exact K).again x rest (rounds_map F F carries h.0 K (omega arith) x (next rest) h.1)
+      enough f guards (suc (length l)) K l (omega arith) (omega arith) ∙ (rounds_exact K).again x rest
+      (rounds_map F F carries h.0 K (omega arith) x (next rest) h.1)
 
   loop_refused : (l : List Item) (r : Refusal) → turning f l ≡ Err r → Refuses (λ x h. (k : ℕ) × rounds k F x h) l (left_of r)
   unfolding turning
@@ -48,7 +50,8 @@ module _ (F : (Node → Option Terminal → Type 0) → Node → Option Terminal
         λ x rest more h same at.
             let K = suc (h.0 + length l) in
             let again' : turns K f l ≡ Err r = enough f guards K (suc (length l)) l (omega arith) (omega arith) ∙ e in
-            refuses_same (rounds K F) (rounds K F) l (left_of r) ((rounds_exact K).refused l r again') s.0 s.1 x rest more (rounds_map F F carries h.0 K (omega arith) x (next rest) h.1) same at,
+            refuses_same (rounds K F) (rounds K F) l (left_of r) ((rounds_exact K).refused l r again') s.0 s.1 x rest more
+            (rounds_map F F carries h.0 K (omega arith) x (next rest) h.1) same at,
       )
 
   pub loop_exact : Exact (λ x h. (k : ℕ) × rounds k F x h) (turning f)
@@ -61,12 +64,15 @@ module _ (P : Level → Node → Option Terminal → Type 0) (p : Level → List
   pub grammar_exact : (g : Grammar) → sane g ≡ true → (V : Node → Option Terminal → Type 0) (u : List Item → Read) → Exact V u → Exact (Is P g V) (reads p g u)
   grammar_exact (token ks) ok V u e = token_exact ks
   grammar_exact nothing ok V u e = nothing_exact
-  grammar_exact (seq a b) ok V u e = let o = both_parts (sane a) (sane b) ok in pair_exact (Is P a V) (Is P b V) (reads p a u) (reads p b u) (grammar_exact a o.0 V u e) (grammar_exact b o.1 V u e)
-  grammar_exact (choice ks a b) ok V u e = let o = both_parts (sane a) (sane b) ok in choice_exact ks (Is P a V) (Is P b V) (reads p a u) (reads p b u) (grammar_exact a o.0 V u e) (grammar_exact b o.1 V u e)
-  grammar_exact (greedy ks a) ok V u e = choice_exact ks (Is P a V) (λ x h. IsNothing x) (reads p a u) (λ l. Ok (Nothing, l)) (grammar_exact a ok V u e) nothing_exact
+  grammar_exact (seq a b) ok V u e = let o = and_parts (sane a) (sane b) ok in pair_exact (Is P a V) (Is P b V) (reads p a u) (reads p b u)
+      (grammar_exact a o.0 V u e) (grammar_exact b o.1 V u e)
+  grammar_exact (choice ks a b) ok V u e = let o = and_parts (sane a) (sane b) ok in choice_exact ks (Is P a V) (Is P b V) (reads p a u) (reads p b u)
+      (grammar_exact a o.0 V u e) (grammar_exact b o.1 V u e)
+  grammar_exact (greedy ks a) ok V u e = choice_exact ks (Is P a V) (λ x h. IsNothing x) (reads p a u) (λ l. Ok (Nothing, l))
+      (grammar_exact a ok V u e) nothing_exact
   grammar_exact (level v) ok V u e = exact v
   grammar_exact (loop a) ok V u e =
-      let o = both_parts (sane a) (guarded a) ok in
+      let o = and_parts (sane a) (guarded a) ok in
       loop_exact (Is P a) (reads p a) (is_up P P (λ v x h r. r) a) (guarded_same p level_shortens a o.1) (grammar_exact a o.0)
   grammar_exact again ok V u e = e
 
@@ -81,7 +87,8 @@ module _ (t : LevelTables) (sane_rule : (l : Level) → sane (t.rule l) ≡ true
         | inr f ↦ ([], ap left_of (err_is (Unfit items) r f.1), λ x rest more h same at. h)
       ]
 
-  no_tree : (l : Level) (items : List Item) (x : Node) (rest : List Item) → levels t zero l items ≡ Ok (x, rest) → (items ≡ spell x ++ rest) × Within t.rule zero l x (next rest)
+  no_tree : (l : Level) (items : List Item) (x : Node) (rest : List Item) → levels t zero l items ≡ Ok (x, rest)
+      → (items ≡ spell x ++ rest) × Within t.rule zero l x (next rest)
   unfolding levels Within
   no_tree l items x rest e =
       elim (ok_or_err (expects t l (next items)) (Err (Deep items)) (Err (Unfit items)) (Ok (x, rest)) e) [

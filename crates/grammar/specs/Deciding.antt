@@ -1,14 +1,15 @@
 -- The check that one token decides each choice of a grammar: what is LL(1).
-use Rattle.std.specs.Prelude.{Bool, true, false, cond, not, List, [], ◌∷◌, Option, Some, None}
+use Rattle.std.specs.Prelude.{Bool, true, false, ◌&&◌, ◌||◌, cond, not, List, [], ◌∷◌, Option, Some, None}
 use Rattle.grammar.specs.declared.terminals.Terminal.{Terminal}
-use Rattle.grammar.specs.Terminals.{one_of, every}
-use Rattle.grammar.specs.Grammars.{by_end, by_until, Level, block, heading, statement, denoter, variant_part, factor, Grammar, token, nothing, seq, choice, greedy, level, loop, again}
+use Rattle.grammar.specs.Terminals.{one_of, every_of, every}
+use Rattle.grammar.specs.Grammars.{by_end, by_until, Level, block, heading, statement, denoter, variant_part, factor}
+use Rattle.grammar.specs.Grammars.{Grammar, token, nothing, seq, choice, greedy, level, loop, again}
 
 abbrev pub both : Bool → Bool → Bool
-both a b = cond a b false
+both a b = a && b
 
 abbrev pub either : Bool → Bool → Bool
-either a b = cond a true b
+either a b = a || b
 
 abbrev pub implies : Bool → Bool → Bool
 implies a b = cond a b true
@@ -121,12 +122,16 @@ module _ (t : LevelTables) where
   decides (choice ks a b) f v w after =
       both (both (decides a f v w after) (decides b f v w after))
       (both (not (nullable a v))
-      (every (λ k. both (implies (first a f v k) (one_of ks k)) (both (implies (first b f v k) (not (one_of ks k))) (implies (both (nullable b v) (after k)) (not (one_of ks k)))))))
-  decides (greedy ks a) f v w after = both (decides a f v w after) (both (not (nullable a v)) (every (λ k. implies (first a f v k) (one_of ks k))))
+      (every (λ k. both (implies (first a f v k) (one_of ks k))
+      (both (implies (first b f v k) (not (one_of ks k)))
+      (implies (both (nullable b v) (after k)) (not (one_of ks k)))))))
+  decides (greedy ks a) f v w after = both (decides a f v w after)
+      (both (not (nullable a v)) (every (λ k. implies (first a f v k) (one_of ks k))))
   decides (level l) f v w after = every (λ k. implies (after k) (t.follow_of l k))
   decides (loop a) f v w after =
       both (decides a (first a none false) (nullable a false) after after)
-      (both (every (λ k. implies (first a (first a none false) (nullable a false) k) (first a none false k))) (implies (nullable a (nullable a false)) (nullable a false)))
+      (both (every (λ k. implies (first a (first a none false) (nullable a false) k) (first a none false k)))
+      (implies (nullable a (nullable a false)) (nullable a false)))
   decides again f v w after = every (λ k. implies (after k) (w k))
 
   -- a level's rule is decided, and the tables are right of it
@@ -134,18 +139,17 @@ module _ (t : LevelTables) where
   level_is_decided l =
       both (both (sane (t.rule l)) (closed (t.rule l)))
       (both (decides (t.rule l) none false none (t.follow_of l))
-      (both (every (λ k. implies (first (t.rule l) none false k) (t.first_of l k))) (implies (nullable (t.rule l) false) (t.nullable_of l))))
+      (both (every (λ k. implies (first (t.rule l) none false k) (t.first_of l k)))
+      (implies (nullable (t.rule l) false) (t.nullable_of l))))
 
 abbrev pub all_levels : List Level
 all_levels =
-    block ∷ heading ∷ statement false by_end ∷ statement true by_end ∷ statement false by_until ∷ statement true by_until
+    block ∷ heading ∷ statement false by_end ∷ statement true by_end ∷ statement false by_until
+    ∷ statement true by_until
     ∷ denoter ∷ variant_part ∷ factor ∷ []
-
-abbrev pub every_level_of : (Level → Bool) → List Level → Bool
-every_level_of t [] = true
-every_level_of t (l ∷ ls) = both (t l) (every_level_of t ls)
 
 -- One token decides each choice, in the grammar of whole texts and in the rules of all levels.
 abbrev pub IsDecided : LevelTables → Grammar → Bool
 IsDecided t g =
-    both (every_level_of (level_is_decided t) all_levels) (both (both (sane g) (closed g)) (decides t g none false none none))
+    both (every_of (level_is_decided t) all_levels)
+    (both (both (sane g) (closed g)) (decides t g none false none none))

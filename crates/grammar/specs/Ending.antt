@@ -1,10 +1,10 @@
 -- A terminal that stands at the end of a text alone.
 use Rattle.std.specs.Prelude.{◌≡◌, ℕ, Bool, true, false, not, List, [], ◌∷◌, ◌⊎◌, Err}
 use Rattle.grammar.specs.declared.terminals.Terminal.{Terminal}
-use Rattle.grammar.specs.Terminals.{one_of}
+use Rattle.grammar.specs.Terminals.{one_of, every_of}
 use Rattle.grammar.specs.Nodes.{Item}
 use Rattle.grammar.specs.Grammars.{Grammar, token, nothing, seq, choice, greedy, level, loop, again}
-use Rattle.grammar.specs.Deciding.{both, LevelTables, all_levels, every_level_of}
+use Rattle.grammar.specs.Deciding.{both, LevelTables, all_levels}
 use Rattle.grammar.specs.Reading.{Refusal, left_of, read}
 
 -- no token of the grammar's own is of that terminal
@@ -31,7 +31,7 @@ ends_in k again = false
 
 -- the terminal stands at the end of a whole text alone
 abbrev pub IsLast : Terminal → LevelTables → Grammar → Bool
-IsLast k t g = both (every_level_of (λ l. lacks k (t.rule l)) all_levels) (ends_in k g)
+IsLast k t g = both (every_of (λ l. lacks k (t.rule l)) all_levels) (ends_in k g)
 
 -- a token of that terminal is in the list
 abbrev pub Has : Terminal → List Item → Type 0
@@ -40,4 +40,5 @@ Has k (x ∷ l) = (x.kind ≡ k) ⊎ Has k l
 
 -- A list that has such a terminal is refused before its last token or at it.
 abbrev pub RefusedIsInside : Type 0
-RefusedIsInside = (k : Terminal) (t : LevelTables) (g : Grammar) → IsLast k t g ≡ true → (n : ℕ) (l : List Item) (r : Refusal) → Has k l → read t n g l ≡ Err r → Has k (left_of r)
+RefusedIsInside = (k : Terminal) (t : LevelTables) (g : Grammar) → IsLast k t g ≡ true
+    → (n : ℕ) (l : List Item) (r : Refusal) → Has k l → read t n g l ≡ Err r → Has k (left_of r)

@@ -40,7 +40,7 @@ word k = token (k ∷ [])
 abbrev pub many : List Terminal → Grammar → Grammar
 many ks a = loop (choice ks (seq a again) nothing)
 
--- Parts behind separators: behind a separator stands an a, which begins with one of ks, and the series goes on,
+-- Parts after separators: after a separator stands an a, which begins with one of ks, and the series goes on,
 -- or z, and it ends.
 abbrev pub series : Terminal → List Terminal → Grammar → Grammar → Grammar
 series separator ks a z = loop (choice (separator ∷ []) (seq (word separator) (choice ks (seq a again) z)) nothing)
@@ -57,7 +57,8 @@ IsNothing (Leaf item) = ⊥
 IsNothing Nothing = Unit {0}
 IsNothing (Pair a b) = ⊥
 
-abbrev pub IsPair : (Node → Option Terminal → Type 0) → (Node → Option Terminal → Type 0) → Node → Option Terminal → Type 0
+abbrev pub IsPair : (Node → Option Terminal → Type 0) → (Node → Option Terminal → Type 0) → Node → Option Terminal
+    → Type 0
 IsPair p q (Leaf item) h = ⊥
 IsPair p q Nothing h = ⊥
 IsPair p q (Pair a b) h = p a (ahead (spell b) h) × q b h
@@ -66,13 +67,15 @@ IsPair p q (Pair a b) h = p a (ahead (spell b) h) × q b h
 abbrev pub IsNone : Node → Option Terminal → Type 0
 IsNone x h = ⊥
 
--- at most so many rounds of a loop
-abbrev pub rounds : ℕ → ((Node → Option Terminal → Type 0) → Node → Option Terminal → Type 0) → Node → Option Terminal → Type 0
+-- at most this many rounds of a loop
+abbrev pub rounds : ℕ → ((Node → Option Terminal → Type 0) → Node → Option Terminal → Type 0) → Node → Option Terminal
+    → Type 0
 rounds zero f x h = ⊥
 rounds (suc k) f x h = f (rounds k f) x h
 
 -- the trees of a grammar, where `env` has those of the levels and `v` those that `again` stands for
-abbrev pub FreeIn : (Level → Node → Option Terminal → Type 0) → Grammar → (Node → Option Terminal → Type 0) → Node → Option Terminal → Type 0
+abbrev pub FreeIn : (Level → Node → Option Terminal → Type 0) → Grammar → (Node → Option Terminal → Type 0) → Node
+    → Option Terminal → Type 0
 FreeIn env (token ks) v x h = IsLeaf ks x
 FreeIn env nothing v x h = IsNothing x
 FreeIn env (seq a b) v x h = IsPair (FreeIn env a v) (FreeIn env b v) x h

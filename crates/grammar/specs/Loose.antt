@@ -1,7 +1,8 @@
 -- A grammar without the rule that a greedy part is taken where it can be.
 use Rattle.std.specs.Prelude.{ℕ, None}
 use Rattle.grammar.specs.Nodes.{Node}
-use Rattle.grammar.specs.Grammars.{Level, Grammar, token, nothing, seq, choice, greedy, level, loop, again, Free, FreeWithin}
+use Rattle.grammar.specs.Grammars.{Level, Grammar, token, nothing, seq, choice, greedy, level, loop, again, Free}
+use Rattle.grammar.specs.Grammars.{FreeWithin}
 
 abbrev pub loose : Grammar → Grammar
 loose (token ks) = token ks

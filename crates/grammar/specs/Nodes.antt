@@ -40,7 +40,7 @@ abbrev pub row : List Node → Node
 row [] = Nothing
 row (x ∷ xs) = Pair x (row xs)
 
--- a part of a series, behind its separator
+-- a part of a series, after its separator
 pub record Step : Type 0 where
   pub separator : Node
   pub part : Node

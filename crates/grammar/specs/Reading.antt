@@ -35,7 +35,7 @@ then_pair r q = r >>= λ x. q x.1 >>= λ y. Ok (Pair x.0 y.0, y.1)
 abbrev pub unread : List Item → Read
 unread l = Err (Unfit l)
 
--- at most so many rounds of a loop
+-- at most this many rounds of a loop
 abbrev pub turns : ℕ → ((List Item → Read) → List Item → Read) → List Item → Read
 turns zero f l = Err (Unfit l)
 turns (suc k) f l = f (turns k f) l

@@ -1,7 +1,15 @@
 -- The terminals, and tests of them.
-use Rattle.std.specs.Prelude.{ℕ, Bool, true, false, nat_eq, if◌then◌else◌, List, [], ◌∷◌, Option, Some, None}
+use Rattle.std.specs.Prelude.{ℕ, Bool, true, false, nat_eq, ◌&&◌, if◌then◌else◌, List, [], ◌∷◌, Option, Some, None}
 use Rattle.grammar.specs.declared.terminals.Terminal.{Terminal}
-use Rattle.grammar.specs.declared.terminals.Terminal.TheVariants.{WAnd, WArray, WBegin, WCase, WConst, WDiv, WDo, WDownto, WElse, WEnd, WFile, WFor, WFunction, WGoto, WIf, WIn, WLabel, WMod, WNil, WNot, WOf, WOr, WPacked, WProcedure, WProgram, WRecord, WRepeat, WSet, WThen, WTo, WType, WUntil, WVar, WWhile, WWith, Plus, Minus, Star, Equal, Less, Greater, LeftBracket, RightBracket, Dot, Comma, Colon, Semicolon, Caret, LeftParen, RightParen, NotEqual, AtMost, AtLeast, Becomes, Range, Name, Number, Text, End}
+use Rattle.grammar.specs.declared.terminals.Terminal.TheVariants.{WAnd, WArray, WBegin, WCase, WConst, WDiv, WDo}
+use Rattle.grammar.specs.declared.terminals.Terminal.TheVariants.{WDownto, WElse, WEnd, WFile, WFor, WFunction, WGoto}
+use Rattle.grammar.specs.declared.terminals.Terminal.TheVariants.{WIf, WIn, WLabel, WMod, WNil, WNot, WOf, WOr, WPacked}
+use Rattle.grammar.specs.declared.terminals.Terminal.TheVariants.{WProcedure, WProgram, WRecord, WRepeat, WSet, WThen}
+use Rattle.grammar.specs.declared.terminals.Terminal.TheVariants.{WTo, WType, WUntil, WVar, WWhile, WWith, Plus, Minus}
+use Rattle.grammar.specs.declared.terminals.Terminal.TheVariants.{Star, Equal, Less, Greater, LeftBracket, RightBracket}
+use Rattle.grammar.specs.declared.terminals.Terminal.TheVariants.{Dot, Comma, Colon, Semicolon, Caret, LeftParen}
+use Rattle.grammar.specs.declared.terminals.Terminal.TheVariants.{RightParen, NotEqual, AtMost, AtLeast, Becomes, Range}
+use Rattle.grammar.specs.declared.terminals.Terminal.TheVariants.{Name, Number, Text, End}
 
 -- the place of a terminal in the list of all
 abbrev pub place : Terminal → ℕ
@@ -67,7 +75,11 @@ place End = 58
 
 abbrev pub all_terminals : List Terminal
 all_terminals =
-    WAnd ∷ WArray ∷ WBegin ∷ WCase ∷ WConst ∷ WDiv ∷ WDo ∷ WDownto ∷ WElse ∷ WEnd ∷ WFile ∷ WFor ∷ WFunction ∷ WGoto ∷ WIf ∷ WIn ∷ WLabel ∷ WMod ∷ WNil ∷ WNot ∷ WOf ∷ WOr ∷ WPacked ∷ WProcedure ∷ WProgram ∷ WRecord ∷ WRepeat ∷ WSet ∷ WThen ∷ WTo ∷ WType ∷ WUntil ∷ WVar ∷ WWhile ∷ WWith ∷ Plus ∷ Minus ∷ Star ∷ Equal ∷ Less ∷ Greater ∷ LeftBracket ∷ RightBracket ∷ Dot ∷ Comma ∷ Colon ∷ Semicolon ∷ Caret ∷ LeftParen ∷ RightParen ∷ NotEqual ∷ AtMost ∷ AtLeast ∷ Becomes ∷ Range ∷ Name ∷ Number ∷ Text ∷ End ∷ []
+    WAnd ∷ WArray ∷ WBegin ∷ WCase ∷ WConst ∷ WDiv ∷ WDo ∷ WDownto ∷ WElse ∷ WEnd ∷ WFile ∷ WFor ∷ WFunction ∷ WGoto
+    ∷ WIf ∷ WIn ∷ WLabel ∷ WMod ∷ WNil ∷ WNot ∷ WOf ∷ WOr ∷ WPacked ∷ WProcedure ∷ WProgram ∷ WRecord ∷ WRepeat
+    ∷ WSet ∷ WThen ∷ WTo ∷ WType ∷ WUntil ∷ WVar ∷ WWhile ∷ WWith ∷ Plus ∷ Minus ∷ Star ∷ Equal ∷ Less ∷ Greater
+    ∷ LeftBracket ∷ RightBracket ∷ Dot ∷ Comma ∷ Colon ∷ Semicolon ∷ Caret ∷ LeftParen ∷ RightParen ∷ NotEqual
+    ∷ AtMost ∷ AtLeast ∷ Becomes ∷ Range ∷ Name ∷ Number ∷ Text ∷ End ∷ []
 
 -- whether the second is the first
 abbrev pub is : Terminal → Terminal → Bool
@@ -84,10 +96,10 @@ abbrev pub passes : List Terminal → Option Terminal → Bool
 passes ks None = false
 passes ks (Some k) = one_of ks k
 
--- whether all of a list, and all terminals, pass a test
-abbrev pub every_of : (Terminal → Bool) → List Terminal → Bool
+-- whether all of a list pass a test, and all terminals
+abbrev pub every_of : {A : Type 0} → (A → Bool) → List A → Bool
 every_of t [] = true
-every_of t (k ∷ ks) = if t k then every_of t ks else false
+every_of t (k ∷ ks) = t k && every_of t ks
 
 abbrev pub every : (Terminal → Bool) → Bool
 every t = every_of t all_terminals

@@ -3,13 +3,17 @@ use Rattle.std.specs.Prelude.{◌≡◌, ℕ, zero, suc, true, false, List, ◌�
 use Rattle.grammar.specs.declared.terminals.Terminal.{Terminal}
 use Rattle.grammar.specs.Terminals.{passes}
 use Rattle.grammar.specs.Nodes.{Node, spell, ahead}
-use Rattle.grammar.specs.Grammars.{Level, Grammar, token, nothing, seq, choice, greedy, level, loop, again, IsLeaf, IsNothing, IsPair, IsNone, rounds}
+use Rattle.grammar.specs.Grammars.{Level, Grammar, token, nothing, seq, choice, greedy, level, loop, again, IsLeaf}
+use Rattle.grammar.specs.Grammars.{IsNothing, IsPair, IsNone, rounds}
 
 -- the first where the next token passes, else the second
-abbrev pub IsChoice : List Terminal → (Node → Option Terminal → Type 0) → (Node → Option Terminal → Type 0) → Node → Option Terminal → Type 0
-IsChoice ks p q x h = ((passes ks (ahead (spell x) h) ≡ true) × p x h) ⊎ ((passes ks (ahead (spell x) h) ≡ false) × q x h)
+abbrev pub IsChoice : List Terminal → (Node → Option Terminal → Type 0) → (Node → Option Terminal → Type 0) → Node
+    → Option Terminal → Type 0
+IsChoice ks p q x h = ((passes ks (ahead (spell x) h) ≡ true) × p x h) ⊎
+    ((passes ks (ahead (spell x) h) ≡ false) × q x h)
 
-abbrev pub Is : (Level → Node → Option Terminal → Type 0) → Grammar → (Node → Option Terminal → Type 0) → Node → Option Terminal → Type 0
+abbrev pub Is : (Level → Node → Option Terminal → Type 0) → Grammar → (Node → Option Terminal → Type 0) → Node
+    → Option Terminal → Type 0
 Is env (token ks) v x h = IsLeaf ks x
 Is env nothing v x h = IsNothing x
 Is env (seq a b) v x h = IsPair (Is env a v) (Is env b v) x h

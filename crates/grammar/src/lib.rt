@@ -1,6 +1,7 @@
-//! Grammars as data, what their trees are, and what a reader that looks at one token makes of them.
-//! It knows the terminal symbols of Pascal and the constructs that count as nesting, and nothing else of
-//! the language.
+//! Grammars as data over Pascal's alphabet: what their trees are, and what a reader that looks at one token makes of
+//! them. The alphabet is fixed: the terminals are Pascal's terminal symbols, and the levels are the constructs of
+//! Pascal that count as nesting. So this is no grammar library for any alphabet, though it knows no rule of Pascal:
+//! these are data, and stand in `pas_tree`.
 #![tactic(auto)]
 
 mod laws;

@@ -88,7 +88,7 @@ pub enum Terminal {
     Number,
     /// A character string.
     Text,
-    /// What stands behind the last token of a source.
+    /// What stands after the last token of a source.
     End,
 }
 

@@ -9,10 +9,10 @@ use Rattle.grammar.specs.Reading.{Refusal, Unfit, Deep, read}
 use Rattle.grammar.specs.Laws.{NoneGoesOn}
 use Rattle.grammar_refusals.specs.Nesting.{IsShaped}
 use Rattle.grammar.proofs.Exact.{failed, ok_is, err_is, ok_no_err}
-use Rattle.grammar.proofs.Knot.{rule_sane, whole_parts}
+use Rattle.grammar.proofs.LevelsTested.{rule_sane, whole_parts}
 use Rattle.grammar.proofs.Texts.{exact}
 use Rattle.grammar_refusals.proofs.Local.{Local, read_local}
-use Rattle.grammar_refusals.proofs.Goes.{shaped_goes}
+use Rattle.grammar_refusals.proofs.ReadOrTooDeep.{shaped_goes}
 
 pub unfit_no_deep : (l m : List Item) → failed (Unfit l) ≡ failed (Deep m) → ⊥
 unfit_no_deep l m e = let f : Unfit l ≡ Deep m = err_is (Unfit l) (Deep m) e in cc

@@ -1,9 +1,9 @@
 pub mod Complete
+pub mod DeepIsBegun
 pub mod Deepest
+pub mod FirstRefusals
 pub mod Formed
-pub mod Goes
 pub mod Hopeless
 pub mod Local
-pub mod Numbers
-pub mod Reached
+pub mod ReadOrTooDeep
 pub mod Starting

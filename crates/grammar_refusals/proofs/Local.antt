@@ -1,6 +1,8 @@
 -- A refusal depends on the tokens up to the refused one alone.
-use Rattle.std.proofs.Common.{◌≡◌, ℕ, zero, suc, ◌+◌, true, false, cond, List, [], ◌∷◌, ◌++◌, length, Option, Ok, Err, refl, sym, ap, subst, ◌∙◌, append_assoc, inl, inr, arith}
+use Rattle.std.proofs.Common.{◌≡◌, ℕ, zero, suc, ◌+◌, true, false, cond, List, [], ◌∷◌, ◌++◌, length, Option, Ok, Err, refl, sym, ap, subst, ◌∙◌, append_assoc}
+use Rattle.std.proofs.Common.{inl, inr, arith}
 use Rattle.std.proofs.lemmas.List.{append_cancel_right}
+use Rattle.std.proofs.lemmas.Bool.{and_parts}
 use Rattle.grammar.specs.declared.terminals.Terminal.{Terminal}
 use Rattle.grammar.specs.Terminals.{one_of, passes}
 use Rattle.grammar.specs.Nodes.{Item, Node, Nothing, Pair, spell, next}
@@ -9,7 +11,6 @@ use Rattle.grammar.specs.Tested.{Is, Within}
 use Rattle.grammar.specs.Reading.{Refusal, Unfit, Deep, left_of, Read, ◌>>=◌, token_at, then_pair, unread, turns, turning, reads, levels, read}
 use Rattle.grammar.specs.Deciding.{guarded, sane, LevelTables, expects}
 use Rattle.grammar_refusals.specs.Nesting.{Trees}
-use Rattle.grammar.proofs.Bools.{both_parts}
 use Rattle.grammar.proofs.Exact.{Exact, bind_err, failed, err_is, ok_no_err, ok_or_err, same_next, token_fails, none_exact}
 use Rattle.grammar.proofs.Loops.{Guards, enough, guarded_same}
 use Rattle.grammar.proofs.Larger.{is_up}
@@ -28,7 +29,8 @@ pub record Local (p : List Item → Read) (l : List Item) (r : Refusal) : Type 0
 abbrev pub IsLocal : (List Item → Read) → Type 0
 IsLocal p = (l : List Item) (r : Refusal) → p l ≡ Err r → Local p l r
 
-pair_local : (P : Trees) (p q : List Item → Read) → Exact P p → (l : List Item) (r : Refusal) → (p l ≡ Err r → Local p l r) → ((a : Node) (m : List Item) → p l ≡ Ok (a, m) → q m ≡ Err r → Local q m r)
+pair_local : (P : Trees) (p q : List Item → Read) → Exact P p → (l : List Item) (r : Refusal) → (p l ≡ Err r → Local p l r)
+    → ((a : Node) (m : List Item) → p l ≡ Ok (a, m) → q m ≡ Err r → Local q m r)
     → then_pair (p l) q ≡ Err r → Local (λ l. then_pair (p l) q) l r
 pair_local P p q exact l r first second e =
     elim (bind_err (p l) (λ x. q x.1 >>= λ y. Ok (Pair x.0 y.0, y.1)) r e) [
@@ -43,7 +45,8 @@ pair_local P p q exact l r first second e =
                   whole = s.0 ∙ ap (λ (m : List Item). spell h.0.0 ++ m) t.whole ∙ sym (append_assoc (spell h.0.0) t.front (left_of r));
                   again = λ more at.
                       let head : next h.0.1 ≡ next (t.front ++ more) = ap next t.whole ∙ sym (same_next t.front more (left_of r) at) in
-                      let one : p (spell h.0.0 ++ (t.front ++ more)) ≡ Ok (h.0.0, t.front ++ more) = exact.again h.0.0 (t.front ++ more) (subst (P h.0.0) head s.1) in
+                      let one : p (spell h.0.0 ++ (t.front ++ more)) ≡ Ok (h.0.0, t.front ++ more) =
+                      exact.again h.0.0 (t.front ++ more) (subst (P h.0.0) head s.1) in
                       ap (λ (m : List Item). then_pair (p m) q) (append_assoc (spell h.0.0) t.front more) ∙ ap (λ (z : Read). then_pair z q) one
                       ∙ ap (λ (z : Read). z >>= λ y. Ok (Pair h.0.0 y.0, y.1)) (t.again more at);
                 }
@@ -61,7 +64,8 @@ choice_local ks p q l r first second e =
             front = s.front;
             whole = s.whole;
             again = λ more at.
-                let b : passes ks (next (s.front ++ more)) ≡ true = subst (λ (j : Option Terminal). passes ks j ≡ true) (ap next s.whole ∙ sym (same_next s.front more (left_of r) at)) h.0 in
+                let b : passes ks (next (s.front ++ more)) ≡ true = subst (λ (j : Option Terminal). passes ks j ≡ true)
+                (ap next s.whole ∙ sym (same_next s.front more (left_of r) at)) h.0 in
                 rw b (s.again more at);
           }
       | inr h ↦
@@ -70,18 +74,21 @@ choice_local ks p q l r first second e =
             front = s.front;
             whole = s.whole;
             again = λ more at.
-                let b : passes ks (next (s.front ++ more)) ≡ false = subst (λ (j : Option Terminal). passes ks j ≡ false) (ap next s.whole ∙ sym (same_next s.front more (left_of r) at)) h.0 in
+                let b : passes ks (next (s.front ++ more)) ≡ false =
+                subst (λ (j : Option Terminal). passes ks j ≡ false) (ap next s.whole ∙ sym (same_next s.front more (left_of r) at)) h.0 in
                 rw b (s.again more at);
           }
     ]
 
-unfit_local : (p : List Item → Read) (l : List Item) (r : Refusal) → failed (Unfit l) ≡ Err r → ((more : List Item) → next more ≡ next l → p more ≡ Err (Unfit more)) → Local p l r
+unfit_local : (p : List Item → Read) (l : List Item) (r : Refusal) → failed (Unfit l) ≡ Err r
+    → ((more : List Item) → next more ≡ next l → p more ≡ Err (Unfit more)) → Local p l r
 unfit_local p l r e back = at r (err_is (Unfit l) r e)
   where
     at : (r : Refusal) → Unfit l ≡ r → Local p l r
     at r e = subst (Local p l) e (record { front = []; whole = refl; again = back })
 
-deep_local : (p : List Item → Read) (l : List Item) (r : Refusal) → failed (Deep l) ≡ Err r → ((more : List Item) → next more ≡ next l → p more ≡ Err (Deep more)) → Local p l r
+deep_local : (p : List Item → Read) (l : List Item) (r : Refusal) → failed (Deep l) ≡ Err r
+    → ((more : List Item) → next more ≡ next l → p more ≡ Err (Deep more)) → Local p l r
 deep_local p l r e back = at r (err_is (Deep l) r e)
   where
     at : (r : Refusal) → Deep l ≡ r → Local p l r
@@ -127,8 +134,10 @@ level_local_zero : (t : LevelTables) (v : Level) → IsLocal (levels t zero v)
 unfolding levels
 level_local_zero t v l r e =
     elim (ok_or_err (expects t v (next l)) (Err (Deep l)) (Err (Unfit l)) (Err r) e) [
-      | inl h ↦ deep_local (levels t zero v) l r h.1 (λ more at. let b : expects t v (next more) ≡ true = subst (λ (j : Option Terminal). expects t v j ≡ true) (sym at) h.0 in rw b refl)
-      | inr h ↦ unfit_local (levels t zero v) l r h.1 (λ more at. let b : expects t v (next more) ≡ false = subst (λ (j : Option Terminal). expects t v j ≡ false) (sym at) h.0 in rw b refl)
+      | inl h ↦ deep_local (levels t zero v) l r h.1 (λ more at. let b : expects t v (next more) ≡ true =
+          subst (λ (j : Option Terminal). expects t v j ≡ true) (sym at) h.0 in rw b refl)
+      | inr h ↦ unfit_local (levels t zero v) l r h.1 (λ more at. let b : expects t v (next more) ≡ false =
+          subst (λ (j : Option Terminal). expects t v j ≡ false) (sym at) h.0 in rw b refl)
     ]
 
 module _ (t : LevelTables) (sane_rule : (l : Level) → sane (t.rule l) ≡ true) where
@@ -140,26 +149,40 @@ module _ (t : LevelTables) (sane_rule : (l : Level) → sane (t.rule l) ≡ true
     local (token ks) ok V u x s l r e = token_local ks l r e
     local nothing ok V u x s l r e = absurd (ok_no_err (Nothing, l) r e)
     local (seq a b) ok V u x s l r e =
-        let o = both_parts (sane a) (sane b) ok in
-        pair_local (Is (Within t.rule n) a V) (reads (levels t n) a u) (reads (levels t n) b u) (exact_in a o.0 V u x) l r (local a o.0 V u x s l r) (λ y m first g. local b o.1 V u x s m r g) e
+        let o = and_parts (sane a) (sane b) ok in
+        pair_local (Is (Within t.rule n) a V) (reads (levels t n) a u) (reads (levels t n) b u) (exact_in a o.0 V u x) l r (local a o.0 V u x s l r)
+        (λ y m first g. local b o.1 V u x s m r g) e
     local (choice ks a b) ok V u x s l r e =
-        let o = both_parts (sane a) (sane b) ok in choice_local ks (reads (levels t n) a u) (reads (levels t n) b u) l r (local a o.0 V u x s l r) (local b o.1 V u x s l r) e
-    local (greedy ks a) ok V u x s l r e = choice_local ks (reads (levels t n) a u) (λ l. Ok (Nothing, l)) l r (local a ok V u x s l r) (λ h. absurd (ok_no_err (Nothing, l) r h)) e
+        let o = and_parts (sane a) (sane b) ok in choice_local ks (reads (levels t n) a u) (reads (levels t n) b u) l r (local a o.0 V u x s l r)
+        (local b o.1 V u x s l r) e
+    local (greedy ks a) ok V u x s l r e = choice_local ks (reads (levels t n) a u) (λ l. Ok (Nothing, l)) l r (local a ok V u x s l r)
+        (λ h. absurd (ok_no_err (Nothing, l) r h)) e
     local (level v) ok V u x s l r e = level_local v l r e
     local (loop a) ok V u x s l r e =
-        let o = both_parts (sane a) (guarded a) ok in
+        let o = and_parts (sane a) (guarded a) ok in
         let P = Within t.rule n in
         let p = levels t n in
         let guards = guarded_same p (level_shortens P p (levels_exact t sane_rule n)) a o.1 in
-        turning_local (reads p a) guards (λ k. local a o.0 (rounds k (Is P a)) (turns k (reads p a)) (rounds_exact (Is P a) (reads p a) (is_up P P (λ v x h r. r) a) guards (exact_in a o.0) k)) l r e
+        turning_local (reads p a) guards (λ k. local a o.0 (rounds k (Is P a)) (turns k (reads p a))
+        (rounds_exact (Is P a) (reads p a) (is_up P P (λ v x h r. r) a) guards (exact_in a o.0) k)) l r e
     local again ok V u x s l r e = s l r e
 
   pub level_local : (n : ℕ) (v : Level) → IsLocal (levels t n v)
   unfolding levels
   level_local zero v l r e = level_local_zero t v l r e
   level_local (suc n) v l r e =
-      let s = local n (level_local n) (t.rule v) (sane_rule v) IsNone unread none_exact unread_local l r e in record { front = s.front; whole = s.whole; again = s.again }
+      let s = local n (level_local n) (t.rule v) (sane_rule v) IsNone unread none_exact unread_local l r e in record {
+        front = s.front;
+        whole = s.whole;
+        again =
+            s.again;
+      }
 
   pub read_local : (n : ℕ) (g : Grammar) → sane g ≡ true → IsLocal (read t n g)
   unfolding read
-  read_local n g ok l r e = let s = local n (level_local n) g ok IsNone unread none_exact unread_local l r e in record { front = s.front; whole = s.whole; again = s.again }
+  read_local n g ok l r e = let s = local n (level_local n) g ok IsNone unread none_exact unread_local l r e in record {
+    front = s.front;
+    whole =
+        s.whole;
+    again = s.again;
+  }

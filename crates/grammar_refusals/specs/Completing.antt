@@ -2,10 +2,10 @@
 use Rattle.std.specs.Prelude.{ℕ, zero, suc, Bool, true, false, cond, not, List, [], ◌∷◌}
 use Rattle.grammar.specs.declared.terminals.Terminal.{Terminal}
 use Rattle.grammar.specs.declared.terminals.Terminal.TheVariants.{End}
-use Rattle.grammar.specs.Terminals.{one_of, every}
+use Rattle.grammar.specs.Terminals.{one_of, every, every_of}
 use Rattle.grammar.specs.Nodes.{Item, Node, Nothing, Pair, spell, leaf}
 use Rattle.grammar.specs.Grammars.{Level, Grammar, token, nothing, seq, choice, greedy, level, loop, again}
-use Rattle.grammar.specs.Deciding.{both, implies, LevelTables, all_levels, every_level_of}
+use Rattle.grammar.specs.Deciding.{both, implies, LevelTables, all_levels}
 
 -- the first of a list of terminals
 abbrev pub first_in : List Terminal → Terminal
@@ -47,7 +47,8 @@ module _ (calm : Terminal → Bool) where
   abbrev pub sure : (Level → Node) → (Level → Bool) → Grammar → Node → Bool → Bool
   sure brief has (token ks) s v = one_of ks (first_in ks)
   sure brief has nothing s v = true
-  sure brief has (seq a b) s v = both (both (sure brief has a s v) (sure brief has b s v)) (begins_calm (spell (short brief b s)))
+  sure brief has (seq a b) s v = both (both (sure brief has a s v) (sure brief has b s v))
+      (begins_calm (spell (short brief b s)))
   sure brief has (choice ks a b) s v = cond (ends_empty b) (sure brief has b s v) (sure brief has a s v)
   sure brief has (greedy ks a) s v = spares ks
   sure brief has (level l) s v = has l
@@ -58,11 +59,13 @@ module _ (calm : Terminal → Bool) where
   abbrev pub completes : (Level → Node) → (Level → Bool) → Grammar → Node → Bool → Bool
   completes brief has (token ks) s v = one_of ks (first_in ks)
   completes brief has nothing s v = true
-  completes brief has (seq a b) s v = both (both (completes brief has a s v) (completes brief has b s v)) (both (sure brief has b s v) (begins_calm (spell (short brief b s))))
+  completes brief has (seq a b) s v = both (both (completes brief has a s v) (completes brief has b s v))
+      (both (sure brief has b s v) (begins_calm (spell (short brief b s))))
   completes brief has (choice ks a b) s v = both (completes brief has a s v) (completes brief has b s v)
   completes brief has (greedy ks a) s v = both (completes brief has a s v) (spares ks)
   completes brief has (level l) s v = true
-  completes brief has (loop a) s v = both (completes brief has a (short brief a Nothing) true) (sure brief has a Nothing false)
+  completes brief has (loop a) s v = both (completes brief has a (short brief a Nothing) true)
+      (sure brief has a Nothing false)
   completes brief has again s v = v
 
   -- short trees of the levels, in which at most d levels are nested, and whether they are trees
@@ -81,4 +84,5 @@ module _ (calm : Terminal → Bool) where
 
   -- short trees complete what was read of a whole text
   abbrev pub IsCompleted : ℕ → LevelTables → Grammar → Bool
-  IsCompleted d t g = both (every_level_of (level_completes t.rule d) all_levels) (completes (brief_of t.rule d) (has_brief t.rule d) g Nothing false)
+  IsCompleted d t g = both (every_of (level_completes t.rule d) all_levels)
+      (completes (brief_of t.rule d) (has_brief t.rule d) g Nothing false)

@@ -2,7 +2,8 @@
 use Rattle.std.specs.Prelude.{◌≡◌, ℕ, zero, suc, List, [], ◌++◌, ◌⊎◌, Option, None}
 use Rattle.grammar.specs.declared.terminals.Terminal.{Terminal}
 use Rattle.grammar.specs.Nodes.{Item, Node, Leaf, Nothing, Pair, spell, ahead}
-use Rattle.grammar.specs.Grammars.{Level, Grammar, token, nothing, seq, choice, greedy, level, loop, again, IsNone, FreeIn, FreeWithin}
+use Rattle.grammar.specs.Grammars.{Level, Grammar, token, nothing, seq, choice, greedy, level, loop, again, IsNone}
+use Rattle.grammar.specs.Grammars.{FreeIn, FreeWithin}
 use Rattle.grammar.specs.Deciding.{LevelTables}
 use Rattle.grammar.specs.Laws.{IsFormedBy}
 
@@ -30,9 +31,10 @@ nowhere x h f = ⊥
 abbrev pub InPair : Trees → Trees → Places → Places → Places
 InPair p q m k (Leaf item) h f = ⊥
 InPair p q m k Nothing h f = ⊥
-InPair p q m k (Pair a b) h f = (m a (ahead (spell b) h) f × q b h) ⊎ ((rest : List Item) × (f ≡ spell a ++ rest) × p a (ahead (spell b) h) × k b h rest)
+InPair p q m k (Pair a b) h f = (m a (ahead (spell b) h) f × q b h) ⊎
+    ((rest : List Item) × (f ≡ spell a ++ rest) × p a (ahead (spell b) h) × k b h rest)
 
--- a place in one of at most so many rounds of a loop
+-- a place in one of at most this many rounds of a loop
 abbrev pub in_rounds : ℕ → (Places → Places) → Places
 in_rounds zero f x h at = ⊥
 in_rounds (suc k) f x h at = f (in_rounds k f) x h at
@@ -42,7 +44,8 @@ in_rounds (suc k) f x h at = f (in_rounds k f) x h at
 abbrev pub BeginsIn : (Level → Trees) → (Level → Places) → Grammar → Trees → Places → Places
 BeginsIn env deep (token ks) v m x h f = ⊥
 BeginsIn env deep nothing v m x h f = ⊥
-BeginsIn env deep (seq a b) v m x h f = InPair (FreeIn env a v) (FreeIn env b v) (BeginsIn env deep a v m) (BeginsIn env deep b v m) x h f
+BeginsIn env deep (seq a b) v m x h f = InPair (FreeIn env a v) (FreeIn env b v) (BeginsIn env deep a v m)
+    (BeginsIn env deep b v m) x h f
 BeginsIn env deep (choice ks a b) v m x h f = BeginsIn env deep a v m x h f ⊎ BeginsIn env deep b v m x h f
 BeginsIn env deep (greedy ks a) v m x h f = BeginsIn env deep a v m x h f
 BeginsIn env deep (level l) v m x h f = deep l x h f
@@ -54,6 +57,6 @@ unfoldable pub BeginsAt : (Level → Grammar) → ℕ → Level → Places
 BeginsAt rule zero l x h f = (f ≡ []) × Nested rule l x h
 BeginsAt rule (suc n) l x h f = BeginsIn (Nested rule) (BeginsAt rule n) (rule l) IsNone nowhere x h f
 
--- A tree of a whole text in which, behind these tokens, a node of nesting n + 1 begins.
+-- A tree of a whole text in which, after these tokens, a node of nesting n + 1 begins.
 abbrev pub BeginsDeep : LevelTables → ℕ → Grammar → Node → List Item → Type 0
 BeginsDeep t n g x f = BeginsIn (Nested t.rule) (BeginsAt t.rule n) g IsNone nowhere x None f

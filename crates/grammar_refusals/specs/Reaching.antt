@@ -1,9 +1,9 @@
 -- The check that each token in front of which a level is tried may stand there in some tree.
 use Rattle.std.specs.Prelude.{ℕ, zero, suc, Bool, true, false, not, List}
 use Rattle.grammar.specs.declared.terminals.Terminal.{Terminal}
-use Rattle.grammar.specs.Terminals.{one_of, every}
+use Rattle.grammar.specs.Terminals.{one_of, every, every_of}
 use Rattle.grammar.specs.Grammars.{Level, Grammar, token, nothing, seq, choice, greedy, level, loop, again}
-use Rattle.grammar.specs.Deciding.{both, either, implies, LevelTables, none, nullable, first, all_levels, every_level_of}
+use Rattle.grammar.specs.Deciding.{both, either, implies, LevelTables, none, nullable, first, all_levels}
 
 -- ---- tables with nothing to spare
 
@@ -53,12 +53,14 @@ eager again = true
 -- ---- levels at the end
 
 module _ (t : LevelTables) where
-  -- The terminals in front of which a tree may end in a level that is empty. Of the loop around it `f` and `v` tell what
+  -- The terminals in front of which a tree may end in a level that is empty. Of the loop around it `f` and `v` tell
+  -- what
   -- begins it and whether it has an empty tree, and `c` tells the same of it.
   abbrev pub ends : Grammar → (Terminal → Bool) → Bool → (Terminal → Bool) → Terminal → Bool
   ends (token ks) f v c k = false
   ends nothing f v c k = false
-  ends (seq a b) f v c k = either (ends b f v c k) (both (ends a f v c k) (both (nullable t b v) (not (first t b f v k))))
+  ends (seq a b) f v c k = either (ends b f v c k)
+      (both (ends a f v c k) (both (nullable t b v) (not (first t b f v k))))
   ends (choice ks a b) f v c k = either (ends a f v c k) (ends b f v c k)
   ends (greedy ks a) f v c k = ends a f v c k
   ends (level l) f v c k = both (t.nullable_of l) (t.follow_of l k)
@@ -72,7 +74,8 @@ module _ (t : LevelTables) where
   abbrev pub goes_on : Grammar → (Terminal → Bool) → Bool → (Terminal → Bool) → Bool
   goes_on (token ks) f v c = true
   goes_on nothing f v c = true
-  goes_on (seq a b) f v c = both (both (goes_on a f v c) (goes_on b f v c)) (every (λ k. implies (ends a f v c k) (either (first t b f v k) (nullable t b v))))
+  goes_on (seq a b) f v c = both (both (goes_on a f v c) (goes_on b f v c))
+      (every (λ k. implies (ends a f v c k) (either (first t b f v k) (nullable t b v))))
   goes_on (choice ks a b) f v c = both (goes_on a f v c) (goes_on b f v c)
   goes_on (greedy ks a) f v c = goes_on a f v c
   goes_on (level l) f v c = true
@@ -84,11 +87,14 @@ module _ (t : LevelTables) where
   -- the tables have nothing to spare of a level, and what follows it in its rule goes on
   abbrev pub level_reaches : ℕ → Level → Bool
   level_reaches d l =
-      both (both (every (λ k. implies (t.first_of l k) ((tables_at t d).first_of l k))) (implies (t.nullable_of l) ((tables_at t d).nullable_of l)))
+      both (both (every (λ k. implies (t.first_of l k) ((tables_at t d).first_of l k)))
+      (implies (t.nullable_of l) ((tables_at t d).nullable_of l)))
       (both (eager (t.rule l))
-      (both (goes_on (t.rule l) none false none) (every (λ k. implies (ends (t.rule l) none false none k) (both (t.nullable_of l) (t.follow_of l k))))))
+      (both (goes_on (t.rule l) none false none)
+      (every (λ k. implies (ends (t.rule l) none false none k) (both (t.nullable_of l) (t.follow_of l k))))))
 
   -- Each token in front of which a level is tried may stand there.
   abbrev pub IsReaching : ℕ → Grammar → Bool
   IsReaching d g =
-      both (every_level_of (level_reaches d) all_levels) (both (eager g) (both (goes_on g none false none) (every (λ k. not (ends g none false none k)))))
+      both (every_of (level_reaches d) all_levels)
+      (both (eager g) (both (goes_on g none false none) (every (λ k. not (ends g none false none k)))))

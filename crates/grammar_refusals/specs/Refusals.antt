@@ -13,7 +13,8 @@ BeginsWith spelling text i = (more : List Item) × (spelling ≡ take (i + 1) te
 -- Token i is too deep: the spelling of some shaped tree begins with the tokens 0 to i, and a node of nesting n + 1
 -- begins at its token i.
 abbrev pub IsTooDeep : LevelTables → ℕ → Grammar → List Item → ℕ → Type 0
-IsTooDeep t n g text i = (i < length text) × ((x : Node) × IsShaped t g x × BeginsWith (spell x) text i × BeginsDeep t n g x (take i text))
+IsTooDeep t n g text i = (i < length text) ×
+    ((x : Node) × IsShaped t g x × BeginsWith (spell x) text i × BeginsDeep t n g x (take i text))
 
 -- Token i is hopeless: the spelling of no shaped tree begins with the tokens 0 to i.
 abbrev pub IsHopeless : LevelTables → Grammar → List Item → ℕ → Type 0
@@ -33,6 +34,7 @@ NoneTooDeep t n g text = (i : ℕ) → IsTooDeep t n g text i → ⊥
 abbrev pub IsFirstHopelessBy : LevelTables → ℕ → Grammar → List Item → ℕ → Type 0
 IsFirstHopelessBy t n g text i = NoneTooDeep t n g text × IsLeast (IsHopeless t g text) i
 
--- Reading stops at token i: it is unfit, or stands behind a whole tree.
+-- Reading stops at token i: it is unfit, or stands after a whole tree.
 abbrev pub StopsAt : LevelTables → ℕ → Grammar → List Item → ℕ → Type 0
-StopsAt t n g text i = (read t n g text ≡ Err (Unfit (drop i text))) ⊎ ((x : Node) × (read t n g text ≡ Ok (x, drop i text)))
+StopsAt t n g text i = (read t n g text ≡ Err (Unfit (drop i text))) ⊎
+    ((x : Node) × (read t n g text ≡ Ok (x, drop i text)))

@@ -1,6 +1,8 @@
 //! Laws of refusals, each the contract of a call that does nothing.
 
-ghost use Rattle.grammar_refusals.specs.Laws.{DeepIsBegun, DeepIsFirst, DeepIsShaped, FirstIsDeep, FirstIsStop, FormedIsNotDeep, FormedOrDeep, ReadHasNeither, RefusedIsBegun, StopIsFirst, SurplusIsHopeless, UnfitIsHopeless};
+ghost use Rattle.grammar_refusals.specs.Laws.{DeepIsBegun, DeepIsFirst, DeepIsShaped, FirstIsDeep, FirstIsStop};
+ghost use Rattle.grammar_refusals.specs.Laws.{FormedIsNotDeep, FormedOrDeep, ReadHasNeither, RefusedIsBegun};
+ghost use Rattle.grammar_refusals.specs.Laws.{StopIsFirst, SurplusIsHopeless, UnfitIsHopeless};
 
 /// A tree in which at most n levels are nested is one in which no node of nesting n + 1 begins.
 pub fn nesting_is_depth()

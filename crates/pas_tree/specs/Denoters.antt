@@ -5,16 +5,20 @@ use Rattle.grammar.specs.Nodes.{Node, Nothing, Pair, leaf, Step}
 use Rattle.pas_tree.specs.declared.denoters.Denoter.{Denoter, Name, Enumeration, Subrange, Pointer, Structure'}
 use Rattle.pas_tree.specs.declared.denoters.Structure.{Structure, Array, Record', Set'}
 use Rattle.pas_tree.specs.declared.denoters.Enumeration.{Enumeration as EnumerationTree}
-use Rattle.pas_tree.specs.declared.denoters.ArrayDenoter.{ArrayDenoter, ArrayDenoter', Row_of-NextDenoter, end_of-NextDenoter, more_of-NextDenoter}
+use Rattle.pas_tree.specs.declared.denoters.ArrayDenoter.{ArrayDenoter, ArrayDenoter', Row_of-NextDenoter}
+use Rattle.pas_tree.specs.declared.denoters.ArrayDenoter.{end_of-NextDenoter, more_of-NextDenoter}
 use Rattle.pas_tree.specs.declared.denoters.NextDenoter.{NextDenoter}
 use Rattle.pas_tree.specs.declared.denoters.RecordDenoter.{RecordDenoter}
 use Rattle.pas_tree.specs.declared.denoters.SetDenoter.{SetDenoter}
-use Rattle.pas_tree.specs.declared.denoters.Fields.{Fields, Empty, Fixed', Variants' as FieldsVariants', Held-Fields-Fixed-1, None', Some'}
-use Rattle.pas_tree.specs.declared.denoters.Fixed.{Fixed as FixedTree, Fixed' as FixedTree', Row_of-NextSection, end_of-NextSection, more_of-NextSection}
+use Rattle.pas_tree.specs.declared.denoters.Fields.{Fields, Empty, Fixed', Variants' as FieldsVariants'}
+use Rattle.pas_tree.specs.declared.denoters.Fields.{Held-Fields-Fixed-1, None', Some'}
+use Rattle.pas_tree.specs.declared.denoters.Fixed.{Fixed as FixedTree, Fixed' as FixedTree', Row_of-NextSection}
+use Rattle.pas_tree.specs.declared.denoters.Fixed.{end_of-NextSection, more_of-NextSection}
 use Rattle.pas_tree.specs.declared.denoters.Section.{Section}
 use Rattle.pas_tree.specs.declared.denoters.NextSection.{NextSection}
 use Rattle.pas_tree.specs.declared.denoters.NextVariants.{NextVariants, NextVariants'}
-use Rattle.pas_tree.specs.declared.denoters.Variants.{Variants as VariantsTree, Variants', Row_of-NextArm, end_of-NextArm, more_of-NextArm}
+use Rattle.pas_tree.specs.declared.denoters.Variants.{Variants as VariantsTree, Variants', Row_of-NextArm}
+use Rattle.pas_tree.specs.declared.denoters.Variants.{end_of-NextArm, more_of-NextArm}
 use Rattle.pas_tree.specs.declared.denoters.Tag.{Tag}
 use Rattle.pas_tree.specs.declared.denoters.TagField.{TagField}
 use Rattle.pas_tree.specs.declared.denoters.Arm.{Arm}
@@ -32,7 +36,7 @@ tag_rest_node (Some f) name = Pair (leaf k.Name f.name) (Pair (leaf k.Colon f.co
 abbrev pub tag_node : Tag → Node
 tag_node t = tag_rest_node t.field t.name
 
--- a semicolon behind the last part of a series, if there is one
+-- a semicolon after the last part of a series, if there is one
 abbrev pub last_semicolon_node : Option ℕ → Node
 last_semicolon_node None = Nothing
 last_semicolon_node (Some n) = Pair (leaf k.Semicolon n) Nothing
@@ -57,41 +61,49 @@ abbrev mutual
 
   pub denoters_node : {m : _} → Row_of-NextDenoter m → Node
   denoters_node end_of-NextDenoter = Nothing
-  denoters_node (more_of-NextDenoter comma denoter rest) = Pair (Pair (leaf k.Comma comma) (denoter_node denoter)) (denoters_node rest)
+  denoters_node (more_of-NextDenoter comma denoter rest) =
+      Pair (Pair (leaf k.Comma comma) (denoter_node denoter)) (denoters_node rest)
 
   pub fields_node : Fields → Node
   fields_node Empty = Nothing
   fields_node (Fixed' fixed variants last) = fixed_node fixed (next_variants_node variants last)
   fields_node (FieldsVariants' _ variants last) = variants_node variants last
 
-  -- the fixed part, and what stands behind it
+  -- the fixed part, and what stands after it
   pub fixed_node : FixedTree → Node → Node
-  fixed_node (FixedTree' names colon denoter _ others) end = Pair (Pair (names_node names) (Pair (leaf k.Colon colon) (denoter_node denoter))) (sections_node others end)
+  fixed_node (FixedTree' names colon denoter _ others) end =
+      Pair (Pair (names_node names) (Pair (leaf k.Colon colon) (denoter_node denoter))) (sections_node others end)
 
   pub sections_node : {m : _} → Row_of-NextSection m → Node → Node
   sections_node end_of-NextSection end = end
   sections_node (more_of-NextSection semicolon names colon denoter rest) end =
-      Pair (leaf k.Semicolon semicolon) (Pair (Pair (names_node names) (Pair (leaf k.Colon colon) (denoter_node denoter))) (sections_node rest end))
+      Pair (leaf k.Semicolon semicolon) (Pair (Pair (names_node names)
+      (Pair (leaf k.Colon colon) (denoter_node denoter))) (sections_node rest end))
 
   pub next_variants_node : Held-Fields-Fixed-1 → Option ℕ → Node
   next_variants_node None' last = last_semicolon_node last
-  next_variants_node (Some' (NextVariants' semicolon _ variants)) last = Pair (leaf k.Semicolon semicolon) (variants_node variants last)
+  next_variants_node (Some' (NextVariants' semicolon _ variants)) last =
+      Pair (leaf k.Semicolon semicolon) (variants_node variants last)
 
   pub variants_node : VariantsTree → Option ℕ → Node
   variants_node (Variants' word tag of constants colon open' fields close _ others) last =
       Pair (leaf k.WCase word) (Pair (tag_node tag) (Pair (leaf k.WOf of)
-      (Pair (Pair (constants_node constants) (Pair (leaf k.Colon colon) (Pair (leaf k.LeftParen open') (Pair (fields_node fields) (leaf k.RightParen close)))))
+      (Pair (Pair (constants_node constants) (Pair (leaf k.Colon colon)
+      (Pair (leaf k.LeftParen open') (Pair (fields_node fields) (leaf k.RightParen close)))))
       (arms_node others (last_semicolon_node last)))))
 
   pub arms_node : {m : _} → Row_of-NextArm m → Node → Node
   arms_node end_of-NextArm end = end
   arms_node (more_of-NextArm semicolon constants colon open' fields close rest) end =
       Pair (leaf k.Semicolon semicolon)
-      (Pair (Pair (constants_node constants) (Pair (leaf k.Colon colon) (Pair (leaf k.LeftParen open') (Pair (fields_node fields) (leaf k.RightParen close)))))
+      (Pair (Pair (constants_node constants) (Pair (leaf k.Colon colon)
+      (Pair (leaf k.LeftParen open') (Pair (fields_node fields) (leaf k.RightParen close)))))
       (arms_node rest end))
 
 abbrev pub arm_node : Arm → Node
-arm_node a = Pair (constants_node a.constants) (Pair (leaf k.Colon a.colon) (Pair (leaf k.LeftParen a.«open») (Pair (fields_node a.fields) (leaf k.RightParen a.close))))
+arm_node a = Pair (constants_node a.constants)
+    (Pair (leaf k.Colon a.colon) (Pair (leaf k.LeftParen a.«open»)
+    (Pair (fields_node a.fields) (leaf k.RightParen a.close))))
 
 -- ---- what is repeated
 
@@ -108,7 +120,8 @@ abbrev pub arm_step : NextArm → Step
 arm_step n = record { separator = leaf k.Semicolon n.semicolon; part = arm_node n.arm }
 
 abbrev pub some_variants_node : NextVariants → Option ℕ → Node
-some_variants_node (NextVariants' semicolon _ variants) last = Pair (leaf k.Semicolon semicolon) (variants_node variants last)
+some_variants_node (NextVariants' semicolon _ variants) last =
+    Pair (leaf k.Semicolon semicolon) (variants_node variants last)
 
 abbrev pub record_node : RecordDenoter → Node
 record_node r = Pair (leaf k.WRecord r.word) (Pair (fields_node r.fields) (leaf k.WEnd r.end))

@@ -6,18 +6,24 @@ use Rattle.pas_tree.specs.declared.expressions.Factor.{Factor, Number, Text, Nil
 use Rattle.pas_tree.specs.declared.expressions.Access.{Access, Row_of-Selector, end_of-Selector, more_of-Selector}
 use Rattle.pas_tree.specs.declared.expressions.Selector.{Selector, Index, Field, Dereference}
 use Rattle.pas_tree.specs.declared.expressions.Index.{Index as IndexTree, Index'}
-use Rattle.pas_tree.specs.declared.expressions.Arguments.{Arguments, Arguments', Row_of-NextExpression, end_of-NextExpression, more_of-NextExpression}
+use Rattle.pas_tree.specs.declared.expressions.Arguments.{Arguments, Arguments', Row_of-NextExpression}
+use Rattle.pas_tree.specs.declared.expressions.Arguments.{end_of-NextExpression, more_of-NextExpression}
 use Rattle.pas_tree.specs.declared.expressions.NextExpression.{NextExpression, NextExpression'}
-use Rattle.pas_tree.specs.declared.expressions.Expression.{Expression, Expression', Held-Expression-relation, Expression-relation-None', Expression-relation-Some'}
+use Rattle.pas_tree.specs.declared.expressions.Expression.{Expression, Expression', Held-Expression-relation}
+use Rattle.pas_tree.specs.declared.expressions.Expression.{Expression-relation-None', Expression-relation-Some'}
 use Rattle.pas_tree.specs.declared.expressions.Relation.{Relation'}
-use Rattle.pas_tree.specs.declared.expressions.Simple.{Simple, Simple', Row_of-NextTerm, end_of-NextTerm, more_of-NextTerm}
+use Rattle.pas_tree.specs.declared.expressions.Simple.{Simple, Simple', Row_of-NextTerm, end_of-NextTerm}
+use Rattle.pas_tree.specs.declared.expressions.Simple.{more_of-NextTerm}
 use Rattle.pas_tree.specs.declared.expressions.NextTerm.{NextTerm, NextTerm'}
-use Rattle.pas_tree.specs.declared.expressions.Term.{Term, Term', Row_of-NextFactor, end_of-NextFactor, more_of-NextFactor}
+use Rattle.pas_tree.specs.declared.expressions.Term.{Term, Term', Row_of-NextFactor, end_of-NextFactor}
+use Rattle.pas_tree.specs.declared.expressions.Term.{more_of-NextFactor}
 use Rattle.pas_tree.specs.declared.expressions.NextFactor.{NextFactor}
 use Rattle.pas_tree.specs.declared.expressions.Members.{Members, Empty, Some}
-use Rattle.pas_tree.specs.declared.expressions.SomeMembers.{SomeMembers', Row_of-NextMember, end_of-NextMember, more_of-NextMember}
+use Rattle.pas_tree.specs.declared.expressions.SomeMembers.{SomeMembers', Row_of-NextMember, end_of-NextMember}
+use Rattle.pas_tree.specs.declared.expressions.SomeMembers.{more_of-NextMember}
 use Rattle.pas_tree.specs.declared.expressions.NextMember.{NextMember, NextMember'}
-use Rattle.pas_tree.specs.declared.expressions.Member.{Member, Member', Held-Member-last, Member-last-None', Member-last-Some'}
+use Rattle.pas_tree.specs.declared.expressions.Member.{Member, Member', Held-Member-last, Member-last-None'}
+use Rattle.pas_tree.specs.declared.expressions.Member.{Member-last-Some'}
 use Rattle.pas_tree.specs.declared.expressions.RangeEnd.{RangeEnd'}
 use Rattle.pas_tree.specs.Operators.{sign_node, adding_node, multiplying_node, relational_node}
 
@@ -27,21 +33,24 @@ abbrev mutual
 
   pub relation_node : Held-Expression-relation → Node
   relation_node Expression-relation-None' = Nothing
-  relation_node (Expression-relation-Some' (Relation' operator right)) = Pair (relational_node operator) (simple_node right)
+  relation_node (Expression-relation-Some' (Relation' operator right)) =
+      Pair (relational_node operator) (simple_node right)
 
   pub simple_node : Simple → Node
   simple_node (Simple' sign first _ others) = Pair (sign_node sign) (Pair (term_node first) (terms_node others))
 
   pub terms_node : {m : _} → Row_of-NextTerm m → Node
   terms_node end_of-NextTerm = Nothing
-  terms_node (more_of-NextTerm (NextTerm' operator term) rest) = Pair (Pair (adding_node operator) (term_node term)) (terms_node rest)
+  terms_node (more_of-NextTerm (NextTerm' operator term) rest) =
+      Pair (Pair (adding_node operator) (term_node term)) (terms_node rest)
 
   pub term_node : Term → Node
   term_node (Term' first _ others) = Pair (factor_node first) (factors_node others)
 
   pub factors_node : {m : _} → Row_of-NextFactor m → Node
   factors_node end_of-NextFactor = Nothing
-  factors_node (more_of-NextFactor operator factor rest) = Pair (Pair (multiplying_node operator) (factor_node factor)) (factors_node rest)
+  factors_node (more_of-NextFactor operator factor rest) =
+      Pair (Pair (multiplying_node operator) (factor_node factor)) (factors_node rest)
 
   pub factor_node : Factor → Node
   factor_node (Number n) = leaf k.Number n
@@ -49,7 +58,8 @@ abbrev mutual
   factor_node (Nil n) = leaf k.WNil n
   factor_node (Access' name _ selectors) = Pair (leaf k.Name name) (selectors_node selectors)
   factor_node (Call' name _ arguments) = Pair (leaf k.Name name) (arguments_node arguments)
-  factor_node (Paren' open' _ e close) = Pair (leaf k.LeftParen open') (Pair (expression_node e) (leaf k.RightParen close))
+  factor_node (Paren' open' _ e close) = Pair (leaf k.LeftParen open')
+      (Pair (expression_node e) (leaf k.RightParen close))
   factor_node (Set' _ members) = members_node members
   factor_node (Not' n _ f) = Pair (leaf k.WNot n) (factor_node f)
 
@@ -64,24 +74,29 @@ abbrev mutual
 
   pub index_node : IndexTree → Node
   index_node (Index' open' first _ others close) =
-      Pair (leaf k.LeftBracket open') (Pair (expression_node first) (Pair (expressions_node others) (leaf k.RightBracket close)))
+      Pair (leaf k.LeftBracket open') (Pair (expression_node first)
+      (Pair (expressions_node others) (leaf k.RightBracket close)))
 
   pub arguments_node : Arguments → Node
   arguments_node (Arguments' open' first _ others close) =
-      Pair (leaf k.LeftParen open') (Pair (expression_node first) (Pair (expressions_node others) (leaf k.RightParen close)))
+      Pair (leaf k.LeftParen open') (Pair (expression_node first)
+      (Pair (expressions_node others) (leaf k.RightParen close)))
 
   pub expressions_node : {m : _} → Row_of-NextExpression m → Node
   expressions_node end_of-NextExpression = Nothing
-  expressions_node (more_of-NextExpression (NextExpression' comma e) rest) = Pair (Pair (leaf k.Comma comma) (expression_node e)) (expressions_node rest)
+  expressions_node (more_of-NextExpression (NextExpression' comma e) rest) =
+      Pair (Pair (leaf k.Comma comma) (expression_node e)) (expressions_node rest)
 
   pub members_node : Members → Node
   members_node (Empty open' close) = Pair (leaf k.LeftBracket open') (leaf k.RightBracket close)
   members_node (Some (SomeMembers' open' first _ others close)) =
-      Pair (leaf k.LeftBracket open') (Pair (member_node first) (Pair (more_members_node others) (leaf k.RightBracket close)))
+      Pair (leaf k.LeftBracket open') (Pair (member_node first)
+      (Pair (more_members_node others) (leaf k.RightBracket close)))
 
   pub more_members_node : {m : _} → Row_of-NextMember m → Node
   more_members_node end_of-NextMember = Nothing
-  more_members_node (more_of-NextMember (NextMember' comma member) rest) = Pair (Pair (leaf k.Comma comma) (member_node member)) (more_members_node rest)
+  more_members_node (more_of-NextMember (NextMember' comma member) rest) =
+      Pair (Pair (leaf k.Comma comma) (member_node member)) (more_members_node rest)
 
   pub member_node : Member → Node
   member_node (Member' first last) = Pair (expression_node first) (range_end_node last)

@@ -4,9 +4,11 @@ use Rattle.grammar.specs.declared.terminals.Terminal.TheVariants as k
 use Rattle.grammar.specs.Nodes.{Node, Nothing, Pair, leaf}
 use Rattle.pas_tree.specs.declared.headings.Heading.{Heading, Procedure, Function}
 use Rattle.pas_tree.specs.declared.headings.ProcedureHeading.{ProcedureHeading, ProcedureHeading'}
-use Rattle.pas_tree.specs.declared.headings.FunctionHeading.{FunctionHeading, FunctionHeading', Held-FunctionHeading-formals, None', Some'}
+use Rattle.pas_tree.specs.declared.headings.FunctionHeading.{FunctionHeading, FunctionHeading'}
+use Rattle.pas_tree.specs.declared.headings.FunctionHeading.{Held-FunctionHeading-formals, None', Some'}
 use Rattle.pas_tree.specs.declared.headings.ResultType.{ResultType}
-use Rattle.pas_tree.specs.declared.headings.Formals.{Formals, Formals', Row_of-NextFormal, end_of-NextFormal, more_of-NextFormal}
+use Rattle.pas_tree.specs.declared.headings.Formals.{Formals, Formals', Row_of-NextFormal, end_of-NextFormal}
+use Rattle.pas_tree.specs.declared.headings.Formals.{more_of-NextFormal}
 use Rattle.pas_tree.specs.declared.headings.NextFormal.{NextFormal}
 use Rattle.pas_tree.specs.declared.headings.Formal.{Formal, Value, Variable, Routine'}
 use Rattle.pas_tree.specs.declared.headings.FormalNames.{FormalNames}
@@ -25,7 +27,8 @@ abbrev mutual
   heading_node (Function f) = function_node f
 
   pub procedure_node : ProcedureHeading → Node
-  procedure_node (ProcedureHeading' word name formals) = Pair (leaf k.WProcedure word) (Pair (leaf k.Name name) (held_formals_node formals))
+  procedure_node (ProcedureHeading' word name formals) =
+      Pair (leaf k.WProcedure word) (Pair (leaf k.Name name) (held_formals_node formals))
 
   pub function_node : FunctionHeading → Node
   function_node (FunctionHeading' word name formals result) =
@@ -36,11 +39,14 @@ abbrev mutual
   held_formals_node (Some' f) = formals_node f
 
   pub formals_node : Formals → Node
-  formals_node (Formals' open' first _ others close) = Pair (leaf k.LeftParen open') (Pair (formal_node first) (Pair (more_formals_node others) (leaf k.RightParen close)))
+  formals_node (Formals' open' first _ others close) =
+      Pair (leaf k.LeftParen open') (Pair (formal_node first)
+      (Pair (more_formals_node others) (leaf k.RightParen close)))
 
   pub more_formals_node : {m : _} → Row_of-NextFormal m → Node
   more_formals_node end_of-NextFormal = Nothing
-  more_formals_node (more_of-NextFormal semicolon formal rest) = Pair (Pair (leaf k.Semicolon semicolon) (formal_node formal)) (more_formals_node rest)
+  more_formals_node (more_of-NextFormal semicolon formal rest) =
+      Pair (Pair (leaf k.Semicolon semicolon) (formal_node formal)) (more_formals_node rest)
 
   pub formal_node : Formal → Node
   formal_node (Value f) = formal_names_node f

@@ -7,4 +7,10 @@ pub mod FirstRefused
 pub mod Headings
 pub mod Operators
 pub mod Rules
+pub mod SameConstants
+pub mod SameDenoters
+pub mod SameExpressions
+pub mod SameHeadings
+pub mod SameStatements
+pub mod SameTrees
 pub mod Statements

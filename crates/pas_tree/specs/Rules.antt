@@ -3,7 +3,8 @@
 use Rattle.std.specs.Prelude.{Bool, true, false, List, [], ◌∷◌}
 use Rattle.grammar.specs.declared.terminals.Terminal.{Terminal}
 use Rattle.grammar.specs.declared.terminals.Terminal.TheVariants as k
-use Rattle.grammar.specs.Grammars.{Closer, by_end, by_until, Level, block, heading, statement, denoter, variant_part, factor, Grammar, token, nothing, seq, choice, greedy, level, word, many, series}
+use Rattle.grammar.specs.Grammars.{Closer, by_end, by_until, Level, block, heading, statement, denoter, variant_part}
+use Rattle.grammar.specs.Grammars.{factor, Grammar, token, nothing, seq, choice, greedy, level, word, many, series}
 
 -- what may be left out, and begins with one of these
 abbrev pub optional : List Terminal → Grammar → Grammar
@@ -69,10 +70,12 @@ unfoldable pub next_expression_rule : Grammar
 next_expression_rule = seq (word k.Comma) expression_rule
 
 unfoldable pub index_rule : Grammar
-index_rule = seq (word k.LeftBracket) (seq expression_rule (seq (many (k.Comma ∷ []) next_expression_rule) (word k.RightBracket)))
+index_rule = seq (word k.LeftBracket) (seq expression_rule
+    (seq (many (k.Comma ∷ []) next_expression_rule) (word k.RightBracket)))
 
 unfoldable pub selector_rule : Grammar
-selector_rule = choice (k.LeftBracket ∷ []) index_rule (choice (k.Dot ∷ []) (seq (word k.Dot) (word k.Name)) (word k.Caret))
+selector_rule = choice (k.LeftBracket ∷ []) index_rule
+    (choice (k.Dot ∷ []) (seq (word k.Dot) (word k.Name)) (word k.Caret))
 
 unfoldable pub selectors_rule : Grammar
 selectors_rule = many selector_starts selector_rule
@@ -81,7 +84,8 @@ unfoldable pub access_rule : Grammar
 access_rule = seq (word k.Name) selectors_rule
 
 unfoldable pub arguments_rule : Grammar
-arguments_rule = seq (word k.LeftParen) (seq expression_rule (seq (many (k.Comma ∷ []) next_expression_rule) (word k.RightParen)))
+arguments_rule = seq (word k.LeftParen) (seq expression_rule
+    (seq (many (k.Comma ∷ []) next_expression_rule) (word k.RightParen)))
 
 unfoldable pub member_rule : Grammar
 member_rule = seq expression_rule (optional (k.Range ∷ []) (seq (word k.Range) expression_rule))
@@ -92,7 +96,8 @@ next_member_rule = seq (word k.Comma) member_rule
 unfoldable pub members_rule : Grammar
 members_rule =
     seq (word k.LeftBracket)
-    (choice (k.RightBracket ∷ []) (word k.RightBracket) (seq member_rule (seq (many (k.Comma ∷ []) next_member_rule) (word k.RightBracket))))
+    (choice (k.RightBracket ∷ []) (word k.RightBracket)
+    (seq member_rule (seq (many (k.Comma ∷ []) next_member_rule) (word k.RightBracket))))
 
 unfoldable pub named_factor_rule : Grammar
 named_factor_rule = seq (word k.Name) (choice (k.LeftParen ∷ []) arguments_rule selectors_rule)
@@ -117,7 +122,8 @@ unfoldable pub names_rule : Grammar
 names_rule = seq (word k.Name) (many (k.Comma ∷ []) next_name_rule)
 
 unfoldable pub constant_rule : Grammar
-constant_rule = choice (k.Text ∷ []) (word k.Text) (choice signs (seq (token signs) (token plain_constants)) (token plain_constants))
+constant_rule = choice (k.Text ∷ []) (word k.Text)
+    (choice signs (seq (token signs) (token plain_constants)) (token plain_constants))
 
 unfoldable pub next_constant_rule : Grammar
 next_constant_rule = seq (word k.Comma) constant_rule
@@ -130,7 +136,8 @@ range_rule = seq (word k.Range) constant_rule
 
 -- a constant that is no name alone
 unfoldable pub limit_rule : Grammar
-limit_rule = choice (k.Text ∷ []) (word k.Text) (choice signs (seq (token signs) (token plain_constants)) (word k.Number))
+limit_rule = choice (k.Text ∷ []) (word k.Text)
+    (choice signs (seq (token signs) (token plain_constants)) (word k.Number))
 
 unfoldable pub enumeration_rule : Grammar
 enumeration_rule = seq (word k.LeftParen) (seq names_rule (word k.RightParen))
@@ -140,7 +147,9 @@ next_denoter_rule = seq (word k.Comma) (level denoter)
 
 unfoldable pub array_rule : Grammar
 array_rule =
-    seq (word k.WArray) (seq (word k.LeftBracket) (seq (level denoter) (seq (many (k.Comma ∷ []) next_denoter_rule) (seq (word k.RightBracket) (seq (word k.WOf) (level denoter))))))
+    seq (word k.WArray) (seq (word k.LeftBracket)
+    (seq (level denoter) (seq (many (k.Comma ∷ []) next_denoter_rule)
+    (seq (word k.RightBracket) (seq (word k.WOf) (level denoter))))))
 
 unfoldable pub section_rule : Grammar
 section_rule = seq names_rule (seq (word k.Colon) (level denoter))
@@ -151,7 +160,7 @@ variants_rule = optional (k.WCase ∷ []) (level variant_part)
 unfoldable pub fixed_rule : Grammar
 fixed_rule = seq section_rule (series k.Semicolon (k.Name ∷ []) section_rule variants_rule)
 
--- A semicolon behind the last section or the last arm belongs to the list of fields; behind an arm it is read with
+-- A semicolon after the last section or the last arm belongs to the list of fields; after an arm it is read with
 -- the variant part.
 unfoldable pub fields_rule : Grammar
 fields_rule = choice (k.Name ∷ []) fixed_rule variants_rule
@@ -163,7 +172,8 @@ unfoldable pub tag_rule : Grammar
 tag_rule = seq (word k.Name) (optional (k.Colon ∷ []) (seq (word k.Colon) (word k.Name)))
 
 unfoldable pub variant_part_rule : Grammar
-variant_part_rule = seq (word k.WCase) (seq tag_rule (seq (word k.WOf) (seq arm_rule (series k.Semicolon constant_starts arm_rule nothing))))
+variant_part_rule = seq (word k.WCase) (seq tag_rule
+    (seq (word k.WOf) (seq arm_rule (series k.Semicolon constant_starts arm_rule nothing))))
 
 unfoldable pub record_rule : Grammar
 record_rule = seq (word k.WRecord) (seq fields_rule (word k.WEnd))
@@ -197,13 +207,15 @@ unfoldable pub variables_formal_rule : Grammar
 variables_formal_rule = seq names_rule (seq (word k.Colon) (word k.Name))
 
 unfoldable pub formal_rule : Grammar
-formal_rule = choice (k.Name ∷ []) variables_formal_rule (choice (k.WVar ∷ []) (seq (word k.WVar) variables_formal_rule) (level heading))
+formal_rule = choice (k.Name ∷ []) variables_formal_rule
+    (choice (k.WVar ∷ []) (seq (word k.WVar) variables_formal_rule) (level heading))
 
 unfoldable pub next_formal_rule : Grammar
 next_formal_rule = seq (word k.Semicolon) formal_rule
 
 unfoldable pub formals_rule : Grammar
-formals_rule = seq (word k.LeftParen) (seq formal_rule (seq (many (k.Semicolon ∷ []) next_formal_rule) (word k.RightParen)))
+formals_rule = seq (word k.LeftParen) (seq formal_rule
+    (seq (many (k.Semicolon ∷ []) next_formal_rule) (word k.RightParen)))
 
 unfoldable pub procedure_rule : Grammar
 procedure_rule = seq (word k.WProcedure) (seq (word k.Name) (optional (k.LeftParen ∷ []) formals_rule))
@@ -253,13 +265,15 @@ unfoldable pub else_rule : Bool → Closer → Grammar
 else_rule inner closer = greedy (k.WElse ∷ []) (alternative_rule inner closer)
 
 unfoldable pub if_rule : Bool → Closer → Grammar
-if_rule inner closer = seq (word k.WIf) (seq expression_rule (seq (word k.WThen) (seq (level (statement true closer)) (else_rule inner closer))))
+if_rule inner closer = seq (word k.WIf) (seq expression_rule
+    (seq (word k.WThen) (seq (level (statement true closer)) (else_rule inner closer))))
 
 unfoldable pub branch_rule : Grammar
 branch_rule = seq constants_rule (seq (word k.Colon) (level (statement false by_end)))
 
 unfoldable pub case_rule : Grammar
-case_rule = seq (word k.WCase) (seq expression_rule (seq (word k.WOf) (seq branch_rule (seq (series k.Semicolon constant_starts branch_rule nothing) (word k.WEnd)))))
+case_rule = seq (word k.WCase) (seq expression_rule
+    (seq (word k.WOf) (seq branch_rule (seq (series k.Semicolon constant_starts branch_rule nothing) (word k.WEnd)))))
 
 unfoldable pub repeat_rule : Grammar
 repeat_rule = seq (word k.WRepeat) (seq (statements_rule by_until) (seq (word k.WUntil) expression_rule))
@@ -269,13 +283,16 @@ while_rule inner closer = seq (word k.WWhile) (seq expression_rule (seq (word k.
 
 unfoldable pub for_rule : Bool → Closer → Grammar
 for_rule inner closer =
-    seq (word k.WFor) (seq (word k.Name) (seq (word k.Becomes) (seq expression_rule (seq (token directions) (seq expression_rule (seq (word k.WDo) (level (statement inner closer))))))))
+    seq (word k.WFor) (seq (word k.Name) (seq (word k.Becomes)
+    (seq expression_rule (seq (token directions)
+    (seq expression_rule (seq (word k.WDo) (level (statement inner closer))))))))
 
 unfoldable pub next_access_rule : Grammar
 next_access_rule = seq (word k.Comma) access_rule
 
 unfoldable pub with_rule : Bool → Closer → Grammar
-with_rule inner closer = seq (word k.WWith) (seq access_rule (seq (many (k.Comma ∷ []) next_access_rule) (seq (word k.WDo) (level (statement inner closer)))))
+with_rule inner closer = seq (word k.WWith)
+    (seq access_rule (seq (many (k.Comma ∷ []) next_access_rule) (seq (word k.WDo) (level (statement inner closer)))))
 
 unfoldable pub goto_rule : Grammar
 goto_rule = seq (word k.WGoto) (word k.Number)
@@ -309,25 +326,29 @@ unfoldable pub next_label_rule : Grammar
 next_label_rule = seq (word k.Comma) (word k.Number)
 
 unfoldable pub label_part_rule : Grammar
-label_part_rule = optional (k.WLabel ∷ []) (seq (word k.WLabel) (seq (word k.Number) (seq (many (k.Comma ∷ []) next_label_rule) (word k.Semicolon))))
+label_part_rule = optional (k.WLabel ∷ []) (seq (word k.WLabel)
+    (seq (word k.Number) (seq (many (k.Comma ∷ []) next_label_rule) (word k.Semicolon))))
 
 unfoldable pub constant_definition_rule : Grammar
 constant_definition_rule = seq (word k.Name) (seq (word k.Equal) (seq constant_rule (word k.Semicolon)))
 
 unfoldable pub constant_part_rule : Grammar
-constant_part_rule = optional (k.WConst ∷ []) (seq (word k.WConst) (seq constant_definition_rule (many (k.Name ∷ []) constant_definition_rule)))
+constant_part_rule = optional (k.WConst ∷ [])
+    (seq (word k.WConst) (seq constant_definition_rule (many (k.Name ∷ []) constant_definition_rule)))
 
 unfoldable pub type_definition_rule : Grammar
 type_definition_rule = seq (word k.Name) (seq (word k.Equal) (seq (level denoter) (word k.Semicolon)))
 
 unfoldable pub type_part_rule : Grammar
-type_part_rule = optional (k.WType ∷ []) (seq (word k.WType) (seq type_definition_rule (many (k.Name ∷ []) type_definition_rule)))
+type_part_rule = optional (k.WType ∷ []) (seq (word k.WType)
+    (seq type_definition_rule (many (k.Name ∷ []) type_definition_rule)))
 
 unfoldable pub variable_declaration_rule : Grammar
 variable_declaration_rule = seq names_rule (seq (word k.Colon) (seq (level denoter) (word k.Semicolon)))
 
 unfoldable pub variable_part_rule : Grammar
-variable_part_rule = optional (k.WVar ∷ []) (seq (word k.WVar) (seq variable_declaration_rule (many (k.Name ∷ []) variable_declaration_rule)))
+variable_part_rule = optional (k.WVar ∷ [])
+    (seq (word k.WVar) (seq variable_declaration_rule (many (k.Name ∷ []) variable_declaration_rule)))
 
 unfoldable pub body_rule : Grammar
 body_rule = choice (k.Name ∷ []) (word k.Name) (level block)
@@ -342,13 +363,15 @@ unfoldable pub routines_rule : Grammar
 routines_rule = many heading_starts routine_rule
 
 unfoldable pub block_rule : Grammar
-block_rule = seq label_part_rule (seq constant_part_rule (seq type_part_rule (seq variable_part_rule (seq routines_rule compound_rule))))
+block_rule = seq label_part_rule (seq constant_part_rule
+    (seq type_part_rule (seq variable_part_rule (seq routines_rule compound_rule))))
 
 unfoldable pub parameters_rule : Grammar
 parameters_rule = optional (k.LeftParen ∷ []) (seq (word k.LeftParen) (seq names_rule (word k.RightParen)))
 
 unfoldable pub program_rule : Grammar
-program_rule = seq (word k.WProgram) (seq (word k.Name) (seq parameters_rule (seq (word k.Semicolon) (seq (level block) (seq (word k.Dot) (word k.End))))))
+program_rule = seq (word k.WProgram) (seq (word k.Name)
+    (seq parameters_rule (seq (word k.Semicolon) (seq (level block) (seq (word k.Dot) (word k.End))))))
 
 -- ---- the constructs that count as nesting
 

@@ -3,9 +3,11 @@ use Rattle.std.specs.Prelude.{map, Option, Some, None}
 use Rattle.std.specs.Global.{Box}
 use Rattle.grammar.specs.declared.terminals.Terminal.TheVariants as k
 use Rattle.grammar.specs.Nodes.{Node, Nothing, Pair, leaf, row, Step}
-use Rattle.pas_tree.specs.declared.statements.Plain.{Plain, Empty, Assignment as Assignment', Call, Goto, Compound', If', Case', Repeat', While', For', With'}
+use Rattle.pas_tree.specs.declared.statements.Plain.{Plain, Empty, Assignment as Assignment', Call, Goto, Compound'}
+use Rattle.pas_tree.specs.declared.statements.Plain.{If', Case', Repeat', While', For', With'}
 use Rattle.pas_tree.specs.declared.statements.Compound.{Compound, Compound' as CompoundTree'}
-use Rattle.pas_tree.specs.declared.statements.Statements.{Statements, Statements', Row_of-NextStatement, end_of-NextStatement, more_of-NextStatement}
+use Rattle.pas_tree.specs.declared.statements.Statements.{Statements, Statements', Row_of-NextStatement}
+use Rattle.pas_tree.specs.declared.statements.Statements.{end_of-NextStatement, more_of-NextStatement}
 use Rattle.pas_tree.specs.declared.statements.NextStatement.{NextStatement}
 use Rattle.pas_tree.specs.declared.statements.Statement.{Statement}
 use Rattle.pas_tree.specs.declared.statements.Label.{Label}
@@ -16,7 +18,8 @@ use Rattle.pas_tree.specs.declared.statements.Actual.{Actual}
 use Rattle.pas_tree.specs.declared.statements.Width.{Width}
 use Rattle.pas_tree.specs.declared.statements.If.{If, If' as IfTree', Held-If-alternative, None', Some'}
 use Rattle.pas_tree.specs.declared.statements.Else.{Else}
-use Rattle.pas_tree.specs.declared.statements.Case.{Case, Case' as CaseTree', Row_of-NextBranch, end_of-NextBranch, more_of-NextBranch}
+use Rattle.pas_tree.specs.declared.statements.Case.{Case, Case' as CaseTree', Row_of-NextBranch, end_of-NextBranch}
+use Rattle.pas_tree.specs.declared.statements.Case.{more_of-NextBranch}
 use Rattle.pas_tree.specs.declared.statements.NextBranch.{NextBranch}
 use Rattle.pas_tree.specs.declared.statements.Branch.{Branch}
 use Rattle.pas_tree.specs.declared.statements.Repeat.{Repeat, Repeat' as RepeatTree'}
@@ -44,7 +47,8 @@ abbrev pub next_actual_node : NextActual → Node
 next_actual_node n = Pair (leaf k.Comma n.comma) (actual_node n.actual)
 
 abbrev pub actuals_node : Actuals → Node
-actuals_node a = Pair (leaf k.LeftParen a.«open») (Pair (actual_node a.first) (Pair (row (map next_actual_node a.others.items)) (leaf k.RightParen a.close)))
+actuals_node a = Pair (leaf k.LeftParen a.«open»)
+    (Pair (actual_node a.first) (Pair (row (map next_actual_node a.others.items)) (leaf k.RightParen a.close)))
 
 abbrev pub call_node : Option (Box Actuals) → Node
 call_node None = Nothing
@@ -52,7 +56,8 @@ call_node (Some a) = actuals_node a.value
 
 abbrev pub assignment_node : Assignment → Node
 assignment_node a =
-    Pair (leaf k.Name a.target.name) (Pair (row (map selector_node a.target.selectors.items)) (Pair (leaf k.Becomes a.becomes) (expression_node a.value)))
+    Pair (leaf k.Name a.target.name) (Pair (row (map selector_node a.target.selectors.items))
+    (Pair (leaf k.Becomes a.becomes) (expression_node a.value)))
 
 abbrev pub next_access_node : NextAccess → Node
 next_access_node n = Pair (leaf k.Comma n.comma) (access_node n.access)
@@ -68,18 +73,24 @@ abbrev mutual
   plain_node (Case' _ c) = case_node c
   plain_node (Repeat' _ r) = repeat_node r
   plain_node (While' _ word condition do_word label plain) =
-      Pair (leaf k.WWhile word) (Pair (expression_node condition) (Pair (leaf k.WDo do_word) (Pair (label_node label) (plain_node plain))))
+      Pair (leaf k.WWhile word) (Pair (expression_node condition)
+      (Pair (leaf k.WDo do_word) (Pair (label_node label) (plain_node plain))))
   plain_node (For' _ word name becomes initial direction last do_word label plain) =
       Pair (leaf k.WFor word) (Pair (leaf k.Name name) (Pair (leaf k.Becomes becomes) (Pair (expression_node initial)
-      (Pair (direction_node direction) (Pair (expression_node last) (Pair (leaf k.WDo do_word) (Pair (label_node label) (plain_node plain))))))))
+      (Pair (direction_node direction) (Pair (expression_node last)
+      (Pair (leaf k.WDo do_word) (Pair (label_node label) (plain_node plain))))))))
   plain_node (With' _ word first others do_word label plain) =
-      Pair (leaf k.WWith word) (Pair (access_node first) (Pair (row (map next_access_node others.items)) (Pair (leaf k.WDo do_word) (Pair (label_node label) (plain_node plain)))))
+      Pair (leaf k.WWith word) (Pair (access_node first)
+      (Pair (row (map next_access_node others.items))
+      (Pair (leaf k.WDo do_word) (Pair (label_node label) (plain_node plain)))))
 
   pub compound_node : Compound → Node
-  compound_node (CompoundTree' begin statements end) = Pair (leaf k.WBegin begin) (Pair (statements_node statements) (leaf k.WEnd end))
+  compound_node (CompoundTree' begin statements end) =
+      Pair (leaf k.WBegin begin) (Pair (statements_node statements) (leaf k.WEnd end))
 
   pub statements_node : Statements → Node
-  statements_node (Statements' label plain _ others) = Pair (Pair (label_node label) (plain_node plain)) (more_statements_node others)
+  statements_node (Statements' label plain _ others) =
+      Pair (Pair (label_node label) (plain_node plain)) (more_statements_node others)
 
   pub more_statements_node : {m : _} → Row_of-NextStatement m → Node
   more_statements_node end_of-NextStatement = Nothing
@@ -88,7 +99,8 @@ abbrev mutual
 
   pub if_node : If → Node
   if_node (IfTree' word condition then label plain alternative) =
-      Pair (leaf k.WIf word) (Pair (expression_node condition) (Pair (leaf k.WThen then) (Pair (Pair (label_node label) (plain_node plain)) (else_node alternative))))
+      Pair (leaf k.WIf word) (Pair (expression_node condition)
+      (Pair (leaf k.WThen then) (Pair (Pair (label_node label) (plain_node plain)) (else_node alternative))))
 
   pub else_node : Held-If-alternative → Node
   else_node None' = Nothing
@@ -103,11 +115,13 @@ abbrev mutual
   pub branches_node : {m : _} → Row_of-NextBranch m → Node → Node
   branches_node end_of-NextBranch end = end
   branches_node (more_of-NextBranch semicolon constants colon label plain rest) end =
-      Pair (leaf k.Semicolon semicolon) (Pair (Pair (constants_node constants) (Pair (leaf k.Colon colon) (Pair (label_node label) (plain_node plain)))) (branches_node rest end))
+      Pair (leaf k.Semicolon semicolon) (Pair (Pair (constants_node constants)
+      (Pair (leaf k.Colon colon) (Pair (label_node label) (plain_node plain)))) (branches_node rest end))
 
   pub repeat_node : Repeat → Node
   repeat_node (RepeatTree' word statements until condition) =
-      Pair (leaf k.WRepeat word) (Pair (statements_node statements) (Pair (leaf k.WUntil until) (expression_node condition)))
+      Pair (leaf k.WRepeat word) (Pair (statements_node statements)
+      (Pair (leaf k.WUntil until) (expression_node condition)))
 
 -- ---- what is repeated
 
@@ -127,13 +141,17 @@ abbrev pub alternative_node : Else → Node
 alternative_node e = Pair (leaf k.WElse e.word) (statement_node e.statement)
 
 abbrev pub while_node : While → Node
-while_node w = Pair (leaf k.WWhile w.word) (Pair (expression_node w.condition) (Pair (leaf k.WDo w.do_word) (statement_node w.statement)))
+while_node w = Pair (leaf k.WWhile w.word) (Pair (expression_node w.condition)
+    (Pair (leaf k.WDo w.do_word) (statement_node w.statement)))
 
 abbrev pub for_node : For → Node
 for_node f =
-    Pair (leaf k.WFor f.word) (Pair (leaf k.Name f.name) (Pair (leaf k.Becomes f.becomes) (Pair (expression_node f.initial)
-    (Pair (direction_node f.direction) (Pair (expression_node f.last) (Pair (leaf k.WDo f.do_word) (statement_node f.statement)))))))
+    Pair (leaf k.WFor f.word) (Pair (leaf k.Name f.name)
+    (Pair (leaf k.Becomes f.becomes) (Pair (expression_node f.initial)
+    (Pair (direction_node f.direction) (Pair (expression_node f.last)
+    (Pair (leaf k.WDo f.do_word) (statement_node f.statement)))))))
 
 abbrev pub with_node : With → Node
 with_node w =
-    Pair (leaf k.WWith w.word) (Pair (access_node w.first) (Pair (row (map next_access_node w.others.items)) (Pair (leaf k.WDo w.do_word) (statement_node w.statement))))
+    Pair (leaf k.WWith w.word) (Pair (access_node w.first)
+    (Pair (row (map next_access_node w.others.items)) (Pair (leaf k.WDo w.do_word) (statement_node w.statement))))

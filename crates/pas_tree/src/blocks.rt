@@ -5,7 +5,7 @@ use crate::denoters::Denoter;
 use crate::headings::Heading;
 use crate::statements::Compound;
 
-/// A whole program, with the token that stands behind it.
+/// A whole program, with the token that stands after it (6.10).
 #[derive(Drop)]
 pub struct Tree {
     pub word: u32,
@@ -17,6 +17,7 @@ pub struct Tree {
     pub end: u32,
 }
 
+/// Program parameters in parentheses (6.10).
 #[derive(Drop)]
 pub struct Parameters {
     pub open: u32,
@@ -24,6 +25,7 @@ pub struct Parameters {
     pub close: u32,
 }
 
+/// A block: the parts that declare, and the statements (6.2.1).
 #[derive(Drop)]
 #[cycle(blocks)]
 pub struct Block {
@@ -35,6 +37,7 @@ pub struct Block {
     pub body: Compound,
 }
 
+/// A label declaration part (6.2.1).
 #[derive(Drop)]
 pub struct LabelPart {
     pub word: u32,
@@ -43,12 +46,14 @@ pub struct LabelPart {
     pub semicolon: u32,
 }
 
+/// A comma and the label after it.
 #[derive(Drop)]
 pub struct NextLabel {
     pub comma: u32,
     pub number: u32,
 }
 
+/// A constant definition part (6.2.1).
 #[derive(Drop)]
 pub struct ConstantPart {
     pub word: u32,
@@ -56,6 +61,7 @@ pub struct ConstantPart {
     pub others: Vec<ConstantDefinition>,
 }
 
+/// A constant definition: a name, `=`, a constant and a semicolon (6.3).
 #[derive(Drop)]
 pub struct ConstantDefinition {
     pub name: u32,
@@ -64,6 +70,7 @@ pub struct ConstantDefinition {
     pub semicolon: u32,
 }
 
+/// A type definition part (6.2.1).
 #[derive(Drop)]
 pub struct TypePart {
     pub word: u32,
@@ -71,6 +78,7 @@ pub struct TypePart {
     pub others: Vec<TypeDefinition>,
 }
 
+/// A type definition: a name, `=`, a type denoter and a semicolon (6.4.1).
 #[derive(Drop)]
 pub struct TypeDefinition {
     pub name: u32,
@@ -79,6 +87,7 @@ pub struct TypeDefinition {
     pub semicolon: u32,
 }
 
+/// A variable declaration part (6.2.1).
 #[derive(Drop)]
 pub struct VariablePart {
     pub word: u32,
@@ -86,6 +95,7 @@ pub struct VariablePart {
     pub others: Vec<VariableDeclaration>,
 }
 
+/// A variable declaration: names, a colon, their type and a semicolon (6.5.1).
 #[derive(Drop)]
 pub struct VariableDeclaration {
     pub names: Names,

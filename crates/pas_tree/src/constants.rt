@@ -9,13 +9,14 @@ pub struct Names {
     pub others: Vec<NextName>,
 }
 
+/// A comma and the name after it.
 #[derive(Drop)]
 pub struct NextName {
     pub comma: u32,
     pub name: u32,
 }
 
-/// A constant: a number or a name, perhaps behind a sign, or a string.
+/// A constant: a number or a name, perhaps after a sign, or a string (6.3).
 #[derive(Drop)]
 pub enum Constant {
     Number(Option<Sign>, u32),
@@ -30,6 +31,7 @@ pub struct Constants {
     pub others: Vec<NextConstant>,
 }
 
+/// A comma and the constant after it.
 #[derive(Drop)]
 pub struct NextConstant {
     pub comma: u32,

@@ -2,6 +2,7 @@
 
 use crate::constants::{Constant, Constants, Names};
 
+/// A type denoter (6.4.1).
 #[derive(Drop)]
 #[cycle(denoters)]
 pub enum Denoter {
@@ -15,6 +16,7 @@ pub enum Denoter {
     Structure(Option<u32>, Box<Structure>),
 }
 
+/// An enumerated type: names in parentheses (6.4.2.3).
 #[derive(Drop)]
 pub struct Enumeration {
     pub open: u32,
@@ -22,6 +24,7 @@ pub struct Enumeration {
     pub close: u32,
 }
 
+/// A structured type without the word `packed` (6.4.3).
 #[derive(Drop)]
 #[cycle(denoters)]
 pub enum Structure {
@@ -30,6 +33,7 @@ pub enum Structure {
     Set(SetDenoter),
 }
 
+/// An array type: index types in brackets and the component type (6.4.3.2).
 #[derive(Drop)]
 #[cycle(denoters)]
 pub struct ArrayDenoter {
@@ -42,6 +46,7 @@ pub struct ArrayDenoter {
     pub component: Denoter,
 }
 
+/// A comma and the index type after it.
 #[derive(Drop)]
 #[cycle(denoters)]
 pub struct NextDenoter {
@@ -49,6 +54,7 @@ pub struct NextDenoter {
     pub denoter: Denoter,
 }
 
+/// A record type (6.4.3.3).
 #[derive(Drop)]
 #[cycle(denoters)]
 pub struct RecordDenoter {
@@ -57,6 +63,7 @@ pub struct RecordDenoter {
     pub end: u32,
 }
 
+/// A set type (6.4.3.4).
 #[derive(Drop)]
 #[cycle(denoters)]
 pub struct SetDenoter {
@@ -74,6 +81,7 @@ pub enum Fields {
     Variants(Box<Variants>, Option<u32>),
 }
 
+/// A fixed part: sections with semicolons between them (6.4.3.3).
 #[derive(Drop)]
 #[cycle(denoters)]
 pub struct Fixed {
@@ -81,6 +89,7 @@ pub struct Fixed {
     pub others: Vec<NextSection>,
 }
 
+/// A record section: names, a colon and their type (6.4.3.3).
 #[derive(Drop)]
 #[cycle(denoters)]
 pub struct Section {
@@ -89,6 +98,7 @@ pub struct Section {
     pub denoter: Denoter,
 }
 
+/// A semicolon and the section after it.
 #[derive(Drop)]
 #[cycle(denoters)]
 pub struct NextSection {
@@ -96,6 +106,7 @@ pub struct NextSection {
     pub section: Section,
 }
 
+/// A semicolon and the variant part after it.
 #[derive(Drop)]
 #[cycle(denoters)]
 pub struct NextVariants {
@@ -121,6 +132,7 @@ pub struct Tag {
     pub name: u32,
 }
 
+/// A tag field's name and its colon.
 #[derive(Drop)]
 pub struct TagField {
     pub name: u32,
@@ -138,6 +150,7 @@ pub struct Arm {
     pub close: u32,
 }
 
+/// A semicolon and the variant after it.
 #[derive(Drop)]
 #[cycle(denoters)]
 pub struct NextArm {

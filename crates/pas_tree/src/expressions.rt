@@ -2,6 +2,7 @@
 
 use crate::operators::{AddingOperator, MultiplyingOperator, RelationalOperator, Sign};
 
+/// An expression: a simple expression, and perhaps a relation to a second one (6.7.1).
 #[derive(Drop)]
 #[cycle(expressions)]
 pub struct Expression {
@@ -9,6 +10,7 @@ pub struct Expression {
     pub relation: Option<Relation>,
 }
 
+/// A relational operator and what stands to its right.
 #[derive(Drop)]
 #[cycle(expressions)]
 pub struct Relation {
@@ -25,6 +27,7 @@ pub struct Simple {
     pub others: Vec<NextTerm>,
 }
 
+/// An adding operator and the term after it.
 #[derive(Drop)]
 #[cycle(expressions)]
 pub struct NextTerm {
@@ -32,6 +35,7 @@ pub struct NextTerm {
     pub term: Term,
 }
 
+/// A term: factors with multiplying operators between them (6.7.1).
 #[derive(Drop)]
 #[cycle(expressions)]
 pub struct Term {
@@ -39,6 +43,7 @@ pub struct Term {
     pub others: Vec<NextFactor>,
 }
 
+/// A multiplying operator and the factor after it.
 #[derive(Drop)]
 #[cycle(expressions)]
 pub struct NextFactor {
@@ -69,6 +74,7 @@ pub struct Access {
     pub selectors: Vec<Selector>,
 }
 
+/// What selects a part of a variable (6.5.3, 6.5.4).
 #[derive(Drop)]
 #[cycle(expressions)]
 pub enum Selector {
@@ -78,6 +84,7 @@ pub enum Selector {
     Dereference(u32),
 }
 
+/// Indices in brackets, with commas between them (6.5.3.2).
 #[derive(Drop)]
 #[cycle(expressions)]
 pub struct Index {
@@ -87,6 +94,7 @@ pub struct Index {
     pub close: u32,
 }
 
+/// A comma and the expression after it.
 #[derive(Drop)]
 #[cycle(expressions)]
 pub struct NextExpression {
@@ -94,6 +102,7 @@ pub struct NextExpression {
     pub expression: Expression,
 }
 
+/// A function call's actual parameters in parentheses (6.7.3).
 #[derive(Drop)]
 #[cycle(expressions)]
 pub struct Arguments {
@@ -112,6 +121,7 @@ pub enum Members {
     Some(SomeMembers),
 }
 
+/// A set constructor with at least one member designator (6.7.1).
 #[derive(Drop)]
 #[cycle(expressions)]
 pub struct SomeMembers {
@@ -121,6 +131,7 @@ pub struct SomeMembers {
     pub close: u32,
 }
 
+/// A comma and the member designator after it.
 #[derive(Drop)]
 #[cycle(expressions)]
 pub struct NextMember {
@@ -128,6 +139,7 @@ pub struct NextMember {
     pub member: Member,
 }
 
+/// A member designator: a value, or the first and the last of a range (6.7.1).
 #[derive(Drop)]
 #[cycle(expressions)]
 pub struct Member {
@@ -135,6 +147,7 @@ pub struct Member {
     pub last: Option<RangeEnd>,
 }
 
+/// The `..` of a range and the last value.
 #[derive(Drop)]
 #[cycle(expressions)]
 pub struct RangeEnd {

@@ -2,6 +2,7 @@
 
 use crate::constants::Names;
 
+/// A heading of a procedure or of a function.
 #[derive(Drop)]
 #[cycle(headings)]
 pub enum Heading {
@@ -9,6 +10,7 @@ pub enum Heading {
     Function(FunctionHeading),
 }
 
+/// A procedure's heading (6.6.1).
 #[derive(Drop)]
 #[cycle(headings)]
 pub struct ProcedureHeading {
@@ -17,6 +19,7 @@ pub struct ProcedureHeading {
     pub formals: Option<Formals>,
 }
 
+/// A function's heading. Its result type is left out where the function was declared forward (6.6.2).
 #[derive(Drop)]
 #[cycle(headings)]
 pub struct FunctionHeading {
@@ -26,12 +29,14 @@ pub struct FunctionHeading {
     pub result: Option<ResultType>,
 }
 
+/// A colon and the name of a result type.
 #[derive(Drop)]
 pub struct ResultType {
     pub colon: u32,
     pub name: u32,
 }
 
+/// Formal parameters in parentheses, with semicolons between them (6.6.3.1).
 #[derive(Drop)]
 #[cycle(headings)]
 pub struct Formals {
@@ -41,6 +46,7 @@ pub struct Formals {
     pub close: u32,
 }
 
+/// A semicolon and the formal parameters after it.
 #[derive(Drop)]
 #[cycle(headings)]
 pub struct NextFormal {
@@ -48,6 +54,7 @@ pub struct NextFormal {
     pub formal: Formal,
 }
 
+/// A section of formal parameters: value parameters, variable parameters, or a procedure or function (6.6.3.1).
 #[derive(Drop)]
 #[cycle(headings)]
 pub enum Formal {
@@ -57,6 +64,7 @@ pub enum Formal {
     Routine(Box<Heading>),
 }
 
+/// Names of parameters, a colon and their type's name.
 #[derive(Drop)]
 pub struct FormalNames {
     pub names: Names,

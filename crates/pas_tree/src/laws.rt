@@ -8,6 +8,7 @@ ghost use Rattle.pas_tree.specs.Blocks.{tree_node};
 ghost use Rattle.pas_tree.specs.FirstFollow.{pascal};
 ghost use Rattle.pas_tree.specs.FirstRefused.{IsExactWhereFirst, IsExactWhereRead};
 ghost use Rattle.pas_tree.specs.Rules.{program_rule, rule};
+ghost use Rattle.pas_tree.specs.SameTrees.{NodesTellTrees, TextTellsTree};
 
 /// In the grammar of Pascal the next token decides each choice, and the tables of what begins and
 /// follows each construct are right.
@@ -15,9 +16,16 @@ pub fn one_token_decides()
     ensures { IsDecided pascal program_rule ≡ true }
 {}
 
-/// Every tree's node is a tree of the grammar at some nesting, whichever if its elses belong to.
+/// Each tree's node is a tree of the grammar at some nesting, whichever `if` its `else` parts belong to.
 pub fn trees_fit_the_grammar()
     ensures { (t : Tree) → IsGrammatical rule program_rule (tree_node t) }
+{}
+
+/// Trees with equal nodes are the same wherever they lie in memory: a node keeps all that a tree says.
+/// So a text has at most one formed tree.
+pub fn nodes_tell_trees()
+    ensures nodes { NodesTellTrees }
+    ensures text { TextTellsTree }
 {}
 
 /// What a reader's answer says of a program: which token is the first that is too deep, or else the first

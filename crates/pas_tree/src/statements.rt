@@ -4,6 +4,7 @@ use crate::constants::Constants;
 use crate::expressions::{Access, Expression};
 use crate::operators::Direction;
 
+/// A compound statement: `begin`, statements, `end` (6.8.3.2).
 #[derive(Drop)]
 #[cycle(statements)]
 pub struct Compound {
@@ -20,6 +21,7 @@ pub struct Statements {
     pub others: Vec<NextStatement>,
 }
 
+/// A semicolon and the statement after it.
 #[derive(Drop)]
 #[cycle(statements)]
 pub struct NextStatement {
@@ -27,6 +29,7 @@ pub struct NextStatement {
     pub statement: Statement,
 }
 
+/// A statement: its label, if it has one, and the rest (6.8.1).
 #[derive(Drop)]
 #[cycle(statements)]
 pub struct Statement {
@@ -34,12 +37,14 @@ pub struct Statement {
     pub plain: Plain,
 }
 
+/// A label and its colon (6.8.1).
 #[derive(Drop)]
 pub struct Label {
     pub number: u32,
     pub colon: u32,
 }
 
+/// A statement without its label (6.8.2, 6.8.3). Whether a name alone calls a procedure is left to the static rules.
 #[derive(Drop)]
 #[cycle(statements)]
 pub enum Plain {
@@ -58,6 +63,7 @@ pub enum Plain {
     With(Box<With>),
 }
 
+/// An assignment: the variable or the function, `:=` and the value (6.8.2.2).
 #[derive(Drop)]
 pub struct Assignment {
     pub target: Access,
@@ -65,6 +71,7 @@ pub struct Assignment {
     pub value: Expression,
 }
 
+/// Actual parameters in parentheses, with commas between them (6.7.3, 6.8.2.3).
 #[derive(Drop)]
 pub struct Actuals {
     pub open: u32,
@@ -73,6 +80,7 @@ pub struct Actuals {
     pub close: u32,
 }
 
+/// A comma and the actual parameter after it.
 #[derive(Drop)]
 pub struct NextActual {
     pub comma: u32,
@@ -86,12 +94,14 @@ pub struct Actual {
     pub width: Option<Width>,
 }
 
+/// A colon and a field width, as in a call of `write` (6.9.3).
 #[derive(Drop)]
 pub struct Width {
     pub colon: u32,
     pub width: Expression,
 }
 
+/// An if statement, with its else part if there is one (6.8.3.4).
 #[derive(Drop)]
 #[cycle(statements)]
 pub struct If {
@@ -102,6 +112,7 @@ pub struct If {
     pub alternative: Option<Else>,
 }
 
+/// The word `else` and the statement after it.
 #[derive(Drop)]
 #[cycle(statements)]
 pub struct Else {
@@ -109,7 +120,7 @@ pub struct Else {
     pub statement: Statement,
 }
 
-/// A case statement, perhaps with a semicolon behind its last branch.
+/// A case statement, perhaps with a semicolon after its last branch (6.8.3.5).
 #[derive(Drop)]
 #[cycle(statements)]
 pub struct Case {
@@ -122,6 +133,7 @@ pub struct Case {
     pub end: u32,
 }
 
+/// A semicolon and the branch after it.
 #[derive(Drop)]
 #[cycle(statements)]
 pub struct NextBranch {
@@ -129,6 +141,7 @@ pub struct NextBranch {
     pub branch: Branch,
 }
 
+/// A case list element: constants, a colon and a statement (6.8.3.5).
 #[derive(Drop)]
 #[cycle(statements)]
 pub struct Branch {
@@ -137,6 +150,7 @@ pub struct Branch {
     pub statement: Statement,
 }
 
+/// A repeat statement (6.8.3.7).
 #[derive(Drop)]
 #[cycle(statements)]
 pub struct Repeat {
@@ -146,6 +160,7 @@ pub struct Repeat {
     pub condition: Expression,
 }
 
+/// A while statement (6.8.3.8).
 #[derive(Drop)]
 #[cycle(statements)]
 pub struct While {
@@ -155,6 +170,7 @@ pub struct While {
     pub statement: Statement,
 }
 
+/// A for statement (6.8.3.9).
 #[derive(Drop)]
 #[cycle(statements)]
 pub struct For {
@@ -168,6 +184,7 @@ pub struct For {
     pub statement: Statement,
 }
 
+/// A with statement (6.8.3.10).
 #[derive(Drop)]
 #[cycle(statements)]
 pub struct With {
@@ -178,6 +195,7 @@ pub struct With {
     pub statement: Statement,
 }
 
+/// A comma and the access after it.
 #[derive(Drop)]
 pub struct NextAccess {
     pub comma: u32,

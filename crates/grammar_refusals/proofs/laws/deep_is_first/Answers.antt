@@ -1,4 +1,4 @@
-use Rattle.grammar_refusals.proofs.Numbers.{deep_first, first_deep}
+use Rattle.grammar_refusals.proofs.FirstRefusals.{deep_first, first_deep}
 use Rattle.grammar_refusals.proofs.laws.deep_is_first.Goals as goal
 
 pub returns-clause-refused : goal.returns-clause-refused

@@ -1,5 +1,5 @@
 use Rattle.std.proofs.Common.{[]}
-use Rattle.grammar_refusals.proofs.Numbers.{stop_first, first_stop, read_none_deep, read_none_hopeless}
+use Rattle.grammar_refusals.proofs.FirstRefusals.{stop_first, first_stop, read_none_deep, read_none_hopeless}
 use Rattle.grammar_refusals.proofs.laws.stop_is_first.Goals as goal
 
 pub returns-clause-stops : goal.returns-clause-stops

@@ -1,27 +1,18 @@
 -- The levels of a decided grammar: their free trees are those to which the tests lead.
-use Rattle.std.proofs.Common.{◌≡◌, ℕ, zero, suc, Bool, true, false, List, [], ◌∷◌, Option, None}
+use Rattle.std.proofs.Common.{◌≡◌, ℕ, zero, suc, Bool, true, false, Option, None}
+use Rattle.std.proofs.lemmas.Bool.{and_parts}
 use Rattle.grammar.specs.declared.terminals.Terminal.{Terminal}
-use Rattle.grammar.specs.Terminals.{every}
+use Rattle.grammar.specs.Terminals.{every, every_of}
 use Rattle.grammar.specs.Nodes.{Node, spell}
 use Rattle.grammar.specs.Grammars.{by_end, by_until, Level, block, heading, statement, denoter, variant_part, factor, Grammar, IsNone, Free, FreeWithin}
 use Rattle.grammar.specs.Tested.{Is, Within}
-use Rattle.grammar.specs.Deciding.{both, implies, closed, sane, LevelTables, none, nullable, first, decides, level_is_decided, all_levels, every_level_of, IsDecided}
-use Rattle.grammar.proofs.Bools.{both_parts}
+use Rattle.grammar.specs.Deciding.{both, implies, closed, sane, LevelTables, none, nullable, first, decides, level_is_decided, all_levels}
+use Rattle.grammar.specs.Deciding.{IsDecided}
+use Rattle.grammar.proofs.Every.{every_at}
 use Rattle.grammar.proofs.Larger.{IsPart, none_in}
-use Rattle.grammar.proofs.Decided.{Begun, starts_up, begun, Tested, tested, freed}
+use Rattle.grammar.proofs.Decided.{Begun, starts_up, begun, Tested, tested, freed, none_begun, none_tested}
 
--- a fact of the level at a place of a list
-abbrev At : ℕ → List Level → (Level → Type 0) → Type 0
-At n [] p = Unit {0}
-At zero (k ∷ ks) p = p k
-At (suc n) (k ∷ ks) p = At n ks p
-
-every_at : (t : Level → Bool) (n : ℕ) (ks : List Level) → every_level_of t ks ≡ true → At n ks (λ k. t k ≡ true)
-every_at t n [] e = tt
-every_at t zero (k ∷ ks) e = (both_parts (t k) (every_level_of t ks) e).0
-every_at t (suc n) (k ∷ ks) e = every_at t n ks (both_parts (t k) (every_level_of t ks) e).1
-
-pub every_level : (t : Level → Bool) → every_level_of t all_levels ≡ true → (l : Level) → t l ≡ true
+pub every_level : (t : Level → Bool) → every_of t all_levels ≡ true → (l : Level) → t l ≡ true
 every_level t e block = every_at t 0 all_levels e
 every_level t e heading = every_at t 1 all_levels e
 every_level t e (statement false by_end) = every_at t 2 all_levels e
@@ -47,28 +38,27 @@ pub record WholeParts (t : LevelTables) (g : Grammar) : Type 0 where
 module _ (t : LevelTables) (g : Grammar) (ok : IsDecided t g ≡ true) where
   pub level_parts : (l : Level) → LevelParts t l
   level_parts l =
-      let at = every_level (level_is_decided t) (both_parts (every_level_of (level_is_decided t) all_levels) (both (both (sane g) (closed g)) (decides t g none false none none)) ok).0 l in
-      let p = both_parts (both (sane (t.rule l)) (closed (t.rule l))) (both (decides t (t.rule l) none false none (t.follow_of l)) (both (every (λ k. implies (first t (t.rule l) none false k) (t.first_of l k))) (implies (nullable t (t.rule l) false) (t.nullable_of l)))) at in
-      let q = both_parts (sane (t.rule l)) (closed (t.rule l)) p.0 in
-      let r = both_parts (decides t (t.rule l) none false none (t.follow_of l)) (both (every (λ k. implies (first t (t.rule l) none false k) (t.first_of l k))) (implies (nullable t (t.rule l) false) (t.nullable_of l))) p.1 in
-      let s = both_parts (every (λ k. implies (first t (t.rule l) none false k) (t.first_of l k))) (implies (nullable t (t.rule l) false) (t.nullable_of l)) r.1 in
+      let at = every_level (level_is_decided t) (and_parts (every_of (level_is_decided t) all_levels)
+      (both (both (sane g) (closed g)) (decides t g none false none none)) ok).0 l in
+      let p = and_parts (both (sane (t.rule l)) (closed (t.rule l)))
+      (both (decides t (t.rule l) none false none (t.follow_of l))
+      (both (every (λ k. implies (first t (t.rule l) none false k) (t.first_of l k))) (implies (nullable t (t.rule l) false) (t.nullable_of l)))) at in
+      let q = and_parts (sane (t.rule l)) (closed (t.rule l)) p.0 in
+      let r = and_parts (decides t (t.rule l) none false none (t.follow_of l))
+      (both (every (λ k. implies (first t (t.rule l) none false k) (t.first_of l k))) (implies (nullable t (t.rule l) false) (t.nullable_of l))) p.1 in
+      let s = and_parts (every (λ k. implies (first t (t.rule l) none false k) (t.first_of l k)))
+      (implies (nullable t (t.rule l) false) (t.nullable_of l)) r.1 in
       record { sound = q.0; whole = q.1; decided = r.0; heads = s.0; gaps = s.1 }
 
   pub whole_parts : WholeParts t g
   whole_parts =
-      let p = both_parts (every_level_of (level_is_decided t) all_levels) (both (both (sane g) (closed g)) (decides t g none false none none)) ok in
-      let q = both_parts (both (sane g) (closed g)) (decides t g none false none none) p.1 in
-      let r = both_parts (sane g) (closed g) q.0 in
+      let p = and_parts (every_of (level_is_decided t) all_levels) (both (both (sane g) (closed g)) (decides t g none false none none)) ok in
+      let q = and_parts (both (sane g) (closed g)) (decides t g none false none none) p.1 in
+      let r = and_parts (sane g) (closed g) q.0 in
       record { sound = r.0; whole = r.1; decided = q.1 }
 
   pub rule_sane : (l : Level) → sane (t.rule l) ≡ true
   rule_sane l = (level_parts l).sound
-
-  none_begun : Begun none false IsNone
-  none_begun x h r = absurd r
-
-  none_tested : Tested none IsNone IsNone
-  none_tested x h al r = r
 
   pub free_begun : (n : ℕ) (l : Level) → Begun (t.first_of l) (t.nullable_of l) (FreeWithin t.rule n l)
   unfolding FreeWithin
@@ -82,7 +72,8 @@ module _ (t : LevelTables) (g : Grammar) (ok : IsDecided t g ≡ true) where
   unfolding FreeWithin Within
   tested_within zero l x h al r = r
   tested_within (suc n) l x h al r =
-      tested t (FreeWithin t.rule n) (Within t.rule n) (free_begun n) (tested_within n) (t.rule l) none false none (t.follow_of l) (level_parts l).decided IsNone IsNone none_begun none_tested x h al r
+      tested t (FreeWithin t.rule n) (Within t.rule n) (free_begun n) (tested_within n) (t.rule l) none false none (t.follow_of l)
+      (level_parts l).decided IsNone IsNone none_begun none_tested x h al r
 
   pub free_within : (n : ℕ) (l : Level) → IsPart (Within t.rule n l) (FreeWithin t.rule n l)
   unfolding FreeWithin Within
@@ -90,7 +81,8 @@ module _ (t : LevelTables) (g : Grammar) (ok : IsDecided t g ≡ true) where
   free_within (suc n) l x h r = freed (Within t.rule n) (FreeWithin t.rule n) (free_within n) (t.rule l) IsNone IsNone (none_in IsNone) x h r
 
   pub whole_tested : (n : ℕ) (x : Node) → Free (FreeWithin t.rule n) g x None → Is (Within t.rule n) g IsNone x None
-  whole_tested n x r = tested t (FreeWithin t.rule n) (Within t.rule n) (free_begun n) (tested_within n) g none false none none whole_parts.decided IsNone IsNone none_begun none_tested x None tt r
+  whole_tested n x r = tested t (FreeWithin t.rule n) (Within t.rule n) (free_begun n)
+      (tested_within n) g none false none none whole_parts.decided IsNone IsNone none_begun none_tested x None tt r
 
   pub whole_freed : (n : ℕ) (x : Node) (h : Option Terminal) → Is (Within t.rule n) g IsNone x h → Free (FreeWithin t.rule n) g x h
   whole_freed n x h r = freed (Within t.rule n) (FreeWithin t.rule n) (free_within n) g IsNone IsNone (none_in IsNone) x h r

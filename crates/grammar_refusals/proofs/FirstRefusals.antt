@@ -1,5 +1,6 @@
 -- Refusals by the numbers of tokens.
-use Rattle.std.proofs.Common.{◌≡◌, ℕ, zero, suc, ◌+◌, ◌<◌, ◌≤◌, Bool, true, false, List, [], ◌∷◌, ◌++◌, length, take, drop, None, Ok, Err, refl, sym, ap, subst, ◌∙◌, append_assoc, add-one, ◌⊎◌, inl, inr, arith, length-append}
+use Rattle.std.proofs.Common.{◌≡◌, ℕ, zero, suc, ◌+◌, ◌<◌, ◌≤◌, Bool, true, false, List, [], ◌∷◌, ◌++◌, length, take, drop, None, Ok, Err, refl, sym, ap, subst}
+use Rattle.std.proofs.Common.{◌∙◌, append_assoc, add-one, ◌⊎◌, inl, inr, arith, length-append}
 use Rattle.std.proofs.lemmas.List.{append-nil, append_cancel_left, append_cancel_right, take_at, drop_at, length-take-le, take-append-drop}
 use Rattle.grammar.specs.declared.terminals.Terminal.{Terminal}
 use Rattle.grammar.specs.Nodes.{Item, Node, Nothing, spell, next}
@@ -18,7 +19,7 @@ use Rattle.grammar.proofs.Texts.{exact}
 use Rattle.grammar_refusals.proofs.Hopeless.{unfit_no_deep, whole_local, unfit_hopeless, surplus_hopeless}
 use Rattle.grammar_refusals.proofs.Deepest.{whole_deep, deep_shaped}
 use Rattle.grammar_refusals.proofs.Complete.{brief, has, moves, level_moves, whole_completes, whole_completed, freed_at}
-use Rattle.grammar_refusals.proofs.Reached.{whole_reached}
+use Rattle.grammar_refusals.proofs.DeepIsBegun.{whole_reached}
 
 -- ---- lists cut at a token
 
@@ -36,7 +37,7 @@ cut (x ∷ l) (suc i) h =
     let c = cut l i (omega arith) in
     record { here = c.here; rest = c.rest; whole = ap (λ (m : List Item). x ∷ m) c.whole; upto = ap (λ (m : List Item). x ∷ m) c.upto; from = c.from }
 
--- behind a front of so many tokens
+-- after a front of this many tokens
 pub record Behind (l front : List Item) (z : Item) (rest : List Item) : Type 0 where
   pub inside : length front < length l
   pub front_is : take (length front) l ≡ front
@@ -60,9 +61,11 @@ begins_before spelling l front left more j e whole h =
     let c = cut front j h in
     let len : length (take j front) ≡ j = length-take-le j front (omega arith) in
     let cuts : (w : List Item) → front ++ w ≡ (take j front ++ c.here ∷ []) ++ (c.rest ++ w) =
-    λ w. ap (λ (f : List Item). f ++ w) c.whole ∙ append_assoc (take j front) (c.here ∷ c.rest) w ∙ sym (append_assoc (take j front) (c.here ∷ []) (c.rest ++ w)) in
+    λ w. ap (λ (f : List Item). f ++ w) c.whole ∙ append_assoc (take j front) (c.here ∷ c.rest) w ∙ sym
+    (append_assoc (take j front) (c.here ∷ []) (c.rest ++ w)) in
     let here : take (j + 1) l ≡ take j front ++ c.here ∷ [] =
-    ap (take (j + 1)) (whole ∙ cuts left) ∙ take_at (take j front ++ c.here ∷ []) (c.rest ++ left) (j + 1) (omega (arith, length-append (take j front) (c.here ∷ []), len)) in
+    ap (take (j + 1)) (whole ∙ cuts left) ∙ take_at (take j front ++ c.here ∷ []) (c.rest ++ left) (j + 1)
+    (omega (arith, length-append (take j front) (c.here ∷ []), len)) in
     (c.rest ++ more, e ∙ cuts more ∙ ap (λ (f : List Item). f ++ (c.rest ++ more)) (sym here))
 
 -- the least number is one
@@ -80,12 +83,14 @@ module _ (t : LevelTables) (g : Grammar) (ok : IsDecided t g ≡ true) (n : ℕ)
       let back = d.0.1 in
       let s = whole_local t g ok n (spell x ++ []) (Deep (back ++ [])) d.0.3 in
       let same : s.front ≡ a = append_cancel_right s.front a (back ++ []) (sym s.whole ∙ ap (λ (l : List Item). l ++ []) d.0.2 ∙ append_assoc a back []) in
-      let back_is : back ≡ d.1 ++ z ∷ more = append_cancel_left a back (d.1 ++ z ∷ more) (sym d.0.2 ∙ e ∙ ap (λ (l : List Item). l ++ z ∷ more) d.2 ∙ append_assoc a d.1 (z ∷ more)) in
+      let back_is : back ≡ d.1 ++ z ∷ more = append_cancel_left a back (d.1 ++ z ∷ more)
+      (sym d.0.2 ∙ e ∙ ap (λ (l : List Item). l ++ z ∷ more) d.2 ∙ append_assoc a d.1 (z ∷ more)) in
       let at : next (d.1 ++ z ∷ rest) ≡ next (back ++ []) = same_next d.1 (z ∷ rest) (z ∷ more) refl ∙ ap next (sym (append-nil back ∙ back_is)) in
-      let list : front ++ z ∷ rest ≡ s.front ++ (d.1 ++ z ∷ rest) = ap (λ (l : List Item). l ++ z ∷ rest) d.2 ∙ append_assoc a d.1 (z ∷ rest) ∙ ap (λ (l : List Item). l ++ (d.1 ++ z ∷ rest)) (sym same) in
+      let list : front ++ z ∷ rest ≡ s.front ++ (d.1 ++ z ∷ rest) =
+      ap (λ (l : List Item). l ++ z ∷ rest) d.2 ∙ append_assoc a d.1 (z ∷ rest) ∙ ap (λ (l : List Item). l ++ (d.1 ++ z ∷ rest)) (sym same) in
       (a, d.1, d.2, ap (read t n g) list ∙ s.again (d.1 ++ z ∷ rest) at)
 
-  -- the text from a token on that is refused, and is not behind token i
+  -- the text from a token on that is refused, and is not after token i
   pub record DeepUpTo (l : List Item) (i : ℕ) : Type 0 where
     pub front : List Item
     pub here : Item
@@ -98,7 +103,8 @@ module _ (t : LevelTables) (g : Grammar) (ok : IsDecided t g ≡ true) (n : ℕ)
   begun_here [] z rest = (z, rest, refl)
   begun_here (y ∷ b) z rest = (y, b ++ z ∷ rest, refl)
 
-  found_up_to : (l front a b : List Item) (z : Item) (rest : List Item) (i : ℕ) → l ≡ front ++ z ∷ rest → length front ≡ i → front ≡ a ++ b → read t n g (front ++ z ∷ rest) ≡ Err (Deep (b ++ z ∷ rest)) → DeepUpTo l i
+  found_up_to : (l front a b : List Item) (z : Item) (rest : List Item) (i : ℕ) → l ≡ front ++ z ∷ rest → length front ≡ i → front ≡ a ++ b
+      → read t n g (front ++ z ∷ rest) ≡ Err (Deep (b ++ z ∷ rest)) → DeepUpTo l i
   found_up_to l front a b z rest i whole len parts e =
       let y = begun_here b z rest in
       record {
@@ -134,7 +140,8 @@ module _ (t : LevelTables) (g : Grammar) (ok : IsDecided t g ≡ true) (n : ℕ)
         h,
         λ x s b.
             let same : spell x ≡ r.0 ++ (c.here ∷ b.0) =
-            b.1 ∙ ap (λ (k : ℕ). take k l ++ b.0) (add-one i) ∙ ap (λ (f : List Item). f ++ b.0) c.upto ∙ append_assoc (take i l) (c.here ∷ []) b.0 ∙ ap (λ (f : List Item). f ++ c.here ∷ b.0) (sym front) in
+            b.1 ∙ ap (λ (k : ℕ). take k l ++ b.0) (add-one i) ∙ ap (λ (f : List Item). f ++ b.0) c.upto ∙ append_assoc (take i l) (c.here ∷ []) b.0 ∙ ap
+            (λ (f : List Item). f ++ c.here ∷ b.0) (sym front) in
             r.2 x (c.here ∷ b.0) s same (sym (ap next c.from)),
       )
 
@@ -164,19 +171,29 @@ module _ (t : LevelTables) (g : Grammar) (ok : IsDecided t g ≡ true) (n : ℕ)
       pub begins : spell tree ≡ front ++ more
 
     refused_begun : (l : List Item) (r : Refusal) → read t n g l ≡ Err r → Begun l (left_of r)
-    refused_begun l r e = let s = whole_completed calm t g ok d full n l r e in record { front = s.0; whole = s.1; tree = s.2; more = s.3; shaped = s.4; begins = s.5 }
+    refused_begun l r e = let s = whole_completed calm t g ok d full n l r e in record {
+      front = s.0;
+      whole = s.1;
+      tree = s.2;
+      more = s.3;
+      shaped =
+          s.4;
+      begins = s.5;
+    }
 
     -- a tree in front of a token is one in front of the end
     read_begun : (l : List Item) (x : Node) (rest : List Item) → read t n g l ≡ Ok (x, rest) → Begun l rest
     read_begun l x rest e =
         let s = (exact t g ok n).sound l x rest e in
         let free : FreeIn (Nested t.rule) g IsNone x (next rest) = freed_at calm t g ok d full n g IsNone IsNone (none_in IsNone) x (next rest) s.1 in
-        let there = moves calm (brief calm t g ok d full) (has calm t g ok d full) (Nested t.rule) (level_moves calm t g ok d full) g Nothing false (whole_completes calm t g ok d full) IsNone (λ x h i c r. absurd r) x (next rest) None tt free in
+        let there = moves calm (brief calm t g ok d full) (has calm t g ok d full) (Nested t.rule) (level_moves calm t g ok d full) g Nothing false
+        (whole_completes calm t g ok d full) IsNone (λ x h i c r. absurd r) x (next rest) None tt free in
         record { front = spell x; whole = s.0; tree = x; more = []; shaped = whole_nested t.rule g x None there; begins = sym (append-nil (spell x)) }
 
     begun_not : (l left : List Item) → Begun l left → (j : ℕ) → j + length left < length l → IsHopeless t g l j → ⊥
     begun_not l left b j h m =
-        m.1 b.tree b.shaped (begins_before (spell b.tree) l b.front left b.more j b.begins b.whole (omega (arith, h, ap length b.whole, length-append b.front left)))
+        m.1 b.tree b.shaped (begins_before (spell b.tree) l b.front left b.more j b.begins b.whole
+        (omega (arith, h, ap length b.whole, length-append b.front left)))
 
     length-from : (l : List Item) (i : ℕ) → i < length l → i + length (drop i l) ≡ length l
     length-from l i h = omega (arith, ap length (take-append-drop i l), length-append (take i l) (drop i l), length-take-le i l (omega arith))
@@ -206,23 +223,32 @@ module _ (t : LevelTables) (g : Grammar) (ok : IsDecided t g ≡ true) (n : ℕ)
           let s = whole_reached calm t g ok d full reaching n l c.here c.rest e' in
           let front : s.0 ≡ take i l = append_cancel_right s.0 (take i l) (c.here ∷ c.rest) (sym s.1 ∙ c.whole) in
           let spells : spell s.2 ≡ take (i + 1) l ++ s.3 =
-          s.4 ∙ ap (λ (f : List Item). f ++ c.here ∷ s.3) front ∙ sym (append_assoc (take i l) (c.here ∷ []) s.3) ∙ ap (λ (f : List Item). f ++ s.3) (sym c.upto) ∙ ap (λ (k : ℕ). take k l ++ s.3) (sym (add-one i)) in (
+          s.4 ∙ ap (λ (f : List Item). f ++ c.here ∷ s.3) front ∙ sym (append_assoc (take i l) (c.here ∷ []) s.3) ∙ ap (λ (f : List Item). f ++ s.3)
+          (sym c.upto) ∙ ap (λ (k : ℕ). take k l ++ s.3) (sym (add-one i)) in (
             (h, (s.2, deep_shaped t n g s.2 s.0 s.5, (s.3, spells), subst (BeginsDeep t n g s.2) front s.5)),
             λ j less m.
                 let p = deep_up_to l j m in
                 let rests : p.here ∷ p.rest ≡ c.here ∷ c.rest = ap left_of (err_is (Deep (p.here ∷ p.rest)) (Deep (c.here ∷ c.rest)) (sym p.refused ∙ e')) in
-                let lens : length p.front ≡ length (take i l) = ap length (append_cancel_right p.front (take i l) (c.here ∷ c.rest) (sym (ap (λ (q : List Item). p.front ++ q) rests) ∙ sym p.whole ∙ c.whole)) in
+                let lens : length p.front ≡ length (take i l) = ap length
+                (append_cancel_right p.front (take i l) (c.here ∷ c.rest) (sym (ap (λ (q : List Item). p.front ++ q) rests) ∙ sym p.whole ∙ c.whole)) in
                 omega (arith, p.before, length-take-le i l (omega arith), lens),
           )
 
       -- the place of a refused token
-      deep_at : (l front : List Item) (z : Item) (rest : List Item) → l ≡ front ++ z ∷ rest → read t n g l ≡ Err (Deep (z ∷ rest)) → IsFirstTooDeepBy t n g l (length front)
-      deep_at l front z rest whole e = let b = behind l front z rest whole in deep_first l (length front) b.inside (e ∙ ap (λ (p : List Item). failed (Deep p)) (sym b.from))
+      deep_at : (l front : List Item) (z : Item) (rest : List Item) → l ≡ front ++ z ∷ rest → read t n g l ≡ Err (Deep (z ∷ rest))
+          → IsFirstTooDeepBy t n g l (length front)
+      deep_at l front z rest whole e = let b = behind l front z rest whole in deep_first l (length front) b.inside
+          (e ∙ ap (λ (p : List Item). failed (Deep p)) (sym b.from))
 
-      stop_at : (l front : List Item) (z : Item) (rest : List Item) → l ≡ front ++ z ∷ rest → ((read t n g l ≡ Err (Unfit (z ∷ rest))) ⊎ ((x : Node) × (read t n g l ≡ Ok (x, z ∷ rest)))) → StopsAt t n g l (length front)
+      stop_at : (l front : List Item) (z : Item) (rest : List Item) → l ≡ front ++ z ∷ rest
+          → ((read t n g l ≡ Err (Unfit (z ∷ rest))) ⊎ ((x : Node) × (read t n g l ≡ Ok (x, z ∷ rest)))) → StopsAt t n g l (length front)
       stop_at l front z rest whole s =
           let b = behind l front z rest whole in
-          elim s [ inl e ↦ inl (e ∙ ap (λ (p : List Item). failed (Unfit p)) (sym b.from)) | inr e ↦ inr (e.0, e.1 ∙ ap (λ (p : List Item). done (e.0, p)) (sym b.from)) ]
+          elim s [
+            | inl e ↦ inl (e ∙ ap (λ (p : List Item). failed (Unfit p)) (sym b.from))
+            | inr e ↦ inr
+                (e.0, e.1 ∙ ap (λ (p : List Item). done (e.0, p)) (sym b.from))
+          ]
 
       -- the first token that is too deep is refused so
       pub first_deep : (l : List Item) (i : ℕ) → IsFirstTooDeepBy t n g l i → read t n g l ≡ Err (Deep (drop i l))
@@ -233,13 +259,15 @@ module _ (t : LevelTables) (g : Grammar) (ok : IsDecided t g ≡ true) (n : ℕ)
           p.refused ∙ ap (λ (q : List Item). failed (Deep q)) (sym b.from) ∙ ap (λ (k : ℕ). failed (Deep (drop k l))) same
 
       -- at the first hopeless one reading stops
-      stops_so : (l front : List Item) (z : Item) (rest : List Item) (i : ℕ) → l ≡ front ++ z ∷ rest → ((read t n g l ≡ Err (Unfit (z ∷ rest))) ⊎ ((x : Node) × (read t n g l ≡ Ok (x, z ∷ rest)))) → IsLeast (IsHopeless t g l) i → StopsAt t n g l i
+      stops_so : (l front : List Item) (z : Item) (rest : List Item) (i : ℕ) → l ≡ front ++ z ∷ rest
+          → ((read t n g l ≡ Err (Unfit (z ∷ rest))) ⊎ ((x : Node) × (read t n g l ≡ Ok (x, z ∷ rest)))) → IsLeast (IsHopeless t g l) i → StopsAt t n g l i
       stops_so l front z rest i whole s m =
           let b = behind l front z rest whole in
           let there = stop_at l front z rest whole s in
           subst (StopsAt t n g l) (same_least (IsHopeless t g l) (length front) i (stop_first l (length front) b.inside there).1 m) there
 
-      by_rest : (l front left : List Item) (i : ℕ) → l ≡ front ++ left → ((read t n g l ≡ Err (Unfit left)) ⊎ ((x : Node) × (read t n g l ≡ Ok (x, left)))) → IsLeast (IsHopeless t g l) i → StopsAt t n g l i
+      by_rest : (l front left : List Item) (i : ℕ) → l ≡ front ++ left → ((read t n g l ≡ Err (Unfit left)) ⊎ ((x : Node) × (read t n g l ≡ Ok (x, left))))
+          → IsLeast (IsHopeless t g l) i → StopsAt t n g l i
       by_rest l front [] i whole s m = elim s [
         | inl e ↦ absurd (refused_none_hopeless l (Unfit []) e refl i m.0)
         | inr e ↦ absurd (read_none_hopeless l e.0 e.1 i m.0)
