@@ -1,0 +1,7 @@
+//! Tests of the readers and the parser: whole trees, and that each call answers with ample memory.
+#![tactic(auto)]
+
+#[cfg(test)]
+mod reader_tests;
+#[cfg(test)]
+mod tree_tests;
