@@ -122,8 +122,7 @@ parent_at number outer (Some j) = Some (number + j)
 abbrev pub row_at : ℕ → Option ℕ → ℕ → List ℕ → ℕ → Call → CallRow
 row_at number outer depth bs k c = record {
   routine = c.routine;
-  parent =
-      parent_at number outer (parent_of bs k);
+  parent = parent_at number outer (parent_of bs k);
   depth = depth + depth_of bs k;
   last = number + last_of bs k;
   way = c.way;
@@ -251,8 +250,8 @@ abbrev pub entered_call : ProgramTables → ℕ → ℕ → State → Outcome
 entered_call p n routine σ = with_routine (slice_get p.routines routine) (λ r. in_frame (run_of p n) routine r [] σ) σ
 
 -- its frame was made, or not, and this is left then
-pub record Begun (p : ProgramTables) (routine : ℕ) (old : OpenCall) (m : Moment) (left : ℕ
-    → Outcome) (new : OpenCall) (m' : Moment) : Type 0 where
+pub record Begun (p : ProgramTables) (routine : ℕ) (old : OpenCall) (m : Moment) (left : ℕ → Outcome)
+    (new : OpenCall) (m' : Moment) : Type 0 where
   pub number : new.number ≡ old.number
   pub depth : new.depth ≡ old.depth
   pub base : new.base ≡ m.state.top
