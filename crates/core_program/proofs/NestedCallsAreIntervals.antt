@@ -70,8 +70,7 @@ within_call b bs e f = record { inside = in_k }
 pub forest_append : (bs cs : List ℕ) → Forest bs → Forest cs → Forest (bs ++ cs)
 forest_append bs cs f g = record {
   inside = λ k h. (within_append bs cs (within f) (within g)).inside k h;
-  nested =
-      λ j k h a b. nest j k h a b (leb (length bs) j) refl (leb (length bs) k) refl;
+  nested = λ j k h a b. nest j k h a b (leb (length bs) j) refl (leb (length bs) k) refl;
 }
   where
     size : length (bs ++ cs) ≡ length bs + length cs

@@ -27,8 +27,7 @@ front_twice v w es fs (Some r) = λ i. Some (record {
   end = r.end;
   after = r.after;
   log = sym (append_assoc v w r.log) i;
-  events =
-      sym (append_assoc es fs r.events) i;
+  events = sym (append_assoc es fs r.events) i;
 })
 
 -- what only logs something stands in front of what follows

@@ -365,8 +365,7 @@ matches_done os (Push under l own) w es m h =
             height = o.height;
             base = o.base;
             cells = o.cells;
-            rest =
-                o.rest;
+            rest = o.rest;
             inside = inside_append own.events es o.inside h;
           },
           m.1.1.2,
@@ -378,8 +377,7 @@ matches_done os (Push under l own) w es m h =
 abbrev ended_call : Level → Own → Option Trouble → State → Call
 ended_call l own trouble σ = record_of l.routine [] l.entry (record {
   end = end_of trouble;
-  after =
-      closed l.entry.depth (without_frame l.entry.top l.cells σ);
+  after = closed l.entry.depth (without_frame l.entry.top l.cells σ);
   log = own.log ++ [];
   events = own.events ++ [];
 })
@@ -391,11 +389,9 @@ closes_less : (p : ProgramTables) (n : ℕ) (rest : Tree) (l : Level) (own : Own
 closes_less p n rest l own None σ = less_same _
 closes_less p n rest l own (Some why) σ = less_is _ _ (λ i. Some (record {
   end = Halted why;
-  after =
-      closed l.entry.depth (without_frame l.entry.top l.cells σ);
+  after = closed l.entry.depth (without_frame l.entry.top l.cells σ);
   log = append-nil (own.log ++ []) i;
-  events =
-      append-nil (ended_call l own (Some why) σ ∷ (own.events ++ [])) i;
+  events = append-nil (ended_call l own (Some why) σ ∷ (own.events ++ [])) i;
 }))
 
 closed_rows : (outer : List OpenCall) (o : OpenCall) (under : Levels) (l : Level) (own : Own) (trouble : Option Trouble) (σ : State) (rest : Tree)
@@ -422,8 +418,7 @@ closed_rows outer o under l own trouble σ rest calls calls' one others e h =
       parent = outer_of under;
       depth = height under;
       last = sym one.counted i + length (append-nil own.events i);
-      way =
-          way_of (end_of trouble);
+      way = way_of (end_of trouble);
     }
     ∷ rows_at (suc (sym one.counted i)) (Some (sym one.counted i)) (height under + 1) (append-nil own.events i))))
 

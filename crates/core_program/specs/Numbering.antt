@@ -63,8 +63,7 @@ row_of bs k c = record {
   parent = parent_of bs k;
   depth = depth_of bs k;
   last = last_of bs k;
-  way =
-      c.way;
+  way = c.way;
 }
 
 -- the table of these calls

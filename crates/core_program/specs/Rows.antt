@@ -10,8 +10,7 @@ opened_row routine parent depth number = record {
   routine = routine;
   parent = parent;
   depth = depth;
-  last =
-      number;
+  last = number;
   way = Returned;
 }
 

@@ -59,8 +59,7 @@ module _ {S E : Type 0} where
     end = r.end;
     after = r.after;
     log = log ++ r.log;
-    events =
-        events ++ r.events;
+    events = events ++ r.events;
   })
 
   abbrev pub ends : End → S → Option (Result S E)
@@ -150,8 +149,7 @@ abbrev pub with_frame : ℕ → Value → List Value → State → State
 with_frame n link args σ = record σ {
   cells = framed σ.top (frame_cells n link args) σ.cells;
   top = σ.top + n;
-  steps =
-      σ.steps - n;
+  steps = σ.steps - n;
 }
 
 -- the frame of n cells at a base is removed

@@ -46,8 +46,7 @@ pair_read p q l x rest e =
       second = b.0;
       first_is = a.1;
       second_is = b.1;
-      rest_is =
-          ap (λ (z : Node × List Item). z.1) (ok_is (Pair a.0.0 b.0.0, b.0.1) (x, rest) b.2);
+      rest_is = ap (λ (z : Node × List Item). z.1) (ok_is (Pair a.0.0 b.0.0, b.0.1) (x, rest) b.2);
     }
 
 rest_of : (x y : Node × List Item) → done x ≡ Ok y → x.1 ≡ y.1

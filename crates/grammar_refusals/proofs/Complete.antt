@@ -122,8 +122,7 @@ module _ (calm : Terminal → Bool) where
     whole = s.whole;
     tree = s.tree;
     more = s.more;
-    begins =
-        s.begins;
+    begins = s.begins;
     fits = λ h c. f s.tree h (s.fits h c);
   }
 

@@ -361,8 +361,7 @@ module _ (calm : Terminal → Bool) (t : LevelTables) (g : Grammar) (ok : IsDeci
   none_near n = record {
     exact = none_exact;
     part = λ x h r. r;
-    begins =
-        none_begins calm t g ok d full;
+    begins = none_begins calm t g ok d full;
     reaches = λ l z rest e. absurd (unfit_no_deep l (z ∷ rest) e);
   }
 

@@ -176,8 +176,7 @@ module _ (t : LevelTables) (g : Grammar) (ok : IsDecided t g ≡ true) (n : ℕ)
       whole = s.1;
       tree = s.2;
       more = s.3;
-      shaped =
-          s.4;
+      shaped = s.4;
       begins = s.5;
     }
 

@@ -174,15 +174,13 @@ module _ (t : LevelTables) (sane_rule : (l : Level) → sane (t.rule l) ≡ true
       let s = local n (level_local n) (t.rule v) (sane_rule v) IsNone unread none_exact unread_local l r e in record {
         front = s.front;
         whole = s.whole;
-        again =
-            s.again;
+        again = s.again;
       }
 
   pub read_local : (n : ℕ) (g : Grammar) → sane g ≡ true → IsLocal (read t n g)
   unfolding read
   read_local n g ok l r e = let s = local n (level_local n) g ok IsNone unread none_exact unread_local l r e in record {
     front = s.front;
-    whole =
-        s.whole;
+    whole = s.whole;
     again = s.again;
   }

@@ -295,8 +295,7 @@ usual_opened NotEqual = record {
   text_is = refl;
   alone_is = refl;
   no_letter = refl;
-  no_digit =
-      refl;
+  no_digit = refl;
   no_separator = refl;
   no_apostrophe = refl;
   no_brace = refl;
@@ -309,8 +308,7 @@ usual_opened AtMost = record {
   text_is = refl;
   alone_is = refl;
   no_letter = refl;
-  no_digit =
-      refl;
+  no_digit = refl;
   no_separator = refl;
   no_apostrophe = refl;
   no_brace = refl;
@@ -323,8 +321,7 @@ usual_opened AtLeast = record {
   text_is = refl;
   alone_is = refl;
   no_letter = refl;
-  no_digit =
-      refl;
+  no_digit = refl;
   no_separator = refl;
   no_apostrophe = refl;
   no_brace = refl;
@@ -337,8 +334,7 @@ usual_opened Becomes = record {
   text_is = refl;
   alone_is = refl;
   no_letter = refl;
-  no_digit =
-      refl;
+  no_digit = refl;
   no_separator = refl;
   no_apostrophe = refl;
   no_brace = refl;
@@ -351,8 +347,7 @@ usual_opened Range = record {
   text_is = refl;
   alone_is = refl;
   no_letter = refl;
-  no_digit =
-      refl;
+  no_digit = refl;
   no_separator = refl;
   no_apostrophe = refl;
   no_brace = refl;
@@ -366,8 +361,7 @@ usual_opened Plus = record {
   alone_is = refl;
   no_letter = refl;
   no_digit = refl;
-  no_separator =
-      refl;
+  no_separator = refl;
   no_apostrophe = refl;
   no_brace = refl;
   no_slash = refl;
@@ -380,8 +374,7 @@ usual_opened Minus = record {
   alone_is = refl;
   no_letter = refl;
   no_digit = refl;
-  no_separator =
-      refl;
+  no_separator = refl;
   no_apostrophe = refl;
   no_brace = refl;
   no_slash = refl;
@@ -394,8 +387,7 @@ usual_opened Star = record {
   alone_is = refl;
   no_letter = refl;
   no_digit = refl;
-  no_separator =
-      refl;
+  no_separator = refl;
   no_apostrophe = refl;
   no_brace = refl;
   no_slash = refl;
@@ -408,8 +400,7 @@ usual_opened Equal = record {
   alone_is = refl;
   no_letter = refl;
   no_digit = refl;
-  no_separator =
-      refl;
+  no_separator = refl;
   no_apostrophe = refl;
   no_brace = refl;
   no_slash = refl;
@@ -422,8 +413,7 @@ usual_opened Less = record {
   alone_is = refl;
   no_letter = refl;
   no_digit = refl;
-  no_separator =
-      refl;
+  no_separator = refl;
   no_apostrophe = refl;
   no_brace = refl;
   no_slash = refl;
@@ -435,8 +425,7 @@ usual_opened Greater = record {
   text_is = refl;
   alone_is = refl;
   no_letter = refl;
-  no_digit =
-      refl;
+  no_digit = refl;
   no_separator = refl;
   no_apostrophe = refl;
   no_brace = refl;
@@ -449,8 +438,7 @@ usual_opened LeftBracket = record {
   text_is = refl;
   alone_is = refl;
   no_letter = refl;
-  no_digit =
-      refl;
+  no_digit = refl;
   no_separator = refl;
   no_apostrophe = refl;
   no_brace = refl;
@@ -463,8 +451,7 @@ usual_opened RightBracket = record {
   text_is = refl;
   alone_is = refl;
   no_letter = refl;
-  no_digit =
-      refl;
+  no_digit = refl;
   no_separator = refl;
   no_apostrophe = refl;
   no_brace = refl;
@@ -478,8 +465,7 @@ usual_opened Dot = record {
   alone_is = refl;
   no_letter = refl;
   no_digit = refl;
-  no_separator =
-      refl;
+  no_separator = refl;
   no_apostrophe = refl;
   no_brace = refl;
   no_slash = refl;
@@ -492,8 +478,7 @@ usual_opened Comma = record {
   alone_is = refl;
   no_letter = refl;
   no_digit = refl;
-  no_separator =
-      refl;
+  no_separator = refl;
   no_apostrophe = refl;
   no_brace = refl;
   no_slash = refl;
@@ -506,8 +491,7 @@ usual_opened Colon = record {
   alone_is = refl;
   no_letter = refl;
   no_digit = refl;
-  no_separator =
-      refl;
+  no_separator = refl;
   no_apostrophe = refl;
   no_brace = refl;
   no_slash = refl;
@@ -519,8 +503,7 @@ usual_opened Semicolon = record {
   text_is = refl;
   alone_is = refl;
   no_letter = refl;
-  no_digit =
-      refl;
+  no_digit = refl;
   no_separator = refl;
   no_apostrophe = refl;
   no_brace = refl;
@@ -534,8 +517,7 @@ usual_opened Caret = record {
   alone_is = refl;
   no_letter = refl;
   no_digit = refl;
-  no_separator =
-      refl;
+  no_separator = refl;
   no_apostrophe = refl;
   no_brace = refl;
   no_slash = refl;
@@ -547,8 +529,7 @@ usual_opened LeftParen = record {
   text_is = refl;
   alone_is = refl;
   no_letter = refl;
-  no_digit =
-      refl;
+  no_digit = refl;
   no_separator = refl;
   no_apostrophe = refl;
   no_brace = refl;
@@ -561,8 +542,7 @@ usual_opened RightParen = record {
   text_is = refl;
   alone_is = refl;
   no_letter = refl;
-  no_digit =
-      refl;
+  no_digit = refl;
   no_separator = refl;
   no_apostrophe = refl;
   no_brace = refl;
@@ -578,8 +558,7 @@ opened (Other LeftBracket) = record {
   text_is = refl;
   alone_is = refl;
   no_letter = refl;
-  no_digit =
-      refl;
+  no_digit = refl;
   no_separator = refl;
   no_apostrophe = refl;
   no_brace = refl;
@@ -592,8 +571,7 @@ opened (Other RightBracket) = record {
   text_is = refl;
   alone_is = refl;
   no_letter = refl;
-  no_digit =
-      refl;
+  no_digit = refl;
   no_separator = refl;
   no_apostrophe = refl;
   no_brace = refl;
@@ -607,8 +585,7 @@ opened (Other Caret) = record {
   alone_is = refl;
   no_letter = refl;
   no_digit = refl;
-  no_separator =
-      refl;
+  no_separator = refl;
   no_apostrophe = refl;
   no_brace = refl;
   no_slash = refl;

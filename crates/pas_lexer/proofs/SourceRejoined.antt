@@ -168,8 +168,7 @@ fits_from source at [] d = all_cons (FitsThere source) (record {
   kind = End;
   start = length source;
   end = length source;
-  line =
-      line_at source (length source);
+  line = line_at source (length source);
 }) [] (λ other. absurd (other refl)) (all_nil (FitsThere source))
 fits_from source at (p ∷ ps) d =
     subst (All (FitsThere source)) (sym (append_assoc (token_of at (at + length p.text) (line_at source at) p.kind) (tokens_from source (at + length p.text) ps)

@@ -314,8 +314,7 @@ right_forward last entries accused call other within asked s differs =
         | inl same ↦ both_ways (is_clear (mark_at marks above)) (ap (λ k. is_clear (mark_at marks k)) same ∙ ap is_clear asked.unjudged) c.clear
         | inr apart ↦ s.free above h (record {
           clear = ap is_clear (same_mark (length last) entries call judgement.Right above h apart) ∙ c.clear;
-          inside =
-              c.inside;
+          inside = c.inside;
           from = c.from;
           to = c.to;
         })
@@ -332,8 +331,7 @@ right_backward last entries accused call other within s outside differs = record
     | inl same ↦ outside (omega (arith, same, c.from)) (omega (arith, c.to, ap (slice_index last) same))
     | inr apart ↦ s.free above h (record {
       clear = sym (ap is_clear (same_mark (length last) entries call judgement.Right above h apart)) ∙ c.clear;
-      inside =
-          c.inside;
+      inside = c.inside;
       from = c.from;
       to = c.to;
     })
@@ -360,8 +358,7 @@ right_test last entries accused call other inside itself within asked =
     s.free call inside (record {
       clear = ap is_clear (right_is_clear (length last) entries call inside);
       inside = asked.inside;
-      from =
-          leb-true call other both.0;
+      from = leb-true call other both.0;
       to = leb-true other (slice_index last call) both.1;
     }) in
     let differs : other ≡ call → ⊥ = λ e. both_ways (is_clear (mark_at new other)) (ap is_clear s.unjudged) (ap (λ k. is_clear (mark_at new k)) e

@@ -28,6 +28,5 @@ asked_of last suspects None = None
 asked_of last suspects (Some call) = Some (record {
   call = call;
   weight = weight_of last suspects call;
-  left =
-      left_of last suspects call;
+  left = left_of last suspects call;
 })
