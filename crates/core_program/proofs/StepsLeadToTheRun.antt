@@ -118,6 +118,8 @@ use Rattle.core_program.specs.Tower.{
   MatchesOne,
   Matches,
   TowerAt,
+  view,
+  here,
   IsOver,
   Begun,
   entered_call,
@@ -425,9 +427,9 @@ closed_rows outer o under l own trouble σ rest calls calls' one others e h =
 module _ {p : ProgramTables} {budget : ℕ} {k : Bool} where
   -- the innermost statement part does so much, and the tower comes to another stage
   goes_to : (outer : List OpenCall) (o o' : OpenCall) (m m' : Moment) (calls : List CallRow) (stage : Stage) (w : List Touch)
-      → TowerAt p budget Rests k (outer ++ o ∷ []) m calls → Next o o' → (IsTrue k → m'.log ≡ m.log ++ w) → m'.state.depth ≡ m.state.depth
+      → TowerAt p budget Rests (view k (outer ++ o ∷ []) m calls) → Next o o' → (IsTrue k → m'.log ≡ m.log ++ w) → m'.state.depth ≡ m.state.depth
       → ((n : ℕ) → Less (in_front w [] (left_at p n (rest_of o') stage m'.state)) (run_of p (suc (suc n)) (rest_of o) m.state))
-      → TowerAt p budget stage k (outer ++ o' ∷ []) m' calls
+      → TowerAt p budget stage (view k (outer ++ o' ∷ []) m' calls)
   goes_to outer o o' m m' calls stage w t h logs depth less =
       let y = top_of p outer o t.levels t.matches in
       let mt : Matches (outer ++ o ∷ []) (Push y.under y.l y.own) = subst (λ ls. Matches (outer ++ o ∷ []) ls) y.is t.matches in
@@ -446,9 +448,9 @@ module _ {p : ProgramTables} {budget : ℕ} {k : Bool} where
 
   -- a statement does what it does itself
   pub climb_goes : (outer : List OpenCall) (o o' : OpenCall) (m m' : Moment) (calls : List CallRow) (r : Row) (w : List Touch)
-      → TowerAt p budget Rests k (outer ++ o ∷ []) m calls → Next o o' → o.done + 1 ≤ o.count → slice_get p.rows (o.first + o.done) ≡ Some r
+      → TowerAt p budget Rests (view k (outer ++ o ∷ []) m calls) → Next o o' → o.done + 1 ≤ o.count → slice_get p.rows (o.first + o.done) ≡ Some r
       → performs (statement_action p r.line o.block o.base r.statement) m.state ≡ Finished tt w m'.state → (IsTrue k → m'.log ≡ m.log ++ w)
-      → TowerAt p budget (stage_of r.statement) k (outer ++ o' ∷ []) m' calls
+      → TowerAt p budget (stage_of r.statement) (view k (outer ++ o' ∷ []) m' calls)
   climb_goes outer o o' m m' calls r w t h room found did logs =
       goes_to outer o o' m m' calls (stage_of r.statement) w t h logs (finished_depth (statement_action p r.line o.block o.base r.statement) m.state m'.state tt
       w did)
@@ -460,9 +462,9 @@ module _ {p : ProgramTables} {budget : ℕ} {k : Bool} where
 
   -- a statement stops the run
   pub climb_stops : (outer : List OpenCall) (o o' : OpenCall) (m m' : Moment) (calls : List CallRow) (r : Row) (why : Trouble) (w : List Touch)
-      → TowerAt p budget Rests k (outer ++ o ∷ []) m calls → Next o o' → o.done + 1 ≤ o.count → slice_get p.rows (o.first + o.done) ≡ Some r
+      → TowerAt p budget Rests (view k (outer ++ o ∷ []) m calls) → Next o o' → o.done + 1 ≤ o.count → slice_get p.rows (o.first + o.done) ≡ Some r
       → performs (statement_action p r.line o.block o.base r.statement) m.state ≡ Stopped why w m'.state → (IsTrue k → m'.log ≡ m.log ++ w)
-      → TowerAt p budget (Ends (Halted why)) k (outer ++ o' ∷ []) m' calls
+      → TowerAt p budget (Ends (Halted why)) (view k (outer ++ o' ∷ []) m' calls)
   climb_stops outer o o' m m' calls r why w t h room found did logs =
       goes_to outer o o' m m' calls (Ends (Halted why)) w t h logs (stopped_depth (statement_action p r.line o.block o.base r.statement) m.state m'.state why w
       did)
@@ -471,17 +473,17 @@ module _ {p : ProgramTables} {budget : ℕ} {k : Bool} where
 
   -- a row is missing
   pub climb_missing : (outer : List OpenCall) (o o' : OpenCall) (m : Moment) (calls : List CallRow)
-      → TowerAt p budget Rests k (outer ++ o ∷ []) m calls → Next o o' → o.done + 1 ≤ o.count → slice_get p.rows (o.first + o.done) ≡ None
-      → TowerAt p budget (Ends (Halted NoRow)) k (outer ++ o' ∷ []) m calls
+      → TowerAt p budget Rests (view k (outer ++ o ∷ []) m calls) → Next o o' → o.done + 1 ≤ o.count → slice_get p.rows (o.first + o.done) ≡ None
+      → TowerAt p budget (Ends (Halted NoRow)) (view k (outer ++ o' ∷ []) m calls)
   climb_missing outer o o' m calls t h room found =
       goes_to outer o o' m m calls (Ends (Halted NoRow)) [] t h (λ q. sym (append-nil m.log)) refl
       (λ n. less_is _ _ (front_nothing _ ∙ sym (ap (λ q. run_of p (suc (suc n)) q m.state) (begins_with o room)
       ∙ statement_missing p n o.block o.base (o.first + o.done) (o.count - (o.done + 1)) m.state found)))
 
   -- no statement is left
-  pub climb_ends : (outer : List OpenCall) (o : OpenCall) (m : Moment) (calls : List CallRow) → TowerAt p budget Rests k (outer ++ o ∷ []) m calls
+  pub climb_ends : (outer : List OpenCall) (o : OpenCall) (m : Moment) (calls : List CallRow) → TowerAt p budget Rests (view k (outer ++ o ∷ []) m calls)
       → o.done ≡ o.count
-      → TowerAt p budget (Ends (end_of None)) k (outer ++ o ∷ []) m calls
+      → TowerAt p budget (Ends (end_of None)) (view k (outer ++ o ∷ []) m calls)
   climb_ends outer o m calls t h =
       let y = top_of p outer o t.levels t.matches in
       record {
@@ -498,11 +500,11 @@ module _ {p : ProgramTables} {budget : ℕ} {k : Bool} where
   -- a call is entered
   pub climb_enter : (opens : List OpenCall) (o o' : OpenCall) (m m1 m' : Moment) (calls calls' : List CallRow) (routine : ℕ) (parent : Option ℕ) (stage : Stage)
       (left : ℕ → Outcome)
-      → TowerAt p budget (Calls routine) k opens m calls → m1.state ≡ opened m.state → m1.log ≡ m.log
+      → TowerAt p budget (Calls routine) (view k opens m calls) → m1.state ≡ opened m.state → m1.log ≡ m.log
       → ((ls : Levels) → Matches opens ls → parent ≡ outer_of ls)
       → o.number ≡ length calls → o.depth ≡ m.state.depth → calls' ≡ calls ++ opened_row routine parent o.depth o.number ∷ []
-      → Begun p routine o m1 left o' m' → ((n : ℕ) → Less (left_at p n (rest_of o') stage m'.state) (left n))
-      → TowerAt p budget stage k (opens ++ o' ∷ []) m' calls'
+      → Begun p routine (here o m1) left (here o' m') → ((n : ℕ) → Less (left_at p n (rest_of o') stage m'.state) (left n))
+      → TowerAt p budget stage (view k (opens ++ o' ∷ []) m' calls')
   climb_enter opens o o' m m1 m' calls calls' routine parent stage left t es el ep en ed ec b less =
       let l : Level = record { number = o.number; routine = routine; entry = m.state; cells = o'.cells } in
       let own : Own = record { log = []; events = []; rest = rest_of o' } in
@@ -543,16 +545,17 @@ module _ {p : ProgramTables} {budget : ℕ} {k : Bool} where
       }
 
   placed : {stage : Stage} (r : Runner) (opens : List OpenCall) (o' : OpenCall) → r.keeps_log ≡ k → r.opens.items ≡ opens ++ o' ∷ []
-      → TowerAt p budget stage k (opens ++ o' ∷ []) (moment_of r.machine) r.calls → At p budget stage r
+      → TowerAt p budget stage (view k (opens ++ o' ∷ []) (moment_of r.machine) r.calls) → At p budget stage r
   placed {stage = stage} r opens o' ek eo t =
-      subst (λ b. TowerAt p budget stage b r.opens.items (moment_of r.machine) r.calls) (sym ek)
-      (subst (λ os. TowerAt p budget stage k os (moment_of r.machine) r.calls) (sym eo) t)
+      subst (λ b. TowerAt p budget stage (view b r.opens.items (moment_of r.machine) r.calls)) (sym ek)
+      (subst (λ os. TowerAt p budget stage (view k os (moment_of r.machine) r.calls)) (sym eo) t)
 
   -- a call that ended is removed, and its caller goes on
   pub climb_close : (outer : List OpenCall) (o : OpenCall) (trouble : Option Trouble) (m m' : Moment) (calls calls' : List CallRow)
-      → TowerAt p budget (Ends (end_of trouble)) k (outer ++ o ∷ []) m calls → m'.state ≡ closed o.depth (without_frame o.base o.cells m.state) → m'.log ≡ m.log
+      → TowerAt p budget (Ends (end_of trouble)) (view k (outer ++ o ∷ []) m calls) → m'.state ≡ closed o.depth (without_frame o.base o.cells m.state)
+      → m'.log ≡ m.log
       → ((row : CallRow) → slice_get calls o.number ≡ Some row → calls' ≡ slice_set calls o.number (row_ended row (length calls) (way_of (end_of trouble))))
-      → TowerAt p budget (stage_after trouble) k outer m' calls'
+      → TowerAt p budget (stage_after trouble) (view k outer m' calls')
   climb_close outer o trouble m m' calls calls' t es el ec =
       let y = top_of p outer o t.levels t.matches in
       let one = y.one in
@@ -580,7 +583,7 @@ module _ {p : ProgramTables} {budget : ℕ} {k : Bool} where
 
   -- no call is open
   over : (trouble : Option Trouble) (m : Moment) (calls : List CallRow) (ls : Levels) → Matches [] ls → (IsTrue k → m.log ≡ logs_of ls) → calls ≡ rows_of ls
-      → Leads p budget (λ n. whole_from p n ls (left_at p n (own_of ls).rest (stage_after trouble) m.state)) → IsOver p budget trouble k m calls
+      → Leads p budget (λ n. whole_from p n ls (left_at p n (own_of ls).rest (stage_after trouble) m.state)) → IsOver p budget trouble (view k [] m calls)
   over trouble m calls (Push under l own) x logs rows f = absurd (not_snoc x.0 x.1.0 x.1.1.0)
   over None m calls (Bottom own) x logs rows f =
       let r : Result State Call = record { end = Ended Normal; after = m.state; log = own.log ++ []; events = own.events ++ [] } in
@@ -606,12 +609,12 @@ module _ {p : ProgramTables} {budget : ℕ} {k : Bool} where
       }
 
   pub climb_over : (trouble : Option Trouble) (opens : List OpenCall) (m : Moment) (calls : List CallRow) → opens ≡ []
-      → TowerAt p budget (stage_after trouble) k opens m calls → IsOver p budget trouble k m calls
+      → TowerAt p budget (stage_after trouble) (view k opens m calls) → IsOver p budget trouble (view k [] m calls)
   climb_over trouble opens m calls e t = over trouble m calls t.levels (subst (λ os. Matches os t.levels) e t.matches) t.logs t.rows t.leads
 
   -- no call is entered yet
   pub climb_first : (opens : List OpenCall) (m : Moment) (calls : List CallRow) → m.state ≡ start budget → m.log ≡ [] → opens ≡ [] → calls ≡ []
-      → TowerAt p budget (Calls 0) k opens m calls
+      → TowerAt p budget (Calls 0) (view k opens m calls)
   climb_first opens m calls es el eo ec = record {
     levels = Bottom (record { log = []; events = []; rest = Ret Normal });
     matches = (eo, refl, inside_none);
@@ -640,11 +643,11 @@ module _ {p : ProgramTables} {budget : ℕ} {k : Bool} where
   -- a call is entered, or the run is stopped there
   pub climb_entered : (r : Runner) (result : std.Result (Unit {0}) Halt) (opens : List OpenCall) (o o' : OpenCall) (m m1 : Moment) (calls : List CallRow)
       (routine : ℕ) (parent : Option ℕ)
-      → TowerAt p budget (Calls routine) k opens m calls → m1.state ≡ opened m.state → m1.log ≡ m.log
+      → TowerAt p budget (Calls routine) (view k opens m calls) → m1.state ≡ opened m.state → m1.log ≡ m.log
       → parent ≡ number_of (slice_get opens (length opens - 1))
       → o.number ≡ length calls → o.depth ≡ m.state.depth → r.calls ≡ calls ++ opened_row routine parent o.depth o.number ∷ []
       → r.opens.items ≡ opens ++ o' ∷ [] → r.keeps_log ≡ k
-      → BeginsTo p routine o m1 result o' (moment_of r.machine)
+      → BeginsTo p routine (here o m1) result (here o' (moment_of r.machine))
       → StepsTo p budget Rests result r
   climb_entered r (std.Ok x) opens o o' m m1 calls routine parent t es el ep en ed ec eo ek b =
       placed r opens o' ek eo (climb_enter opens o o' m m1 (moment_of r.machine) calls r.calls routine parent Rests _ t es el (λ ls h. ep
@@ -656,17 +659,17 @@ module _ {p : ProgramTables} {budget : ℕ} {k : Bool} where
 
   -- a statement did what it does itself
   pub climb_did : (outer : List OpenCall) (o o' : OpenCall) (m m1 : Moment) (row : Row) (opens : List OpenCall) (m' : Moment) (calls : List CallRow)
-      → TowerAt p budget Rests k (outer ++ o ∷ []) m calls → opens ≡ outer ++ o' ∷ []
+      → TowerAt p budget Rests (view k (outer ++ o ∷ []) m calls) → opens ≡ outer ++ o' ∷ []
       → m'.state ≡ m1.state → (IsTrue k → m'.log ≡ m1.log)
       → Next o o' → o.done + 1 ≤ o.count → slice_get p.rows (o.first + o.done) ≡ Some row
       → ActionFinished (performs (statement_action p row.line o.block o.base row.statement) m.state) tt m m1
-      → TowerAt p budget (stage_of row.statement) k opens m' calls
+      → TowerAt p budget (stage_of row.statement) (view k opens m' calls)
   climb_did outer o o' m m1 row opens m' calls t eo es el h room found did =
-      subst (λ os. TowerAt p budget (stage_of row.statement) k os m' calls) (sym eo)
+      subst (λ os. TowerAt p budget (stage_of row.statement) (view k os m' calls)) (sym eo)
       (climb_goes outer o o' m m' calls row did.0 t h room found (did.1 ∙ ap (λ σ. Finished tt did.0 σ) (sym es)) (λ q. el q ∙ did.2))
 
   pub climb_did_not : (r : Runner) (e : Halt) (outer : List OpenCall) (o o' : OpenCall) (m : Moment) (row : Row)
-      → TowerAt p budget Rests k (outer ++ o ∷ []) m r.calls → r.opens.items ≡ outer ++ o' ∷ [] → r.keeps_log ≡ k
+      → TowerAt p budget Rests (view k (outer ++ o ∷ []) m r.calls) → r.opens.items ≡ outer ++ o' ∷ [] → r.keeps_log ≡ k
       → Next o o' → o.done + 1 ≤ o.count → slice_get p.rows (o.first + o.done) ≡ Some row
       → DoesAll {X = Unit {0}} (λ _. tt) (performs (statement_action p row.line o.block o.base row.statement) m.state) (std.Err e) m (moment_of r.machine)
       → StepsTo p budget (stage_of row.statement) (std.Err e) r
@@ -675,10 +678,10 @@ module _ {p : ProgramTables} {budget : ℕ} {k : Bool} where
   climb_did_not r NoMemory outer o o' m row t eo ek h room found did = tt
 
   pub climb_lost : (outer : List OpenCall) (o o' : OpenCall) (m : Moment) (calls : List CallRow) (opens : List OpenCall)
-      → TowerAt p budget Rests k (outer ++ o ∷ []) m calls → opens ≡ outer ++ o' ∷ [] → Next o o' → o.done + 1 ≤ o.count
+      → TowerAt p budget Rests (view k (outer ++ o ∷ []) m calls) → opens ≡ outer ++ o' ∷ [] → Next o o' → o.done + 1 ≤ o.count
       → slice_get p.rows (o.first + o.done) ≡ None
-      → TowerAt p budget (Ends (Halted NoRow)) k opens m calls
-  climb_lost outer o o' m calls opens t eo h room found = subst (λ os. TowerAt p budget (Ends (Halted NoRow)) k os m calls) (sym eo)
+      → TowerAt p budget (Ends (Halted NoRow)) (view k opens m calls)
+  climb_lost outer o o' m calls opens t eo h room found = subst (λ os. TowerAt p budget (Ends (Halted NoRow)) (view k os m calls)) (sym eo)
       (climb_missing outer o o' m calls t h room found)
 
 -- a step that is stopped stops the run

@@ -175,18 +175,27 @@ Matches os (Bottom own) = (os ≡ []) × (own.rest ≡ Ret Normal) × Inside (be
 Matches os (Push under l own) = (outer : List OpenCall) × ((o : OpenCall)
     × ((os ≡ outer ++ o ∷ []) × MatchesOne o under l own × Matches outer under))
 
+-- what a runner shows: whether it keeps the log, the open calls, the moment, and the rows of the calls so far
+pub record View : Type 0 where
+  pub keeps_log : Bool
+  pub opens : List OpenCall
+  pub moment : Moment
+  pub calls : List CallRow
+
+abbrev pub view : Bool → List OpenCall → Moment → List CallRow → View
+view keeps_log opens moment calls = record { keeps_log = keeps_log; opens = opens; moment = moment; calls = calls }
+
 -- the open calls, with what is left inside the innermost, are on the way to the whole run
-pub record TowerAt (p : ProgramTables) (budget : ℕ) (stage : Stage) (keeps_log : Bool) (opens : List OpenCall)
-    (m : Moment) (calls : List CallRow) : Type 0 where
+pub record TowerAt (p : ProgramTables) (budget : ℕ) (stage : Stage) (v : View) : Type 0 where
   pub levels : Levels
-  pub matches : Matches opens levels
-  pub logs : IsTrue keeps_log → m.log ≡ logs_of levels
-  pub rows : calls ≡ rows_of levels
-  pub height : m.state.depth ≡ height levels
-  pub leads : Leads p budget (λ n. whole_from p n levels (left_at p n (own_of levels).rest stage m.state))
+  pub matches : Matches v.opens levels
+  pub logs : IsTrue v.keeps_log → v.moment.log ≡ logs_of levels
+  pub rows : v.calls ≡ rows_of levels
+  pub height : v.moment.state.depth ≡ height levels
+  pub leads : Leads p budget (λ n. whole_from p n levels (left_at p n (own_of levels).rest stage v.moment.state))
 
 abbrev pub At : ProgramTables → ℕ → Stage → Runner → Type 0
-At p budget stage r = TowerAt p budget stage r.keeps_log r.opens.items (moment_of r.machine) r.calls
+At p budget stage r = TowerAt p budget stage (view r.keeps_log r.opens.items (moment_of r.machine) r.calls)
 
 -- A measure of what a run may still do: each of its turns takes a step and enters a call at most, or ends a call.
 abbrev pub work_left : Runner → ℕ
@@ -225,20 +234,20 @@ StepsTo p budget stage (std.Err (Why why)) r = At p budget (Ends (Halted why)) r
 StepsTo p budget stage (std.Err NoMemory) r = Unit {0}
 
 -- the run is over: it ended as a runner tells
-pub record IsOver (p : ProgramTables) (budget : ℕ) (trouble : Option Trouble) (keeps_log : Bool) (m : Moment)
-    (calls : List CallRow) : Type 0 where
+pub record IsOver (p : ProgramTables) (budget : ℕ) (trouble : Option Trouble) (v : View) : Type 0 where
   pub log : List Touch
   pub events : List Call
-  pub logs : IsTrue keeps_log → m.log ≡ log
-  pub rows : calls ≡ numbered events
-  pub is : run p budget ≡ Some (record { end = end_of trouble; after = m.state; log = log; events = events })
+  pub logs : IsTrue v.keeps_log → v.moment.log ≡ log
+  pub rows : v.calls ≡ numbered events
+  pub is : run p budget
+      ≡ Some (record { end = end_of trouble; after = v.moment.state; log = log; events = events })
 
 abbrev pub Over : ProgramTables → ℕ → Option Trouble → Runner → Type 0
-Over p budget trouble r = IsOver p budget trouble r.keeps_log (moment_of r.machine) r.calls
+Over p budget trouble r = IsOver p budget trouble (view r.keeps_log [] (moment_of r.machine) r.calls)
 
 -- the same of what a run left
 abbrev pub OverWith : ProgramTables → ℕ → Bool → PlainRun → Type 0
-OverWith p budget keeps_log r = IsOver p budget r.trouble keeps_log (moment_of r.machine) r.calls
+OverWith p budget keeps_log r = IsOver p budget r.trouble (view keeps_log [] (moment_of r.machine) r.calls)
 
 -- the run with this budget begins
 abbrev pub BeginsRun : ℕ → Runner → Type 0
@@ -249,22 +258,30 @@ BeginsRun budget r = (machine_state r.machine ≡ start budget) × (r.machine.lo
 abbrev pub entered_call : ProgramTables → ℕ → ℕ → State → Outcome
 entered_call p n routine σ = with_routine (slice_get p.routines routine) (λ r. in_frame (run_of p n) routine r [] σ) σ
 
--- its frame was made, or not, and this is left then
-pub record Begun (p : ProgramTables) (routine : ℕ) (old : OpenCall) (m : Moment) (left : ℕ → Outcome)
-    (new : OpenCall) (m' : Moment) : Type 0 where
-  pub number : new.number ≡ old.number
-  pub depth : new.depth ≡ old.depth
-  pub base : new.base ≡ m.state.top
-  pub log : m'.log ≡ m.log
-  pub height : m'.state.depth ≡ m.state.depth
-  pub is : (n : ℕ) → entered_call p (suc (suc n)) routine m.state
-      ≡ after_all (without_frame m.state.top new.cells) (left n)
+-- an open call, and the moment
+pub record Here : Type 0 where
+  pub call : OpenCall
+  pub moment : Moment
 
-abbrev pub BeginsTo : ProgramTables → ℕ → OpenCall → Moment → std.Result (Unit {0}) halt.Halt → OpenCall → Moment
-    → Type 0
-BeginsTo p routine old m (std.Ok x) new m' = Begun p routine old m (λ n. run_of p (suc n) (rest_of new) m'.state) new m'
-BeginsTo p routine old m (std.Err (Why why)) new m' = Begun p routine old m (λ _. ends (Halted why) m'.state) new m'
-BeginsTo p routine old m (std.Err NoMemory) new m' = Unit {0}
+abbrev pub here : OpenCall → Moment → Here
+here call moment = record { call = call; moment = moment }
+
+-- its frame was made, or not, and this is left then
+pub record Begun (p : ProgramTables) (routine : ℕ) (before : Here) (left : ℕ → Outcome) (after : Here) : Type 0 where
+  pub number : after.call.number ≡ before.call.number
+  pub depth : after.call.depth ≡ before.call.depth
+  pub base : after.call.base ≡ before.moment.state.top
+  pub log : after.moment.log ≡ before.moment.log
+  pub height : after.moment.state.depth ≡ before.moment.state.depth
+  pub is : (n : ℕ) → entered_call p (suc (suc n)) routine before.moment.state
+      ≡ after_all (without_frame before.moment.state.top after.call.cells) (left n)
+
+abbrev pub BeginsTo : ProgramTables → ℕ → Here → std.Result (Unit {0}) halt.Halt → Here → Type 0
+BeginsTo p routine before (std.Ok x) after =
+    Begun p routine before (λ n. run_of p (suc n) (rest_of after.call) after.moment.state) after
+BeginsTo p routine before (std.Err (Why why)) after =
+    Begun p routine before (λ _. ends (Halted why) after.moment.state) after
+BeginsTo p routine before (std.Err NoMemory) after = Unit {0}
 
 -- the same as a step, or no call is open and the run is over
 abbrev pub StepsOn : ProgramTables → ℕ → std.Result Bool halt.Halt → Runner → Type 0

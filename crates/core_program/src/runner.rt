@@ -40,9 +40,11 @@ ghost use Rattle.core_program.specs.Tower.{
   StepsOver,
   StepsTo,
   TowerAt,
+  here,
   number_of,
   stage_after,
   stage_of,
+  view,
   work_left,
 };
 
@@ -102,8 +104,8 @@ fn begin(
 ) -> Result<(), Halt>
     requires base { call.old.base ≡ machine.old.top }
     requires cells { call.old.cells ≡ 0 }
-    ensures begins { BeginsTo program.now routine call.old (moment_of machine.old) result call.new
-        (moment_of machine.new) }
+    ensures begins { BeginsTo program.now routine (here call.old (moment_of machine.old)) result
+        (here call.new (moment_of machine.new)) }
     ensures paid { OnOk result (machine.new.steps ≤ machine.old.steps) }
 {
     let Some(found) = program.routine(routine) else {
@@ -165,8 +167,9 @@ impl Runner {
 
     /// Ends an open call, which was the innermost one: it came to its end, or a trouble stops it.
     fn close(&mut self, call: OpenCall, trouble: Option<Trouble>)
-        ensures closed { (p : ProgramTables) (budget : ℕ) → TowerAt p budget (Ends (end_of trouble)) self.old.keeps_log
-            (self.old.opens.items ++ call ∷ []) (moment_of self.old.machine) self.old.calls
+        ensures closed { (p : ProgramTables) (budget : ℕ)
+            → TowerAt p budget (Ends (end_of trouble)) (view self.old.keeps_log (self.old.opens.items ++ call ∷ [])
+            (moment_of self.old.machine) self.old.calls)
             → At p budget (stage_after trouble) self.new }
         ensures opens { self.new.opens ≡ self.old.opens }
         ensures steps { self.new.machine.steps ≡ self.old.machine.steps }
@@ -182,8 +185,9 @@ impl Runner {
         ensures steps { (budget : ℕ) (before : List OpenRow) (next : OpenRow)
             → self.old.opens.items ≡ before ++ next ∷ [] → Next call next
             → slice_get program.now.rows (call.first + call.done) ≡ Some row → call.done + 1 ≤ call.count
-            → TowerAt program.now budget Rests self.old.keeps_log (before ++ call ∷ []) (moment_of self.old.machine)
-            self.old.calls → StepsTo program.now budget (stage_of row.statement) result self.new }
+            → TowerAt program.now budget Rests (view self.old.keeps_log (before ++ call ∷ [])
+            (moment_of self.old.machine) self.old.calls)
+            → StepsTo program.now budget (stage_of row.statement) result self.new }
         ensures room { OnOk result (RoomAfter row.statement self.new.machine) }
         ensures paid { OnOk result (work_left self.new + 2 ≤ work_left self.old) }
         ensures kept { self.new.keeps_log ≡ self.old.keeps_log }
@@ -213,8 +217,8 @@ impl Runner {
         ensures steps { (budget : ℕ) (before : List OpenRow) (next : OpenRow)
             → self.old.opens.items ≡ before ++ next ∷ [] → Next call next
             → slice_get program.now.rows (call.first + call.done) ≡ Some row → call.done + 1 ≤ call.count
-            → TowerAt program.now budget Rests self.old.keeps_log (before ++ call ∷ []) (moment_of self.old.machine)
-            self.old.calls → StepsTo program.now budget Rests result self.new }
+            → TowerAt program.now budget Rests (view self.old.keeps_log (before ++ call ∷ [])
+            (moment_of self.old.machine) self.old.calls) → StepsTo program.now budget Rests result self.new }
         ensures paid { OnOk result (work_left self.new + 1 ≤ work_left self.old) }
         ensures kept { self.new.keeps_log ≡ self.old.keeps_log }
     {
@@ -228,8 +232,8 @@ impl Runner {
     /// Does the next statement of an open call, which was the innermost one and has a statement left.
     fn go_on(&mut self, alloc: Global, program: &Program, call: OpenCall) -> Result<(), Halt>
         requires { call.done + 1 ≤ call.count }
-        ensures steps { (budget : ℕ) → TowerAt program.now budget Rests self.old.keeps_log
-            (self.old.opens.items ++ call ∷ []) (moment_of self.old.machine) self.old.calls
+        ensures steps { (budget : ℕ) → TowerAt program.now budget Rests
+            (view self.old.keeps_log (self.old.opens.items ++ call ∷ []) (moment_of self.old.machine) self.old.calls)
             → StepsTo program.now budget Rests result self.new }
         ensures paid { OnOk result (work_left self.new ≤ work_left self.old) }
         ensures kept { self.new.keeps_log ≡ self.old.keeps_log }

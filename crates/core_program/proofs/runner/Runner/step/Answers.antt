@@ -1,6 +1,6 @@
 use Rattle.std.proofs.Common.{arith, subst, None}
 use Rattle.core_program.specs.Acts.{moment_of}
-use Rattle.core_program.specs.Tower.{TowerAt, Rests}
+use Rattle.core_program.specs.Tower.{TowerAt, Rests, view}
 use Rattle.core_program.proofs.StepsLeadToTheRun.{climb_ends, climb_over, no_calls}
 use Rattle.core_program.proofs.runner.Runner.step.Goals as goal
 
@@ -14,4 +14,4 @@ returns-then-call-clause-steps c budget t =
     let r = c.args.self.now in
     c.close.ensures.closed c.args.program.now budget
     (climb_ends c.pop.new.self.items c.in-Some.call (moment_of r.machine) r.calls
-    (subst (λ os. TowerAt c.args.program.now budget Rests r.keeps_log os (moment_of r.machine) r.calls) c.in-Some.ensures.items t) c.if-call.true)
+    (subst (λ os. TowerAt c.args.program.now budget Rests (view r.keeps_log os (moment_of r.machine) r.calls)) c.in-Some.ensures.items t) c.if-call.true)
