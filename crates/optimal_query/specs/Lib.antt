@@ -1,0 +1,4 @@
+pub mod Region
+pub mod Question
+pub mod State
+pub mod Narrowing
