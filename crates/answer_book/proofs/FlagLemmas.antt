@@ -56,8 +56,11 @@ flag_cases : (judged : List (Option Judgement)) (wrong : List ℕ) (call : ℕ) 
 flag_cases judged wrong call are inside unset false is = is
 flag_cases judged wrong call are inside unset true is =
     let within : call < length wrong = omega (arith, inside, ap length are.flagged, length-map judged wrong_flag) in
-    absurd (unset (record { inside = within; nonzero = λ none. let e = sym is ∙ says judged wrong call are inside
-        ∙ not_from_true (get_or wrong call 0 == 0) (eq-eqb (get_or wrong call 0) 0 none) in cc }))
+    absurd (unset (record {
+      inside = within;
+      nonzero = λ none. let e = sym is ∙ says judged wrong call are inside
+          ∙ not_from_true (get_or wrong call 0 == 0) (eq-eqb (get_or wrong call 0) 0 none) in cc;
+    }))
 
 not_flagged : (judged : List (Option Judgement)) (wrong : List ℕ) (call : ℕ) → AreFlagged judged wrong → call < length judged
     → ¬ (IsSet wrong call) → is_wrong_at (slice_get judged call) ≡ false

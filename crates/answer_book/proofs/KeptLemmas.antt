@@ -83,7 +83,7 @@ trusted_is_kept book judged trusted routine inside kept = record {
       ∙ column_set (is_trusted (standing_answers book.entries)) (is_trusted (standing_answers (entries_with book.entries (Trusted routine))))
       book.routines routine true inside
       (trusted_with book.entries (Trusted routine) routine
-          ∙ or_right (is_trusted (standing_answers book.entries) routine) (trusts routine (Trusted routine)) (in_its_routine routine))
+      ∙ or_right (is_trusted (standing_answers book.entries) routine) (trusts routine (Trusted routine)) (in_its_routine routine))
       (λ other h differs. trusted_with book.entries (Trusted routine) other
-          ∙ or_none (is_trusted (standing_answers book.entries) other) (trusts other (Trusted routine)) (in_another routine other differs));
+      ∙ or_none (is_trusted (standing_answers book.entries) other) (trusts other (Trusted routine)) (in_another routine other differs));
 }

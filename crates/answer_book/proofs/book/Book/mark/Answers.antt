@@ -22,7 +22,7 @@ index-requires c =
     let known = routine_known book c.self.inside.judged c.self.inside.trusted.items c.args.call c.self.invariant inside in
     let long = trusted_length book c.self.inside.judged c.self.inside.trusted.items c.self.invariant in
     let column : c.routine_column.result.now ≡ book.routine = c.routine_column.ensures ∙ c.requires.those_calls
-        ∙ sym (ap (λ (b : Answers). b.routine) c.self.view_is) in
+    ∙ sym (ap (λ (b : Answers). b.routine) c.self.view_is) in
     rw column (omega (arith, c.self.inside.trusted.ok.0))
 
 pub returns-in-Some : goal.returns-in-Some
@@ -40,11 +40,11 @@ returns-then-index c =
     let known = routine_known book c.self.inside.judged c.self.inside.trusted.items c.args.call c.self.invariant inside in
     let last = same_Some _ _ (sym (judged_at book c.self.inside.judged c.self.inside.trusted.items c.args.call c.self.invariant inside) ∙ c.in-None.ensures) in
     let column : c.routine_column.result.now ≡ book.routine = c.routine_column.ensures ∙ c.requires.those_calls
-        ∙ sym (ap (λ (b : Answers). b.routine) c.self.view_is) in
+    ∙ sym (ap (λ (b : Answers). b.routine) c.self.view_is) in
     let trusted =
     sym (trusted_at book c.self.inside.judged c.self.inside.trusted.items (slice_index book.routine c.args.call) c.index.result.now c.self.invariant known)
     ∙ ap (λ (l : List ℕ). get_or c.self.inside.trusted.items (get_or l c.args.call 0) c.index.result.now) (sym column) ∙ sym c.index.ensures
-        ∙ c.if-index.true in
+    ∙ c.if-index.true in
     rw (← c.self.view_is) (sym (mark_unjudged book.routine answers c.args.call true last trusted))
 
 pub returns-else-index : goal.returns-else-index
@@ -55,9 +55,9 @@ returns-else-index c =
     let known = routine_known book c.self.inside.judged c.self.inside.trusted.items c.args.call c.self.invariant inside in
     let last = same_Some _ _ (sym (judged_at book c.self.inside.judged c.self.inside.trusted.items c.args.call c.self.invariant inside) ∙ c.in-None.ensures) in
     let column : c.routine_column.result.now ≡ book.routine = c.routine_column.ensures ∙ c.requires.those_calls
-        ∙ sym (ap (λ (b : Answers). b.routine) c.self.view_is) in
+    ∙ sym (ap (λ (b : Answers). b.routine) c.self.view_is) in
     let trusted =
     sym (trusted_at book c.self.inside.judged c.self.inside.trusted.items (slice_index book.routine c.args.call) c.index.result.now c.self.invariant known)
     ∙ ap (λ (l : List ℕ). get_or c.self.inside.trusted.items (get_or l c.args.call 0) c.index.result.now) (sym column) ∙ sym c.index.ensures
-        ∙ c.if-index.false in
+    ∙ c.if-index.false in
     rw (← c.self.view_is) (sym (mark_unjudged book.routine answers c.args.call false last trusted))

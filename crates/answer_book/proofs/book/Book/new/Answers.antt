@@ -14,7 +14,7 @@ invariant_of-result c =
     let few : length (routines_of run.calls) ≤ 500000 = omega (arith, c.are_numbered.ensures.few) in
     let judged : c.set.new.self ≡ set (replicate (length (routines_of run.calls)) None) 0 (Some Wrong) =
     c.set.ensures ∙ ap (λ (l : List (Option Judgement)). set l 0 (Some Wrong)) (c.in_ok-judged.ensures ∙ ap (λ n. replicate n None) (c.len.ensures
-        ∙ sym long)) in
+    ∙ sym long)) in
     let trusted : c.in_ok-trusted.trusted.items ≡ replicate run.routines false =
     (let all : c.in_ok-trusted.trusted.items ≡ replicate c.routines.result false = search rules in all) ∙ ap (λ n. replicate n false) c.routines.ensures in
     rw (c.of.ensures, c.in_ok-entries.ensures)

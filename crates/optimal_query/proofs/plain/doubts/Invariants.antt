@@ -1,0 +1,10 @@
+use Rattle.std.proofs.Common.{◌≡◌}
+use Rattle.std.specs.Prelude.{filter}
+use Rattle.answer_book.specs.Clear.{is_unknown}
+use Rattle.answer_book.specs.Numbers.{numbers_below}
+use Rattle.optimal_query.specs.Region.{is_searched, mark_at}
+use Rattle.optimal_query.proofs.plain.doubts.Given as goal
+
+abbrev pub invariant-loop-call : goal.invariant-loop-call
+invariant-loop-call l =
+    l.calls.items ≡ filter (λ call. is_unknown (mark_at l.marks call)) (filter (is_searched l.last l.marks l.accused) (numbers_below l.call))

@@ -1,0 +1,28 @@
+use Rattle.std.proofs.Common.{◌≡◌, ℕ, Bool, List, [], ◌∷◌, ◌++◌, length, sym, ap, ◌∙◌, arith}
+use Rattle.std.specs.Prelude.{filter}
+use Rattle.answer_book.specs.Clear.{is_unjudged}
+use Rattle.answer_book.specs.Numbers.{numbers_below}
+use Rattle.optimal_query.specs.Region.{suspects_of, is_searched, mark_at}
+use Rattle.optimal_query.proofs.Passed.{fails_one, passes_both}
+use Rattle.optimal_query.proofs.plain.suspects.Goals as goal
+use Rattle.optimal_query.proofs.plain.suspects.Goals.{then-is_suspect+in_ok-push, else-is_suspect}
+
+pub loop-call-preserved : goal.loop-call-preserved
+loop-call-preserved c =
+    let p : ℕ → Bool = λ call. is_unjudged (mark_at c.args.marks.now call) in
+    let q : ℕ → Bool = is_searched c.args.last.now c.args.marks.now c.args.accused in
+    elim c.if-is_suspect.branch [
+      | then-is_suspect+in_ok-push w ↦
+          ap (λ v. v.items) w.calls-is ∙ w.in_ok-push.ensures.items ∙ ap (λ l. l ++ c.loop-call.call ∷ []) c.loop-call.invariant
+          ∙ passes_both p q c.loop-call.call (sym c.is_suspect.ensures ∙ w.if-is_suspect.true)
+      | else-is_suspect w ↦
+          ap (λ v. v.items) w.calls-is ∙ c.loop-call.invariant ∙ fails_one p q c.loop-call.call (sym c.is_suspect.ensures ∙ w.if-is_suspect.false)
+    ]
+
+pub returns : goal.returns
+unfolding suspects_of
+returns c =
+    let p : ℕ → Bool = λ call. is_unjudged (mark_at c.args.marks.now call) in
+    let q : ℕ → Bool = is_searched c.args.last.now c.args.marks.now c.args.accused in
+    let e : c.loop-call.call ≡ length c.args.last.now = omega arith in
+    c.loop-call.invariant ∙ ap (λ n. filter p (filter q (numbers_below n))) e

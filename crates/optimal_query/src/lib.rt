@@ -1,0 +1,8 @@
+//! The search for the call at fault, by divide and query (Shapiro, "Algorithmic Program Debugging",
+//! 1983): what is asked next, and what the answers have narrowed the fault to.
+#![tactic(auto)]
+
+pub mod plain;
+mod state;
+
+pub use state::State;
