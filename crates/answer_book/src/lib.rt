@@ -9,6 +9,3 @@ mod judged_calls;
 
 pub use book::Book;
 pub use entries::{BookFault, Entry, Judgement, What};
-
-#[cfg(test)]
-mod tests;

@@ -10,6 +10,3 @@ mod records;
 pub use calls::Calls;
 pub use events::{Event, Events};
 pub use records::{Call, Mark, Side};
-
-#[cfg(test)]
-mod tests;

@@ -18,6 +18,3 @@ pub use faults::OpFault;
 pub use steps_taken::Steps;
 pub use values::{SetBits, Value};
 pub use ways_out::{Kind, WayOut, Which};
-
-#[cfg(test)]
-mod tests;

@@ -23,6 +23,3 @@ pub use runner::{PlainRun, run_calls, run_plain, way_out};
 pub use statements::{address, evaluate, execute, fault_kind, program_frame};
 pub use store::Store;
 pub use tables::{Block, Expression, Program, Routine, Row, Statement, block_of};
-
-#[cfg(test)]
-mod tests;

@@ -22,6 +22,3 @@ pub use ports::{Failed, FetchFault, Keeper, Sink, Source, write_all};
 pub use shelf::Shelf;
 pub use streams::{StdSink, StdSource};
 pub use tape::Tape;
-
-#[cfg(test)]
-mod tests;

@@ -12,6 +12,3 @@ mod one_pass;
 pub use lists::{Changes, Reads};
 pub use log::Log;
 pub use one_pass::{Footprint, effect};
-
-#[cfg(test)]
-mod tests;

@@ -7,8 +7,6 @@ pub mod lexing;
 mod piece;
 mod spellings;
 mod symbols;
-#[cfg(test)]
-mod tests;
 pub mod tokens;
 mod words;
 

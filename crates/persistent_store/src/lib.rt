@@ -11,6 +11,3 @@ mod whole_map;
 
 pub use store::Store;
 pub use whole_map::WholeMap;
-
-#[cfg(test)]
-mod tests;

@@ -19,6 +19,3 @@ pub use laws::{
 };
 pub use numbering::are_intervals;
 pub use state::{SearchState, search};
-
-#[cfg(test)]
-mod tests;

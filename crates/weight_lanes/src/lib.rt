@@ -16,6 +16,3 @@ pub use choice::Choice;
 pub use choosing::best;
 pub use finding::{last_set, next_of};
 pub use laws::{best_both_ways, last_set_both_ways, next_of_both_ways};
-
-#[cfg(test)]
-mod tests;

@@ -1,7 +1,9 @@
 //! Runs counted by hand: that memory suffices, and that deep calls need no native stack.
 
-use crate::{CallRow, Calls, Expression, Program, Routine, Row, Statement, run_calls, run_plain};
 use cell_value::{Kind, Memory, Touch, Value, WayOut, Which};
+use core_program::{
+    CallRow, Calls, Expression, Program, Routine, Row, Statement, run_calls, run_plain,
+};
 use std::alloc::Global;
 use std::process::Abort;
 use std::test::Fail;

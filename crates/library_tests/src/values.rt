@@ -1,5 +1,5 @@
 //! Hand values for the operators, and that what takes memory can succeed.
-use crate::{ArithOp, Cells, OpFault, SetBits, Steps, Value, arith, in_range, negate};
+use cell_value::{ArithOp, Cells, OpFault, SetBits, Steps, Value, arith, in_range, negate};
 use std::test::Fail;
 
 const MAXINT: i64 = 2_147_483_647;

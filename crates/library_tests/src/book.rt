@@ -1,5 +1,5 @@
 //! That what takes memory can succeed, with its answers.
-use crate::{Book, BookFault, Entry, Judgement, What};
+use answer_book::{Book, BookFault, Entry, Judgement, What};
 use call_tree::{Calls, Mark, Side};
 use cell_value::{Cells, Memory, WayOut};
 use persistent_store::Store;

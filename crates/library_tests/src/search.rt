@@ -1,6 +1,8 @@
 //! Sessions counted by hand from the rules of the search, and that memory suffices.
 
-use crate::{Entry, Judgement, Mark, Memory, SearchState, are_intervals, current_marks, search};
+use plain_search::{
+    Entry, Judgement, Mark, Memory, SearchState, are_intervals, current_marks, search,
+};
 use std::alloc::Global;
 use std::process::Abort;
 use std::test::Fail;

@@ -2,8 +2,8 @@
 ghost use Rattle.std.specs.Prelude.{◌≡◌, ◌≤◌};
 ghost use Rattle.cell_value.specs.Effects.{IsCountable, made_by, taken_by};
 
-use crate::{Footprint, Log, effect};
 use cell_value::{Change, Memory, Seen, SetBits, Touch, Value};
+use effect_log::{Changes, Footprint, Log, Reads, effect};
 use std::alloc::Global;
 use std::test::Fail;
 
@@ -161,10 +161,10 @@ fn one_after_another(rt: HostRuntime) -> Result<(), Fail> {
 #[test]
 fn lists_in_order(rt: HostRuntime) -> Result<(), Fail> {
     let alloc = rt.alloc();
-    let mut reads = crate::Reads::new(alloc);
+    let mut reads = Reads::new(alloc);
     reads.push((3, Seen::There))?;
     assert_eq!(rt; reads.at(0), (3, Seen::There));
-    let mut changes = crate::Changes::new(alloc);
+    let mut changes = Changes::new(alloc);
     changes.push((4, Change::Gone))?;
     assert_eq!(rt; changes.at(0), (4, Change::Gone));
     Ok(())

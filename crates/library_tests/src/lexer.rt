@@ -2,8 +2,7 @@
 
 ghost use Rattle.std.specs.Prelude.{◌≤◌, length};
 
-use crate::kinds::LexFault;
-use crate::lexing::{MAX_SOURCE_BYTES, lex};
+use pas_lexer::{LexFault, MAX_SOURCE_BYTES, lex};
 use std::alloc::Global;
 use std::fmt::Write;
 use std::test::*;

@@ -1,5 +1,5 @@
 //! That what takes memory can succeed, with its answers.
-use crate::{Calls, Event, Events, Side};
+use call_tree::{Calls, Event, Events, Side};
 use cell_value::{Cells, Value, WayOut};
 use persistent_store::Store;
 use std::test::Fail;

@@ -3,9 +3,9 @@
 ghost use Rattle.std.specs.Prelude.{◌≡◌, length, IsTrue};
 ghost use Rattle.weight_lanes.specs.Places.{AreWeighed};
 
-use crate::{Choice, best_both_ways, last_set_both_ways, next_of_both_ways};
 use std::process::Abort;
 use std::test::*;
+use weight_lanes::{Choice, best_both_ways, last_set_both_ways, next_of_both_ways};
 
 fn are_weighed(weights: &[u32], askable: &[u8], total: u32) -> bool
     requires { length weights.now ≡ length askable.now }

@@ -2,8 +2,8 @@
 //! store fit and go away again, and that the trie and the whole map answer alike.
 ghost use Rattle.std.specs.Prelude.{◌<◌};
 
-use crate::{Store, WholeMap};
 use cell_value::{SetBits, Steps, Value};
+use persistent_store::{Store, WholeMap};
 use std::alloc::{AllocError, Global};
 use std::test::Fail;
 
