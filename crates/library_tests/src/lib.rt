@@ -1,5 +1,6 @@
 //! Tests of the libraries of values, stores, logs, calls and searches: that each call that takes memory answers with
-//! ample memory, and results found by hand. They stand here together, since a crate with tests of its own is proved twice.
+//! ample memory, and results found by hand. They stand here together, since a crate with tests of its own is proved
+//! twice.
 #![tactic(auto)]
 
 #[cfg(test)]
