@@ -29,7 +29,7 @@ use pas_phrases::constants::read_constants;
 use pas_phrases::lists::{Part, read_list};
 use pas_phrases::looking::TerminalList;
 use pas_phrases::operators::expect_direction;
-use pas_phrases::separators::{is_next_case, read_last_semicolon};
+use pas_phrases::separators::{expect_else, is_next_case, read_last_semicolon};
 use pas_tree::expressions::Access;
 use pas_tree::statements::{
     Actual, Actuals, Assignment, Branch, Case, Compound, Else, For, If, Label, NextAccess,
@@ -407,7 +407,7 @@ fn read_else(
         (read pascal depth (alternative_rule inner (closer_of closer)) (items_from tokens.now at)) }
     ensures forward { IfOk result (λ x. at < x.1) }
 {
-    let (word, after) = tokens.expect(at, Terminal::WElse)?;
+    let (word, after) = expect_else(tokens, at)?;
     let (statement, after) = read_statement(alloc, tokens, after, depth, inner, closer)?;
     Ok((Else { word, statement }, after))
 }

@@ -1,8 +1,9 @@
-//! The separators of a series.
+//! The separators of a series, and the word between the two statements of an if statement.
 
-ghost use Rattle.std.specs.Prelude.{◌≡◌, ◌≤◌, ◌<◌, length, IfOk, IsTrue};
+ghost use Rattle.std.specs.Prelude.{◌≡◌, ◌≤◌, ◌<◌, [], ◌∷◌, length, IfOk, IsTrue};
 ghost use Rattle.grammar.specs.declared.terminals.Terminal.TheVariants as k;
-ghost use Rattle.grammar.specs.Reading.{read};
+ghost use Rattle.grammar.specs.Nodes.{leaf};
+ghost use Rattle.grammar.specs.Reading.{read, token_at};
 ghost use Rattle.pas_tree.specs.Denoters.{last_semicolon_node};
 ghost use Rattle.pas_tree.specs.FirstFollow.{pascal};
 ghost use Rattle.pas_tree.specs.Rules.{constant_starts};
@@ -46,4 +47,12 @@ pub fn is_next_case(tokens: &TerminalList, at: u32) -> bool
             Terminal::Text,
         ],
     )
+}
+
+/// Takes the word `else` of an if statement, which has one at most (6.8.3.4).
+pub fn expect_else(tokens: &TerminalList, at: u32) -> Result<(u32, u32), ParseFault>
+    ensures gives { ReadsAs tokens.now (leaf k.WElse) result (token_at (k.WElse ∷ []) (items_from tokens.now at)) }
+    ensures forward { IfOk result (λ x. at < x.1) }
+{
+    tokens.expect(at, Terminal::WElse)
 }

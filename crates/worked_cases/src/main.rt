@@ -1,5 +1,5 @@
-//! Runs worked cases. A case is what is given to the command, or to the parser, and what has to come of it, and is held
-//! in files of a folder. The file `index` names the files of cases, each after the word for its kind: `command` or
+//! Runs worked cases. A case is what is given to the command, and what has to come of it, and is held in files of
+//! a folder. The file `index` names the files of cases, each after the word for its kind: `command` or
 //! `sources`. The program prints a line for each case and each difference in full, and fails where there is one.
 //!
 //! Its one argument is the folder, `.` where there is none.
@@ -9,7 +9,6 @@ mod case;
 mod comparing;
 mod escapes;
 mod folder;
-mod parser;
 mod reading;
 mod running;
 mod sections;

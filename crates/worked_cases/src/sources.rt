@@ -4,7 +4,6 @@ use crate::case::{Case, File, Wanted};
 use crate::comparing::differences;
 use crate::escapes::unescaped;
 use crate::folder::Folder;
-use crate::parser::parser_answer;
 use anyhow::{Context, Result, bail, ensure};
 use std::alloc::Global;
 use std::rt::Files;
@@ -13,7 +12,20 @@ use std::str;
 /// The exit status of a source that is refused.
 const REFUSED: u8 = 3;
 
-/// A source, and what the command and the parser are to make of it. `why` is `taken`, or the reason for which it is
+/// Why a source is refused that is not the text of a program.
+const BEFORE_THE_RULES: [&str; 9] = [
+    "BadByte",
+    "OpenComment",
+    "OpenString",
+    "EmptyString",
+    "RealWord",
+    "TooLarge",
+    "Joined",
+    "NotProgram",
+    "TooDeep",
+];
+
+/// A source, and what the command is to make of it. `why` is `taken`, or the reason for which it is
 /// refused at the byte and the line.
 #[derive(Drop)]
 struct Row {
@@ -110,37 +122,18 @@ fn read_row(alloc: Global, text: &str) -> Result<Row> {
     })
 }
 
-/// What differs, in full: nothing where parser and command make of the source what the row says.
+/// What differs, in full: nothing where the command makes of the source what the row says.
 fn difference(alloc: Global, row: Row) -> Result<Vec<u8>> {
-    let wanted = wanted_of_parser(alloc, &row)?;
-    let answer = parser_answer(alloc, &row.source)?;
-    let mut text = differences(alloc, &command_case(alloc, row)?)?;
-    if wanted.as_str() != answer.as_str() {
-        let line = format!(in alloc; "  the parser is to say: {wanted}\n  it says: {answer}\n")?;
-        text.extend_from_slice(line.as_bytes())?;
-    }
-    Ok(text)
+    differences(alloc, &command_case(alloc, row)?)
 }
 
-/// What the parser is to say. Of a source that it takes a later rule may refuse a part.
-fn wanted_of_parser(alloc: Global, row: &Row) -> Result<String> {
-    let why = row.why.as_str();
-    let byte = row.byte;
-    Ok(match why {
-        "NotProgram" | "TooDeep" => format!(in alloc; "{why}, byte {byte}")?,
-        "BadByte" | "Joined" | "TooLarge" | "RealWord" => "no tokens".to_string(alloc)?,
-        "OpenComment" | "OpenString" | "EmptyString" => "no tokens".to_string(alloc)?,
-        _ => "taken".to_string(alloc)?,
-    })
-}
-
-/// The run of the command on the source of a row, on a console without lines. A source that the parser takes is not
-/// refused by the grammar.
+/// The run of the command on the source of a row, on a console without lines. A source that is taken is refused neither
+/// for its pieces nor by the grammar.
 fn command_case(alloc: Global, row: Row) -> Result<Case> {
     let mut case = Case::new(alloc, "")?;
     if row.why.as_str() == "taken" {
-        for beginning in ["refused: NotProgram", "refused: TooDeep"] {
-            let beginning = beginning.as_bytes().to_vec(alloc)?;
+        for why in BEFORE_THE_RULES {
+            let beginning = format!(in alloc; "refused: {why}")?.into_bytes();
             case.wanted.push(Wanted::OtherBeginning(beginning))?;
         }
     } else {
