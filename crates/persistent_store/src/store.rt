@@ -46,6 +46,8 @@ impl Store {
     }
 
     /// The value at the address, and `None` where the map has none. It takes no memory.
+    // A value takes 40 bytes, and a call would hand it over through memory.
+    #[inline(always)]
     pub fn get(&self, addr: u32) -> Option<Value>
         requires { addr < 1048576 }
         ensures { result ≡ map.get self.now addr }

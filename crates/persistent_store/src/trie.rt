@@ -1,7 +1,8 @@
 //! The trie under a root: five levels of nodes, which are told apart by their types.
 ghost use Rattle.std.specs.Prelude.{◌≡◌, ◌+◌, ◌/◌, ◌%◌, ◌<◌, ◌≤◌, IfOk, OnOk, OnErr, Some, option_copied};
 ghost use Rattle.persistent_store.specs.Cells.{value_of};
-ghost use Rattle.persistent_store.specs.Nodes.{cell_at, entry_at, in_level1, in_level2, in_level3, target_of, ChangesAt};
+ghost use Rattle.persistent_store.specs.Nodes.{cell_at, entry_at, in_level1, in_level2, in_level3, target_of};
+ghost use Rattle.persistent_store.specs.Nodes.{ChangesAt};
 
 use crate::cells::Cell;
 use crate::nodes::{Branch, Leaf, sole, target};
@@ -19,46 +20,18 @@ type Level3 = Branch<Level2>;
 /// The node at the root of a trie of five levels.
 pub(crate) type Root = Branch<Level3>;
 
-/// The place of an address in the node of each level: its five digits in base sixteen.
-#[derive(Clone, Copy)]
-struct Places {
-    root: usize,
-    level3: usize,
-    level2: usize,
-    level1: usize,
-    leaf: usize,
-}
-
-impl Places {
-    fn of(addr: u32) -> Places
-        ensures root { result.root ≡ addr / 65536 }
-        ensures level3 { result.level3 ≡ addr % 65536 / 4096 }
-        ensures level2 { result.level2 ≡ addr % 65536 % 4096 / 256 }
-        ensures level1 { result.level1 ≡ addr % 65536 % 4096 % 256 / 16 }
-        ensures leaf { result.leaf ≡ addr % 65536 % 4096 % 256 % 16 }
-    {
-        let addr = addr as usize;
-        Places {
-            root: addr / 65536,
-            level3: addr % 65536 / 4096,
-            level2: addr % 4096 / 256,
-            level1: addr % 256 / 16,
-            leaf: addr % 16,
-        }
-    }
-}
-
 /// What the trie has at an address.
+#[inline(always)]
 pub(crate) fn cell_of(root: Option<&Root>, addr: u32) -> Option<Value>
     requires { addr < 1048576 }
     ensures { result ≡ cell_at (option_copied root.entry) addr }
 {
-    let places = Places::of(addr);
-    let level3 = Branch::at(root, places.root);
-    let level2 = Branch::at(level3, places.level3);
-    let level1 = Branch::at(level2, places.level2);
-    let leaf = Branch::at(level1, places.level1);
-    Leaf::at(leaf, places.leaf)
+    let addr = addr as usize;
+    let level3 = Branch::at(root, addr / 65536);
+    let level2 = Branch::at(level3, addr % 65536 / 4096);
+    let level1 = Branch::at(level2, addr % 65536 % 4096 / 256);
+    let leaf = Branch::at(level1, addr % 65536 % 4096 % 256 / 16);
+    Leaf::at(leaf, addr % 65536 % 4096 % 256 % 16)
 }
 
 /// Makes the node of level 1 that has this cell at the address, and elsewhere what `old` has. It shares with `old`
@@ -71,8 +44,8 @@ fn changed_level1<L>(
     made: &mut Steps<L>,
 ) -> Result<Rc<Level1>, Memory>
     requires { addr < 256 }
-    ensures changed { IfOk result (λ new. ChangesAt (in_level1 (option_copied old.entry)) (in_level1 (Some new.value)) addr
-        (value_of cell)) }
+    ensures changed { IfOk result (λ new. ChangesAt (in_level1 (option_copied old.entry)) (in_level1 (Some new.value))
+        addr (value_of cell)) }
     ensures made_rises { made.old ≤ made.new }
     ensures two_nodes { made.new ≤ made.old + 2 }
 {
@@ -89,8 +62,8 @@ fn changed_level2<L>(
     made: &mut Steps<L>,
 ) -> Result<Rc<Level2>, Memory>
     requires { addr < 4096 }
-    ensures changed { IfOk result (λ new. ChangesAt (in_level2 (option_copied old.entry)) (in_level2 (Some new.value)) addr
-        (value_of cell)) }
+    ensures changed { IfOk result (λ new. ChangesAt (in_level2 (option_copied old.entry)) (in_level2 (Some new.value))
+        addr (value_of cell)) }
     ensures made_rises { made.old ≤ made.new }
     ensures three_nodes { made.new ≤ made.old + 3 }
 {
@@ -107,8 +80,8 @@ fn changed_level3<L>(
     made: &mut Steps<L>,
 ) -> Result<Rc<Level3>, Memory>
     requires { addr < 65536 }
-    ensures changed { IfOk result (λ new. ChangesAt (in_level3 (option_copied old.entry)) (in_level3 (Some new.value)) addr
-        (value_of cell)) }
+    ensures changed { IfOk result (λ new. ChangesAt (in_level3 (option_copied old.entry)) (in_level3 (Some new.value))
+        addr (value_of cell)) }
     ensures made_rises { made.old ≤ made.new }
     ensures four_nodes { made.new ≤ made.old + 4 }
 {
@@ -125,8 +98,8 @@ fn changed_root<L>(
     made: &mut Steps<L>,
 ) -> Result<Rc<Root>, Memory>
     requires { addr < 1048576 }
-    ensures changed { IfOk result (λ new. ChangesAt (cell_at (option_copied old.entry)) (cell_at (Some new.value)) addr
-        (value_of cell)) }
+    ensures changed { IfOk result (λ new. ChangesAt (cell_at (option_copied old.entry)) (cell_at (Some new.value))
+        addr (value_of cell)) }
     ensures made_rises { made.old ≤ made.new }
     ensures five_nodes { made.new ≤ made.old + 5 }
 {
@@ -178,8 +151,8 @@ fn write_level1<L>(
     made: &mut Steps<L>,
 ) -> Result<(), Memory>
     requires { addr < 256 }
-    ensures written { OnOk result (ChangesAt (in_level1 (target_of pointer.old)) (in_level1 (target_of pointer.new)) addr
-        (value_of cell)) }
+    ensures written { OnOk result (ChangesAt (in_level1 (target_of pointer.old)) (in_level1 (target_of pointer.new))
+        addr (value_of cell)) }
     ensures unchanged { OnErr result (target_of pointer.new ≡ target_of pointer.old) }
     ensures made_rises { made.old ≤ made.new }
     ensures two_nodes { made.new ≤ made.old + 2 }
@@ -205,8 +178,8 @@ fn write_level2<L>(
     made: &mut Steps<L>,
 ) -> Result<(), Memory>
     requires { addr < 4096 }
-    ensures written { OnOk result (ChangesAt (in_level2 (target_of pointer.old)) (in_level2 (target_of pointer.new)) addr
-        (value_of cell)) }
+    ensures written { OnOk result (ChangesAt (in_level2 (target_of pointer.old)) (in_level2 (target_of pointer.new))
+        addr (value_of cell)) }
     ensures unchanged { OnErr result (target_of pointer.new ≡ target_of pointer.old) }
     ensures made_rises { made.old ≤ made.new }
     ensures three_nodes { made.new ≤ made.old + 3 }
@@ -232,8 +205,8 @@ fn write_level3<L>(
     made: &mut Steps<L>,
 ) -> Result<(), Memory>
     requires { addr < 65536 }
-    ensures written { OnOk result (ChangesAt (in_level3 (target_of pointer.old)) (in_level3 (target_of pointer.new)) addr
-        (value_of cell)) }
+    ensures written { OnOk result (ChangesAt (in_level3 (target_of pointer.old)) (in_level3 (target_of pointer.new))
+        addr (value_of cell)) }
     ensures unchanged { OnErr result (target_of pointer.new ≡ target_of pointer.old) }
     ensures made_rises { made.old ≤ made.new }
     ensures four_nodes { made.new ≤ made.old + 4 }
@@ -259,8 +232,8 @@ pub(crate) fn write_root<L>(
     made: &mut Steps<L>,
 ) -> Result<(), Memory>
     requires { addr < 1048576 }
-    ensures written { OnOk result (ChangesAt (cell_at (target_of pointer.old)) (cell_at (target_of pointer.new)) addr
-        (value_of cell)) }
+    ensures written { OnOk result (ChangesAt (cell_at (target_of pointer.old)) (cell_at (target_of pointer.new))
+        addr (value_of cell)) }
     ensures unchanged { OnErr result (target_of pointer.new ≡ target_of pointer.old) }
     ensures made_rises { made.old ≤ made.new }
     ensures five_nodes { made.new ≤ made.old + 5 }
