@@ -1,7 +1,7 @@
 -- Lemmas on the nodes of the trie.
 use Rattle.std.proofs.Common.{◌≡◌, ℕ, ◌/◌, ◌%◌, ◌<◌, List, [], ◌∷◌, length, get_or, set, Option, Some, None, refl, ap, sym, subst, ◌∙◌, arith, cond, true}
 use Rattle.std.proofs.Common.{false, inl, inr, Bool}
-use Rattle.std.specs.Prelude.{◌==◌, IfNone}
+use Rattle.std.specs.Prelude.{◌==◌, Result, Ok, Err, OnErr}
 use Rattle.std.specs.List.{AllZip}
 use Rattle.std.specs.declared.rc.Rc.{Rc}
 use Rattle.std.proofs.lemmas.Bool.Decides.{eqb_tells, nat_tests}
@@ -135,9 +135,9 @@ written_below span find_below p ps i addr d q cell place is inside there =
     rw (target_of-with_target p (targets ps) ys is) (found_in-changed span find_below (target_of p) (Some ys) addr (target_of q) cell
     (change_at _ _ i (addr / span) (target_of q) place here) below_place)
 
-pub if_none : {T : Type 0} {P : Type 0} (o : Option T) → P → IfNone o P
-if_none (Some x) h = tt
-if_none None h = h
+pub on_err : {T E : Type 0} {P : Type 0} (r : Result T E) → P → OnErr r P
+on_err (Ok x) h = tt
+on_err (Err e) h = h
 
 -- ---- the cells of a leaf
 

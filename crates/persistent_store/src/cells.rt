@@ -64,6 +64,7 @@ impl Cell {
     }
 
     /// The value of the cell.
+    #[inline(always)]
     pub(crate) fn value(&self) -> Option<Value>
         ensures { result ≡ value_of self.now }
     {

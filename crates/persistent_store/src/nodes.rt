@@ -33,6 +33,7 @@ impl Model for Leaf {
 
 impl Leaf {
     /// The value of the cell at a place.
+    #[inline(always)]
     pub(crate) fn at(leaf: Option<&Leaf>, place: usize) -> Option<Value>
         requires { place < 16 }
         ensures { result ≡ entry_at (option_copied leaf.entry) place }
@@ -94,6 +95,7 @@ impl<T> Model for Branch<T> {
 
 impl<T: Drop> Branch<T> {
     /// The node at a place.
+    #[inline(always)]
     pub(crate) fn at(branch: Option<&Branch<T>>, place: usize) -> Option<&T>
         requires { place < 16 }
         ensures { option_copied result ≡ entry_at (option_copied branch.entry) place }

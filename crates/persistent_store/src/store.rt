@@ -5,7 +5,7 @@ ghost use Rattle.persistent_store.specs.Addresses.{with_cell};
 
 use crate::cells::Cell;
 use crate::nodes::target;
-use crate::trie::{Root, cell_of, changed, written_in_place};
+use crate::trie::{Root, cell_of, write_root};
 use cell_value::{Memory, Steps, Value};
 use std::alloc::Global;
 use std::marker::Model;
@@ -46,6 +46,8 @@ impl Store {
     }
 
     /// The value at the address, and `None` where the map has none. It takes no memory.
+    // A value takes 40 bytes, and a call would hand it over through memory.
+    #[inline(always)]
     pub fn get(&self, addr: u32) -> Option<Value>
         requires { addr < 1048576 }
         ensures { result ≡ map.get self.now addr }
@@ -60,9 +62,8 @@ impl Store {
         let _root = &self.root;
     }
 
-    /// Sets or removes the value at an address: in place where the store is the only owner of each node on the way to
-    /// it, and
-    /// else by new nodes for that way.
+    /// Sets or removes the value at an address: in place as far as the store is the only owner of the nodes on the way
+    /// to it, and below that by new nodes.
     fn write<L>(
         &mut self,
         alloc: Global,
@@ -76,18 +77,9 @@ impl Store {
         ensures made_rises { made.old ≤ made.new }
         ensures five_nodes { made.new ≤ made.old + 5 }
     {
-        let mut cell = Cell::of(alloc, value)?;
-        match written_in_place(&mut self.root, addr, &mut cell) {
-            Some(()) => {
-                drop(cell);
-                Ok(())
-            }
-            None => {
-                let root = changed(alloc, target(&self.root), addr, cell, made)?;
-                self.root = Some(root);
-                Ok(())
-            }
-        }
+        let cell = Cell::of(alloc, value)?;
+        write_root(alloc, &mut self.root, addr as usize, cell, made)?;
+        Ok(())
     }
 
     /// Sets the value at the address. After `Memory` the map is as it was. Each step of `made` is a node

@@ -1,13 +1,13 @@
 //! The trie under a root: five levels of nodes, which are told apart by their types.
-ghost use Rattle.std.specs.Prelude.{◌≡◌, ◌+◌, ◌/◌, ◌%◌, ◌<◌, ◌≤◌, IfOk, OnSome, IfNone, Some, option_copied};
+ghost use Rattle.std.specs.Prelude.{◌≡◌, ◌+◌, ◌/◌, ◌%◌, ◌<◌, ◌≤◌, IfOk, OnOk, OnErr, Some, option_copied};
 ghost use Rattle.persistent_store.specs.Cells.{value_of};
-ghost use Rattle.persistent_store.specs.Nodes.{cell_at, target_of, ChangesAt};
+ghost use Rattle.persistent_store.specs.Nodes.{cell_at, entry_at, in_level1, in_level2, in_level3, target_of};
+ghost use Rattle.persistent_store.specs.Nodes.{ChangesAt};
 
 use crate::cells::Cell;
-use crate::nodes::{Branch, Leaf, sole};
+use crate::nodes::{Branch, Leaf, sole, target};
 use cell_value::{Memory, Steps, Value};
 use std::alloc::Global;
-use std::mem;
 use std::rc::Rc;
 
 /// The nodes of the levels above the leaves, the lowest first.
@@ -20,94 +20,238 @@ type Level3 = Branch<Level2>;
 /// The node at the root of a trie of five levels.
 pub(crate) type Root = Branch<Level3>;
 
-/// The place of an address in the node of each level: its five digits in base sixteen.
-#[derive(Clone, Copy)]
-struct Places {
-    root: usize,
-    level3: usize,
-    level2: usize,
-    level1: usize,
-    leaf: usize,
-}
-
-impl Places {
-    fn of(addr: u32) -> Places
-        ensures root { result.root ≡ addr / 65536 }
-        ensures level3 { result.level3 ≡ addr % 65536 / 4096 }
-        ensures level2 { result.level2 ≡ addr % 65536 % 4096 / 256 }
-        ensures level1 { result.level1 ≡ addr % 65536 % 4096 % 256 / 16 }
-        ensures leaf { result.leaf ≡ addr % 65536 % 4096 % 256 % 16 }
-    {
-        let addr = addr as usize;
-        Places {
-            root: addr / 65536,
-            level3: addr % 65536 / 4096,
-            level2: addr % 4096 / 256,
-            level1: addr % 256 / 16,
-            leaf: addr % 16,
-        }
-    }
-}
-
 /// What the trie has at an address.
+#[inline(always)]
 pub(crate) fn cell_of(root: Option<&Root>, addr: u32) -> Option<Value>
     requires { addr < 1048576 }
     ensures { result ≡ cell_at (option_copied root.entry) addr }
 {
-    let places = Places::of(addr);
-    let level3 = Branch::at(root, places.root);
-    let level2 = Branch::at(level3, places.level3);
-    let level1 = Branch::at(level2, places.level2);
-    let leaf = Branch::at(level1, places.level1);
-    Leaf::at(leaf, places.leaf)
+    let addr = addr as usize;
+    let level3 = Branch::at(root, addr / 65536);
+    let level2 = Branch::at(level3, addr % 65536 / 4096);
+    let level1 = Branch::at(level2, addr % 65536 % 4096 / 256);
+    let leaf = Branch::at(level1, addr % 65536 % 4096 % 256 / 16);
+    Leaf::at(leaf, addr % 65536 % 4096 % 256 % 16)
 }
 
-/// Makes the trie that has this cell at the address, and elsewhere what the trie at `root` has. It
-/// shares with that trie every node that is not on the way to the address.
-pub(crate) fn changed<L>(
+/// Makes the node of level 1 that has this cell at the address, and elsewhere what `old` has. It shares with `old`
+/// every node that is not on the way to the address, and each step taken is a node made.
+fn changed_level1<L>(
     alloc: Global,
-    root: Option<&Root>,
-    addr: u32,
+    old: Option<&Level1>,
+    addr: usize,
+    cell: Cell,
+    made: &mut Steps<L>,
+) -> Result<Rc<Level1>, Memory>
+    requires { addr < 256 }
+    ensures changed { IfOk result (λ new. ChangesAt (in_level1 (option_copied old.entry)) (in_level1 (Some new.value))
+        addr (value_of cell)) }
+    ensures made_rises { made.old ≤ made.new }
+    ensures two_nodes { made.new ≤ made.old + 2 }
+{
+    let leaf = Leaf::changed(alloc, Branch::at(old, addr / 16), addr % 16, cell, made)?;
+    Branch::changed(alloc, old, addr / 16, leaf, made)
+}
+
+/// The same of level 2.
+fn changed_level2<L>(
+    alloc: Global,
+    old: Option<&Level2>,
+    addr: usize,
+    cell: Cell,
+    made: &mut Steps<L>,
+) -> Result<Rc<Level2>, Memory>
+    requires { addr < 4096 }
+    ensures changed { IfOk result (λ new. ChangesAt (in_level2 (option_copied old.entry)) (in_level2 (Some new.value))
+        addr (value_of cell)) }
+    ensures made_rises { made.old ≤ made.new }
+    ensures three_nodes { made.new ≤ made.old + 3 }
+{
+    let level1 = changed_level1(alloc, Branch::at(old, addr / 256), addr % 256, cell, made)?;
+    Branch::changed(alloc, old, addr / 256, level1, made)
+}
+
+/// The same of level 3.
+fn changed_level3<L>(
+    alloc: Global,
+    old: Option<&Level3>,
+    addr: usize,
+    cell: Cell,
+    made: &mut Steps<L>,
+) -> Result<Rc<Level3>, Memory>
+    requires { addr < 65536 }
+    ensures changed { IfOk result (λ new. ChangesAt (in_level3 (option_copied old.entry)) (in_level3 (Some new.value))
+        addr (value_of cell)) }
+    ensures made_rises { made.old ≤ made.new }
+    ensures four_nodes { made.new ≤ made.old + 4 }
+{
+    let level2 = changed_level2(alloc, Branch::at(old, addr / 4096), addr % 4096, cell, made)?;
+    Branch::changed(alloc, old, addr / 4096, level2, made)
+}
+
+/// The same of the root.
+fn changed_root<L>(
+    alloc: Global,
+    old: Option<&Root>,
+    addr: usize,
     cell: Cell,
     made: &mut Steps<L>,
 ) -> Result<Rc<Root>, Memory>
     requires { addr < 1048576 }
-    ensures changed { IfOk result (λ new. ChangesAt (cell_at (option_copied root.entry)) (cell_at (Some new.value))
+    ensures changed { IfOk result (λ new. ChangesAt (cell_at (option_copied old.entry)) (cell_at (Some new.value))
         addr (value_of cell)) }
     ensures made_rises { made.old ≤ made.new }
     ensures five_nodes { made.new ≤ made.old + 5 }
 {
-    let places = Places::of(addr);
-    let level3 = Branch::at(root, places.root);
-    let level2 = Branch::at(level3, places.level3);
-    let level1 = Branch::at(level2, places.level2);
-    let leaf = Branch::at(level1, places.level1);
-    let new_leaf = Leaf::changed(alloc, leaf, places.leaf, cell, made)?;
-    let new_level1 = Branch::changed(alloc, level1, places.level1, new_leaf, made)?;
-    let new_level2 = Branch::changed(alloc, level2, places.level2, new_level1, made)?;
-    let new_level3 = Branch::changed(alloc, level3, places.level3, new_level2, made)?;
-    Branch::changed(alloc, root, places.root, new_level3, made)
+    let level3 = changed_level3(
+        alloc,
+        Branch::at(old, addr / 65536),
+        addr % 65536,
+        cell,
+        made,
+    )?;
+    Branch::changed(alloc, old, addr / 65536, level3, made)
 }
 
-/// Writes a cell in place, where the nodes on the way to it are there and have no other owner, and
-/// changes nothing else. Where they are not, the cell is left as it was handed in.
-pub(crate) fn written_in_place(
-    root: &mut Option<Rc<Root>>,
-    addr: u32,
-    cell: &mut Cell,
-) -> Option<()>
-    requires { addr < 1048576 }
-    ensures written { OnSome result (ChangesAt (cell_at (target_of root.old)) (cell_at (target_of root.new)) addr
-        (value_of cell.old)) }
-    ensures unchanged { IfNone result (target_of root.new ≡ target_of root.old) }
-    ensures kept { IfNone result (cell.new ≡ cell.old) }
+/// Writes a cell of the leaf that a pointer leads to, in place where no other pointer leads to it, and else in a leaf
+/// made from it. Each step taken is a leaf made.
+fn write_leaf<L>(
+    alloc: Global,
+    pointer: &mut Option<Rc<Leaf>>,
+    place: usize,
+    cell: Cell,
+    made: &mut Steps<L>,
+) -> Result<(), Memory>
+    requires { place < 16 }
+    ensures written { OnOk result (ChangesAt (entry_at (target_of pointer.old)) (entry_at (target_of pointer.new)) place
+        (value_of cell)) }
+    ensures unchanged { OnErr result (target_of pointer.new ≡ target_of pointer.old) }
+    ensures made_rises { made.old ≤ made.new }
+    ensures one_node { made.new ≤ made.old + 1 }
 {
-    let places = Places::of(addr);
-    let root = sole(root)?;
-    let level3 = sole(&mut root.below[places.root])?;
-    let level2 = sole(&mut level3.below[places.level3])?;
-    let level1 = sole(&mut level2.below[places.level2])?;
-    let leaf = sole(&mut level1.below[places.level1])?;
-    leaf.cells[places.leaf] = mem::replace(cell, Cell::Absent);
-    Some(())
+    match sole(pointer) {
+        Some(leaf) => {
+            leaf.cells[place] = cell;
+            Ok(())
+        }
+        None => {
+            *pointer = Some(Leaf::changed(alloc, target(pointer), place, cell, made)?);
+            Ok(())
+        }
+    }
+}
+
+/// Writes a cell at an address below the node of level 1 that a pointer leads to. From the first node on that has
+/// another owner, or is not there, the way to the address is made anew, and each step taken is a node made.
+fn write_level1<L>(
+    alloc: Global,
+    pointer: &mut Option<Rc<Level1>>,
+    addr: usize,
+    cell: Cell,
+    made: &mut Steps<L>,
+) -> Result<(), Memory>
+    requires { addr < 256 }
+    ensures written { OnOk result (ChangesAt (in_level1 (target_of pointer.old)) (in_level1 (target_of pointer.new))
+        addr (value_of cell)) }
+    ensures unchanged { OnErr result (target_of pointer.new ≡ target_of pointer.old) }
+    ensures made_rises { made.old ≤ made.new }
+    ensures two_nodes { made.new ≤ made.old + 2 }
+{
+    match sole(pointer) {
+        Some(node) => {
+            write_leaf(alloc, &mut node.below[addr / 16], addr % 16, cell, made)?;
+            Ok(())
+        }
+        None => {
+            *pointer = Some(changed_level1(alloc, target(pointer), addr, cell, made)?);
+            Ok(())
+        }
+    }
+}
+
+/// The same of level 2.
+fn write_level2<L>(
+    alloc: Global,
+    pointer: &mut Option<Rc<Level2>>,
+    addr: usize,
+    cell: Cell,
+    made: &mut Steps<L>,
+) -> Result<(), Memory>
+    requires { addr < 4096 }
+    ensures written { OnOk result (ChangesAt (in_level2 (target_of pointer.old)) (in_level2 (target_of pointer.new))
+        addr (value_of cell)) }
+    ensures unchanged { OnErr result (target_of pointer.new ≡ target_of pointer.old) }
+    ensures made_rises { made.old ≤ made.new }
+    ensures three_nodes { made.new ≤ made.old + 3 }
+{
+    match sole(pointer) {
+        Some(node) => {
+            write_level1(alloc, &mut node.below[addr / 256], addr % 256, cell, made)?;
+            Ok(())
+        }
+        None => {
+            *pointer = Some(changed_level2(alloc, target(pointer), addr, cell, made)?);
+            Ok(())
+        }
+    }
+}
+
+/// The same of level 3.
+fn write_level3<L>(
+    alloc: Global,
+    pointer: &mut Option<Rc<Level3>>,
+    addr: usize,
+    cell: Cell,
+    made: &mut Steps<L>,
+) -> Result<(), Memory>
+    requires { addr < 65536 }
+    ensures written { OnOk result (ChangesAt (in_level3 (target_of pointer.old)) (in_level3 (target_of pointer.new))
+        addr (value_of cell)) }
+    ensures unchanged { OnErr result (target_of pointer.new ≡ target_of pointer.old) }
+    ensures made_rises { made.old ≤ made.new }
+    ensures four_nodes { made.new ≤ made.old + 4 }
+{
+    match sole(pointer) {
+        Some(node) => {
+            write_level2(alloc, &mut node.below[addr / 4096], addr % 4096, cell, made)?;
+            Ok(())
+        }
+        None => {
+            *pointer = Some(changed_level3(alloc, target(pointer), addr, cell, made)?);
+            Ok(())
+        }
+    }
+}
+
+/// The same of a trie under its root.
+pub(crate) fn write_root<L>(
+    alloc: Global,
+    pointer: &mut Option<Rc<Root>>,
+    addr: usize,
+    cell: Cell,
+    made: &mut Steps<L>,
+) -> Result<(), Memory>
+    requires { addr < 1048576 }
+    ensures written { OnOk result (ChangesAt (cell_at (target_of pointer.old)) (cell_at (target_of pointer.new))
+        addr (value_of cell)) }
+    ensures unchanged { OnErr result (target_of pointer.new ≡ target_of pointer.old) }
+    ensures made_rises { made.old ≤ made.new }
+    ensures five_nodes { made.new ≤ made.old + 5 }
+{
+    match sole(pointer) {
+        Some(node) => {
+            write_level3(
+                alloc,
+                &mut node.below[addr / 65536],
+                addr % 65536,
+                cell,
+                made,
+            )?;
+            Ok(())
+        }
+        None => {
+            *pointer = Some(changed_root(alloc, target(pointer), addr, cell, made)?);
+            Ok(())
+        }
+    }
 }
