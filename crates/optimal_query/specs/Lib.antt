@@ -1,3 +1,5 @@
 pub mod Region
 pub mod Question
 pub mod State
+pub mod Laws
+pub mod Narrowing

@@ -2,6 +2,7 @@
 //! 1983): what is asked next, and what the answers have narrowed the fault to.
 #![tactic(auto)]
 
+pub mod laws;
 pub mod plain;
 mod state;
 
