@@ -1,9 +1,9 @@
 -- There is a question wherever there is a suspect.
 use Rattle.std.proofs.Common.{◌≡◌, ℕ, suc, ◌<◌, ◌≤◌, Bool, true, false, cond, ◌&&◌, List, [], ◌∷◌, length, Option, Some, None, inl, inr, refl, ap, ◌∙◌, arith}
-use Rattle.std.specs.Prelude.{Contains, find, nat_le}
+use Rattle.std.specs.Prelude.{All, Contains, find, nat_le}
 use Rattle.std.specs.List.{AllByRecursion, list_all}
 use Rattle.std.proofs.lemmas.Bool.{both_ways, cases_order, le-leb}
-use Rattle.std.proofs.lemmas.List.Elements.{All-contains, All-from_recursion}
+use Rattle.std.proofs.lemmas.List.Elements.{All-contains, All-from_recursion, All-head, All-tail}
 use Rattle.std.proofs.lemmas.List.Sums.{count_by-le-length}
 use Rattle.optimal_query.specs.Question.{leaves_least, left_of, question_of, weight_of}
 use Rattle.optimal_query.specs.Region.{is_in}
@@ -78,3 +78,19 @@ no_question last suspects h = none_asked last suspects h
 pub at_most_all : (last suspects : List ℕ) (call : ℕ) → weight_of last suspects call ≤ length suspects
 unfolding weight_of
 at_most_all last suspects call = count_by-le-length (is_in last call) suspects
+
+found_case : (p : ℕ → Bool) (n x : ℕ) (o : Option ℕ) (call : ℕ) (b : Bool) → p x ≡ b → x < n → (o ≡ Some call → call < n) → cond b (Some x) o ≡ Some call
+    → call < n
+found_case p n x o call true is inside later h = let e : x ≡ call = cc in omega arith
+found_case p n x o call false is inside later h = later h
+
+found_inside : (p : ℕ → Bool) (n : ℕ) (xs : List ℕ) (call : ℕ) → All (λ x. x < n) xs → find p xs ≡ Some call → call < n
+found_inside p n [] call all h = absurd (let l : ⊥ = cc in l)
+found_inside p n (x ∷ xs) call all h =
+    found_case p n x (find p xs) call (p x) refl (All-head (λ x. x < n) x xs all)
+    (λ e. found_inside p n xs call (All-tail (λ x. x < n) x xs all) e) h
+
+-- the question is a call
+pub question_inside : (last suspects : List ℕ) (call n : ℕ) → All (λ x. x < n) suspects → question_of last suspects ≡ Some call → call < n
+unfolding question_of
+question_inside last suspects call n all h = found_inside (leaves_least last suspects) n suspects call all h

@@ -64,7 +64,7 @@ filter_same p q (suc n) agree =
     ∙ ap (λ l. l ++ cond (q n) (n ∷ []) []) (filter_same p q n (λ number h. agree number (omega arith)))
     ∙ sym (filter_suc q n)
 
-numbers_inside : (n : ℕ) → All (λ number. number < n) (numbers_below n)
+pub numbers_inside : (n : ℕ) → All (λ number. number < n) (numbers_below n)
 numbers_inside n = All-from_get_or (λ number. number < n) (numbers_below n) 0
     (λ i h. let inside : i < n = omega (arith, h, length-range_with_len 0 n) in omega (arith, inside, get_or-range_with_len 0 n i 0 inside))
 

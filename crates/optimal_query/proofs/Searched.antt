@@ -1,14 +1,17 @@
 -- What it takes to be searched, and to be a suspect or a doubt.
 use Rattle.std.proofs.Common.{◌≡◌, ℕ, zero, suc, ◌+◌, ◌<◌, ◌≤◌, Bool, true, false, not, ◌&&◌, List, length, Option, Some, None, inl, inr, refl, ap, arith}
-use Rattle.std.specs.Prelude.{Contains, filter, nat_lt, nat_le, slice_index}
+use Rattle.std.specs.Prelude.{All, Contains, filter, nat_lt, nat_le, slice_index}
 use Rattle.std.proofs.lemmas.Bool.{and_from, and_parts, both_ways, cases_eq, false_from_ne_true, le-leb, leb-true, lt-ltb, ltb-true, not-true, not_from_false}
+use Rattle.std.proofs.lemmas.List.Elements.{All-filter}
+use Rattle.std.proofs.lemmas.List.FromFn.{length-range_with_len}
+use Rattle.std.proofs.lemmas.List.Sums.{count_by-le-length, length-filter}
 use Rattle.call_tree.specs.Numbering.{IsNumbered}
 use Rattle.call_tree.specs.declared.records.Mark.{Mark}
 use Rattle.call_tree.specs.declared.records.Mark.TheVariants.{Unjudged, Right, Wrong, Unknown, Trusted}
 use Rattle.answer_book.specs.Clear.{is_clear, is_unjudged, is_unknown}
 use Rattle.answer_book.specs.Numbers.{numbers_below}
 use Rattle.optimal_query.specs.Region.{covers, doubts_of, is_below, is_cleared, is_in, is_searched, mark_at, suspects_of}
-use Rattle.optimal_query.proofs.PassingNumbers.{any_below, contains_of_passes, filter_filter, none_below, passes_of_contains}
+use Rattle.optimal_query.proofs.PassingNumbers.{any_below, contains_of_passes, filter_filter, none_below, numbers_inside, passes_of_contains}
 
 -- the call `above` is clear and has the call in its subtree
 pub record Covers (last : List ℕ) (marks : List Mark) (accused : Option ℕ) (call above : ℕ) : Type 0 where
@@ -154,3 +157,19 @@ pub below_between : (last : List ℕ) (accused : Option ℕ) (first middle end :
 below_between last None first middle end a b c d = refl
 below_between last (Some accused) first middle end a b c d =
     below_from last accused middle (omega (arith, (below_parts last accused first a).0)) (omega (arith, (below_parts last accused end b).1))
+
+-- the suspects are calls, and no more than there are
+pub suspects_inside : (last : List ℕ) (marks : List Mark) (accused : Option ℕ) → All (λ call. call < length last) (suspects_of last marks accused)
+suspects_inside last marks accused =
+    rw (suspects_are last marks accused)
+    (All-filter (is_marked is_unjudged last marks accused) (λ call. call < length last) (numbers_below (length last)) (numbers_inside (length last)))
+
+pub suspects_few : (last : List ℕ) (marks : List Mark) (accused : Option ℕ) → length (suspects_of last marks accused) ≤ length last
+suspects_few last marks accused =
+    rw (suspects_are last marks accused)
+    (omega (
+      arith,
+      length-filter (is_marked is_unjudged last marks accused) (numbers_below (length last)),
+      count_by-le-length (is_marked is_unjudged last marks accused) (numbers_below (length last)),
+      length-range_with_len 0 (length last),
+    ))

@@ -3,3 +3,5 @@ pub mod Question
 pub mod State
 pub mod Laws
 pub mod Narrowing
+pub mod Search
+pub mod PlainKept

@@ -4,6 +4,8 @@
 
 pub mod laws;
 pub mod plain;
+mod plain_debug;
 mod state;
 
+pub use plain_debug::PlainDebug;
 pub use state::State;
