@@ -1,0 +1,9 @@
+mod Totals
+mod Intervals
+mod SuspectTests
+mod WeightsAreTotals
+mod SumsOfChildren
+mod ChildChanged
+mod CarriedUp
+mod CountedDown
+mod KeptLemmas
