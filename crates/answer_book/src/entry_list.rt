@@ -17,7 +17,7 @@ const MOST_ENTRIES: usize = 100_000;
 
 /// At most 100,000 entries, with room for all of them from the start. Clauses see the list.
 #[derive(Drop)]
-pub(crate) struct EntryList {
+pub struct EntryList {
     items: Vec<Entry>,
 }
 

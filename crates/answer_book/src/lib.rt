@@ -9,3 +9,4 @@ mod judged_calls;
 
 pub use book::Book;
 pub use entries::{BookFault, Entry, Judgement, What};
+pub use entry_list::EntryList;

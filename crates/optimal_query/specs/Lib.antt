@@ -1,3 +1,7 @@
 pub mod Region
 pub mod Question
 pub mod State
+pub mod Laws
+pub mod Narrowing
+pub mod Search
+pub mod PlainKept

@@ -2,7 +2,10 @@
 //! 1983): what is asked next, and what the answers have narrowed the fault to.
 #![tactic(auto)]
 
+pub mod laws;
 pub mod plain;
+mod plain_debug;
 mod state;
 
+pub use plain_debug::PlainDebug;
 pub use state::State;

@@ -5,7 +5,8 @@ ghost use Rattle.std.specs.Option.{ForSome};
 ghost use Rattle.answer_book.specs.Clear.{is_clear, is_unjudged, is_unknown};
 ghost use Rattle.optimal_query.specs.Question.{leaves_least, left_of, question_of, weight_of};
 ghost use Rattle.optimal_query.specs.Region.{doubts_of, is_below, is_cleared, is_in, is_searched, mark_at, suspects_of};
-ghost use Rattle.optimal_query.specs.State.{verdict_by};
+ghost use Rattle.optimal_query.specs.Region.{is_after, next_after};
+ghost use Rattle.optimal_query.specs.State.{state_with, verdict_by};
 
 use crate::state::State;
 use call_tree::Mark;
@@ -108,7 +109,9 @@ pub fn suspects(
     requires same_length { length marks.now ≡ length last.now }
     requires few { length last.now < 2 ^ 32 }
     requires accused_is_a_call { ForSome accused (λ accused. accused < length last.now) }
-    ensures { IfOk result (λ calls. calls.items ≡ suspects_of last.now marks.now accused) }
+    ensures suspects { IfOk result (λ calls. calls.items ≡ suspects_of last.now marks.now accused) }
+    ensures each { IfOk result (λ calls. All (λ call. call < length last.now) calls.items) }
+    ensures at_most_all { IfOk result (λ calls. length calls.items ≤ length last.now) }
 {
     let mut calls = Vec::new(alloc);
     for call in 0..last.len() as u32 {
@@ -198,4 +201,62 @@ pub fn verdict(accused: Option<u32>, doubts: &[u32]) -> State
         (None, []) => State::NothingWrong,
         (None, _) => State::Unclear,
     }
+}
+
+/// The state of the search.
+#[tactic(auto, unfolding(crate::specs::State::state_with))]
+pub fn state(
+    alloc: Global,
+    last: &[u32],
+    marks: &[Mark],
+    accused: Option<u32>,
+) -> Result<State, Memory>
+    requires same_length { length marks.now ≡ length last.now }
+    requires few { length last.now < 2 ^ 32 }
+    requires accused_is_a_call { ForSome accused (λ accused. accused < length last.now) }
+    ensures { IfOk result (λ state. state ≡ state_with last.now marks.now accused) }
+{
+    let suspects = suspects(alloc, last, marks, accused)?;
+    let doubts = doubts(alloc, last, marks, accused)?;
+    let state = match question(last, &suspects) {
+        Some(call) => State::Ask {
+            call,
+            weight: weight(last, &suspects, call),
+            suspects: suspects.len() as u32,
+            left: left(last, &suspects, call),
+        },
+        None => verdict(accused, &doubts),
+    };
+    Ok(state)
+}
+
+/// Whether the call comes after the one that is given.
+fn comes_after(before: Option<u32>, call: u32) -> bool
+    ensures { result ≡ is_after before call }
+{
+    match before {
+        None => true,
+        Some(before) => before < call,
+    }
+}
+
+/// The least doubt, or the least one after the call that is given.
+pub fn next_unknown(
+    alloc: Global,
+    last: &[u32],
+    marks: &[Mark],
+    accused: Option<u32>,
+    before: Option<u32>,
+) -> Result<Option<u32>, Memory>
+    requires same_length { length marks.now ≡ length last.now }
+    requires few { length last.now < 2 ^ 32 }
+    requires accused_is_a_call { ForSome accused (λ accused. accused < length last.now) }
+    ensures { IfOk result (λ call. call ≡ next_after (doubts_of last.now marks.now accused) before) }
+{
+    let doubts = doubts(alloc, last, marks, accused)?;
+    let next = doubts
+        .iter()
+        .copied()
+        .find(|call| comes_after(before, *call));
+    Ok(next)
 }

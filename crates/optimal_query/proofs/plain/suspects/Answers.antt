@@ -1,11 +1,20 @@
-use Rattle.std.proofs.Common.{◌≡◌, ℕ, Bool, List, [], ◌∷◌, ◌++◌, length, sym, ap, ◌∙◌, arith}
+use Rattle.std.proofs.Common.{◌≡◌, ℕ, Bool, List, Option, [], ◌∷◌, ◌++◌, length, sym, ap, ◌∙◌, arith}
 use Rattle.std.specs.Prelude.{filter}
+use Rattle.call_tree.specs.declared.records.Mark.{Mark}
 use Rattle.answer_book.specs.Clear.{is_unjudged}
 use Rattle.answer_book.specs.Numbers.{numbers_below}
 use Rattle.optimal_query.specs.Region.{suspects_of, is_searched, mark_at}
+use Rattle.optimal_query.proofs.Searched.{suspects_few, suspects_inside}
 use Rattle.optimal_query.proofs.Passed.{fails_one, passes_both}
 use Rattle.optimal_query.proofs.plain.suspects.Goals as goal
 use Rattle.optimal_query.proofs.plain.suspects.Goals.{then-is_suspect+in_ok-push, else-is_suspect}
+
+found : (last : List ℕ) (marks : List Mark) (accused : Option ℕ) (n : ℕ) → n ≡ length last → (items : List ℕ)
+    → items ≡ filter (λ call. is_unjudged (mark_at marks call)) (filter (is_searched last marks accused) (numbers_below n))
+    → items ≡ suspects_of last marks accused
+unfolding suspects_of
+found last marks accused n e items is =
+    is ∙ ap (λ m. filter (λ call. is_unjudged (mark_at marks call)) (filter (is_searched last marks accused) (numbers_below m))) e
 
 pub loop-call-preserved : goal.loop-call-preserved
 loop-call-preserved c =
@@ -20,9 +29,12 @@ loop-call-preserved c =
     ]
 
 pub returns : goal.returns
-unfolding suspects_of
 returns c =
-    let p : ℕ → Bool = λ call. is_unjudged (mark_at c.args.marks.now call) in
-    let q : ℕ → Bool = is_searched c.args.last.now c.args.marks.now c.args.accused in
-    let e : c.loop-call.call ≡ length c.args.last.now = omega arith in
-    c.loop-call.invariant ∙ ap (λ n. filter p (filter q (numbers_below n))) e
+    let last = c.args.last.now in
+    let marks = c.args.marks.now in
+    let is = found last marks c.args.accused c.loop-call.call (omega arith) c.loop-call.calls.items c.loop-call.invariant in
+    record {
+      suspects = is;
+      each = rw is (suspects_inside last marks c.args.accused);
+      at_most_all = rw is (suspects_few last marks c.args.accused);
+    }
