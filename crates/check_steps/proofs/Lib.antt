@@ -1,0 +1,6 @@
+pub mod Runs
+pub mod Order
+pub mod First
+pub mod Maps
+pub mod Outward
+pub mod NameLists

@@ -1,0 +1,126 @@
+-- What the tables of a check say.
+use Rattle.std.specs.Prelude.{ℕ, zero, suc, List, [], ◌∷◌, ◌++◌, Option, Some, None, length}
+use Rattle.std.specs.Prelude.{unwrap_or}
+use Rattle.std.specs.Prelude.{slice_get, slice_set}
+use Rattle.program_tables.specs.declared.rows.Row.{Row}
+use Rattle.program_tables.specs.declared.rows.TypeRow.{TypeRow}
+use Rattle.program_tables.specs.declared.program.Routine.{Routine}
+use Rattle.program_tables.specs.ProgramRows.{ProgramRows}
+use Rattle.program_tables.specs.ProgramRows as program
+use Rattle.check_steps.specs.declared.words.Spelled.{Spelled}
+use Rattle.check_steps.specs.declared.words.Spelled.TheVariants as spelled
+use Rattle.check_steps.specs.declared.words.Word.{Word}
+use Rattle.check_steps.specs.declared.regions.Definition.{Definition}
+use Rattle.check_steps.specs.declared.regions.Found.{Found}
+use Rattle.check_steps.specs.declared.regions.Frame.{Frame}
+use Rattle.check_steps.specs.declared.facts.Fact.{Fact}
+use Rattle.check_steps.specs.Regions.{RegionRows, region_at, fresh_region, defined_in, declared_in, or_else}
+
+pub record Known : Type 0 where
+  -- the spellings of names, each once; a name's number is its place here
+  pub names : List (List ℕ)
+  -- what each token spells
+  pub words : List Word
+  -- the program as far as it is known
+  pub program : ProgramRows
+  pub regions : List RegionRows
+  pub frames : List Frame
+  -- what is to be held against other parts of the program
+  pub facts : List Fact
+
+-- ---- words
+
+abbrev pub word_at : Known → ℕ → Word
+word_at k token = unwrap_or (slice_get k.words token) (record { spelled = spelled.Other; line = 0 })
+
+abbrev pub spelled_at : Known → ℕ → Spelled
+spelled_at k token = (word_at k token).spelled
+
+-- the line on which a token stands
+abbrev pub line_at : Known → ℕ → ℕ
+line_at k token = (word_at k token).line
+
+abbrev pub name_in : Spelled → ℕ
+name_in (spelled.Name name) = name
+name_in s = 0
+
+-- the number of the name that a token spells
+abbrev pub name_at : Known → ℕ → ℕ
+name_at k token = name_in (spelled_at k token)
+
+-- ---- rows
+
+abbrev pub row_at : Known → ℕ → Row
+row_at k number = program.row_at k.program number
+
+-- the type of a number, and none where a broken rule leaves it unknown
+abbrev pub type_at : Known → ℕ → Option TypeRow
+type_at k number = program.type_at k.program number
+
+abbrev pub with_row : Known → ℕ → Row → Known
+with_row k number r = record k { program = program.with_row k.program number r }
+
+abbrev pub with_routine : Known → ℕ → Routine → Known
+with_routine k number r = record k { program = program.with_routine k.program number r }
+
+-- one more routine
+abbrev pub and_routine : Known → Routine → Known
+and_routine k r = record k { program = record k.program { routines = k.program.routines ++ r ∷ [] } }
+
+-- ---- regions and frames
+
+-- one more frame
+abbrev pub and_frame : Known → Frame → Known
+and_frame k f = record k { frames = k.frames ++ f ∷ [] }
+
+-- one more region with its own frame
+abbrev pub and_region : Known → ℕ → Frame → Known
+and_region k token f = record k {
+  regions = k.regions ++ fresh_region token (length k.frames) ∷ [];
+  frames = k.frames ++ f ∷ [];
+}
+
+-- one more definition at the end of a region
+abbrev pub and_definition : Known → ℕ → ℕ → Definition → Known
+and_definition k r name d = let region = region_at k.regions r in
+    record k { regions = slice_set k.regions r (record region { names = region.names ++ (name, d) ∷ [] }) }
+
+-- one more label at the end of a region
+abbrev pub and_label : Known → ℕ → ℕ → ℕ → Known
+and_label k r value token = let region = region_at k.regions r in
+    record k { regions = slice_set k.regions r (record region { labels = region.labels ++ (value, token) ∷ [] }) }
+
+abbrev pub and_fact : Known → Fact → Known
+and_fact k f = record k { facts = k.facts ++ f ∷ [] }
+
+abbrev pub frame_at : Known → ℕ → Frame
+frame_at k n = unwrap_or (slice_get k.frames n) (record { region = 0; outer = None; level = 0; withs = 0 })
+
+abbrev pub found_with : ℕ → Option Definition → Option Found
+found_with frame None = None
+found_with frame (Some d) = Some (record { definition = d; frame = frame })
+
+-- what the region of a frame itself defines a name as
+abbrev pub found_in : Known → ℕ → ℕ → Option Found
+found_in k frame name = found_with frame (defined_in k.regions (frame_at k frame).region name)
+
+-- the definition in the closest of at most so many frames outward
+abbrev pub find_from : ℕ → Known → Option ℕ → ℕ → Option Found
+find_from n k None name = None
+find_from zero k (Some frame) name = None
+find_from (suc n) k (Some frame) name = or_else (found_in k frame name) (find_from n k (frame_at k frame).outer name)
+
+-- The definition in the closest region around that defines the name. No way outward has more frames than there are.
+abbrev pub find : Known → ℕ → ℕ → Option Found
+find k frame name = find_from (length k.frames) k (Some frame) name
+
+-- the same of labels
+abbrev pub find_label_from : ℕ → Known → Option ℕ → ℕ → Option ℕ
+find_label_from n k None value = None
+find_label_from zero k (Some frame) value = None
+find_label_from (suc n) k (Some frame) value = or_else (declared_in k.regions (frame_at k frame).region value)
+    (find_label_from n k (frame_at k frame).outer value)
+
+-- the token that declares a label of this value in the closest block around that does
+abbrev pub find_label : Known → ℕ → ℕ → Option ℕ
+find_label k frame value = find_label_from (length k.frames) k (Some frame) value

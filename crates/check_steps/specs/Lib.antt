@@ -1,0 +1,7 @@
+pub mod Breaks
+pub mod Regions
+pub mod Known
+pub mod Words
+pub mod Steps
+pub mod Names
+pub mod Required

@@ -1,0 +1,105 @@
+-- What the tokens of a source spell, and the numbers of names.
+use Rattle.std.specs.Prelude.{ℕ, ◌+◌, Bool, List, [], ◌∷◌, ◌++◌, map, fold, length, codes, position, Option, unwrap_or}
+use Rattle.std.specs.Prelude.{if◌then◌else◌, nat_eq}
+use Rattle.std.specs.Global.{Vec}
+use Rattle.std.specs.List.{list_any}
+use Rattle.std.specs.Cmp.Lexicographic.{pointwise}
+use Rattle.pas_lexer.specs.declared.kinds.Kind.{Kind}
+use Rattle.pas_lexer.specs.declared.kinds.Kind.TheVariants as kind
+use Rattle.pas_lexer.specs.declared.kinds.Token.{Token}
+use Rattle.pas_lexer.specs.Lexed.{Lexed, spelling_of, text_of}
+use Rattle.program_tables.specs.ProgramRows.{blank}
+use Rattle.check_steps.specs.declared.words.Spelled.{Spelled}
+use Rattle.check_steps.specs.declared.words.Spelled.TheVariants as spelled
+use Rattle.check_steps.specs.declared.words.Word.{Word}
+use Rattle.check_steps.specs.Known.{Known}
+
+-- the required names in the order of their numbers: types, constants, functions, procedures, text files
+abbrev pub required_types : List (List ℕ)
+required_types = codes "integer" ∷ codes "boolean" ∷ codes "char" ∷ []
+
+abbrev pub required_constants : List (List ℕ)
+required_constants = codes "false" ∷ codes "true" ∷ codes "maxint" ∷ []
+
+abbrev pub required_functions : List (List ℕ)
+required_functions = codes "abs" ∷ codes "sqr" ∷ codes "odd" ∷ codes "ord" ∷ codes "chr" ∷ codes "succ" ∷ codes "pred"
+    ∷ codes "eof" ∷ codes "eoln" ∷ []
+
+abbrev pub required_procedures : List (List ℕ)
+required_procedures = codes "read" ∷ codes "readln" ∷ codes "write" ∷ codes "writeln" ∷ codes "page" ∷ codes "new"
+    ∷ codes "dispose" ∷ codes "pack" ∷ codes "unpack" ∷ []
+
+abbrev pub required_files : List (List ℕ)
+required_files = codes "input" ∷ codes "output" ∷ []
+
+abbrev pub required_names : List (List ℕ)
+required_names = required_types ++ required_constants ++ required_functions ++ required_procedures ++ required_files
+
+-- ---- names
+
+abbrev pub same_name : List ℕ → List ℕ → Bool
+same_name a b = pointwise nat_eq a b
+
+-- these names and one more, if it is not among them
+abbrev pub with_name : List (List ℕ) → List ℕ → List (List ℕ)
+with_name names s = if list_any (same_name s) names then names else names ++ s ∷ []
+
+-- these names and the one that a token spells
+abbrev pub with_name_of : Kind → List (List ℕ) → List ℕ → List (List ℕ)
+with_name_of kind.Name names s = with_name names s
+with_name_of k names s = names
+
+abbrev pub name_from : List ℕ → List (List ℕ) → Token → List (List ℕ)
+name_from source names t = with_name_of t.kind names (spelling_of source t)
+
+-- The spellings of names, each once: the required ones, and the others in the order in which they come.
+abbrev pub names_of : Lexed → List (List ℕ)
+names_of l = fold (name_from l.source) required_names l.tokens
+
+-- a name's number is its place among the names
+abbrev pub number_of : List (List ℕ) → List ℕ → Option ℕ
+number_of names s = position (same_name s) names
+
+abbrev pub number_in : List (List ℕ) → List ℕ → ℕ
+number_in names s = unwrap_or (number_of names s) 0
+
+-- the texts that vectors hold
+abbrev pub items_of : List (Vec ℕ) → List (List ℕ)
+items_of vs = map (λ v. v.items) vs
+
+-- ---- words
+
+abbrev pub spelled_as : List (List ℕ) → Kind → List ℕ → Spelled
+spelled_as names kind.Name s = spelled.Name (number_in names s)
+spelled_as names (kind.Number n) s = spelled.Number n
+spelled_as names kind.Text s = spelled.Text
+spelled_as names k s = spelled.Other
+
+abbrev pub word_of : List (List ℕ) → List ℕ → Token → Word
+word_of names source t = record { spelled = spelled_as names t.kind (spelling_of source t); line = t.line }
+
+abbrev pub words_of : List (List ℕ) → List ℕ → List Token → List Word
+words_of names source tokens = map (word_of names source) tokens
+
+-- of a name its text, of a string its characters, and nothing of another token
+abbrev pub kept_text : Kind → List ℕ → List ℕ → List ℕ
+kept_text kind.Name text spelling = text
+kept_text kind.Text text spelling = spelling
+kept_text k text spelling = []
+
+abbrev pub kept_of : List ℕ → Token → List ℕ
+kept_of source t = kept_text t.kind (text_of source t) (spelling_of source t)
+
+abbrev pub texts_of : List ℕ → List Token → List (List ℕ)
+texts_of source tokens = map (kept_of source) tokens
+
+-- What is known before anything is checked. Behind the numbers of the tokens stand those of the required names.
+abbrev pub start : Lexed → Known
+start l = record {
+  names = names_of l;
+  words = words_of (names_of l) l.source l.tokens;
+  program = blank (length l.tokens + length required_names) (texts_of l.source l.tokens);
+  regions = [];
+  frames = [];
+  facts = [];
+}

@@ -1,0 +1,19 @@
+//! What the check of the static rules is made of: the tables that it fills, the regions in which it looks names up,
+//! and its steps. A step is what a part of a tree does to the tables, and which rules it breaks. Each function of the
+//! check does one step, whose definition is an equation over the steps of its parts.
+#![tactic(auto)]
+
+pub mod breaks;
+pub mod facts;
+pub mod regions;
+pub mod required;
+pub mod tables;
+mod words;
+pub mod work;
+
+pub use breaks::{Break, Broken, CheckFault};
+pub use facts::Fact;
+pub use regions::{Def, Definition, Found, Frame};
+pub use tables::Tables;
+pub use words::{Spelled, Word};
+pub use work::Work;

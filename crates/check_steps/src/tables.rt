@@ -1,0 +1,361 @@
+//! The tables that a check fills.
+
+ghost use Rattle.std.specs.Prelude.{◌≡◌, ◌+◌, ◌<◌, ◌^◌, ◌++◌, ◌∷◌, None, Some, length, OnOk, IfOk};
+ghost use Rattle.check_steps.specs.Known.{and_definition, and_fact, and_frame, and_label, and_region, and_routine};
+ghost use Rattle.check_steps.specs.Known.{find, find_label, found_in, frame_at, line_at, name_at, row_at, spelled_at};
+ghost use Rattle.check_steps.specs.Known.{type_at, with_routine, with_row, word_at};
+ghost use Rattle.check_steps.specs.Regions.{declared_in, defined_in, region_at};
+ghost use Rattle.check_steps.specs.Words.{number_of, start};
+
+use crate::facts::Fact;
+use crate::regions::{Definition, Found, Frame, Region};
+use crate::words::{REQUIRED_NAMES, Spelled, Word, names, texts, words};
+use indexmap::{IndexMap, IndexSet};
+use pas_lexer::Tokens;
+use program_tables::rows::{Row, TypeRow};
+use program_tables::{Program, Routine};
+use std::alloc::{AllocError, Global};
+use std::marker::Model;
+
+/// What is known of a program.
+#[derive(Drop)]
+pub struct Tables {
+    names: IndexSet<Vec<u8>>,
+    words: Vec<Word>,
+    program: Program,
+    regions: Vec<Region>,
+    frames: Vec<Frame>,
+    facts: Vec<Fact>,
+}
+
+impl Model for Tables {
+    ghost use Rattle.std.specs.Prelude.{◌+◌, ◌<◌, ◌^◌, map, vec_len};
+    ghost use Rattle.indexmap.specs.IndexSet.{index_set_len};
+    ghost use Rattle.check_steps.specs.Known.{Known};
+
+    ghost Value = { Known };
+
+    ghost view = { λ t. record {
+      names = map (λ v. v.items) t.names.keys;
+      words = t.words.items;
+      program = t.program;
+      regions = map (λ r. record {
+        token = r.token;
+        frame = r.frame;
+        names = r.names.entries;
+        labels = r.labels.entries;
+      }) t.regions.items;
+      frames = t.frames.items;
+      facts = t.facts.items;
+    } };
+
+    ghost invariant = { λ t. (vec_len t.regions < 2 ^ 32) × (vec_len t.frames < 2 ^ 32)
+        × (vec_len t.words + 26 < 2 ^ 32) × (index_set_len t.names < 2 ^ 32) };
+}
+
+impl Tables {
+    /// What is known of a program before anything is checked. Of more than 4,294,967,269 tokens, or of more names than
+    /// a `u32` counts, there are no tables, which counts as out of memory.
+    pub fn new(alloc: Global, tokens: &Tokens) -> Result<Self, AllocError>
+        ensures { IfOk result (λ t. t ≡ start tokens.now) }
+    {
+        let count = tokens.len();
+        if count >= u32::MAX - REQUIRED_NAMES {
+            return Err(AllocError);
+        }
+        let names = names(alloc, tokens)?;
+        if names.len() > u32::MAX as usize {
+            return Err(AllocError);
+        }
+        let words = words(alloc, &names, tokens)?;
+        let texts = texts(alloc, tokens)?;
+        let program = Program::new(alloc, (count + REQUIRED_NAMES) as usize, texts)?;
+        Ok(Tables {
+            names,
+            words,
+            program,
+            regions: Vec::new(alloc),
+            frames: Vec::new(alloc),
+            facts: Vec::new(alloc),
+        })
+    }
+
+    /// How many tokens there are. Behind their numbers stand those of the 26 required names.
+    pub fn tokens(&self) -> u32
+        ensures count { result ≡ length self.now.words }
+        ensures room { result + 26 < 2 ^ 32 }
+    {
+        self.words.len() as u32
+    }
+
+    /// The number of a name, and None where no token spells it and it is not required.
+    pub fn number_of(&self, name: &[u8]) -> Option<u32>
+        ensures { result ≡ number_of self.now.names name.now }
+    {
+        match self.names.get_index_of(name) {
+            Some(number) => Some(number as u32),
+            None => None,
+        }
+    }
+
+    /// What a token is.
+    pub fn word(&self, token: u32) -> Word
+        ensures { result ≡ word_at self.now token }
+    {
+        match self.words.get(token as usize) {
+            Some(word) => *word,
+            None => Word {
+                spelled: Spelled::Other,
+                line: 0,
+            },
+        }
+    }
+
+    /// What a token spells.
+    pub fn spelled(&self, token: u32) -> Spelled
+        ensures { result ≡ spelled_at self.now token }
+    {
+        self.word(token).spelled
+    }
+
+    /// The line on which a token stands.
+    pub fn line(&self, token: u32) -> u32
+        ensures { result ≡ line_at self.now token }
+    {
+        self.word(token).line
+    }
+
+    /// The number of the name that a token spells.
+    pub fn name(&self, token: u32) -> u32
+        ensures { result ≡ name_at self.now token }
+    {
+        match self.spelled(token) {
+            Spelled::Name(name) => name,
+            _ => 0,
+        }
+    }
+
+    /// What stands at a number.
+    pub fn row(&self, number: u32) -> Row
+        ensures { result ≡ row_at self.now number }
+    {
+        self.program.row(number)
+    }
+
+    /// The type of a number, and None where a broken rule leaves it unknown.
+    pub fn type_row(&self, number: u32) -> Option<TypeRow>
+        ensures { result ≡ type_at self.now number }
+    {
+        self.program.type_row(number)
+    }
+
+    /// The program as far as it is known.
+    pub fn program(&self) -> &Program
+        ensures { result.now ≡ self.now.program }
+    {
+        &self.program
+    }
+
+    /// Gives up all but the program.
+    pub fn into_program(self) -> Program
+        ensures { result ≡ self.program }
+    {
+        self.program
+    }
+
+    /// Puts a row at a number.
+    pub fn put(&mut self, number: u32, row: Row)
+        ensures { self.new ≡ with_row self.old number row }
+    {
+        self.program.put(number, row);
+    }
+
+    /// Puts a routine at a number.
+    pub fn put_routine(&mut self, number: u32, routine: Routine)
+        ensures { self.new ≡ with_routine self.old number routine }
+    {
+        self.program.put_routine(number, routine);
+    }
+
+    /// A new routine after the others, by its number.
+    pub fn add_routine(&mut self, routine: Routine) -> Result<u32, AllocError>
+        ensures number { IfOk result (λ n. n ≡ length self.old.program.routines) }
+        ensures added { OnOk result (self.new ≡ and_routine self.old routine) }
+    {
+        let number = self.program.add_routine(routine)?;
+        Ok(number)
+    }
+
+    /// A new frame after the others, by its number. Of 4,294,967,295 frames there is none after the last, which counts
+    /// as out of memory.
+    pub fn open_frame(&mut self, frame: Frame) -> Result<u32, AllocError>
+        ensures number { IfOk result (λ n. n ≡ length self.old.frames) }
+        ensures opened { OnOk result (self.new ≡ and_frame self.old frame) }
+    {
+        let number = self.frames.len();
+        if number >= u32::MAX as usize {
+            return Err(AllocError);
+        }
+        self.frames.push(frame)?;
+        Ok(number as u32)
+    }
+
+    /// A new fact after the others.
+    pub fn note(&mut self, fact: Fact) -> Result<(), AllocError>
+        ensures { OnOk result (self.new ≡ and_fact self.old fact) }
+    {
+        self.facts.push(fact)?;
+        Ok(())
+    }
+
+    /// What a region itself defines a name as.
+    pub fn defined_in(&self, region: u32, name: u32) -> Option<Definition>
+        ensures { result ≡ defined_in self.now.regions region name }
+    {
+        match self.regions.get(region as usize) {
+            Some(region) => region.names.get(&name).copied(),
+            None => None,
+        }
+    }
+
+    /// The token at which a region itself declares a label of this value.
+    pub fn declared_in(&self, region: u32, value: u32) -> Option<u32>
+        ensures { result ≡ declared_in self.now.regions region value }
+    {
+        match self.regions.get(region as usize) {
+            Some(region) => region.labels.get(&value).copied(),
+            None => None,
+        }
+    }
+
+    /// A frame, and the outermost where there is none of this number.
+    pub fn frame(&self, number: u32) -> Frame
+        ensures { result ≡ frame_at self.now number }
+    {
+        match self.frames.get(number as usize) {
+            Some(frame) => *frame,
+            None => Frame {
+                region: 0,
+                outer: None,
+                level: 0,
+                withs: 0,
+            },
+        }
+    }
+
+    /// What the region of a frame itself defines a name as.
+    fn found_in(&self, frame: u32, name: u32) -> Option<Found>
+        ensures { result ≡ found_in self.now frame name }
+    {
+        match self.defined_in(self.frame(frame).region, name) {
+            Some(definition) => Some(Found { definition, frame }),
+            None => None,
+        }
+    }
+
+    /// How many frames there are.
+    fn frames(&self) -> usize
+        ensures { result ≡ length self.now.frames }
+    {
+        self.frames.len()
+    }
+
+    /// The definition in the closest region around that defines a name, a frame's own region being the closest.
+    #[tactic(auto, using(crate::proofs::Outward::outward))]
+    pub fn find(&self, frame: u32, name: u32) -> Option<Found>
+        ensures { result ≡ find self.now frame name }
+    {
+        let mut at = Some(frame);
+        'frames: for _passed in 0..self.frames() {
+            let Some(number) = at else {
+                return None;
+            };
+            if let Some(found) = self.found_in(number, name) {
+                return Some(found);
+            }
+            at = self.frame(number).outer;
+        }
+        None
+    }
+
+    /// The token that declares a label of this value in the closest block around that does.
+    #[tactic(auto, using(crate::proofs::Outward::outward))]
+    pub fn find_label(&self, frame: u32, value: u32) -> Option<u32>
+        ensures { result ≡ find_label self.now frame value }
+    {
+        let mut at = Some(frame);
+        'frames: for _passed in 0..self.frames() {
+            let Some(number) = at else {
+                return None;
+            };
+            let here = self.frame(number);
+            if let Some(token) = self.declared_in(here.region, value) {
+                return Some(token);
+            }
+            at = here.outer;
+        }
+        None
+    }
+
+    /// A new region that begins at a token, with its own frame inside another or none, and so many blocks around its
+    /// own: what is given is the number of its frame.
+    pub fn open_region(
+        &mut self,
+        alloc: Global,
+        token: u32,
+        outer: Option<u32>,
+        level: u32,
+    ) -> Result<u32, AllocError>
+        ensures number { IfOk result (λ n. n ≡ length self.old.frames) }
+        ensures opened { OnOk result (self.new ≡ and_region self.old token
+            (record { region = length self.old.regions; outer = outer; level = level; withs = 0 })) }
+    {
+        let region = self.regions.len();
+        let frame = self.frames.len();
+        if region >= u32::MAX as usize || frame >= u32::MAX as usize {
+            return Err(AllocError);
+        }
+        self.regions.push(Region {
+            token,
+            frame: frame as u32,
+            names: IndexMap::new(alloc),
+            labels: IndexMap::new(alloc),
+        })?;
+        self.frames.push(Frame {
+            region: region as u32,
+            outer,
+            level,
+            withs: 0,
+        })?;
+        Ok(frame as u32)
+    }
+
+    /// A definition of a name at the end of a region that lacks it.
+    pub fn add_definition(
+        &mut self,
+        region: u32,
+        name: u32,
+        definition: Definition,
+    ) -> Result<(), AllocError>
+        requires { defined_in self.old.regions region name ≡ None }
+        ensures { OnOk result (self.new ≡ and_definition self.old region name definition) }
+    {
+        let region = region as usize;
+        if region < self.regions.len() {
+            self.regions[region].names.insert(name, definition)?;
+        }
+        Ok(())
+    }
+
+    /// A label's value at the end of a region that lacks it.
+    pub fn add_label(&mut self, region: u32, value: u32, token: u32) -> Result<(), AllocError>
+        requires { declared_in self.old.regions region value ≡ None }
+        ensures { OnOk result (self.new ≡ and_label self.old region value token) }
+    {
+        let region = region as usize;
+        if region < self.regions.len() {
+            self.regions[region].labels.insert(value, token)?;
+        }
+        Ok(())
+    }
+}

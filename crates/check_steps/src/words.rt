@@ -1,0 +1,210 @@
+//! What the tokens of a source spell.
+
+ghost use Rattle.std.specs.Prelude.{◌≡◌, ◌<◌, ◌^◌, fold, IfOk, OnOk};
+ghost use Rattle.indexmap.specs.IndexSet.{index_set_len};
+ghost use Rattle.check_steps.specs.Words.{items_of, kept_text, names_of, number_in, required_constants};
+ghost use Rattle.check_steps.specs.Words.{required_files, required_functions, required_names, required_procedures};
+ghost use Rattle.check_steps.specs.Words.{required_types, spelled_as, texts_of, with_name, with_name_of, words_of};
+
+use indexmap::IndexSet;
+use pas_lexer::{Kind, Tokens};
+use std::alloc::{AllocError, Global};
+
+/// How many names are required.
+pub const REQUIRED_NAMES: u32 = 26;
+
+/// What a token spells.
+#[derive(Clone, Copy, PartialEq, Eq)]
+pub enum Spelled {
+    /// A name, by the number of its spelling: equal spellings have one number.
+    Name(u32),
+    /// An unsigned integer.
+    Number(u32),
+    /// A string.
+    Text,
+    Other,
+}
+
+/// A token as the check sees it.
+#[derive(Clone, Copy)]
+pub struct Word {
+    pub spelled: Spelled,
+    /// The line on which it stands.
+    pub line: u32,
+}
+
+/// Adds a name, if it is new.
+fn add_name(alloc: Global, names: &mut IndexSet<Vec<u8>>, name: &[u8]) -> Result<(), AllocError>
+    ensures { OnOk result (items_of names.new.keys ≡ with_name (items_of names.old.keys) name.now) }
+{
+    if !names.contains(name) {
+        let name = name.to_vec(alloc)?;
+        names.insert(name)?;
+    }
+    Ok(())
+}
+
+fn add_types(alloc: Global, names: &mut IndexSet<Vec<u8>>) -> Result<(), AllocError>
+    ensures { OnOk result (items_of names.new.keys ≡ fold with_name (items_of names.old.keys) required_types) }
+{
+    add_name(alloc, names, b"integer")?;
+    add_name(alloc, names, b"boolean")?;
+    add_name(alloc, names, b"char")?;
+    Ok(())
+}
+
+fn add_constants(alloc: Global, names: &mut IndexSet<Vec<u8>>) -> Result<(), AllocError>
+    ensures { OnOk result (items_of names.new.keys ≡ fold with_name (items_of names.old.keys) required_constants) }
+{
+    add_name(alloc, names, b"false")?;
+    add_name(alloc, names, b"true")?;
+    add_name(alloc, names, b"maxint")?;
+    Ok(())
+}
+
+fn add_functions(alloc: Global, names: &mut IndexSet<Vec<u8>>) -> Result<(), AllocError>
+    ensures { OnOk result (items_of names.new.keys ≡ fold with_name (items_of names.old.keys) required_functions) }
+{
+    add_name(alloc, names, b"abs")?;
+    add_name(alloc, names, b"sqr")?;
+    add_name(alloc, names, b"odd")?;
+    add_name(alloc, names, b"ord")?;
+    add_name(alloc, names, b"chr")?;
+    add_name(alloc, names, b"succ")?;
+    add_name(alloc, names, b"pred")?;
+    add_name(alloc, names, b"eof")?;
+    add_name(alloc, names, b"eoln")?;
+    Ok(())
+}
+
+fn add_procedures(alloc: Global, names: &mut IndexSet<Vec<u8>>) -> Result<(), AllocError>
+    ensures { OnOk result (items_of names.new.keys ≡ fold with_name (items_of names.old.keys) required_procedures) }
+{
+    add_name(alloc, names, b"read")?;
+    add_name(alloc, names, b"readln")?;
+    add_name(alloc, names, b"write")?;
+    add_name(alloc, names, b"writeln")?;
+    add_name(alloc, names, b"page")?;
+    add_name(alloc, names, b"new")?;
+    add_name(alloc, names, b"dispose")?;
+    add_name(alloc, names, b"pack")?;
+    add_name(alloc, names, b"unpack")?;
+    Ok(())
+}
+
+fn add_files(alloc: Global, names: &mut IndexSet<Vec<u8>>) -> Result<(), AllocError>
+    ensures { OnOk result (items_of names.new.keys ≡ fold with_name (items_of names.old.keys) required_files) }
+{
+    add_name(alloc, names, b"input")?;
+    add_name(alloc, names, b"output")?;
+    Ok(())
+}
+
+/// The required names.
+fn start_names(alloc: Global) -> Result<IndexSet<Vec<u8>>, AllocError>
+    ensures { IfOk result (λ names. items_of names.keys ≡ required_names) }
+{
+    let mut names = IndexSet::new(alloc);
+    add_types(alloc, &mut names)?;
+    add_constants(alloc, &mut names)?;
+    add_functions(alloc, &mut names)?;
+    add_procedures(alloc, &mut names)?;
+    add_files(alloc, &mut names)?;
+    Ok(names)
+}
+
+/// Adds the name that a token of this kind and spelling spells, if it spells one.
+fn add_spelling(
+    alloc: Global,
+    names: &mut IndexSet<Vec<u8>>,
+    kind: Kind,
+    spelling: &[u8],
+) -> Result<(), AllocError>
+    ensures { OnOk result (items_of names.new.keys ≡ with_name_of kind (items_of names.old.keys) spelling.now) }
+{
+    match kind {
+        Kind::Name => add_name(alloc, names, spelling),
+        _ => Ok(()),
+    }
+}
+
+/// The spellings of names, each once: the required ones, and the others in the order in which they come.
+pub fn names(alloc: Global, tokens: &Tokens) -> Result<IndexSet<Vec<u8>>, AllocError>
+    ensures { IfOk result (λ names. items_of names.keys ≡ names_of tokens.now) }
+{
+    let mut names = start_names(alloc)?;
+    'tokens: for i in 0..tokens.len() {
+        let token = tokens.at(i);
+        add_spelling(alloc, &mut names, token.kind, tokens.spelling(i))?;
+    }
+    Ok(names)
+}
+
+/// The number of a name: its place among the names, and 0 where it is not among them.
+fn number(names: &IndexSet<Vec<u8>>, name: &[u8]) -> u32
+    requires { index_set_len names.now < 2 ^ 32 }
+    ensures { result ≡ number_in (items_of names.now.keys) name.now }
+{
+    match names.get_index_of(name) {
+        Some(number) => number as u32,
+        None => 0,
+    }
+}
+
+/// What a token of this kind and spelling spells.
+fn spelling_of(names: &IndexSet<Vec<u8>>, kind: Kind, spelling: &[u8]) -> Spelled
+    requires { index_set_len names.now < 2 ^ 32 }
+    ensures { result ≡ spelled_as (items_of names.now.keys) kind spelling.now }
+{
+    match kind {
+        Kind::Name => Spelled::Name(number(names, spelling)),
+        Kind::Number(value) => Spelled::Number(value),
+        Kind::Text => Spelled::Text,
+        _ => Spelled::Other,
+    }
+}
+
+/// What the tokens are.
+pub fn words(
+    alloc: Global,
+    names: &IndexSet<Vec<u8>>,
+    tokens: &Tokens,
+) -> Result<Vec<Word>, AllocError>
+    requires { index_set_len names.now < 2 ^ 32 }
+    ensures { IfOk result (λ words.
+        words.items ≡ words_of (items_of names.now.keys) tokens.now.source tokens.now.tokens) }
+{
+    let mut words = Vec::new(alloc);
+    'tokens: for i in 0..tokens.len() {
+        let token = tokens.at(i);
+        words.push(Word {
+            spelled: spelling_of(names, token.kind, tokens.spelling(i)),
+            line: token.line,
+        })?;
+    }
+    Ok(words)
+}
+
+/// Of a name its text, of a string its characters, and nothing of another token.
+fn kept(alloc: Global, kind: Kind, text: &[u8], spelling: &[u8]) -> Result<Vec<u8>, AllocError>
+    ensures { IfOk result (λ v. v.items ≡ kept_text kind text.now spelling.now) }
+{
+    match kind {
+        Kind::Name => text.to_vec(alloc),
+        Kind::Text => spelling.to_vec(alloc),
+        _ => Ok(Vec::new(alloc)),
+    }
+}
+
+/// The texts of names and strings.
+pub fn texts(alloc: Global, tokens: &Tokens) -> Result<Vec<Vec<u8>>, AllocError>
+    ensures { IfOk result (λ texts. items_of texts.items ≡ texts_of tokens.now.source tokens.now.tokens) }
+{
+    let mut texts = Vec::new(alloc);
+    'tokens: for i in 0..tokens.len() {
+        let token = tokens.at(i);
+        let text = kept(alloc, token.kind, tokens.text(i), tokens.spelling(i))?;
+        texts.push(text)?;
+    }
+    Ok(texts)
+}
