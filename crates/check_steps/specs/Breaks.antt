@@ -1,5 +1,6 @@
 -- Broken rules, their order, and the first of them.
-use Rattle.std.specs.Prelude.{◌≡◌, ℕ, Bool, false, List, [], ◌∷◌, Option, Some, None, nat_lt, nat_eq, ◌&&◌, ◌||◌, if◌then◌else◌, Contains, All}
+use Rattle.std.specs.Prelude.{◌≡◌, ℕ, Bool, false, List, [], ◌∷◌, Option, Some, None, nat_lt, nat_eq, ◌&&◌, ◌||◌}
+use Rattle.std.specs.Prelude.{if◌then◌else◌, Contains, All}
 use Rattle.check_steps.specs.declared.breaks.Broken.{Broken}
 use Rattle.check_steps.specs.declared.breaks.Broken.TheVariants.{Early, Late, TooBig}
 use Rattle.check_steps.specs.declared.breaks.Break.{Break}
