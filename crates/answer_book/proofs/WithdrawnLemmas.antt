@@ -55,7 +55,7 @@ named_before calls routines entries after place what w named =
     (All-get_or P entries place (entry_saying what) inside named)
 
 -- the last judgement on a call that it did not name
-same_judgement : (entries after : List Entry) (place : ℕ) (what : What) (call : ℕ) → IsWithdrawn entries after place what
+pub same_judgement : (entries after : List Entry) (place : ℕ) (what : What) (call : ℕ) → IsWithdrawn entries after place what
     → judgement_on call what ≡ None → last_judgement (standing_answers after) call ≡ last_judgement (standing_answers entries) call
 same_judgement entries after place what call w off =
     last_by_entries after call ∙ ap (λ l. last_of (filter_map (entry_judgement call) l)) w.set
@@ -63,7 +63,7 @@ same_judgement entries after place what call w off =
     ∙ sym (last_by_entries entries call)
 
 -- whether a routine is trusted that it did not name
-same_trust : (entries after : List Entry) (place : ℕ) (what : What) (routine : ℕ) → IsWithdrawn entries after place what
+pub same_trust : (entries after : List Entry) (place : ℕ) (what : What) (routine : ℕ) → IsWithdrawn entries after place what
     → trusts routine what ≡ false → is_trusted (standing_answers after) routine ≡ is_trusted (standing_answers entries) routine
 same_trust entries after place what routine w off =
     trusted_by_entries after routine ∙ ap (list_any (entry_trusts routine)) w.set

@@ -13,7 +13,7 @@ use Rattle.answer_book.specs.Accused.{accused_of}
 use Rattle.answer_book.specs.Clear.{is_unjudged}
 use Rattle.answer_book.specs.Marks.{mark_by, mark_of, marks_of}
 use Rattle.answer_book.specs.Numbers.{numbers_below}
-use Rattle.optimal_query.specs.Laws.{AreColumns, Columns, LeaveWhatIsCounted, judged, suspects_in}
+use Rattle.optimal_query.specs.Laws.{IsCallTree, CallTree, LeaveWhatIsCounted, judged, suspects_in}
 use Rattle.optimal_query.specs.Question.{weight_of}
 use Rattle.optimal_query.specs.Region.{is_in, is_searched, mark_at, suspects_of}
 use Rattle.optimal_query.specs.State.{suspects_after}
@@ -180,7 +180,7 @@ unknown_leaves parent last routine answers call asked =
     (λ other within differs. sym (ap (λ b. p other && b) (other_than call other differs) ∙ and_true (p other))) in
     omega (arith, ap length left, ap length (suspects_are last old accused), more)
 
-pub asked_in : (calls : Columns) (answers : List What) (call : ℕ) → AreColumns calls → Contains (suspects_in calls answers) call
+pub asked_in : (calls : CallTree) (answers : List What) (call : ℕ) → IsCallTree calls → Contains (suspects_in calls answers) call
     → Asked calls.parent calls.last calls.routine answers call
 asked_in calls answers call are among = record {
   numbered = are.numbered;
@@ -188,7 +188,7 @@ asked_in calls answers call are among = record {
   suspect = suspected_of calls.last (marks_of calls.routine answers) (accused_of calls.routine answers) call among;
 }
 
-pub answers_leave : (calls : Columns) (answers : List What) (call : ℕ) → AreColumns calls → Contains (suspects_in calls answers) call
+pub answers_leave : (calls : CallTree) (answers : List What) (call : ℕ) → IsCallTree calls → Contains (suspects_in calls answers) call
     → LeaveWhatIsCounted calls answers call
 answers_leave calls answers call are among =
     let asked = asked_in calls answers call are among in

@@ -14,7 +14,7 @@ use Rattle.answer_book.specs.Marks.{mark_of, marks_of}
 use Rattle.answer_book.specs.Numbers.{last_where, numbers_below}
 use Rattle.answer_book.proofs.LastWhere.{IsLast, last_where_is, none_passes_where}
 use Rattle.optimal_query.specs.declared.state.State.TheVariants.{Found, NothingWrong}
-use Rattle.optimal_query.specs.Laws.{AreColumns, Columns, IsAtFault, IsNothing, doubts_in, mark_in, region_in, state_in, suspects_in}
+use Rattle.optimal_query.specs.Laws.{IsCallTree, CallTree, IsAtFault, IsNothing, doubts_in, mark_in, region_in, state_in, suspects_in}
 use Rattle.optimal_query.specs.Narrowing.{AgreesWithMarks, IsBuggy, IsLeft, Truth}
 use Rattle.optimal_query.specs.Region.{doubts_of, is_below, is_searched, mark_at, suspects_of}
 use Rattle.optimal_query.specs.State.{verdict_by}
@@ -32,12 +32,12 @@ wrong_is Unknown h = absurd (let l : ⊥ = cc in l)
 wrong_is Trusted h = absurd (let l : ⊥ = cc in l)
 
 -- the greatest call that is marked wrong
-pub record IsAccused (calls : Columns) (answers : List What) (accused : ℕ) : Type 0 where
+pub record IsAccused (calls : CallTree) (answers : List What) (accused : ℕ) : Type 0 where
   pub a_call : accused < length calls.last
   pub wrong : mark_in calls answers accused ≡ Wrong
   pub none_later : (other : ℕ) → accused < other → other < length calls.last → is_wrong (mark_in calls answers other) ≡ false
 
-pub accused_is : (calls : Columns) (answers : List What) (accused : ℕ) → AreColumns calls → accused_of calls.routine answers ≡ Some accused
+pub accused_is : (calls : CallTree) (answers : List What) (accused : ℕ) → IsCallTree calls → accused_of calls.routine answers ≡ Some accused
     → IsAccused calls answers accused
 accused_is calls answers accused are h =
     let test : ℕ → Bool = λ call. is_wrong (mark_of calls.routine answers call) in
@@ -49,14 +49,14 @@ accused_is calls answers accused are h =
     }
 
 -- the accused, or a call of the region below it
-abbrev pub Reached : Columns → List What → ℕ → ℕ → Type 0
+abbrev pub Reached : CallTree → List What → ℕ → ℕ → Type 0
 Reached calls answers accused call =
     (call ≡ accused) ⊎ Searched calls.last (marks_of calls.routine answers) (Some accused) call
 
 one_parent : (parent : List (Option ℕ)) (one other call : ℕ) → IsParent parent one call → IsParent parent other call → one ≡ other
 one_parent parent one other call a b = let e : Some (Some one) ≡ Some (Some other) = sym a ∙ b in cc
 
-reached_inside : (calls : Columns) (answers : List What) (accused call : ℕ) → AreColumns calls → Reached calls answers accused call
+reached_inside : (calls : CallTree) (answers : List What) (accused call : ℕ) → IsCallTree calls → Reached calls answers accused call
     → (accused ≤ call) × (slice_index calls.last call ≤ slice_index calls.last accused)
 reached_inside calls answers accused call are (inl same) = (omega arith, omega (arith, ap (slice_index calls.last) same))
 reached_inside calls answers accused call are (inr s) =
@@ -64,13 +64,13 @@ reached_inside calls answers accused call are (inr s) =
     (omega (arith, parts.0), nested calls.parent calls.last are.numbered accused call (omega (arith, parts.0)) parts.1)
 
 -- what covers a child from above covers its parent
-covered_above : (calls : Columns) (answers : List What) (accused call above : ℕ) → Reached calls answers accused call → above < length calls.last
+covered_above : (calls : CallTree) (answers : List What) (accused call above : ℕ) → Reached calls answers accused call → above < length calls.last
     → accused < above → Covers calls.last (marks_of calls.routine answers) (Some accused) call above → ⊥
 covered_above calls answers accused call above (inl same) h deep c = let l : ⊥ = omega (arith, c.from) in l
 covered_above calls answers accused call above (inr s) h deep c = s.free above h c
 
 -- a child of a call that is reached is searched, unless it is clear
-child_searched : (calls : Columns) (answers : List What) (accused call child : ℕ) → AreColumns calls → Reached calls answers accused call
+child_searched : (calls : CallTree) (answers : List What) (accused call child : ℕ) → IsCallTree calls → Reached calls answers accused call
     → IsParent calls.parent call child → is_clear (mark_in calls answers child) ≡ false
     → Searched calls.last (marks_of calls.routine answers) (Some accused) child
 child_searched calls answers accused call child are reached is unclear =
@@ -107,7 +107,7 @@ sort_of Unknown unclear not_wrong = inr refl
 sort_of Trusted unclear not_wrong = absurd (true≢false unclear)
 
 -- no call below the accused is marked wrong
-not_wrong_below : (calls : Columns) (answers : List What) (accused : Option ℕ) (call : ℕ) → AreColumns calls → accused_of calls.routine answers ≡ accused
+not_wrong_below : (calls : CallTree) (answers : List What) (accused : Option ℕ) (call : ℕ) → IsCallTree calls → accused_of calls.routine answers ≡ accused
     → is_below calls.last accused call ≡ true → call < length calls.last → is_wrong (mark_in calls answers call) ≡ false
 not_wrong_below calls answers None call are h below inside =
     none_passes_where (λ k. is_wrong (mark_of calls.routine answers k)) (length calls.routine) (accused_is_last calls.routine answers None h) call
@@ -116,7 +116,7 @@ not_wrong_below calls answers (Some accused) call are h below inside =
     (accused_is calls answers accused are h).none_later call (below_parts calls.last accused call below).0 inside
 
 -- a call of the region that is not clear is a suspect or a doubt
-searched_is_left : (calls : Columns) (answers : List What) (accused : Option ℕ) (call : ℕ) → AreColumns calls → accused_of calls.routine answers ≡ accused
+searched_is_left : (calls : CallTree) (answers : List What) (accused : Option ℕ) (call : ℕ) → IsCallTree calls → accused_of calls.routine answers ≡ accused
     → call < length calls.last → Searched calls.last (marks_of calls.routine answers) accused call
     → is_clear (mark_in calls answers call) ≡ false → Contains (suspects_in calls answers) call ⊎ Contains (doubts_in calls answers) call
 searched_is_left calls answers accused call are h inside s unclear =
@@ -130,7 +130,7 @@ searched_is_left calls answers accused call are h inside s unclear =
     ]
 
 -- a call of the region is not clear
-searched_unclear : (calls : Columns) (answers : List What) (accused : Option ℕ) (call : ℕ) → AreColumns calls → call < length calls.last
+searched_unclear : (calls : CallTree) (answers : List What) (accused : Option ℕ) (call : ℕ) → IsCallTree calls → call < length calls.last
     → Searched calls.last (marks_of calls.routine answers) accused call
     → (b : Bool) → is_clear (mark_in calls answers call) ≡ b → is_clear (mark_in calls answers call) ≡ false
 searched_unclear calls answers accused call are inside s true clear =
@@ -142,7 +142,7 @@ searched_unclear calls answers accused call are inside s true clear =
     }))
 searched_unclear calls answers accused call are inside s false unclear = unclear
 
-pub region_is_left : (calls : Columns) (answers : List What) (call : ℕ) → AreColumns calls → Contains (region_in calls answers) call
+pub region_is_left : (calls : CallTree) (answers : List What) (call : ℕ) → IsCallTree calls → Contains (region_in calls answers) call
     → Contains (suspects_in calls answers) call ⊎ Contains (doubts_in calls answers) call
 region_is_left calls answers call are among =
     let marks = marks_of calls.routine answers in
@@ -169,18 +169,18 @@ verdict_nothing None [] h = (refl, refl)
 verdict_nothing None (d ∷ ds) h = absurd (let l : ⊥ = cc in l)
 
 -- what is found is accused, and nothing is left
-pub record IsFound (calls : Columns) (answers : List What) (call : ℕ) : Type 0 where
+pub record IsFound (calls : CallTree) (answers : List What) (call : ℕ) : Type 0 where
   pub accused : accused_of calls.routine answers ≡ Some call
   pub no_suspect : suspects_in calls answers ≡ []
   pub no_doubt : doubts_in calls answers ≡ []
 
-found : (calls : Columns) (answers : List What) (call : ℕ) → state_in calls answers ≡ Found call → IsFound calls answers call
+found : (calls : CallTree) (answers : List What) (call : ℕ) → state_in calls answers ≡ Found call → IsFound calls answers call
 found calls answers call h =
     let parts = ends calls answers (Found call) (λ c w m l e. let x : ⊥ = cc in x) h in
     let verdict = verdict_found (accused_of calls.routine answers) (doubts_in calls answers) call parts.verdict_is in
     record { accused = verdict.0; no_suspect = no_question calls.last (suspects_in calls answers) parts.no_question; no_doubt = verdict.1 }
 
-clear_by : (calls : Columns) (answers : List What) (call child : ℕ) → AreColumns calls → IsFound calls answers call → IsParent calls.parent call child
+clear_by : (calls : CallTree) (answers : List What) (call child : ℕ) → IsCallTree calls → IsFound calls answers call → IsParent calls.parent call child
     → (b : Bool) → is_clear (mark_in calls answers child) ≡ b → is_clear (mark_in calls answers child) ≡ true
 clear_by calls answers call child are is child_of true clear = clear
 clear_by calls answers call child are is child_of false unclear =
@@ -192,7 +192,7 @@ clear_by calls answers call child are is child_of false unclear =
       | inr doubt ↦ none_among (doubts_in calls answers) child is.no_doubt doubt
     ])
 
-pub found_is_at_fault : (calls : Columns) (answers : List What) (call : ℕ) → AreColumns calls → state_in calls answers ≡ Found call
+pub found_is_at_fault : (calls : CallTree) (answers : List What) (call : ℕ) → IsCallTree calls → state_in calls answers ≡ Found call
     → IsAtFault calls answers call
 found_is_at_fault calls answers call are h =
     let is = found calls answers call h in
@@ -205,7 +205,7 @@ found_is_at_fault calls answers call are h =
       no_doubt = is.no_doubt;
     }
 
-pub nothing_is_wrong : (calls : Columns) (answers : List What) → AreColumns calls → state_in calls answers ≡ NothingWrong → IsNothing calls answers
+pub nothing_is_wrong : (calls : CallTree) (answers : List What) → IsCallTree calls → state_in calls answers ≡ NothingWrong → IsNothing calls answers
 nothing_is_wrong calls answers are h =
     let parts = ends calls answers NothingWrong (λ c w m l e. let x : ⊥ = cc in x) h in
     let verdict = verdict_nothing (accused_of calls.routine answers) (doubts_in calls answers) parts.verdict_is in
@@ -217,7 +217,7 @@ nothing_is_wrong calls answers are h =
     }
 
 -- whether a call went wrong and is the accused or searched
-abbrev pub is_candidate : Columns → List What → ℕ → Truth → ℕ → Bool
+abbrev pub is_candidate : CallTree → List What → ℕ → Truth → ℕ → Bool
 is_candidate calls answers accused went_wrong call =
     went_wrong call && (call == accused || is_searched calls.last (marks_of calls.routine answers) (Some accused) call)
 
@@ -229,7 +229,7 @@ or_right : (a b : Bool) → b ≡ true → (a || b) ≡ true
 or_right true b h = refl
 or_right false b h = h
 
-candidate_reached : (calls : Columns) (answers : List What) (accused call : ℕ) (went_wrong : Truth)
+candidate_reached : (calls : CallTree) (answers : List What) (accused call : ℕ) (went_wrong : Truth)
     → is_candidate calls answers accused went_wrong call ≡ true → Reached calls answers accused call
 candidate_reached calls answers accused call went_wrong h =
     let marks = marks_of calls.routine answers in
@@ -240,7 +240,7 @@ candidate_reached calls answers accused call went_wrong h =
     ]
 
 -- a call that went wrong is not clear
-unclear_by : (calls : Columns) (answers : List What) (went_wrong : Truth) (call : ℕ) → AgreesWithMarks calls answers went_wrong
+unclear_by : (calls : CallTree) (answers : List What) (went_wrong : Truth) (call : ℕ) → AgreesWithMarks calls answers went_wrong
     → call < length calls.last → went_wrong call ≡ true → (b : Bool) → is_clear (mark_in calls answers call) ≡ b
     → is_clear (mark_in calls answers call) ≡ false
 unclear_by calls answers went_wrong call agrees inside wrong true clear =
@@ -248,7 +248,7 @@ unclear_by calls answers went_wrong call agrees inside wrong true clear =
 unclear_by calls answers went_wrong call agrees inside wrong false unclear = unclear
 
 -- a child of the last candidate went right
-child_right : (calls : Columns) (answers : List What) (accused call child : ℕ) (went_wrong : Truth) → AreColumns calls
+child_right : (calls : CallTree) (answers : List What) (accused call child : ℕ) (went_wrong : Truth) → IsCallTree calls
     → AgreesWithMarks calls answers went_wrong → IsLast (is_candidate calls answers accused went_wrong) (length calls.last) call
     → IsParent calls.parent call child → (b : Bool) → went_wrong child ≡ b → went_wrong child ≡ false
 child_right calls answers accused call child went_wrong are agrees is child_of false right = right
@@ -263,7 +263,7 @@ child_right calls answers accused call child went_wrong are agrees is child_of t
     absurd (both_ways (is_candidate calls answers accused went_wrong child)
     (is.none_later child (are.numbered.child_is_later call child child_of) inside) candidate)
 
-last_is_left : (calls : Columns) (answers : List What) (accused call : ℕ) (went_wrong : Truth) → AreColumns calls
+last_is_left : (calls : CallTree) (answers : List What) (accused call : ℕ) (went_wrong : Truth) → IsCallTree calls
     → accused_of calls.routine answers ≡ Some accused → AgreesWithMarks calls answers went_wrong → call < length calls.last
     → went_wrong call ≡ true → Reached calls answers accused call → IsLeft calls answers call
 last_is_left calls answers accused call went_wrong are h agrees inside wrong (inl same) = inl (h ∙ ap Some (sym same))
@@ -271,7 +271,7 @@ last_is_left calls answers accused call went_wrong are h agrees inside wrong (in
     inr (searched_is_left calls answers (Some accused) call are h inside searched
     (unclear_by calls answers went_wrong call agrees inside wrong (is_clear (mark_in calls answers call)) refl))
 
-buggy_by : (calls : Columns) (answers : List What) (accused : ℕ) (went_wrong : Truth) → AreColumns calls
+buggy_by : (calls : CallTree) (answers : List What) (accused : ℕ) (went_wrong : Truth) → IsCallTree calls
     → accused_of calls.routine answers ≡ Some accused → AgreesWithMarks calls answers went_wrong
     → (o : Option ℕ) → last_where (is_candidate calls answers accused went_wrong) (numbers_below (length calls.last)) ≡ o
     → (call : ℕ) × IsLeft calls answers call × IsBuggy calls went_wrong call
@@ -296,19 +296,19 @@ buggy_by calls answers accused went_wrong are h agrees (Some call) some =
       },
     )
 
-pub buggy_is_left : (calls : Columns) (answers : List What) (accused : ℕ) (went_wrong : Truth) → AreColumns calls
+pub buggy_is_left : (calls : CallTree) (answers : List What) (accused : ℕ) (went_wrong : Truth) → IsCallTree calls
     → accused_of calls.routine answers ≡ Some accused → AgreesWithMarks calls answers went_wrong
     → (call : ℕ) × IsLeft calls answers call × IsBuggy calls went_wrong call
 buggy_is_left calls answers accused went_wrong are h agrees =
     buggy_by calls answers accused went_wrong are h agrees
     (last_where (is_candidate calls answers accused went_wrong) (numbers_below (length calls.last))) refl
 
-left_is : (calls : Columns) (answers : List What) (call other : ℕ) → IsFound calls answers call → IsLeft calls answers other → other ≡ call
+left_is : (calls : CallTree) (answers : List What) (call other : ℕ) → IsFound calls answers call → IsLeft calls answers other → other ≡ call
 left_is calls answers call other is (inl accused) = let e : Some other ≡ Some call = sym accused ∙ is.accused in cc
 left_is calls answers call other is (inr (inl suspect)) = absurd (none_among (suspects_in calls answers) other is.no_suspect suspect)
 left_is calls answers call other is (inr (inr doubt)) = absurd (none_among (doubts_in calls answers) other is.no_doubt doubt)
 
-pub found_is_buggy : (calls : Columns) (answers : List What) (call : ℕ) (went_wrong : Truth) → AreColumns calls
+pub found_is_buggy : (calls : CallTree) (answers : List What) (call : ℕ) (went_wrong : Truth) → IsCallTree calls
     → state_in calls answers ≡ Found call → AgreesWithMarks calls answers went_wrong → IsBuggy calls went_wrong call
 found_is_buggy calls answers call went_wrong are h agrees =
     let is = found calls answers call h in

@@ -6,3 +6,9 @@ mod OneMoreAnswer
 mod AnswersLeave
 mod StatesSay
 mod AtFault
+mod BestOfRuns
+mod QuestionFound
+mod NextDoubt
+mod WeightsTell
+mod Filled
+mod Changes

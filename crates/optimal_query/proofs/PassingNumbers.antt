@@ -1,9 +1,9 @@
 -- The first numbers that pass a test: which they are, the first of them, whether there is one, and how many.
 use Rattle.std.proofs.Common.{◌≡◌, ℕ, zero, suc, ◌+◌, ◌<◌, ◌≤◌, Bool, true, false, cond, ◌&&◌, ◌||◌, List, [], ◌∷◌, ◌++◌, length, length-append, get_or}
-use Rattle.std.proofs.Common.{Some, inl, inr, refl, sym, ap, ◌∙◌, arith}
+use Rattle.std.proofs.Common.{Option, Some, None, inl, inr, refl, sym, ap, ◌∙◌, append-nil, arith}
 use Rattle.std.specs.Prelude.{All, Contains, find, filter, count_by}
 use Rattle.std.specs.List.{list_any, range_with_len}
-use Rattle.std.proofs.lemmas.Bool.{cases_eq, false≢true}
+use Rattle.std.proofs.lemmas.Bool.{cases_eq, cases_order, false≢true, true≢false}
 use Rattle.std.proofs.lemmas.List.Elements.{All-contains, All-filter, All-from_get_or, Contains-append_left, Contains-push, filter-append, filter_passes}
 use Rattle.std.proofs.lemmas.List.Folds.{list_any_at, list_any_none}
 use Rattle.std.proofs.lemmas.List.FromFn.{get_or-range_with_len, length-range_with_len}
@@ -183,7 +183,7 @@ no_unit : (b : Bool) → unit_of b ≡ 0 → b ≡ false
 no_unit true h = absurd (let l : ⊥ = omega arith in l)
 no_unit false h = refl
 
-nothing_from : (xs : List ℕ) → length xs ≡ 0 → xs ≡ []
+pub nothing_from : (xs : List ℕ) → length xs ≡ 0 → xs ≡ []
 nothing_from [] h = refl
 nothing_from (x ∷ xs) h = absurd (let l : ⊥ = omega arith in l)
 
@@ -202,3 +202,44 @@ pub counts_one : (p : ℕ → Bool) (xs : List ℕ) (k d : ℕ) → k < length x
 counts_one p [] k d h passes = absurd (omega arith)
 counts_one p (x ∷ xs) zero d h passes = omega (arith, sum_by-cons (λ y. cond (p y) 1 0) x xs, ap unit_of passes)
 counts_one p (x ∷ xs) (suc k) d h passes = omega (arith, sum_by-cons (λ y. cond (p y) 1 0) x xs, counts_one p xs k d (omega arith) passes)
+
+none_found_case : (p : ℕ → Bool) (from : ℕ) (o : Option ℕ) (b : Bool) → p from ≡ b → cond b (Some from) o ≡ None → (p from ≡ false) × (o ≡ None)
+none_found_case p from o true is h = absurd (let l : ⊥ = cc in l)
+none_found_case p from o false is h = (is, h)
+
+none_found : (p : ℕ → Bool) (from n : ℕ) → find p (range_with_len from n) ≡ None → (number : ℕ) → from ≤ number → number < from + n → p number ≡ false
+none_found p from zero h number after before = absurd (omega arith)
+none_found p from (suc n) h number after before =
+    let parts = none_found_case p from (find p (range_with_len (from + 1) n)) (p from) refl h in
+    elim (cases_eq number from) [
+      | inl same ↦ ap p same ∙ parts.0
+      | inr differs ↦ none_found p (from + 1) n parts.1 number (omega arith) (omega arith)
+    ]
+
+first_by : (p : ℕ → Bool) (from n number : ℕ) → IsFirstFrom p from n number → (o : Option ℕ) → find p (range_with_len from n) ≡ o
+    → find p (range_with_len from n) ≡ Some number
+first_by p from n number is None h = absurd (true≢false (sym is.passes ∙ none_found p from n h number is.from_here is.inside))
+first_by p from n number is (Some other) h =
+    let theirs = first_is p from n other h in
+    h ∙ ap Some (elim (cases_order other number) [
+      | inl same ↦ same
+      | inr (inl less) ↦ absurd (true≢false (sym theirs.passes ∙ is.none_earlier other theirs.from_here less))
+      | inr (inr more) ↦ absurd (true≢false (sym is.passes ∙ theirs.none_earlier number is.from_here more))
+    ])
+
+-- there is only one first
+pub first_from : (p : ℕ → Bool) (from n number : ℕ) → IsFirstFrom p from n number → find p (range_with_len from n) ≡ Some number
+first_from p from n number is = first_by p from n number is (find p (range_with_len from n)) refl
+
+-- where none passes nothing is kept
+pub none_filtered : (p : ℕ → Bool) (n : ℕ) → ((number : ℕ) → number < n → p number ≡ false) → filter p (numbers_below n) ≡ []
+none_filtered p zero none = refl
+none_filtered p (suc n) none =
+    filter_suc p n ∙ ap (λ b. filter p (numbers_below n) ++ cond b (n ∷ []) []) (none n (omega arith))
+    ∙ append-nil (filter p (numbers_below n)) ∙ none_filtered p n (λ number h. none number (omega arith))
+
+pub none_to_find : (p : ℕ → Bool) (from n : ℕ) → ((number : ℕ) → from ≤ number → number < from + n → p number ≡ false) → find p (range_with_len from n) ≡ None
+none_to_find p from zero none = refl
+none_to_find p from (suc n) none =
+    ap (λ b. cond b (Some from) (find p (range_with_len (from + 1) n))) (none from (omega arith) (omega arith))
+    ∙ none_to_find p (from + 1) n (λ number h inside. none number (omega arith) (omega arith))

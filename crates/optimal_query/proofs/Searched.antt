@@ -173,3 +173,14 @@ suspects_few last marks accused =
       count_by-le-length (is_marked is_unjudged last marks accused) (numbers_below (length last)),
       length-range_with_len 0 (length last),
     ))
+
+-- a suspect passes, and what passes is one
+pub passes_of : (last : List ℕ) (marks : List Mark) (accused : Option ℕ) (call : ℕ) → Contains (suspects_of last marks accused) call
+    → (call < length last) × (is_marked is_unjudged last marks accused call ≡ true)
+passes_of last marks accused call h =
+    passes_of_contains (is_marked is_unjudged last marks accused) (length last) call (rw (suspects_are last marks accused) at h)
+
+pub suspect_contains : (last : List ℕ) (marks : List Mark) (accused : Option ℕ) (call : ℕ) → call < length last
+    → is_marked is_unjudged last marks accused call ≡ true → Contains (suspects_of last marks accused) call
+suspect_contains last marks accused call inside p =
+    rw (suspects_are last marks accused) (contains_of_passes (is_marked is_unjudged last marks accused) (length last) call inside p)

@@ -15,7 +15,7 @@ use Rattle.answer_book.specs.Marks.{marks_of}
 use Rattle.answer_book.specs.Numbers.{numbers_below}
 use Rattle.optimal_query.specs.declared.state.State.{State}
 use Rattle.optimal_query.specs.declared.state.State.TheVariants.{Ask}
-use Rattle.optimal_query.specs.Laws.{AreColumns, Columns, IsAsked, IsLeast, doubts_in, left_after, state_in, suspects_in, worse_leaves}
+use Rattle.optimal_query.specs.Laws.{IsCallTree, CallTree, IsAsked, IsLeast, doubts_in, left_after, state_in, suspects_in, worse_leaves}
 use Rattle.optimal_query.specs.Question.{leaves_least, left_of, question_of, weight_of}
 use Rattle.optimal_query.specs.Region.{is_in}
 use Rattle.optimal_query.specs.State.{state_by, state_with, verdict_by}
@@ -25,11 +25,11 @@ use Rattle.optimal_query.proofs.PassingNumbers.{contains_of_passes, counts_one, 
 use Rattle.optimal_query.proofs.Searched.{in_from, is_marked, suspected_of, suspects_are}
 
 -- what a state of the search is made of
-pub record Parts (calls : Columns) (answers : List What) (state : State) : Type 0 where
+pub record Parts (calls : CallTree) (answers : List What) (state : State) : Type 0 where
   pub is : state_by calls.last (suspects_in calls answers) (question_of calls.last (suspects_in calls answers))
       (verdict_by (accused_of calls.routine answers) (doubts_in calls answers)) ≡ state
 
-pub parts_of : (calls : Columns) (answers : List What) (state : State) → state_in calls answers ≡ state → Parts calls answers state
+pub parts_of : (calls : CallTree) (answers : List What) (state : State) → state_in calls answers ≡ state → Parts calls answers state
 unfolding state_with
 parts_of calls answers state h = record { is = h }
 
@@ -73,14 +73,14 @@ end_cases last suspects None accused doubts state differs h = record { no_questi
 end_cases last suspects (Some c) accused doubts state differs h =
     absurd (differs c (weight_of last suspects c) (length suspects) (left_of last suspects c) h)
 
-pub asks : (calls : Columns) (answers : List What) (call weight many left : ℕ) → state_in calls answers ≡ Ask call weight many left
+pub asks : (calls : CallTree) (answers : List What) (call weight many left : ℕ) → state_in calls answers ≡ Ask call weight many left
     → Asks calls.last (suspects_in calls answers) (question_of calls.last (suspects_in calls answers)) call weight many left
 asks calls answers call weight many left h =
     let parts = parts_of calls answers (Ask call weight many left) h in
     ask_cases calls.last (suspects_in calls answers) (question_of calls.last (suspects_in calls answers)) (accused_of calls.routine answers)
     (doubts_in calls answers) call weight many left parts.is
 
-pub ends : (calls : Columns) (answers : List What) (state : State) → ((call weight many left : ℕ) → Ask call weight many left ≢ state)
+pub ends : (calls : CallTree) (answers : List What) (state : State) → ((call weight many left : ℕ) → Ask call weight many left ≢ state)
     → state_in calls answers ≡ state
     → Ends (question_of calls.last (suspects_in calls answers)) (accused_of calls.routine answers) (doubts_in calls answers) state
 ends calls answers state differs h =
@@ -123,13 +123,13 @@ least_by last suspects call k d inside least false is =
     absurd (both_ways (leaves_least last suspects call) (list_all_at test suspects k d inside is) least)
 
 -- what the worse answer on a suspect leaves is the measure
-worse_is : (calls : Columns) (answers : List What) (call : ℕ) → AreColumns calls → Contains (suspects_in calls answers) call
+worse_is : (calls : CallTree) (answers : List What) (call : ℕ) → IsCallTree calls → Contains (suspects_in calls answers) call
     → worse_leaves calls answers call ≡ left_of calls.last (suspects_in calls answers) call
 worse_is calls answers call are among =
     let leave = answers_leave calls answers call are among in
     omega (arith, leave.wrong, leave.right)
 
-pub question_is_least : (calls : Columns) (answers : List What) (call weight suspects left : ℕ) → AreColumns calls
+pub question_is_least : (calls : CallTree) (answers : List What) (call weight suspects left : ℕ) → IsCallTree calls
     → state_in calls answers ≡ Ask call weight suspects left → IsLeast calls answers call left
 question_is_least calls answers call weight many left are h =
     let last = calls.last in
@@ -158,7 +158,7 @@ unfolding weight_of
 weighs_one last suspects call itself among =
     counts_one (is_in last call) suspects among.0 call among.1 (ap (is_in last call) among.2 ∙ in_from last call call (omega arith) itself)
 
-each_leaves_fewer : (calls : Columns) (answers : List What) (call : ℕ) → AreColumns calls → Contains (suspects_in calls answers) call
+each_leaves_fewer : (calls : CallTree) (answers : List What) (call : ℕ) → IsCallTree calls → Contains (suspects_in calls answers) call
     → (answer : Judgement) → left_after calls answers call answer < length (suspects_in calls answers)
 each_leaves_fewer calls answers call are among Wrong =
     let leave = answers_leave calls answers call are among in
@@ -172,7 +172,7 @@ each_leaves_fewer calls answers call are among Unknown =
     let leave = answers_leave calls answers call are among in
     omega (arith, leave.unknown)
 
-pub question_is_asked : (calls : Columns) (answers : List What) (call weight suspects left : ℕ) → AreColumns calls
+pub question_is_asked : (calls : CallTree) (answers : List What) (call weight suspects left : ℕ) → IsCallTree calls
     → state_in calls answers ≡ Ask call weight suspects left → IsAsked calls answers call weight suspects
 question_is_asked calls answers call weight many left are h =
     let asked = asks calls answers call weight many left h in

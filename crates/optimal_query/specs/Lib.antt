@@ -5,3 +5,8 @@ pub mod Laws
 pub mod Narrowing
 pub mod Search
 pub mod PlainKept
+pub mod Changed
+pub mod DebugKept
+pub mod Nested
+pub mod Markings
+pub mod Runs

@@ -7,26 +7,26 @@ use Rattle.answer_book.specs.declared.entries.What.{What}
 use Rattle.answer_book.specs.Accused.{accused_of}
 use Rattle.answer_book.specs.Clear.{is_clear}
 use Rattle.optimal_query.specs.declared.state.State.TheVariants.{Found}
-use Rattle.optimal_query.specs.Laws.{AreColumns, Columns, doubts_in, mark_in, state_in, suspects_in}
+use Rattle.optimal_query.specs.Laws.{IsCallTree, CallTree, doubts_in, mark_in, state_in, suspects_in}
 
 -- for each call whether it went wrong
 abbrev pub Truth : Type 0
 Truth = ℕ → Bool
 
 -- the calls that are marked right or trusted did not go wrong, and those that are marked wrong did
-pub record AgreesWithMarks (calls : Columns) (answers : List What) (went_wrong : Truth) : Type 0 where
+pub record AgreesWithMarks (calls : CallTree) (answers : List What) (went_wrong : Truth) : Type 0 where
   pub clear : (call : ℕ) → call < length calls.last → is_clear (mark_in calls answers call) ≡ true
       → went_wrong call ≡ false
   pub wrong : (call : ℕ) → call < length calls.last → mark_in calls answers call ≡ mark.Wrong → went_wrong call ≡ true
 
 -- the call went wrong, and each of its children went right
-pub record IsBuggy (calls : Columns) (went_wrong : Truth) (call : ℕ) : Type 0 where
+pub record IsBuggy (calls : CallTree) (went_wrong : Truth) (call : ℕ) : Type 0 where
   pub a_call : call < length calls.last
   pub wrong : went_wrong call ≡ true
   pub children_right : (child : ℕ) → IsParent calls.parent call child → went_wrong child ≡ false
 
 -- the call is the accused, a suspect or a doubt
-abbrev pub IsLeft : Columns → List What → ℕ → Type 0
+abbrev pub IsLeft : CallTree → List What → ℕ → Type 0
 IsLeft calls answers call =
     (accused_of calls.routine answers ≡ Some call) ⊎ Contains (suspects_in calls answers) call
     ⊎ Contains (doubts_in calls answers) call
@@ -34,13 +34,13 @@ IsLeft calls answers call =
 -- if a call is accused, then whatever the truth is, one of the calls that are left is buggy
 abbrev pub BuggyIsLeft : Type 0
 BuggyIsLeft =
-    (calls : Columns) (answers : List What) (accused : ℕ) (went_wrong : Truth) → AreColumns calls
+    (calls : CallTree) (answers : List What) (accused : ℕ) (went_wrong : Truth) → IsCallTree calls
     → accused_of calls.routine answers ≡ Some accused → AgreesWithMarks calls answers went_wrong
     → (call : ℕ) × IsLeft calls answers call × IsBuggy calls went_wrong call
 
 -- and a call that is found is buggy
 abbrev pub FoundIsBuggy : Type 0
 FoundIsBuggy =
-    (calls : Columns) (answers : List What) (call : ℕ) (went_wrong : Truth) → AreColumns calls
+    (calls : CallTree) (answers : List What) (call : ℕ) (went_wrong : Truth) → IsCallTree calls
     → state_in calls answers ≡ Found call → AgreesWithMarks calls answers went_wrong
     → IsBuggy calls went_wrong call

@@ -1,11 +1,13 @@
 -- How a plain search is kept.
 use Rattle.std.specs.Prelude.{◌≡◌, ◌≤◌, length}
 use Rattle.optimal_query.specs.declared.plain_debug.PlainDebug.TheInside.{Inside}
+use Rattle.call_tree.specs.Recording.{depths_of}
 use Rattle.optimal_query.specs.Search.{Search}
 
 abbrev pub plain_search_of : Inside → Search
 plain_search_of kept = record {
   last = kept.last.items;
+  depth = depths_of kept.calls.value.calls;
   book = record { routine = kept.routine.items; routines = kept.routines; entries = kept.entries };
 }
 

@@ -3,9 +3,14 @@
 #![tactic(auto)]
 
 pub mod laws;
+mod markings;
 pub mod plain;
 mod plain_debug;
+mod region;
+mod runs;
+mod search;
 mod state;
 
 pub use plain_debug::PlainDebug;
+pub use search::Debug;
 pub use state::State;

@@ -15,11 +15,13 @@ use call_tree::{Calls, Mark};
 use cell_value::Memory;
 use std::alloc::Global;
 use std::marker::Model;
+use std::snapshot::Snapshot;
 
 /// A search that keeps nothing but the columns of the calls and the entries, and looks through all
 /// of them for each answer. It is what tests compare `Debug` with.
 #[derive(Drop)]
 pub struct PlainDebug {
+    calls: Snapshot<Calls>,
     last: Vec<u32>,
     routine: Vec<u32>,
     routines: u32,
@@ -98,6 +100,7 @@ impl PlainDebug {
         let routine = Vec::from_slice(alloc, calls.routine_column())?;
         let entries = EntryList::new(alloc)?;
         Ok(PlainDebug {
+            calls: Snapshot::of(calls),
             last,
             routine,
             routines: calls.routines(),

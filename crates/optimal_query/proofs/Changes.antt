@@ -1,0 +1,158 @@
+-- What an entry changes, when it is made and when it is taken back.
+use Rattle.std.proofs.Common.{◌≡◌, ℕ, zero, suc, ◌+◌, ◌-◌, ◌<◌, ◌≤◌, Bool, true, false, cond, List, [], ◌∷◌, ◌++◌, length, Option, Some, None, Result, Ok, Err}
+use Rattle.std.proofs.Common.{inl, inr, refl, sym, ap, ◌∙◌, get_or-set_same, arith}
+use Rattle.std.specs.Prelude.{◌==◌, nat_le, slice_get, slice_index, slice_set}
+use Rattle.std.proofs.lemmas.Bool.{cases_eq, false≢true, leb-false}
+use Rattle.std.proofs.lemmas.List.{length-map, length-set}
+use Rattle.std.proofs.lemmas.Option.{same_Some, slice_get-get_or, slice_get_within}
+use Rattle.call_tree.specs.Recording.{Recording}
+use Rattle.call_tree.specs.declared.records.Call.{Call}
+use Rattle.answer_book.specs.declared.entries.BookFault.{BookFault}
+use Rattle.answer_book.specs.declared.entries.BookFault.TheVariants as fault
+use Rattle.answer_book.specs.declared.entries.Entry.{Entry}
+use Rattle.answer_book.specs.declared.entries.Judgement.{Judgement}
+use Rattle.answer_book.specs.declared.entries.What.{What}
+use Rattle.answer_book.specs.declared.entries.What.TheVariants.{Judged, Trusted}
+use Rattle.answer_book.specs.Accused.{accused_of, is_wrong}
+use Rattle.answer_book.specs.Answers.{Answers, judge_answer, next_number, number_or_fault, take_back_answer, take_back_last_answer, with_answer, without_answer}
+use Rattle.answer_book.specs.Entries.{entries_with, entries_without, entry_at, entry_saying, is_standing, is_standing_entry, last_standing, standing_answers}
+use Rattle.answer_book.specs.Entries.{with_taken_back}
+use Rattle.answer_book.specs.InRange.{IsInRange}
+use Rattle.answer_book.specs.Marks.{is_trusted, last_judgement, mark_given, mark_of}
+use Rattle.answer_book.proofs.EntryLemmas.{answers_with, on_another}
+use Rattle.answer_book.proofs.KeptLemmas.{column_set}
+use Rattle.answer_book.proofs.LastWhere.{last_where_is}
+use Rattle.answer_book.proofs.WithdrawnLemmas.{entry_is_withdrawn, same_judgement, same_trust}
+use Rattle.optimal_query.specs.Changed.{ChangesOne, WereMarks}
+use Rattle.optimal_query.specs.DebugKept.{AreKept}
+use Rattle.optimal_query.proofs.OneMoreAnswer.{accused_is_last, old_mark}
+use Rattle.subtree_weights.specs.RunColumns.{Columns}
+use Rattle.subtree_weights.specs.Weighed.{Weighed, calls_in}
+
+pub kept_length : (run : Recording) (book : Answers) (weighed : Weighed) → AreKept run book weighed → length book.routine ≡ calls_in weighed
+kept_length run book weighed kept =
+    sym (ap length kept.routines) ∙ length-map run.calls (λ (call : Call). call.routine) ∙ sym (length-map run.calls (λ (call : Call). call.last))
+    ∙ ap (λ (k : Columns). length k.last) kept.columns
+
+-- the accused is a call
+pub accused_known : (run : Recording) (book : Answers) (weighed : Weighed) → AreKept run book weighed → (call : ℕ)
+    → accused_of book.routine (standing_answers book.entries) ≡ Some call → call < calls_in weighed
+accused_known run book weighed kept call h =
+    let found = last_where_is (λ k. is_wrong (mark_of book.routine (standing_answers book.entries) k)) (length book.routine) call
+    (accused_is_last book.routine (standing_answers book.entries) (Some call) h) in
+    omega (arith, found.inside, kept_length run book weighed kept)
+
+judged_by : (book : Answers) (call number : ℕ) (b : Bool) → nat_le (length book.routine) call ≡ b
+    → cond b (Err (fault.NoCall call)) (next_number book.entries) ≡ Ok number → call < length book.routine
+judged_by book call number true is h = absurd (let l : ⊥ = cc in l)
+judged_by book call number false is h = leb-false (length book.routine) call is
+
+pub judged_call : (book : Answers) (call number : ℕ) → judge_answer book call ≡ Ok number → call < length book.routine
+judged_call book call number h = judged_by book call number (nat_le (length book.routine) call) refl h
+
+-- a judgement changes the mark of its call alone
+pub were_judged : (run : Recording) (book : Answers) (weighed : Weighed) (call : ℕ) (judgement : Judgement) → AreKept run book weighed
+    → call < length book.routine → ChangesOne (with_answer book (Judged call judgement)) weighed.marks call
+were_judged run book weighed call judgement kept inside =
+    let old = standing_answers book.entries in
+    let new = standing_answers (entries_with book.entries (Judged call judgement)) in
+    let more : new ≡ old ++ Judged call judgement ∷ [] = answers_with book.entries (Judged call judgement) in
+    record {
+      a_call = inside;
+      others_stay = ap (λ m. slice_set m call (mark_of book.routine new call)) kept.marks
+          ∙ column_set (mark_of book.routine old) (mark_of book.routine new) (length book.routine) call (mark_of book.routine new call) inside refl
+          (λ other h differs. ap (λ a. mark_of book.routine a other) more ∙ old_mark book.routine old call judgement other differs);
+    }
+
+same_mark : (routine : List ℕ) (one other : List What) (call : ℕ) → last_judgement one call ≡ last_judgement other call
+    → is_trusted one (slice_index routine call) ≡ is_trusted other (slice_index routine call) → mark_of routine one call ≡ mark_of routine other call
+unfolding mark_of
+same_mark routine one other call judged trusted =
+    ap (λ o. mark_given o (is_trusted one (slice_index routine call))) judged ∙ ap (mark_given (last_judgement other call)) trusted
+
+-- and so when it is taken back
+pub were_withdrawn : (run : Recording) (book : Answers) (weighed : Weighed) (number : ℕ) (what : What) → AreKept run book weighed
+    → entry_at book.entries number ≡ Some (entry_saying what) → IsInRange (length book.routine) book.routines what
+    → WereMarks (without_answer book number) weighed.marks what
+were_withdrawn run book weighed number (Trusted routine) kept at named = tt
+were_withdrawn run book weighed number (Judged call judgement) kept at named =
+    let old = standing_answers book.entries in
+    let after = entries_without book.entries number in
+    let new = standing_answers after in
+    let what = Judged call judgement in
+    let w = entry_is_withdrawn book.entries number what at in
+    record {
+      a_call = named;
+      others_stay = ap (λ m. slice_set m call (mark_of book.routine new call)) kept.marks
+          ∙ column_set (mark_of book.routine old) (mark_of book.routine new) (length book.routine) call (mark_of book.routine new call) named refl
+          (λ other h differs. same_mark book.routine new old other
+          (same_judgement book.entries after (number - 1) what other w (on_another call other judgement differs))
+          (same_trust book.entries after (number - 1) what (slice_index book.routine other) w refl));
+    }
+
+at_case : (b : Bool) (o : Option Entry) (entry : Entry) → cond b None o ≡ Some entry → (b ≡ false) × (o ≡ Some entry)
+at_case true o entry h = absurd (let l : ⊥ = cc in l)
+at_case false o entry h = (refl, h)
+
+standing_is : (entry : Entry) → entry.standing ≡ true → entry ≡ entry_saying entry.what
+standing_is entry h = ap (λ b. let e : Entry = record { what = entry.what; standing = b } in e) h
+
+said_before : (entries : List Entry) (number : ℕ) (o : Option Entry) (after : Entry) → entry_at entries number ≡ o → is_standing_entry o ≡ true
+    → entry_at (with_taken_back entries (number - 1) o) number ≡ Some after → entry_at entries number ≡ Some (entry_saying after.what)
+said_before entries number None after at stands found = absurd (false≢true stands)
+said_before entries number (Some entry) after at stands found =
+    let taken : Entry = record { what = entry.what; standing = false } in
+    let before = at_case (number == 0) (slice_get entries (number - 1)) entry at in
+    let then = at_case (number == 0) (slice_get (slice_set entries (number - 1) taken) (number - 1)) after found in
+    let inside = slice_get_within entries (number - 1) entry before.1 in
+    let long : number - 1 < length (slice_set entries (number - 1) taken) = omega (arith, inside, length-set entries (number - 1) taken) in
+    let same : taken ≡ after =
+    same_Some taken after (sym (slice_get-get_or (slice_set entries (number - 1) taken) (number - 1) taken long
+    ∙ ap Some (get_or-set_same entries (number - 1) taken taken inside)) ∙ then.1) in
+    let what : entry.what ≡ after.what = ap (λ (e : Entry). e.what) same in
+    at ∙ ap Some (standing_is entry stands ∙ ap entry_saying what)
+
+-- an entry that was taken back said what it says now, and stood
+pub entry_before : (entries : List Entry) (number : ℕ) (after : Entry) → is_standing entries number ≡ true
+    → entry_at (entries_without entries number) number ≡ Some after → entry_at entries number ≡ Some (entry_saying after.what)
+entry_before entries number after stands found = said_before entries number (entry_at entries number) after refl stands found
+
+taken_by : (number : ℕ) (b : Bool) → ◌≡◌ {A = Result (Unit {0}) BookFault} (cond b (Ok tt) (Err (fault.NotStanding number))) (Ok tt) → b ≡ true
+taken_by number true h = refl
+taken_by number false h = absurd (let l : ⊥ = cc in l)
+
+pub stood : (book : Answers) (number : ℕ) → take_back_answer book number ≡ Ok tt → is_standing book.entries number ≡ true
+stood book number h = taken_by number (is_standing book.entries number) h
+
+last_by : (o : Option ℕ) (number : ℕ) → number_or_fault o ≡ Ok number → o ≡ Some number
+last_by None number h = absurd (let l : ⊥ = cc in l)
+last_by (Some other) number h = let same : other ≡ number = cc in ap Some same
+
+-- the last entry that stands
+pub record IsLastStanding (entries : List Entry) (number : ℕ) : Type 0 where
+  pub stands : is_standing entries number ≡ true
+  pub from_one : 1 ≤ number
+  pub made : number ≤ length entries
+
+nothing_at_zero : (entries : List Entry) (number : ℕ) → is_standing entries number ≡ true → number ≡ 0 → ⊥
+nothing_at_zero entries zero stands h = false≢true stands
+nothing_at_zero entries (suc number) stands h = let l : ⊥ = omega arith in l
+
+pub last_stood : (book : Answers) (number : ℕ) → take_back_last_answer book ≡ Ok number → IsLastStanding book.entries number
+last_stood book number h =
+    let found = last_where_is (is_standing book.entries) (length book.entries + 1) number (last_by (last_standing book.entries) number h) in
+    record {
+      stands = found.passes;
+      from_one = elim (cases_eq number 0) [
+        | inl same ↦ absurd (nothing_at_zero book.entries number found.passes same)
+        | inr differs ↦ omega arith
+      ];
+      made = omega (arith, found.inside);
+    }
+
+without_long : (entries : List Entry) (place : ℕ) (o : Option Entry) → length (with_taken_back entries place o) ≡ length entries
+without_long entries place None = refl
+without_long entries place (Some entry) = length-set entries place (record { what = entry.what; standing = false })
+
+pub without_length : (entries : List Entry) (number : ℕ) → length (entries_without entries number) ≡ length entries
+without_length entries number = without_long entries (number - 1) (entry_at entries number)

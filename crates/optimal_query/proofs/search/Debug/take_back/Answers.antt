@@ -1,0 +1,30 @@
+use Rattle.std.proofs.Common.{◌≡◌, ◌∙◌, ℕ, List, Some, sym, ap, arith}
+use Rattle.answer_book.specs.Entries.{entry_at, entry_saying}
+use Rattle.optimal_query.specs.Changed.{most_steps, most_steps_at}
+use Rattle.optimal_query.specs.Search.{Search}
+use Rattle.optimal_query.proofs.Changes.{entry_before, stood, were_withdrawn}
+use Rattle.optimal_query.proofs.search.Debug.take_back.Goals as goal
+use Rattle.subtree_weights.specs.RunColumns.{Columns}
+
+pub follow-requires-clause-were : goal.follow-requires-clause-were
+follow-requires-clause-were g c =
+    let book = c.self.inside.book in
+    let found = rw c.in-Ok.ensures.taken_back at c.entry-what.ensures.found in
+    let named = rw c.in-Ok.ensures.taken_back at c.entry-what.ensures.named in
+    let before = entry_before book.entries c.args.entry c.entry-what.result (stood book c.args.entry (sym c.in-Ok.ensures.answer)) found in
+    rw c.in-Ok.ensures.taken_back
+    (were_withdrawn c.self.inside.calls.now book c.self.inside.markings c.args.entry c.entry-what.result.what c.self.invariant before named)
+
+pub returns-in-Ok-clause-cost : goal.returns-in-Ok-clause-cost
+returns-in-Ok-clause-cost g c =
+    let book = c.self.inside.book in
+    let what = c.entry-what.result.what in
+    let found = rw c.in-Ok.ensures.taken_back at c.entry-what.ensures.found in
+    let before = entry_before book.entries c.args.entry c.entry-what.result (stood book c.args.entry (sym c.in-Ok.ensures.answer)) found in
+    let entry : entry_at c.args.self.now.book.entries c.args.entry ≡ Some (entry_saying what) =
+    sym (ap (λ (s : Search). entry_at s.book.entries c.args.entry) c.self.view_is) ∙ before in
+    let depth : c.args.self.now.depth ≡ c.self.inside.markings.columns.depth =
+    sym (ap (λ (s : Search). s.depth) c.self.view_is) ∙ ap (λ (k : Columns). k.depth) c.self.invariant.columns in
+    let most : most_steps_at c.args.self.now (entry_at c.args.self.now.book.entries c.args.entry) ≡ most_steps c.self.inside.markings.columns.depth what =
+    ap (most_steps_at c.args.self.now) entry ∙ ap (λ (d : List ℕ). most_steps d what) depth in
+    omega (arith, c.follow.ensures.cost, most)

@@ -1,0 +1,29 @@
+-- How the marks of a search are kept: with the weights of the calls, and with a flag for each that nothing is said of.
+use Rattle.std.specs.Prelude.{◌≡◌, ℕ, List, Option, Some, None, length, map}
+use Rattle.call_tree.specs.declared.records.Mark.{Mark}
+use Rattle.call_tree.specs.declared.records.Mark.TheVariants.{Unjudged}
+use Rattle.optimal_query.specs.declared.markings.Markings.TheInside.{Inside}
+use Rattle.optimal_query.specs.declared.state.State.{State}
+use Rattle.optimal_query.specs.declared.state.State.TheVariants.{Found, Narrowed, NothingWrong, Unclear}
+use Rattle.subtree_weights.specs.Weighed.{Weighed, calls_in}
+
+-- the flag of a call with this mark
+abbrev pub askable_flag : Mark → ℕ
+askable_flag Unjudged = 1
+askable_flag _ = 0
+
+-- the marks are those that the weights are of, one for each call, and the flags are theirs
+pub record AreMarkings (weighed : Weighed) (marks : List Mark) (askable : List ℕ) : Type 0 where
+  pub same : marks ≡ weighed.marks
+  pub flagged : askable ≡ map askable_flag weighed.marks
+  pub each : length weighed.marks ≡ calls_in weighed
+
+abbrev pub AreKeptMarkings : Inside → Type 0
+AreKeptMarkings kept = AreMarkings kept.weights kept.marks.items kept.askable.items
+
+-- the verdict, by the accused and the first doubt
+abbrev pub verdict_from : Option ℕ → Option ℕ → State
+verdict_from (Some accused) None = Found accused
+verdict_from (Some accused) (Some doubt) = Narrowed accused
+verdict_from None None = NothingWrong
+verdict_from None (Some doubt) = Unclear

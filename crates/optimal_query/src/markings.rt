@@ -1,0 +1,206 @@
+//! The marks of the calls, with their weights.
+ghost use Rattle.std.specs.Prelude.{◌≡◌, ◌+◌, ◌*◌, ◌<◌, ◌≤◌, ◌^◌, [], IfOk, length, map, slice_index};
+ghost use Rattle.std.specs.Option.{ForSome};
+ghost use Rattle.answer_book.specs.Entries.{standing_answers};
+ghost use Rattle.answer_book.specs.Marks.{marks_of};
+ghost use Rattle.call_tree.specs.Recording.{routines_of};
+ghost use Rattle.optimal_query.specs.Markings.{askable_flag, verdict_from};
+ghost use Rattle.optimal_query.specs.Region.{doubts_of, next_after};
+ghost use Rattle.optimal_query.specs.State.{state_with};
+ghost use Rattle.subtree_weights.specs.RunColumns.{columns_of};
+ghost use Rattle.subtree_weights.specs.Weighed.{calls_in, unjudged, with_mark, with_marks};
+ghost use Rattle.subtree_weights.specs.Weights.{suspects_below};
+
+use crate::region::{end, next_doubt, start};
+use crate::runs::best_of_runs;
+use crate::state::State;
+use answer_book::Book;
+use call_tree::{Calls, Mark};
+use cell_value::{Memory, Steps};
+use std::alloc::Global;
+use std::marker::Model;
+use subtree_weights::Weights;
+use subtree_weights::laws::weights_count_suspects;
+
+/// The mark of each call, and beside it the weights and a flag for each call that nothing is said
+/// of. Clauses see the columns of the calls and the marks.
+///
+/// A step is one visit of these columns at one call.
+#[derive(Drop)]
+pub(crate) struct Markings {
+    weights: Weights,
+    marks: Vec<Mark>,
+    askable: Vec<u8>,
+}
+
+impl Model for Markings {
+    ghost use Rattle.subtree_weights.specs.Weighed.{Weighed};
+
+    ghost Value = { Weighed };
+
+    ghost use Rattle.optimal_query.specs.Markings.{AreKeptMarkings};
+
+    ghost view = { λ m. m.weights };
+
+    ghost invariant = { AreKeptMarkings };
+}
+
+/// The flag of a call with this mark.
+fn flag(mark: Mark) -> u8
+    ensures { result ≡ askable_flag mark }
+{
+    match mark {
+        Mark::Unjudged => 1,
+        _ => 0,
+    }
+}
+
+/// Looks up the mark of each call in the book.
+fn look_up<L>(
+    calls: &Calls,
+    book: &Book,
+    marks: &mut [Mark],
+    askable: &mut [u8],
+    steps: &mut Steps<L>,
+)
+    requires those_calls { routines_of calls.now.calls ≡ book.now.routine }
+    requires each { length marks.old ≡ length book.now.routine }
+    requires flags { length askable.old ≡ length book.now.routine }
+    requires few { length calls.now.calls ≤ 500000 }
+    ensures marks { marks.new ≡ marks_of book.now.routine (standing_answers book.now.entries) }
+    ensures askable { askable.new ≡ map askable_flag marks.new }
+    ensures cost { steps.new ≡ steps.old + length book.now.routine }
+{
+    for call in 0..marks.len() {
+        let mark = book.mark(calls, call as u32);
+        marks[call] = mark;
+        askable[call] = flag(mark);
+        steps.tick();
+    }
+}
+
+/// With no suspect left, what the search has come to.
+fn verdict(accused: Option<u32>, doubt: Option<u32>) -> State
+    ensures { result ≡ verdict_from accused doubt }
+{
+    match (accused, doubt) {
+        (Some(call), None) => State::Found(call),
+        (Some(call), Some(_)) => State::Narrowed(call),
+        (None, None) => State::NothingWrong,
+        (None, Some(_)) => State::Unclear,
+    }
+}
+
+impl Markings {
+    /// The markings of these calls while nothing is said of them.
+    pub fn new(alloc: Global, calls: &Calls) -> Result<Markings, Memory>
+        requires a_call { 0 < length calls.now.calls }
+        requires all_left { calls.now.open_calls ≡ [] }
+        ensures { IfOk result (λ markings. markings ≡ unjudged calls.now.calls) }
+    {
+        let weights = Weights::new(alloc, calls)?;
+        let marks = vec![in alloc; Mark::Unjudged; calls.len() as usize]?;
+        let askable = vec![in alloc; 1; calls.len() as usize]?;
+        Ok(Markings {
+            weights,
+            marks,
+            askable,
+        })
+    }
+
+    /// Changes the mark of one call.
+    pub fn set<L>(&mut self, calls: &Calls, call: u32, mark: Mark, steps: &mut Steps<L>)
+        requires those_calls { columns_of calls.now.calls ≡ self.old.columns }
+        requires a_call { call < calls_in self.old }
+        ensures changed { self.new ≡ with_mark self.old call mark }
+        ensures not_fallen { steps.old ≤ steps.new }
+        ensures cost { steps.new ≤ steps.old + slice_index self.old.columns.depth call + 1 }
+    {
+        let place = call as usize;
+        let before = self.marks[place];
+        self.weights.changed(calls, call, before, mark, steps);
+        self.marks[place] = mark;
+        self.askable[place] = flag(mark);
+    }
+
+    /// Takes all marks from the book anew.
+    pub fn refresh<L>(&mut self, calls: &Calls, book: &Book, steps: &mut Steps<L>)
+        requires those_calls { columns_of calls.now.calls ≡ self.old.columns }
+        requires the_book { routines_of calls.now.calls ≡ book.now.routine }
+        requires all_left { calls.now.open_calls ≡ [] }
+        ensures refreshed { self.new ≡ with_marks self.old
+            (marks_of book.now.routine (standing_answers book.now.entries)) }
+        ensures not_fallen { steps.old ≤ steps.new }
+        ensures cost { steps.new ≤ steps.old + 4 * calls_in self.old }
+    {
+        calls.are_numbered();
+        look_up(calls, book, &mut self.marks, &mut self.askable, steps);
+        self.weights.recount(calls, &self.marks, steps);
+    }
+
+    /// How many suspects there are.
+    fn suspects(&self, calls: &Calls, accused: Option<u32>) -> u32
+        requires those_calls { columns_of calls.now.calls ≡ self.now.columns }
+        requires a_call { 0 < calls_in self.now }
+        requires all_left { calls.now.open_calls ≡ [] }
+        requires accused_is_a_call { ForSome accused (λ accused. accused < calls_in self.now) }
+        ensures { result ≡ suspects_below self.now.columns.last self.now.marks accused }
+    {
+        calls.are_numbered();
+        // All suspects are what the first call weighs.
+        weights_count_suspects();
+        match accused {
+            Some(accused) => self.weights.under(accused),
+            None => self.weights.weight(0),
+        }
+    }
+
+    /// The state of the search, in which this call is accused.
+    pub fn state(&self, calls: &Calls, accused: Option<u32>) -> State
+        requires those_calls { columns_of calls.now.calls ≡ self.now.columns }
+        requires a_call { 0 < calls_in self.now }
+        requires all_left { calls.now.open_calls ≡ [] }
+        requires accused_is_a_call { ForSome accused (λ accused. accused < calls_in self.now) }
+        ensures { result ≡ state_with self.now.columns.last self.now.marks accused }
+    {
+        calls.are_numbered();
+        // A suspect weighs as many suspects as stand in its subtree.
+        weights_count_suspects();
+        let last = calls.last_column();
+        let suspects = self.suspects(calls, accused);
+        let (from, to) = (start(accused), end(last, accused));
+        let best = best_of_runs(
+            last,
+            self.weights.column(),
+            &self.askable,
+            suspects,
+            from,
+            to,
+        );
+        match best {
+            Some(choice) => State::Ask {
+                call: choice.at as u32,
+                weight: self.weights.weight(choice.at as u32),
+                suspects,
+                left: choice.left,
+            },
+            None => verdict(accused, next_doubt(last, &self.marks, accused, None)),
+        }
+    }
+
+    /// The least doubt, or the least one after the call that is given.
+    pub fn next_unknown(
+        &self,
+        calls: &Calls,
+        accused: Option<u32>,
+        after: Option<u32>,
+    ) -> Option<u32>
+        requires those_calls { columns_of calls.now.calls ≡ self.now.columns }
+        requires all_left { calls.now.open_calls ≡ [] }
+        requires accused_is_a_call { ForSome accused (λ accused. accused < calls_in self.now) }
+        ensures { result ≡ next_after (doubts_of self.now.columns.last self.now.marks accused) after }
+    {
+        calls.are_numbered();
+        next_doubt(calls.last_column(), &self.marks, accused, after)
+    }
+}
