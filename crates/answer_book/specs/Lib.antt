@@ -1,7 +1,6 @@
 pub mod Numbers
 pub mod Room
 pub mod Entries
-pub mod Clear
 pub mod Marks
 pub mod Accused
 pub mod Answers

@@ -2,3 +2,4 @@ pub mod Recording
 pub mod Numbering
 pub mod Nesting
 pub mod Kept
+pub mod Clear

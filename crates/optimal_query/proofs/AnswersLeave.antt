@@ -10,12 +10,13 @@ use Rattle.answer_book.specs.declared.entries.Judgement.{Judgement}
 use Rattle.answer_book.specs.declared.entries.Judgement.TheVariants.{Right, Wrong, Unknown}
 use Rattle.answer_book.specs.declared.entries.What.{What}
 use Rattle.answer_book.specs.Accused.{accused_of}
-use Rattle.answer_book.specs.Clear.{is_unjudged}
+use Rattle.call_tree.specs.Clear.{is_unjudged}
 use Rattle.answer_book.specs.Marks.{mark_by, mark_of, marks_of}
 use Rattle.answer_book.specs.Numbers.{numbers_below}
 use Rattle.optimal_query.specs.Laws.{IsCallTree, CallTree, LeaveWhatIsCounted, judged, suspects_in}
 use Rattle.optimal_query.specs.Question.{weight_of}
-use Rattle.optimal_query.specs.Region.{is_in, is_searched, mark_at, suspects_of}
+use Rattle.optimal_query.specs.Region.{suspects_of}
+use Rattle.subtree_weights.specs.Searched.{is_in, is_searched, mark_at}
 use Rattle.optimal_query.specs.State.{suspects_after}
 use Rattle.optimal_query.proofs.OneMoreAnswer.{Changes, accused_kept, accused_wrong, at_mark, changes, kept_test, right_test, weight_is, wrong_test}
 use Rattle.optimal_query.proofs.PassingNumbers.{and_true, filter_filter, filter_same, one_more}

@@ -9,14 +9,15 @@ use Rattle.call_tree.specs.declared.records.Mark.{Mark}
 use Rattle.call_tree.specs.declared.records.Mark.TheVariants.{Unjudged, Right, Wrong, Unknown, Trusted}
 use Rattle.answer_book.specs.declared.entries.What.{What}
 use Rattle.answer_book.specs.Accused.{accused_of, is_wrong}
-use Rattle.answer_book.specs.Clear.{is_clear, is_unjudged, is_unknown}
+use Rattle.call_tree.specs.Clear.{is_clear, is_unjudged, is_unknown}
 use Rattle.answer_book.specs.Marks.{mark_of, marks_of}
 use Rattle.answer_book.specs.Numbers.{last_where, numbers_below}
 use Rattle.answer_book.proofs.LastWhere.{IsLast, last_where_is, none_passes_where}
 use Rattle.optimal_query.specs.declared.state.State.TheVariants.{Found, NothingWrong}
 use Rattle.optimal_query.specs.Laws.{IsCallTree, CallTree, IsAtFault, IsNothing, doubts_in, mark_in, region_in, state_in, suspects_in}
 use Rattle.optimal_query.specs.Narrowing.{AgreesWithMarks, IsBuggy, IsLeft, Truth}
-use Rattle.optimal_query.specs.Region.{doubts_of, is_below, is_searched, mark_at, suspects_of}
+use Rattle.optimal_query.specs.Region.{doubts_of, suspects_of}
+use Rattle.subtree_weights.specs.Searched.{is_below, is_searched, mark_at}
 use Rattle.optimal_query.specs.State.{verdict_by}
 use Rattle.optimal_query.proofs.LeastExists.{no_question}
 use Rattle.optimal_query.proofs.OneMoreAnswer.{accused_is_last, at_mark}

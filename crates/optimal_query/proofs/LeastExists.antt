@@ -6,7 +6,7 @@ use Rattle.std.proofs.lemmas.Bool.{both_ways, cases_order, le-leb}
 use Rattle.std.proofs.lemmas.List.Elements.{All-contains, All-from_recursion, All-head, All-tail}
 use Rattle.std.proofs.lemmas.List.Sums.{count_by-le-length}
 use Rattle.optimal_query.specs.Question.{leaves_least, left_of, question_of, weight_of}
-use Rattle.optimal_query.specs.Region.{is_in}
+use Rattle.subtree_weights.specs.Searched.{is_in}
 
 -- an element with the least value
 pub record Least (value : ℕ → ℕ) (xs : List ℕ) : Type 0 where

@@ -7,10 +7,11 @@ use Rattle.std.proofs.lemmas.Bool.{and_from, and_parts, both_ways}
 use Rattle.call_tree.specs.Numbering.{IsNumbered}
 use Rattle.call_tree.specs.declared.records.Mark.{Mark}
 use Rattle.call_tree.specs.declared.records.Mark.TheVariants.{Unjudged, Right, Wrong, Unknown, Trusted}
-use Rattle.answer_book.specs.Clear.{is_clear, is_unknown}
+use Rattle.call_tree.specs.Clear.{is_clear, is_unknown}
 use Rattle.answer_book.specs.Numbers.{numbers_below}
 use Rattle.optimal_query.specs.Nested.{AreNested, end_below, start_below}
-use Rattle.optimal_query.specs.Region.{doubts_of, is_after, is_below, is_searched, mark_at, next_after}
+use Rattle.optimal_query.specs.Region.{doubts_of, is_after, next_after}
+use Rattle.subtree_weights.specs.Searched.{is_below, is_searched, mark_at}
 use Rattle.optimal_query.proofs.BestOfRuns.{cases_lt}
 use Rattle.optimal_query.proofs.PassingNumbers.{find_filter, first_from, none_to_find}
 use Rattle.optimal_query.proofs.Searched.{Searched, below_from, below_parts, doubts_are, is_marked, nested, searched_from, searched_parts}

@@ -17,14 +17,14 @@ use Rattle.answer_book.specs.declared.entries.Judgement.TheVariants.{Wrong}
 use Rattle.answer_book.specs.declared.entries.What.{What}
 use Rattle.answer_book.specs.declared.entries.What.TheVariants.{Judged}
 use Rattle.answer_book.specs.Accused.{accused_of, is_wrong}
-use Rattle.answer_book.specs.Clear.{is_clear}
+use Rattle.call_tree.specs.Clear.{is_clear}
 use Rattle.answer_book.specs.Marks.{is_trusted, judgement_on, last_judgement, mark_by, mark_given, mark_of, marks_of, trusts}
 use Rattle.answer_book.specs.Numbers.{last_of, last_where, numbers_below}
 use Rattle.answer_book.proofs.FilterMaps.{gives_none, gives_one}
 use Rattle.answer_book.proofs.LastWhere.{last_of_more, last_where_from, last_where_is, last_where_same, none_passes_where}
 use Rattle.optimal_query.specs.Laws.{judged}
 use Rattle.optimal_query.specs.Question.{weight_of}
-use Rattle.optimal_query.specs.Region.{is_below, is_in, is_searched, mark_at}
+use Rattle.subtree_weights.specs.Searched.{is_below, is_in, is_searched, mark_at}
 use Rattle.optimal_query.proofs.PassingNumbers.{filter_filter, or_false, same_test}
 use Rattle.optimal_query.proofs.Searched.{Covers, Searched, below_between, below_deeper, below_from, below_parts, in_from, in_parts}
 use Rattle.optimal_query.proofs.Searched.{searched_from, searched_parts}

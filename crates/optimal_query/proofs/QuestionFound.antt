@@ -7,7 +7,7 @@ use Rattle.std.proofs.lemmas.Bool.{and_from, and_left, and_right, le-leb, lt-leb
 use Rattle.std.proofs.lemmas.List.Elements.{All-head, All-tail, Contains-get_or}
 use Rattle.std.proofs.lemmas.List.Folds.{list_all_at}
 use Rattle.call_tree.specs.declared.records.Mark.{Mark}
-use Rattle.answer_book.specs.Clear.{is_unjudged}
+use Rattle.call_tree.specs.Clear.{is_unjudged}
 use Rattle.answer_book.specs.Numbers.{numbers_below}
 use Rattle.weight_lanes.specs.declared.choice.Choice.{Choice}
 use Rattle.weight_lanes.specs.Places.{left_at}

@@ -8,9 +8,10 @@ use Rattle.std.proofs.lemmas.List.Sums.{count_by-le-length, length-filter}
 use Rattle.call_tree.specs.Numbering.{IsNumbered}
 use Rattle.call_tree.specs.declared.records.Mark.{Mark}
 use Rattle.call_tree.specs.declared.records.Mark.TheVariants.{Unjudged, Right, Wrong, Unknown, Trusted}
-use Rattle.answer_book.specs.Clear.{is_clear, is_unjudged, is_unknown}
+use Rattle.call_tree.specs.Clear.{is_clear, is_unjudged, is_unknown}
 use Rattle.answer_book.specs.Numbers.{numbers_below}
-use Rattle.optimal_query.specs.Region.{covers, doubts_of, is_below, is_cleared, is_in, is_searched, mark_at, suspects_of}
+use Rattle.optimal_query.specs.Region.{doubts_of, suspects_of}
+use Rattle.subtree_weights.specs.Searched.{covers, is_below, is_cleared, is_in, is_searched, mark_at}
 use Rattle.optimal_query.proofs.PassingNumbers.{any_below, contains_of_passes, filter_filter, none_below, numbers_inside, passes_of_contains}
 
 -- the call `above` is clear and has the call in its subtree

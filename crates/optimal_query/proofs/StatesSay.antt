@@ -10,14 +10,14 @@ use Rattle.answer_book.specs.declared.entries.Judgement.{Judgement}
 use Rattle.answer_book.specs.declared.entries.Judgement.TheVariants.{Right, Wrong, Unknown}
 use Rattle.answer_book.specs.declared.entries.What.{What}
 use Rattle.answer_book.specs.Accused.{accused_of}
-use Rattle.answer_book.specs.Clear.{is_unjudged}
+use Rattle.call_tree.specs.Clear.{is_unjudged}
 use Rattle.answer_book.specs.Marks.{marks_of}
 use Rattle.answer_book.specs.Numbers.{numbers_below}
 use Rattle.optimal_query.specs.declared.state.State.{State}
 use Rattle.optimal_query.specs.declared.state.State.TheVariants.{Ask}
 use Rattle.optimal_query.specs.Laws.{IsCallTree, CallTree, IsAsked, IsLeast, doubts_in, left_after, state_in, suspects_in, worse_leaves}
 use Rattle.optimal_query.specs.Question.{leaves_least, left_of, question_of, weight_of}
-use Rattle.optimal_query.specs.Region.{is_in}
+use Rattle.subtree_weights.specs.Searched.{is_in}
 use Rattle.optimal_query.specs.State.{state_by, state_with, verdict_by}
 use Rattle.optimal_query.proofs.AnswersLeave.{answers_leave}
 use Rattle.optimal_query.proofs.LeastExists.{at_most_all}

@@ -10,7 +10,7 @@ use Rattle.std.proofs.lemmas.List.Sums.{length-filter}
 use Rattle.call_tree.specs.Numbering.{IsNumbered}
 use Rattle.call_tree.specs.declared.records.Mark.{Mark}
 use Rattle.call_tree.specs.declared.records.Mark.TheVariants.{Unjudged, Right, Wrong, Unknown, Trusted}
-use Rattle.answer_book.specs.Clear.{is_clear, is_unjudged}
+use Rattle.call_tree.specs.Clear.{is_clear, is_unjudged}
 use Rattle.answer_book.specs.Numbers.{numbers_below}
 use Rattle.weight_lanes.specs.declared.choice.Choice.{Choice}
 use Rattle.weight_lanes.specs.Places.{left_at}
@@ -20,7 +20,8 @@ use Rattle.optimal_query.specs.declared.state.State.TheVariants.{Ask}
 use Rattle.optimal_query.specs.Markings.{askable_flag, verdict_from}
 use Rattle.optimal_query.specs.Nested.{end_below, start_below}
 use Rattle.optimal_query.specs.Question.{question_of, weight_of}
-use Rattle.optimal_query.specs.Region.{doubts_of, is_below, is_in, is_searched, mark_at, next_after, suspects_of}
+use Rattle.optimal_query.specs.Region.{doubts_of, next_after, suspects_of}
+use Rattle.subtree_weights.specs.Searched.{is_below, is_in, is_searched, mark_at}
 use Rattle.optimal_query.specs.Runs.{Field, IsBestAmong, IsField, IsOpen, field_of}
 use Rattle.optimal_query.specs.State.{state_by, state_with, verdict_by}
 use Rattle.optimal_query.proofs.BestOfRuns.{cases_lt}

@@ -9,7 +9,7 @@ use Rattle.answer_book.specs.declared.entries.Judgement.TheVariants.{Right, Wron
 use Rattle.answer_book.specs.declared.entries.What.{What}
 use Rattle.answer_book.specs.declared.entries.What.TheVariants.{Judged}
 use Rattle.answer_book.specs.Accused.{accused_of}
-use Rattle.answer_book.specs.Clear.{is_clear}
+use Rattle.call_tree.specs.Clear.{is_clear}
 use Rattle.answer_book.specs.Marks.{mark_of, marks_of}
 use Rattle.optimal_query.specs.declared.state.State.{State}
 use Rattle.optimal_query.specs.declared.state.State.TheVariants.{Ask, Found, NothingWrong}

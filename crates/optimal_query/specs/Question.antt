@@ -2,7 +2,7 @@
 -- that the worse of the answers `right` and `wrong` leaves.
 use Rattle.std.specs.Prelude.{ℕ, Bool, ◌-◌, max, nat_le, List, Option, length, find, count_by}
 use Rattle.std.specs.List.{list_all}
-use Rattle.optimal_query.specs.Region.{is_in}
+use Rattle.subtree_weights.specs.Searched.{is_in}
 
 -- how many of the suspects stand in the call's subtree
 unfoldable pub weight_of : List ℕ → List ℕ → ℕ → ℕ

@@ -2,9 +2,10 @@
 //! over columns alone.
 ghost use Rattle.std.specs.Prelude.{◌≡◌, ◌&&◌, ◌<◌, ◌≤◌, ◌^◌, All, IfOk, length};
 ghost use Rattle.std.specs.Option.{ForSome};
-ghost use Rattle.answer_book.specs.Clear.{is_clear, is_unjudged, is_unknown};
+ghost use Rattle.call_tree.specs.Clear.{is_clear, is_unjudged, is_unknown};
 ghost use Rattle.optimal_query.specs.Question.{leaves_least, left_of, question_of, weight_of};
-ghost use Rattle.optimal_query.specs.Region.{doubts_of, is_below, is_cleared, is_in, is_searched, mark_at, suspects_of};
+ghost use Rattle.optimal_query.specs.Region.{doubts_of, suspects_of};
+ghost use Rattle.subtree_weights.specs.Searched.{is_below, is_cleared, is_in, is_searched, mark_at};
 ghost use Rattle.optimal_query.specs.Region.{is_after, next_after};
 ghost use Rattle.optimal_query.specs.State.{state_with, verdict_by};
 

@@ -9,7 +9,7 @@ use Rattle.call_tree.specs.declared.records.Mark.{Mark}
 use Rattle.call_tree.specs.declared.records.Mark.TheVariants.{Unjudged, Right, Wrong, Unknown, Trusted}
 use Rattle.call_tree.specs.Nesting.{IsRooted}
 use Rattle.call_tree.specs.Numbering.{IsNumbered, IsParent}
-use Rattle.subtree_weights.specs.Clear.{is_unjudged}
+use Rattle.call_tree.specs.Clear.{is_unjudged}
 use Rattle.subtree_weights.specs.Searched.{is_below, is_in, is_suspect, mark_at}
 use Rattle.subtree_weights.specs.Weights.{suspects_below, under_of, weight_by, weight_of}
 use Rattle.subtree_weights.specs.Sums.{AreSums, children_of, is_child, is_the_call}

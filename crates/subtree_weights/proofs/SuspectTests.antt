@@ -6,7 +6,7 @@ use Rattle.std.proofs.lemmas.Bool.{leb-true, lt-ltb}
 use Rattle.std.proofs.lemmas.Bool.{ltb-true, not-true, not_from_false}
 use Rattle.call_tree.specs.declared.records.Mark.{Mark}
 use Rattle.call_tree.specs.Numbering.{AreIntervals}
-use Rattle.subtree_weights.specs.Clear.{is_clear, is_unjudged}
+use Rattle.call_tree.specs.Clear.{is_clear, is_unjudged}
 use Rattle.subtree_weights.specs.Searched.{covers, is_below, is_cleared, is_in, is_searched, is_suspect, mark_at}
 use Rattle.subtree_weights.proofs.Totals.{any_number, some_number}
 

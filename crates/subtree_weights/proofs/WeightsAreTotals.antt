@@ -3,7 +3,7 @@ use Rattle.std.proofs.Common.{◌≡◌, ℕ, ◌+◌, ◌<◌, ◌≤◌, Bool,
 use Rattle.std.specs.Prelude.{◌==◌}
 use Rattle.std.proofs.lemmas.Bool.{cases_Bool, cond-false, cond-true, eq-eqb, false_from_ne_true, ne_eqb}
 use Rattle.call_tree.specs.declared.records.Mark.{Mark}
-use Rattle.subtree_weights.specs.Clear.{is_clear, is_unjudged}
+use Rattle.call_tree.specs.Clear.{is_clear, is_unjudged}
 use Rattle.subtree_weights.specs.Searched.{is_suspect, mark_at}
 use Rattle.subtree_weights.specs.Weights.{suspects_below, under_of, weight_of}
 use Rattle.subtree_weights.proofs.Totals.{sum_of_numbers, total, total_but_one, total_none, total_of_few}

@@ -1,4 +1,3 @@
-pub mod Clear
 pub mod Searched
 pub mod Weights
 pub mod Sums

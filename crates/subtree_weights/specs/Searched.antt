@@ -5,7 +5,7 @@ use Rattle.std.specs.Prelude.{slice_index_or}
 use Rattle.std.specs.List.{list_any, range_with_len}
 use Rattle.call_tree.specs.declared.records.Mark.{Mark}
 use Rattle.call_tree.specs.declared.records.Mark.TheVariants.{Unjudged}
-use Rattle.subtree_weights.specs.Clear.{is_clear, is_unjudged}
+use Rattle.call_tree.specs.Clear.{is_clear, is_unjudged}
 
 -- the mark of a call in a column of marks; a call that has none there is unjudged
 abbrev pub mark_at : List Mark → ℕ → Mark

@@ -1,8 +1,9 @@
 use Rattle.std.proofs.Common.{◌≡◌, ℕ, Bool, [], ◌∷◌, ◌++◌, length, sym, ap, ◌∙◌, arith}
 use Rattle.std.specs.Prelude.{filter}
-use Rattle.answer_book.specs.Clear.{is_unknown}
+use Rattle.call_tree.specs.Clear.{is_unknown}
 use Rattle.answer_book.specs.Numbers.{numbers_below}
-use Rattle.optimal_query.specs.Region.{doubts_of, is_searched, mark_at}
+use Rattle.optimal_query.specs.Region.{doubts_of}
+use Rattle.subtree_weights.specs.Searched.{is_searched, mark_at}
 use Rattle.optimal_query.proofs.Passed.{fails_one, passes_both}
 use Rattle.optimal_query.proofs.plain.doubts.Goals as goal
 use Rattle.optimal_query.proofs.plain.doubts.Goals.{then-is_doubted+in_ok-push, else-is_doubted}

@@ -1,8 +1,8 @@
 use Rattle.std.proofs.Common.{◌≡◌}
 use Rattle.std.specs.Prelude.{filter}
-use Rattle.answer_book.specs.Clear.{is_unknown}
+use Rattle.call_tree.specs.Clear.{is_unknown}
 use Rattle.answer_book.specs.Numbers.{numbers_below}
-use Rattle.optimal_query.specs.Region.{is_searched, mark_at}
+use Rattle.subtree_weights.specs.Searched.{is_searched, mark_at}
 use Rattle.optimal_query.proofs.plain.doubts.Given as goal
 
 abbrev pub invariant-loop-call : goal.invariant-loop-call

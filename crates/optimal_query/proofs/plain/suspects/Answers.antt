@@ -1,9 +1,10 @@
 use Rattle.std.proofs.Common.{◌≡◌, ℕ, Bool, List, Option, [], ◌∷◌, ◌++◌, length, sym, ap, ◌∙◌, arith}
 use Rattle.std.specs.Prelude.{filter}
 use Rattle.call_tree.specs.declared.records.Mark.{Mark}
-use Rattle.answer_book.specs.Clear.{is_unjudged}
+use Rattle.call_tree.specs.Clear.{is_unjudged}
 use Rattle.answer_book.specs.Numbers.{numbers_below}
-use Rattle.optimal_query.specs.Region.{suspects_of, is_searched, mark_at}
+use Rattle.optimal_query.specs.Region.{suspects_of}
+use Rattle.subtree_weights.specs.Searched.{is_searched, mark_at}
 use Rattle.optimal_query.proofs.Searched.{suspects_few, suspects_inside}
 use Rattle.optimal_query.proofs.Passed.{fails_one, passes_both}
 use Rattle.optimal_query.proofs.plain.suspects.Goals as goal

@@ -1,6 +1,6 @@
 use Rattle.std.proofs.Common.{refl, sym, ◌∙◌, arith}
-use Rattle.answer_book.specs.Clear.{is_clear}
-use Rattle.optimal_query.specs.Region.{mark_at}
+use Rattle.call_tree.specs.Clear.{is_clear}
+use Rattle.subtree_weights.specs.Searched.{mark_at}
 use Rattle.optimal_query.proofs.NextDoubt.{end_inside, found_next, looked_more, none_next}
 use Rattle.optimal_query.proofs.region.next_doubt.Goals as goal
 
