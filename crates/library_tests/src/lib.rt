@@ -15,3 +15,5 @@ mod search;
 mod store;
 #[cfg(test)]
 mod values;
+#[cfg(test)]
+mod weights;
