@@ -4,11 +4,15 @@
 #![tactic(auto)]
 
 #[cfg(test)]
+mod books;
+#[cfg(test)]
 mod calls;
 #[cfg(test)]
 mod lanes;
 #[cfg(test)]
 mod log;
+#[cfg(test)]
+mod queries;
 #[cfg(test)]
 mod search;
 #[cfg(test)]
