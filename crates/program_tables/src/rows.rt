@@ -90,7 +90,6 @@ pub enum NameRow {
     /// A string of at least two characters, which the token of this number spells.
     Text {
         token: u32,
-        length: u32,
     },
     TypeName {
         of: u32,
@@ -416,10 +415,9 @@ pub enum ExpressionRow {
     Constant {
         value: i32,
     },
-    /// A string, which the token of this number spells.
+    /// A string of at least two characters, which the token of this number spells.
     Text {
         token: u32,
-        length: u32,
     },
     Nil,
     /// A sign before an integer.

@@ -1,0 +1,123 @@
+-- Constants (6.3).
+use Rattle.std.specs.Prelude.{ℕ, Bool, true, false, List, [], ◌∷◌, Option, Some, None, nat_eq, nat_le, if◌then◌else◌, ℤ}
+use Rattle.std.specs.Prelude.{pos, negsuc}
+use Rattle.std.specs.Int.RustNames.{int_lt}
+use lib.IntN.{neg_ℤ}
+use Rattle.pas_tree.specs.declared.operators.Sign.{Sign}
+use Rattle.pas_tree.specs.declared.operators.Sign.TheVariants as sign
+use Rattle.pas_tree.specs.declared.constants.Constant.{Constant}
+use Rattle.pas_tree.specs.declared.constants.Constant.TheVariants as tree
+use Rattle.pas_tree.specs.declared.blocks.ConstantPart.{ConstantPart}
+use Rattle.pas_tree.specs.declared.blocks.ConstantDefinition.{ConstantDefinition}
+use Rattle.program_tables.specs.declared.rows.Row.{Row}
+use Rattle.program_tables.specs.declared.rows.Row.TheVariants as row
+use Rattle.program_tables.specs.declared.rows.NameRow.TheVariants as named
+use Rattle.program_tables.specs.ProgramRows.{text_at}
+use Rattle.check_steps.specs.declared.words.Spelled.{Spelled}
+use Rattle.check_steps.specs.declared.words.Spelled.TheVariants as spelled
+use Rattle.check_steps.specs.declared.regions.Def.{Def}
+use Rattle.check_steps.specs.declared.regions.Def.TheVariants as def
+use Rattle.check_steps.specs.declared.regions.Found.{Found}
+use Rattle.check_steps.specs.Known.{Known, row_at, spelled_at}
+use Rattle.check_steps.specs.Steps.{Step, give, ◌>>=◌, look, rule, late, put}
+use Rattle.check_steps.specs.Names.{define_in, use_at}
+use Rattle.pas_places.specs.Operators.{sign_token}
+use Rattle.kind_checker.specs.declared.constants.Value.{Value}
+use Rattle.kind_checker.specs.declared.constants.Value.TheVariants.{Ordinal, Text}
+
+-- ---- signs
+
+-- A constant of unknown value breaks no further rule.
+abbrev pub is_integer : Option Value → Bool
+is_integer None = true
+is_integer (Some (Ordinal of' v)) = nat_eq of' 0
+is_integer (Some (Text token)) = false
+
+-- each integer of a source has its opposite
+abbrev pub opposite : ℤ → ℤ
+opposite v = if int_lt (negsuc 2147483647) v then neg_ℤ v else v
+
+abbrev pub with_sign : Sign → ℤ → ℤ
+with_sign (sign.Plus t) v = v
+with_sign (sign.Minus t) v = opposite v
+
+abbrev pub signed_value : Sign → Option Value → Option Value
+signed_value s (Some (Ordinal of' v)) = if nat_eq of' 0 then Some (Ordinal of' (with_sign s v)) else None
+signed_value s v = None
+
+-- rule 4: a sign before a constant that is not an integer
+unfoldable pub sign_before : Sign → Option Value → Step (Option Value)
+sign_before s v = do
+  _ ← rule 4 (sign_token s) (is_integer v)
+  give (signed_value s v)
+
+abbrev pub signed : Option Sign → Option Value → Step (Option Value)
+signed None v = give v
+signed (Some s) v = sign_before s v
+
+-- ---- constants
+
+-- an unsigned integer up to maxint
+abbrev pub number_in : Spelled → Option Value
+number_in (spelled.Number n) = if nat_le n 2147483647 then Some (Ordinal 0 (pos n)) else None
+number_in s = None
+
+-- a string of one character is a char
+abbrev pub text_value : ℕ → List ℕ → Value
+text_value token (c ∷ []) = Ordinal 2 (pos c)
+text_value token l = Text token
+
+abbrev pub is_constant_def : Def → Bool
+is_constant_def (def.Constant n) = true
+is_constant_def d = false
+
+-- A name of unknown meaning breaks no further rule.
+abbrev pub is_constant : Option Found → Bool
+is_constant None = true
+is_constant (Some f) = is_constant_def f.definition.def
+
+abbrev pub value_in : Row → Option Value
+value_in (row.Name (named.Constant of' v)) = Some (Ordinal of' v)
+value_in (row.Name (named.Text token)) = Some (Text token)
+value_in r = None
+
+-- what a name stands for as a constant, if it is known
+abbrev pub value_of : Known → Option Found → Option Value
+value_of k None = None
+value_of k (Some f) = value_in (row_at k f.definition.token)
+
+-- rule 3: the name stands for another kind of thing
+unfoldable pub named_constant : ℕ → ℕ → Step (Option Value)
+named_constant frame token = do
+  found ← use_at frame token token
+  _ ← late 3 token (is_constant found)
+  look (λ k. value_of k found)
+
+-- what a constant stands for, seen from a frame
+abbrev pub constant : ℕ → Constant → Step (Option Value)
+constant frame (tree.Number s n) = do
+  v ← look (λ k. number_in (spelled_at k n))
+  signed s v
+constant frame (tree.Name s n) = do
+  v ← named_constant frame n
+  signed s v
+constant frame (tree.Text n) = look (λ k. Some (text_value n (text_at k.program n)))
+
+-- ---- the constant part
+
+abbrev pub constants_in : ConstantPart → List ConstantDefinition
+constants_in p = p.first ∷ p.others.items
+
+-- a constant may be used from the semicolon after its definition on
+unfoldable pub define_constant : ℕ → Unit {0} → ConstantDefinition → Step (Unit {0})
+define_constant region u d = define_in region (record { def = def.Constant d.name; token = d.name; end = d.semicolon })
+
+abbrev pub value_row : Option Value → Row
+value_row None = row.Nothing
+value_row (Some (Ordinal of' v)) = row.Name (named.Constant of' v)
+value_row (Some (Text token)) = row.Name (named.Text token)
+
+unfoldable pub constant_part : ℕ → Unit {0} → ConstantDefinition → Step (Unit {0})
+constant_part frame u d = do
+  value ← constant frame d.constant
+  put d.name (value_row value)

@@ -1,0 +1,85 @@
+//! The names of a list.
+
+ghost use Rattle.std.specs.Prelude.{◌≡◌, IfOk};
+ghost use Rattle.check_steps.specs.Steps.{Does, each};
+ghost use Rattle.kind_checker.specs.Names.{defined_as, define_name, each_name, on_name};
+
+use check_steps::{Def, Definition, Work};
+use pas_tree::constants::{Names, NextName};
+use std::alloc::AllocError;
+
+/// What a name that a list defines stands for.
+#[derive(Clone, Copy, PartialEq, Eq)]
+pub enum Kind {
+    /// A constant of an enumeration.
+    Constant,
+    Variable,
+    Field,
+    Formal,
+}
+
+/// The definition of a name of a kind at a token.
+fn defined_as(kind: Kind, token: u32) -> Def
+    ensures { result ≡ defined_as kind token }
+{
+    match kind {
+        Kind::Constant => Def::Constant(token),
+        Kind::Variable => Def::Variable(token),
+        Kind::Field => Def::Field(token),
+        Kind::Formal => Def::Formal(token),
+    }
+}
+
+#[tactic(auto, unfolding(crate::specs::Names::define_name))]
+fn define_name(work: &mut Work, region: u32, kind: Kind, token: u32) -> Result<(), AllocError>
+    ensures { IfOk result (λ _. Does (define_name region kind tt token) tt work.old work.new) }
+{
+    let definition = Definition {
+        def: defined_as(kind, token),
+        token,
+        end: token,
+    };
+    work.define_in(region, definition)
+}
+
+#[tactic(auto, unfolding(crate::specs::Names::on_name))]
+fn define_next_name(
+    work: &mut Work,
+    region: u32,
+    kind: Kind,
+    next: &NextName,
+) -> Result<(), AllocError>
+    ensures { IfOk result (λ _. Does (on_name (define_name region kind) tt next.now) tt work.old work.new) }
+{
+    define_name(work, region, kind, next.name)
+}
+
+#[tactic(auto, using(check_steps::proofs::Runs::read_loops))]
+fn define_more_names(
+    work: &mut Work,
+    region: u32,
+    kind: Kind,
+    names: &[NextName],
+) -> Result<(), AllocError>
+    ensures { IfOk result (λ _. Does (each (on_name (define_name region kind)) tt names.now) tt work.old work.new) }
+{
+    'names: for name in names {
+        define_next_name(work, region, kind, name)?;
+    }
+    Ok(())
+}
+
+/// Defines the names of a list in turn.
+#[tactic(auto, using(check_steps::proofs::Runs::steps))]
+pub fn define_names(
+    work: &mut Work,
+    region: u32,
+    kind: Kind,
+    names: &Names,
+) -> Result<(), AllocError>
+    ensures { IfOk result (λ _. Does (each_name (define_name region kind) tt names.now) tt work.old work.new) }
+{
+    define_name(work, region, kind, names.first)?;
+    define_more_names(work, region, kind, &names.others)?;
+    Ok(())
+}
