@@ -1,5 +1,5 @@
 use Rattle.std.proofs.Common.{◌≢◌, ◌≤◌, ◌<◌, ℕ, get_or}
-use Rattle.library_tests.proofs.lanes.are_weighed.Given as goal
+use Rattle.search_tests.proofs.lanes.are_weighed.Given as goal
 
 abbrev pub invariant-loop-at : goal.invariant-loop-at
 invariant-loop-at l =

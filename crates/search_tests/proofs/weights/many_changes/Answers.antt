@@ -3,7 +3,7 @@ use Rattle.std.specs.Prelude.{slice_get}
 use Rattle.std.proofs.lemmas.List.{length-replicate, length-set}
 use Rattle.std.proofs.lemmas.Option.{slice_get-get_or}
 use Rattle.call_tree.specs.declared.records.Mark.TheVariants.{Unjudged, Unknown}
-use Rattle.library_tests.proofs.weights.many_changes.Goals as goal
+use Rattle.search_tests.proofs.weights.many_changes.Goals as goal
 
 set_there : (n : ℕ) → 1 < n → slice_get (set (replicate n Unjudged) 1 Unknown) 1 ≡ Some Unknown
 set_there n several =

@@ -1,6 +1,6 @@
 use Rattle.std.proofs.Common.{◌≡◌, ℕ, List, [], ◌∷◌, length, drop, refl, ap, ◌∙◌, arith}
 use Rattle.call_tree.specs.Recording.{Recording}
-use Rattle.library_tests.proofs.weights.star.Goals as goal
+use Rattle.search_tests.proofs.weights.star.Goals as goal
 
 two_dropped : (xs : List ℕ) → length xs ≡ 2 → drop 1 (drop 1 xs) ≡ []
 two_dropped [] h = refl
