@@ -93,3 +93,19 @@ fn refusals_by_hand(rt: HostRuntime) -> Result<(), Fail> {
     assert_eq!(rt; book.entries(), 2);
     Ok(())
 }
+
+/// A book has room for 100,000 entries, and one that was taken back keeps its place.
+#[test]
+fn a_full_book(rt: HostRuntime) -> Result<(), Fail> {
+    let calls = five_calls(rt.alloc())?;
+    let mut book = Book::new(rt.alloc(), &calls)?;
+    assert_eq!(rt; book.take_back(1), Ok(()));
+    for entry in 2..100_001 {
+        say(&rt, &mut book, 1, Judgement::Right, entry);
+    }
+    assert_eq!(rt; book.judge(1, Judgement::Wrong), Err(BookFault::Full));
+    assert_eq!(rt; book.trust(2), Err(BookFault::Full));
+    assert_eq!(rt; book.judge(5, Judgement::Right), Err(BookFault::NoCall(5)));
+    assert_eq!(rt; book.entries(), 100_000);
+    Ok(())
+}
