@@ -12,3 +12,4 @@ mod NextDoubt
 mod WeightsTell
 mod Filled
 mod Changes
+mod WhatStands

@@ -4,6 +4,7 @@ pub mod State
 pub mod Laws
 pub mod Narrowing
 pub mod Search
+pub mod Standing
 pub mod PlainKept
 pub mod Changed
 pub mod DebugKept

@@ -2,6 +2,7 @@
 ghost use Rattle.optimal_query.specs.Laws.{AnswersLeaveWhatIsCounted, FoundIsAtFault, NothingWrongIsNothing};
 ghost use Rattle.optimal_query.specs.Laws.{QuestionIsLeast, RegionIsLeft};
 ghost use Rattle.optimal_query.specs.Narrowing.{BuggyIsLeft, FoundIsBuggy};
+ghost use Rattle.optimal_query.specs.Standing.{SearchDependsOnWhatStands};
 
 /// The suspects and the doubts are all calls of the region.
 pub fn region_is_left()
@@ -36,4 +37,10 @@ pub fn nothing_wrong_is_nothing()
 pub fn buggy_is_left()
     ensures among_those_left { BuggyIsLeft }
     ensures found { FoundIsBuggy }
+{}
+
+/// After any list of commands the marks, the state and the doubts are those that the answers which
+/// stand then give over the columns of the run, whatever was said and taken back before.
+pub fn search_depends_on_what_stands()
+    ensures { SearchDependsOnWhatStands }
 {}
