@@ -1,2 +1,4 @@
 pub mod Names
 pub mod Constants
+pub mod Sizes
+pub mod Types

@@ -30,8 +30,9 @@ fn defined_as(kind: Kind, token: u32) -> Def
     }
 }
 
+/// Defines a name, which may be used from its own token on.
 #[tactic(auto, unfolding(crate::specs::Names::define_name))]
-fn define_name(work: &mut Work, region: u32, kind: Kind, token: u32) -> Result<(), AllocError>
+pub fn define_name(work: &mut Work, region: u32, kind: Kind, token: u32) -> Result<(), AllocError>
     ensures { IfOk result (λ _. Does (define_name region kind tt token) tt work.old work.new) }
 {
     let definition = Definition {

@@ -1,0 +1,133 @@
+-- Type denoters without others inside: names, enumerations, subranges, pointers; and sets of a base.
+use Rattle.std.specs.Prelude.{ℕ, Bool, true, false, Option, Some, None, unwrap_or, nat_eq, ◌&&◌, if◌then◌else◌}
+use Rattle.std.specs.Prelude.{ℤ, pos, negsuc, ◌+ℤ◌}
+use Rattle.std.specs.Int.RustNames.{int_le, int_lt}
+use Rattle.pas_tree.specs.declared.denoters.Enumeration.{Enumeration}
+use Rattle.program_tables.specs.declared.rows.Row.{Row}
+use Rattle.program_tables.specs.declared.rows.Row.TheVariants as row
+use Rattle.program_tables.specs.declared.rows.TypeRow.TheVariants as kind
+use Rattle.program_tables.specs.declared.rows.NameRow.TheVariants as named
+use Rattle.check_steps.specs.declared.regions.Def.{Def}
+use Rattle.check_steps.specs.declared.regions.Def.TheVariants as def
+use Rattle.check_steps.specs.declared.regions.Found.{Found}
+use Rattle.check_steps.specs.Known.{Known, row_at, type_at}
+use Rattle.check_steps.specs.Steps.{Step, give, ◌>>=◌, look, rule, late, put}
+use Rattle.check_steps.specs.Names.{use_at}
+use Rattle.kind_checker.specs.declared.constants.Value.{Value}
+use Rattle.kind_checker.specs.declared.constants.Value.TheVariants.{Ordinal}
+use Rattle.kind_checker.specs.declared.types.Scope.{Scope}
+use Rattle.kind_checker.specs.Names.{each_name}
+use Rattle.kind_checker.specs.Sizes.{is_ordinal, is_within_bytes}
+
+-- ---- names
+
+abbrev pub is_type_def : Def → Bool
+is_type_def (def.TypeName n) = true
+is_type_def d = false
+
+-- A name of unknown meaning breaks no further rule.
+abbrev pub is_type_name : Option Found → Bool
+is_type_name None = true
+is_type_name (Some f) = is_type_def f.definition.def
+
+-- the type for which a name stands by its row, and else this number
+abbrev pub type_named : Row → ℕ → ℕ
+type_named (row.Name (named.TypeName of')) otherwise = of'
+type_named r otherwise = otherwise
+
+abbrev pub type_of : Known → Option Found → ℕ → ℕ
+type_of k None token = token
+type_of k (Some f) token = type_named (row_at k f.definition.token) token
+
+-- rule 3: the name stands for another kind of thing
+unfoldable pub named_type : ℕ → ℕ → Step ℕ
+named_type frame token = do
+  found ← use_at frame token token
+  _ ← late 3 token (is_type_name found)
+  look (λ k. type_of k found token)
+
+-- ---- subranges
+
+-- a constant of unknown value breaks no further rule
+abbrev pub is_range : Option Value → Option Value → Bool
+is_range (Some (Ordinal g a)) (Some (Ordinal h b)) = nat_eq g h && int_le a b
+is_range (Some a) (Some b) = false
+is_range a b = true
+
+abbrev pub range_row : Option Value → Option Value → Row
+range_row (Some (Ordinal g a)) (Some (Ordinal h b)) =
+    if nat_eq g h && int_le a b then row.Type (kind.Subrange g a b) else row.Nothing
+range_row a b = row.Nothing
+
+-- rule 5: a subrange's constants are not of one ordinal type, or the first is greater
+unfoldable pub subrange : Option Value → ℕ → Option Value → Step ℕ
+subrange first dots last = do
+  _ ← rule 5 dots (is_range first last)
+  _ ← put dots (range_row first last)
+  give dots
+
+-- ---- enumerations
+
+-- the ordinal after this one, of which there is none after the greatest integer
+abbrev pub after : ℤ → ℤ
+after v = if int_lt v (pos 2147483647) then v +ℤ pos 1 else v
+
+-- one more constant of an enumeration, after the one of this ordinal; its own ordinal is given
+unfoldable pub enumerated : ℕ → ℤ → ℕ → Step ℤ
+enumerated of' last name = do
+  _ ← put name (row.Name (named.Constant of' (after last)))
+  give (after last)
+
+-- the constants have the ordinals from 0 on
+unfoldable pub enumeration : Enumeration → Step ℕ
+enumeration e = do
+  greatest ← each_name (enumerated e.«open») (negsuc 0) e.names
+  _ ← put e.«open» (row.Type (kind.Ordinal (pos 0) greatest))
+  give e.«open»
+
+-- ---- pointers
+
+-- the token as at which the domain's name is looked up
+abbrev pub domain_at : Scope → ℕ → ℕ
+domain_at s name = unwrap_or s.domains_at name
+
+abbrev pub definition_of : Option Found → ℕ → ℕ
+definition_of None name = name
+definition_of (Some f) name = f.definition.token
+
+-- Where the domain may be defined later in the same part, its definition alone is known so far.
+abbrev pub domain_in : Known → Option ℕ → Option Found → ℕ → ℕ
+domain_in k None found name = type_of k found name
+domain_in k (Some at) found name = definition_of found name
+
+unfoldable pub pointer : Scope → ℕ → ℕ → Step ℕ
+pointer s caret name = do
+  found ← use_at s.frame (domain_at s name) name
+  _ ← late 3 name (is_type_name found)
+  domain ← look (λ k. domain_in k s.domains_at found name)
+  _ ← put caret (row.Type (kind.Pointer domain))
+  give caret
+
+-- ---- sets, and types that are to be ordinal
+
+-- Rule 6: an index, set base or tag is not ordinal. A number at which no type stands then takes its place.
+unfoldable pub ordinal : ℕ → ℕ → ℕ → Step ℕ
+ordinal first unknown t = do
+  fine ← look (λ k. is_ordinal (type_at k t))
+  _ ← late 6 first fine
+  give (if fine then t else unknown)
+
+-- rule 7: a set's base type has a value outside 0 to 255
+unfoldable pub base_type : ℕ → ℕ → ℕ → Step ℕ
+base_type first unknown t = do
+  base ← ordinal first unknown t
+  fine ← look (λ k. is_within_bytes (type_at k base))
+  _ ← rule 7 first fine
+  give base
+
+-- a set type, at its word `set`
+unfoldable pub set_type : Bool → ℕ → ℕ → ℕ → ℕ → Step ℕ
+set_type packed word first unknown t = do
+  base ← base_type first unknown t
+  _ ← put word (row.Type (kind.Set packed base))
+  give word
