@@ -1,0 +1,4 @@
+pub mod Choices
+pub mod DefineRolls
+pub mod RecordRolls
+pub mod DomainSteps

@@ -1,0 +1,5 @@
+pub mod Arrays
+pub mod Variants
+pub mod Defines
+pub mod Denoters
+pub mod Parts

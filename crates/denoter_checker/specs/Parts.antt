@@ -1,0 +1,92 @@
+-- The parts of a block that define types and declare variables (6.2.1).
+use Rattle.std.specs.Prelude.{ℕ, zero, suc, ◌+◌, ◌-◌, List, ◌∷◌, Option, Some, None, nat_le}
+use Rattle.pas_tree.specs.declared.blocks.TypePart.{TypePart}
+use Rattle.pas_tree.specs.declared.blocks.TypeDefinition.{TypeDefinition}
+use Rattle.pas_tree.specs.declared.blocks.VariablePart.{VariablePart}
+use Rattle.pas_tree.specs.declared.blocks.VariableDeclaration.{VariableDeclaration}
+use Rattle.program_tables.specs.declared.rows.Row.{Row}
+use Rattle.program_tables.specs.declared.rows.Row.TheVariants as row
+use Rattle.program_tables.specs.declared.rows.TypeRow.TheVariants as kind
+use Rattle.program_tables.specs.declared.rows.NameRow.TheVariants as named
+use Rattle.program_tables.specs.declared.rows.Mode.TheVariants.{Own}
+use Rattle.program_tables.specs.ProgramRows.{size_of}
+use Rattle.check_steps.specs.declared.regions.Def.TheVariants as def
+use Rattle.check_steps.specs.Known.{Known, frame_at, row_at}
+use Rattle.check_steps.specs.Steps.{Step, give, ◌>>=◌, look, put, too_big, each}
+use Rattle.check_steps.specs.Names.{define_in}
+use Rattle.kind_checker.specs.declared.names.Kind.TheVariants as name
+use Rattle.kind_checker.specs.declared.types.Scope.{Scope}
+use Rattle.kind_checker.specs.Names.{define_name, each_name}
+use Rattle.kind_checker.specs.Sizes.{frame_capped}
+use Rattle.kind_checker.specs.Types.{type_named}
+use Rattle.denoter_checker.specs.Defines.{define_denoter}
+use Rattle.denoter_checker.specs.Denoters.{denoter}
+
+-- ---- types
+
+abbrev pub types_in : TypePart → List TypeDefinition
+types_in p = p.first ∷ p.others.items
+
+-- a type may be used from the semicolon after its definition on
+unfoldable pub define_type : ℕ → Unit {0} → TypeDefinition → Step (Unit {0})
+define_type region u d = do
+  _ ← define_in region (record { def = def.TypeName d.name; token = d.name; end = d.semicolon })
+  define_denoter region d.denoter
+
+unfoldable pub type_definition : Scope → Unit {0} → TypeDefinition → Step (Unit {0})
+type_definition s u d = do
+  t ← denoter s d.denoter
+  put d.name (row.Name (named.TypeName t))
+
+-- ---- domains
+
+-- the row of a pointer whose domain is known by its definition alone
+abbrev pub settled : Known → Row → Row
+settled k (row.Type (kind.Pointer domain)) = row.Type (kind.Pointer (type_named (row_at k domain) domain))
+settled k r = r
+
+unfoldable pub settle : ℕ → Step (Unit {0})
+settle token = do
+  r ← look (λ k. settled k (row_at k token))
+  put token r
+
+abbrev pub settle_from : ℕ → ℕ → Step (Unit {0})
+settle_from zero token = give tt
+settle_from (suc n) token = settle token >>= λ _. settle_from n (token + 1)
+
+-- The pointers from a token on to the one behind a part get the types for which their domains' definitions stand.
+abbrev pub domains : ℕ → ℕ → Step (Unit {0})
+domains first behind = settle_from (behind - first) first
+
+-- A part of type definitions, in front of a token. A pointer's domain is looked up as if at that token.
+abbrev pub type_part : ℕ → ℕ → TypePart → Step (Unit {0})
+type_part frame behind p = do
+  _ ← each (type_definition (record { frame = frame; domains_at = Some behind })) tt (types_in p)
+  domains p.word behind
+
+-- ---- variables
+
+abbrev pub variables_in : VariablePart → List VariableDeclaration
+variables_in p = p.first ∷ p.others.items
+
+unfoldable pub define_variable : ℕ → Unit {0} → VariableDeclaration → Step (Unit {0})
+define_variable region u d = do
+  _ ← each_name (define_name region name.Variable) tt d.names
+  define_denoter region d.denoter
+
+-- a variable of a type, behind the cells of those before; the place behind it is given
+unfoldable pub place : ℕ → ℕ → ℕ → ℕ → Step ℕ
+place level t at token = do
+  _ ← put token (row.Name (named.Variable Own t at level))
+  cells ← look (λ k. size_of k.program t)
+  _ ← too_big token (nat_le cells 65536)
+  give (frame_capped (at + cells))
+
+abbrev pub at_names : ℕ → Scope
+at_names frame = record { frame = frame; domains_at = None }
+
+unfoldable pub variable_declaration : ℕ → ℕ → VariableDeclaration → Step ℕ
+variable_declaration frame at d = do
+  level ← look (λ k. (frame_at k frame).level)
+  t ← denoter (at_names frame) d.denoter
+  each_name (place level t) at d.names

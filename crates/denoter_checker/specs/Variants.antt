@@ -1,0 +1,141 @@
+-- The tag of a variant part, and the values that choose its variants (6.4.3.3).
+use Rattle.std.specs.Prelude.{ℕ, zero, suc, ◌+◌, ◌-◌, Bool, true, false, Option, Some, None, is_none, is_some}
+use Rattle.std.specs.Prelude.{nat_eq, nat_lt, ◌&&◌, ◌||◌, not, if◌then◌else◌, length, ℤ}
+use Rattle.std.specs.Ordering.{int_eq}
+use Rattle.pas_tree.specs.declared.constants.Constant.{Constant}
+use Rattle.pas_tree.specs.declared.constants.Constants.{Constants}
+use Rattle.pas_tree.specs.declared.constants.NextConstant.{NextConstant}
+use Rattle.pas_tree.specs.declared.denoters.NextArm.{NextArm}
+use Rattle.pas_tree.specs.declared.denoters.TagField.{TagField}
+use Rattle.program_tables.specs.declared.rows.Row.{Row}
+use Rattle.program_tables.specs.declared.rows.Row.TheVariants as row
+use Rattle.program_tables.specs.declared.rows.NameRow.TheVariants as named
+use Rattle.program_tables.specs.declared.rows.PartRow.TheVariants as part
+use Rattle.program_tables.specs.declared.rows.ItemRow.TheVariants as item
+use Rattle.check_steps.specs.Known.{Known, row_at, type_at}
+use Rattle.check_steps.specs.Steps.{Step, give, ◌>>=◌, look, late, put, each}
+use Rattle.pas_places.specs.Denoters.{first_of_constant}
+use Rattle.kind_checker.specs.declared.constants.Value.{Value}
+use Rattle.kind_checker.specs.declared.constants.Value.TheVariants.{Ordinal, Text}
+use Rattle.kind_checker.specs.Constants.{constant}
+use Rattle.kind_checker.specs.Sizes.{capped, host_of}
+use Rattle.kind_checker.specs.Types.{named_type, ordinal}
+use Rattle.denoter_checker.specs.declared.variants.Choosing.{Choosing}
+use Rattle.denoter_checker.specs.declared.variants.Listed.{Listed}
+use Rattle.denoter_checker.specs.declared.variants.PartPlace.{PartPlace}
+
+-- ---- tags
+
+-- rule 6: a tag is not ordinal
+unfoldable pub tag_type : ℕ → ℕ → Step ℕ
+tag_type frame name = do
+  t ← named_type frame name
+  ordinal name name t
+
+unfoldable pub hidden_tag : PartPlace → ℕ → Step ℕ
+hidden_tag p name = do
+  t ← tag_type p.frame name
+  look (λ k. host_of k t)
+
+unfoldable pub named_tag : PartPlace → ℕ → ℕ → Step ℕ
+named_tag p field name = do
+  t ← tag_type p.frame name
+  _ ← put field (row.Name (named.Tag t p.offset p.holder p.word))
+  look (λ k. host_of k t)
+
+-- the tag, which is hidden if it has no field; its host type is given
+abbrev pub tag_part : PartPlace → Option TagField → ℕ → Step ℕ
+tag_part p None name = hidden_tag p name
+tag_part p (Some f) name = named_tag p f.name name
+
+-- ---- lists of the values that choose
+
+abbrev pub choice_in : Row → Option (ℤ × ℕ)
+choice_in (row.Item (item.Choice value chosen next)) = Some (value, next)
+choice_in r = None
+
+abbrev pub found_or : Option (ℤ × ℕ) → ℤ → (ℕ → ℤ → Bool) → Bool
+found_or None value rest = false
+found_or (Some c) value rest = int_eq c.0 value || rest c.1 value
+
+-- whether a value is among the first so many of a list
+abbrev pub listed_from : ℕ → Known → ℕ → ℤ → Bool
+listed_from zero k at value = false
+listed_from (suc n) k at value = found_or (choice_in (row_at k at)) value (listed_from n k)
+
+-- Whether a value is in a list. No list has more items than there are tokens.
+abbrev pub is_listed : Known → ℕ → ℤ → Bool
+is_listed k list value = listed_from (length k.words) k list value
+
+-- A case constant of unknown value, and one for a selector or tag of unknown type, breaks no further rule.
+abbrev pub is_choice : Known → Choosing → Option Value → Bool
+is_choice k c None = true
+is_choice k c (Some (Text token)) = is_none (type_at k c.host)
+is_choice k c (Some (Ordinal of' value)) =
+    is_none (type_at k c.host) || (nat_eq of' c.host && not (is_listed k c.list value))
+
+abbrev pub value_if : Bool → Option Value → Option ℤ
+value_if true (Some (Ordinal of' value)) = Some value
+value_if ok v = None
+
+-- an item of a list goes on at this number
+abbrev pub going_on : Row → ℕ → Row
+going_on (row.Item (item.Choice value chosen end)) next = row.Item (item.Choice value chosen next)
+going_on r next = r
+
+-- One more value, at a slot behind the last one: no item stands at the constant's first token, so the list ends there.
+unfoldable pub add_choice : ℤ → ℕ → ℕ → ℕ → ℕ → Step ℕ
+add_choice value chosen last slot end = do
+  before ← look (λ k. going_on (row_at k last) slot)
+  _ ← put last before
+  _ ← put slot (row.Item (item.Choice value chosen end))
+  give slot
+
+abbrev pub listed : Option ℤ → ℕ → ℕ → ℕ → ℕ → Step ℕ
+listed None chosen last slot end = give last
+listed (Some value) chosen last slot end = add_choice value chosen last slot end
+
+-- rule 22: a case constant is not of the selector's or tag's host type, or its value is repeated in the same case
+-- statement or variant part
+unfoldable pub choice : Choosing → ℕ → ℕ → ℕ → Constant → Step ℕ
+choice c chosen last slot x = do
+  v ← constant c.frame x
+  fine ← look (λ k. is_choice k c v)
+  _ ← late 22 (first_of_constant x) fine
+  listed (value_if fine v) chosen last slot (first_of_constant x)
+
+unfoldable pub next_choice : Choosing → ℕ → ℕ → NextConstant → Step ℕ
+next_choice c chosen last n = choice c chosen last n.comma n.constant
+
+-- the constants that choose one thing; where the last item of the list stands is given
+unfoldable pub choices : Choosing → ℕ → ℕ → ℕ → Constants → Step ℕ
+choices c chosen last slot xs = do
+  next ← choice c chosen last slot xs.first
+  each (next_choice c chosen) next xs.others.items
+
+-- ---- variants
+
+abbrev pub one_more : ℕ → ℕ
+one_more n = if nat_lt n 4294967295 then n + 1 else n
+
+-- a variant, at its `(`, and the values that choose it
+unfoldable pub arm_choices : Choosing → Listed → ℕ → ℕ → Constants → Step Listed
+arm_choices c l slot open' constants = do
+  _ ← put open' (row.Part (part.Variant l.variants (one_more l.position)))
+  last ← choices c open' l.last slot constants
+  give (record { variants = l.variants; last = last; position = one_more l.position })
+
+unfoldable pub next_arm_choices : Choosing → Listed → NextArm → Step Listed
+next_arm_choices c l n = arm_choices c l n.semicolon n.arm.«open» n.arm.constants
+
+abbrev pub choosing_at : PartPlace → ℕ → ℕ → Choosing
+choosing_at p host of' = record { frame = p.frame; host = host; list = of' }
+
+abbrev pub nothing_listed : ℕ → Listed
+nothing_listed word = record { variants = word; last = word; position = 0 }
+
+-- the row of a variant part, once the place behind its variants is known
+unfoldable pub variant_part : PartPlace → Bool → ℕ → ℕ → Step ℕ
+variant_part p hidden of' end = do
+  _ ← put p.word (row.Part (part.Variants hidden p.offset (end - capped (p.offset + 1)) of' p.holder))
+  give end

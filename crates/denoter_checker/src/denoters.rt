@@ -1,0 +1,307 @@
+//! Type denoters (6.4).
+
+ghost use Rattle.std.specs.Prelude.{◌≡◌, IfOk};
+ghost use Rattle.check_steps.specs.Steps.{Does, each};
+ghost use Rattle.denoter_checker.specs.Denoters.{array_denoter, denoter, fields_at, fixed_at, next_arm, next_index};
+ghost use Rattle.denoter_checker.specs.Denoters.{next_section, next_variants, record_type, section, structure};
+ghost use Rattle.denoter_checker.specs.Denoters.{variants_at};
+
+use crate::arrays::{check_array, check_joins, put_index};
+use crate::defines::define_record;
+use crate::records::{
+    check_choosing, check_field_places, inside, open_record, part_at, put_record, variants_word,
+};
+use crate::variants::put_variants;
+use check_steps::Work;
+use kind_checker::Scope;
+use kind_checker::constants::check_constant;
+use kind_checker::sizes::behind;
+use kind_checker::types::{
+    check_enumeration, check_named_type, check_ordinal, check_pointer, check_set_type,
+    check_subrange,
+};
+use pas_places::first_of_denoter;
+use pas_tree::denoters::{
+    ArrayDenoter, Denoter, Fields, Fixed, NextArm, NextDenoter, NextSection, NextVariants, Section,
+    Structure, Variants,
+};
+use std::alloc::{AllocError, Global};
+
+/// The type that is written, by its number.
+#[cycle(denoters)]
+#[tactic(auto, using(check_steps::proofs::Runs::steps))]
+pub fn check_denoter(
+    work: &mut Work,
+    alloc: Global,
+    d: &Denoter,
+    scope: Scope,
+) -> Result<u32, AllocError>
+    ensures { IfOk result (λ x. Does (denoter scope d.now) x work.old work.new) }
+{
+    match d {
+        Denoter::Name(token) => Ok(check_named_type(work, scope.frame, *token)),
+        Denoter::Enumeration(e) => Ok(check_enumeration(work, e)),
+        Denoter::Subrange(first, dots, last) => {
+            let first = check_constant(work, scope.frame, first);
+            let last = check_constant(work, scope.frame, last);
+            Ok(check_subrange(work, first, *dots, last))
+        }
+        Denoter::Pointer(caret, name) => Ok(check_pointer(work, scope, *caret, *name)),
+        Denoter::Structure(packed, s) => check_structure(work, alloc, s, packed.is_some(), scope),
+    }
+}
+
+#[cycle(denoters)]
+#[tactic(auto, using(check_steps::proofs::Runs::steps))]
+fn check_structure(
+    work: &mut Work,
+    alloc: Global,
+    s: &Structure,
+    packed: bool,
+    scope: Scope,
+) -> Result<u32, AllocError>
+    ensures { IfOk result (λ x. Does (structure scope packed s.now) x work.old work.new) }
+{
+    match s {
+        Structure::Array(array) => check_array_denoter(work, alloc, array, packed, scope),
+        Structure::Record(record) => {
+            check_record(work, alloc, &record.fields, record.word, packed, scope)
+        }
+        Structure::Set(set) => {
+            let written = check_denoter(work, alloc, &set.base, scope)?;
+            let first = first_of_denoter(&set.base);
+            Ok(check_set_type(work, packed, set.word, first, set.of, written))
+        }
+    }
+}
+
+#[cycle(denoters)]
+#[tactic(auto, using(check_steps::proofs::Runs::steps))]
+fn check_record(
+    work: &mut Work,
+    alloc: Global,
+    fields: &Fields,
+    word: u32,
+    packed: bool,
+    scope: Scope,
+) -> Result<u32, AllocError>
+    ensures { IfOk result (λ x. Does (record_type scope packed word fields.now) x work.old work.new) }
+{
+    let frame = open_record(work, alloc, scope.frame, word)?;
+    define_record(work, frame, fields)?;
+    let cells = check_fields(work, alloc, fields, inside(scope, frame), word, 0)?;
+    Ok(put_record(work, packed, word, frame, cells, variants_word(fields)))
+}
+
+#[cycle(denoters)]
+#[tactic(auto, using(check_steps::proofs::Runs::steps, crate::proofs::RecordRolls::fields_fixed))]
+fn check_fields(
+    work: &mut Work,
+    alloc: Global,
+    fields: &Fields,
+    scope: Scope,
+    holder: u32,
+    offset: u32,
+) -> Result<u32, AllocError>
+    ensures { IfOk result (λ x. Does (fields_at scope holder offset fields.now) x work.old work.new) }
+{
+    match fields {
+        Fields::Empty => Ok(offset),
+        Fields::Fixed(fixed, variants, _) => {
+            let next = check_fixed(work, alloc, fixed, scope, holder, offset)?;
+            match variants {
+                None => Ok(next),
+                Some(variants) => check_next_variants(work, alloc, variants, scope, holder, next),
+            }
+        }
+        Fields::Variants(variants, _) => {
+            check_variants(work, alloc, variants, scope, holder, offset)
+        }
+    }
+}
+
+#[cycle(denoters)]
+#[tactic(auto, using(check_steps::proofs::Runs::steps, crate::proofs::RecordRolls::next_variants_out))]
+fn check_next_variants(
+    work: &mut Work,
+    alloc: Global,
+    n: &NextVariants,
+    scope: Scope,
+    holder: u32,
+    offset: u32,
+) -> Result<u32, AllocError>
+    ensures { IfOk result (λ x. Does (next_variants scope holder offset n.now) x work.old work.new) }
+{
+    check_variants(work, alloc, &n.variants, scope, holder, offset)
+}
+
+#[cycle(denoters)]
+#[tactic(auto, using(check_steps::proofs::Runs::steps, crate::proofs::RecordRolls::fixed_out))]
+fn check_fixed(
+    work: &mut Work,
+    alloc: Global,
+    fixed: &Fixed,
+    scope: Scope,
+    holder: u32,
+    offset: u32,
+) -> Result<u32, AllocError>
+    ensures { IfOk result (λ x. Does (fixed_at scope holder offset fixed.now) x work.old work.new) }
+{
+    let next = check_section(work, alloc, &fixed.first, scope, holder, offset)?;
+    check_sections(work, alloc, &fixed.others, scope, holder, next)
+}
+
+#[cycle(denoters)]
+#[tactic(auto, using(check_steps::proofs::Runs::loops))]
+fn check_sections(
+    work: &mut Work,
+    alloc: Global,
+    sections: &[NextSection],
+    scope: Scope,
+    holder: u32,
+    offset: u32,
+) -> Result<u32, AllocError>
+    ensures { IfOk result (λ x. Does (each (next_section scope holder) offset sections.now) x work.old work.new) }
+{
+    let mut next = offset;
+    'sections: for section in sections {
+        next = check_next_section(work, alloc, section, scope, holder, next)?;
+    }
+    Ok(next)
+}
+
+#[cycle(denoters)]
+#[tactic(auto, using(check_steps::proofs::Runs::steps), unfolding(crate::specs::Denoters::next_section))]
+fn check_next_section(
+    work: &mut Work,
+    alloc: Global,
+    n: &NextSection,
+    scope: Scope,
+    holder: u32,
+    offset: u32,
+) -> Result<u32, AllocError>
+    ensures { IfOk result (λ x. Does (next_section scope holder offset n.now) x work.old work.new) }
+{
+    check_section(work, alloc, &n.section, scope, holder, offset)
+}
+
+#[cycle(denoters)]
+#[tactic(auto, using(check_steps::proofs::Runs::steps), unfolding(crate::specs::Denoters::section))]
+fn check_section(
+    work: &mut Work,
+    alloc: Global,
+    s: &Section,
+    scope: Scope,
+    holder: u32,
+    offset: u32,
+) -> Result<u32, AllocError>
+    ensures { IfOk result (λ x. Does (section scope holder offset s.now) x work.old work.new) }
+{
+    let kind = check_denoter(work, alloc, &s.denoter, scope)?;
+    Ok(check_field_places(work, holder, kind, offset, &s.names))
+}
+
+#[cycle(denoters)]
+#[tactic(auto, using(check_steps::proofs::Runs::steps, crate::proofs::RecordRolls::variants_out))]
+fn check_variants(
+    work: &mut Work,
+    alloc: Global,
+    v: &Variants,
+    scope: Scope,
+    holder: u32,
+    offset: u32,
+) -> Result<u32, AllocError>
+    ensures { IfOk result (λ x. Does (variants_at scope holder offset v.now) x work.old work.new) }
+{
+    let place = part_at(scope, v.word, holder, offset);
+    check_choosing(work, place, v);
+    let fields = &v.first.fields;
+    let next = check_fields(work, alloc, fields, scope, v.first.open, behind(offset, 1))?;
+    let end = check_arms(work, alloc, &v.others, scope, next)?;
+    Ok(put_variants(work, place, v.tag.field.is_none(), v.of, end))
+}
+
+#[cycle(denoters)]
+#[tactic(auto, using(check_steps::proofs::Runs::loops))]
+fn check_arms(
+    work: &mut Work,
+    alloc: Global,
+    arms: &[NextArm],
+    scope: Scope,
+    offset: u32,
+) -> Result<u32, AllocError>
+    ensures { IfOk result (λ x. Does (each (next_arm scope) offset arms.now) x work.old work.new) }
+{
+    let mut next = offset;
+    'arms: for arm in arms {
+        next = check_next_arm(work, alloc, arm, scope, next)?;
+    }
+    Ok(next)
+}
+
+#[cycle(denoters)]
+#[tactic(auto, using(check_steps::proofs::Runs::steps), unfolding(crate::specs::Denoters::next_arm))]
+fn check_next_arm(
+    work: &mut Work,
+    alloc: Global,
+    n: &NextArm,
+    scope: Scope,
+    offset: u32,
+) -> Result<u32, AllocError>
+    ensures { IfOk result (λ x. Does (next_arm scope offset n.now) x work.old work.new) }
+{
+    check_fields(work, alloc, &n.arm.fields, scope, n.arm.open, offset)
+}
+
+#[cycle(denoters)]
+#[tactic(auto, using(check_steps::proofs::Runs::steps, crate::proofs::RecordRolls::array_denoter_out))]
+fn check_array_denoter(
+    work: &mut Work,
+    alloc: Global,
+    a: &ArrayDenoter,
+    packed: bool,
+    scope: Scope,
+) -> Result<u32, AllocError>
+    ensures { IfOk result (λ x. Does (array_denoter scope packed a.now) x work.old work.new) }
+{
+    let written = check_denoter(work, alloc, &a.first, scope)?;
+    let index = check_ordinal(work, first_of_denoter(&a.first), a.word, written);
+    check_other_indexes(work, alloc, &a.others, a.word, scope)?;
+    let kind = check_denoter(work, alloc, &a.component, scope)?;
+    let inner = check_joins(work, packed, &a.others, kind);
+    Ok(check_array(work, packed, a.open, index, inner))
+}
+
+#[cycle(denoters)]
+#[tactic(auto, using(check_steps::proofs::Runs::loops))]
+fn check_other_indexes(
+    work: &mut Work,
+    alloc: Global,
+    others: &[NextDenoter],
+    word: u32,
+    scope: Scope,
+) -> Result<(), AllocError>
+    ensures { IfOk result (λ _. Does (each (next_index scope word) tt others.now) tt work.old work.new) }
+{
+    'others: for other in others {
+        check_next_index(work, alloc, other, word, scope)?;
+    }
+    Ok(())
+}
+
+#[cycle(denoters)]
+#[tactic(auto, using(check_steps::proofs::Runs::steps), unfolding(crate::specs::Denoters::next_index))]
+fn check_next_index(
+    work: &mut Work,
+    alloc: Global,
+    n: &NextDenoter,
+    word: u32,
+    scope: Scope,
+) -> Result<(), AllocError>
+    ensures { IfOk result (λ _. Does (next_index scope word tt n.now) tt work.old work.new) }
+{
+    let written = check_denoter(work, alloc, &n.denoter, scope)?;
+    let index = check_ordinal(work, first_of_denoter(&n.denoter), word, written);
+    put_index(work, n.comma, index);
+    Ok(())
+}

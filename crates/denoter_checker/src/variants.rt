@@ -1,0 +1,366 @@
+//! The tag of a variant part, and the values that choose its variants (6.4.3.3).
+
+ghost use Rattle.std.specs.Prelude.{◌≡◌};
+ghost use Rattle.check_steps.specs.Steps.{Does, each};
+ghost use Rattle.denoter_checker.specs.Variants.{add_choice, arm_choices, choice, choice_in, choices, choosing_at};
+ghost use Rattle.denoter_checker.specs.Variants.{going_on, hidden_tag, is_choice, is_listed, listed, named_tag};
+ghost use Rattle.denoter_checker.specs.Variants.{next_arm_choices, next_choice, nothing_listed, one_more, tag_part};
+ghost use Rattle.denoter_checker.specs.Variants.{tag_type, value_if, variant_part};
+
+use check_steps::{Tables, Work};
+use kind_checker::Value;
+use kind_checker::constants::check_constant;
+use kind_checker::sizes::{behind, host_of};
+use kind_checker::types::{check_named_type, check_ordinal};
+use pas_places::first_of_constant;
+use pas_tree::constants::{Constant, Constants, NextConstant};
+use pas_tree::denoters::{NextArm, Tag};
+use program_tables::rows::{ItemRow, NameRow, PartRow, Row};
+
+/// Where a variant part stands.
+#[derive(Clone, Copy)]
+pub struct PartPlace {
+    /// The frame in which its names are looked up.
+    pub frame: u32,
+    /// Its word `case`.
+    pub word: u32,
+    /// The number of the record or the variant that holds it.
+    pub holder: u32,
+    /// The place of its tag's cell.
+    pub offset: u32,
+}
+
+/// What the constants of a variant part or a case statement have in common.
+#[derive(Clone, Copy)]
+pub struct Choosing {
+    /// The frame in which their names are looked up.
+    pub frame: u32,
+    /// The host type of the tag or the selector.
+    pub host: u32,
+    /// The number of their list.
+    pub list: u32,
+}
+
+/// The variants of a variant part so far.
+#[derive(Clone, Copy)]
+pub struct Listed {
+    /// The number of the variant part.
+    pub variants: u32,
+    /// Where the last item of the list of values stands; before the first, a number at which no item does.
+    pub last: u32,
+    /// How many variants there are.
+    pub position: u32,
+}
+
+#[tactic(auto, using(check_steps::proofs::Runs::steps), unfolding(crate::specs::Variants::tag_type))]
+fn check_tag_type(work: &mut Work, frame: u32, name: u32) -> u32
+    ensures { Does (tag_type frame name) result work.old work.new }
+{
+    let kind = check_named_type(work, frame, name);
+    check_ordinal(work, name, name, kind)
+}
+
+#[tactic(auto, using(check_steps::proofs::Runs::steps), unfolding(crate::specs::Variants::hidden_tag))]
+fn check_hidden_tag(work: &mut Work, place: PartPlace, name: u32) -> u32
+    ensures { Does (hidden_tag place name) result work.old work.new }
+{
+    let of = check_tag_type(work, place.frame, name);
+    host_of(&work.tables, of)
+}
+
+#[tactic(auto, using(check_steps::proofs::Runs::steps), unfolding(crate::specs::Variants::named_tag))]
+fn check_named_tag(work: &mut Work, place: PartPlace, field: u32, name: u32) -> u32
+    ensures { Does (named_tag place field name) result work.old work.new }
+{
+    let of = check_tag_type(work, place.frame, name);
+    let row = NameRow::Tag {
+        of,
+        offset: place.offset,
+        holder: place.holder,
+        variants: place.word,
+    };
+    work.put(field, Row::Name(row));
+    host_of(&work.tables, of)
+}
+
+/// The host type of a tag.
+#[tactic(auto, using(check_steps::proofs::Runs::steps))]
+pub(crate) fn check_tag(work: &mut Work, place: PartPlace, tag: &Tag) -> u32
+    ensures { Does (tag_part place tag.now.field tag.now.name) result work.old work.new }
+{
+    match &tag.field {
+        None => check_hidden_tag(work, place, tag.name),
+        Some(field) => check_named_tag(work, place, field.name, tag.name),
+    }
+}
+
+fn choice_in(row: Row) -> Option<(i32, u32)>
+    ensures { result ≡ choice_in row }
+{
+    match row {
+        Row::Item(ItemRow::Choice { value, next, .. }) => Some((value, next)),
+        _ => None,
+    }
+}
+
+/// Whether a value is in a list of values that choose.
+#[tactic(auto, using(crate::proofs::Choices::listed_outward))]
+pub fn is_listed(tables: &Tables, list: u32, value: i32) -> bool
+    ensures { result ≡ is_listed tables.now list value }
+{
+    let mut at = list;
+    'items: for _passed in 0..tables.tokens() {
+        let Some((held, next)) = choice_in(tables.row(at)) else {
+            return false;
+        };
+        if held == value {
+            return true;
+        }
+        at = next;
+    }
+    false
+}
+
+fn is_choice(tables: &Tables, choosing: Choosing, value: Option<Value>) -> bool
+    ensures { result ≡ is_choice tables.now choosing value }
+{
+    match value {
+        None => true,
+        Some(Value::Text { .. }) => tables.type_row(choosing.host).is_none(),
+        Some(Value::Ordinal { of, value }) => {
+            tables.type_row(choosing.host).is_none()
+                || (of == choosing.host && !is_listed(tables, choosing.list, value))
+        }
+    }
+}
+
+fn value_if(fine: bool, value: Option<Value>) -> Option<i32>
+    ensures { result ≡ value_if fine value }
+{
+    if !fine {
+        return None;
+    }
+    match value {
+        Some(Value::Ordinal { value, .. }) => Some(value),
+        _ => None,
+    }
+}
+
+fn going_on(row: Row, next: u32) -> Row
+    ensures { result ≡ going_on row next }
+{
+    match row {
+        Row::Item(ItemRow::Choice { value, chosen, .. }) => Row::Item(ItemRow::Choice {
+            value,
+            chosen,
+            next,
+        }),
+        _ => row,
+    }
+}
+
+#[tactic(auto, using(check_steps::proofs::Runs::steps), unfolding(crate::specs::Variants::add_choice))]
+fn add_choice(work: &mut Work, value: i32, chosen: u32, last: u32, slot: u32, end: u32) -> u32
+    ensures { Does (add_choice value chosen last slot end) result work.old work.new }
+{
+    let before = going_on(work.tables.row(last), slot);
+    work.put(last, before);
+    let item = ItemRow::Choice {
+        value,
+        chosen,
+        next: end,
+    };
+    work.put(slot, Row::Item(item));
+    slot
+}
+
+#[tactic(auto, using(check_steps::proofs::Runs::steps))]
+fn add_listed(
+    work: &mut Work,
+    value: Option<i32>,
+    chosen: u32,
+    last: u32,
+    slot: u32,
+    end: u32,
+) -> u32
+    ensures { Does (listed value chosen last slot end) result work.old work.new }
+{
+    match value {
+        None => last,
+        Some(value) => add_choice(work, value, chosen, last, slot, end),
+    }
+}
+
+#[tactic(auto, using(check_steps::proofs::Runs::steps), unfolding(crate::specs::Variants::choice))]
+fn check_choice(
+    work: &mut Work,
+    choosing: Choosing,
+    chosen: u32,
+    last: u32,
+    slot: u32,
+    c: &Constant,
+) -> u32
+    ensures { Does (choice choosing chosen last slot c.now) result work.old work.new }
+{
+    let value = check_constant(work, choosing.frame, c);
+    let fine = is_choice(&work.tables, choosing, value);
+    let first = first_of_constant(c);
+    work.late(22, first, fine);
+    add_listed(work, value_if(fine, value), chosen, last, slot, first)
+}
+
+#[tactic(auto, unfolding(crate::specs::Variants::next_choice))]
+fn check_next_choice(
+    work: &mut Work,
+    choosing: Choosing,
+    chosen: u32,
+    last: u32,
+    next: &NextConstant,
+) -> u32
+    ensures { Does (next_choice choosing chosen last next.now) result work.old work.new }
+{
+    check_choice(work, choosing, chosen, last, next.comma, &next.constant)
+}
+
+#[tactic(auto, using(check_steps::proofs::Runs::read_loops))]
+fn check_more_choices(
+    work: &mut Work,
+    choosing: Choosing,
+    chosen: u32,
+    last: u32,
+    constants: &[NextConstant],
+) -> u32
+    ensures { Does (each (next_choice choosing chosen) last constants.now) result work.old work.new }
+{
+    let mut end = last;
+    'constants: for constant in constants {
+        end = check_next_choice(work, choosing, chosen, end, constant);
+    }
+    end
+}
+
+/// The constants that choose one thing, the first at a slot: what is given is where the last item of the list stands.
+#[tactic(auto, using(check_steps::proofs::Runs::steps), unfolding(crate::specs::Variants::choices))]
+pub fn check_choices(
+    work: &mut Work,
+    choosing: Choosing,
+    chosen: u32,
+    last: u32,
+    slot: u32,
+    constants: &Constants,
+) -> u32
+    ensures { Does (choices choosing chosen last slot constants.now) result work.old work.new }
+{
+    let next = check_choice(work, choosing, chosen, last, slot, &constants.first);
+    check_more_choices(work, choosing, chosen, next, &constants.others)
+}
+
+fn one_more(n: u32) -> u32
+    ensures { result ≡ one_more n }
+{
+    if n < u32::MAX { n + 1 } else { n }
+}
+
+/// A variant, at its `(`, and the values that choose it.
+#[tactic(auto, using(check_steps::proofs::Runs::steps), unfolding(crate::specs::Variants::arm_choices))]
+pub(crate) fn check_arm_choices(
+    work: &mut Work,
+    choosing: Choosing,
+    listed: Listed,
+    slot: u32,
+    paren: u32,
+    constants: &Constants,
+) -> Listed
+    ensures { Does (arm_choices choosing listed slot paren constants.now) result work.old work.new }
+{
+    let variants = listed.variants;
+    let position = one_more(listed.position);
+    let row = PartRow::Variant { variants, position };
+    work.put(paren, Row::Part(row));
+    let last = check_choices(work, choosing, paren, listed.last, slot, constants);
+    Listed {
+        variants,
+        last,
+        position,
+    }
+}
+
+#[tactic(auto, unfolding(crate::specs::Variants::next_arm_choices))]
+fn check_next_arm_choices(
+    work: &mut Work,
+    choosing: Choosing,
+    listed: Listed,
+    next: &NextArm,
+) -> Listed
+    ensures { Does (next_arm_choices choosing listed next.now) result work.old work.new }
+{
+    check_arm_choices(
+        work,
+        choosing,
+        listed,
+        next.semicolon,
+        next.arm.open,
+        &next.arm.constants,
+    )
+}
+
+/// The variants after the first, and the values that choose them.
+#[tactic(auto, using(check_steps::proofs::Runs::loops))]
+pub(crate) fn check_more_arm_choices(
+    work: &mut Work,
+    choosing: Choosing,
+    listed: Listed,
+    arms: &[NextArm],
+) -> Listed
+    ensures { Does (each (next_arm_choices choosing) listed arms.now) result work.old work.new }
+{
+    let mut so_far = listed;
+    'arms: for arm in arms {
+        so_far = check_next_arm_choices(work, choosing, so_far, arm);
+    }
+    so_far
+}
+
+/// What the constants of a variant part have in common.
+pub(crate) fn choosing_at(place: PartPlace, host: u32, list: u32) -> Choosing
+    ensures { result ≡ choosing_at place host list }
+{
+    Choosing {
+        frame: place.frame,
+        host,
+        list,
+    }
+}
+
+/// No variants of the variant part at a word yet.
+pub(crate) fn nothing_listed(word: u32) -> Listed
+    ensures { result ≡ nothing_listed word }
+{
+    Listed {
+        variants: word,
+        last: word,
+        position: 0,
+    }
+}
+
+/// The row of a variant part, once the place behind its variants is known.
+#[tactic(auto, using(check_steps::proofs::Runs::steps), unfolding(crate::specs::Variants::variant_part))]
+pub(crate) fn put_variants(
+    work: &mut Work,
+    place: PartPlace,
+    hidden: bool,
+    values: u32,
+    end: u32,
+) -> u32
+    ensures { Does (variant_part place hidden values end) result work.old work.new }
+{
+    let row = PartRow::Variants {
+        hidden,
+        offset: place.offset,
+        cells: end.saturating_sub(behind(place.offset, 1)),
+        values,
+        holder: place.holder,
+    };
+    work.put(place.word, Row::Part(row));
+    end
+}
