@@ -1,32 +1,49 @@
 -- Lemmas on the nodes of the trie.
-use Rattle.std.proofs.Common.{◌≡◌, ℕ, ◌/◌, ◌%◌, ◌<◌, List, [], ◌∷◌, length, get_or, set, Option, Some, None, refl, ap, sym, subst, ◌∙◌, arith, cond, true}
-use Rattle.std.proofs.Common.{false, inl, inr, Bool}
-use Rattle.std.specs.Prelude.{◌==◌, Result, Ok, Err, OnErr}
+use Rattle.std.proofs.Common.{◌≡◌, ℕ, zero, suc, ◌/◌, ◌%◌, ◌<◌, List, [], ◌∷◌, length, get_or, set, Option, Some, None, refl, ap, sym, subst, ◌∙◌, arith, cond}
+use Rattle.std.proofs.Common.{true, false, inl, inr, Bool, replicate}
+use Rattle.std.specs.Prelude.{◌==◌, Result, Ok, Err, OnErr, IsSome, IfSome}
 use Rattle.std.specs.List.{AllZip}
 use Rattle.std.specs.declared.rc.Rc.{Rc}
 use Rattle.std.proofs.lemmas.Bool.Decides.{eqb_tells, nat_tests}
 use Rattle.std.proofs.lemmas.List.{get_or-set_same, get_or-set_other, map-set, length-map, set-get_or}
-use Rattle.std.proofs.lemmas.List.{get_or-map as get_or-map_inside}
-use Rattle.std.proofs.Math.ListN.{get_or-map}
+use Rattle.std.proofs.lemmas.Simd.{get_or-zip2}
 use Rattle.std.proofs.lemmas.Nat.{div-add-mod'}
 use Rattle.cell_value.specs.declared.values.Value.{Value}
 use Rattle.persistent_store.specs.declared.cells.Cell.{Cell}
 use Rattle.persistent_store.specs.Cells.{value_of, values_of}
-use Rattle.persistent_store.specs.Loans.{with_target}
-use Rattle.persistent_store.specs.Nodes.{Entries, target_of, targets, entry_at, found_in, ChangesAt}
+use Rattle.persistent_store.specs.Nodes.{Entries, node_of, entries_of, entry_at, found_in, ChangesAt}
 
 -- clones of pointers lead where the pointers lead
-pub targets_alike : {X Z : Type 0} (R : Option (Rc X Z) → Option (Rc X Z) → Type 0) → ((q : Rc X Z) → R None (Some q) → ⊥)
-    → ((p : Rc X Z) → R (Some p) None → ⊥) → ((p q : Rc X Z) → R (Some p) (Some q) → q.value ≡ p.value) → (ps qs : List (Option (Rc X Z))) → AllZip R ps qs
-    → targets qs ≡ targets ps
-targets_alike R new gone alike [] [] h = refl
-targets_alike R new gone alike [] (q ∷ qs) h = absurd h
-targets_alike R new gone alike (p ∷ ps) [] h = absurd h
-targets_alike R new gone alike (None ∷ ps) (None ∷ qs) h = ap (λ xs. None ∷ xs) (targets_alike R new gone alike ps qs h.1)
-targets_alike R new gone alike (None ∷ ps) (Some q ∷ qs) h = absurd (new q h.0)
-targets_alike R new gone alike (Some p ∷ ps) (None ∷ qs) h = absurd (gone p h.0)
-targets_alike R new gone alike (Some p ∷ ps) (Some q ∷ qs) h =
-    let first = alike p q h.0 in let rest = targets_alike R new gone alike ps qs h.1 in cc
+pub entries_alike : {X Z : Type 0} (there : List Bool) (ps qs : List (Rc X Z)) → AllZip (λ p q. q.value ≡ p.value) ps qs
+    → entries_of there qs ≡ entries_of there ps
+entries_alike [] ps qs h = refl
+entries_alike (b ∷ bs) [] [] h = refl
+entries_alike (b ∷ bs) [] (q ∷ qs) h = absurd h
+entries_alike (b ∷ bs) (p ∷ ps) [] h = absurd h
+entries_alike (true ∷ bs) (p ∷ ps) (q ∷ qs) h = let first = h.0 in let rest = entries_alike bs ps qs h.1 in cc
+entries_alike (false ∷ bs) (p ∷ ps) (q ∷ qs) h = let rest = entries_alike bs ps qs h.1 in cc
+
+-- where no flag says that a node is there, none is there
+pub entries_none : {X Z : Type 0} (n : ℕ) (ps : List (Rc X Z)) (k : ℕ) → get_or (entries_of (replicate n false) ps) k None ≡ None
+entries_none zero ps k = refl
+entries_none (suc n) [] k = refl
+entries_none (suc n) (p ∷ ps) zero = refl
+entries_none (suc n) (p ∷ ps) (suc k) = entries_none n ps k
+
+inside_both : {X Z : Type 0} (there : List Bool) (ps : List (Rc X Z)) (i : ℕ) → i < length there → i < length ps → i < length (entries_of there ps)
+inside_both [] ps i flag inside = omega arith
+inside_both (a ∷ bs) [] i flag inside = omega arith
+inside_both (a ∷ bs) (p ∷ ps) zero flag inside = omega arith
+inside_both (a ∷ bs) (p ∷ ps) (suc i) flag inside = let rest = inside_both bs ps i (omega arith) (omega arith) in omega arith
+
+-- a flag and a pointer of a node are written over
+pub entries-set : {X Z : Type 0} (there : List Bool) (ps : List (Rc X Z)) (i : ℕ) (b : Bool) (q : Rc X Z)
+    → entries_of (set there i b) (set ps i q) ≡ set (entries_of there ps) i (node_of b q)
+entries-set [] ps i b q = refl
+entries-set (a ∷ bs) [] zero b q = refl
+entries-set (a ∷ bs) [] (suc i) b q = refl
+entries-set (a ∷ bs) (p ∷ ps) zero b q = refl
+entries-set (a ∷ bs) (p ∷ ps) (suc i) b q = ap (λ xs. node_of a p ∷ xs) (entries-set bs ps i b q)
 
 pub chosen_true : {A : Type 0} (b : Bool) (x y : A) → b ≡ true → cond b x y ≡ x
 chosen_true b x y e = ap (λ t. cond t x y) e
@@ -47,13 +64,13 @@ entry_at-set xs ys old place entry inside same is = record {
   at = λ k. ap (λ zs. get_or zs k None) is ∙ get_or-set xs place k entry None inside ∙ ap (cond (k == place) entry) (same k);
 }
 
--- the same of a node whose entries are pointers
-pub targets-set : {X Z : Type 0} (ps : List (Option (Rc X Z))) (ys : Entries X) (old : Option (Entries X)) (place : ℕ) (pointer : Rc X Z) → place < length ps
-    → ((k : ℕ) → get_or (targets ps) k None ≡ entry_at old k) → ys ≡ targets (set ps place (Some pointer))
-    → ChangesAt (entry_at old) (entry_at (Some ys)) place (Some pointer.value)
-targets-set ps ys old place pointer inside same is =
-    let there : place < length (targets ps) = simp length-map inside in
-    entry_at-set (targets ps) ys old place (Some pointer.value) there same (is ∙ map-set _ ps place (Some pointer))
+-- the same of a branch, which gets a node
+pub node-set : {X Z : Type 0} {ys : Entries X} (there : List Bool) (ps : List (Rc X Z)) (old : Option (Entries X)) (place : ℕ) (pointer : Rc X Z)
+    → (length there ≡ 16) × (length ps ≡ 16) → place < 16 → ((k : ℕ) → get_or (entries_of there ps) k None ≡ entry_at old k)
+    → ys ≡ entries_of (set there place true) (set ps place pointer) → ChangesAt (entry_at old) (entry_at (Some ys)) place (Some pointer.value)
+node-set {ys} there ps old place pointer sixteen inside same is =
+    let room = inside_both there ps place (omega (arith, sixteen.0)) (omega (arith, sixteen.1)) in
+    entry_at-set (entries_of there ps) ys old place (Some pointer.value) room same (is ∙ entries-set there ps place true pointer)
 
 rest_tells : (q a span : ℕ) → q / span ≡ a / span → (q == a) ≡ (q % span == a % span)
 rest_tells q a span e =
@@ -91,49 +108,78 @@ found_in-changed span find_below old new addr below cell here there = record {
 
 -- ---- nodes that are written to in place
 
-target_of-with_target : {X Z : Type 0} (p : Option (Rc X Z)) (x y : X) → target_of p ≡ Some x → target_of (with_target p y) ≡ Some y
-target_of-with_target (Some pointer) x y e = refl
-target_of-with_target None x y e = cc
+-- the flags and pointers of a node that has something at a place
+pub record IsThere {X Z : Type 0} (there : List Bool) (ps : List (Rc X Z)) (node : Entries X) (i : ℕ) : Type 0 where
+  pub flag : i < length there
+  pub pointer : i < length ps
+  pub node_is : entries_of there ps ≡ node
+  pub is_there : IsSome (get_or node i None)
 
-entries_after : {X Z : Type 0} (ps : List (Option (Rc X Z))) (i : ℕ) (d q : Option (Rc X Z)) → target_of q ≡ target_of (get_or ps i d)
-    → targets (set ps i q) ≡ targets ps
-entries_after ps i d q same = map-set target_of ps i q ∙ ap (set (targets ps) i) same ∙ ap (set (targets ps) i) (sym (get_or-map target_of ps i d))
-    ∙ set-get_or (targets ps) i (target_of d)
+pub there_at : {X Z : Type 0} {there : List Bool} {ps : List (Rc X Z)} {node : Entries X} (i : ℕ) → (length there ≡ 16) × (length ps ≡ 16) → i < 16
+    → entries_of there ps ≡ node → IsSome (get_or node i None) → IsThere there ps node i
+there_at i sixteen inside is some = record { flag = omega (arith, sixteen.0); pointer = omega (arith, sixteen.1); node_is = is; is_there = some }
 
--- a node below that is as it was leaves the node as it was
-pub restored : {X Z : Type 0} (p : Option (Rc (Entries X) Z)) (ps : List (Option (Rc X Z))) (i : ℕ) (d q : Option (Rc X Z)) → target_of p ≡ Some (targets ps)
-    → target_of q ≡ target_of (get_or ps i d) → target_of (with_target p (targets (set ps i q))) ≡ target_of p
-restored p ps i d q is same = target_of-with_target p _ _ is ∙ ap Some (entries_after ps i d q same) ∙ sym is
+flag_is : {X Z : Type 0} (node : Entries X) (i : ℕ) (b : Bool) (p : Rc X Z) → get_or node i None ≡ node_of b p → IsSome (get_or node i None) → b ≡ true
+flag_is node i true p e some = refl
+flag_is node i false p e some = cc
 
--- a change at a place that is known by two names
-change_at : {X : Type 0} (old new : ℕ → Option X) (i j : ℕ) (entry : Option X) → i ≡ j → ChangesAt old new i entry → ChangesAt old new j entry
-change_at old new i j entry e changes = subst (λ k. ChangesAt old new k entry) e changes
+module _ {X Z : Type 0} {there : List Bool} {ps : List (Rc X Z)} {node : Entries X} {i : ℕ} where
+  entry_is : (d : Rc X Z) → IsThere there ps node i → get_or node i None ≡ node_of (get_or there i false) (get_or ps i d)
+  entry_is d h = ap (λ ys. get_or ys i None) (sym h.node_is) ∙ get_or-zip2 node_of there ps i false d None h.flag h.pointer
 
--- a cell of a leaf is written
-pub written_leaf : {V Z : Type 0} (p : Option (Rc (Entries V) Z)) (cells : Entries V) (i addr : ℕ) (cell : Option V) → i ≡ addr → target_of p ≡ Some cells
-    → i < length cells → ChangesAt (entry_at (target_of p)) (entry_at (target_of (with_target p (set cells i cell)))) addr cell
-written_leaf p cells i addr cell place is inside =
-    let here : ChangesAt (entry_at (target_of p)) (entry_at (Some (set cells i cell))) i cell =
-    entry_at-set cells (set cells i cell) (target_of p) i cell inside (λ k. ap (λ node. entry_at node k) (sym is)) refl in
-    let there : ChangesAt (entry_at (target_of p)) (entry_at (Some (set cells i cell))) addr cell = change_at _ _ i addr cell place here in
-    rw (target_of-with_target p cells (set cells i cell) is) there
+  flag-there : (d : Rc X Z) → IsThere there ps node i → get_or there i false ≡ true
+  flag-there d h = flag_is node i (get_or there i false) (get_or ps i d) (entry_is d h) h.is_there
+
+  entry-there : (d : Rc X Z) → IsThere there ps node i → get_or node i None ≡ Some (get_or ps i d).value
+  entry-there d h = entry_is d h ∙ ap (λ b. node_of b (get_or ps i d)) (flag-there d h)
+
+  -- another node there
+  entries-set_there : (q : Rc X Z) → IsThere there ps node i → entries_of there (set ps i q) ≡ set node i (Some q.value)
+  entries-set_there q h =
+      let same : set there i true ≡ there = ap (set there i) (sym (flag-there q h)) ∙ set-get_or there i false in
+      ap (λ bs. entries_of bs (set ps i q)) (sym same) ∙ entries-set there ps i true q ∙ ap (λ ys. set ys i (Some q.value)) h.node_is
+
+  -- a node below that is as it was leaves the node as it was
+  pub restored : (d q : Rc X Z) → IsThere there ps node i → q.value ≡ (get_or ps i d).value → entries_of there (set ps i q) ≡ node
+  restored d q h same =
+      entries-set_there q h
+      ∙ ap (λ x. set node i (Some x)) same
+      ∙ ap (set node i) (sym (entry-there d h))
+      ∙ set-get_or node i None
 
 -- a node below is written
-pub written_below : {X Z V : Type 0} (span : ℕ) (find_below : Option X → ℕ → Option V) (p : Option (Rc (Entries X) Z)) (ps : List (Option (Rc X Z)))
-    (i addr : ℕ) (d q : Option (Rc X Z)) (cell : Option V) → i ≡ addr / span → target_of p ≡ Some (targets ps) → i < length ps
-    → ChangesAt (find_below (target_of (get_or ps i d))) (find_below (target_of q)) (addr % span) cell
-    → ChangesAt (found_in span find_below (target_of p)) (found_in span find_below (target_of (with_target p (targets (set ps i q))))) addr cell
-written_below span find_below p ps i addr d q cell place is inside there =
-    let ys = targets (set ps i q) in
-    let room : i < length (targets ps) = simp length-map inside in
-    let was : entry_at (target_of p) i ≡ target_of (get_or ps i d) = ap (λ node. entry_at node i) is ∙ get_or-map_inside target_of ps i d None inside in
-    let here : ChangesAt (entry_at (target_of p)) (entry_at (Some ys)) i (target_of q) =
-    entry_at-set (targets ps) ys (target_of p) i (target_of q) room (λ k. ap (λ node. entry_at node k) (sym is)) (map-set target_of ps i q) in
-    let below : ChangesAt (find_below (entry_at (target_of p) i)) (find_below (target_of q)) (addr % span) cell = rw was there in
-    let below_place : ChangesAt (find_below (entry_at (target_of p) (addr / span))) (find_below (target_of q)) (addr % span) cell =
-    subst (λ k. ChangesAt (find_below (entry_at (target_of p) k)) (find_below (target_of q)) (addr % span) cell) place below in
-    rw (target_of-with_target p (targets ps) ys is) (found_in-changed span find_below (target_of p) (Some ys) addr (target_of q) cell
-    (change_at _ _ i (addr / span) (target_of q) place here) below_place)
+pub written_below : {X Z V : Type 0} {there : List Bool} {ps : List (Rc X Z)} {node : Entries X} {cell : Option V} (span : ℕ)
+    (find_below : Option X → ℕ → Option V) (addr : ℕ) (d q : Rc X Z) → IsThere there ps node (addr / span)
+    → ChangesAt (find_below (Some (get_or ps (addr / span) d).value)) (find_below (Some q.value)) (addr % span) cell
+    → ChangesAt (found_in span find_below (Some node)) (found_in span find_below (Some (entries_of there (set ps (addr / span) q)))) addr cell
+written_below {there} {ps} {node} {cell} span find_below addr d q h changes =
+    let place : ℕ = addr / span in
+    let ys = entries_of there (set ps place q) in
+    let was : entry_at (Some node) place ≡ Some (get_or ps place d).value = entry-there d h in
+    let room : place < length node = subst (λ xs. place < length xs) h.node_is (inside_both there ps place h.flag h.pointer) in
+    let here : ChangesAt (entry_at (Some node)) (entry_at (Some ys)) place (Some q.value) =
+    entry_at-set node ys (Some node) place (Some q.value) room (λ k. refl) (entries-set_there q h) in
+    let below : ChangesAt (find_below (entry_at (Some node) place)) (find_below (Some q.value)) (addr % span) cell = rw was changes in
+    found_in-changed span find_below (Some node) (Some ys) addr (Some q.value) cell here below
+
+-- a fact that does not speak of the value
+pub if_some : {T : Type 0} {P : Type 0} (o : Option T) → P → IfSome o (λ x. P)
+if_some (Some x) h = h
+if_some None h = tt
+
+some_inside : {X Z : Type 0} (there : List Bool) (ps : List (Rc X Z)) (i : ℕ) → i < length there → i < length ps → get_or there i false ≡ true
+    → IsSome (get_or (entries_of there ps) i None)
+some_inside [] ps i flag inside e = absurd (omega arith)
+some_inside (b ∷ bs) [] i flag inside e = absurd (omega arith)
+some_inside (true ∷ bs) (p ∷ ps) zero flag inside e = refl
+some_inside (false ∷ bs) (p ∷ ps) zero flag inside e = cc
+some_inside (b ∷ bs) (p ∷ ps) (suc i) flag inside e = some_inside bs ps i (omega arith) (omega arith) e
+
+-- a node is there where the flag says so
+pub some_there : {X Z : Type 0} {node : Entries X} (there : List Bool) (ps : List (Rc X Z)) (i : ℕ) → (length there ≡ 16) × (length ps ≡ 16) → i < 16
+    → entries_of there ps ≡ node → get_or there i false ≡ true → IsSome (get_or node i None)
+some_there there ps i sixteen inside is e =
+    subst (λ ys. IsSome (get_or ys i None)) is (some_inside there ps i (omega (arith, sixteen.0)) (omega (arith, sixteen.1)) e)
 
 pub on_err : {T E : Type 0} {P : Type 0} (r : Result T E) → P → OnErr r P
 on_err (Ok x) h = tt
@@ -150,12 +196,10 @@ values-set cells ys old place cell inside same is =
     entry_at-set (values_of cells) ys old place (value_of cell) there same (is ∙ map-set value_of cells place cell)
 
 -- the same of a leaf that is written to in place
-pub written_cell : {Z : Type 0} (p : Option (Rc (Entries Value) Z)) (cells : List Cell) (i addr : ℕ) (cell was : Cell) → cell ≡ was → i ≡ addr
-    → target_of p ≡ Some (values_of cells) → i < length cells → ChangesAt (entry_at (target_of p))
-    (entry_at (target_of (with_target p (values_of (set cells i cell))))) addr (value_of was)
-written_cell p cells i addr cell was same place is inside =
-    let there : i < length (values_of cells) = simp length-map inside in
-    rw (map-set value_of cells i cell, ← same) (written_leaf p (values_of cells) i addr (value_of cell) place is there)
+pub written_cell : (cells : List Cell) (leaf : Entries Value) (place : ℕ) (cell : Cell) → place < length cells → values_of cells ≡ leaf
+    → ChangesAt (entry_at (Some leaf)) (entry_at (Some (values_of (set cells place cell)))) place (value_of cell)
+written_cell cells leaf place cell inside is =
+    values-set cells _ (Some leaf) place cell inside (λ k. ap (λ ys. get_or ys k None) is) refl
 
 -- clones of cells have the values of the cells
 pub values_alike : (cells copies : List Cell) → AllZip (λ cell copy. value_of copy ≡ value_of cell) cells copies → values_of copies ≡ values_of cells

@@ -1,7 +1,9 @@
 -- A trie over addresses in base sixteen. A node of the lowest level, a leaf, has a value or none at
 -- each of sixteen places. A node of a higher level has a node of the level below or none at each
 -- place. The place at each level is a digit of the address, the highest digit at the root.
-use Rattle.std.specs.Prelude.{◌≡◌, ℕ, ◌/◌, ◌%◌, ◌==◌, if◌then◌else◌, List, map, slice_index_or, Option, Some, None}
+use Rattle.std.specs.Prelude.{◌≡◌, ℕ, ◌/◌, ◌%◌, ◌==◌, if◌then◌else◌, Bool, true, false, List, slice_index_or}
+use Rattle.std.specs.Prelude.{Option, Some, None}
+use Rattle.std.specs.Simd.Lanes.{zip2}
 use Rattle.std.specs.declared.rc.Rc.{Rc}
 
 -- the entries of a node, some of them with nothing
@@ -13,8 +15,14 @@ abbrev pub target_of : {X Z : Type 0} → Option (Rc X Z) → Option X
 target_of (Some pointer) = Some pointer.value
 target_of None = None
 
-abbrev pub targets : {X Z : Type 0} → List (Option (Rc X Z)) → Entries X
-targets pointers = map target_of pointers
+-- what a pointer leads to, where a node is there; else nobody follows the pointer
+abbrev pub node_of : {X Z : Type 0} → Bool → Rc X Z → Option X
+node_of true pointer = Some pointer.value
+node_of false pointer = None
+
+-- the entries of a node, by the flags that say where a node is there, and its pointers
+abbrev pub entries_of : {X Z : Type 0} → List Bool → List (Rc X Z) → Entries X
+entries_of there pointers = zip2 node_of there pointers
 
 -- what a node has at a place; a node that is not there has nothing anywhere
 abbrev pub entry_at : {X : Type 0} → Option (Entries X) → ℕ → Option X

@@ -47,6 +47,7 @@ impl Clone for Cell {
 
 impl Cell {
     /// The cell with this value, or with none.
+    #[inline(always)]
     pub(crate) fn of(alloc: Global, value: Option<Value>) -> Result<Cell, Memory>
         ensures { IfOk result (λ cell. value_of cell ≡ value) }
     {

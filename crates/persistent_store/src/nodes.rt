@@ -1,16 +1,18 @@
 //! The nodes of the trie: leaves with cells, and branches with nodes of the level below. Any number
 //! of stores may share a node, and one that is shared is never written to.
-ghost use Rattle.std.specs.Prelude.{◌≡◌, ◌+◌, ◌<◌, ℕ, IfOk, IfSome, OnOk, OnErr, Some, None, option_copied, length};
+ghost use Rattle.std.specs.Prelude.{◌≡◌, ◌+◌, ◌<◌, ℕ, IfOk, IfSome, OnOk, OnErr, IsSome, Some, option_copied, length};
 ghost use Rattle.std.specs.Prelude.{replicate};
 ghost use Rattle.std.specs.Borrow.{sem};
 ghost use Rattle.persistent_store.specs.Cells.{value_of, values_of};
 ghost use Rattle.persistent_store.specs.Loans.{LendsTarget};
-ghost use Rattle.persistent_store.specs.Nodes.{entry_at, target_of, targets, ChangesAt};
+ghost use Rattle.persistent_store.specs.Nodes.{entry_at, node_of, target_of, ChangesAt};
 
 use crate::cells::Cell;
 use cell_value::{Memory, Steps, Value};
 use std::alloc::Global;
+use std::array;
 use std::marker::Model;
+use std::mem::size_of;
 use std::rc::Rc;
 
 /// A node of the lowest level: sixteen cells, each with a value or none.
@@ -55,6 +57,7 @@ impl Leaf {
 
     /// Makes the leaf that has this cell at the place, and elsewhere what `old` has. Each step taken is
     /// a leaf made.
+    #[inline(never)]
     pub(crate) fn changed<L>(
         alloc: Global,
         old: Option<&Leaf>,
@@ -76,42 +79,55 @@ impl Leaf {
     }
 }
 
-/// A node of a higher level: sixteen nodes of the level below, each there or not.
+/// A node of a higher level: sixteen pointers, and beside each whether a node of the level below is there. A pointer
+/// takes eight bytes, and an `Option` of one would take sixteen. Where no node is there, the pointer leads to any node,
+/// and nobody follows it.
 #[derive(Drop)]
 pub(crate) struct Branch<T> {
-    pub(crate) below: [Option<Rc<T>>; 16],
+    there: [bool; 16],
+    pub(crate) below: [Rc<T>; 16],
 }
+
+const _: () = prove!(size_of::<Branch<Leaf>>() == 144);
 
 impl<T> Model for Branch<T> {
     ghost use Rattle.std.specs.Prelude.{◌≡◌, List, Option, length};
-    ghost use Rattle.persistent_store.specs.Nodes.{targets};
+    ghost use Rattle.persistent_store.specs.Nodes.{entries_of};
 
     ghost Value = { List (Option T) };
 
-    ghost view = { λ branch. targets branch.below };
+    ghost view = { λ branch. entries_of branch.there branch.below };
 
-    ghost invariant = { λ branch. length branch.below ≡ 16 };
+    ghost invariant = { λ branch. (length branch.there ≡ 16) × (length branch.below ≡ 16) };
 }
 
 impl<T: Drop> Branch<T> {
+    ghost use Rattle.persistent_store.specs.contracts.nodes.Branch as branches;
+
     /// The node at a place.
     #[inline(always)]
     pub(crate) fn at(branch: Option<&Branch<T>>, place: usize) -> Option<&T>
         requires { place < 16 }
         ensures { option_copied result ≡ entry_at (option_copied branch.entry) place }
     {
-        target(&branch?.below[place])
+        let branch = branch?;
+        node_behind(branch.there[place], &branch.below[place])
     }
 
-    /// Pointers to the nodes that a branch has, none where there is no branch.
-    fn pointers_of(branch: Option<&Branch<T>>) -> Result<[Option<Rc<T>>; 16], Memory>
-        ensures sixteen { IfOk result (λ p. length p ≡ 16) }
-        ensures same { IfOk result (λ p. (k : ℕ) → entry_at (Some (targets p)) k
-            ≡ entry_at (option_copied branch.entry) k) }
+    /// A copy of a branch, with no node anywhere where there is no branch. Its pointers then lead to `any`.
+    fn copy_of(branch: Option<&Branch<T>>, any: &Rc<T>) -> Result<Branch<T>, Memory>
+        ensures same { IfOk result (λ copy. (k : ℕ)
+            → entry_at (Some copy) k ≡ entry_at (option_copied branch.entry) k) }
     {
         match branch {
-            Some(branch) => Ok(branch.below.clone()?),
-            None => Ok(no_pointers()),
+            Some(branch) => Ok(Branch {
+                there: branch.there,
+                below: branch.below.clone()?,
+            }),
+            None => Ok(Branch {
+                there: [false; 16],
+                below: array::try_from_fn(|_place| any.clone())?,
+            }),
         }
     }
 
@@ -130,15 +146,41 @@ impl<T: Drop> Branch<T> {
         ensures one_node { OnOk result (made.new ≡ made.old + 1) }
         ensures no_node { OnErr result (made.new ≡ made.old) }
     {
-        let mut below = Branch::pointers_of(old)?;
-        below[place] = Some(node);
-        let branch = Rc::new(alloc, Branch { below })?;
+        let mut branch = Branch::copy_of(old, &node)?;
+        branch.there[place] = true;
+        branch.below[place] = node;
+        let branch = Rc::new(alloc, branch)?;
         made.tick();
         Ok(branch)
     }
+
+    /// The branch that a pointer leads to, to be written to below a place, where no other pointer leads to
+    /// it and a node is at the place.
+    #[inline(always)]
+    pub(crate) fn sole(pointer: &mut Rc<Branch<T>>, place: usize) -> Option<&mut Branch<T>>
+        requires { place < 16 }
+        ensures* writes_back { sem 𝓛 (LendsTarget (branches.the_row T.row) pointer.entry result) }
+        ensures value { IfSome result (λ branch. branch.now ≡ pointer.old.value) }
+        ensures there { IfSome result (λ _branch. IsSome (entry_at (Some pointer.old.value) place)) }
+    {
+        if pointer.there[place] {
+            Rc::get_mut(pointer)
+        } else {
+            None
+        }
+    }
+}
+
+/// The node that a pointer leads to, where one is there.
+#[inline(always)]
+fn node_behind<T>(there: bool, pointer: &Rc<T>) -> Option<&T>
+    ensures { option_copied result ≡ node_of there pointer.now }
+{
+    if there { Some(&**pointer) } else { None }
 }
 
 /// The node that a pointer leads to.
+#[inline(always)]
 pub(crate) fn target<T>(pointer: &Option<Rc<T>>) -> Option<&T>
     ensures { option_copied result ≡ target_of pointer.now }
 {
@@ -161,22 +203,4 @@ fn no_cells() -> [Cell; 16]
     ensures { result ≡ replicate 16 Cell.Absent }
 {
     [const { Cell::Absent }; 16]
-}
-
-/// Sixteen pointers to nothing.
-fn no_pointers<T>() -> [Option<Rc<T>>; 16]
-    ensures { result ≡ replicate 16 None }
-{
-    [const { None }; 16]
-}
-
-/// The node that a pointer leads to, to be written to, where no other pointer leads to it.
-pub(crate) fn sole<T>(pointer: &mut Option<Rc<T>>) -> Option<&mut T>
-    ensures* writes_back { sem 𝓛 (LendsTarget T.row pointer.entry result) }
-    ensures value { IfSome result (λ node. target_of pointer.old ≡ Some node.now) }
-{
-    match pointer {
-        Some(node) => Rc::get_mut(node),
-        None => None,
-    }
 }

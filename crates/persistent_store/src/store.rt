@@ -5,7 +5,7 @@ ghost use Rattle.persistent_store.specs.Addresses.{with_cell};
 
 use crate::cells::Cell;
 use crate::nodes::target;
-use crate::trie::{Root, cell_of, write_root};
+use crate::trie::{Root, cell_of, write_trie};
 use cell_value::{Memory, Steps, Value};
 use std::alloc::Global;
 use std::marker::Model;
@@ -64,6 +64,7 @@ impl Store {
 
     /// Sets or removes the value at an address: in place as far as the store is the only owner of the nodes on the way
     /// to it, and below that by new nodes.
+    #[inline(always)]
     fn write<L>(
         &mut self,
         alloc: Global,
@@ -78,7 +79,7 @@ impl Store {
         ensures five_nodes { made.new ≤ made.old + 5 }
     {
         let cell = Cell::of(alloc, value)?;
-        write_root(alloc, &mut self.root, addr as usize, cell, made)?;
+        write_trie(alloc, &mut self.root, addr as usize, cell, made)?;
         Ok(())
     }
 

@@ -5,7 +5,7 @@ ghost use Rattle.persistent_store.specs.Nodes.{cell_at, entry_at, in_level1, in_
 ghost use Rattle.persistent_store.specs.Nodes.{ChangesAt};
 
 use crate::cells::Cell;
-use crate::nodes::{Branch, Leaf, sole, target};
+use crate::nodes::{Branch, Leaf};
 use cell_value::{Memory, Steps, Value};
 use std::alloc::Global;
 use std::rc::Rc;
@@ -36,6 +36,7 @@ pub(crate) fn cell_of(root: Option<&Root>, addr: u32) -> Option<Value>
 
 /// Makes the node of level 1 that has this cell at the address, and elsewhere what `old` has. It shares with `old`
 /// every node that is not on the way to the address, and each step taken is a node made.
+#[inline(never)]
 fn changed_level1<L>(
     alloc: Global,
     old: Option<&Level1>,
@@ -54,6 +55,7 @@ fn changed_level1<L>(
 }
 
 /// The same of level 2.
+#[inline(never)]
 fn changed_level2<L>(
     alloc: Global,
     old: Option<&Level2>,
@@ -72,6 +74,7 @@ fn changed_level2<L>(
 }
 
 /// The same of level 3.
+#[inline(never)]
 fn changed_level3<L>(
     alloc: Global,
     old: Option<&Level3>,
@@ -90,6 +93,7 @@ fn changed_level3<L>(
 }
 
 /// The same of the root.
+#[inline(never)]
 fn changed_root<L>(
     alloc: Global,
     old: Option<&Root>,
@@ -115,130 +119,135 @@ fn changed_root<L>(
 
 /// Writes a cell of the leaf that a pointer leads to, in place where no other pointer leads to it, and else in a leaf
 /// made from it. Each step taken is a leaf made.
+#[inline(always)]
 fn write_leaf<L>(
     alloc: Global,
-    pointer: &mut Option<Rc<Leaf>>,
+    pointer: &mut Rc<Leaf>,
     place: usize,
     cell: Cell,
     made: &mut Steps<L>,
 ) -> Result<(), Memory>
     requires { place < 16 }
-    ensures written { OnOk result (ChangesAt (entry_at (target_of pointer.old)) (entry_at (target_of pointer.new)) place
-        (value_of cell)) }
-    ensures unchanged { OnErr result (target_of pointer.new ≡ target_of pointer.old) }
+    ensures written { OnOk result (ChangesAt (entry_at (Some pointer.old.value)) (entry_at (Some pointer.new.value))
+        place (value_of cell)) }
+    ensures unchanged { OnErr result (pointer.new.value ≡ pointer.old.value) }
     ensures made_rises { made.old ≤ made.new }
     ensures one_node { made.new ≤ made.old + 1 }
 {
-    match sole(pointer) {
+    match Rc::get_mut(pointer) {
         Some(leaf) => {
             leaf.cells[place] = cell;
             Ok(())
         }
         None => {
-            *pointer = Some(Leaf::changed(alloc, target(pointer), place, cell, made)?);
+            *pointer = Leaf::changed(alloc, Some(&**pointer), place, cell, made)?;
             Ok(())
         }
     }
 }
 
 /// Writes a cell at an address below the node of level 1 that a pointer leads to. From the first node on that has
-/// another owner, or is not there, the way to the address is made anew, and each step taken is a node made.
+/// another owner, or has no node on the way, all of the way is made anew, and each step taken is a node made.
+#[inline(always)]
 fn write_level1<L>(
     alloc: Global,
-    pointer: &mut Option<Rc<Level1>>,
+    pointer: &mut Rc<Level1>,
     addr: usize,
     cell: Cell,
     made: &mut Steps<L>,
 ) -> Result<(), Memory>
     requires { addr < 256 }
-    ensures written { OnOk result (ChangesAt (in_level1 (target_of pointer.old)) (in_level1 (target_of pointer.new))
+    ensures written { OnOk result (ChangesAt (in_level1 (Some pointer.old.value)) (in_level1 (Some pointer.new.value))
         addr (value_of cell)) }
-    ensures unchanged { OnErr result (target_of pointer.new ≡ target_of pointer.old) }
+    ensures unchanged { OnErr result (pointer.new.value ≡ pointer.old.value) }
     ensures made_rises { made.old ≤ made.new }
     ensures two_nodes { made.new ≤ made.old + 2 }
 {
-    match sole(pointer) {
+    match Branch::sole(pointer, addr / 16) {
         Some(node) => {
             write_leaf(alloc, &mut node.below[addr / 16], addr % 16, cell, made)?;
             Ok(())
         }
         None => {
-            *pointer = Some(changed_level1(alloc, target(pointer), addr, cell, made)?);
+            *pointer = changed_level1(alloc, Some(&**pointer), addr, cell, made)?;
             Ok(())
         }
     }
 }
 
 /// The same of level 2.
+#[inline(always)]
 fn write_level2<L>(
     alloc: Global,
-    pointer: &mut Option<Rc<Level2>>,
+    pointer: &mut Rc<Level2>,
     addr: usize,
     cell: Cell,
     made: &mut Steps<L>,
 ) -> Result<(), Memory>
     requires { addr < 4096 }
-    ensures written { OnOk result (ChangesAt (in_level2 (target_of pointer.old)) (in_level2 (target_of pointer.new))
+    ensures written { OnOk result (ChangesAt (in_level2 (Some pointer.old.value)) (in_level2 (Some pointer.new.value))
         addr (value_of cell)) }
-    ensures unchanged { OnErr result (target_of pointer.new ≡ target_of pointer.old) }
+    ensures unchanged { OnErr result (pointer.new.value ≡ pointer.old.value) }
     ensures made_rises { made.old ≤ made.new }
     ensures three_nodes { made.new ≤ made.old + 3 }
 {
-    match sole(pointer) {
+    match Branch::sole(pointer, addr / 256) {
         Some(node) => {
             write_level1(alloc, &mut node.below[addr / 256], addr % 256, cell, made)?;
             Ok(())
         }
         None => {
-            *pointer = Some(changed_level2(alloc, target(pointer), addr, cell, made)?);
+            *pointer = changed_level2(alloc, Some(&**pointer), addr, cell, made)?;
             Ok(())
         }
     }
 }
 
 /// The same of level 3.
+#[inline(always)]
 fn write_level3<L>(
     alloc: Global,
-    pointer: &mut Option<Rc<Level3>>,
+    pointer: &mut Rc<Level3>,
     addr: usize,
     cell: Cell,
     made: &mut Steps<L>,
 ) -> Result<(), Memory>
     requires { addr < 65536 }
-    ensures written { OnOk result (ChangesAt (in_level3 (target_of pointer.old)) (in_level3 (target_of pointer.new))
+    ensures written { OnOk result (ChangesAt (in_level3 (Some pointer.old.value)) (in_level3 (Some pointer.new.value))
         addr (value_of cell)) }
-    ensures unchanged { OnErr result (target_of pointer.new ≡ target_of pointer.old) }
+    ensures unchanged { OnErr result (pointer.new.value ≡ pointer.old.value) }
     ensures made_rises { made.old ≤ made.new }
     ensures four_nodes { made.new ≤ made.old + 4 }
 {
-    match sole(pointer) {
+    match Branch::sole(pointer, addr / 4096) {
         Some(node) => {
             write_level2(alloc, &mut node.below[addr / 4096], addr % 4096, cell, made)?;
             Ok(())
         }
         None => {
-            *pointer = Some(changed_level3(alloc, target(pointer), addr, cell, made)?);
+            *pointer = changed_level3(alloc, Some(&**pointer), addr, cell, made)?;
             Ok(())
         }
     }
 }
 
-/// The same of a trie under its root.
-pub(crate) fn write_root<L>(
+/// The same of the root.
+#[inline(always)]
+fn write_root<L>(
     alloc: Global,
-    pointer: &mut Option<Rc<Root>>,
+    pointer: &mut Rc<Root>,
     addr: usize,
     cell: Cell,
     made: &mut Steps<L>,
 ) -> Result<(), Memory>
     requires { addr < 1048576 }
-    ensures written { OnOk result (ChangesAt (cell_at (target_of pointer.old)) (cell_at (target_of pointer.new))
+    ensures written { OnOk result (ChangesAt (cell_at (Some pointer.old.value)) (cell_at (Some pointer.new.value))
         addr (value_of cell)) }
-    ensures unchanged { OnErr result (target_of pointer.new ≡ target_of pointer.old) }
+    ensures unchanged { OnErr result (pointer.new.value ≡ pointer.old.value) }
     ensures made_rises { made.old ≤ made.new }
     ensures five_nodes { made.new ≤ made.old + 5 }
 {
-    match sole(pointer) {
+    match Branch::sole(pointer, addr / 65536) {
         Some(node) => {
             write_level3(
                 alloc,
@@ -250,7 +259,35 @@ pub(crate) fn write_root<L>(
             Ok(())
         }
         None => {
-            *pointer = Some(changed_root(alloc, target(pointer), addr, cell, made)?);
+            *pointer = changed_root(alloc, Some(&**pointer), addr, cell, made)?;
+            Ok(())
+        }
+    }
+}
+
+/// The same of a trie, which is made where there is none.
+#[inline(always)]
+pub(crate) fn write_trie<L>(
+    alloc: Global,
+    root: &mut Option<Rc<Root>>,
+    addr: usize,
+    cell: Cell,
+    made: &mut Steps<L>,
+) -> Result<(), Memory>
+    requires { addr < 1048576 }
+    ensures written { OnOk result (ChangesAt (cell_at (target_of root.old)) (cell_at (target_of root.new)) addr
+        (value_of cell)) }
+    ensures unchanged { OnErr result (target_of root.new ≡ target_of root.old) }
+    ensures made_rises { made.old ≤ made.new }
+    ensures five_nodes { made.new ≤ made.old + 5 }
+{
+    match root {
+        Some(pointer) => {
+            write_root(alloc, pointer, addr, cell, made)?;
+            Ok(())
+        }
+        None => {
+            *root = Some(changed_root(alloc, None, addr, cell, made)?);
             Ok(())
         }
     }

@@ -1,9 +1,8 @@
-use Rattle.std.proofs.Common.{ap, sym, ◌∙◌, refl, Some, arith, ◌<◌, length}
+use Rattle.std.proofs.Common.{◌∙◌, ◌<◌, length, arith}
 use Rattle.persistent_store.proofs.NodeLemmas.{written_cell}
 use Rattle.persistent_store.proofs.trie.write_leaf.Goals as goal
 
 pub returns-in-Some-clause-written : goal.returns-in-Some-clause-written
 returns-in-Some-clause-written g c =
-    let leaf = c.in-Some.ensures.value ∙ ap Some (sym c.leaf.view_is) in
     let inside : c.args.place < length c.leaf.inside.cells = omega arith in
-    written_cell _ _ c.args.place c.args.place c.args.cell c.args.cell refl refl leaf inside
+    written_cell _ _ c.args.place c.args.cell inside (c.leaf.view_is ∙ c.in-Some.ensures.value)

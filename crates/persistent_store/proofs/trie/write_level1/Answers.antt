@@ -1,15 +1,14 @@
-use Rattle.std.proofs.Common.{ap, sym, ◌∙◌, refl, Some, arith, ◌<◌, ◌/◌, length}
+use Rattle.std.proofs.Common.{◌∙◌, arith, ◌/◌}
 use Rattle.persistent_store.specs.Nodes.{entry_at}
-use Rattle.persistent_store.proofs.NodeLemmas.{on_err, restored, written_below}
+use Rattle.persistent_store.proofs.NodeLemmas.{on_err, restored, there_at, written_below}
 use Rattle.persistent_store.proofs.trie.write_level1.Goals as goal
 
 pub returns-in_err-write_leaf-in-Some-clause-unchanged : goal.returns-in_err-write_leaf-in-Some-clause-unchanged
 returns-in_err-write_leaf-in-Some-clause-unchanged g c =
-    let node = c.in-Some.ensures.value ∙ ap Some (sym c.node.view_is) in
-    on_err _ (restored _ _ _ _ _ node c.in_err-write_leaf-in-Some.ensures.unchanged)
+    let there = there_at (c.args.addr / 16) c.node.invariant (omega arith) (c.node.view_is ∙ c.in-Some.ensures.value) c.in-Some.ensures.there in
+    on_err _ (restored _ _ there c.in_err-write_leaf-in-Some.ensures.unchanged)
 
 pub returns-in_ok-write_leaf-in-Some-clause-written : goal.returns-in_ok-write_leaf-in-Some-clause-written
 returns-in_ok-write_leaf-in-Some-clause-written g c =
-    let node = c.in-Some.ensures.value ∙ ap Some (sym c.node.view_is) in
-    let inside : c.args.addr / 16 < length c.node.inside.below = omega arith in
-    written_below 16 entry_at _ _ _ c.args.addr _ _ _ refl node inside c.in_ok-write_leaf-in-Some.ensures.written
+    let there = there_at (c.args.addr / 16) c.node.invariant (omega arith) (c.node.view_is ∙ c.in-Some.ensures.value) c.in-Some.ensures.there in
+    written_below 16 entry_at c.args.addr _ _ there c.in_ok-write_leaf-in-Some.ensures.written
