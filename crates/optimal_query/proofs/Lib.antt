@@ -13,3 +13,4 @@ mod WeightsTell
 mod Filled
 mod Changes
 mod WhatStands
+mod StandUnlessTakenBack

@@ -12,37 +12,38 @@ use Rattle.optimal_query.specs.Standing.{SearchDependsOnWhatStands, answers_afte
 use Rattle.optimal_query.specs.Standing.{searched, without_last}
 use Rattle.optimal_query.specs.State.{doubts_after, state_of}
 
-record SameColumns (after before : Search) : Type 0 where
-  last : after.last ≡ before.last
-  routine : after.book.routine ≡ before.book.routine
+pub record SameColumns (after before : Search) : Type 0 where
+  pub last : after.last ≡ before.last
+  pub routine : after.book.routine ≡ before.book.routine
+  pub routines : after.book.routines ≡ before.book.routines
 
 same_if_accepted : {X : Type 0} (answer : Result X BookFault) (changed search : Search) → SameColumns changed search
     → SameColumns (if_accepted answer changed search) search
 same_if_accepted (Ok answer) changed search same = same
-same_if_accepted (Err fault) changed search same = record { last = refl; routine = refl }
+same_if_accepted (Err fault) changed search same = record { last = refl; routine = refl; routines = refl }
 
 same_without_last : (answer : Result ℕ BookFault) (search : Search) → SameColumns (without_last answer search) search
-same_without_last (Ok number) search = record { last = refl; routine = refl }
-same_without_last (Err fault) search = record { last = refl; routine = refl }
+same_without_last (Ok number) search = record { last = refl; routine = refl; routines = refl }
+same_without_last (Err fault) search = record { last = refl; routine = refl; routines = refl }
 
-same_after_command : (search : Search) (command : Command) → SameColumns (after_command search command) search
+pub same_after_command : (search : Search) (command : Command) → SameColumns (after_command search command) search
 same_after_command search (Judge call judgement) =
     same_if_accepted (judge_answer search.book call) (search_with search (Judged call judgement)) search
-    (record { last = refl; routine = refl })
+    (record { last = refl; routine = refl; routines = refl })
 same_after_command search (Trust routine) =
     same_if_accepted (trust_answer search.book routine) (search_with search (Trusted routine)) search
-    (record { last = refl; routine = refl })
+    (record { last = refl; routine = refl; routines = refl })
 same_after_command search (TakeBack number) =
     same_if_accepted (take_back_answer search.book number) (search_without search number) search
-    (record { last = refl; routine = refl })
+    (record { last = refl; routine = refl; routines = refl })
 same_after_command search TakeBackLast = same_without_last (take_back_last_answer search.book) search
 
 same_after_commands : (search : Search) (commands : List Command) → SameColumns (after_commands search commands) search
-same_after_commands search [] = record { last = refl; routine = refl }
+same_after_commands search [] = record { last = refl; routine = refl; routines = refl }
 same_after_commands search (command ∷ commands) =
     let rest = same_after_commands (after_command search command) commands in
     let first = same_after_command search command in
-    record { last = rest.last ∙ first.last; routine = rest.routine ∙ first.routine }
+    record { last = rest.last ∙ first.last; routine = rest.routine ∙ first.routine; routines = rest.routines ∙ first.routines }
 
 pub depends_on_what_stands : SearchDependsOnWhatStands
 depends_on_what_stands run commands =

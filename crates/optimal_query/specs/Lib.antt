@@ -5,6 +5,7 @@ pub mod Laws
 pub mod Narrowing
 pub mod Search
 pub mod Standing
+pub mod Accepted
 pub mod PlainKept
 pub mod Changed
 pub mod DebugKept

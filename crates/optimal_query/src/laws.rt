@@ -1,4 +1,5 @@
 //! Laws of the search, each the contract of a call that does nothing.
+ghost use Rattle.optimal_query.specs.Accepted.{EntriesStandUnlessTakenBack};
 ghost use Rattle.optimal_query.specs.Laws.{AnswersLeaveWhatIsCounted, FoundIsAtFault, NothingWrongIsNothing};
 ghost use Rattle.optimal_query.specs.Laws.{QuestionIsLeast, RegionIsLeft};
 ghost use Rattle.optimal_query.specs.Narrowing.{BuggyIsLeft, FoundIsBuggy};
@@ -43,4 +44,11 @@ pub fn buggy_is_left()
 /// stand then give over the columns of the run, whatever was said and taken back before.
 pub fn search_depends_on_what_stands()
     ensures { SearchDependsOnWhatStands }
+{}
+
+/// After any list of commands an entry stands if an accepted command made it and no accepted command
+/// took it back. Which commands are accepted depends on those before alone, and on how many calls and
+/// routines there are.
+pub fn entries_stand_unless_taken_back()
+    ensures { EntriesStandUnlessTakenBack }
 {}

@@ -10,19 +10,18 @@ use Rattle.call_tree.specs.declared.records.Mark.TheVariants.{Unjudged}
 use Rattle.call_tree.specs.Numbering.{IsParent}
 use Rattle.subtree_weights.specs.declared.changes.Change.{Change}
 use Rattle.subtree_weights.specs.Carried.{AreSumsBut, change_above, goes_on_to, share, sum_after}
-use Rattle.subtree_weights.specs.RunColumns.{AreColumns}
 use Rattle.subtree_weights.specs.Searched.{mark_at}
 use Rattle.subtree_weights.specs.Sums.{AreSums, children_of}
 use Rattle.subtree_weights.specs.Weights.{weight_by}
 use Rattle.subtree_weights.proofs.ChildChanged.{changed_child, child_in_sum, few_in_sum, share_elsewhere, share_here}
 use Rattle.subtree_weights.proofs.Intervals.{one_parent}
 use Rattle.subtree_weights.proofs.SumsOfChildren.{AreSumsFrom}
+use Rattle.subtree_weights.proofs.WeightColumns.{OfOneRun, WeightColumns}
 
 -- what stays to be done of a change, and the steps that it took
-pub record IsCarried (parent : List (Option ℕ)) (last depth : List ℕ) (marks : List Mark) (weights unders : List ℕ) (first change : Change) (start now : ℕ) :
-    Type 0 where
-  pub columns : AreColumns parent last marks weights unders
-  pub but_one : AreSumsBut parent marks weights unders change
+pub record IsCarried (kept : WeightColumns) (depth : List ℕ) (first change : Change) (start now : ℕ) : Type 0 where
+  pub columns : OfOneRun kept
+  pub but_one : AreSumsBut kept.parent kept.marks kept.weights kept.unders change
   pub not_fallen : start ≤ now
   pub cost : now + slice_index depth change.call ≤ start + slice_index depth first.call
 
@@ -35,8 +34,25 @@ goes_on parent change above inside is = elim (cases_Bool (change.before == chang
       ∙ ap Some (sym (cond-false {A = Option ℕ} (change.before == change.after) None (slice_index_or parent change.call None) other) ∙ is)
 ]
 
-module _ (parent : List (Option ℕ)) (last : List ℕ) (marks : List Mark) (weights unders : List ℕ) (change : Change)
-    (columns : AreColumns parent last marks weights unders) (but : AreSumsBut parent marks weights unders change) where
+module _ {kept : WeightColumns} {depth : List ℕ} {first change : Change} {start now : ℕ} (up : IsCarried kept depth first change start now) where
+  abbrev parent : List (Option ℕ)
+  parent = kept.parent
+
+  abbrev marks : List Mark
+  marks = kept.marks
+
+  abbrev weights : List ℕ
+  weights = kept.weights
+
+  abbrev unders : List ℕ
+  unders = kept.unders
+
+  columns : OfOneRun kept
+  columns = up.columns
+
+  but : AreSumsBut parent marks weights unders change
+  but = up.but_one
+
   sum_at : ℕ → ℕ
   sum_at call = sum_by (slice_index weights) (children_of parent call)
 
@@ -64,7 +80,7 @@ module _ (parent : List (Option ℕ)) (last : List ℕ) (marks : List Mark) (wei
   module _ (above : ℕ) (is : IsParent parent above change.call) where
     exact : (call : ℕ) → (call ≡ above → ⊥) → call < length parent → slice_index unders call ≡ sum_by (slice_index weights) (children_of parent call)
     exact call apart inside =
-        let not_here : IsParent parent call change.call → ⊥ = (λ h. apart (one_parent parent last columns.numbered call above change.call h is)) in
+        let not_here : IsParent parent call change.call → ⊥ = (λ h. apart (one_parent parent kept.last columns.numbered call above change.call h is)) in
         let none = share_elsewhere parent call change.call change.after not_here in
         let none_before = share_elsewhere parent call change.call change.before not_here in
         let but_one = but.under_is call inside in
@@ -97,7 +113,7 @@ module _ (parent : List (Option ℕ)) (last : List ℕ) (marks : List Mark) (wei
           under_is = λ call later inside. exact call (λ e. omega arith) inside;
         } in
         let few =
-        few_in_sum parent last marks (slice_index weights) (slice_index unders) (above + 1) above columns.numbered sums above_inside
+        few_in_sum parent kept.last marks (slice_index weights) (slice_index unders) (above + 1) above columns.numbered sums above_inside
         (λ child inside child_of earlier. let later = columns.numbered.child_is_later above child child_of in absurd (omega arith)) in
         let sum = new_sum in
         let all = columns.few in
@@ -161,20 +177,25 @@ started parent marks weights unders call mark sums inside marked weighed =
           omega arith;
     }
 
-pub carried_on : (parent : List (Option ℕ)) (last depth : List ℕ) (marks : List Mark) (weights unders : List ℕ) (first change : Change) (start now : ℕ)
-    → IsCarried parent last depth marks weights unders first change start now → (above : ℕ) → IsParent parent above change.call
-    → slice_index depth change.call ≡ slice_index depth above + 1 → (after : ℕ) → after ≡ now + 1
-    → IsCarried parent last depth marks (set weights above (weight_by (mark_at marks above) (sum_after unders change above)))
-    (set unders above (sum_after unders change above)) first (change_above marks weights unders change above) start after
-carried_on parent last depth marks weights unders first change start now up above is deep after step = record {
+-- the columns after the change is in the sum of the call above
+abbrev pub with_change : WeightColumns → Change → ℕ → WeightColumns
+with_change kept change above = record kept {
+  weights = set kept.weights above (weight_by (mark_at kept.marks above) (sum_after kept.unders change above));
+  unders = set kept.unders above (sum_after kept.unders change above);
+}
+
+pub carried_on : {kept : WeightColumns} {depth : List ℕ} {first change : Change} {start now : ℕ} (up : IsCarried kept depth first change start now)
+    (above : ℕ) (is : IsParent kept.parent above change.call) → slice_index depth change.call ≡ slice_index depth above + 1 → (after : ℕ) → after ≡ now + 1
+    → IsCarried (with_change kept change above) depth first (change_above kept.marks kept.weights kept.unders change above) start after
+carried_on {kept = kept} {change = change} up above is deep after step = record {
   columns = record {
     few = up.columns.few;
     numbered = up.columns.numbered;
     marked = up.columns.marked;
-    weighed = length-set weights above (weight_by (mark_at marks above) (sum_after unders change above)) ∙ up.columns.weighed;
-    summed = length-set unders above (sum_after unders change above) ∙ up.columns.summed;
+    weighed = length-set kept.weights above (weight_by (mark_at kept.marks above) (sum_after kept.unders change above)) ∙ up.columns.weighed;
+    summed = length-set kept.unders above (sum_after kept.unders change above) ∙ up.columns.summed;
   };
-  but_one = lifted parent last marks weights unders change up.columns up.but_one above is;
+  but_one = lifted up above is;
   not_fallen = let before = up.not_fallen in omega arith;
   cost = let before = up.cost in omega arith;
 }

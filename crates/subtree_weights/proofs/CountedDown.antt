@@ -1,6 +1,6 @@
 -- The sums are counted from the last call to the first.
-use Rattle.std.proofs.Common.{◌≡◌, ◌≢◌, ℕ, ◌+◌, ◌*◌, ◌<◌, ◌≤◌, Bool, true, false, cond, List, Option, Some, None, length, get_or, set, refl, ap, sym, ◌∙◌}
-use Rattle.std.proofs.Common.{arith, inl, inr}
+use Rattle.std.proofs.Common.{◌≡◌, ◌≢◌, ℕ, ◌+◌, ◌*◌, ◌<◌, ◌≤◌, Bool, true, false, cond, List, Option, Some, None, length, get_or, set}
+use Rattle.std.proofs.Common.{refl, ap, sym, subst, ◌∙◌, arith, inl, inr}
 use Rattle.std.proofs.Common.{get_or-set_other, get_or-set_same}
 use Rattle.std.specs.Prelude.{slice_get, slice_index, sum_by, EachIndex, ◌==◌}
 use Rattle.std.specs.Option.{ForSome}
@@ -10,51 +10,55 @@ use Rattle.std.proofs.lemmas.Option.{slice_get-get_or}
 use Rattle.call_tree.specs.declared.records.Mark.{Mark}
 use Rattle.call_tree.specs.Numbering.{IsParent}
 use Rattle.subtree_weights.specs.Carried.{raised, share}
-use Rattle.subtree_weights.specs.RunColumns.{AreColumns}
 use Rattle.subtree_weights.specs.Searched.{mark_at}
 use Rattle.subtree_weights.specs.Sums.{AreSums, children_of, is_child, is_the_call}
 use Rattle.subtree_weights.specs.Weights.{weight_by}
 use Rattle.subtree_weights.proofs.ChildChanged.{changed_child, few_in_sum, share_elsewhere, share_here}
 use Rattle.subtree_weights.proofs.SumsOfChildren.{AreSumsFrom, sum_of_children}
 use Rattle.subtree_weights.proofs.Totals.{total_none}
+use Rattle.subtree_weights.proofs.WeightColumns.{OfOneRun, WeightColumns}
 
 -- the calls from `from` on are weighed, and the sums are those of their weights
-pub record IsCounted (parent : List (Option ℕ)) (last : List ℕ) (marks : List Mark) (weights unders : List ℕ) (from start now : ℕ) : Type 0 where
-  pub columns : AreColumns parent last marks weights unders
-  pub reached : from ≤ length parent
-  pub weight_is : (call : ℕ) → from ≤ call → call < length parent
-      → slice_index weights call ≡ weight_by (mark_at marks call) (slice_index unders call)
-  pub not_yet : (call : ℕ) → call < from → slice_index weights call ≡ 0
-  pub under_is : (call : ℕ) → call < length parent → slice_index unders call ≡ sum_by (slice_index weights) (children_of parent call)
+pub record IsCounted (kept : WeightColumns) (from start now : ℕ) : Type 0 where
+  pub columns : OfOneRun kept
+  pub reached : from ≤ length kept.parent
+  pub weight_is : (call : ℕ) → from ≤ call → call < length kept.parent
+      → slice_index kept.weights call ≡ weight_by (mark_at kept.marks call) (slice_index kept.unders call)
+  pub not_yet : (call : ℕ) → call < from → slice_index kept.weights call ≡ 0
+  pub under_is : (call : ℕ) → call < length kept.parent
+      → slice_index kept.unders call ≡ sum_by (slice_index kept.weights) (children_of kept.parent call)
   pub not_fallen : start ≤ now
-  pub cost : now + 2 * from ≤ start + 2 * length parent
+  pub cost : now + 2 * from ≤ start + 2 * length kept.parent
+
+-- the same, where the number is written in another way
+pub counted_at : {kept : WeightColumns} {from to start now : ℕ} → IsCounted kept from start now → from ≡ to → IsCounted kept to start now
+counted_at {kept = kept} {start = start} {now = now} counted same = subst (λ (from : ℕ). IsCounted kept from start now) same counted
 
 none_if : (b : Bool) (w : ℕ) → w ≡ 0 → cond b w 0 ≡ 0
 none_if true w h = h
 none_if false w h = refl
 
 -- no weight, no sum
-pub counted_none : (parent : List (Option ℕ)) (last : List ℕ) (marks : List Mark) (weights unders : List ℕ) (start : ℕ)
-    → AreColumns parent last marks weights unders
-    → EachIndex weights (λ k. slice_index weights k ≡ 0) → EachIndex unders (λ k. slice_index unders k ≡ 0)
-    → IsCounted parent last marks weights unders (length parent) start start
-counted_none parent last marks weights unders start columns no_weight nothing_under = record {
+pub counted_none : (kept : WeightColumns) (start : ℕ) → OfOneRun kept
+    → EachIndex kept.weights (λ k. slice_index kept.weights k ≡ 0) → EachIndex kept.unders (λ k. slice_index kept.unders k ≡ 0)
+    → IsCounted kept (length kept.parent) start start
+counted_none kept start columns no_weight nothing_under = record {
   columns = columns;
   reached = omega arith;
   weight_is = λ call later inside. absurd (omega arith);
   not_yet = λ call inside. no_weight call (let same = columns.weighed in omega arith);
   under_is = λ call inside.
       nothing_under call (let same = columns.summed in omega arith)
-      ∙ sym (total_none (λ k. cond (is_child parent call k) (slice_index weights k) 0) (length parent)
-      (λ k a_call. none_if (is_child parent call k) (slice_index weights k) (no_weight k (let same = columns.weighed in omega arith))))
-      ∙ sym (sum_of_children parent (slice_index weights) call);
+      ∙ sym (total_none (λ k. cond (is_child kept.parent call k) (slice_index kept.weights k) 0) (length kept.parent)
+      (λ k a_call. none_if (is_child kept.parent call k) (slice_index kept.weights k) (no_weight k (let same = columns.weighed in omega arith))))
+      ∙ sym (sum_of_children kept.parent (slice_index kept.weights) call);
   not_fallen = omega arith;
   cost = omega arith;
 }
 
-pub counted_all : (parent : List (Option ℕ)) (last : List ℕ) (marks : List Mark) (weights unders : List ℕ) (start now : ℕ)
-    → IsCounted parent last marks weights unders 0 start now → AreSums parent marks (slice_index weights) (slice_index unders)
-counted_all parent last marks weights unders start now counted = record {
+pub counted_all : {kept : WeightColumns} {start now : ℕ} → IsCounted kept 0 start now
+    → AreSums kept.parent kept.marks (slice_index kept.weights) (slice_index kept.unders)
+counted_all counted = record {
   weight_is = λ call inside. counted.weight_is call (omega arith) inside;
   under_is = counted.under_is;
 }
@@ -80,8 +84,19 @@ raised_at : (unders : List ℕ) (above : Option ℕ) (weight call : ℕ) → For
 raised_at unders None weight call inside = omega arith
 raised_at unders (Some above) weight call inside = raised_here unders above weight call (inside above refl)
 
-module _ (parent : List (Option ℕ)) (last : List ℕ) (marks : List Mark) (weights unders : List ℕ) (call start now : ℕ)
-    (counted : IsCounted parent last marks weights unders (call + 1) start now) where
+module _ {kept : WeightColumns} (call : ℕ) {start now : ℕ} (counted : IsCounted kept (call + 1) start now) where
+  abbrev parent : List (Option ℕ)
+  parent = kept.parent
+
+  abbrev marks : List Mark
+  marks = kept.marks
+
+  abbrev weights : List ℕ
+  weights = kept.weights
+
+  abbrev unders : List ℕ
+  unders = kept.unders
+
   abbrev weight : ℕ
   weight = weight_by (mark_at marks call) (slice_index unders call)
 
@@ -101,7 +116,7 @@ module _ (parent : List (Option ℕ)) (last : List ℕ) (marks : List Mark) (wei
         under_is = λ other _ a_call. counted.under_is other a_call;
       } in
       let few =
-      few_in_sum parent last marks (slice_index weights) (slice_index unders) (call + 1) call counted.columns.numbered sums inside
+      few_in_sum parent kept.last marks (slice_index weights) (slice_index unders) (call + 1) call counted.columns.numbered sums inside
       (λ child a_call is earlier. counted.not_yet child earlier) in
       let sum = counted.under_is call inside in
       let all = counted.columns.few in
@@ -143,7 +158,7 @@ module _ (parent : List (Option ℕ)) (last : List ℕ) (marks : List Mark) (wei
       let a_call : above < length parent = let here = inside in omega arith in
       let sums : AreSumsFrom parent marks (slice_index weights') (slice_index unders) call = record { weight_is = weight_then; under_is = later_sum } in
       let few =
-      few_in_sum parent last marks (slice_index weights') (slice_index unders) call above counted.columns.numbered sums a_call
+      few_in_sum parent kept.last marks (slice_index weights') (slice_index unders) call above counted.columns.numbered sums a_call
       (λ child a_child is_child earlier. elsewhere child (λ e. omega arith) ∙ counted.not_yet child (omega arith)) in
       let sum = sum_then above a_call in
       let here = share_here parent above call weight is in
@@ -178,7 +193,7 @@ module _ (parent : List (Option ℕ)) (last : List ℕ) (marks : List Mark) (wei
   length_raised (Some above) = length-set unders above (slice_index unders above + weight)
 
   -- one call more is counted
-  pub counted_more : (after : ℕ) → after ≡ now + 2 → IsCounted parent last marks weights' unders' call start after
+  pub counted_more : (after : ℕ) → after ≡ now + 2 → IsCounted (record kept { weights = weights'; unders = unders' }) call start after
   counted_more after steps = record {
     columns = record {
       few = counted.columns.few;

@@ -4,6 +4,7 @@ mod SuspectTests
 mod WeightsAreTotals
 mod SumsOfChildren
 mod ChildChanged
+mod WeightColumns
 mod CarriedUp
 mod CountedDown
 mod KeptLemmas

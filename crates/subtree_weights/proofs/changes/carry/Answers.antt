@@ -7,13 +7,13 @@ pub lift-change-requires-clause-a_part : goal.lift-change-requires-clause-a_part
 lift-change-requires-clause-a_part g c =
     let up = c.up.invariant in
     let is = goes_on _ _ _ up.but_one.a_call (sym c.in-Some.ensures) in
-    a_part _ _ _ _ _ _ up.columns up.but_one _ is
+    a_part up _ is
 
 pub lift-change-requires-clause-room : goal.lift-change-requires-clause-room
 lift-change-requires-clause-room g c =
     let up = c.up.invariant in
     let is = goes_on _ _ _ up.but_one.a_call (sym c.in-Some.ensures) in
-    let few = room _ _ _ _ _ _ up.columns up.but_one _ is in
+    let few = room up _ is in
     omega arith
 
 pub up-smaller : goal.up-smaller
@@ -30,7 +30,7 @@ up-preserved g c =
     let is = goes_on _ _ _ up.but_one.a_call (sym c.in-Some.ensures) in
     let deep = c.requires.rooted.child_depth _ _ is in
     rw (c.lift-change.ensures.weight, c.lift-change.ensures.sum, c.lift-change.ensures.change)
-    (carried_on _ _ _ _ _ _ _ _ _ _ up _ is deep c.tick.new.self c.tick.ensures)
+    (carried_on up _ is deep c.tick.new.self c.tick.ensures)
 
 pub returns-clause-sums : goal.returns-clause-sums
-returns-clause-sums g c = carried_to_the_end _ _ _ _ _ _ c.up.invariant.columns c.up.invariant.but_one (sym c.in_default.ensures)
+returns-clause-sums g c = carried_to_the_end c.up.invariant (sym c.in_default.ensures)

@@ -3,7 +3,10 @@ use Rattle.subtree_weights.proofs.CountedDown.{IsCounted}
 use Rattle.subtree_weights.proofs.counting.add_up.Given as goal
 
 abbrev pub invariant-calls : goal.invariant-calls
-invariant-calls g l = IsCounted l.parents (lasts_of l.calls.calls) l.marks l.weights l.unders l.call l.initial.steps l.steps
+invariant-calls g l =
+    IsCounted
+    (record { parent = l.parents; last = lasts_of l.calls.calls; marks = l.marks; weights = l.weights; unders = l.unders })
+    l.call l.initial.steps l.steps
 
 abbrev pub decreases-calls : goal.decreases-calls
 decreases-calls g l = l.call

@@ -1,0 +1,95 @@
+-- What a list of commands leaves standing, read from the commands that were accepted: an entry stands if no accepted
+-- command took it back. No list of entries with flags is kept here, as a book keeps one.
+use Rattle.std.specs.Prelude.{◌≡◌, ℕ, Bool, true, false, not, ◌+◌, ◌==◌, ◌&&◌, nat_le, if◌then◌else◌}
+use Rattle.std.specs.Prelude.{List, [], ◌∷◌, ◌++◌, Option, Some, None, filter, length, option_map}
+use Rattle.std.specs.List.{filter_map, list_any}
+use Rattle.answer_book.specs.declared.entries.Entry.{Entry}
+use Rattle.answer_book.specs.declared.entries.Judgement.TheVariants.{Wrong}
+use Rattle.answer_book.specs.declared.entries.What.{What}
+use Rattle.answer_book.specs.declared.entries.What.TheVariants.{Judged, Trusted}
+use Rattle.answer_book.specs.Numbers.{last_where, numbers_below}
+use Rattle.call_tree.specs.Recording.{Recording}
+use Rattle.optimal_query.specs.Standing.{Command, Judge, Trust, TakeBack, TakeBackLast, answers_after, searched}
+
+-- what an accepted command does: it makes the entry of this number, which says this, or takes back the entry of this
+-- number
+pub data Act : Type 0 where
+  Made : (number : ℕ) (what : What) → Act
+  TookBack : (number : ℕ) → Act
+
+-- whether it made an entry, the entry of this number, or took that one back
+abbrev pub makes : Act → Bool
+makes (Made number what) = true
+makes (TookBack number) = false
+
+abbrev pub made : ℕ → Act → Bool
+made number (Made other what) = other == number
+made number (TookBack other) = false
+
+abbrev pub took_back : ℕ → Act → Bool
+took_back number (Made other what) = false
+took_back number (TookBack other) = other == number
+
+-- whether one of these acts took back the entry of this number
+abbrev pub is_taken_back : List Act → ℕ → Bool
+is_taken_back acts number = list_any (took_back number) acts
+
+-- an entry stands if one of these acts made it and none took it back
+abbrev pub stands : List Act → ℕ → Bool
+stands acts number = list_any (made number) acts && not (is_taken_back acts number)
+
+-- how many entries they made
+abbrev pub number_made : List Act → ℕ
+number_made acts = length (filter makes acts)
+
+-- what the entries that stand say, first to last
+abbrev pub said_unless : (ℕ → Bool) → Act → Option What
+said_unless taken_back (Made number what) = if taken_back number then None else Some what
+said_unless taken_back (TookBack number) = None
+
+abbrev pub standing_after : List Act → List What
+standing_after acts = filter_map (said_unless (is_taken_back acts)) acts
+
+-- the entries, first to last, with whether they stand
+abbrev pub entry_unless : (ℕ → Bool) → Act → Option Entry
+entry_unless taken_back (Made number what) = Some (record { what = what; standing = not (taken_back number) })
+entry_unless taken_back (TookBack number) = None
+
+abbrev pub entries_after : List Act → List Entry
+entries_after acts = filter_map (entry_unless (is_taken_back acts)) acts
+
+-- a new entry, if there is room for it: there is room for 100,000 entries, counting those that were taken back
+abbrev pub new_entry : List Act → What → Option Act
+new_entry acts what = if nat_le 100000 (number_made acts) then None else Some (Made (number_made acts + 1) what)
+
+-- what a command does after these acts, in a search over so many calls of so many routines; nothing where it is refused
+abbrev pub act_of : ℕ → ℕ → List Act → Command → Option Act
+act_of calls routines acts (Judge call judgement) =
+    if nat_le calls call then None else new_entry acts (Judged call judgement)
+act_of calls routines acts (Trust routine) = if nat_le routines routine then None else new_entry acts (Trusted routine)
+act_of calls routines acts (TakeBack number) = if stands acts number then Some (TookBack number) else None
+act_of calls routines acts TakeBackLast =
+    option_map TookBack (last_where (stands acts) (numbers_below (number_made acts + 1)))
+
+abbrev pub and_then : List Act → Option Act → List Act
+and_then acts None = acts
+and_then acts (Some act) = acts ++ act ∷ []
+
+-- what the accepted ones of these commands do, first to last, after these acts
+abbrev pub acts_after : ℕ → ℕ → List Act → List Command → List Act
+acts_after calls routines acts [] = acts
+acts_after calls routines acts (command ∷ commands) =
+    acts_after calls routines (and_then acts (act_of calls routines acts command)) commands
+
+-- and in a search over a run: entry 1 says that call 0 is wrong
+abbrev pub acts_in : Recording → List Command → List Act
+acts_in run commands = acts_after (length run.calls) run.routines (Made 1 (Judged 0 Wrong) ∷ []) commands
+
+-- the entries of the search are those that these commands make, and the answers that stand are those which no accepted
+-- command took back
+pub record StandUnlessTakenBack (run : Recording) (commands : List Command) : Type 0 where
+  pub entries : (searched run commands).book.entries ≡ entries_after (acts_in run commands)
+  pub answers : answers_after run commands ≡ standing_after (acts_in run commands)
+
+abbrev pub EntriesStandUnlessTakenBack : Type 0
+EntriesStandUnlessTakenBack = (run : Recording) (commands : List Command) → StandUnlessTakenBack run commands
