@@ -19,46 +19,91 @@ fn are_weighed(weights: &[u32], askable: &[u8], total: u32) -> bool
     true
 }
 
-/// The best choice, by both searches.
-fn chosen(rt: &impl Abort, weights: &[u32], askable: &[u8], total: u32) -> Option<Choice> {
+/// Both searches for the best choice find this one.
+fn best_is(rt: &impl Abort, weights: &[u32], askable: &[u8], total: u32, expected: Option<Choice>) {
     assert!(rt; weights.len() == askable.len());
     assert!(rt; are_weighed(weights, askable, total));
     let (by_lanes, by_loop) = best_both_ways(weights, askable, total);
-    assert_eq!(rt; by_lanes, by_loop);
-    by_lanes
+    assert_eq!(rt; by_lanes, expected);
+    assert_eq!(rt; by_loop, expected);
+}
+
+/// Both searches for the next place of a value find this one.
+fn next_is(rt: &impl Abort, column: &[u32], from: usize, value: u32, expected: Option<usize>) {
+    let (by_lanes, by_loop) = next_of_both_ways(column, from, value);
+    assert_eq!(rt; by_lanes, expected);
+    assert_eq!(rt; by_loop, expected);
+}
+
+/// Both searches for the last flag that is set find this one.
+fn last_is(rt: &impl Abort, flags: &[u8], expected: Option<usize>) {
+    let (by_lanes, by_loop) = last_set_both_ways(flags);
+    assert_eq!(rt; by_lanes, expected);
+    assert_eq!(rt; by_loop, expected);
 }
 
 fn leaves(left: u32, at: usize) -> Option<Choice> {
     Some(Choice { left, at })
 }
 
-/// Columns of 40 places, which are blocks and a rest, and of a few.
+/// Columns of 40 places, which are blocks and a rest, and of one.
 #[test]
 fn searches(rt: HostRuntime) {
     let most = u32::MAX;
-    assert_eq!(rt; chosen(&rt, &[3, 1, 1], &[1, 1, 1], 3), leaves(2, 0));
-    assert_eq!(rt;
-        chosen(&rt, &[most], &[255], most),
-        leaves(4_294_967_294, 0)
-    );
+    best_is(&rt, &[most], &[255], most, leaves(4_294_967_294, 0));
     let mut weights = [1; 40];
     let mut askable = [1; 40];
     weights[20] = most;
-    assert_eq!(rt;
-        chosen(&rt, &weights, &askable, most),
-        leaves(4_294_967_294, 0)
-    );
+    best_is(&rt, &weights, &askable, most, leaves(4_294_967_294, 0));
     weights[33] = 2_147_483_648;
-    assert_eq!(rt;
-        chosen(&rt, &weights, &askable, most),
-        leaves(2_147_483_647, 33)
-    );
-    assert_eq!(rt; next_of_both_ways(&weights, 0, most), (Some(20), Some(20)));
-    assert_eq!(rt; next_of_both_ways(&weights, 21, most), (None, None));
-    assert_eq!(rt; last_set_both_ways(&askable), (Some(39), Some(39)));
+    best_is(&rt, &weights, &askable, most, leaves(2_147_483_647, 33));
+    next_is(&rt, &weights, 0, most, Some(20));
+    next_is(&rt, &weights, 21, most, None);
+    last_is(&rt, &askable, Some(39));
     askable[32..].fill(0);
-    assert_eq!(rt; last_set_both_ways(&askable), (Some(31), Some(31)));
+    last_is(&rt, &askable, Some(31));
     askable.fill(0);
-    assert_eq!(rt; chosen(&rt, &weights, &askable, 1), None);
-    assert_eq!(rt; last_set_both_ways(&askable), (None, None));
+    best_is(&rt, &weights, &askable, 1, None);
+    last_is(&rt, &askable, None);
+}
+
+/// Columns of three places and fewer.
+#[test]
+fn short_columns(rt: HostRuntime) {
+    best_is(&rt, &[3, 1, 1], &[1, 1, 1], 3, leaves(2, 0));
+    best_is(&rt, &[2, 1], &[0, 1], 2, leaves(1, 1));
+    best_is(&rt, &[5], &[0], 5, None);
+    best_is(&rt, &[], &[], 5, None);
+    next_is(&rt, &[7, 5, 7], 1, 7, Some(2));
+    next_is(&rt, &[], 0, 7, None);
+    last_is(&rt, &[0, 1, 0], Some(1));
+    last_is(&rt, &[], None);
+}
+
+/// In columns of this length the call at this place alone has the weight 2 and may be asked about.
+fn found_at(rt: &impl Abort, length: usize, place: usize) {
+    assert!(rt; place < length && length <= 65);
+    let mut weights = [1; 65];
+    let mut askable = [0; 65];
+    weights[place] = 2;
+    askable[place] = 1;
+    best_is(
+        rt,
+        &weights[..length],
+        &askable[..length],
+        5,
+        leaves(3, place),
+    );
+    next_is(rt, &weights[..length], 0, 2, Some(place));
+    last_is(rt, &askable[..length], Some(place));
+}
+
+/// Lengths about those of the blocks.
+#[test]
+fn lengths(rt: HostRuntime) {
+    for length in [1, 7, 8, 9, 63, 64, 65] {
+        found_at(&rt, length, 0);
+        found_at(&rt, length, length / 2);
+        found_at(&rt, length, length.saturating_sub(1));
+    }
 }

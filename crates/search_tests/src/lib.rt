@@ -3,12 +3,14 @@
 #![tactic(auto)]
 
 #[cfg(test)]
-mod books;
+mod commands;
 #[cfg(test)]
 mod lanes;
 #[cfg(test)]
 mod queries;
 #[cfg(test)]
 mod search;
+#[cfg(test)]
+mod trees;
 #[cfg(test)]
 mod weights;

@@ -18,6 +18,19 @@ fn state(
     search(alloc, last, entries)
 }
 
+/// After these entries the state is this.
+fn leads_to(
+    rt: &impl Abort,
+    alloc: Global,
+    last: &[u32],
+    entries: &[Entry],
+    expected: SearchState,
+) -> Result<(), Memory> {
+    let found = state(rt, alloc, last, entries)?;
+    assert_eq!(rt; found, expected, "after {entries:?}");
+    Ok(())
+}
+
 fn right(call: u32) -> Entry {
     Entry {
         call,
@@ -61,10 +74,15 @@ fn sessions_by_hand(rt: HostRuntime) -> Result<(), Fail> {
         (chain, clear_above.as_slice(), ask(3, 1, 1, 0)),
     ];
     for (last, entries, expected) in cases {
-        let found = state(&rt, rt.alloc(), &last, entries)?;
-        assert_eq!(rt; found, expected, "after {entries:?}");
+        leads_to(&rt, rt.alloc(), &last, entries, expected)?;
     }
-    let marks = current_marks(rt.alloc(), 3, &changed)?;
+    Ok(())
+}
+
+/// Call 0 was judged wrong, and call 2 right and then wrong.
+#[test]
+fn marks_by_hand(rt: HostRuntime) -> Result<(), Fail> {
+    let marks = current_marks(rt.alloc(), 3, &[wrong(0), right(2), wrong(2)])?;
     assert_eq!(rt;
         marks.as_slice(),
         [Mark::Wrong, Mark::Unjudged, Mark::Wrong].as_slice()
@@ -76,7 +94,7 @@ fn sessions_by_hand(rt: HostRuntime) -> Result<(), Fail> {
 #[test]
 fn a_long_chain(rt: HostRuntime) -> Result<(), Fail> {
     let last = vec![in rt.alloc(); 99_999u32; 100_000]?;
-    let found = state(&rt, rt.alloc(), &last, [wrong(0)].as_slice())?;
-    assert_eq!(rt; found, ask(50_000, 50_000, 99_999, 49_999));
+    let expected = ask(50_000, 50_000, 99_999, 49_999);
+    leads_to(&rt, rt.alloc(), &last, &[wrong(0)], expected)?;
     Ok(())
 }
