@@ -18,7 +18,7 @@ required_def (named.Constant of' value) n = def.Constant n
 required_def (named.TextFile file) n = def.TextFile n
 required_def r n = def.Required n
 
--- The required name of this number stands for this. Its row stands behind those of the tokens, and it may be used
+-- The required name of this number stands for this. Its row stands after those of the tokens, and it may be used
 -- everywhere.
 unfoldable pub require : ℕ → NameRow → Step (Unit {0})
 require name r = do

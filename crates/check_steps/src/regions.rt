@@ -9,7 +9,7 @@ pub enum Def {
     TypeName(u32),
     Variable(u32),
     Field(u32),
-    /// A routine, by its number among the routines.
+    /// A routine, by the token of its name in its first heading.
     Routine(u32),
     /// A parameter.
     Formal(u32),

@@ -208,6 +208,33 @@ impl Tables {
         Ok(())
     }
 
+    /// How many regions there are.
+    pub fn regions(&self) -> u32
+        ensures { result ≡ length self.now.regions }
+    {
+        self.regions.len() as u32
+    }
+
+    /// The token at which a region begins, and 0 where there is no region of this number.
+    pub fn region_token(&self, region: u32) -> u32
+        ensures { result ≡ (region_at self.now.regions region).token }
+    {
+        match self.regions.get(region as usize) {
+            Some(region) => region.token,
+            None => 0,
+        }
+    }
+
+    /// A region's own frame, and 0, the outermost one, where there is no region of this number.
+    pub fn region_frame(&self, region: u32) -> u32
+        ensures { result ≡ (region_at self.now.regions region).frame }
+    {
+        match self.regions.get(region as usize) {
+            Some(region) => region.frame,
+            None => 0,
+        }
+    }
+
     /// What a region itself defines a name as.
     pub fn defined_in(&self, region: u32, name: u32) -> Option<Definition>
         ensures { result ≡ defined_in self.now.regions region name }

@@ -5,16 +5,16 @@ use Rattle.check_steps.specs.Steps.{run}
 use Rattle.check_steps.proofs.Runs.{run_after, run-give}
 use Rattle.denoter_checker.specs.Parts.{settle, settle_from}
 
-pub settle_next : (behind token : ℕ) (w v : Work) → token < behind → run (settle token) w ≡ (tt, v)
-    → run (settle_from (behind - (token + 1)) (token + 1)) v ≡ run (settle_from (behind - token) token) w
-settle_next behind token w v below done =
-    let e : behind - token ≡ suc (behind - (token + 1)) = omega arith in
+pub settle_next : (after token : ℕ) (w v : Work) → token < after → run (settle token) w ≡ (tt, v)
+    → run (settle_from (after - (token + 1)) (token + 1)) v ≡ run (settle_from (after - token) token) w
+settle_next after token w v below done =
+    let e : after - token ≡ suc (after - (token + 1)) = omega arith in
     sym (ap (λ m. run (settle_from m token) w) e
-    ∙ run_after (settle token) (λ _. settle_from (behind - (token + 1)) (token + 1)) w tt v done)
+    ∙ run_after (settle token) (λ _. settle_from (after - (token + 1)) (token + 1)) w tt v done)
 
-pub settle_end : (behind token : ℕ) (w : Work) → behind ≤ token → run (settle_from (behind - token) token) w ≡ (tt, w)
-settle_end behind token w past =
-    let e : behind - token ≡ 0 = omega arith in
+pub settle_end : (after token : ℕ) (w : Work) → after ≤ token → run (settle_from (after - token) token) w ≡ (tt, w)
+settle_end after token w past =
+    let e : after - token ≡ 0 = omega arith in
     ap (λ m. run (settle_from m token) w) e ∙ run-give tt w
 
 pub ruleset domain_loops = (settle_next, settle_end)

@@ -15,7 +15,7 @@ array packed bracket index component = do
   _ ← put bracket (row.Type (kind.Array packed index component cells))
   give bracket
 
--- the index type behind a comma, until its component type is known
+-- the index type after a comma, until its component type is known
 unfoldable pub put_index : ℕ → ℕ → Step (Unit {0})
 put_index comma index = put comma (row.Type (kind.Array false index comma 0))
 

@@ -49,7 +49,7 @@ open_record frame word = do
 abbrev pub inside : Scope → ℕ → Scope
 inside s frame = record { frame = frame; domains_at = s.domains_at }
 
--- a field of a type, behind the cells of those before
+-- a field of a type, after the cells of those before
 unfoldable pub field_place : ℕ → ℕ → ℕ → ℕ → Step ℕ
 field_place holder t offset token = do
   _ ← put token (row.Name (named.Field t offset holder))
@@ -150,7 +150,7 @@ abbrev mutual
     _ ← put_index comma index
     other_indexes s word rest
 
-  -- the fields of a holder from a place on; the place behind them is given
+  -- the fields of a holder from a place on; the place after them is given
   pub fields_at : Scope → ℕ → ℕ → Fields → Step ℕ
   fields_at s holder offset Empty = give offset
   fields_at s holder offset (Fixed' fixed variants last) = do

@@ -54,15 +54,15 @@ abbrev pub settle_from : ℕ → ℕ → Step (Unit {0})
 settle_from zero token = give tt
 settle_from (suc n) token = settle token >>= λ _. settle_from n (token + 1)
 
--- The pointers from a token on to the one behind a part get the types for which their domains' definitions stand.
+-- The pointers from a token on to the one after a part get the types for which their domains' definitions stand.
 abbrev pub domains : ℕ → ℕ → Step (Unit {0})
-domains first behind = settle_from (behind - first) first
+domains first after = settle_from (after - first) first
 
 -- A part of type definitions, in front of a token. A pointer's domain is looked up as if at that token.
 abbrev pub type_part : ℕ → ℕ → TypePart → Step (Unit {0})
-type_part frame behind p = do
-  _ ← each (type_definition (record { frame = frame; domains_at = Some behind })) tt (types_in p)
-  domains p.word behind
+type_part frame after p = do
+  _ ← each (type_definition (record { frame = frame; domains_at = Some after })) tt (types_in p)
+  domains p.word after
 
 -- ---- variables
 
@@ -74,7 +74,7 @@ define_variable region u d = do
   _ ← each_name (define_name region name.Variable) tt d.names
   define_denoter region d.denoter
 
--- a variable of a type, behind the cells of those before; the place behind it is given
+-- a variable of a type, after the cells of those before; the place after it is given
 unfoldable pub place : ℕ → ℕ → ℕ → ℕ → Step ℕ
 place level t at token = do
   _ ← put token (row.Name (named.Variable Own t at level))

@@ -83,7 +83,7 @@ abbrev pub going_on : Row → ℕ → Row
 going_on (row.Item (item.Choice value chosen end)) next = row.Item (item.Choice value chosen next)
 going_on r next = r
 
--- One more value, at a slot behind the last one: no item stands at the constant's first token, so the list ends there.
+-- One more value, at a slot after the last one: no item stands at the constant's first token, so the list ends there.
 unfoldable pub add_choice : ℤ → ℕ → ℕ → ℕ → ℕ → Step ℕ
 add_choice value chosen last slot end = do
   before ← look (λ k. going_on (row_at k last) slot)
@@ -134,7 +134,7 @@ choosing_at p host of' = record { frame = p.frame; host = host; list = of' }
 abbrev pub nothing_listed : ℕ → Listed
 nothing_listed word = record { variants = word; last = word; position = 0 }
 
--- the row of a variant part, once the place behind its variants is known
+-- the row of a variant part, once the place after its variants is known
 unfoldable pub variant_part : PartPlace → Bool → ℕ → ℕ → Step ℕ
 variant_part p hidden of' end = do
   _ ← put p.word (row.Part (part.Variants hidden p.offset (end - capped (p.offset + 1)) of' p.holder))

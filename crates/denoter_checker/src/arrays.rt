@@ -31,7 +31,7 @@ pub(crate) fn check_array(
     bracket
 }
 
-/// The index type behind a comma, until its component type is known.
+/// The index type after a comma, until its component type is known.
 #[tactic(auto, unfolding(crate::specs::Arrays::put_index))]
 pub(crate) fn put_index(work: &mut Work, comma: u32, index: u32)
     ensures { Does (put_index comma index) tt work.old work.new }
@@ -62,7 +62,7 @@ fn check_joined(work: &mut Work, packed: bool, n: &NextDenoter, component: u32) 
     check_array(work, packed, n.comma, index, component)
 }
 
-/// The arrays behind the first, from the last on.
+/// The arrays after the first, from the last on.
 #[tactic(auto, using(check_steps::proofs::Runs::back_loops))]
 pub(crate) fn check_joins(
     work: &mut Work,

@@ -15,7 +15,7 @@ use crate::variants::put_variants;
 use check_steps::Work;
 use kind_checker::Scope;
 use kind_checker::constants::check_constant;
-use kind_checker::sizes::behind;
+use kind_checker::sizes::offset_after;
 use kind_checker::types::{
     check_enumeration, check_named_type, check_ordinal, check_pointer, check_set_type,
     check_subrange,
@@ -216,7 +216,8 @@ fn check_variants(
     let place = part_at(scope, v.word, holder, offset);
     check_choosing(work, place, v);
     let fields = &v.first.fields;
-    let next = check_fields(work, alloc, fields, scope, v.first.open, behind(offset, 1))?;
+    let after_tag = offset_after(offset, 1);
+    let next = check_fields(work, alloc, fields, scope, v.first.open, after_tag)?;
     let end = check_arms(work, alloc, &v.others, scope, next)?;
     Ok(put_variants(work, place, v.tag.field.is_none(), v.of, end))
 }

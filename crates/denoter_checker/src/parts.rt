@@ -12,7 +12,7 @@ use crate::denoters::check_denoter;
 use check_steps::{Def, Definition, Tables, Work};
 use kind_checker::Scope;
 use kind_checker::names::{Kind, define_names};
-use kind_checker::sizes::behind_in_frame;
+use kind_checker::sizes::place_after;
 use kind_checker::types::type_named;
 use pas_tree::blocks::{TypeDefinition, TypePart, VariableDeclaration, VariablePart};
 use pas_tree::constants::{Names, NextName};
@@ -119,17 +119,17 @@ fn settle(work: &mut Work, token: u32)
     work.put(token, row);
 }
 
-/// Gives the pointers from a token on to the one behind a part the types for which their domains' definitions stand.
+/// Gives the pointers from a token on to the one after a part the types for which their domains' definitions stand.
 #[tactic(auto, using(crate::proofs::DomainSteps::domain_loops))]
-fn settle_domains(work: &mut Work, first: u32, behind: u32)
-    ensures { Does (domains first behind) tt work.old work.new }
+fn settle_domains(work: &mut Work, first: u32, after: u32)
+    ensures { Does (domains first after) tt work.old work.new }
 {
-    'tokens: for token in first..behind {
+    'tokens: for token in first..after {
         settle(work, token);
     }
 }
 
-/// What the types of a part are, seen from a frame. The part stands in front of the token `behind`, and the domain of a
+/// What the types of a part are, seen from a frame. The part stands in front of the token `after`, and the domain of a
 /// pointer is looked up as if there.
 #[tactic(auto, using(check_steps::proofs::Runs::steps))]
 pub fn check_types(
@@ -137,16 +137,16 @@ pub fn check_types(
     alloc: Global,
     part: &TypePart,
     frame: u32,
-    behind: u32,
+    after: u32,
 ) -> Result<(), AllocError>
-    ensures { IfOk result (λ _. Does (type_part frame behind part.now) tt work.old work.new) }
+    ensures { IfOk result (λ _. Does (type_part frame after part.now) tt work.old work.new) }
 {
     let scope = Scope {
         frame,
-        domains_at: Some(behind),
+        domains_at: Some(after),
     };
     check_each_type(work, alloc, part, scope)?;
-    settle_domains(work, part.word, behind);
+    settle_domains(work, part.word, after);
     Ok(())
 }
 
@@ -196,7 +196,7 @@ fn check_place(work: &mut Work, level: u32, of: u32, at: u32, token: u32) -> u32
     work.put(token, Row::Name(row));
     let cells = work.tables.program().size_of(of);
     work.too_big(token, cells <= 65_536);
-    behind_in_frame(at, cells)
+    place_after(at, cells)
 }
 
 #[tactic(auto, unfolding(kind_checker::specs::Names::on_name))]
@@ -217,7 +217,7 @@ fn check_more_places(work: &mut Work, level: u32, of: u32, at: u32, names: &[Nex
     next
 }
 
-/// The places of variables of one type, and the place behind them.
+/// The places of variables of one type, and the place after them.
 #[tactic(auto, using(check_steps::proofs::Runs::steps))]
 fn check_places(work: &mut Work, level: u32, of: u32, at: u32, names: &Names) -> u32
     ensures { Does (each_name (place level of) at names.now) result work.old work.new }
@@ -267,7 +267,7 @@ fn check_more_variables(
     Ok(next)
 }
 
-/// The places of the variables of a part from a place in the frame on, and the place behind them.
+/// The places of the variables of a part from a place in the frame on, and the place after them.
 #[tactic(auto, using(check_steps::proofs::Runs::steps))]
 pub fn check_variables(
     work: &mut Work,

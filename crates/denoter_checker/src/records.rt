@@ -13,7 +13,7 @@ use crate::variants::{
 };
 use check_steps::Work;
 use kind_checker::Scope;
-use kind_checker::sizes::behind;
+use kind_checker::sizes::offset_after;
 use pas_tree::constants::{Names, NextName};
 use pas_tree::denoters::{Arm, Fields, NextArm, Tag, Variants};
 use program_tables::rows::{NameRow, Row, TypeRow};
@@ -49,7 +49,7 @@ fn check_field_place(work: &mut Work, holder: u32, of: u32, offset: u32, token: 
 {
     work.put(token, Row::Name(NameRow::Field { of, offset, holder }));
     let cells = work.tables.program().size_of(of);
-    behind(offset, cells)
+    offset_after(offset, cells)
 }
 
 #[tactic(auto, unfolding(kind_checker::specs::Names::on_name))]
@@ -70,7 +70,7 @@ fn check_more_fields(work: &mut Work, holder: u32, of: u32, offset: u32, names: 
     next
 }
 
-/// The places of fields of one type, and the place behind them.
+/// The places of fields of one type, and the place after them.
 #[tactic(auto, using(check_steps::proofs::Runs::steps))]
 pub(crate) fn check_field_places(
     work: &mut Work,

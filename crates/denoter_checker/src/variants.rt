@@ -10,7 +10,7 @@ ghost use Rattle.denoter_checker.specs.Variants.{tag_type, value_if, variant_par
 use check_steps::{Tables, Work};
 use kind_checker::Value;
 use kind_checker::constants::check_constant;
-use kind_checker::sizes::{behind, host_of};
+use kind_checker::sizes::{host_of, offset_after};
 use kind_checker::types::{check_named_type, check_ordinal};
 use pas_places::first_of_constant;
 use pas_tree::constants::{Constant, Constants, NextConstant};
@@ -343,7 +343,7 @@ pub(crate) fn nothing_listed(word: u32) -> Listed
     }
 }
 
-/// The row of a variant part, once the place behind its variants is known.
+/// The row of a variant part, once the place after its variants is known.
 #[tactic(auto, using(check_steps::proofs::Runs::steps), unfolding(crate::specs::Variants::variant_part))]
 pub(crate) fn put_variants(
     work: &mut Work,
@@ -357,7 +357,7 @@ pub(crate) fn put_variants(
     let row = PartRow::Variants {
         hidden,
         offset: place.offset,
-        cells: end.saturating_sub(behind(place.offset, 1)),
+        cells: end.saturating_sub(offset_after(place.offset, 1)),
         values,
         holder: place.holder,
     };

@@ -13,8 +13,8 @@ const CELLS: u32 = 65_537;
 /// What stands for more cells than a frame may have.
 const FRAME_CELLS: u32 = 524_289;
 
-/// The place in a type behind so many cells more.
-pub fn behind(offset: u32, cells: u32) -> u32
+/// The place in a type after so many cells more.
+pub fn offset_after(offset: u32, cells: u32) -> u32
     ensures { result ≡ capped (offset + cells) }
 {
     match offset.checked_add(cells) {
@@ -23,8 +23,8 @@ pub fn behind(offset: u32, cells: u32) -> u32
     }
 }
 
-/// The place in a frame behind so many cells more.
-pub fn behind_in_frame(place: u32, cells: u32) -> u32
+/// The place in a frame after so many cells more.
+pub fn place_after(place: u32, cells: u32) -> u32
     ensures { result ≡ frame_capped (place + cells) }
 {
     match place.checked_add(cells) {

@@ -148,7 +148,7 @@ pub enum Mode {
     Place,
 }
 
-/// Parts of types and of headings.
+/// Parts of types, of headings, and of routines that are declared in two places.
 #[derive(Clone, Copy)]
 pub enum PartRow {
     /// A variant part, at its word `case`: whether its tag is hidden, the place of the tag's cell, how many cells its
@@ -172,6 +172,16 @@ pub enum PartRow {
         name: u32,
         sections: u32,
         result: Option<u32>,
+    },
+    /// A routine with a forward heading, at the name there, until its own row takes this place: whether it is a
+    /// function, and the name in the heading that has its block, once that is known (6.6.1, 6.6.2).
+    Forward {
+        function: bool,
+        block: Option<u32>,
+    },
+    /// A heading that completes a forward one, at its name: the name in the forward heading.
+    Completing {
+        first: u32,
     },
 }
 

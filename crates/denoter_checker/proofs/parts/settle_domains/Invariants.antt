@@ -5,4 +5,4 @@ use Rattle.denoter_checker.proofs.parts.settle_domains.Given as goal
 
 abbrev pub invariant-tokens : goal.invariant-tokens
 invariant-tokens l =
-    run (settle_from (l.behind - l.token) l.token) l.work ≡ run (settle_from (l.behind - l.first) l.first) l.fn.work
+    run (settle_from (l.after - l.token) l.token) l.work ≡ run (settle_from (l.after - l.first) l.first) l.fn.work
