@@ -1,0 +1,2 @@
+pub mod HeadingRolls
+pub mod RoutineSearch

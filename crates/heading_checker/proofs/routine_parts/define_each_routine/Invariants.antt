@@ -1,0 +1,8 @@
+use Rattle.std.proofs.Common.{◌≡◌, drop}
+use Rattle.check_steps.specs.Steps.{run, each}
+use Rattle.heading_checker.specs.RoutineParts.{define_routine}
+use Rattle.heading_checker.proofs.routine_parts.define_each_routine.Given as goal
+
+abbrev pub invariant-routines : goal.invariant-routines
+invariant-routines l =
+    run (each (define_routine l.region) tt (drop l.routine-index l.routines)) l.work ≡ run (each (define_routine l.region) tt l.routines) l.fn.work

@@ -1,0 +1,3 @@
+pub mod Formals
+pub mod Headings
+pub mod RoutineParts
