@@ -1,0 +1,4 @@
+pub mod BlockRolls
+pub mod Declared
+pub mod Early
+pub mod Places

@@ -1,0 +1,55 @@
+-- Programs (6.10).
+use Rattle.std.specs.Prelude.{ℕ, Some, None, List}
+use Rattle.pas_lexer.specs.Lexed.{Lexed}
+use Rattle.pas_tree.specs.declared.blocks.Tree.{Tree}
+use Rattle.program_tables.specs.declared.program.Routine.{Routine}
+use Rattle.check_steps.specs.declared.breaks.Break.{Break}
+use Rattle.check_steps.specs.Known.{Known, frame_at}
+use Rattle.check_steps.specs.Required.{outermost}
+use Rattle.check_steps.specs.Steps.{Step, ◌>>=◌, look, add_routine, open_region}
+use Rattle.check_steps.specs.Words.{start}
+use Rattle.decl_checker.specs.Blocks.{define_block}
+use Rattle.decl_checker.specs.Parameters.{parameters}
+use Rattle.decl_checker.specs.Routines.{block}
+
+-- the program as routine 0, before its block is known
+abbrev pub main_row : ℕ → Routine
+main_row name = record {
+  name = name;
+  heading = 0;
+  level = 0;
+  cells = 1;
+  result = None;
+  statements = 0;
+  line = 0;
+}
+
+-- The region of the program block, which begins at the first token, inside the outermost one. The number of its frame
+-- is given.
+unfoldable pub open_program : Step ℕ
+open_program = do
+  outer ← outermost
+  open_region 0 (Some outer) 0
+
+-- the program parameters are defined in the region of the program block
+unfoldable pub define_program : ℕ → Tree → Step (Unit {0})
+define_program frame t = do
+  region ← look (λ k. (frame_at k frame).region)
+  _ ← parameters region t.parameters
+  define_block frame t.block
+
+-- A program. Its own name defines nothing.
+unfoldable pub program_step : Tree → Step (Unit {0})
+program_step t = do
+  frame ← open_program
+  _ ← define_program frame t
+  number ← add_routine (main_row t.name)
+  block frame number 1 t.block
+
+-- the rules that a tree breaks
+abbrev pub broken : Lexed → Tree → List Break
+broken l t = (program_step t (start l)).broken
+
+-- the tables that the check of a tree leaves
+abbrev pub tables_of : Lexed → Tree → Known
+tables_of l t = (program_step t (start l)).known

@@ -1,0 +1,149 @@
+-- Blocks and their procedures and functions (6.2.1, 6.6).
+use Rattle.std.specs.Prelude.{ℕ, ◌+◌, ◌-◌, Bool, List, Option, Some, None, nat_lt, if◌then◌else◌}
+use Rattle.pas_tree.specs.declared.blocks.Block.{Block, Block' as BlockTree', Row_of-Routine}
+use Rattle.pas_tree.specs.declared.blocks.Block.{end_of-Routine, more_of-Routine, items-the_row-Routine}
+use Rattle.pas_tree.specs.declared.blocks.Routine.{Routine}
+use Rattle.pas_tree.specs.declared.blocks.Body.{Body, Directive, Block'}
+use Rattle.pas_tree.specs.declared.headings.Heading.{Heading}
+use Rattle.pas_tree.specs.declared.statements.Compound.{out-Compound}
+use Rattle.program_tables.specs.declared.program.Routine.{Routine as RoutineRow}
+use Rattle.program_tables.specs.declared.rows.Row.{Row}
+use Rattle.program_tables.specs.declared.rows.Row.TheVariants as row
+use Rattle.program_tables.specs.declared.rows.NameRow.TheVariants as named
+use Rattle.program_tables.specs.declared.rows.PartRow.TheVariants as part
+use Rattle.program_tables.specs.ProgramRows.{frame_of}
+use Rattle.check_steps.specs.Known.{Known, frame_at, row_at}
+use Rattle.check_steps.specs.Regions.{region_at}
+use Rattle.check_steps.specs.Steps.{Step, give, ◌>>=◌, look, put, add_routine, open_region}
+use Rattle.pas_places.specs.Headings.{heading_name, heading_word}
+use Rattle.heading_checker.specs.Formals.{define_formals_at, is_function}
+use Rattle.heading_checker.specs.Headings.{signature}
+use Rattle.heading_checker.specs.RoutineParts.{completion_of, routine_name}
+use Rattle.use_checker.specs.Statements.{compound_uses}
+use Rattle.decl_checker.specs.declared.routines.Entered.{Entered}
+use Rattle.decl_checker.specs.Blocks.{define_block, parts, put_body}
+use Rattle.decl_checker.specs.Regions.{region_of}
+use Rattle.decl_checker.specs.Scopes.{routine_in}
+
+-- ---- regions of routines
+
+-- one block more
+abbrev pub one_deeper : ℕ → ℕ
+one_deeper level = if nat_lt level 4294967295 then level + 1 else level
+
+-- the region of a routine, inside the frame around; the number of its frame is given
+unfoldable pub open_routine : ℕ → ℕ → Step ℕ
+open_routine frame name = do
+  level ← look (λ k. one_deeper (frame_at k frame).level)
+  open_region name (Some frame) level
+
+abbrev pub define_body : ℕ → Body → Step (Unit {0})
+define_body frame (Directive directive) = give tt
+define_body frame (Block' _ b) = define_block frame b
+
+abbrev pub define_completion : ℕ → Option Routine → Step (Unit {0})
+define_completion frame None = give tt
+define_completion frame (Some r) = define_body frame r.body
+
+-- The formals and the block of a routine are one region; the block may be that of a later heading.
+unfoldable pub define_inside : ℕ → Heading → Body → Option Routine → Step (Unit {0})
+define_inside frame h body completion = do
+  _ ← define_formals_at frame h
+  _ ← define_body frame body
+  define_completion frame completion
+
+-- ---- first headings
+
+-- a function's result has the cell before the place after its signature
+abbrev pub result_place : Bool → ℕ → Option ℕ
+result_place function place = if function then Some (place - 1) else None
+
+-- A routine whose block is not known so far. Its own heading stands where its list of statements would.
+abbrev pub heading_row : Heading → ℕ → ℕ → RoutineRow
+heading_row h level place = record {
+  name = heading_name h;
+  heading = heading_word h;
+  level = level;
+  cells = place;
+  result = result_place (is_function h) place;
+  statements = heading_word h;
+  line = 0;
+}
+
+-- a new routine, whose number is given and stands at its name
+unfoldable pub add_heading : ℕ → Heading → ℕ → Step ℕ
+add_heading frame h place = do
+  level ← look (λ k. (frame_at k frame).level)
+  number ← add_routine (heading_row h level place)
+  _ ← put (heading_name h) (row.Name (named.Routine number))
+  give number
+
+-- a routine's first heading, seen from the frame around, among the routines of its part
+unfoldable pub first_heading : ℕ → List Routine → Routine → Step Entered
+first_heading frame rs r = do
+  completion ← look (λ k. completion_of k rs r)
+  inner ← open_routine frame (routine_name r)
+  _ ← define_inside inner r.heading r.body completion
+  place ← signature frame inner r.heading
+  number ← add_heading inner r.heading place
+  give (record { number = number; frame = inner; place = place })
+
+-- ---- completing headings
+
+-- the name in the first heading of the routine that a heading completes
+abbrev pub first_name : Row → Option ℕ
+first_name (row.Part (part.Completing first)) = Some first
+first_name r = None
+
+abbrev pub own_frame : Known → Option ℕ → ℕ
+own_frame k None = 0
+own_frame k (Some region) = (region_at k.regions region).frame
+
+-- a routine that was entered at its first heading, by the name there
+abbrev pub resumed : Known → ℕ → Entered
+resumed k name = record {
+  number = routine_in (row_at k name) name;
+  frame = own_frame k (region_of k.regions name);
+  place = frame_of k.program (routine_in (row_at k name) name);
+}
+
+abbrev pub enter_at : Option ℕ → ℕ → List Routine → Routine → Step Entered
+enter_at None frame rs r = first_heading frame rs r
+enter_at (Some first) frame rs r = look (λ k. resumed k first)
+
+-- a routine at one of its headings
+unfoldable pub enter : ℕ → List Routine → Routine → Step Entered
+enter frame rs r = do
+  first ← look (λ k. first_name (row_at k (routine_name r)))
+  enter_at first frame rs r
+
+-- ---- blocks
+
+abbrev mutual
+  -- the block of the routine of a number, in its frame, with variables from a place on
+  pub block : ℕ → ℕ → ℕ → Block → Step (Unit {0})
+  block frame number place (BlockTree' labels constants types variables m routines body) = do
+    end ← parts frame place (BlockTree' labels constants types variables m routines body)
+    _ ← put_body number end (out-Compound body).begin
+    _ ← routines_in frame (items-the_row-Routine _ routines) routines
+    compound_uses frame body
+
+  pub routines_in : ℕ → List Routine → {m : _} → Row_of-Routine m → Step (Unit {0})
+  routines_in frame rs end_of-Routine = give tt
+  routines_in frame rs (more_of-Routine heading semicolon body last_semicolon rest) = do
+    e ← enter frame rs
+        (record { heading = heading; semicolon = semicolon; body = body; last_semicolon = last_semicolon })
+    _ ← body_in e body
+    routines_in frame rs rest
+
+  pub body_in : Entered → Body → Step (Unit {0})
+  body_in e (Directive directive) = give tt
+  body_in e (Block' _ b) = block e.frame e.number e.place b
+
+-- ---- the same over lists
+
+-- a routine, seen from the frame around, among the routines of its part
+unfoldable pub routine : ℕ → List Routine → Unit {0} → Routine → Step (Unit {0})
+routine frame rs u r = do
+  e ← enter frame rs r
+  body_in e r.body

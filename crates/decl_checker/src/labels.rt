@@ -1,0 +1,70 @@
+//! Label declarations (6.2.1).
+
+ghost use Rattle.std.specs.Prelude.{◌≡◌, IfOk};
+ghost use Rattle.check_steps.specs.Steps.{Does, each};
+ghost use Rattle.decl_checker.specs.Labels.{define_label, define_labels, define_next_label, label_value};
+
+use check_steps::{Frame, Spelled, Work};
+use pas_tree::blocks::{LabelPart, NextLabel};
+use program_tables::rows::{NameRow, Row};
+use std::alloc::AllocError;
+
+fn label_value(spelled: Spelled) -> u32
+    ensures { result ≡ label_value spelled }
+{
+    match spelled {
+        Spelled::Number(value) => value,
+        _ => 0,
+    }
+}
+
+#[tactic(auto, using(check_steps::proofs::Runs::steps), unfolding(crate::specs::Labels::define_label))]
+fn define_label(work: &mut Work, here: Frame, token: u32) -> Result<(), AllocError>
+    ensures { IfOk result (λ _. Does (define_label here token) tt work.old work.new) }
+{
+    let value = label_value(work.tables.spelled(token));
+    work.rule(14, token, value <= 9999);
+    work.declare_in(here.region, value, token)?;
+    let row = NameRow::Label {
+        value,
+        level: here.level,
+    };
+    work.put(token, Row::Name(row));
+    Ok(())
+}
+
+#[tactic(auto, unfolding(crate::specs::Labels::define_next_label))]
+fn define_next_label(work: &mut Work, here: Frame, next: &NextLabel) -> Result<(), AllocError>
+    ensures { IfOk result (λ _. Does (define_next_label here tt next.now) tt work.old work.new) }
+{
+    define_label(work, here, next.number)
+}
+
+#[tactic(auto, using(check_steps::proofs::Runs::read_loops))]
+fn define_more_labels(work: &mut Work, here: Frame, labels: &[NextLabel]) -> Result<(), AllocError>
+    ensures { IfOk result (λ _. Does (each (define_next_label here) tt labels.now) tt work.old work.new) }
+{
+    'labels: for label in labels {
+        define_next_label(work, here, label)?;
+    }
+    Ok(())
+}
+
+/// Declares the labels of a block in the region of its frame.
+#[tactic(auto, using(check_steps::proofs::Runs::steps))]
+pub fn define_labels(
+    work: &mut Work,
+    here: Frame,
+    part: &Option<LabelPart>,
+) -> Result<(), AllocError>
+    ensures { IfOk result (λ _. Does (define_labels here part.now) tt work.old work.new) }
+{
+    match part {
+        None => Ok(()),
+        Some(part) => {
+            define_label(work, here, part.first)?;
+            define_more_labels(work, here, &part.others)?;
+            Ok(())
+        }
+    }
+}

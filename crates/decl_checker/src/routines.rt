@@ -1,0 +1,252 @@
+//! Blocks and their procedures and functions (6.2.1, 6.6).
+
+ghost use Rattle.std.specs.Prelude.{◌≡◌, IfOk, option_copied};
+ghost use Rattle.check_steps.specs.Steps.{Does, each};
+ghost use Rattle.decl_checker.specs.Routines.{add_heading, block, body_in, define_body, define_completion};
+ghost use Rattle.decl_checker.specs.Routines.{define_inside, enter, first_heading, first_name, heading_row, one_deeper};
+ghost use Rattle.decl_checker.specs.Routines.{open_routine, own_frame, result_place, resumed, routine};
+
+use crate::blocks::{check_parts, define_block, put_body};
+use crate::regions::region_of;
+use crate::scopes::routine_in;
+use check_steps::{Tables, Work};
+use heading_checker::{check_signature, completion_of, define_formals_at, is_function};
+use pas_places::{heading_name, heading_word};
+use pas_tree::blocks::{Block, Body, Routine};
+use pas_tree::headings::Heading;
+use program_tables::Routine as RoutineRow;
+use program_tables::rows::{NameRow, PartRow, Row};
+use std::alloc::{AllocError, Global};
+use use_checker::statements::use_compound;
+
+/// A routine at one of its headings: its number, the frame of its region, and the first place in that after its
+/// parameters and its result.
+#[derive(Clone, Copy)]
+pub struct Entered {
+    pub number: u32,
+    pub frame: u32,
+    pub place: u32,
+}
+
+fn one_deeper(level: u32) -> u32
+    ensures { result ≡ one_deeper level }
+{
+    if level < u32::MAX { level + 1 } else { level }
+}
+
+/// Opens the region of a routine inside the frame around: what is given is the number of its frame.
+#[tactic(auto, using(check_steps::proofs::Runs::steps), unfolding(crate::specs::Routines::open_routine))]
+fn open_routine(work: &mut Work, alloc: Global, frame: u32, name: u32) -> Result<u32, AllocError>
+    ensures { IfOk result (λ inner. Does (open_routine frame name) inner work.old work.new) }
+{
+    let level = one_deeper(work.tables.frame(frame).level);
+    let inner = work.open_region(alloc, name, Some(frame), level)?;
+    Ok(inner)
+}
+
+#[tactic(auto, using(check_steps::proofs::Runs::steps))]
+fn define_body(work: &mut Work, body: &Body, frame: u32) -> Result<(), AllocError>
+    ensures { IfOk result (λ _. Does (define_body frame body.now) tt work.old work.new) }
+{
+    match body {
+        Body::Directive(_) => Ok(()),
+        Body::Block(block) => define_block(work, block, frame),
+    }
+}
+
+#[tactic(auto, using(check_steps::proofs::Runs::steps))]
+fn define_completion(
+    work: &mut Work,
+    completion: Option<&Routine>,
+    frame: u32,
+) -> Result<(), AllocError>
+    ensures { IfOk result (λ _. Does (define_completion frame (option_copied completion.entry)) tt work.old work.new) }
+{
+    match completion {
+        None => Ok(()),
+        Some(routine) => define_body(work, &routine.body, frame),
+    }
+}
+
+/// Defines the parameters of a routine and the names of its block, which may be that of a later heading.
+#[tactic(auto, using(check_steps::proofs::Runs::steps), unfolding(crate::specs::Routines::define_inside))]
+fn define_inside(
+    work: &mut Work,
+    routine: &Routine,
+    completion: Option<&Routine>,
+    frame: u32,
+) -> Result<(), AllocError>
+    ensures { IfOk result (λ _. Does
+        (define_inside frame routine.now.heading routine.now.body (option_copied completion.entry)) tt
+        work.old work.new) }
+{
+    define_formals_at(work, frame, &routine.heading)?;
+    define_body(work, &routine.body, frame)?;
+    define_completion(work, completion, frame)?;
+    Ok(())
+}
+
+fn result_place(function: bool, place: u32) -> Option<u32>
+    ensures { result ≡ result_place function place }
+{
+    if function {
+        Some(place.saturating_sub(1))
+    } else {
+        None
+    }
+}
+
+/// A routine of which only the heading is known.
+fn heading_row(heading: &Heading, level: u32, place: u32) -> RoutineRow
+    ensures { result ≡ heading_row heading.now level place }
+{
+    RoutineRow {
+        name: heading_name(heading),
+        heading: heading_word(heading),
+        level,
+        cells: place,
+        result: result_place(is_function(heading), place),
+        statements: heading_word(heading),
+        line: 0,
+    }
+}
+
+/// A new routine, whose number is put down at its name.
+#[tactic(auto, using(check_steps::proofs::Runs::steps), unfolding(crate::specs::Routines::add_heading))]
+fn add_heading(
+    work: &mut Work,
+    frame: u32,
+    heading: &Heading,
+    place: u32,
+) -> Result<u32, AllocError>
+    ensures { IfOk result (λ number. Does (add_heading frame heading.now place) number work.old work.new) }
+{
+    let level = work.tables.frame(frame).level;
+    let number = work.add_routine(heading_row(heading, level, place))?;
+    work.put(
+        heading_name(heading),
+        Row::Name(NameRow::Routine { number }),
+    );
+    Ok(number)
+}
+
+/// A routine's first heading, seen from the frame around, among the routines of its part.
+#[tactic(auto, using(check_steps::proofs::Runs::steps), unfolding(crate::specs::Routines::first_heading))]
+fn enter_first(
+    work: &mut Work,
+    alloc: Global,
+    routine: &Routine,
+    routines: &[Routine],
+    frame: u32,
+) -> Result<Entered, AllocError>
+    ensures { IfOk result (λ e. Does (first_heading frame routines.now routine.now) e work.old work.new) }
+{
+    let completion = completion_of(&work.tables, routines, routine);
+    let inner = open_routine(work, alloc, frame, heading_name(&routine.heading))?;
+    define_inside(work, routine, completion, inner)?;
+    let place = check_signature(work, alloc, &routine.heading, frame, inner)?;
+    let number = add_heading(work, inner, &routine.heading, place)?;
+    Ok(Entered {
+        number,
+        frame: inner,
+        place,
+    })
+}
+
+fn first_name(row: Row) -> Option<u32>
+    ensures { result ≡ first_name row }
+{
+    match row {
+        Row::Part(PartRow::Completing { first }) => Some(first),
+        _ => None,
+    }
+}
+
+fn own_frame(tables: &Tables, region: Option<u32>) -> u32
+    ensures { result ≡ own_frame tables.now region }
+{
+    match region {
+        None => 0,
+        Some(region) => tables.region_frame(region),
+    }
+}
+
+/// A routine that was entered at its first heading, by the name there.
+fn resumed(tables: &Tables, name: u32) -> Entered
+    ensures { result ≡ resumed tables.now name }
+{
+    let number = routine_in(tables.row(name), name);
+    Entered {
+        number,
+        frame: own_frame(tables, region_of(tables, name)),
+        place: tables.program().frame(number),
+    }
+}
+
+/// A routine at one of its headings, seen from the frame around, among the routines of its part.
+#[tactic(auto, using(check_steps::proofs::Runs::steps), unfolding(crate::specs::Routines::enter))]
+fn enter(
+    work: &mut Work,
+    alloc: Global,
+    routine: &Routine,
+    routines: &[Routine],
+    frame: u32,
+) -> Result<Entered, AllocError>
+    ensures { IfOk result (λ e. Does (enter frame routines.now routine.now) e work.old work.new) }
+{
+    match first_name(work.tables.row(heading_name(&routine.heading))) {
+        None => enter_first(work, alloc, routine, routines, frame),
+        Some(first) => Ok(resumed(&work.tables, first)),
+    }
+}
+
+/// The block of the routine of a number, in its frame, with variables from a place on.
+#[cycle(blocks)]
+#[tactic(auto, using(check_steps::proofs::Runs::steps, crate::proofs::BlockRolls::block_out))]
+pub fn check_block(
+    work: &mut Work,
+    alloc: Global,
+    b: &Block,
+    entered: Entered,
+) -> Result<(), AllocError>
+    ensures { IfOk result (λ _. Does (block entered.frame entered.number entered.place b.now) tt work.old work.new) }
+{
+    let end = check_parts(work, alloc, b, entered.frame, entered.place)?;
+    put_body(work, entered.number, end, b.body.begin);
+    check_routines(work, alloc, &b.routines, entered.frame)?;
+    use_compound(work, &b.body, entered.frame)?;
+    Ok(())
+}
+
+#[cycle(blocks)]
+#[tactic(auto, using(check_steps::proofs::Runs::loops))]
+fn check_routines(
+    work: &mut Work,
+    alloc: Global,
+    routines: &[Routine],
+    frame: u32,
+) -> Result<(), AllocError>
+    ensures { IfOk result (λ _. Does (each (routine frame routines.now) tt routines.now) tt work.old work.new) }
+{
+    'routines: for routine in routines {
+        let entered = enter(work, alloc, routine, routines, frame)?;
+        check_body(work, alloc, &routine.body, entered)?;
+    }
+    Ok(())
+}
+
+#[cycle(blocks)]
+#[tactic(auto, using(check_steps::proofs::Runs::steps))]
+fn check_body(
+    work: &mut Work,
+    alloc: Global,
+    body: &Body,
+    entered: Entered,
+) -> Result<(), AllocError>
+    ensures { IfOk result (λ _. Does (body_in entered body.now) tt work.old work.new) }
+{
+    match body {
+        Body::Directive(_) => Ok(()),
+        Body::Block(block) => check_block(work, alloc, block, entered),
+    }
+}
