@@ -1,12 +1,14 @@
 //! Runs worked cases. A case is what is given to the command, and what has to come of it, and is held in files of
-//! a folder. The file `index` names the files of cases, each after the word for its kind: `command` or
-//! `sources`. The program prints a line for each case and each difference in full, and fails where there is one.
+//! a folder. The file `index` names the files of cases, each after the word for its kind: `command`, `sources`,
+//! `declarations` or `tables`. The program prints a line for each case and each difference in full, and fails where
+//! there is one.
 //!
 //! Its one argument is the folder, `.` where there is none.
 #![tactic(auto)]
 
 mod case;
 mod comparing;
+mod declared;
 mod escapes;
 mod folder;
 mod reading;
@@ -16,9 +18,10 @@ mod sources;
 
 use anyhow::{Context, Result, bail};
 use comparing::differences;
+use declared::try_tables;
 use folder::Folder;
 use reading::read_cases;
-use sources::try_sources;
+use sources::{Judge, Judged, try_sources};
 use std::io::{self, Write};
 use std::process::ExitCode;
 use std::rt::Files;
@@ -59,21 +62,15 @@ fn try_cases<R: Files + AllocGlobal + Print>(
     Ok(())
 }
 
-/// Tries the sources of a file.
-fn try_rows<R: Files + AllocGlobal + Print>(
-    rt: &R,
-    folder: &mut Folder,
-    name: &str,
-    tally: &mut Tally,
-) -> Result<()> {
-    let judged = try_sources(rt, folder, name)?;
+/// Prints what came of the rows of a file.
+fn report_rows<R: Print>(rt: &R, name: &str, judged: &Judged, tally: &mut Tally) -> Result<()> {
     let (passed, failed) = (judged.passed, judged.failed);
     tally.passed = tally.passed.saturating_add(passed);
     tally.failed = tally.failed.saturating_add(failed);
     if failed == 0 {
-        println!(rt; "ok {name}: {passed} sources")?;
+        println!(rt; "ok {name}: {passed} rows")?;
     } else {
-        println!(rt; "FAILED {name}: {failed} sources")?;
+        println!(rt; "FAILED {name}: {failed} rows")?;
         io::writer(rt).write_all(&judged.differences)?;
     }
     Ok(())
@@ -92,7 +89,18 @@ fn try_index<R: Files + AllocGlobal + Print>(
     for line in index.lines() {
         match line.split_once(' ') {
             Some(("command", name)) => try_cases(rt, folder, name, tally)?,
-            Some(("sources", name)) => try_rows(rt, folder, name, tally)?,
+            Some(("sources", name)) => {
+                let judged = try_sources(rt, folder, name, Judge::Command)?;
+                report_rows(rt, name, &judged, tally)?;
+            }
+            Some(("declarations", name)) => {
+                let judged = try_sources(rt, folder, name, Judge::Declarations)?;
+                report_rows(rt, name, &judged, tally)?;
+            }
+            Some(("tables", name)) => {
+                let judged = try_tables(rt, folder, name)?;
+                report_rows(rt, name, &judged, tally)?;
+            }
             _ if line.is_empty() || line.starts_with('#') => {}
             _ => bail!("the index: {line}"),
         }

@@ -2,6 +2,7 @@
 
 use crate::case::{Case, File, Wanted};
 use crate::comparing::differences;
+use crate::declared::what_it_comes_to;
 use crate::escapes::unescaped;
 use crate::folder::Folder;
 use anyhow::{Context, Result, bail, ensure};
@@ -25,8 +26,17 @@ const BEFORE_THE_RULES: [&str; 9] = [
     "TooDeep",
 ];
 
-/// A source, and what the command is to make of it. `why` is `taken`, or the reason for which it is
-/// refused at the byte and the line.
+/// Who says whether a source is taken.
+#[derive(Clone, Copy)]
+pub(crate) enum Judge {
+    /// The command.
+    Command,
+    /// The check of its declarations alone.
+    Declarations,
+}
+
+/// A source, and what is to come of it. `why` is `taken`, or the reason for which it is refused at the byte and the
+/// line.
 #[derive(Drop)]
 struct Row {
     why: String,
@@ -50,6 +60,7 @@ pub(crate) fn try_sources<R: Files + AllocGlobal>(
     rt: &R,
     folder: &mut Folder,
     name: &str,
+    judge: Judge,
 ) -> Result<Judged> {
     let bytes = folder.read(rt, name)?;
     let mut judged = Judged {
@@ -61,7 +72,7 @@ pub(crate) fn try_sources<R: Files + AllocGlobal>(
     for line in bytes.split(|byte| *byte == b'\n') {
         number = number.saturating_add(1);
         if !line.is_empty() && !line.starts_with(b"#") {
-            judge_line(rt.alloc(), line, &mut judged).context(format_args!(
+            judge_line(rt.alloc(), judge, line, &mut judged).context(format_args!(
                 "{name}, line {number}"
             ))?;
         }
@@ -70,11 +81,11 @@ pub(crate) fn try_sources<R: Files + AllocGlobal>(
 }
 
 /// Tries the row of a line.
-fn judge_line(alloc: Global, line: &[u8], judged: &mut Judged) -> Result<()> {
+fn judge_line(alloc: Global, judge: Judge, line: &[u8], judged: &mut Judged) -> Result<()> {
     let Ok(text) = str::from_utf8(line) else {
         bail!("the line is no UTF-8 text");
     };
-    let differs = difference(alloc, read_row(alloc, text)?)?;
+    let differs = difference(alloc, judge, read_row(alloc, text)?)?;
     if differs.is_empty() {
         judged.passed = judged.passed.saturating_add(1);
     } else {
@@ -122,9 +133,27 @@ fn read_row(alloc: Global, text: &str) -> Result<Row> {
     })
 }
 
-/// What differs, in full: nothing where the command makes of the source what the row says.
-fn difference(alloc: Global, row: Row) -> Result<Vec<u8>> {
-    differences(alloc, &command_case(alloc, row)?)
+/// What differs, in full: nothing where the source comes to what the row says.
+fn difference(alloc: Global, judge: Judge, row: Row) -> Result<Vec<u8>> {
+    match judge {
+        Judge::Command => differences(alloc, &command_case(alloc, row)?),
+        Judge::Declarations => declared_difference(alloc, &row),
+    }
+}
+
+/// What differs, in full: nothing where the declarations of the source come to what the row says.
+fn declared_difference(alloc: Global, row: &Row) -> Result<Vec<u8>> {
+    let (why, line, byte) = (row.why.as_str(), row.line, row.byte);
+    let wanted = if why == "taken" {
+        why.to_string(alloc)?
+    } else {
+        format!(in alloc; "{why}, line {line}, byte {byte}")?
+    };
+    let got = what_it_comes_to(alloc, &row.source)?;
+    if got.as_str() == wanted.as_str() {
+        return Ok(Vec::new(alloc));
+    }
+    Ok(format!(in alloc; "  it is to come to: {wanted}\n  it comes to: {got}\n")?.into_bytes())
 }
 
 /// The run of the command on the source of a row, on a console without lines. A source that is taken is refused neither
