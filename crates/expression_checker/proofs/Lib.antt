@@ -1,0 +1,4 @@
+pub mod NamesAlone
+pub mod Operands
+pub mod Parts
+pub mod Sections

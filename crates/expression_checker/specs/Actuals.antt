@@ -1,0 +1,241 @@
+-- Actual parameters against formal ones (6.6.3, 6.7.3).
+use Rattle.std.specs.Prelude.{ℕ, ◌+◌, Bool, true, false, Option, Some, None, is_none, nat_eq, nat_lt}
+use Rattle.std.specs.Prelude.{◌&&◌, ◌||◌, if◌then◌else◌, length}
+use Rattle.pas_tree.specs.declared.expressions.Factor.{Factor, Access'}
+use Rattle.pas_tree.specs.declared.expressions.Access.{Row_of-Selector, end_of-Selector, more_of-Selector}
+use Rattle.pas_tree.specs.declared.expressions.Expression.{Expression, out-Expression}
+use Rattle.pas_tree.specs.declared.expressions.Simple.{Simple, out-Simple}
+use Rattle.pas_tree.specs.declared.expressions.Term.{Term, out-Term}
+use Rattle.program_tables.specs.declared.rows.ItemRow.{ItemRow}
+use Rattle.program_tables.specs.declared.rows.ItemRow.TheVariants as item
+use Rattle.program_tables.specs.declared.rows.Mode.TheVariants as mode
+use Rattle.program_tables.specs.declared.rows.NameRow.TheVariants as named
+use Rattle.program_tables.specs.declared.rows.OrdinalFunction.{OrdinalFunction}
+use Rattle.program_tables.specs.declared.rows.OrdinalFunction.TheVariants as function
+use Rattle.program_tables.specs.declared.rows.Row.{Row}
+use Rattle.program_tables.specs.declared.rows.Row.TheVariants as row
+use Rattle.program_tables.specs.declared.rows.TextFile.{TextFile}
+use Rattle.program_tables.specs.declared.rows.TextFile.TheVariants.{Input, Output}
+use Rattle.check_steps.specs.declared.regions.Found.{Found}
+use Rattle.check_steps.specs.Known.{Known, find, name_at, row_at}
+use Rattle.check_steps.specs.Names.{usable, use_at}
+use Rattle.check_steps.specs.Steps.{Step, give, ◌>>=◌, look, late}
+use Rattle.type_relations.specs.declared.headings.Section.{Section}
+use Rattle.type_relations.specs.declared.headings.Section.TheVariants as section
+use Rattle.type_relations.specs.declared.shapes.ExpressionType.{ExpressionType}
+use Rattle.type_relations.specs.declared.shapes.ExpressionType.TheVariants as expression
+use Rattle.type_relations.specs.declared.shapes.Shape.{Shape}
+use Rattle.type_relations.specs.declared.shapes.Shape.TheVariants as shape
+use Rattle.type_relations.specs.Headings.{congruous, section_at}
+use Rattle.type_relations.specs.Operators.{is_operand, is_unknown}
+use Rattle.type_relations.specs.Shapes.{is_assignable, is_same_type, shape_of}
+use Rattle.expression_checker.specs.declared.actuals.Argument.{Argument}
+use Rattle.expression_checker.specs.declared.actuals.Formal.{Formal}
+use Rattle.expression_checker.specs.declared.actuals.Formal.TheVariants as formal
+use Rattle.expression_checker.specs.declared.actuals.Lone.{Lone}
+use Rattle.expression_checker.specs.declared.actuals.Lone.TheVariants as lone
+use Rattle.expression_checker.specs.declared.actuals.Passing.{Passing}
+use Rattle.expression_checker.specs.declared.callees.Callee.{Callee}
+use Rattle.expression_checker.specs.declared.callees.Callee.TheVariants as callee
+use Rattle.expression_checker.specs.declared.callees.Formals.{Formals}
+use Rattle.expression_checker.specs.declared.callees.Formals.TheVariants as formals
+use Rattle.operand_checker.specs.declared.typed.Location.{Location}
+use Rattle.operand_checker.specs.declared.typed.Location.TheVariants as location
+use Rattle.operand_checker.specs.declared.typed.Typed.{Typed}
+use Rattle.expression_checker.specs.Callees.{callee_of}
+use Rattle.operand_checker.specs.Items.{add_item, link}
+use Rattle.operand_checker.specs.Typed.{unknown_at}
+
+-- ---- the formal parameter of the next actual
+
+abbrev pub formal_in : Option (Section × ℕ) → Formal
+formal_in None = formal.Unknown
+formal_in (Some (section.Names mode.Place of' count, next)) = formal.Variable of'
+formal_in (Some (section.Names m of' count, next)) = formal.Value of'
+formal_in (Some (section.Heading heading, next)) = formal.Routine heading
+
+abbrev pub formal_at : Known → Formals → Formal
+formal_at k formals.Unknown = formal.Unknown
+formal_at k (formals.Declared section passed) = formal_in (section_at k section)
+formal_at k formals.File = formal.File
+formal_at k (formals.Operand f) = formal.Operand f
+
+abbrev pub after_section : Option (Section × ℕ) → ℕ → ℕ → Formals
+after_section None section passed = formals.Unknown
+after_section (Some (section.Names m of' count, next)) at passed =
+    if nat_lt (passed + 1) count then formals.Declared at (passed + 1) else formals.Declared next 0
+after_section (Some (section.Heading heading, next)) at passed = formals.Declared next 0
+
+-- the formal parameters after one that is passed
+abbrev pub formals_after : Known → Formals → Formals
+formals_after k (formals.Declared section passed) = after_section (section_at k section) section passed
+formals_after k f = formals.Unknown
+
+-- ---- a value or a variable as an actual
+
+abbrev pub is_of_type : Known → ℕ → ExpressionType → Bool
+is_of_type k t (expression.Of u) = is_same_type k t u
+is_of_type k t of' = false
+
+abbrev pub is_free : Location → Bool
+is_free location.Variable = true
+is_free l = false
+
+-- An access of the same type, no component of a packed variable and no tag field. An actual of unknown type breaks no
+-- further rule.
+abbrev pub is_variable_actual : Known → ℕ → Typed → Bool
+is_variable_actual k t v = is_unknown (shape_of k v.of) || (is_free v.location && is_of_type k t v.of)
+
+abbrev pub is_ordinal_shape : Shape → Bool
+is_ordinal_shape (shape.Ordinal host) = true
+is_ordinal_shape s = is_unknown s
+
+-- abs, sqr, odd and chr take an integer; ord, succ and pred an ordinal
+abbrev pub is_argument : OrdinalFunction → Shape → Bool
+is_argument function.Ord s = is_ordinal_shape s
+is_argument function.Succ s = is_ordinal_shape s
+is_argument function.Pred s = is_ordinal_shape s
+is_argument f s = is_operand 0 s
+
+-- What an actual is to be. A name alone of a routine, and of a text file, is looked at elsewhere.
+abbrev pub is_actual : Known → Formal → Typed → Bool
+is_actual k formal.Unknown v = true
+is_actual k (formal.Value of') v = is_assignable k of' v.of
+is_actual k (formal.Variable of') v = is_variable_actual k of' v
+is_actual k (formal.Routine heading) v = is_unknown (shape_of k v.of)
+is_actual k formal.File v = is_unknown (shape_of k v.of)
+is_actual k (formal.Operand f) v = is_argument f (shape_of k v.of)
+
+-- rule 27: a value actual is not assignment-compatible
+-- rule 28: a variable actual is not an access of the same type, or is a component of a packed variable, or a tag field
+-- rule 29: a routine actual is not the name of a routine
+-- rule 32: an actual of a required routine is not as it is to be
+abbrev pub rule_of : Formal → ℕ
+rule_of formal.Unknown = 27
+rule_of (formal.Value of') = 27
+rule_of (formal.Variable of') = 28
+rule_of (formal.Routine heading) = 29
+rule_of formal.File = 32
+rule_of (formal.Operand f) = 32
+
+abbrev pub item_of : Formal → Typed → Option ItemRow
+item_of (formal.Value of') v = Some (item.Value v.row of' 0)
+item_of (formal.Variable of') v = Some (item.Place v.row 0)
+item_of f v = None
+
+-- A required function that takes its type from its actual takes it from this.
+abbrev pub operand_in : Formal → Typed → Typed
+operand_in (formal.Operand f) v = v
+operand_in f v = unknown_at v.row
+
+-- an actual, once its parts are checked, which begins at a first token
+unfoldable pub argued : Formal → ℕ → Typed → Step Argument
+argued f first v = do
+  fine ← look (λ k. is_actual k f v)
+  _ ← late (rule_of f) first fine
+  give (record { item = item_of f v; value = operand_in f v })
+
+-- ---- names alone as actuals
+
+abbrev pub is_name : {m : _} → Row_of-Selector m → Bool
+is_name end_of-Selector = true
+is_name (more_of-Selector s rest) = false
+
+abbrev pub name_if : Bool → ℕ → Option ℕ
+name_if alone name = if alone then Some name else None
+
+abbrev pub factor_name : Factor → Option ℕ
+factor_name (Access' name _ selectors) = name_if (is_name selectors) name
+factor_name f = None
+
+abbrev pub name_of_if : Bool → Option ℕ → Option ℕ
+name_of_if alone name = if alone then name else None
+
+abbrev pub term_name : Term → Option ℕ
+term_name t = name_of_if (nat_eq (length (out-Term t).others.items) 0) (factor_name (out-Term t).first)
+
+abbrev pub simple_name : Simple → Option ℕ
+simple_name s = name_of_if (is_none (out-Simple s).sign && nat_eq (length (out-Simple s).others.items) 0)
+    (term_name (out-Simple s).first)
+
+-- the name that an expression is, if it is a name alone
+abbrev pub name_alone : Expression → Option ℕ
+name_alone e = name_of_if (is_none (out-Expression e).relation) (simple_name (out-Expression e).left)
+
+abbrev pub file_in : Row → Option TextFile
+file_in (row.Name (named.TextFile file)) = Some file
+file_in r = None
+
+abbrev pub file_of : Known → Option Found → Option TextFile
+file_of k None = None
+file_of k (Some f) = file_in (row_at k f.definition.token)
+
+abbrev pub lone_file : ℕ → Option TextFile → Lone
+lone_file name (Some file) = lone.File name file
+lone_file name None = lone.None
+
+-- What is passed by a name alone: to a routine parameter the name of a routine, whatever it stands for; and a text
+-- file, where one may stand.
+abbrev pub lone_of : Known → ℕ → Formal → Option ℕ → Lone
+lone_of k frame (formal.Routine heading) (Some name) = lone.Routine name heading
+lone_of k frame formal.File (Some name) = lone_file name (file_of k (usable name (find k frame (name_at k name))))
+lone_of k frame f name = lone.None
+
+abbrev pub is_congruous : Known → ℕ → Callee → Bool
+is_congruous k heading callee.Unknown = true
+is_congruous k heading (callee.Routine number levels other) = congruous k heading other
+is_congruous k heading (callee.Formal place levels other) = congruous k heading other
+is_congruous k heading c = false
+
+abbrev pub routine_item : Callee → Option ItemRow
+routine_item (callee.Routine number levels heading) = Some (item.Routine number levels 0)
+routine_item (callee.Formal place levels heading) = Some (item.RoutineFormal place levels 0)
+routine_item c = None
+
+-- rule 29: a routine actual is not the name of a routine that is not required, of that kind, with congruous formals and
+-- the same result type
+unfoldable pub routine_argued : ℕ → ℕ → ℕ → Step Argument
+routine_argued frame name heading = do
+  found ← use_at frame name name
+  c ← look (λ k. callee_of k frame found)
+  fine ← look (λ k. is_congruous k heading c)
+  _ ← late 29 name fine
+  give (record { item = routine_item c; value = unknown_at name })
+
+abbrev pub is_input : TextFile → Bool
+is_input Input = true
+is_input Output = false
+
+-- rule 32: eof and eoln ask of the input
+unfoldable pub file_argued : ℕ → TextFile → Step Argument
+file_argued name file = do
+  _ ← late 32 name (is_input file)
+  give (record { item = None; value = unknown_at name })
+
+-- an actual by what is passed by a name alone, and else by walking it
+abbrev pub argued_as : ℕ → Formal → Lone → ℕ → Step Typed → Step Argument
+argued_as frame f lone.None first walk = walk >>= λ v. argued f first v
+argued_as frame f (lone.Routine name heading) first walk = routine_argued frame name heading
+argued_as frame f (lone.File name file) first walk = file_argued name file
+
+-- ---- lists of actuals
+
+unfoldable pub passed : Passing → ℕ → Argument → Step Passing
+passed p slot a = do
+  last ← add_item p.last slot a.item
+  next ← look (λ k. formals_after k p.formals)
+  give (record { last = last; formals = next; value = a.value })
+
+-- One more actual, at a slot: it is a name alone or none, begins at a first token, and is walked by a step.
+unfoldable pub actual_by : ℕ → Passing → ℕ → Option ℕ → ℕ → Step Typed → Step Passing
+actual_by frame p slot name first walk = do
+  f ← look (λ k. formal_at k p.formals)
+  l ← look (λ k. lone_of k frame f name)
+  a ← argued_as frame f l first walk
+  passed p slot a
+
+-- A list of actuals ends at a number.
+unfoldable pub closed : Passing → ℕ → Step Typed
+closed p end = do
+  _ ← link p.last end
+  give p.value

@@ -1,0 +1,437 @@
+//! Actual parameters against formal ones (6.6.3, 6.7.3).
+
+ghost use Rattle.std.specs.Prelude.{◌≡◌};
+ghost use Rattle.check_steps.specs.Names.{usable};
+ghost use Rattle.check_steps.specs.Steps.{Does};
+ghost use Rattle.expression_checker.specs.Actuals.{after_section, argued, closed, factor_name, file_argued};
+ghost use Rattle.expression_checker.specs.Actuals.{file_in, file_of, formal_at, formal_in, formals_after};
+ghost use Rattle.expression_checker.specs.Actuals.{is_actual, is_argument, is_congruous, is_free, is_input, is_of_type};
+ghost use Rattle.expression_checker.specs.Actuals.{is_ordinal_shape, is_variable_actual, item_of, lone_file};
+ghost use Rattle.expression_checker.specs.Actuals.{lone_of, name_alone, name_if, name_of_if, operand_in, passed};
+ghost use Rattle.expression_checker.specs.Actuals.{routine_argued, routine_item, rule_of, simple_name, term_name};
+
+use crate::callees::{Callee, Formals, callee_of};
+use check_steps::{Found, Tables, Work};
+use operand_checker::items::{put_item, put_link};
+use operand_checker::typed::{Location, Typed, unknown_at};
+use pas_tree::expressions::{Expression, Factor, Simple, Term};
+use program_tables::rows::{INTEGER, ItemRow, Mode, NameRow, OrdinalFunction, Row, TextFile};
+use type_relations::headings::{Section, congruous, section_at};
+use type_relations::operators::{is_operand, is_unknown};
+use type_relations::shapes::{is_assignable, is_same_type, shape_of};
+use type_relations::{ExpressionType, Shape};
+
+/// What an actual parameter stands for.
+#[derive(Clone, Copy)]
+pub enum Formal {
+    /// Nothing that is known.
+    Unknown,
+    /// A value parameter of a type.
+    Value(u32),
+    /// A variable parameter of a type.
+    Variable(u32),
+    /// A routine parameter, by the number of its heading.
+    Routine(u32),
+    /// A text file that is read.
+    File,
+    /// The operand of a required function.
+    Operand(OrdinalFunction),
+}
+
+/// An actual parameter that is a name alone and no expression.
+#[derive(Clone, Copy)]
+pub enum Lone {
+    None,
+    /// What is passed to a routine parameter, by the number of that one's heading.
+    Routine { name: u32, heading: u32 },
+    File { name: u32, file: TextFile },
+}
+
+/// An actual parameter that is checked.
+#[derive(Clone, Copy)]
+pub struct Argument {
+    /// Its item in the list of actual parameters, if it has one.
+    pub item: Option<ItemRow>,
+    /// Itself where it is the operand of a required function, and else nothing that is known.
+    pub value: Typed,
+}
+
+/// A list of actual parameters of which some are checked.
+#[derive(Clone, Copy)]
+pub struct Passing {
+    /// Where the item of the last one stands; before the first, a number at which no item does.
+    pub last: u32,
+    /// What the next ones stand for.
+    pub formals: Formals,
+    /// The last one where it is the operand of a required function, and else nothing that is known.
+    pub value: Typed,
+}
+
+fn formal_in(section: Option<(Section, u32)>) -> Formal
+    ensures { result ≡ formal_in section }
+{
+    match section {
+        None => Formal::Unknown,
+        Some((section, _)) => match section {
+            Section::Names { mode, of, .. } => match mode {
+                Mode::Place => Formal::Variable(of),
+                _ => Formal::Value(of),
+            },
+            Section::Heading(heading) => Formal::Routine(heading),
+        },
+    }
+}
+
+/// What the next actual parameter stands for.
+pub fn formal_at(tables: &Tables, formals: Formals) -> Formal
+    ensures { result ≡ formal_at tables.now formals }
+{
+    match formals {
+        Formals::Unknown => Formal::Unknown,
+        Formals::Declared { section, .. } => formal_in(section_at(tables, section)),
+        Formals::File => Formal::File,
+        Formals::Operand(function) => Formal::Operand(function),
+    }
+}
+
+fn after_section(section: Option<(Section, u32)>, at: u32, passed: u32) -> Formals
+    ensures { result ≡ after_section section at passed }
+{
+    let Some((section, next)) = section else {
+        return Formals::Unknown;
+    };
+    match section {
+        Section::Names { count, .. } => match passed.checked_add(1) {
+            Some(more) if more < count => Formals::Declared {
+                section: at,
+                passed: more,
+            },
+            _ => Formals::Declared {
+                section: next,
+                passed: 0,
+            },
+        },
+        Section::Heading(_) => Formals::Declared {
+            section: next,
+            passed: 0,
+        },
+    }
+}
+
+fn formals_after(tables: &Tables, formals: Formals) -> Formals
+    ensures { result ≡ formals_after tables.now formals }
+{
+    match formals {
+        Formals::Declared { section, passed } => {
+            after_section(section_at(tables, section), section, passed)
+        }
+        _ => Formals::Unknown,
+    }
+}
+
+fn is_of_type(tables: &Tables, kind: u32, of: ExpressionType) -> bool
+    ensures { result ≡ is_of_type tables.now kind of }
+{
+    match of {
+        ExpressionType::Of(other) => is_same_type(tables, kind, other),
+        _ => false,
+    }
+}
+
+fn is_free(location: Location) -> bool
+    ensures { result ≡ is_free location }
+{
+    match location {
+        Location::Variable => true,
+        _ => false,
+    }
+}
+
+fn is_variable_actual(tables: &Tables, kind: u32, value: Typed) -> bool
+    ensures { result ≡ is_variable_actual tables.now kind value }
+{
+    is_unknown(shape_of(tables, value.of))
+        || (is_free(value.location) && is_of_type(tables, kind, value.of))
+}
+
+fn is_ordinal_shape(shape: Shape) -> bool
+    ensures { result ≡ is_ordinal_shape shape }
+{
+    match shape {
+        Shape::Ordinal(_) => true,
+        _ => is_unknown(shape),
+    }
+}
+
+fn is_argument(function: OrdinalFunction, shape: Shape) -> bool
+    ensures { result ≡ is_argument function shape }
+{
+    match function {
+        OrdinalFunction::Ord => is_ordinal_shape(shape),
+        OrdinalFunction::Succ => is_ordinal_shape(shape),
+        OrdinalFunction::Pred => is_ordinal_shape(shape),
+        _ => is_operand(INTEGER, shape),
+    }
+}
+
+fn is_actual(tables: &Tables, formal: Formal, value: Typed) -> bool
+    ensures { result ≡ is_actual tables.now formal value }
+{
+    match formal {
+        Formal::Unknown => true,
+        Formal::Value(kind) => is_assignable(tables, kind, value.of),
+        Formal::Variable(kind) => is_variable_actual(tables, kind, value),
+        Formal::Routine(_) => is_unknown(shape_of(tables, value.of)),
+        Formal::File => is_unknown(shape_of(tables, value.of)),
+        Formal::Operand(function) => is_argument(function, shape_of(tables, value.of)),
+    }
+}
+
+fn rule_of(formal: Formal) -> u32
+    ensures { result ≡ rule_of formal }
+{
+    match formal {
+        Formal::Unknown => 27,
+        Formal::Value(_) => 27,
+        Formal::Variable(_) => 28,
+        Formal::Routine(_) => 29,
+        Formal::File => 32,
+        Formal::Operand(_) => 32,
+    }
+}
+
+fn item_of(formal: Formal, value: Typed) -> Option<ItemRow>
+    ensures { result ≡ item_of formal value }
+{
+    match formal {
+        Formal::Value(of) => Some(ItemRow::Value {
+            value: value.row,
+            of,
+            next: 0,
+        }),
+        Formal::Variable(_) => Some(ItemRow::Place {
+            access: value.row,
+            next: 0,
+        }),
+        _ => None,
+    }
+}
+
+fn operand_in(formal: Formal, value: Typed) -> Typed
+    ensures { result ≡ operand_in formal value }
+{
+    match formal {
+        Formal::Operand(_) => value,
+        _ => unknown_at(value.row),
+    }
+}
+
+/// An actual parameter, once its parts are checked, which begins at a first token.
+#[tactic(auto, using(check_steps::proofs::Runs::steps), unfolding(crate::specs::Actuals::argued))]
+pub(crate) fn check_argued(work: &mut Work, formal: Formal, first: u32, value: Typed) -> Argument
+    ensures { Does (argued formal first value) result work.old work.new }
+{
+    let fine = is_actual(&work.tables, formal, value);
+    work.late(rule_of(formal), first, fine);
+    Argument {
+        item: item_of(formal, value),
+        value: operand_in(formal, value),
+    }
+}
+
+fn name_if(alone: bool, name: u32) -> Option<u32>
+    ensures { result ≡ name_if alone name }
+{
+    if alone { Some(name) } else { None }
+}
+
+#[tactic(auto, using(crate::proofs::NamesAlone::name_factor))]
+fn factor_name(factor: &Factor) -> Option<u32>
+    ensures { result ≡ factor_name factor.now }
+{
+    match factor {
+        Factor::Access(access) => name_if(access.selectors.len() == 0, access.name),
+        _ => None,
+    }
+}
+
+fn name_of_if(alone: bool, name: Option<u32>) -> Option<u32>
+    ensures { result ≡ name_of_if alone name }
+{
+    if alone { name } else { None }
+}
+
+fn term_name(term: &Term) -> Option<u32>
+    ensures { result ≡ term_name term.now }
+{
+    let alone = term.others.len() == 0;
+    name_of_if(alone, factor_name(&term.first))
+}
+
+fn simple_name(simple: &Simple) -> Option<u32>
+    ensures { result ≡ simple_name simple.now }
+{
+    let alone = simple.sign.is_none() && simple.others.len() == 0;
+    name_of_if(alone, term_name(&simple.first))
+}
+
+/// The name that an expression is, if it is a name alone.
+pub fn name_alone(expression: &Expression) -> Option<u32>
+    ensures { result ≡ name_alone expression.now }
+{
+    let alone = expression.relation.is_none();
+    name_of_if(alone, simple_name(&expression.left))
+}
+
+fn file_in(row: Row) -> Option<TextFile>
+    ensures { result ≡ file_in row }
+{
+    match row {
+        Row::Name(NameRow::TextFile { file }) => Some(file),
+        _ => None,
+    }
+}
+
+fn file_of(tables: &Tables, found: Option<Found>) -> Option<TextFile>
+    ensures { result ≡ file_of tables.now found }
+{
+    match found {
+        None => None,
+        Some(found) => file_in(tables.row(found.definition.token)),
+    }
+}
+
+fn usable(at: u32, found: Option<Found>) -> Option<Found>
+    ensures { result ≡ usable at found }
+{
+    match found {
+        Some(found) => {
+            if found.definition.end <= at {
+                Some(found)
+            } else {
+                None
+            }
+        }
+        None => None,
+    }
+}
+
+fn lone_file(name: u32, file: Option<TextFile>) -> Lone
+    ensures { result ≡ lone_file name file }
+{
+    match file {
+        Some(file) => Lone::File { name, file },
+        None => Lone::None,
+    }
+}
+
+/// What is passed by a name alone that is no expression, seen from a frame.
+pub(crate) fn lone_of(tables: &Tables, frame: u32, formal: Formal, name: Option<u32>) -> Lone
+    ensures { result ≡ lone_of tables.now frame formal name }
+{
+    match (formal, name) {
+        (Formal::Routine(heading), Some(name)) => Lone::Routine { name, heading },
+        (Formal::File, Some(name)) => {
+            let found = usable(name, tables.find(frame, tables.name(name)));
+            lone_file(name, file_of(tables, found))
+        }
+        _ => Lone::None,
+    }
+}
+
+fn is_congruous(tables: &Tables, heading: u32, callee: Callee) -> bool
+    ensures { result ≡ is_congruous tables.now heading callee }
+{
+    match callee {
+        Callee::Unknown => true,
+        Callee::Routine { heading: other, .. } => congruous(tables, heading, other),
+        Callee::Formal { heading: other, .. } => congruous(tables, heading, other),
+        _ => false,
+    }
+}
+
+fn routine_item(callee: Callee) -> Option<ItemRow>
+    ensures { result ≡ routine_item callee }
+{
+    match callee {
+        Callee::Routine {
+            routine,
+            levels,
+            ..
+        } => Some(ItemRow::Routine {
+            routine,
+            levels,
+            next: 0,
+        }),
+        Callee::Formal { place, levels, .. } => Some(ItemRow::RoutineFormal {
+            place,
+            levels,
+            next: 0,
+        }),
+        _ => None,
+    }
+}
+
+/// What is passed to a routine parameter.
+#[tactic(auto, using(check_steps::proofs::Runs::steps), unfolding(crate::specs::Actuals::routine_argued))]
+pub(crate) fn check_routine(work: &mut Work, name: u32, heading: u32, frame: u32) -> Argument
+    ensures { Does (routine_argued frame name heading) result work.old work.new }
+{
+    let found = work.use_at(frame, name, name);
+    let callee = callee_of(&work.tables, frame, found);
+    let fine = is_congruous(&work.tables, heading, callee);
+    work.late(29, name, fine);
+    Argument {
+        item: routine_item(callee),
+        value: unknown_at(name),
+    }
+}
+
+fn is_input(file: TextFile) -> bool
+    ensures { result ≡ is_input file }
+{
+    match file {
+        TextFile::Input => true,
+        TextFile::Output => false,
+    }
+}
+
+/// The text file of which eof and eoln ask.
+#[tactic(auto, using(check_steps::proofs::Runs::steps), unfolding(crate::specs::Actuals::file_argued))]
+pub(crate) fn check_file(work: &mut Work, name: u32, file: TextFile) -> Argument
+    ensures { Does (file_argued name file) result work.old work.new }
+{
+    work.late(32, name, is_input(file));
+    Argument {
+        item: None,
+        value: unknown_at(name),
+    }
+}
+
+/// One more actual parameter of a list, at a slot.
+#[tactic(auto, using(check_steps::proofs::Runs::steps), unfolding(crate::specs::Actuals::passed))]
+pub(crate) fn check_passed(
+    work: &mut Work,
+    passing: Passing,
+    slot: u32,
+    argument: Argument,
+) -> Passing
+    ensures { Does (passed passing slot argument) result work.old work.new }
+{
+    let last = put_item(work, passing.last, slot, argument.item);
+    let formals = formals_after(&work.tables, passing.formals);
+    Passing {
+        last,
+        formals,
+        value: argument.value,
+    }
+}
+
+/// A list of actual parameters ends at a number: what is given is the last one.
+#[tactic(auto, using(check_steps::proofs::Runs::steps), unfolding(crate::specs::Actuals::closed))]
+pub fn check_closed(work: &mut Work, passing: Passing, end: u32) -> Typed
+    ensures { Does (closed passing end) result work.old work.new }
+{
+    put_link(work, passing.last, end);
+    passing.value
+}

@@ -1,0 +1,403 @@
+//! What is called in an expression, and the function designator once its actual parameters are checked (6.6.6, 6.7.3).
+
+ghost use Rattle.std.specs.Prelude.{◌≡◌};
+ghost use Rattle.check_steps.specs.Steps.{Does};
+ghost use Rattle.expression_checker.specs.Callees.{applied, bounds_in, called, callee_in, callee_of, counted};
+ghost use Rattle.expression_checker.specs.Callees.{declared_routine, declared_type, designator_row, designator_type};
+ghost use Rattle.expression_checker.specs.Callees.{formals_of, function_at, function_row, has_formals, host_bounds};
+ghost use Rattle.expression_checker.specs.Callees.{host_type, is_function, is_required_function, names_in};
+ghost use Rattle.expression_checker.specs.Callees.{operand_of, ordinal_function, required_formals, required_row};
+ghost use Rattle.expression_checker.specs.Callees.{required_takes, required_type, takes};
+
+use check_steps::{Found, Tables, Work};
+use operand_checker::names::levels_to;
+use operand_checker::typed::{Typed, value_at};
+use program_tables::Routine;
+use program_tables::rows::{
+    BOOLEAN, CHAR, ExpressionRow, INTEGER, NameRow, OrdinalFunction, Required, Row, TypeRow,
+};
+use type_relations::headings::{Section, section_at, signature_at};
+use type_relations::shapes::shape_of;
+use type_relations::{ExpressionType, Shape};
+
+/// What a name stands for as a routine.
+#[derive(Clone, Copy)]
+pub enum Callee {
+    /// Nothing that is known.
+    Unknown,
+    /// No routine, or one of another kind than its place takes.
+    Wrong,
+    /// A routine of the program, how many links lead to the frame that declares it, and the number of its heading.
+    Routine {
+        routine: u32,
+        levels: u32,
+        heading: u32,
+    },
+    /// A routine parameter: its place, how many links lead to its frame, and the number of its heading.
+    Formal {
+        place: u32,
+        levels: u32,
+        heading: u32,
+    },
+    Required(Required),
+}
+
+/// What the next actual parameters stand for.
+#[derive(Clone, Copy)]
+pub enum Formals {
+    /// Nothing that is known: their own parts alone are checked.
+    Unknown,
+    /// The formal parameters of a section on, of which so many are passed.
+    Declared { section: u32, passed: u32 },
+    /// A text file that is read.
+    File,
+    /// The operand of a required function.
+    Operand(OrdinalFunction),
+}
+
+/// A call of which the actual parameters are not yet checked.
+#[derive(Clone, Copy)]
+pub struct Called {
+    pub callee: Callee,
+    pub formals: Formals,
+}
+
+fn declared_routine(tables: &Tables, frame: u32, number: u32, routine: Option<Routine>) -> Callee
+    ensures { result ≡ declared_routine tables.now frame number routine }
+{
+    match routine {
+        None => Callee::Unknown,
+        Some(routine) => Callee::Routine {
+            routine: number,
+            levels: levels_to(tables, frame, routine.level.saturating_sub(1)),
+            heading: routine.heading,
+        },
+    }
+}
+
+fn callee_in(tables: &Tables, frame: u32, row: Row) -> Callee
+    ensures { result ≡ callee_in tables.now frame row }
+{
+    match row {
+        Row::Name(NameRow::Routine { number }) => {
+            declared_routine(tables, frame, number, tables.program().routine(number))
+        }
+        Row::Name(
+            NameRow::RoutineFormal {
+                place,
+                level,
+                heading,
+            },
+        ) => Callee::Formal {
+            place,
+            levels: levels_to(tables, frame, level),
+            heading,
+        },
+        Row::Name(NameRow::Required { routine }) => Callee::Required(routine),
+        _ => Callee::Wrong,
+    }
+}
+
+/// What a name stands for as a routine, seen from a frame.
+pub fn callee_of(tables: &Tables, frame: u32, found: Option<Found>) -> Callee
+    ensures { result ≡ callee_of tables.now frame found }
+{
+    match found {
+        None => Callee::Unknown,
+        Some(found) => callee_in(tables, frame, tables.row(found.definition.token)),
+    }
+}
+
+fn ordinal_function(required: Required) -> Option<OrdinalFunction>
+    ensures { result ≡ ordinal_function required }
+{
+    match required {
+        Required::Abs => Some(OrdinalFunction::Abs),
+        Required::Sqr => Some(OrdinalFunction::Sqr),
+        Required::Odd => Some(OrdinalFunction::Odd),
+        Required::Ord => Some(OrdinalFunction::Ord),
+        Required::Chr => Some(OrdinalFunction::Chr),
+        Required::Succ => Some(OrdinalFunction::Succ),
+        Required::Pred => Some(OrdinalFunction::Pred),
+        _ => None,
+    }
+}
+
+fn is_required_function(required: Required) -> bool
+    ensures { result ≡ is_required_function required }
+{
+    match required {
+        Required::Eof => true,
+        Required::Eoln => true,
+        _ => ordinal_function(required).is_some(),
+    }
+}
+
+fn is_function(tables: &Tables, callee: Callee) -> bool
+    ensures { result ≡ is_function tables.now callee }
+{
+    match callee {
+        Callee::Unknown => true,
+        Callee::Wrong => false,
+        Callee::Routine { heading, .. } => signature_at(tables, heading).result.is_some(),
+        Callee::Formal { heading, .. } => signature_at(tables, heading).result.is_some(),
+        Callee::Required(required) => is_required_function(required),
+    }
+}
+
+fn names_in(section: Section) -> usize
+    ensures { result ≡ names_in section }
+{
+    match section {
+        Section::Names { count, .. } => count as usize,
+        Section::Heading(_) => 1,
+    }
+}
+
+/// Whether a list of sections has so many parameters.
+#[tactic(auto, using(crate::proofs::Sections::sections_onward))]
+pub fn has_formals(tables: &Tables, sections: u32, count: usize) -> bool
+    ensures { result ≡ has_formals tables.now sections count }
+{
+    let mut at = sections;
+    let mut left = count;
+    'sections: for _passed in 0..tables.tokens() {
+        let Some((section, next)) = section_at(tables, at) else {
+            return left == 0;
+        };
+        let names = names_in(section);
+        if names > left {
+            return false;
+        }
+        left -= names;
+        at = next;
+    }
+    false
+}
+
+fn required_takes(required: Required, count: usize) -> bool
+    ensures { result ≡ required_takes required count }
+{
+    match required {
+        Required::Eof => count <= 1,
+        Required::Eoln => count <= 1,
+        _ => count == 1,
+    }
+}
+
+fn takes(tables: &Tables, callee: Callee, count: usize) -> bool
+    ensures { result ≡ takes tables.now callee count }
+{
+    match callee {
+        Callee::Routine { heading, .. } => {
+            has_formals(tables, signature_at(tables, heading).sections, count)
+        }
+        Callee::Formal { heading, .. } => {
+            has_formals(tables, signature_at(tables, heading).sections, count)
+        }
+        Callee::Required(required) => required_takes(required, count),
+        _ => true,
+    }
+}
+
+fn operand_of(function: Option<OrdinalFunction>) -> Formals
+    ensures { result ≡ operand_of function }
+{
+    match function {
+        Some(function) => Formals::Operand(function),
+        None => Formals::Unknown,
+    }
+}
+
+fn required_formals(required: Required) -> Formals
+    ensures { result ≡ required_formals required }
+{
+    match required {
+        Required::Eof => Formals::File,
+        Required::Eoln => Formals::File,
+        _ => operand_of(ordinal_function(required)),
+    }
+}
+
+/// The formal parameters of what is called, from the first on.
+pub fn formals_of(tables: &Tables, callee: Callee) -> Formals
+    ensures { result ≡ formals_of tables.now callee }
+{
+    match callee {
+        Callee::Routine { heading, .. } => Formals::Declared {
+            section: signature_at(tables, heading).sections,
+            passed: 0,
+        },
+        Callee::Formal { heading, .. } => Formals::Declared {
+            section: signature_at(tables, heading).sections,
+            passed: 0,
+        },
+        Callee::Required(required) => required_formals(required),
+        _ => Formals::Unknown,
+    }
+}
+
+/// The function that a name stands for.
+#[tactic(auto, using(check_steps::proofs::Runs::steps), unfolding(crate::specs::Callees::function_at))]
+fn check_function(work: &mut Work, name: u32, frame: u32) -> Callee
+    ensures { Does (function_at frame name) result work.old work.new }
+{
+    let found = work.use_at(frame, name, name);
+    let callee = callee_of(&work.tables, frame, found);
+    let fine = is_function(&work.tables, callee);
+    work.late(3, name, fine);
+    if fine { callee } else { Callee::Wrong }
+}
+
+/// A call of a declared routine or of a required function with so many actual parameters, at its name. With another
+/// number than it takes these stand for nothing that is known.
+#[tactic(auto, using(check_steps::proofs::Runs::steps), unfolding(crate::specs::Callees::counted))]
+pub fn check_counted(work: &mut Work, name: u32, callee: Callee, count: usize) -> Called
+    ensures { Does (counted name callee count) result work.old work.new }
+{
+    let fine = takes(&work.tables, callee, count);
+    work.late(26, name, fine);
+    let known = formals_of(&work.tables, callee);
+    Called {
+        callee,
+        formals: if fine { known } else { Formals::Unknown },
+    }
+}
+
+/// A function designator with so many actual parameters, before these are checked.
+#[tactic(auto, using(check_steps::proofs::Runs::steps), unfolding(crate::specs::Callees::called))]
+pub(crate) fn check_called(work: &mut Work, name: u32, frame: u32, count: usize) -> Called
+    ensures { Does (called frame name count) result work.old work.new }
+{
+    let callee = check_function(work, name, frame);
+    check_counted(work, name, callee, count)
+}
+
+fn declared_type(declared: Option<u32>) -> ExpressionType
+    ensures { result ≡ declared_type declared }
+{
+    match declared {
+        Some(kind) => ExpressionType::Of(kind),
+        None => ExpressionType::Unknown,
+    }
+}
+
+fn host_type(shape: Shape) -> ExpressionType
+    ensures { result ≡ host_type shape }
+{
+    match shape {
+        Shape::Ordinal(host) => ExpressionType::Of(host),
+        _ => ExpressionType::Unknown,
+    }
+}
+
+fn required_type(required: Required, shape: Shape) -> ExpressionType
+    ensures { result ≡ required_type required shape }
+{
+    match required {
+        Required::Abs => ExpressionType::Of(INTEGER),
+        Required::Sqr => ExpressionType::Of(INTEGER),
+        Required::Odd => ExpressionType::Of(BOOLEAN),
+        Required::Ord => ExpressionType::Of(INTEGER),
+        Required::Chr => ExpressionType::Of(CHAR),
+        Required::Succ => host_type(shape),
+        Required::Pred => host_type(shape),
+        Required::Eof => ExpressionType::Of(BOOLEAN),
+        Required::Eoln => ExpressionType::Of(BOOLEAN),
+        _ => ExpressionType::Unknown,
+    }
+}
+
+fn designator_type(tables: &Tables, callee: Callee, last: Typed) -> ExpressionType
+    ensures { result ≡ designator_type tables.now callee last }
+{
+    match callee {
+        Callee::Routine { heading, .. } => declared_type(signature_at(tables, heading).result),
+        Callee::Formal { heading, .. } => declared_type(signature_at(tables, heading).result),
+        Callee::Required(required) => required_type(required, shape_of(tables, last.of)),
+        _ => ExpressionType::Unknown,
+    }
+}
+
+fn bounds_in(row: Option<TypeRow>) -> (i32, i32)
+    ensures { result ≡ bounds_in row }
+{
+    match row {
+        Some(TypeRow::Ordinal { least, greatest }) => (least, greatest),
+        _ => (0, 0),
+    }
+}
+
+fn host_bounds(tables: &Tables, shape: Shape) -> (i32, i32)
+    ensures { result ≡ host_bounds tables.now shape }
+{
+    match shape {
+        Shape::Ordinal(host) => bounds_in(tables.type_row(host)),
+        _ => (0, 0),
+    }
+}
+
+fn function_row(tables: &Tables, function: Option<OrdinalFunction>, operand: Typed) -> Row
+    ensures { result ≡ function_row tables.now function operand }
+{
+    let Some(function) = function else {
+        return Row::Nothing;
+    };
+    let (least, greatest) = host_bounds(tables, shape_of(tables, operand.of));
+    Row::Expression(ExpressionRow::Function {
+        function,
+        operand: operand.row,
+        least,
+        greatest,
+    })
+}
+
+fn required_row(tables: &Tables, required: Required, last: Typed) -> Row
+    ensures { result ≡ required_row tables.now required last }
+{
+    match required {
+        Required::Eof => Row::Expression(ExpressionRow::Eof),
+        Required::Eoln => Row::Expression(ExpressionRow::Eoln),
+        _ => function_row(tables, ordinal_function(required), last),
+    }
+}
+
+fn designator_row(tables: &Tables, callee: Callee, last: Typed, actuals: u32) -> Row
+    ensures { result ≡ designator_row tables.now callee last actuals }
+{
+    match callee {
+        Callee::Routine {
+            routine,
+            levels,
+            ..
+        } => Row::Expression(ExpressionRow::Apply {
+            routine,
+            levels,
+            actuals,
+        }),
+        Callee::Formal { place, levels, .. } => Row::Expression(ExpressionRow::ApplyFormal {
+            place,
+            levels,
+            actuals,
+        }),
+        Callee::Required(required) => required_row(tables, required, last),
+        _ => Row::Nothing,
+    }
+}
+
+/// A function designator, at its name, whose last actual parameter and whose list of them are given.
+#[tactic(auto, using(check_steps::proofs::Runs::steps), unfolding(crate::specs::Callees::applied))]
+pub(crate) fn check_applied(
+    work: &mut Work,
+    name: u32,
+    callee: Callee,
+    last: Typed,
+    actuals: u32,
+) -> Typed
+    ensures { Does (applied name callee last actuals) result work.old work.new }
+{
+    let of = designator_type(&work.tables, callee, last);
+    let row = designator_row(&work.tables, callee, last, actuals);
+    work.put(name, row);
+    value_at(name, of)
+}

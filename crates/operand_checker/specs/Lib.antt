@@ -1,0 +1,6 @@
+pub mod Typed
+pub mod Operations
+pub mod Names
+pub mod Selectors
+pub mod Items
+pub mod Members

@@ -1,0 +1,69 @@
+-- Members of set constructors, once their parts are checked (6.7.1).
+use Rattle.std.specs.Prelude.{ℕ, Bool, true, false, Option, Some, None, nat_eq, ◌&&◌, ◌||◌, if◌then◌else◌}
+use Rattle.program_tables.specs.declared.rows.ItemRow.TheVariants as item
+use Rattle.program_tables.specs.declared.rows.Row.TheVariants as row
+use Rattle.program_tables.specs.declared.rows.ExpressionRow.TheVariants as written
+use Rattle.check_steps.specs.Steps.{Step, give, ◌>>=◌, look, late, put}
+use Rattle.type_relations.specs.declared.shapes.ExpressionType.{ExpressionType}
+use Rattle.type_relations.specs.declared.shapes.ExpressionType.TheVariants as expression
+use Rattle.type_relations.specs.declared.shapes.Packing.TheVariants.{Either}
+use Rattle.type_relations.specs.declared.shapes.Shape.{Shape}
+use Rattle.type_relations.specs.declared.shapes.Shape.TheVariants as shape
+use Rattle.type_relations.specs.Operators.{is_unknown}
+use Rattle.type_relations.specs.Shapes.{shape_of}
+use Rattle.operand_checker.specs.declared.members.Begun.{Begun}
+use Rattle.operand_checker.specs.declared.members.Gathered.{Gathered}
+use Rattle.operand_checker.specs.declared.typed.Typed.{Typed}
+use Rattle.operand_checker.specs.Items.{add_item, link}
+use Rattle.operand_checker.specs.Typed.{value_at}
+
+-- ordinal, and of the host of those before
+abbrev pub is_member : Option ℕ → Shape → Bool
+is_member None (shape.Ordinal h) = true
+is_member (Some host) (shape.Ordinal h) = nat_eq host h
+is_member host s = false
+
+-- A member of unknown type breaks no further rule.
+abbrev pub fits_members : Option ℕ → Shape → Bool
+fits_members host s = is_unknown s || is_member host s
+
+-- the host of the members, with one more
+abbrev pub host_with : Option ℕ → Shape → Option ℕ
+host_with None (shape.Ordinal h) = Some h
+host_with host s = host
+
+-- before the first member
+abbrev pub nothing_gathered : ℕ → Gathered
+nothing_gathered last = record { last = last; host = None; known = true }
+
+abbrev pub gathered_with : Gathered → ℕ → Shape → Gathered
+gathered_with g last s =
+    record { last = last; host = host_with g.host s; known = g.known && is_member g.host s }
+
+-- rule 31: members of a constructor are not ordinal or not of one host, at the first token of the member
+unfoldable pub one_member : Gathered → Begun → Step Gathered
+one_member g b = do
+  s ← look (λ k. shape_of k b.value.of)
+  _ ← late 31 b.first (fits_members g.host s)
+  last ← add_item g.last b.slot (Some (item.Member b.value.row 0))
+  give (gathered_with g last s)
+
+-- the same of a range, whose last value may be the wrong one
+unfoldable pub member_range : Gathered → Begun → Typed → Step Gathered
+member_range g b v = do
+  s ← look (λ k. shape_of k b.value.of)
+  t ← look (λ k. shape_of k v.of)
+  _ ← late 31 b.first (fits_members g.host s && fits_members (host_with g.host s) t)
+  last ← add_item g.last b.slot (Some (item.Members b.value.row v.row 0))
+  give (gathered_with (gathered_with g last s) last t)
+
+-- A constructor with a member that is wrong or unknown is of unknown type.
+abbrev pub gathered_type : Gathered → ExpressionType
+gathered_type g = if g.known then expression.Set g.host Either else expression.Unknown
+
+-- a set constructor, at its closing bracket; its members are the list at the opening one
+unfoldable pub set_at : Gathered → ℕ → ℕ → Step Typed
+set_at g open' close = do
+  _ ← link g.last close
+  _ ← put close (row.Expression (written.Set open'))
+  give (value_at close (gathered_type g))

@@ -1,0 +1,57 @@
+-- Expressions by number and type, and constants as factors.
+use Rattle.std.specs.Prelude.{ℕ, Option, Some, None, length}
+use Rattle.pas_tree.specs.declared.constants.Constant.{Constant}
+use Rattle.program_tables.specs.declared.rows.Row.{Row}
+use Rattle.program_tables.specs.declared.rows.Row.TheVariants as row
+use Rattle.program_tables.specs.declared.rows.ExpressionRow.TheVariants as written
+use Rattle.program_tables.specs.ProgramRows.{text_at}
+use Rattle.check_steps.specs.Known.{Known}
+use Rattle.check_steps.specs.Steps.{Step, give, ◌>>=◌, look, put}
+use Rattle.kind_checker.specs.declared.constants.Value.{Value}
+use Rattle.kind_checker.specs.declared.constants.Value.TheVariants as value
+use Rattle.kind_checker.specs.Constants.{constant}
+use Rattle.type_relations.specs.declared.shapes.ExpressionType.{ExpressionType}
+use Rattle.type_relations.specs.declared.shapes.ExpressionType.TheVariants as expression
+use Rattle.operand_checker.specs.declared.typed.Location.TheVariants as location
+use Rattle.operand_checker.specs.declared.typed.Typed.{Typed}
+
+-- a value of a type, at a number
+abbrev pub value_at : ℕ → ExpressionType → Typed
+value_at n of' = record { row = n; of = of'; location = location.Nowhere }
+
+abbrev pub unknown_at : ℕ → Typed
+unknown_at n = value_at n expression.Unknown
+
+-- An expression in parentheses has the number of the one inside, and is no access.
+abbrev pub bracketed : Typed → Typed
+bracketed v = value_at v.row v.of
+
+-- ---- constants
+
+abbrev pub constant_row : Option Value → Row
+constant_row None = row.Nothing
+constant_row (Some (value.Ordinal of' v)) = row.Expression (written.Constant v)
+constant_row (Some (value.Text token)) = row.Expression (written.Text token)
+
+abbrev pub constant_type : Known → Option Value → ExpressionType
+constant_type k None = expression.Unknown
+constant_type k (Some (value.Ordinal of' v)) = expression.Of of'
+constant_type k (Some (value.Text token)) = expression.Text (length (text_at k.program token))
+
+-- a constant as a factor, at its only token
+unfoldable pub constant_at : ℕ → Option Value → Step Typed
+constant_at token v = do
+  of' ← look (λ k. constant_type k v)
+  _ ← put token (constant_row v)
+  give (value_at token of')
+
+-- a number or a string, which is the constant that it stands for
+unfoldable pub literal : ℕ → Constant → Step Typed
+literal token c = do
+  v ← constant 0 c
+  constant_at token v
+
+unfoldable pub nil_at : ℕ → Step Typed
+nil_at token = do
+  _ ← put token (row.Expression written.Nil)
+  give (value_at token expression.Nil)

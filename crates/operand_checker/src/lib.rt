@@ -1,0 +1,14 @@
+//! The static rules of the parts of expressions: what constants, names of variables, selectors, operators and members
+//! of set constructors are, once the parts of these are checked.
+#![tactic(auto)]
+
+pub mod items;
+pub mod members;
+pub mod names;
+pub mod operations;
+pub mod selectors;
+pub mod typed;
+
+pub use members::{Begun, Gathered};
+pub use names::Meaning;
+pub use typed::{Location, Typed};
