@@ -1,0 +1,4 @@
+pub mod Actuals
+pub mod Transfers
+pub mod Moves
+pub mod Procedures

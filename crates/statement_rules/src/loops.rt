@@ -1,0 +1,193 @@
+//! Control variables and bounds of for statements (6.8.3.9).
+
+ghost use Rattle.std.specs.Prelude.{◌≡◌};
+ghost use Rattle.check_steps.specs.Steps.{Does};
+ghost use Rattle.statement_rules.specs.Loops.{bound, control_at, control_in, control_of, control_type, controlled};
+ghost use Rattle.statement_rules.specs.Loops.{direction_of, for_row, is_own, is_variable, number_of, own_if, place_of};
+ghost use Rattle.statement_rules.specs.Loops.{turns_row};
+
+use crate::conditions::is_ordinal;
+use crate::sequences::{line_of, put_statement};
+use check_steps::{Found, Tables, Work};
+use operand_checker::Typed;
+use pas_places::direction_token;
+use pas_tree::operators::Direction as DirectionTree;
+use program_tables::rows::{Direction, Mode, NameRow, Row, StatementRow};
+use type_relations::ExpressionType;
+use type_relations::shapes::{agree, shape_of};
+
+/// What a name stands for as a control variable.
+#[derive(Clone, Copy)]
+pub enum Control {
+    /// Nothing that is known.
+    Unknown,
+    /// No variable.
+    Wrong,
+    /// A variable of the closest block's variable part: its type, and its place in the frame.
+    Own { of: u32, place: u32 },
+    /// A parameter, a variable of a block around, or a field, by its type.
+    Other { of: u32 },
+}
+
+fn own_if(own: bool, of: u32, place: u32) -> Control
+    ensures { result ≡ own_if own of place }
+{
+    if own {
+        Control::Own { of, place }
+    } else {
+        Control::Other { of }
+    }
+}
+
+fn control_in(tables: &Tables, frame: u32, row: Row) -> Control
+    ensures { result ≡ control_in tables.now frame row }
+{
+    match row {
+        Row::Name(
+            NameRow::Variable {
+                mode,
+                of,
+                place,
+                level,
+            },
+        ) => match mode {
+            Mode::Own => own_if(level == tables.frame(frame).level, of, place),
+            _ => Control::Other { of },
+        },
+        Row::Name(NameRow::Field { of, .. }) => Control::Other { of },
+        Row::Name(NameRow::Tag { of, .. }) => Control::Other { of },
+        _ => Control::Wrong,
+    }
+}
+
+fn control_of(tables: &Tables, frame: u32, found: Option<Found>) -> Control
+    ensures { result ≡ control_of tables.now frame found }
+{
+    match found {
+        None => Control::Unknown,
+        Some(found) => control_in(tables, frame, tables.row(found.definition.token)),
+    }
+}
+
+fn control_type(control: Control) -> ExpressionType
+    ensures { result ≡ control_type control }
+{
+    match control {
+        Control::Own { of, .. } => ExpressionType::Of(of),
+        Control::Other { of } => ExpressionType::Of(of),
+        _ => ExpressionType::Unknown,
+    }
+}
+
+fn is_variable(control: Control) -> bool
+    ensures { result ≡ is_variable control }
+{
+    match control {
+        Control::Wrong => false,
+        _ => true,
+    }
+}
+
+fn is_own(control: Control) -> bool
+    ensures { result ≡ is_own control }
+{
+    match control {
+        Control::Unknown => true,
+        Control::Own { .. } => true,
+        _ => false,
+    }
+}
+
+#[tactic(auto, using(check_steps::proofs::Runs::steps), unfolding(crate::specs::Loops::controlled))]
+fn check_controlled(work: &mut Work, name: u32, control: Control)
+    ensures { Does (controlled name control) tt work.old work.new }
+{
+    let ordinal = is_ordinal(shape_of(&work.tables, control_type(control)));
+    work.late(6, name, ordinal);
+    work.late(19, name, is_own(control));
+}
+
+/// The control variable of a for statement, at its name.
+#[tactic(auto, using(check_steps::proofs::Runs::steps), unfolding(crate::specs::Loops::control_at))]
+pub fn check_control(work: &mut Work, frame: u32, name: u32) -> Control
+    ensures { Does (control_at frame name) result work.old work.new }
+{
+    let found = work.use_at(frame, name, name);
+    let control = control_of(&work.tables, frame, found);
+    work.late(3, name, is_variable(control));
+    check_controlled(work, name, control);
+    control
+}
+
+/// A bound of a for statement, which begins at a first token.
+#[tactic(auto, using(check_steps::proofs::Runs::steps), unfolding(crate::specs::Loops::bound))]
+pub fn check_bound(work: &mut Work, control: Control, first: u32, value: Typed)
+    ensures { Does (bound control first value) tt work.old work.new }
+{
+    let shape = shape_of(&work.tables, control_type(control));
+    let fine = agree(shape, shape_of(&work.tables, value.of));
+    work.late(21, first, fine);
+}
+
+fn direction_of(direction: &DirectionTree) -> Direction
+    ensures { result ≡ direction_of direction.now }
+{
+    match direction {
+        DirectionTree::To(_) => Direction::Up,
+        DirectionTree::Downto(_) => Direction::Down,
+    }
+}
+
+fn place_of(control: Control) -> u32
+    ensures { result ≡ place_of control }
+{
+    match control {
+        Control::Own { place, .. } => place,
+        _ => 0,
+    }
+}
+
+fn number_of(control: Control) -> u32
+    ensures { result ≡ number_of control }
+{
+    match control {
+        Control::Own { of, .. } => of,
+        Control::Other { of } => of,
+        _ => 0,
+    }
+}
+
+/// The turns of a for statement, at `to` or `downto`: up or down to a last value, with a body.
+#[tactic(auto, using(check_steps::proofs::Runs::steps), unfolding(crate::specs::Loops::turns_row))]
+pub fn put_turns(
+    work: &mut Work,
+    direction: &DirectionTree,
+    last: u32,
+    control: Control,
+    body: u32,
+) -> u32
+    ensures { Does (turns_row direction.now last control body) result work.old work.new }
+{
+    let row = StatementRow::Turns {
+        direction: direction_of(direction),
+        last,
+        place: place_of(control),
+        of: number_of(control),
+        body,
+    };
+    put_statement(work, direction_token(direction), row)
+}
+
+/// A for statement, at its word: its first value and its turns.
+#[tactic(auto, using(check_steps::proofs::Runs::steps), unfolding(crate::specs::Loops::for_row))]
+pub fn put_for(work: &mut Work, label: Option<u32>, word: u32, initial: u32, turns: u32) -> u32
+    ensures { Does (for_row label word initial turns) result work.old work.new }
+{
+    let line = line_of(&work.tables, label, word);
+    let row = StatementRow::For {
+        line,
+        initial,
+        turns,
+    };
+    put_statement(work, word, row)
+}
