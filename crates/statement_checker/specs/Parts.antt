@@ -1,0 +1,139 @@
+-- Statements without others inside, and what statements have of expressions and accesses (6.8.2, 6.8.3).
+use Rattle.std.specs.Prelude.{ℕ, ◌+◌, Option, Some, None, nat_eq, length}
+use Rattle.std.specs.Global.{Box}
+use Rattle.pas_tree.specs.declared.expressions.Access.{Access}
+use Rattle.pas_tree.specs.declared.expressions.Expression.{Expression}
+use Rattle.pas_tree.specs.declared.statements.Assignment.{Assignment}
+use Rattle.pas_tree.specs.declared.statements.Actuals.{Actuals}
+use Rattle.pas_tree.specs.declared.statements.NextActual.{NextActual}
+use Rattle.pas_tree.specs.declared.statements.Actual.{Actual}
+use Rattle.pas_tree.specs.declared.statements.NextAccess.{NextAccess}
+use Rattle.check_steps.specs.Steps.{Step, give, ◌>>=◌, look, each}
+use Rattle.pas_places.specs.Expressions.{first_of_expression}
+use Rattle.expression_checker.specs.declared.actuals.Passing.{Passing}
+use Rattle.expression_checker.specs.declared.callees.Callee.{Callee}
+use Rattle.expression_checker.specs.declared.callees.Callee.TheVariants as callee
+use Rattle.operand_checker.specs.declared.typed.Typed.{Typed}
+use Rattle.expression_checker.specs.Actuals.{closed}
+use Rattle.expression_checker.specs.Callees.{counted}
+use Rattle.expression_checker.specs.Expressions.{access, actual, expression, passing_to}
+use Rattle.statement_rules.specs.declared.assignments.Target.{Target}
+use Rattle.statement_rules.specs.declared.assignments.Target.TheVariants as target
+use Rattle.statement_rules.specs.declared.loops.Control.{Control}
+use Rattle.statement_checker.specs.declared.parts.Opened.{Opened}
+use Rattle.statement_checker.specs.declared.parts.Selected.{Selected}
+use Rattle.statement_rules.specs.Assignments.{assigned, formal_target, result_target, target_at}
+use Rattle.statement_rules.specs.Calls.{call_row, procedure_at}
+use Rattle.statement_rules.specs.Choices.{selector}
+use Rattle.statement_rules.specs.Conditions.{condition}
+use Rattle.statement_rules.specs.Loops.{bound}
+use Rattle.statement_rules.specs.Records.{inside_record}
+use Rattle.statement_rules.specs.Sequences.{add_element, line_of}
+use Rattle.required_checker.specs.Actuals.{no_width}
+use Rattle.required_checker.specs.Procedures.{required_call}
+
+-- ---- expressions
+
+-- a condition, by its number
+unfoldable pub tested : ℕ → Expression → Step ℕ
+tested frame e = do
+  v ← expression frame e
+  _ ← condition (first_of_expression e) v
+  give v.row
+
+-- a bound of a for statement, by its number
+unfoldable pub bounded : ℕ → Control → Expression → Step ℕ
+bounded frame c e = do
+  v ← expression frame e
+  _ ← bound c (first_of_expression e) v
+  give v.row
+
+-- the selector of a case statement before the word `of`
+unfoldable pub selected : ℕ → ℕ → Expression → Step Selected
+selected frame of' e = do
+  v ← expression frame e
+  c ← selector frame of' (first_of_expression e) v
+  give (record { choosing = c; row = v.row })
+
+-- ---- assignments
+
+abbrev pub target_as : ℕ → Access → Target → Step Typed
+target_as frame a target.Access = access frame a
+target_as frame a (target.Result r) = result_target frame a.name r
+target_as frame a target.Formal = formal_target a.name
+
+-- what stands on the left: an access, or the name alone of a function
+unfoldable pub assigned_to : ℕ → Access → Step Typed
+assigned_to frame a = do
+  t ← look (λ k. target_at k frame a.name (nat_eq (length a.selectors.items) 0))
+  target_as frame a t
+
+unfoldable pub assignment : ℕ → Option ℕ → Assignment → Step ℕ
+assignment frame label a = do
+  to ← assigned_to frame a.target
+  v ← expression frame a.value
+  line ← look (λ k. line_of k label a.target.name)
+  assigned line a.becomes to v
+
+-- ---- calls
+
+-- an actual parameter of a procedure that is not required, at the parenthesis or the comma before it
+unfoldable pub passed_actual : ℕ → Passing → ℕ → Actual → Step Passing
+passed_actual frame p slot a = do
+  next ← actual frame p slot a.expression
+  _ ← no_width frame a.width
+  give next
+
+unfoldable pub next_passed : ℕ → Passing → NextActual → Step Passing
+next_passed frame p n = passed_actual frame p n.comma n.actual
+
+abbrev pub actuals_in : Actuals → ℕ
+actuals_in a = length a.others.items + 1
+
+-- a call with actual parameters, at the procedure's name: their list stands at the `(`
+unfoldable pub call_with : ℕ → ℕ → ℕ → Callee → Actuals → Step ℕ
+call_with frame line name c a = do
+  called ← counted name c (actuals_in a)
+  one ← passed_actual frame (passing_to called name) a.«open» a.first
+  all ← each (next_passed frame) one a.others.items
+  _ ← closed all a.close
+  call_row line name called.callee a.«open»
+
+-- a call without actual parameters: no item stands at the procedure's name
+unfoldable pub call_alone : ℕ → ℕ → Callee → Step ℕ
+call_alone line name c = do
+  called ← counted name c 0
+  call_row line name called.callee name
+
+abbrev pub declared_call : ℕ → ℕ → ℕ → Callee → Option (Box Actuals) → Step ℕ
+declared_call frame line name c None = call_alone line name c
+declared_call frame line name c (Some a) = call_with frame line name c a.value
+
+abbrev pub call_as : ℕ → ℕ → ℕ → Callee → Option (Box Actuals) → Step ℕ
+call_as frame line name (callee.Required r) actuals =
+    required_call r frame (record { name = name; line = line }) actuals
+call_as frame line name c actuals = declared_call frame line name c actuals
+
+-- a procedure statement
+unfoldable pub call : ℕ → Option ℕ → ℕ → Option (Box Actuals) → Step ℕ
+call frame label name actuals = do
+  c ← procedure_at frame name
+  line ← look (λ k. line_of k label name)
+  call_as frame line name c actuals
+
+-- ---- with statements
+
+-- the first record of a with statement, in the list at its word
+unfoldable pub first_record : ℕ → ℕ → Access → Step Opened
+first_record frame word a = do
+  v ← access frame a
+  inner ← inside_record frame a.name v
+  give (record { frame = inner; last = record { slot = word; item = v.row } })
+
+-- Each access is seen from inside of those before it.
+unfoldable pub next_record : Opened → NextAccess → Step Opened
+next_record o n = do
+  v ← access o.frame n.access
+  inner ← inside_record o.frame n.access.name v
+  last ← add_element o.last n.comma v.row
+  give (record { frame = inner; last = last })

@@ -1,0 +1,230 @@
+//! Statements (6.8).
+
+ghost use Rattle.std.specs.Prelude.{◌≡◌, IfOk};
+ghost use Rattle.check_steps.specs.Steps.{Does, each};
+ghost use Rattle.statement_checker.specs.Statements.{case_statement, compound, element, if_statement};
+ghost use Rattle.statement_checker.specs.Statements.{next_branch, next_statement, plain, repeat_statement, sequence};
+ghost use Rattle.statement_checker.specs.Statements.{statement};
+
+use crate::parts::{
+    check_assignment, check_bounded, check_call, check_selected, check_tested, open_first_record,
+    open_more_records,
+};
+use check_steps::Work;
+use denoter_checker::variants::{Choosing, check_choices};
+use pas_tree::statements::{
+    Case, Compound, If, NextBranch, NextStatement, Plain, Repeat, Statement, Statements,
+};
+use statement_rules::choices::put_case;
+use statement_rules::labels::{check_goto, put_labelled};
+use statement_rules::loops::{check_control, put_for, put_turns};
+use statement_rules::records::put_with;
+use statement_rules::sequences::{
+    Branching, Element, add_element, link_element, put_compound, put_empty, put_if, put_if_else,
+    put_repeat, put_while,
+};
+use std::alloc::AllocError;
+
+fn element(slot: u32, item: u32) -> Element
+    ensures { result ≡ element slot item }
+{
+    Element { slot, item }
+}
+
+/// A statement, seen from a frame: what is given is its number.
+#[cycle(statements)]
+#[tactic(auto, using(check_steps::proofs::Runs::steps))]
+fn check_statement(work: &mut Work, s: &Statement, frame: u32) -> Result<u32, AllocError>
+    ensures { IfOk result (λ n. Does (statement frame s.now.label s.now.plain) n work.old work.new) }
+{
+    match &s.label {
+        None => check_plain(work, &s.plain, frame, None),
+        Some(label) => {
+            let number = check_plain(work, &s.plain, frame, Some(label.number))?;
+            Ok(put_labelled(work, label.number, number))
+        }
+    }
+}
+
+#[cycle(statements)]
+#[tactic(auto, using(check_steps::proofs::Runs::steps))]
+fn check_plain(
+    work: &mut Work,
+    p: &Plain,
+    frame: u32,
+    label: Option<u32>,
+) -> Result<u32, AllocError>
+    ensures { IfOk result (λ n. Does (plain frame label p.now) n work.old work.new) }
+{
+    match p {
+        Plain::Empty => Ok(put_empty(work)),
+        Plain::Assignment(a) => Ok(check_assignment(work, a, frame, label)),
+        Plain::Call(name, actuals) => { Ok(check_call(work, actuals, frame, label, *name)) }
+        Plain::Goto(word, target) => Ok(check_goto(work, frame, label, *word, *target)),
+        Plain::Compound(c) => check_compound(work, c, frame),
+        Plain::If(i) => check_if(work, i, frame, label),
+        Plain::Case(c) => check_case(work, c, frame, label),
+        Plain::Repeat(r) => check_repeat(work, r, frame, label),
+        Plain::While(w) => {
+            let condition = check_tested(work, &w.condition, frame);
+            let body = check_statement(work, &w.statement, frame)?;
+            Ok(put_while(work, label, w.word, condition, body))
+        }
+        Plain::For(f) => {
+            let control = check_control(work, frame, f.name);
+            let from = check_bounded(work, &f.initial, frame, control);
+            let to = check_bounded(work, &f.last, frame, control);
+            let body = check_statement(work, &f.statement, frame)?;
+            let turns = put_turns(work, &f.direction, to, control, body);
+            Ok(put_for(work, label, f.word, from, turns))
+        }
+        Plain::With(w) => {
+            let first = open_first_record(work, &w.first, frame, w.word)?;
+            let all = open_more_records(work, &w.others, first)?;
+            link_element(work, all.last, w.do_word);
+            let body = check_statement(work, &w.statement, all.frame)?;
+            Ok(put_with(work, label, w.word, w.do_word, body))
+        }
+    }
+}
+
+/// A compound statement, seen from a frame: what is given is its number.
+#[cycle(statements)]
+#[tactic(auto, using(check_steps::proofs::Runs::steps, crate::proofs::Sequences::statement_outs))]
+pub fn check_compound(work: &mut Work, c: &Compound, frame: u32) -> Result<u32, AllocError>
+    ensures { IfOk result (λ n. Does (compound frame c.now) n work.old work.new) }
+{
+    let last = check_sequence(work, &c.statements, frame, c.begin)?;
+    link_element(work, last, c.end);
+    Ok(put_compound(work, c.begin, c.end))
+}
+
+#[cycle(statements)]
+#[tactic(auto, using(check_steps::proofs::Runs::steps, crate::proofs::Sequences::statement_outs))]
+fn check_sequence(
+    work: &mut Work,
+    s: &Statements,
+    frame: u32,
+    list: u32,
+) -> Result<Element, AllocError>
+    ensures { IfOk result (λ e. Does (sequence frame list s.now) e work.old work.new) }
+{
+    let first = check_statement(work, &s.first, frame)?;
+    check_more_statements(work, &s.others, frame, element(list, first))
+}
+
+#[cycle(statements)]
+#[tactic(auto, using(check_steps::proofs::Runs::loops))]
+fn check_more_statements(
+    work: &mut Work,
+    others: &[NextStatement],
+    frame: u32,
+    first: Element,
+) -> Result<Element, AllocError>
+    ensures { IfOk result (λ e. Does (each (next_statement frame) first others.now) e work.old work.new) }
+{
+    let mut last = first;
+    'others: for other in others {
+        last = check_next_statement(work, other, frame, last)?;
+    }
+    Ok(last)
+}
+
+#[cycle(statements)]
+#[tactic(auto, using(check_steps::proofs::Runs::steps), unfolding(crate::specs::Statements::next_statement))]
+fn check_next_statement(
+    work: &mut Work,
+    n: &NextStatement,
+    frame: u32,
+    last: Element,
+) -> Result<Element, AllocError>
+    ensures { IfOk result (λ e. Does (next_statement frame last n.now) e work.old work.new) }
+{
+    let number = check_statement(work, &n.statement, frame)?;
+    Ok(add_element(work, last, n.semicolon, number))
+}
+
+#[cycle(statements)]
+#[tactic(auto, using(check_steps::proofs::Runs::steps, crate::proofs::Sequences::statement_outs))]
+fn check_if(work: &mut Work, x: &If, frame: u32, label: Option<u32>) -> Result<u32, AllocError>
+    ensures { IfOk result (λ n. Does (if_statement frame label x.now) n work.old work.new) }
+{
+    let condition = check_tested(work, &x.condition, frame);
+    let then = check_statement(work, &x.statement, frame)?;
+    let branching = Branching {
+        label,
+        word: x.word,
+        condition,
+        then,
+    };
+    match &x.alternative {
+        None => Ok(put_if(work, branching)),
+        Some(alternative) => {
+            let otherwise = check_statement(work, &alternative.statement, frame)?;
+            Ok(put_if_else(work, branching, otherwise))
+        }
+    }
+}
+
+#[cycle(statements)]
+#[tactic(auto, using(check_steps::proofs::Runs::steps, crate::proofs::Sequences::statement_outs))]
+fn check_case(work: &mut Work, x: &Case, frame: u32, label: Option<u32>) -> Result<u32, AllocError>
+    ensures { IfOk result (λ n. Does (case_statement frame label x.now) n work.old work.new) }
+{
+    let selected = check_selected(work, &x.selector, frame, x.of);
+    let first = check_statement(work, &x.first.statement, frame)?;
+    let choosing = selected.choosing;
+    let last = check_choices(work, choosing, first, x.of, x.of, &x.first.constants);
+    check_more_branches(work, &x.others, frame, choosing, last)?;
+    Ok(put_case(work, label, x.word, selected.row, x.of))
+}
+
+#[cycle(statements)]
+#[tactic(auto, using(check_steps::proofs::Runs::loops))]
+fn check_more_branches(
+    work: &mut Work,
+    others: &[NextBranch],
+    frame: u32,
+    choosing: Choosing,
+    first: u32,
+) -> Result<u32, AllocError>
+    ensures { IfOk result (λ n. Does (each (next_branch frame choosing) first others.now) n work.old work.new) }
+{
+    let mut last = first;
+    'others: for other in others {
+        last = check_next_branch(work, other, frame, choosing, last)?;
+    }
+    Ok(last)
+}
+
+#[cycle(statements)]
+#[tactic(auto, using(check_steps::proofs::Runs::steps), unfolding(crate::specs::Statements::next_branch))]
+fn check_next_branch(
+    work: &mut Work,
+    n: &NextBranch,
+    frame: u32,
+    choosing: Choosing,
+    last: u32,
+) -> Result<u32, AllocError>
+    ensures { IfOk result (λ e. Does (next_branch frame choosing last n.now) e work.old work.new) }
+{
+    let number = check_statement(work, &n.branch.statement, frame)?;
+    let constants = &n.branch.constants;
+    Ok(check_choices(work, choosing, number, last, n.semicolon, constants))
+}
+
+#[cycle(statements)]
+#[tactic(auto, using(check_steps::proofs::Runs::steps, crate::proofs::Sequences::statement_outs))]
+fn check_repeat(
+    work: &mut Work,
+    x: &Repeat,
+    frame: u32,
+    label: Option<u32>,
+) -> Result<u32, AllocError>
+    ensures { IfOk result (λ n. Does (repeat_statement frame label x.now) n work.old work.new) }
+{
+    let last = check_sequence(work, &x.statements, frame, x.word)?;
+    link_element(work, last, x.until);
+    let condition = check_tested(work, &x.condition, frame);
+    Ok(put_repeat(work, label, x.word, x.until, condition))
+}
