@@ -1,38 +1,49 @@
 -- What an entry changes, when it is made and when it is taken back.
-use Rattle.std.proofs.Common.{◌≡◌, ℕ, zero, suc, ◌+◌, ◌-◌, ◌<◌, ◌≤◌, Bool, true, false, cond, List, [], ◌∷◌, ◌++◌, length, Option, Some, None, Result, Ok, Err}
-use Rattle.std.proofs.Common.{inl, inr, refl, sym, ap, ◌∙◌, get_or-set_same, arith}
+use Rattle.std.proofs.Common.{◌≡◌, ℕ, zero, suc, ◌+◌, ◌-◌, ◌<◌, ◌≤◌, Bool, true, false, cond, ◌||◌, List, [], ◌∷◌, ◌++◌, length, Option, Some, None, Result}
+use Rattle.std.proofs.Common.{Ok, Err, inl, inr, replicate, refl, sym, ap, ◌∙◌, get_or-set_same, arith}
 use Rattle.std.specs.Prelude.{◌==◌, nat_le, slice_get, slice_index, slice_set}
 use Rattle.std.proofs.lemmas.Bool.{cases_eq, false≢true, leb-false}
-use Rattle.std.proofs.lemmas.List.{length-map, length-set}
+use Rattle.std.proofs.lemmas.List.{get_or-replicate, length-map, length-replicate, length-set}
+use Rattle.std.proofs.lemmas.List.FromFn.{fill_by_all, length-map-range_with_len}
 use Rattle.std.proofs.lemmas.Option.{same_Some, slice_get-get_or, slice_get_within}
-use Rattle.call_tree.specs.Recording.{Recording}
+use Rattle.call_tree.specs.Recording.{Recording, routines_of}
 use Rattle.call_tree.specs.declared.records.Call.{Call}
+use Rattle.call_tree.specs.declared.records.Mark.TheVariants.{Unjudged}
 use Rattle.answer_book.specs.declared.entries.BookFault.{BookFault}
 use Rattle.answer_book.specs.declared.entries.BookFault.TheVariants as fault
 use Rattle.answer_book.specs.declared.entries.Entry.{Entry}
 use Rattle.answer_book.specs.declared.entries.Judgement.{Judgement}
+use Rattle.answer_book.specs.declared.entries.Judgement.TheVariants.{Wrong}
 use Rattle.answer_book.specs.declared.entries.What.{What}
 use Rattle.answer_book.specs.declared.entries.What.TheVariants.{Judged, Trusted}
 use Rattle.answer_book.specs.Accused.{accused_of, is_wrong}
-use Rattle.answer_book.specs.Answers.{Answers, judge_answer, next_number, number_or_fault, take_back_answer, take_back_last_answer, with_answer, without_answer}
-use Rattle.answer_book.specs.Entries.{entries_with, entries_without, entry_at, entry_saying, is_standing, is_standing_entry, last_standing, standing_answers}
-use Rattle.answer_book.specs.Entries.{with_taken_back}
+use Rattle.answer_book.specs.Answers.{Answers, judge_answer, new_book, next_number, number_or_fault, take_back_answer, take_back_last_answer}
+use Rattle.answer_book.specs.Answers.{with_answer, without_answer}
+use Rattle.answer_book.specs.Entries.{entries_with, entries_without, entry_at, entry_saying, first_entries, is_standing, is_standing_entry, last_standing}
+use Rattle.answer_book.specs.Entries.{standing_answers, with_taken_back}
 use Rattle.answer_book.specs.InRange.{IsInRange}
-use Rattle.answer_book.specs.Marks.{is_trusted, last_judgement, mark_given, mark_of}
-use Rattle.answer_book.proofs.EntryLemmas.{answers_with, on_another}
+use Rattle.answer_book.specs.Marks.{is_trusted, last_judgement, mark_given, mark_of, marks_of}
+use Rattle.answer_book.proofs.EntryLemmas.{answers_with, in_another, last_with_other, on_another, trusted_with}
 use Rattle.answer_book.proofs.KeptLemmas.{column_set}
 use Rattle.answer_book.proofs.LastWhere.{last_where_is}
 use Rattle.answer_book.proofs.WithdrawnLemmas.{entry_is_withdrawn, same_judgement, same_trust}
-use Rattle.optimal_query.specs.Changed.{ChangesOne, WereMarks}
+use Rattle.optimal_query.specs.Changed.{ChangesCallsOf, ChangesOne, WereMarks}
 use Rattle.optimal_query.specs.DebugKept.{AreKept}
-use Rattle.optimal_query.proofs.OneMoreAnswer.{accused_is_last, old_mark}
-use Rattle.subtree_weights.specs.RunColumns.{Columns}
-use Rattle.subtree_weights.specs.Weighed.{Weighed, calls_in}
+use Rattle.optimal_query.proofs.OneMoreAnswer.{accused_is_last, at_mark, old_mark}
+use Rattle.optimal_query.proofs.PassingNumbers.{or_false}
+use Rattle.subtree_weights.specs.RunColumns.{Columns, columns_of}
+use Rattle.subtree_weights.specs.Searched.{mark_at}
+use Rattle.subtree_weights.specs.Weighed.{Weighed, calls_in, unjudged}
+
+-- the columns of calls are of one length
+pub one_length : (calls : List Call) {routine : List ℕ} {columns : Columns} → routines_of calls ≡ routine → columns_of calls ≡ columns
+    → length routine ≡ length columns.last
+one_length calls routines columns =
+    sym (ap length routines) ∙ length-map calls (λ (call : Call). call.routine) ∙ sym (length-map calls (λ (call : Call). call.last))
+    ∙ ap (λ (k : Columns). length k.last) columns
 
 pub kept_length : (run : Recording) (book : Answers) (weighed : Weighed) → AreKept run book weighed → length book.routine ≡ calls_in weighed
-kept_length run book weighed kept =
-    sym (ap length kept.routines) ∙ length-map run.calls (λ (call : Call). call.routine) ∙ sym (length-map run.calls (λ (call : Call). call.last))
-    ∙ ap (λ (k : Columns). length k.last) kept.columns
+kept_length run book weighed kept = one_length run.calls kept.routines kept.columns
 
 -- the accused is a call
 pub accused_known : (run : Recording) (book : Answers) (weighed : Weighed) → AreKept run book weighed → (call : ℕ)
@@ -70,11 +81,47 @@ unfolding mark_of
 same_mark routine one other call judged trusted =
     ap (λ o. mark_given o (is_trusted one (slice_index routine call))) judged ∙ ap (mark_given (last_judgement other call)) trusted
 
--- and so when it is taken back
+-- answers that differ in the trust in one routine alone
+record TrustAlone (old new : List What) (routine : ℕ) : Type 0 where
+  judged : (call : ℕ) → last_judgement old call ≡ last_judgement new call
+  trusted : (other : ℕ) → (other ≡ routine → ⊥) → is_trusted old other ≡ is_trusted new other
+
+-- the marks of the calls of all other routines stay
+changes_calls : (run : Recording) (book : Answers) (weighed : Weighed) (after : List Entry) (routine : ℕ) → AreKept run book weighed
+    → TrustAlone (standing_answers book.entries) (standing_answers after) routine
+    → ChangesCallsOf (record book { entries = after }) weighed.marks routine
+changes_calls run book weighed after routine kept alone =
+    let old = standing_answers book.entries in
+    record {
+      each = ap length kept.marks ∙ length-map-range_with_len (mark_of book.routine old) 0 (length book.routine);
+      others_stay = λ call inside other. ap (λ m. mark_at m call) kept.marks ∙ at_mark book.routine old call inside
+          ∙ same_mark book.routine old (standing_answers after) call (alone.judged call) (alone.trusted (slice_index book.routine call) other);
+    }
+
+-- trust in a routine changes the marks of its calls alone
+pub were_trusted : (run : Recording) (book : Answers) (weighed : Weighed) (routine : ℕ) → AreKept run book weighed
+    → ChangesCallsOf (with_answer book (Trusted routine)) weighed.marks routine
+were_trusted run book weighed routine kept =
+    let old = standing_answers book.entries in
+    changes_calls run book weighed (entries_with book.entries (Trusted routine)) routine kept
+    (record {
+      judged = λ call. sym (last_with_other book.entries (Trusted routine) call refl);
+      trusted = λ other differs. sym (trusted_with book.entries (Trusted routine) other
+          ∙ ap (λ b. is_trusted old other || b) (in_another routine other differs) ∙ or_false (is_trusted old other));
+    })
+
+-- and so when an entry is taken back
 pub were_withdrawn : (run : Recording) (book : Answers) (weighed : Weighed) (number : ℕ) (what : What) → AreKept run book weighed
     → entry_at book.entries number ≡ Some (entry_saying what) → IsInRange (length book.routine) book.routines what
     → WereMarks (without_answer book number) weighed.marks what
-were_withdrawn run book weighed number (Trusted routine) kept at named = tt
+were_withdrawn run book weighed number (Trusted routine) kept at named =
+    let after = entries_without book.entries number in
+    let w = entry_is_withdrawn book.entries number (Trusted routine) at in
+    changes_calls run book weighed after routine kept
+    (record {
+      judged = λ call. sym (same_judgement book.entries after (number - 1) (Trusted routine) call w refl);
+      trusted = λ other differs. sym (same_trust book.entries after (number - 1) (Trusted routine) other w (in_another routine other differs));
+    })
 were_withdrawn run book weighed number (Judged call judgement) kept at named =
     let old = standing_answers book.entries in
     let after = entries_without book.entries number in
@@ -88,6 +135,24 @@ were_withdrawn run book weighed number (Judged call judgement) kept at named =
           (λ other h differs. same_mark book.routine new old other
           (same_judgement book.entries after (number - 1) what other w (on_another call other judgement differs))
           (same_trust book.entries after (number - 1) what (slice_index book.routine other) w refl));
+    }
+
+none_said : (routine : List ℕ) (n : ℕ) → n ≡ length routine → replicate n Unjudged ≡ marks_of routine []
+unfolding mark_of
+none_said routine n long = fill_by_all (mark_of routine []) (replicate n Unjudged) (length routine) Unjudged (length-replicate n Unjudged ∙ long)
+    (λ k inside. get_or-replicate n k Unjudged Unjudged (omega arith))
+
+-- the first entry of a book changes the mark of the first call alone
+pub were_unjudged : (run : Recording) → 0 < length run.calls → ChangesOne (new_book run) (unjudged run.calls).marks 0
+were_unjudged run some =
+    let routine = routines_of run.calls in
+    let long : length run.calls ≡ length routine = sym (length-map run.calls (λ (call : Call). call.routine)) in
+    let new = mark_of routine (standing_answers first_entries) in
+    record {
+      a_call = omega (arith, long);
+      others_stay = ap (λ m. slice_set m 0 (new 0)) (none_said routine (length run.calls) long)
+          ∙ column_set (mark_of routine []) new (length routine) 0 (new 0) (omega (arith, long)) refl
+          (λ other h differs. old_mark routine [] 0 Wrong other differs);
     }
 
 at_case : (b : Bool) (o : Option Entry) (entry : Entry) → cond b None o ≡ Some entry → (b ≡ false) × (o ≡ Some entry)

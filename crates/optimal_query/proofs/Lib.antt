@@ -10,7 +10,7 @@ mod BestOfRuns
 mod QuestionFound
 mod NextDoubt
 mod WeightsTell
-mod Filled
+mod CallsOfRoutine
 mod Changes
 mod WhatStands
 mod StandUnlessTakenBack

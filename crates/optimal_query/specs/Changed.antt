@@ -1,13 +1,16 @@
 -- What an entry changes, and what its change costs.
-use Rattle.std.specs.Prelude.{◌≡◌, ℕ, ◌+◌, ◌*◌, ◌<◌, List, Option, Some, None, length, slice_index, slice_set}
+use Rattle.std.specs.Prelude.{◌≡◌, ◌≢◌, ℕ, ◌+◌, ◌*◌, ◌<◌, ◌==◌, if◌then◌else◌, List, Option, Some, None, length, sum_by}
+use Rattle.std.specs.Prelude.{slice_index, slice_set}
 use Rattle.answer_book.specs.declared.entries.Entry.{Entry}
 use Rattle.answer_book.specs.declared.entries.What.{What}
 use Rattle.answer_book.specs.declared.entries.What.TheVariants.{Judged, Trusted}
 use Rattle.answer_book.specs.Answers.{Answers}
 use Rattle.answer_book.specs.Entries.{standing_answers}
 use Rattle.answer_book.specs.Marks.{mark_of, marks_of}
+use Rattle.answer_book.specs.Numbers.{numbers_below}
 use Rattle.call_tree.specs.declared.records.Mark.{Mark}
 use Rattle.optimal_query.specs.Search.{Search}
+use Rattle.subtree_weights.specs.Searched.{mark_at}
 
 -- a judgement changes no mark but that of its call
 pub record ChangesOne (book : Answers) (marks : List Mark) (call : ℕ) : Type 0 where
@@ -15,10 +18,25 @@ pub record ChangesOne (book : Answers) (marks : List Mark) (call : ℕ) : Type 0
   pub others_stay : slice_set marks call (mark_of book.routine (standing_answers book.entries) call)
       ≡ marks_of book.routine (standing_answers book.entries)
 
--- these were the marks before an entry that says this was made or taken back; trust may change any
+-- and trust no mark but those of the calls of its routine
+pub record ChangesCallsOf (book : Answers) (marks : List Mark) (routine : ℕ) : Type 0 where
+  pub each : length marks ≡ length book.routine
+  pub others_stay : (call : ℕ) → call < length book.routine → slice_index book.routine call ≢ routine
+      → mark_at marks call ≡ mark_of book.routine (standing_answers book.entries) call
+
+-- these were the marks before an entry that says this was made or taken back
 abbrev pub WereMarks : Answers → List Mark → What → Type 0
 WereMarks book marks (Judged call judgement) = ChangesOne book marks call
-WereMarks book marks (Trusted routine) = Unit {0}
+WereMarks book marks (Trusted routine) = ChangesCallsOf book marks routine
+
+-- a call of the routine counts with the calls above it, of which there are as many as it is deep; any other call
+-- counts nothing
+abbrev pub way_up : List ℕ → List ℕ → ℕ → ℕ → ℕ
+way_up depth routine wanted call = if slice_index routine call == wanted then slice_index depth call + 1 else 0
+
+-- how much the calls of the routine count among the first so many calls
+unfoldable pub ways_up : List ℕ → List ℕ → ℕ → ℕ → ℕ
+ways_up depth routine wanted calls = sum_by (way_up depth routine wanted) (numbers_below calls)
 
 -- the most steps that a change by such an entry costs
 abbrev pub most_steps : List ℕ → What → ℕ

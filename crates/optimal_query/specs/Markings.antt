@@ -1,4 +1,5 @@
--- How the marks of a search are kept: with the weights of the calls, and with a flag for each that nothing is said of.
+-- How the marks of a search are kept: with the weights of the calls, a flag for each that nothing is said of, and the
+-- depths.
 use Rattle.std.specs.Prelude.{◌≡◌, ℕ, List, Option, Some, None, length, map}
 use Rattle.call_tree.specs.declared.records.Mark.{Mark}
 use Rattle.call_tree.specs.declared.records.Mark.TheVariants.{Unjudged}
@@ -12,14 +13,16 @@ abbrev pub askable_flag : Mark → ℕ
 askable_flag Unjudged = 1
 askable_flag _ = 0
 
--- the marks are those that the weights are of, one for each call, and the flags are theirs
-pub record AreMarkings (weighed : Weighed) (marks : List Mark) (askable : List ℕ) : Type 0 where
+-- the marks are those that the weights are of, one for each call, the flags are theirs, and the depths are those of the
+-- calls
+pub record AreMarkings (weighed : Weighed) (marks : List Mark) (askable depths : List ℕ) : Type 0 where
   pub same : marks ≡ weighed.marks
   pub flagged : askable ≡ map askable_flag weighed.marks
   pub each : length weighed.marks ≡ calls_in weighed
+  pub deep : depths ≡ weighed.columns.depth
 
 abbrev pub AreKeptMarkings : Inside → Type 0
-AreKeptMarkings kept = AreMarkings kept.weights kept.marks.items kept.askable.items
+AreKeptMarkings kept = AreMarkings kept.weights kept.marks.items kept.askable.items kept.depths.items
 
 -- the verdict, by the accused and the first doubt
 abbrev pub verdict_from : Option ℕ → Option ℕ → State

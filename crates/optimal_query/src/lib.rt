@@ -7,6 +7,7 @@ mod markings;
 pub mod plain;
 mod plain_debug;
 mod region;
+mod routine_calls;
 mod runs;
 mod search;
 mod state;

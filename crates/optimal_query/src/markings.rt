@@ -1,9 +1,10 @@
 //! The marks of the calls, with their weights.
-ghost use Rattle.std.specs.Prelude.{◌≡◌, ◌+◌, ◌*◌, ◌<◌, ◌≤◌, ◌^◌, [], IfOk, length, map, slice_index};
+ghost use Rattle.std.specs.Prelude.{◌≡◌, ◌+◌, ◌*◌, ◌<◌, ◌≤◌, [], IfOk, length, map, slice_index};
 ghost use Rattle.std.specs.Option.{ForSome};
 ghost use Rattle.answer_book.specs.Entries.{standing_answers};
 ghost use Rattle.answer_book.specs.Marks.{marks_of};
-ghost use Rattle.call_tree.specs.Recording.{routines_of};
+ghost use Rattle.call_tree.specs.Recording.{depths_of, routines_of};
+ghost use Rattle.optimal_query.specs.Changed.{ChangesCallsOf, ways_up};
 ghost use Rattle.optimal_query.specs.Markings.{askable_flag, verdict_from};
 ghost use Rattle.optimal_query.specs.Region.{doubts_of, next_after};
 ghost use Rattle.optimal_query.specs.State.{state_with};
@@ -12,6 +13,7 @@ ghost use Rattle.subtree_weights.specs.Weighed.{calls_in, unjudged, with_mark, w
 ghost use Rattle.subtree_weights.specs.Weights.{suspects_below};
 
 use crate::region::{end, next_doubt, start};
+use crate::routine_calls::{are_few, next_call};
 use crate::runs::best_of_runs;
 use crate::state::State;
 use answer_book::Book;
@@ -22,15 +24,16 @@ use std::marker::Model;
 use subtree_weights::Weights;
 use subtree_weights::laws::weights_count_suspects;
 
-/// The mark of each call, and beside it the weights and a flag for each call that nothing is said
-/// of. Clauses see the columns of the calls and the marks.
+/// The mark of each call, and beside it the weights, a flag for each call that nothing is said of,
+/// and the depths. Clauses see the columns of the calls and the marks.
 ///
-/// A step is one visit of these columns at one call.
+/// A step is one visit of the columns of weights and marks at one call.
 #[derive(Drop)]
 pub(crate) struct Markings {
     weights: Weights,
     marks: Vec<Mark>,
     askable: Vec<u8>,
+    depths: Vec<u32>,
 }
 
 impl Model for Markings {
@@ -55,27 +58,42 @@ fn flag(mark: Mark) -> u8
     }
 }
 
-/// Looks up the mark of each call in the book.
+/// The depth of each call.
+fn depth_column(alloc: Global, calls: &Calls) -> Result<Vec<u32>, Memory>
+    ensures { IfOk result (λ column. column.items ≡ depths_of calls.now.calls) }
+{
+    let mut column = Vec::with_capacity(alloc, calls.len() as usize)?;
+    for call in 0..calls.len() {
+        column.push(calls.call(call).depth)?;
+    }
+    Ok(column)
+}
+
+/// Looks up the marks of the calls of a routine in the book, with a step for each of them.
 fn look_up<L>(
     calls: &Calls,
     book: &Book,
+    routine: u32,
     marks: &mut [Mark],
     askable: &mut [u8],
     steps: &mut Steps<L>,
 )
     requires those_calls { routines_of calls.now.calls ≡ book.now.routine }
-    requires each { length marks.old ≡ length book.now.routine }
-    requires flags { length askable.old ≡ length book.now.routine }
+    requires were { ChangesCallsOf book.now marks.old routine }
+    requires flags { askable.old ≡ map askable_flag marks.old }
     requires few { length calls.now.calls ≤ 500000 }
     ensures marks { marks.new ≡ marks_of book.now.routine (standing_answers book.now.entries) }
     ensures askable { askable.new ≡ map askable_flag marks.new }
-    ensures cost { steps.new ≡ steps.old + length book.now.routine }
+    ensures not_fallen { steps.old ≤ steps.new }
+    ensures cost { steps.new ≤ steps.old + length book.now.routine }
 {
-    for call in 0..marks.len() {
-        let mark = book.mark(calls, call as u32);
-        marks[call] = mark;
-        askable[call] = flag(mark);
+    let mut from = 0;
+    'calls: while let Some(place) = next_call(calls, from, routine) {
+        let mark = book.mark(calls, place as u32);
+        marks[place] = mark;
+        askable[place] = flag(mark);
         steps.tick();
+        from = place + 1;
     }
 }
 
@@ -101,10 +119,12 @@ impl Markings {
         let weights = Weights::new(alloc, calls)?;
         let marks = vec![in alloc; Mark::Unjudged; calls.len() as usize]?;
         let askable = vec![in alloc; 1; calls.len() as usize]?;
+        let depths = depth_column(alloc, calls)?;
         Ok(Markings {
             weights,
             marks,
             askable,
+            depths,
         })
     }
 
@@ -123,19 +143,72 @@ impl Markings {
         self.askable[place] = flag(mark);
     }
 
-    /// Takes all marks from the book anew.
-    pub fn refresh<L>(&mut self, calls: &Calls, book: &Book, steps: &mut Steps<L>)
+    /// Looks up the marks of the calls of a routine in the book, and carries each change up.
+    fn set_each<L>(&mut self, calls: &Calls, book: &Book, routine: u32, steps: &mut Steps<L>)
+        requires those_calls { columns_of calls.now.calls ≡ self.old.columns }
+        requires the_book { routines_of calls.now.calls ≡ book.now.routine }
+        requires few { length calls.now.calls ≤ 500000 }
+        requires were { ChangesCallsOf book.now self.old.marks routine }
+        ensures looked_up { self.new ≡ with_marks self.old
+            (marks_of book.now.routine (standing_answers book.now.entries)) }
+        ensures not_fallen { steps.old ≤ steps.new }
+        ensures cost { steps.new ≤ steps.old
+            + ways_up self.old.columns.depth book.now.routine routine (length book.now.routine) }
+    {
+        let mut from = 0;
+        'calls: while let Some(place) = next_call(calls, from, routine) {
+            let call = place as u32;
+            let mark = book.mark(calls, call);
+            self.set(calls, call, mark, steps);
+            from = place + 1;
+        }
+    }
+
+    /// Looks up the marks of the calls of a routine in the book, and counts the weights anew.
+    fn set_all<L>(&mut self, calls: &Calls, book: &Book, routine: u32, steps: &mut Steps<L>)
+        requires those_calls { columns_of calls.now.calls ≡ self.old.columns }
+        requires the_book { routines_of calls.now.calls ≡ book.now.routine }
+        requires few { length calls.now.calls ≤ 500000 }
+        requires were { ChangesCallsOf book.now self.old.marks routine }
+        ensures looked_up { self.new ≡ with_marks self.old
+            (marks_of book.now.routine (standing_answers book.now.entries)) }
+        ensures not_fallen { steps.old ≤ steps.new }
+        ensures cost { steps.new ≤ steps.old + 4 * calls_in self.old }
+    {
+        look_up(
+            calls,
+            book,
+            routine,
+            &mut self.marks,
+            &mut self.askable,
+            steps,
+        );
+        self.weights.recount(calls, &self.marks, steps);
+    }
+
+    /// Looks up the marks of the calls of a routine in the book, where those of all other calls stay.
+    pub fn look_up_calls_of<L>(
+        &mut self,
+        calls: &Calls,
+        book: &Book,
+        routine: u32,
+        steps: &mut Steps<L>,
+    )
         requires those_calls { columns_of calls.now.calls ≡ self.old.columns }
         requires the_book { routines_of calls.now.calls ≡ book.now.routine }
         requires all_left { calls.now.open_calls ≡ [] }
-        ensures refreshed { self.new ≡ with_marks self.old
+        requires were { ChangesCallsOf book.now self.old.marks routine }
+        ensures looked_up { self.new ≡ with_marks self.old
             (marks_of book.now.routine (standing_answers book.now.entries)) }
         ensures not_fallen { steps.old ≤ steps.new }
         ensures cost { steps.new ≤ steps.old + 4 * calls_in self.old }
     {
         calls.are_numbered();
-        look_up(calls, book, &mut self.marks, &mut self.askable, steps);
-        self.weights.recount(calls, &self.marks, steps);
+        if are_few(calls, &self.depths, routine) {
+            self.set_each(calls, book, routine, steps);
+        } else {
+            self.set_all(calls, book, routine, steps);
+        }
     }
 
     /// How many suspects there are.

@@ -59,7 +59,7 @@ fn follow<L>(calls: &Calls, book: &Book, markings: &mut Markings, what: What, st
             let mark = book.mark(calls, call);
             markings.set(calls, call, mark, steps);
         }
-        What::Trusted(_) => markings.refresh(calls, book, steps),
+        What::Trusted(routine) => markings.look_up_calls_of(calls, book, routine, steps),
     }
 }
 
@@ -74,7 +74,8 @@ impl<'a> Debug<'a> {
         let book = Book::new(alloc, calls)?;
         let mut markings = Markings::new(alloc, calls)?;
         let mut steps: Steps<()> = Steps::new();
-        markings.refresh(calls, &book, &mut steps);
+        let first = What::Judged(0, Judgement::Wrong);
+        follow(calls, &book, &mut markings, first, &mut steps);
         Ok(Debug {
             calls,
             book,

@@ -1,39 +1,30 @@
-use Rattle.std.proofs.Common.{ℕ, ◌<◌, ◌≤◌, length, map, sym, ap, ◌∙◌, arith}
-use Rattle.call_tree.specs.declared.records.Mark.{Mark}
-use Rattle.call_tree.specs.declared.records.Mark.TheVariants.{Unjudged}
-use Rattle.answer_book.specs.Entries.{standing_answers}
-use Rattle.answer_book.specs.Marks.{mark_of}
-use Rattle.answer_book.specs.Numbers.{numbers_below}
+use Rattle.std.proofs.Common.{map, set, sym, ap, ◌∙◌, arith}
+use Rattle.std.proofs.lemmas.List.{map-set}
 use Rattle.optimal_query.specs.Markings.{askable_flag}
-use Rattle.optimal_query.proofs.Filled.{filled_all, filled_more, map_twice}
+use Rattle.optimal_query.proofs.CallsOfRoutine.{up_to_all, up_to_next, up_to_none}
 use Rattle.optimal_query.proofs.markings.look_up.Goals as goal
 
-pub loop-call-preserved : goal.loop-call-preserved
-loop-call-preserved g c =
-    let book = c.args.book.now in
-    let mark : ℕ → Mark = mark_of book.routine (standing_answers book.entries) in
-    let inside : c.loop-call.call < length book.routine = omega (arith, c.loop-call.invariant.marks.long) in
+pub calls-init : goal.calls-init
+calls-init g c = record {
+  up_to = up_to_none c.requires.were;
+  flagged = c.requires.flags;
+  not_fallen = omega arith;
+  cost = omega arith;
+  within = omega arith;
+}
+
+pub calls-preserved : goal.calls-preserved
+calls-preserved g c =
+    let next = rw c.requires.those_calls at c.in-Some.ensures in
     record {
-      marks = filled_more mark (length book.routine) c.loop-call.call c.loop-call.marks Unjudged c.mark-mark.result inside c.mark-mark.ensures
-          c.loop-call.invariant.marks;
-      askable = filled_more (λ call. askable_flag (mark call)) (length book.routine) c.loop-call.call c.loop-call.askable 0 c.flag.result inside
-          (c.flag.ensures ∙ ap askable_flag c.mark-mark.ensures) c.loop-call.invariant.askable;
-      cost = omega (arith, c.loop-call.invariant.cost);
+      up_to = up_to_next c.in-Some.place c.mark-mark.result c.calls.invariant.up_to next c.mark-mark.ensures;
+      flagged = ap (λ l. set l c.in-Some.place c.flag.result) c.calls.invariant.flagged
+          ∙ ap (set (map askable_flag c.calls.marks) c.in-Some.place) c.flag.ensures
+          ∙ sym (map-set askable_flag c.calls.marks c.in-Some.place c.mark-mark.result);
+      not_fallen = omega (arith, c.calls.invariant.not_fallen, c.tick.ensures);
+      cost = omega (arith, c.calls.invariant.cost, c.tick.ensures, next.at_least);
+      within = omega (arith, next.holds.inside);
     }
 
 pub returns-clause-marks : goal.returns-clause-marks
-returns-clause-marks g c =
-    let book = c.args.book.now in
-    let mark : ℕ → Mark = mark_of book.routine (standing_answers book.entries) in
-    filled_all mark (length book.routine) c.loop-call.call c.loop-call.marks Unjudged (omega (arith, c.loop-call.invariant.marks.long))
-    c.loop-call.invariant.marks
-
-pub returns-clause-askable : goal.returns-clause-askable
-returns-clause-askable g c =
-    let book = c.args.book.now in
-    let n = length book.routine in
-    let mark : ℕ → Mark = mark_of book.routine (standing_answers book.entries) in
-    let over : n ≤ c.loop-call.call = omega (arith, c.loop-call.invariant.marks.long) in
-    filled_all (λ call. askable_flag (mark call)) n c.loop-call.call c.loop-call.askable 0 over c.loop-call.invariant.askable
-    ∙ map_twice mark askable_flag (numbers_below n)
-    ∙ sym (ap (map askable_flag) (filled_all mark n c.loop-call.call c.loop-call.marks Unjudged over c.loop-call.invariant.marks))
+returns-clause-marks g c = up_to_all c.calls.invariant.up_to (rw c.requires.those_calls at c.in_default.ensures)

@@ -1,14 +1,16 @@
-use Rattle.std.proofs.Common.{◌≡◌, ◌+◌, length}
-use Rattle.call_tree.specs.declared.records.Mark.TheVariants.{Unjudged}
-use Rattle.answer_book.specs.Entries.{standing_answers}
-use Rattle.answer_book.specs.Marks.{mark_of}
+use Rattle.std.proofs.Common.{◌≡◌, ◌+◌, ◌-◌, ◌≤◌, length, map}
 use Rattle.optimal_query.specs.Markings.{askable_flag}
-use Rattle.optimal_query.proofs.Filled.{IsFilled}
+use Rattle.optimal_query.proofs.CallsOfRoutine.{AreUpTo}
 use Rattle.optimal_query.proofs.markings.look_up.Given as goal
 
-abbrev pub invariant-loop-call : goal.invariant-loop-call
-invariant-loop-call g l = record {
-  marks : IsFilled (mark_of l.book.routine (standing_answers l.book.entries)) (length l.book.routine) l.call l.marks Unjudged;
-  askable : IsFilled (λ call. askable_flag (mark_of l.book.routine (standing_answers l.book.entries) call)) (length l.book.routine) l.call l.askable 0;
-  cost : l.steps ≡ l.fn.steps + l.call;
+abbrev pub invariant-calls : goal.invariant-calls
+invariant-calls g l = record {
+  up_to : AreUpTo l.book l.marks l.routine l.from;
+  flagged : l.askable ≡ map askable_flag l.marks;
+  not_fallen : l.initial.steps ≤ l.steps;
+  cost : l.steps ≤ l.initial.steps + l.from;
+  within : l.from ≤ length l.book.routine;
 }
+
+abbrev pub decreases-calls : goal.decreases-calls
+decreases-calls g l = length l.book.routine - l.from

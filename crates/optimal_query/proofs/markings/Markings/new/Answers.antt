@@ -1,9 +1,14 @@
-use Rattle.std.proofs.Common.{◌≡◌, replicate, length, sym, ap, ◌∙◌, rules}
+use Rattle.std.proofs.Common.{◌≡◌, ℕ, zero, suc, ◌∷◌, replicate, length, refl, sym, ap, ◌∙◌, rules}
+use Rattle.std.specs.Prelude.{map}
 use Rattle.std.proofs.lemmas.List.{length-map, length-replicate}
 use Rattle.call_tree.specs.declared.records.Call.{Call}
 use Rattle.call_tree.specs.declared.records.Mark.TheVariants.{Unjudged}
-use Rattle.optimal_query.proofs.Filled.{unjudged_flags}
+use Rattle.optimal_query.specs.Markings.{askable_flag}
 use Rattle.optimal_query.proofs.markings.Markings.new.Goals as goal
+
+unjudged_flags : (n : ℕ) → map askable_flag (replicate n Unjudged) ≡ replicate n 1
+unjudged_flags zero = refl
+unjudged_flags (suc n) = ap (λ l. 1 ∷ l) (unjudged_flags n)
 
 pub invariant_of-result : goal.invariant_of-result
 invariant_of-result c =
@@ -15,4 +20,5 @@ invariant_of-result c =
       same = marks ∙ ap (λ k. replicate k Unjudged) c.len.ensures;
       flagged = flags ∙ ap (λ k. replicate k 1) c.len-2.ensures ∙ sym (unjudged_flags n);
       each = length-replicate n Unjudged ∙ sym (length-map c.args.calls.now.calls (λ (call : Call). call.last));
+      deep = c.in_ok-depths.ensures;
     })

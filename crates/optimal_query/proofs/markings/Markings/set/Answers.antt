@@ -15,4 +15,5 @@ invariant_of-self g c =
       flagged = ap (λ l. slice_set l call c.flag.result) c.self.invariant.flagged ∙ ap (slice_set (map askable_flag marks) call) c.flag.ensures
           ∙ sym (map-set askable_flag marks call mark);
       each = length-set marks call mark ∙ c.self.invariant.each;
+      deep = c.self.invariant.deep;
     })
