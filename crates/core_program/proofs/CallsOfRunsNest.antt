@@ -29,8 +29,8 @@ use Rattle.std.proofs.Common.{
 use Rattle.std.proofs.lemmas.List.{map-append, length-map}
 use Rattle.cell_value.specs.declared.values.Value.{Value}
 use Rattle.cell_value.specs.declared.entries.Touch.{Touch}
-use Rattle.core_program.specs.declared.tables.Routine.{Routine}
-use Rattle.core_program.specs.ProgramTables.{ProgramTables}
+use Rattle.core_program.specs.declared.tables.SmallRoutine.{SmallRoutine}
+use Rattle.core_program.specs.SmallTables.{SmallTables}
 use Rattle.core_program.specs.State.{State, Done, Went, Stops, perform, stack_end}
 use Rattle.core_program.specs.Tree.{Out, Part, Tree, Ret, Halt, Do, Sub, Enter}
 use Rattle.core_program.specs.Statements.{block_of}
@@ -52,7 +52,7 @@ use Rattle.core_program.specs.Run.{
   recorded,
   after_all,
   in_frame,
-  with_routine,
+  on_routine,
   call_of,
   plain,
   run_of,
@@ -99,7 +99,7 @@ good_joined : (x : Outcome) (k : Out → State → Outcome) → Good x → ((out
 good_joined None k g h = good_none
 good_joined (Some r) k g h = good_end r.end r k (g.good r refl) h
 
-good_done : {A : Type 0} (p : ProgramTables) (σ : State) (d : Done A) (go : A → State → Outcome) → ((x : A) (τ : State) → Good (go x τ))
+good_done : {A : Type 0} (p : SmallTables) (σ : State) (d : Done A) (go : A → State → Outcome) → ((x : A) (τ : State) → Good (go x τ))
     → Good (on_done (plain p) σ d go)
 good_done p σ (Went x w τ) go h = good_front w [] _ forest_none (h x τ)
 good_done p σ (Stops why τ) go h = good_ends (Halted why) τ
@@ -116,23 +116,23 @@ good_if : (b : Bool) (x y : Outcome) → Good x → Good y → Good (if b then x
 good_if true x y g h = g
 good_if false x y g h = h
 
-good_frame : (go : Tree → State → Outcome) → ((t : Tree) (σ : State) → Good (go t σ)) → (f : ℕ) (r : Routine) (args : List Value) (σ : State)
+good_frame : (go : Tree → State → Outcome) → ((t : Tree) (σ : State) → Good (go t σ)) → (f : ℕ) (r : SmallRoutine) (args : List Value) (σ : State)
     → Good (in_frame go f r args σ)
 good_frame go h f r args σ =
     good_if (nat_lt stack_end (σ.top + r.cells)) _ _ (good_ends _ σ)
     (good_if (nat_lt σ.steps r.cells) _ _ (good_ends _ (spent σ))
     (good_after (without_frame σ.top r.cells) _ (h (whole f σ.top) (with_frame r.cells (link_of (block_of f)) args σ))))
 
-good_routine : (o : Option Routine) (go : Routine → Outcome) (σ : State) → ((r : Routine) → Good (go r)) → Good (with_routine o go σ)
+good_routine : (o : Option SmallRoutine) (go : SmallRoutine → Outcome) (σ : State) → ((r : SmallRoutine) → Good (go r)) → Good (on_routine o go σ)
 good_routine None go σ h = good_ends _ σ
 good_routine (Some r) go σ h = h r
 
-good_call : (p : ProgramTables) (go : Tree → State → Outcome) → ((t : Tree) (σ : State) → Good (go t σ)) → (f : ℕ) (args : List Value) (σ : State)
+good_call : (p : SmallTables) (go : Tree → State → Outcome) → ((t : Tree) (σ : State) → Good (go t σ)) → (f : ℕ) (args : List Value) (σ : State)
     → Good (call_of p go f args σ)
 good_call p go h f args σ = good_recorded f args σ _ (good_after (closed σ.depth) _
     (good_routine (slice_get p.routines f) _ (opened σ) (λ r. good_frame go h f r args (opened σ))))
 
-good_walk : (p : ProgramTables) (sub : Part → State → Outcome) (call : ℕ → List Value → State → Outcome) → ((part : Part) (σ : State) → Good (sub part σ))
+good_walk : (p : SmallTables) (sub : Part → State → Outcome) (call : ℕ → List Value → State → Outcome) → ((part : Part) (σ : State) → Good (sub part σ))
     → ((f : ℕ) (args : List Value) (σ : State) → Good (call f args σ))
     → (t : Tree) (σ : State) → Good (walk (plain p) sub call t σ)
 good_walk p sub call hs hc (Ret out) σ = good_ends _ σ
@@ -141,11 +141,11 @@ good_walk p sub call hs hc (Do act next) σ = good_done p σ (perform act σ) _ 
 good_walk p sub call hs hc (Sub part next) σ = good_joined (sub part σ) _ (hs part σ) (λ out τ. good_walk p sub call hs hc (next out) τ)
 good_walk p sub call hs hc (Enter f args next) σ = good_joined (call f args σ) _ (hc f args σ) (λ out τ. good_walk p sub call hs hc (next out) τ)
 
-good_run : (p : ProgramTables) (n : ℕ) (t : Tree) (σ : State) → Good (run_of p n t σ)
+good_run : (p : SmallTables) (n : ℕ) (t : Tree) (σ : State) → Good (run_of p n t σ)
 good_run p zero t σ = good_none
 good_run p (suc n) t σ = good_walk p _ _ (λ part τ. good_run p n (layer p part) τ) (λ f args τ. good_call p (run_of p n) (good_run p n) f args τ) t σ
 
-pub forest_of : (p : ProgramTables) (budget : ℕ) (r : Result State Call) → run p budget ≡ Some r → Forest (belows r.events)
+pub forest_of : (p : SmallTables) (budget : ℕ) (r : Result State Call) → run p budget ≡ Some r → Forest (belows r.events)
 forest_of p budget r e = (good_run p (2 * budget + 3) (Enter 0 [] Ret) (start budget)).good r e
 
 -- all calls are in the first one
@@ -166,8 +166,8 @@ root_front (Some q) σ r e = go q.end e
     go (Ended out) h = subst (λ s. Rooted (belows s.events)) (some_same _ r h) root-nil
     go (Halted why) h = subst (λ s. Rooted (belows s.events)) (some_same _ r h) root
 
-root_run : (p : ProgramTables) (n m : ℕ) (σ : State) (r : Result State Call) → n ≡ suc m → run_of p n (Enter 0 [] Ret) σ ≡ Some r → Rooted (belows r.events)
+root_run : (p : SmallTables) (n m : ℕ) (σ : State) (r : Result State Call) → n ≡ suc m → run_of p n (Enter 0 [] Ret) σ ≡ Some r → Rooted (belows r.events)
 root_run p n m σ r e h = root_front _ σ r (subst (λ k. run_of p k (Enter 0 [] Ret) σ ≡ Some r) e h)
 
-pub rooted : (p : ProgramTables) (budget : ℕ) (r : Result State Call) → run p budget ≡ Some r → Rooted (belows r.events)
+pub rooted : (p : SmallTables) (budget : ℕ) (r : Result State Call) → run p budget ≡ Some r → Rooted (belows r.events)
 rooted p budget r h = root_run p (2 * budget + 3) (2 * budget + 2) (start budget) r (omega arith) h

@@ -28,13 +28,13 @@ use Rattle.cell_value.specs.declared.values.Value.{Value}
 use Rattle.cell_value.specs.declared.entries.Touch.{Touch}
 use Rattle.cell_value.specs.declared.ways_out.Which.{Which}
 use Rattle.cell_value.specs.declared.ways_out.Which.TheVariants.{Stack}
-use Rattle.core_program.specs.declared.tables.Row.{Row}
-use Rattle.core_program.specs.declared.tables.Routine.{Routine}
+use Rattle.core_program.specs.declared.tables.SmallRow.{SmallRow}
+use Rattle.core_program.specs.declared.tables.SmallRoutine.{SmallRoutine}
 use Rattle.core_program.specs.declared.tables.Block.{Block}
 use Rattle.core_program.specs.declared.tables.Statement.{Statement}
 use Rattle.core_program.specs.declared.tables.Statement.TheVariants.{Assign, Call}
 use Rattle.core_program.specs.declared.machine.Trouble.TheVariants.{OutOfSteps, Limited, NoRow}
-use Rattle.core_program.specs.ProgramTables.{ProgramTables}
+use Rattle.core_program.specs.SmallTables.{SmallTables}
 use Rattle.core_program.specs.State.{
   State,
   Act,
@@ -70,7 +70,7 @@ use Rattle.core_program.specs.Run.{
   recorded,
   after_all,
   in_frame,
-  with_routine,
+  on_routine,
   call_of,
   plain,
   run_of,
@@ -141,7 +141,7 @@ ends_joined s x g h k = go h.result.end refl
 ends_after : (s : ℕ) (change : State → State) → ((τ : State) → (change τ).steps ≡ τ.steps) → (x : Outcome) → Ends s x → Ends s (after_all change x)
 ends_after s change keeps x h = record { result = _; is = ap (after_all change) h.is; falls = let f = h.falls in let k = keeps h.result.after in omega arith }
 
-module _ (p : ProgramTables) where
+module _ (p : SmallTables) where
   ends_act : (n : ℕ) (act : Act) (next : Answer act → Tree) (σ : State) → ((x : Answer act) (τ : State) → τ.steps + cost act ≤ σ.steps
       → Ends τ.steps (run_of p (suc n) (next x) τ)) → Ends σ.steps (run_of p (suc n) (Do act next) σ)
   ends_act n act next σ h = go (perform act σ) (acted act σ)
@@ -165,12 +165,12 @@ module _ (p : ProgramTables) where
   part_paid : (n : ℕ) → Enough (suc n) → (part : Part) (σ : State) → 2 * σ.steps + 1 ≤ suc n → Ends σ.steps (run_of p (suc n) (layer p part) σ)
   part_paid n h (Exec row b base) σ k = go (slice_get p.rows row)
     where
-      go : (o : Option Row) → Ends σ.steps (run_of p (suc n) (or_no_row (of_row p b base) o) σ)
+      go : (o : Option SmallRow) → Ends σ.steps (run_of p (suc n) (or_no_row (of_row p b base) o) σ)
       go None = ends_now σ.steps (Halted NoRow) σ (omega arith)
       go (Some r) = row_paid n h r.line b base r.statement σ k
   part_paid n h (Body f base) σ k = go (slice_get p.routines f)
     where
-      go : (o : Option Routine) → Ends σ.steps (run_of p (suc n) (or_no_row (of_body (block_of f) base) o) σ)
+      go : (o : Option SmallRoutine) → Ends σ.steps (run_of p (suc n) (or_no_row (of_body (block_of f) base) o) σ)
       go None = ends_now σ.steps (Halted NoRow) σ (omega arith)
       go (Some r) = paid n h _ σ k
 
@@ -180,13 +180,13 @@ module _ (p : ProgramTables) where
 
   call_ends : (run : Tree → State → Outcome) (f : ℕ) (args : List Value) (σ : State)
       → ((base : ℕ) (τ : State) → τ.steps ≤ σ.steps → Ends τ.steps (run (whole f base) τ)) → Ends σ.steps (call_of p run f args σ)
-  call_ends run f args σ h = rec (after_all (closed σ.depth) (with_routine (slice_get p.routines f) (λ r. in_frame run f r args (opened σ)) (opened σ)))
+  call_ends run f args σ h = rec (after_all (closed σ.depth) (on_routine (slice_get p.routines f) (λ r. in_frame run f r args (opened σ)) (opened σ)))
       (ends_after σ.steps (closed σ.depth) (λ τ. refl) _ (found (slice_get p.routines f)))
     where
       rec : (x : Outcome) → Ends σ.steps x → Ends σ.steps (recorded f args σ x)
       rec x y = record { result = _; is = ap (recorded f args σ) y.is; falls = y.falls }
 
-      frame : (r : Routine) (a b : Bool) → Ends σ.steps (if a then ends (Halted (Limited Stack)) (opened σ) else if b then ends (Halted OutOfSteps)
+      frame : (r : SmallRoutine) (a b : Bool) → Ends σ.steps (if a then ends (Halted (Limited Stack)) (opened σ) else if b then ends (Halted OutOfSteps)
           (spent (opened σ)) else after_all (without_frame (opened σ).top r.cells)
           (run (whole f (opened σ).top) (with_frame r.cells (link_of (block_of f)) args (opened σ))))
       frame r true b = ends_now σ.steps _ (opened σ) (omega arith)
@@ -194,7 +194,7 @@ module _ (p : ProgramTables) where
       frame r false false = ends_after σ.steps (without_frame (opened σ).top r.cells) (λ τ. refl) _
           (ends_less σ.steps _ _ (omega arith) (h (opened σ).top (with_frame r.cells (link_of (block_of f)) args (opened σ)) (omega arith)))
 
-      found : (o : Option Routine) → Ends σ.steps (with_routine o (λ r. in_frame run f r args (opened σ)) (opened σ))
+      found : (o : Option SmallRoutine) → Ends σ.steps (on_routine o (λ r. in_frame run f r args (opened σ)) (opened σ))
       found None = ends_now σ.steps (Halted NoRow) (opened σ) (omega arith)
       found (Some r) = frame r (nat_lt stack_end ((opened σ).top + r.cells)) (nat_lt (opened σ).steps r.cells)
 

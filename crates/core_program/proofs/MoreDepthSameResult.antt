@@ -25,8 +25,8 @@ use Rattle.std.proofs.Common.{
 }
 use Rattle.cell_value.specs.declared.values.Value.{Value}
 use Rattle.cell_value.specs.declared.entries.Touch.{Touch}
-use Rattle.core_program.specs.declared.tables.Routine.{Routine}
-use Rattle.core_program.specs.ProgramTables.{ProgramTables}
+use Rattle.core_program.specs.declared.tables.SmallRoutine.{SmallRoutine}
+use Rattle.core_program.specs.SmallTables.{SmallTables}
 use Rattle.core_program.specs.State.{State, Done, Went, Stops, perform, stack_end}
 use Rattle.core_program.specs.Tree.{Out, Part, Tree, Ret, Halt, Do, Sub, Enter}
 use Rattle.core_program.specs.Statements.{block_of}
@@ -46,7 +46,7 @@ use Rattle.core_program.specs.Run.{
   recorded,
   after_all,
   in_frame,
-  with_routine,
+  on_routine,
   call_of,
   plain,
   within,
@@ -113,19 +113,20 @@ if_less : (t : Bool) (a b c d : Outcome) → Less a c → Less b d → Less (if 
 if_less true a b c d h k = h
 if_less false a b c d h k = k
 
-frame_less : (run run' : Tree → State → Outcome) → ((t : Tree) (σ : State) → Less (run t σ) (run' t σ)) → (f : ℕ) (r : Routine) (args : List Value) (σ : State)
+frame_less : (run run' : Tree → State → Outcome) → ((t : Tree) (σ : State) → Less (run t σ) (run' t σ))
+    → (f : ℕ) (r : SmallRoutine) (args : List Value) (σ : State)
     → Less (in_frame run f r args σ) (in_frame run' f r args σ)
 frame_less run run' h f r args σ =
     if_less (nat_lt stack_end (σ.top + r.cells)) _ _ _ _ (less_same _)
     (if_less (nat_lt σ.steps r.cells) _ _ _ _ (less_same _)
     (after_less (without_frame σ.top r.cells) _ _ (h (whole f σ.top) (with_frame r.cells (link_of (block_of f)) args σ))))
 
-routine_less : (o : Option Routine) (go go' : Routine → Outcome) (σ : State) → ((r : Routine) → Less (go r) (go' r))
-    → Less (with_routine o go σ) (with_routine o go' σ)
+routine_less : (o : Option SmallRoutine) (go go' : SmallRoutine → Outcome) (σ : State) → ((r : SmallRoutine) → Less (go r) (go' r))
+    → Less (on_routine o go σ) (on_routine o go' σ)
 routine_less None go go' σ h = less_same _
 routine_less (Some r) go go' σ h = h r
 
-pub call_less : (p : ProgramTables) (run run' : Tree → State → Outcome) → ((t : Tree) (σ : State) → Less (run t σ) (run' t σ))
+pub call_less : (p : SmallTables) (run run' : Tree → State → Outcome) → ((t : Tree) (σ : State) → Less (run t σ) (run' t σ))
     → (f : ℕ) (args : List Value) (σ : State) → Less (call_of p run f args σ) (call_of p run' f args σ)
 call_less p run run' h f args σ =
     recorded_less f args σ _ _ (after_less (closed σ.depth) _ _ (routine_less (slice_get p.routines f) _ _ (opened σ)
@@ -136,25 +137,25 @@ pub record Grows {S E : Type 0} (rules : Rules S E) : Type 0 where
   pub call : (run run' : Tree → S → Option (Result S E)) → ((t : Tree) (σ : S) → Less (run t σ) (run' t σ)) → (f : ℕ) (args : List Value) (σ : S)
       → Less (rules.call run f args σ) (rules.call run' f args σ)
 
-pub plain_grows : (p : ProgramTables) → Grows (plain p)
+pub plain_grows : (p : SmallTables) → Grows (plain p)
 plain_grows p = record { call = call_less p }
 
 -- one level more
-pub run_less : {S E : Type 0} (rules : Rules S E) → Grows rules → (p : ProgramTables) (n : ℕ) (t : Tree) (σ : S)
+pub run_less : {S E : Type 0} (rules : Rules S E) → Grows rules → (p : SmallTables) (n : ℕ) (t : Tree) (σ : S)
     → Less (within rules p n t σ) (within rules p (suc n) t σ)
 run_less rules g p zero t σ = less_none _
 run_less rules g p (suc n) t σ = walk_less rules _ _ _ _ (λ part τ. run_less rules g p n (layer p part) τ)
     (λ f args τ. g.call (within rules p n) (within rules p (suc n)) (run_less rules g p n) f args τ) t σ
 
 -- so many levels more
-pub more_fuel : (p : ProgramTables) (n m : ℕ) (t : Tree) (σ : State) (r : Result State _) → run_of p n t σ ≡ Some r → run_of p (n + m) t σ ≡ Some r
+pub more_fuel : (p : SmallTables) (n m : ℕ) (t : Tree) (σ : State) (r : Result State _) → run_of p n t σ ≡ Some r → run_of p (n + m) t σ ≡ Some r
 more_fuel p n zero t σ r e = subst (λ k. run_of p k t σ ≡ Some r) (let q : n ≡ n + zero = omega arith in q) e
 more_fuel p n (suc m) t σ r e =
     subst (λ k. run_of p k t σ ≡ Some r) (let q : suc (n + m) ≡ n + suc m = omega arith in q)
     ((run_less (plain p) (plain_grows p) p (n + m) t σ).gives r (more_fuel p n m t σ r e))
 
 -- two depths that both give a result give the same
-pub same_result : (p : ProgramTables) (n m : ℕ) (t : Tree) (σ : State) (r s : Result State _) → run_of p n t σ ≡ Some r → run_of p m t σ ≡ Some s → r ≡ s
+pub same_result : (p : SmallTables) (n m : ℕ) (t : Tree) (σ : State) (r s : Result State _) → run_of p n t σ ≡ Some r → run_of p m t σ ≡ Some s → r ≡ s
 same_result p n m t σ r s e f =
     let a : run_of p (n + m) t σ ≡ Some r = more_fuel p n m t σ r e in
     let b : run_of p (n + m) t σ ≡ Some s = subst (λ k. run_of p k t σ ≡ Some s) (let q : m + n ≡ n + m = omega arith in q) (more_fuel p m n t σ s f) in

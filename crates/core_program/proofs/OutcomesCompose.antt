@@ -3,11 +3,11 @@ use Rattle.std.proofs.Common.{◌≡◌, ℕ, suc, ◌+◌, List, [], ◌++◌, 
 use Rattle.cell_value.specs.declared.entries.Touch.{Touch}
 use Rattle.core_program.specs.declared.machine.Trouble.{Trouble}
 use Rattle.core_program.specs.declared.machine.Trouble.TheVariants.{NoRow}
-use Rattle.core_program.specs.declared.tables.Row.{Row}
+use Rattle.core_program.specs.declared.tables.SmallRow.{SmallRow}
 use Rattle.core_program.specs.declared.tables.Block.{Block}
 use Rattle.core_program.specs.declared.tables.Statement.{Statement}
 use Rattle.core_program.specs.declared.tables.Statement.TheVariants.{Assign, Call as CallOf}
-use Rattle.core_program.specs.ProgramTables.{ProgramTables}
+use Rattle.core_program.specs.SmallTables.{SmallTables}
 use Rattle.core_program.specs.State.{State, Done, Went, Stops, perform}
 use Rattle.core_program.specs.Actions.{Action, Give, Fail, Perform, Performed, Finished, Stopped, before, follow, performs}
 use Rattle.core_program.specs.Statements.{statement_action}
@@ -56,7 +56,7 @@ pub less_is : {A : Type 0} (a b : Option A) → a ≡ b → Less a b
 less_is a b e = record { gives = λ r f. sym e ∙ f }
 
 -- two levels more
-pub run_more : (p : ProgramTables) (n : ℕ) (t : Tree) (σ : State) → Less (run_of p n t σ) (run_of p (suc (suc n)) t σ)
+pub run_more : (p : SmallTables) (n : ℕ) (t : Tree) (σ : State) → Less (run_of p n t σ) (run_of p (suc (suc n)) t σ)
 run_more p n t σ = less_then _ _ _ (run_less (plain p) (plain_grows p) p n t σ) (run_less (plain p) (plain_grows p) p (suc n) t σ)
 
 -- what follows a performed action
@@ -68,19 +68,19 @@ after_before : {A : Type 0} (go : A → State → Outcome) (w : List Touch) (d :
 after_before go w (Finished x v σ) = front_twice w v [] [] (go x σ)
 after_before go w (Stopped why v σ) = front_twice w v [] [] (ends (Halted why) σ)
 
-after_act : {A B : Type 0} (p : ProgramTables) (σ : State) (d : Done B) (f : B → State → Outcome) (g : B → State → Performed A) (go : A → State → Outcome)
+after_act : {A B : Type 0} (p : SmallTables) (σ : State) (d : Done B) (f : B → State → Outcome) (g : B → State → Performed A) (go : A → State → Outcome)
     → ((x : B) (τ : State) → f x τ ≡ run_after go (g x τ)) → on_done (plain p) σ d f ≡ run_after go (follow d g)
 after_act p σ (Went x w τ) f g go e = ap (in_front w []) (e x τ) ∙ after_before go w (g x τ)
 after_act p σ (Stops why τ) f g go e = refl
 
 -- an action in a tree: it is performed, and then the tree goes on, or the run stops
-pub run_doing : {A : Type 0} (p : ProgramTables) (n : ℕ) (a : Action A) (k : A → Tree) (σ : State)
+pub run_doing : {A : Type 0} (p : SmallTables) (n : ℕ) (a : Action A) (k : A → Tree) (σ : State)
     → run_of p (suc n) (doing a k) σ ≡ run_after (λ x τ. run_of p (suc n) (k x) τ) (performs a σ)
 run_doing p n (Give x) k σ = sym (front_nothing (run_of p (suc n) (k x) σ))
 run_doing p n (Fail why) k σ = refl
 run_doing p n (Perform act next) k σ = after_act p σ (perform act σ) _ _ (λ x τ. run_of p (suc n) (k x) τ) (λ x τ. run_doing p n (next x) k τ)
 
-module _ (p : ProgramTables) (n : ℕ) (b : Block) (base row k : ℕ) where
+module _ (p : SmallTables) (n : ℕ) (b : Block) (base row k : ℕ) where
   abbrev rest : Tree
   rest = in_order b base (row + 1) k
 
@@ -88,7 +88,7 @@ module _ (p : ProgramTables) (n : ℕ) (b : Block) (base row k : ℕ) where
   later out τ = run_of p (suc (suc n)) (on_normal rest out) τ
 
   -- the statement at the head of others
-  head : (r : Row) (σ : State) → slice_get p.rows row ≡ Some r
+  head : (r : SmallRow) (σ : State) → slice_get p.rows row ≡ Some r
       → run_of p (suc (suc n)) (in_order b base row (suc k)) σ ≡ joined (run_after (λ _ τ. run_of p (suc n) (afterwards r.statement) τ)
       (performs (statement_action p r.line b base r.statement) σ)) later
   head r σ e = ap (λ x. joined x later) (ap (λ o. run_of p (suc n) (or_no_row (of_row p b base) o) σ) e
@@ -102,7 +102,7 @@ module _ (p : ProgramTables) (n : ℕ) (b : Block) (base row k : ℕ) where
       (less_is _ _ (ap (λ x. joined x later) (sym (joined_ends (call_of p (run_of p n) routine [] τ)))))
 
   -- a statement that does what it does itself
-  pub statement_goes : (r : Row) (σ τ : State) (w : List Touch) → slice_get p.rows row ≡ Some r
+  pub statement_goes : (r : SmallRow) (σ τ : State) (w : List Touch) → slice_get p.rows row ≡ Some r
       → performs (statement_action p r.line b base r.statement) σ ≡ Finished tt w τ
       → Less (in_front w [] (left_at p n rest (stage_of r.statement) τ)) (run_of p (suc (suc n)) (in_order b base row (suc k)) σ)
   statement_goes r σ τ w e d =
@@ -112,7 +112,7 @@ module _ (p : ProgramTables) (n : ℕ) (b : Block) (base row k : ℕ) where
       ∙ front_joined w [] (run_of p (suc n) (afterwards r.statement) τ) later)))
 
   -- a statement that stops the run
-  pub statement_stops : (r : Row) (σ τ : State) (why : Trouble) (w : List Touch) → slice_get p.rows row ≡ Some r
+  pub statement_stops : (r : SmallRow) (σ τ : State) (why : Trouble) (w : List Touch) → slice_get p.rows row ≡ Some r
       → performs (statement_action p r.line b base r.statement) σ ≡ Stopped why w τ
       → run_of p (suc (suc n)) (in_order b base row (suc k)) σ ≡ in_front w [] (ends (Halted why) τ)
   statement_stops r σ τ why w e d = head r σ e ∙ ap (λ x. joined (run_after (λ _ υ. run_of p (suc n) (afterwards r.statement) υ) x) later) d

@@ -34,7 +34,7 @@ use Rattle.std.proofs.lemmas.List.{get_or-append-add, map-append, length-map}
 use Rattle.core_program.specs.declared.calls.CallRow.{CallRow}
 use Rattle.core_program.specs.Run.{Call}
 use Rattle.core_program.specs.Numbering.{greatest, count, belows, is_below, parent_of, each_from, numbered}
-use Rattle.core_program.specs.Tower.{Inside, parent_at, row_at, rows_at}
+use Rattle.core_program.specs.Tower.{Inside, parent_at, call_row_at, rows_at}
 
 -- tests that say the same
 pub same_test : (a b c d : ℕ) → (a ≤ b → c ≤ d) → (b < a → d < c) → leb a b ≡ leb c d
@@ -139,7 +139,7 @@ belows_append : (es fs : List Call) → belows (es ++ fs) ≡ belows es ++ below
 belows_append es fs = map-append (λ c. c.below) es fs
 
 module _ (number : ℕ) (outer : Option ℕ) (depth : ℕ) where
-  left_row : (bs cs : List ℕ) (i : ℕ) (c : Call) → i < length bs → row_at number outer depth (bs ++ cs) i c ≡ row_at number outer depth bs i c
+  left_row : (bs cs : List ℕ) (i : ℕ) (c : Call) → i < length bs → call_row_at number outer depth (bs ++ cs) i c ≡ call_row_at number outer depth bs i c
   left_row bs cs i c h =
       row_is c _ _ _ _ _ _
       (ap (parent_at number outer) (greatest_same _ _ i (λ j k. test j (omega arith))))
@@ -149,8 +149,8 @@ module _ (number : ℕ) (outer : Option ℕ) (depth : ℕ) where
       test : (j : ℕ) → j < length bs → is_below (bs ++ cs) i j ≡ is_below bs i j
       test j k = ap (λ g. nat_le i (j + g)) (get_or-append bs cs 0 j k)
 
-  right_row : (bs cs : List ℕ) → Inside bs → (i : ℕ) (c : Call) → row_at number outer depth (bs ++ cs) (length bs + i) c
-      ≡ row_at (number + length bs) outer depth cs i c
+  right_row : (bs cs : List ℕ) → Inside bs → (i : ℕ) (c : Call) → call_row_at number outer depth (bs ++ cs) (length bs + i) c
+      ≡ call_row_at (number + length bs) outer depth cs i c
   right_row bs cs h i c =
       row_is c _ _ _ _ _ _
       (greatest_moved _ _ number (length bs) i outer below above (length bs + i) refl)
@@ -170,16 +170,16 @@ module _ (number : ℕ) (outer : Option ℕ) (depth : ℕ) where
   pub rows_append : (es fs : List Call) → Inside (belows es) → rows_at number outer depth (es ++ fs)
       ≡ rows_at number outer depth es ++ rows_at (number + length es) outer depth fs
   rows_append es fs h =
-      ap (λ bs. each_from (row_at number outer depth bs) 0 (es ++ fs)) (belows_append es fs)
+      ap (λ bs. each_from (call_row_at number outer depth bs) 0 (es ++ fs)) (belows_append es fs)
       ∙ each_append _ 0 es fs (length (belows es)) (let x = length-map es (λ c. c.below) in omega (arith, x))
-      ∙ (λ i. each_same (row_at number outer depth (belows es ++ belows fs)) (row_at number outer depth (belows es)) 0 es
+      ∙ (λ i. each_same (call_row_at number outer depth (belows es ++ belows fs)) (call_row_at number outer depth (belows es)) 0 es
       (λ j c a b. left_row (belows es) (belows fs) j c (let x = length-map es (λ c. c.below) in omega (arith, x))) i
-      ++ each_moved (row_at number outer depth (belows es ++ belows fs)) (row_at (number + length (belows es)) outer depth (belows fs)) (length (belows es))
-      (length (belows es)) 0 fs (omega arith) (λ j c a b. right_row (belows es) (belows fs) h j c) i)
+      ++ each_moved (call_row_at number outer depth (belows es ++ belows fs)) (call_row_at (number + length (belows es)) outer depth (belows fs))
+      (length (belows es)) (length (belows es)) 0 fs (omega arith) (λ j c a b. right_row (belows es) (belows fs) h j c) i)
       ∙ ap (λ n. rows_at number outer depth es ++ rows_at (number + n) outer depth fs) (length-map es (λ c. c.below))
 
   next_row : (b : ℕ) (bs : List ℕ) → b ≡ length bs → (i : ℕ) (c : Call) → i < length bs
-      → row_at number outer depth (b ∷ bs) (suc i) c ≡ row_at (suc number) (Some number) (depth + 1) bs i c
+      → call_row_at number outer depth (b ∷ bs) (suc i) c ≡ call_row_at (suc number) (Some number) (depth + 1) bs i c
   next_row b bs e i c h =
       row_is c _ _ _ _ _ _
       (greatest_first (is_below (b ∷ bs) (suc i)) (is_below bs i) number i outer first next)
@@ -198,7 +198,7 @@ module _ (number : ℕ) (outer : Option ℕ) (depth : ℕ) where
       ∷ rows_at (suc number) (Some number) (depth + 1) es
   rows_call c es e =
       λ i. row_is c (parent_at number outer None) outer (depth + 0) depth (number + (0 + c.below)) (number + length es) refl (omega arith) (omega arith) i
-      ∷ each_next (row_at number outer depth (c.below ∷ belows es)) (row_at (suc number) (Some number) (depth + 1) (belows es)) 0 es
+      ∷ each_next (call_row_at number outer depth (c.below ∷ belows es)) (call_row_at (suc number) (Some number) (depth + 1) (belows es)) 0 es
       (λ j d a b. next_row c.below (belows es) (e ∙ sym (length-map es (λ c. c.below))) j d (let x = length-map es (λ c. c.below) in omega (arith, x))) i
 
 -- the rows of a whole run

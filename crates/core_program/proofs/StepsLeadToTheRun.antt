@@ -37,12 +37,12 @@ use Rattle.cell_value.specs.declared.values.Value.{Value}
 use Rattle.cell_value.specs.declared.ways_out.Which.{Which}
 use Rattle.cell_value.specs.declared.entries.Touch.{Touch}
 use Rattle.cell_value.specs.declared.entries.Touch.TheVariants.{Read, Write}
-use Rattle.core_program.specs.declared.tables.Row.{Row}
+use Rattle.core_program.specs.declared.tables.SmallRow.{SmallRow}
 use Rattle.core_program.specs.declared.machine.Trouble.TheVariants.{NoRow}
 use Rattle.core_program.specs.declared.machine.Trouble.{Trouble}
 use Rattle.core_program.specs.declared.calls.CallRow.{CallRow}
 use Rattle.core_program.specs.declared.open_call.OpenCall.{OpenCall}
-use Rattle.core_program.specs.ProgramTables.{ProgramTables}
+use Rattle.core_program.specs.SmallTables.{SmallTables}
 use Rattle.core_program.specs.State.{
   State,
   Act,
@@ -107,7 +107,7 @@ use Rattle.core_program.specs.Tower.{
   Calls,
   left_at,
   Leads,
-  row_at,
+  call_row_at,
   rows_at,
   height,
   outer_of,
@@ -150,28 +150,28 @@ done_own (Push under l own) w es rest = refl
 called_less : (l : Level) (x y : Outcome) → Less x y → Less (called l x) (called l y)
 called_less l x y h = recorded_less l.routine [] l.entry _ _ (after_less (closed l.entry.depth) _ _ (after_less (without_frame l.entry.top l.cells) _ _ h))
 
-followed_less : (p : ProgramTables) (n : ℕ) (rest : Tree) (x y : Outcome) → Less x y → Less (followed p n rest x) (followed p (suc n) rest y)
+followed_less : (p : SmallTables) (n : ℕ) (rest : Tree) (x y : Outcome) → Less x y → Less (followed p n rest x) (followed p (suc n) rest y)
 followed_less p n rest x y h = joined_less _ _ _ _ h (λ out τ. run_less (plain p) (plain_grows p) p n (on_normal rest out) τ)
 
-whole_less : (p : ProgramTables) (n : ℕ) (ls : Levels) (x y : Outcome) → Less x y → Less (whole_from p n ls x) (whole_from p (suc n) ls y)
+whole_less : (p : SmallTables) (n : ℕ) (ls : Levels) (x y : Outcome) → Less x y → Less (whole_from p n ls x) (whole_from p (suc n) ls y)
 whole_less p n (Bottom own) x y h = in_front_less own.log own.events _ _ h
 whole_less p n (Push under l own) x y h =
     whole_less p n under _ _ (followed_less p n (own_of under).rest _ _ (called_less l _ _ (in_front_less own.log own.events _ _ h)))
 
-whole_more : (p : ProgramTables) (n : ℕ) (ls : Levels) (x y : Outcome) → Less x y → Less (whole_from p n ls x) (whole_from p (suc (suc n)) ls y)
+whole_more : (p : SmallTables) (n : ℕ) (ls : Levels) (x y : Outcome) → Less x y → Less (whole_from p n ls x) (whole_from p (suc (suc n)) ls y)
 whole_more p n ls x y h = less_then _ _ _ (whole_less p n ls x x (less_same x)) (whole_less p (suc n) ls x y h)
 
-whole_done : (p : ProgramTables) (n : ℕ) (ls : Levels) (w : List Touch) (es : List Call) (rest : Tree) (x : Outcome)
+whole_done : (p : SmallTables) (n : ℕ) (ls : Levels) (w : List Touch) (es : List Call) (rest : Tree) (x : Outcome)
     → whole_from p n (done ls w es rest) x ≡ whole_from p n ls (in_front w es x)
 whole_done p n (Bottom own) w es rest x = sym (front_twice own.log w own.events es x)
 whole_done p n (Push under l own) w es rest x = ap (λ y. whole_from p n under (followed p n (own_of under).rest (called l y)))
     (sym (front_twice own.log w own.events es x))
 
-leads_from : (p : ProgramTables) (budget : ℕ) (a b : ℕ → Outcome) (more : ℕ → ℕ) → Leads p budget a → ((n : ℕ) → Less (b n) (a (more n))) → Leads p budget b
+leads_from : (p : SmallTables) (budget : ℕ) (a b : ℕ → Outcome) (more : ℕ → ℕ) → Leads p budget a → ((n : ℕ) → Less (b n) (a (more n))) → Leads p budget b
 leads_from p budget a b more f h = record { leads = λ n r e. f.leads (more n) r ((h n).gives r e) }
 
 -- the innermost statement part goes on
-leads_done : (p : ProgramTables) (budget : ℕ) (ls : Levels) (w : List Touch) (es : List Call) (rest : Tree) (a b : ℕ → Outcome) (more : ℕ → ℕ)
+leads_done : (p : SmallTables) (budget : ℕ) (ls : Levels) (w : List Touch) (es : List Call) (rest : Tree) (a b : ℕ → Outcome) (more : ℕ → ℕ)
     → Leads p budget (λ n. whole_from p n ls (a n))
     → ((n : ℕ) → Less (whole_from p n ls (in_front w es (b n))) (whole_from p (more n) ls (a (more n))))
     → Leads p budget (λ n. whole_from p n (done ls w es rest) (b n))
@@ -199,7 +199,7 @@ rows_done : (os : List OpenCall) (ls : Levels) → Matches os ls → (w : List T
     → rows_of (done ls w es rest) ≡ rows_of ls ++ rows_at (length (rows_of ls)) (outer_of ls) (height ls) es
 rows_done os (Bottom own) m w es rest =
     rows_append 0 None 0 own.events es m.2
-    ∙ ap (λ n. rows_at 0 None 0 own.events ++ rows_at n None 0 es) (let x = length_each (row_at 0 None 0 (belows own.events)) 0 own.events in
+    ∙ ap (λ n. rows_at 0 None 0 own.events ++ rows_at n None 0 es) (let x = length_each (call_row_at 0 None 0 (belows own.events)) 0 own.events in
     let y : 0 + length own.events ≡ length (rows_at 0 None 0 own.events) = omega (arith, x) in y)
 rows_done os (Push under l own) m w es rest =
     ap (λ rs. rows_of under ++ opened_row l.routine (outer_of under) (height under) l.number ∷ rs)
@@ -208,7 +208,7 @@ rows_done os (Push under l own) m w es rest =
     ∷ rows_at (suc l.number) (Some l.number) (height under + 1) own.events) (rows_at (suc l.number + length own.events) (Some l.number) (height under + 1)
     es))
     ∙ ap (λ n. rows_of (Push under l own) ++ rows_at n (Some l.number) (height under + 1) es)
-    (let x = length_each (row_at (suc l.number) (Some l.number) (height under + 1) (belows own.events)) 0 own.events in
+    (let x = length_each (call_row_at (suc l.number) (Some l.number) (height under + 1) (belows own.events)) 0 own.events in
     let s = length-append (rows_of under) (opened_row l.routine (outer_of under) (height under) l.number
     ∷ rows_at (suc l.number) (Some l.number) (height under + 1) own.events) in
     let c = m.1.1.1.counted in
@@ -296,7 +296,7 @@ goes_with o o' h =
     x i) (let x : o.count - (o.done + 1) ≡ o'.count - o'.done = omega (arith, b, c) in x i)
 
 -- an open call and its level, found from the list
-pub record Top (p : ProgramTables) (outer : List OpenCall) (o : OpenCall) (ls : Levels) : Type 0 where
+pub record Top (p : SmallTables) (outer : List OpenCall) (o : OpenCall) (ls : Levels) : Type 0 where
   pub under : Levels
   pub l : Level
   pub own : Own
@@ -304,7 +304,7 @@ pub record Top (p : ProgramTables) (outer : List OpenCall) (o : OpenCall) (ls : 
   pub one : MatchesOne o under l own
   pub others : Matches outer under
 
-top_of : (p : ProgramTables) (outer : List OpenCall) (o : OpenCall) (ls : Levels) → Matches (outer ++ o ∷ []) ls → Top p outer o ls
+top_of : (p : SmallTables) (outer : List OpenCall) (o : OpenCall) (ls : Levels) → Matches (outer ++ o ∷ []) ls → Top p outer o ls
 top_of p outer o (Bottom own) m = absurd (not_snoc outer o (sym m.0))
 top_of p outer o (Push under l own) m =
     let s = snoc_same outer m.0 o m.1.0 m.1.1.0 in
@@ -335,7 +335,7 @@ slice_get_seam xs y ys =
     slice_get_read (xs ++ y ∷ ys) (length (xs ++ y ∷ ys)) (length xs) y refl (let s = length-append xs (y ∷ ys) in
     omega (arith, s)) (sym (get_or-append_seam xs y ys y))
 
-whole_same : (p : ProgramTables) (n : ℕ) (ls : Levels) (x y : Outcome) → Less x y → Less (whole_from p n ls x) (whole_from p n ls y)
+whole_same : (p : SmallTables) (n : ℕ) (ls : Levels) (x y : Outcome) → Less x y → Less (whole_from p n ls x) (whole_from p n ls y)
 whole_same p n (Bottom own) x y h = in_front_less own.log own.events _ _ h
 whole_same p n (Push under l own) x y h =
     whole_same p n under _ _ (joined_less _ _ _ _ (called_less l _ _ (in_front_less own.log own.events _ _ h)) (λ out τ. less_same _))
@@ -384,7 +384,7 @@ ended_call l own trouble σ = record_of l.routine [] l.entry (record {
   events = own.events ++ [];
 })
 
-closes_less : (p : ProgramTables) (n : ℕ) (rest : Tree) (l : Level) (own : Own) (trouble : Option Trouble) (σ : State)
+closes_less : (p : SmallTables) (n : ℕ) (rest : Tree) (l : Level) (own : Own) (trouble : Option Trouble) (σ : State)
     → Less (in_front (own.log ++ []) (ended_call l own trouble σ ∷ (own.events ++ []))
     (left_at p n rest (stage_after trouble) (closed l.entry.depth (without_frame l.entry.top l.cells σ))))
     (followed p n rest (called l (in_front own.log own.events (ends (end_of trouble) σ))))
@@ -406,7 +406,7 @@ closed_rows outer o under l own trouble σ rest calls calls' one others e h =
     let below = rows_at (suc l.number) (Some l.number) (height under + 1) own.events in
     let at : o.number ≡ length (rows_of under) = one.number ∙ one.counted in
     let size = length-append (rows_of under) (row ∷ below) in
-    let size-below = length_each (row_at (suc l.number) (Some l.number) (height under + 1) (belows own.events)) 0 own.events in
+    let size-below = length_each (call_row_at (suc l.number) (Some l.number) (height under + 1) (belows own.events)) 0 own.events in
     let all : length calls ≡ length (rows_of under ++ row ∷ below) = ap length e in
     let last : length calls - 1 ≡ l.number + length own.events = let c = one.counted in omega (arith, size, size-below, all, c) in
     h row (ap (λ cs. slice_get cs o.number) e ∙ ap (slice_get (rows_of under ++ row ∷ below)) at ∙ slice_get_seam (rows_of under) row below)
@@ -424,7 +424,7 @@ closed_rows outer o under l own trouble σ rest calls calls' one others e h =
     }
     ∷ rows_at (suc (sym one.counted i)) (Some (sym one.counted i)) (height under + 1) (append-nil own.events i))))
 
-module _ {p : ProgramTables} {budget : ℕ} {k : Bool} where
+module _ {p : SmallTables} {budget : ℕ} {k : Bool} where
   -- the innermost statement part does so much, and the tower comes to another stage
   goes_to : (outer : List OpenCall) (o o' : OpenCall) (m m' : Moment) (calls : List CallRow) (stage : Stage) (w : List Touch)
       → TowerAt p budget Rests (view k (outer ++ o ∷ []) m calls) → Next o o' → (IsTrue k → m'.log ≡ m.log ++ w) → m'.state.depth ≡ m.state.depth
@@ -447,7 +447,7 @@ module _ {p : ProgramTables} {budget : ℕ} {k : Bool} where
       }
 
   -- a statement does what it does itself
-  pub climb_goes : (outer : List OpenCall) (o o' : OpenCall) (m m' : Moment) (calls : List CallRow) (r : Row) (w : List Touch)
+  pub climb_goes : (outer : List OpenCall) (o o' : OpenCall) (m m' : Moment) (calls : List CallRow) (r : SmallRow) (w : List Touch)
       → TowerAt p budget Rests (view k (outer ++ o ∷ []) m calls) → Next o o' → o.done + 1 ≤ o.count → slice_get p.rows (o.first + o.done) ≡ Some r
       → performs (statement_action p r.line o.block o.base r.statement) m.state ≡ Finished tt w m'.state → (IsTrue k → m'.log ≡ m.log ++ w)
       → TowerAt p budget (stage_of r.statement) (view k (outer ++ o' ∷ []) m' calls)
@@ -461,7 +461,7 @@ module _ {p : ProgramTables} {budget : ℕ} {k : Bool} where
       (less_is _ _ (ap (λ q. run_of p (suc (suc n)) q m.state) (sym (begins_with o room))))))
 
   -- a statement stops the run
-  pub climb_stops : (outer : List OpenCall) (o o' : OpenCall) (m m' : Moment) (calls : List CallRow) (r : Row) (why : Trouble) (w : List Touch)
+  pub climb_stops : (outer : List OpenCall) (o o' : OpenCall) (m m' : Moment) (calls : List CallRow) (r : SmallRow) (why : Trouble) (w : List Touch)
       → TowerAt p budget Rests (view k (outer ++ o ∷ []) m calls) → Next o o' → o.done + 1 ≤ o.count → slice_get p.rows (o.first + o.done) ≡ Some r
       → performs (statement_action p r.line o.block o.base r.statement) m.state ≡ Stopped why w m'.state → (IsTrue k → m'.log ≡ m.log ++ w)
       → TowerAt p budget (Ends (Halted why)) (view k (outer ++ o' ∷ []) m' calls)
@@ -658,7 +658,7 @@ module _ {p : ProgramTables} {budget : ℕ} {k : Bool} where
   climb_entered r (std.Err NoMemory) opens o o' m m1 calls routine parent t es el ep en ed ec eo ek b = tt
 
   -- a statement did what it does itself
-  pub climb_did : (outer : List OpenCall) (o o' : OpenCall) (m m1 : Moment) (row : Row) (opens : List OpenCall) (m' : Moment) (calls : List CallRow)
+  pub climb_did : (outer : List OpenCall) (o o' : OpenCall) (m m1 : Moment) (row : SmallRow) (opens : List OpenCall) (m' : Moment) (calls : List CallRow)
       → TowerAt p budget Rests (view k (outer ++ o ∷ []) m calls) → opens ≡ outer ++ o' ∷ []
       → m'.state ≡ m1.state → (IsTrue k → m'.log ≡ m1.log)
       → Next o o' → o.done + 1 ≤ o.count → slice_get p.rows (o.first + o.done) ≡ Some row
@@ -668,7 +668,7 @@ module _ {p : ProgramTables} {budget : ℕ} {k : Bool} where
       subst (λ os. TowerAt p budget (stage_of row.statement) (view k os m' calls)) (sym eo)
       (climb_goes outer o o' m m' calls row did.0 t h room found (did.1 ∙ ap (λ σ. Finished tt did.0 σ) (sym es)) (λ q. el q ∙ did.2))
 
-  pub climb_did_not : (r : Runner) (e : Halt) (outer : List OpenCall) (o o' : OpenCall) (m : Moment) (row : Row)
+  pub climb_did_not : (r : Runner) (e : Halt) (outer : List OpenCall) (o o' : OpenCall) (m : Moment) (row : SmallRow)
       → TowerAt p budget Rests (view k (outer ++ o ∷ []) m r.calls) → r.opens.items ≡ outer ++ o' ∷ [] → r.keeps_log ≡ k
       → Next o o' → o.done + 1 ≤ o.count → slice_get p.rows (o.first + o.done) ≡ Some row
       → DoesAll {X = Unit {0}} (λ _. tt) (performs (statement_action p row.line o.block o.base row.statement) m.state) (std.Err e) m (moment_of r.machine)
@@ -685,7 +685,7 @@ module _ {p : ProgramTables} {budget : ℕ} {k : Bool} where
       (climb_missing outer o o' m calls t h room found)
 
 -- a step that is stopped stops the run
-pub stops_over : (p : ProgramTables) (budget : ℕ) (r : Runner) (e : Halt) → StepsTo p budget Rests (std.Err e) r → StepsOver p budget (std.Err e) r
+pub stops_over : (p : SmallTables) (budget : ℕ) (r : Runner) (e : Halt) → StepsTo p budget Rests (std.Err e) r → StepsOver p budget (std.Err e) r
 stops_over p budget r (Why why) t = t
 stops_over p budget r NoMemory t = tt
 

@@ -1,6 +1,6 @@
 -- What holds of every run.
 use Rattle.std.specs.Prelude.{◌≡◌, ◌↔◌, ℕ, ◌+◌, ◌*◌, ◌<◌, ◌≤◌, List, [], Some, None, IsSome, length}
-use Rattle.core_program.specs.ProgramTables.{ProgramTables}
+use Rattle.core_program.specs.SmallTables.{SmallTables}
 use Rattle.core_program.specs.Tree.{Ret, Enter}
 use Rattle.core_program.specs.State.{State}
 use Rattle.core_program.specs.Run.{Result, Call, run, run_of, start, first_way}
@@ -8,20 +8,20 @@ use Rattle.core_program.specs.Numbering.{belows, last_of, parent_of, depth_of, I
 
 -- every program has a run with every budget
 abbrev pub EveryProgramRuns : Type 0
-EveryProgramRuns = (p : ProgramTables) (budget : ℕ) → IsSome (run p budget)
+EveryProgramRuns = (p : SmallTables) (budget : ℕ) → IsSome (run p budget)
 
 -- every run has a first call
 abbrev pub EveryRunHasACall : Type 0
-EveryRunHasACall = (p : ProgramTables) (budget : ℕ) → IsSome (first_way (run p budget))
+EveryRunHasACall = (p : SmallTables) (budget : ℕ) → IsSome (first_way (run p budget))
 
 -- where parts and calls may stand deeper in one another, the run is the same
 abbrev pub DepthIsEnough : Type 0
-DepthIsEnough = (p : ProgramTables) (budget more : ℕ) → run_of p (2 * budget + 3 + more) (Enter 0 [] Ret) (start budget)
+DepthIsEnough = (p : SmallTables) (budget more : ℕ) → run_of p (2 * budget + 3 + more) (Enter 0 [] Ret) (start budget)
     ≡ run p budget
 
 -- this holds of the calls of each run, which are told from how many are below each
 abbrev pub OfEachRun : (List ℕ → Type 0) → Type 0
-OfEachRun P = (p : ProgramTables) (budget : ℕ) (r : Result State Call) → run p budget ≡ Some r → P (belows r.events)
+OfEachRun P = (p : SmallTables) (budget : ℕ) (r : Result State Call) → run p budget ≡ Some r → P (belows r.events)
 
 -- the subtree of a call is the interval from it to its last call
 abbrev pub SubtreeIsInterval : Type 0

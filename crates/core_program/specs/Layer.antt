@@ -1,12 +1,12 @@
 -- What each construct does, in one layer: its own acts, and its parts by name.
 use Rattle.std.specs.Prelude.{ℕ, [], zero, suc, ◌+◌, Option, Some, None, slice_get}
-use Rattle.core_program.specs.declared.tables.Row.{Row}
-use Rattle.core_program.specs.declared.tables.Routine.{Routine}
+use Rattle.core_program.specs.declared.tables.SmallRow.{SmallRow}
+use Rattle.core_program.specs.declared.tables.SmallRoutine.{SmallRoutine}
 use Rattle.core_program.specs.declared.tables.Block.{Block}
 use Rattle.core_program.specs.declared.tables.Statement.{Statement}
 use Rattle.core_program.specs.declared.tables.Statement.TheVariants.{Assign, Call}
 use Rattle.core_program.specs.declared.machine.Trouble.TheVariants.{NoRow}
-use Rattle.core_program.specs.ProgramTables.{ProgramTables}
+use Rattle.core_program.specs.SmallTables.{SmallTables}
 use Rattle.core_program.specs.State.{Spend}
 use Rattle.core_program.specs.Tree.{Out, Normal, Jump, Part, Exec, Body, Tree, Ret, Halt, Do, Sub, Enter, doing}
 use Rattle.core_program.specs.Statements.{block_of, statement_action}
@@ -35,14 +35,14 @@ afterwards (Assign target e) = Ret Normal
 afterwards (Call routine) = Enter routine [] Ret
 
 -- the statement of a row
-abbrev pub of_row : ProgramTables → Block → ℕ → Row → Tree
+abbrev pub of_row : SmallTables → Block → ℕ → SmallRow → Tree
 of_row p b base r = doing (statement_action p r.line b base r.statement) (λ _. afterwards r.statement)
 
 -- the statement part of a routine, which is itself a statement and takes a step
-abbrev pub of_body : Block → ℕ → Routine → Tree
+abbrev pub of_body : Block → ℕ → SmallRoutine → Tree
 of_body b base r = spend (in_order b base r.first r.count)
 
 -- what a part does, by the program's tables
-abbrev pub layer : ProgramTables → Part → Tree
+abbrev pub layer : SmallTables → Part → Tree
 layer p (Exec row b base) = or_no_row (of_row p b base) (slice_get p.rows row)
 layer p (Body routine base) = or_no_row (of_body (block_of routine) base) (slice_get p.routines routine)

@@ -1,4 +1,4 @@
-pub mod ProgramTables
+pub mod SmallTables
 pub mod State
 pub mod Acts
 pub mod Actions

@@ -29,12 +29,12 @@ use Rattle.cell_value.specs.declared.ways_out.WayOut.{WayOut}
 use Rattle.cell_value.specs.declared.ways_out.WayOut.TheVariants as way
 use Rattle.cell_value.specs.declared.ways_out.Which.TheVariants.{Stack}
 use Rattle.cell_value.specs.declared.ways_out.Kind.TheVariants as kind
-use Rattle.core_program.specs.declared.tables.Routine.{Routine}
+use Rattle.core_program.specs.declared.tables.SmallRoutine.{SmallRoutine}
 use Rattle.core_program.specs.declared.tables.Block.{Block}
 use Rattle.core_program.specs.declared.tables.Block.TheVariants.{Program, Procedure}
 use Rattle.core_program.specs.declared.machine.Trouble.{Trouble}
 use Rattle.core_program.specs.declared.machine.Trouble.TheVariants.{Fault, OutOfSteps, Limited, NoRow}
-use Rattle.core_program.specs.ProgramTables.{ProgramTables}
+use Rattle.core_program.specs.SmallTables.{SmallTables}
 use Rattle.core_program.specs.State.{State, Done, Went, Stops, perform, stack_end}
 use Rattle.core_program.specs.Tree.{Out, Normal, Jump, Part, Body, Tree, Ret, Halt, Do, Sub, Enter}
 use Rattle.core_program.specs.Statements.{block_of}
@@ -97,7 +97,7 @@ module _ {S E : Type 0} where
       (λ out τ. walk rules sub call (next out) τ)
 
   -- a tree from a state, where parts and calls stand at most n deep in one another
-  abbrev pub within : Rules S E → ProgramTables → ℕ → Tree → S → Option (Result S E)
+  abbrev pub within : Rules S E → SmallTables → ℕ → Tree → S → Option (Result S E)
   within rules p zero t σ = None
   within rules p (suc n) t σ = walk rules (λ part τ. within rules p n (layer p part) τ)
       (rules.call (λ u τ. within rules p n u τ)) t σ
@@ -212,28 +212,28 @@ whole routine base = Sub (Body routine base) Ret
 
 -- A routine's statement part in a new frame, which is then removed however it ended. A frame that ends
 -- above the stack is not made, nor one that needs more steps than are left.
-abbrev pub in_frame : (Tree → State → Outcome) → ℕ → Routine → List Value → State → Outcome
+abbrev pub in_frame : (Tree → State → Outcome) → ℕ → SmallRoutine → List Value → State → Outcome
 in_frame run routine r args σ =
     if nat_lt stack_end (σ.top + r.cells) then ends (Halted (Limited Stack)) σ
     else if nat_lt σ.steps r.cells then ends (Halted OutOfSteps) (spent σ)
     else after_all (without_frame σ.top r.cells) (run (whole routine σ.top)
     (with_frame r.cells (link_of (block_of routine)) args σ))
 
-abbrev pub with_routine : Option Routine → (Routine → Outcome) → State → Outcome
-with_routine None go σ = ends (Halted NoRow) σ
-with_routine (Some r) go σ = go r
+abbrev pub on_routine : Option SmallRoutine → (SmallRoutine → Outcome) → State → Outcome
+on_routine None go σ = ends (Halted NoRow) σ
+on_routine (Some r) go σ = go r
 
 -- a call of a routine
-abbrev pub call_of : ProgramTables → (Tree → State → Outcome) → ℕ → List Value → State → Outcome
+abbrev pub call_of : SmallTables → (Tree → State → Outcome) → ℕ → List Value → State → Outcome
 call_of p run routine args σ =
     recorded routine args σ (after_all (closed σ.depth)
-    (with_routine (slice_get p.routines routine) (λ r. in_frame run routine r args (opened σ)) (opened σ)))
+    (on_routine (slice_get p.routines routine) (λ r. in_frame run routine r args (opened σ)) (opened σ)))
 
 -- a plain run: a call runs the routine
-abbrev pub plain : ProgramTables → Rules State Call
+abbrev pub plain : SmallTables → Rules State Call
 plain p = record { state_of = λ σ. σ; with_state = λ _ τ. τ; call = call_of p }
 
-abbrev pub run_of : ProgramTables → ℕ → Tree → State → Outcome
+abbrev pub run_of : SmallTables → ℕ → Tree → State → Outcome
 run_of p = within (plain p) p
 
 -- no cells, and a budget of steps
@@ -242,7 +242,7 @@ start budget = record { cells = empty; top = 0; steps = budget; calls = 0; depth
 
 -- The run of a program with a budget of steps: the call of routine 0. Parts and calls stand no
 -- deeper in one another than this, since each second one takes a step first.
-abbrev pub run : ProgramTables → ℕ → Outcome
+abbrev pub run : SmallTables → ℕ → Outcome
 run p budget = run_of p (2 * budget + 3) (Enter 0 [] Ret) (start budget)
 
 -- the way out of the first call of a run

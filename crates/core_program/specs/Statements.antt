@@ -20,8 +20,8 @@ use Rattle.core_program.specs.declared.tables.Statement.{Statement}
 use Rattle.core_program.specs.declared.tables.Statement.TheVariants.{Assign, Call}
 use Rattle.core_program.specs.declared.tables.Block.{Block}
 use Rattle.core_program.specs.declared.tables.Block.TheVariants as block
-use Rattle.core_program.specs.declared.tables.Routine.{Routine}
-use Rattle.core_program.specs.ProgramTables.{ProgramTables}
+use Rattle.core_program.specs.declared.tables.SmallRoutine.{SmallRoutine}
+use Rattle.core_program.specs.SmallTables.{SmallTables}
 use Rattle.core_program.specs.declared.machine.Trouble.TheVariants.{Fault, NoRow}
 use Rattle.core_program.specs.State.{Spend, ReadCell, WriteCell, MayCall}
 use Rattle.core_program.specs.Actions.{Action, Give, Fail, ◌>>=◌, act}
@@ -55,9 +55,9 @@ block_of zero = block.Program
 block_of (suc n) = block.Procedure
 
 -- the base of the frame that a link names; a link that names none is a fault on this line
-abbrev pub frame_in : ℕ → Value → Action ℕ
-frame_in line (value.Frame base) = Give base
-frame_in line _ = Fail (Fault kind.Undefined line)
+abbrev pub linked_frame : ℕ → Value → Action ℕ
+linked_frame line (value.Frame base) = Give base
+linked_frame line _ = Fail (Fault kind.Undefined line)
 
 -- The base of the program block's frame, in which every variable and every procedure is declared. In
 -- the program block it is the frame at work. A procedure reads its link, which is the cell at its base.
@@ -65,7 +65,7 @@ abbrev pub program_base : (line : ℕ) → Block → (base : ℕ) → Action ℕ
 program_base line block.Program base = Give base
 program_base line block.Procedure base = do
   link ← act (ReadCell line base)
-  frame_in line link
+  linked_frame line link
 
 -- An expression in a statement on this line, in a block whose frame is at this base (ISO 7185, clauses
 -- 6.7.1 and 6.7.2.2). Each of its nodes takes a step: a constant, a variable's name, an operator.
@@ -90,7 +90,7 @@ assigned line b base target v = do
   act (WriteCell line (address_of program target) v)
 
 -- leave to call a routine; it may be one that the tables do not have
-abbrev pub leave_to_call : Option Routine → Action (Unit {0})
+abbrev pub leave_to_call : Option SmallRoutine → Action (Unit {0})
 leave_to_call None = Fail NoRow
 leave_to_call (Some r) = act (MayCall r.cells)
 
@@ -104,7 +104,7 @@ assignment line b base target e = do
 -- What a statement on this line does itself, in a block whose frame is at this base. The statement takes
 -- a step. A call finds the frame in which the procedure was declared, and then asks leave of the limits
 -- (ISO 7185, clause 6.8.2.3).
-abbrev pub statement_action : ProgramTables → (line : ℕ) → Block → (base : ℕ) → Statement → Action (Unit {0})
+abbrev pub statement_action : SmallTables → (line : ℕ) → Block → (base : ℕ) → Statement → Action (Unit {0})
 statement_action p line b base (Assign target e) = assignment line b base target e
 statement_action p line b base (Call routine) = do
   statement ← act Spend

@@ -32,7 +32,7 @@ use Rattle.core_program.specs.declared.tables.Statement.TheVariants.{Assign, Cal
 use Rattle.core_program.specs.declared.open_call.OpenCall.{OpenCall}
 use Rattle.core_program.specs.declared.runner.Runner.{Runner}
 use Rattle.core_program.specs.declared.runner.PlainRun.{PlainRun}
-use Rattle.core_program.specs.ProgramTables.{ProgramTables}
+use Rattle.core_program.specs.SmallTables.{SmallTables}
 use Rattle.core_program.specs.State.{State}
 use Rattle.core_program.specs.Acts.{Moment, moment_of, machine_state}
 use Rattle.core_program.specs.Tree.{Normal, Tree, Ret, Enter}
@@ -49,7 +49,7 @@ use Rattle.core_program.specs.Run.{
   recorded,
   after_all,
   in_frame,
-  with_routine,
+  on_routine,
   call_of,
   closed,
   without_frame,
@@ -84,7 +84,7 @@ own_of (Bottom own) = own
 own_of (Push under call own) = own
 
 -- a call, and what the statement part that made it does after it
-abbrev pub followed : ProgramTables → ℕ → Tree → Outcome → Outcome
+abbrev pub followed : SmallTables → ℕ → Tree → Outcome → Outcome
 followed p n rest x = joined x (λ out τ. run_of p n (on_normal rest out) τ)
 
 -- a call, from what its statement part gave
@@ -93,7 +93,7 @@ called l x = recorded l.routine [] l.entry (after_all (closed l.entry.depth)
     (after_all (without_frame l.entry.top l.cells) x))
 
 -- the whole run, from what is left of the innermost statement part
-abbrev pub whole_from : ProgramTables → ℕ → Levels → Outcome → Outcome
+abbrev pub whole_from : SmallTables → ℕ → Levels → Outcome → Outcome
 whole_from p n (Bottom own) x = in_front own.log own.events x
 whole_from p n (Push under l own) x = whole_from p n under (followed p n (own_of under).rest
     (called l (in_front own.log own.events x)))
@@ -104,13 +104,13 @@ pub data Stage : Type 0 where
   Ends : (end : End) → Stage
   Calls : (routine : ℕ) → Stage
 
-abbrev pub left_at : ProgramTables → ℕ → Tree → Stage → State → Outcome
+abbrev pub left_at : SmallTables → ℕ → Tree → Stage → State → Outcome
 left_at p n rest Rests σ = run_of p n rest σ
 left_at p n rest (Ends end) σ = ends end σ
 left_at p n rest (Calls routine) σ = followed p n rest (call_of p (run_of p n) routine [] σ)
 
 -- what is left of a run, once known, gives the run
-pub record Leads (p : ProgramTables) (budget : ℕ) (rest : ℕ → Outcome) : Type 0 where
+pub record Leads (p : SmallTables) (budget : ℕ) (rest : ℕ → Outcome) : Type 0 where
   pub leads : (n : ℕ) (r : Result State Call) → rest n ≡ Some r
       → (k : ℕ) × (run_of p k (Enter 0 [] Ret) (start budget) ≡ Some r)
 
@@ -119,8 +119,8 @@ abbrev pub parent_at : ℕ → Option ℕ → Option ℕ → Option ℕ
 parent_at number outer None = outer
 parent_at number outer (Some j) = Some (number + j)
 
-abbrev pub row_at : ℕ → Option ℕ → ℕ → List ℕ → ℕ → Call → CallRow
-row_at number outer depth bs k c = record {
+abbrev pub call_row_at : ℕ → Option ℕ → ℕ → List ℕ → ℕ → Call → CallRow
+call_row_at number outer depth bs k c = record {
   routine = c.routine;
   parent = parent_at number outer (parent_of bs k);
   depth = depth + depth_of bs k;
@@ -129,7 +129,7 @@ row_at number outer depth bs k c = record {
 }
 
 abbrev pub rows_at : ℕ → Option ℕ → ℕ → List Call → List CallRow
-rows_at number outer depth cs = each_from (row_at number outer depth (belows cs)) 0 cs
+rows_at number outer depth cs = each_from (call_row_at number outer depth (belows cs)) 0 cs
 
 abbrev pub height : Levels → ℕ
 height (Bottom own) = 0
@@ -186,7 +186,7 @@ abbrev pub view : Bool → List OpenCall → Moment → List CallRow → View
 view keeps_log opens moment calls = record { keeps_log = keeps_log; opens = opens; moment = moment; calls = calls }
 
 -- the open calls, with what is left inside the innermost, are on the way to the whole run
-pub record TowerAt (p : ProgramTables) (budget : ℕ) (stage : Stage) (v : View) : Type 0 where
+pub record TowerAt (p : SmallTables) (budget : ℕ) (stage : Stage) (v : View) : Type 0 where
   pub levels : Levels
   pub matches : Matches v.opens levels
   pub logs : IsTrue v.keeps_log → v.moment.log ≡ logs_of levels
@@ -194,7 +194,7 @@ pub record TowerAt (p : ProgramTables) (budget : ℕ) (stage : Stage) (v : View)
   pub height : v.moment.state.depth ≡ height levels
   pub leads : Leads p budget (λ n. whole_from p n levels (left_at p n (own_of levels).rest stage v.moment.state))
 
-abbrev pub At : ProgramTables → ℕ → Stage → Runner → Type 0
+abbrev pub At : SmallTables → ℕ → Stage → Runner → Type 0
 At p budget stage r = TowerAt p budget stage (view r.keeps_log r.opens.items (moment_of r.machine) r.calls)
 
 -- A measure of what a run may still do: each of its turns takes a step and enters a call at most, or ends a call.
@@ -228,13 +228,13 @@ stage_after None = Rests
 stage_after (Some why) = Ends (Halted why)
 
 -- a step comes to this stage, or a trouble stops the run
-abbrev pub StepsTo : ProgramTables → ℕ → Stage → std.Result (Unit {0}) halt.Halt → Runner → Type 0
+abbrev pub StepsTo : SmallTables → ℕ → Stage → std.Result (Unit {0}) halt.Halt → Runner → Type 0
 StepsTo p budget stage (std.Ok x) r = At p budget stage r
 StepsTo p budget stage (std.Err (Why why)) r = At p budget (Ends (Halted why)) r
 StepsTo p budget stage (std.Err NoMemory) r = Unit {0}
 
 -- the run is over: it ended as a runner tells
-pub record IsOver (p : ProgramTables) (budget : ℕ) (trouble : Option Trouble) (v : View) : Type 0 where
+pub record IsOver (p : SmallTables) (budget : ℕ) (trouble : Option Trouble) (v : View) : Type 0 where
   pub log : List Touch
   pub events : List Call
   pub logs : IsTrue v.keeps_log → v.moment.log ≡ log
@@ -242,11 +242,11 @@ pub record IsOver (p : ProgramTables) (budget : ℕ) (trouble : Option Trouble) 
   pub is : run p budget
       ≡ Some (record { end = end_of trouble; after = v.moment.state; log = log; events = events })
 
-abbrev pub Over : ProgramTables → ℕ → Option Trouble → Runner → Type 0
+abbrev pub Over : SmallTables → ℕ → Option Trouble → Runner → Type 0
 Over p budget trouble r = IsOver p budget trouble (view r.keeps_log [] (moment_of r.machine) r.calls)
 
 -- the same of what a run left
-abbrev pub OverWith : ProgramTables → ℕ → Bool → PlainRun → Type 0
+abbrev pub OverWith : SmallTables → ℕ → Bool → PlainRun → Type 0
 OverWith p budget keeps_log r = IsOver p budget r.trouble (view keeps_log [] (moment_of r.machine) r.calls)
 
 -- the run with this budget begins
@@ -255,8 +255,8 @@ BeginsRun budget r = (machine_state r.machine ≡ start budget) × (r.machine.lo
     × (r.calls ≡ [])
 
 -- a call of a routine that was just entered
-abbrev pub entered_call : ProgramTables → ℕ → ℕ → State → Outcome
-entered_call p n routine σ = with_routine (slice_get p.routines routine) (λ r. in_frame (run_of p n) routine r [] σ) σ
+abbrev pub entered_call : SmallTables → ℕ → ℕ → State → Outcome
+entered_call p n routine σ = on_routine (slice_get p.routines routine) (λ r. in_frame (run_of p n) routine r [] σ) σ
 
 -- an open call, and the moment
 pub record Here : Type 0 where
@@ -267,7 +267,7 @@ abbrev pub here : OpenCall → Moment → Here
 here call moment = record { call = call; moment = moment }
 
 -- its frame was made, or not, and this is left then
-pub record Begun (p : ProgramTables) (routine : ℕ) (before : Here) (left : ℕ → Outcome) (after : Here) : Type 0 where
+pub record Begun (p : SmallTables) (routine : ℕ) (before : Here) (left : ℕ → Outcome) (after : Here) : Type 0 where
   pub number : after.call.number ≡ before.call.number
   pub depth : after.call.depth ≡ before.call.depth
   pub base : after.call.base ≡ before.moment.state.top
@@ -276,7 +276,7 @@ pub record Begun (p : ProgramTables) (routine : ℕ) (before : Here) (left : ℕ
   pub is : (n : ℕ) → entered_call p (suc (suc n)) routine before.moment.state
       ≡ after_all (without_frame before.moment.state.top after.call.cells) (left n)
 
-abbrev pub BeginsTo : ProgramTables → ℕ → Here → std.Result (Unit {0}) halt.Halt → Here → Type 0
+abbrev pub BeginsTo : SmallTables → ℕ → Here → std.Result (Unit {0}) halt.Halt → Here → Type 0
 BeginsTo p routine before (std.Ok x) after =
     Begun p routine before (λ n. run_of p (suc n) (rest_of after.call) after.moment.state) after
 BeginsTo p routine before (std.Err (Why why)) after =
@@ -284,14 +284,14 @@ BeginsTo p routine before (std.Err (Why why)) after =
 BeginsTo p routine before (std.Err NoMemory) after = Unit {0}
 
 -- the same as a step, or no call is open and the run is over
-abbrev pub StepsOn : ProgramTables → ℕ → std.Result Bool halt.Halt → Runner → Type 0
+abbrev pub StepsOn : SmallTables → ℕ → std.Result Bool halt.Halt → Runner → Type 0
 StepsOn p budget (std.Ok true) r = At p budget Rests r
 StepsOn p budget (std.Ok false) r = Over p budget None r
 StepsOn p budget (std.Err (Why why)) r = At p budget (Ends (Halted why)) r
 StepsOn p budget (std.Err NoMemory) r = Unit {0}
 
 -- the run is over, or a trouble stops it
-abbrev pub StepsOver : ProgramTables → ℕ → std.Result (Unit {0}) halt.Halt → Runner → Type 0
+abbrev pub StepsOver : SmallTables → ℕ → std.Result (Unit {0}) halt.Halt → Runner → Type 0
 StepsOver p budget (std.Ok x) r = Over p budget None r
 StepsOver p budget (std.Err (Why why)) r = At p budget (Ends (Halted why)) r
 StepsOver p budget (std.Err NoMemory) r = Unit {0}

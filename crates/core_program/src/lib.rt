@@ -22,4 +22,4 @@ pub use machine::{
 pub use runner::{PlainRun, run_calls, run_plain, way_out};
 pub use statements::{address, evaluate, execute, fault_kind, program_frame};
 pub use store::Store;
-pub use tables::{Block, Expression, Program, Routine, Row, Statement, block_of};
+pub use tables::{Block, Expression, SmallProgram, SmallRoutine, SmallRow, Statement, block_of};

@@ -25,7 +25,7 @@ ghost use Rattle.core_program.specs.declared.open_call.OpenCall.{OpenCall as Ope
 ghost use Rattle.core_program.specs.Acts.{HasRoom, RoomAfter, moment_of, machine_state};
 ghost use Rattle.core_program.specs.Numbering.{calls_of, numbered};
 ghost use Rattle.core_program.specs.Run.{Call, Halted, end_of, run, way_of};
-ghost use Rattle.core_program.specs.ProgramTables.{ProgramTables};
+ghost use Rattle.core_program.specs.SmallTables.{SmallTables};
 ghost use Rattle.core_program.specs.Tower.{
   At,
   BeginsRun,
@@ -54,7 +54,7 @@ use crate::machine::{Halt, Machine, STACK_END, Trouble, spend};
 use crate::open_call::OpenCall;
 use crate::statements::execute;
 use crate::store::Store;
-use crate::tables::{Program, Row, Statement, block_of};
+use crate::tables::{SmallProgram, SmallRow, Statement, block_of};
 use cell_value::{Kind, Memory, WayOut, Which};
 use std::alloc::{AllocError, Global};
 
@@ -97,7 +97,7 @@ struct Runner {
 /// Begins the statement part of a routine in a new frame, in a call that was just entered.
 fn begin(
     alloc: Global,
-    program: &Program,
+    program: &SmallProgram,
     machine: &mut Machine,
     routine: u32,
     call: &mut OpenCall,
@@ -146,7 +146,7 @@ impl Runner {
     }
 
     /// Enters a call of a routine.
-    fn enter(&mut self, alloc: Global, program: &Program, routine: u32) -> Result<(), Halt>
+    fn enter(&mut self, alloc: Global, program: &SmallProgram, routine: u32) -> Result<(), Halt>
         requires { HasRoom self.old.machine }
         ensures steps { (budget : ℕ) → At program.now budget (Calling routine) self.old
             → StepsTo program.now budget Rests result self.new }
@@ -167,7 +167,7 @@ impl Runner {
 
     /// Ends an open call, which was the innermost one: it came to its end, or a trouble stops it.
     fn close(&mut self, call: OpenCall, trouble: Option<Trouble>)
-        ensures closed { (p : ProgramTables) (budget : ℕ)
+        ensures closed { (p : SmallTables) (budget : ℕ)
             → TowerAt p budget (Ends (end_of trouble)) (view self.old.keeps_log (self.old.opens.items ++ call ∷ [])
             (moment_of self.old.machine) self.old.calls)
             → At p budget (stage_after trouble) self.new }
@@ -181,7 +181,7 @@ impl Runner {
     }
 
     /// Does what the statement of a row does itself, in an open call.
-    fn execute(&mut self, program: &Program, call: OpenCall, row: Row) -> Result<(), Halt>
+    fn execute(&mut self, program: &SmallProgram, call: OpenCall, row: SmallRow) -> Result<(), Halt>
         ensures steps { (budget : ℕ) (before : List OpenRow) (next : OpenRow)
             → self.old.opens.items ≡ before ++ next ∷ [] → Next call next
             → slice_get program.now.rows (call.first + call.done) ≡ Some row → call.done + 1 ≤ call.count
@@ -210,9 +210,9 @@ impl Runner {
     fn do_row(
         &mut self,
         alloc: Global,
-        program: &Program,
+        program: &SmallProgram,
         call: OpenCall,
-        row: Row,
+        row: SmallRow,
     ) -> Result<(), Halt>
         ensures steps { (budget : ℕ) (before : List OpenRow) (next : OpenRow)
             → self.old.opens.items ≡ before ++ next ∷ [] → Next call next
@@ -230,7 +230,7 @@ impl Runner {
     }
 
     /// Does the next statement of an open call, which was the innermost one and has a statement left.
-    fn go_on(&mut self, alloc: Global, program: &Program, call: OpenCall) -> Result<(), Halt>
+    fn go_on(&mut self, alloc: Global, program: &SmallProgram, call: OpenCall) -> Result<(), Halt>
         requires { call.done + 1 ≤ call.count }
         ensures steps { (budget : ℕ) → TowerAt program.now budget Rests
             (view self.old.keeps_log (self.old.opens.items ++ call ∷ []) (moment_of self.old.machine) self.old.calls)
@@ -256,7 +256,7 @@ impl Runner {
     }
 
     /// Goes on in the innermost open call, and says whether there was one.
-    fn step(&mut self, alloc: Global, program: &Program) -> Result<bool, Halt>
+    fn step(&mut self, alloc: Global, program: &SmallProgram) -> Result<bool, Halt>
         ensures steps { (budget : ℕ) → At program.now budget Rests self.old
             → StepsOn program.now budget result self.new }
         ensures less { IfOk result (λ goes_on. IsTrue goes_on → work_left self.new < work_left self.old) }
@@ -275,7 +275,7 @@ impl Runner {
 
     /// Stops each open call, the innermost first.
     fn halt(&mut self, why: Trouble)
-        ensures over { (p : ProgramTables) (budget : ℕ) → At p budget (Ends (Halted why)) self.old
+        ensures over { (p : SmallTables) (budget : ℕ) → At p budget (Ends (Halted why)) self.old
             → Over p budget (Some why) self.new }
         ensures kept { self.new.keeps_log ≡ self.old.keeps_log }
     {
@@ -285,7 +285,7 @@ impl Runner {
     }
 
     /// Calls routine 0 and goes on until no call is open.
-    fn go(&mut self, alloc: Global, program: &Program) -> Result<(), Halt>
+    fn go(&mut self, alloc: Global, program: &SmallProgram) -> Result<(), Halt>
         requires { HasRoom self.old.machine }
         ensures goes { (budget : ℕ) → BeginsRun budget self.old → StepsOver program.now budget result self.new }
         ensures kept { self.new.keeps_log ≡ self.old.keeps_log }
@@ -299,7 +299,7 @@ impl Runner {
     }
 
     /// Runs the program, and says why it stopped where it did not come to its end.
-    fn finish(&mut self, alloc: Global, program: &Program) -> Result<Option<Trouble>, Memory>
+    fn finish(&mut self, alloc: Global, program: &SmallProgram) -> Result<Option<Trouble>, Memory>
         requires { HasRoom self.old.machine }
         ensures over { IfOk result (λ trouble. (budget : ℕ) → BeginsRun budget self.old
             → Over program.now budget trouble self.new) }
@@ -319,7 +319,7 @@ impl Runner {
 /// Runs a program with a budget of steps, with the whole log or without it.
 fn run_with(
     alloc: Global,
-    program: &Program,
+    program: &SmallProgram,
     budget: u32,
     keeps_log: bool,
 ) -> Result<PlainRun, Memory>
@@ -349,7 +349,7 @@ fn run_with(
 
 /// Runs a program with a budget of steps. It takes memory for frames, for the calls and for the whole
 /// log; that memory ran out is the only error.
-pub fn run_plain(alloc: Global, program: &Program, budget: u32) -> Result<PlainRun, Memory>
+pub fn run_plain(alloc: Global, program: &SmallProgram, budget: u32) -> Result<PlainRun, Memory>
     ensures computes { IfOk result (λ r. (cs : List Call) × ((run program.now budget
         ≡ Some (record {
           end = end_of r.trouble;
@@ -365,7 +365,7 @@ pub fn run_plain(alloc: Global, program: &Program, budget: u32) -> Result<PlainR
 
 /// Runs a program with a budget of steps, and keeps its calls and no log. It takes memory for frames
 /// and for the calls; that memory ran out is the only error.
-pub fn run_calls(alloc: Global, program: &Program, budget: u32) -> Result<Calls, Memory>
+pub fn run_calls(alloc: Global, program: &SmallProgram, budget: u32) -> Result<Calls, Memory>
     ensures calls { IfOk result (λ calls. calls ≡ numbered (calls_of (run program.now budget))) }
 {
     let run = run_with(alloc, program, budget, false)?;

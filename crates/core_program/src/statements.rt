@@ -15,7 +15,7 @@ ghost use Rattle.core_program.specs.Statements.{
 };
 
 use crate::machine::{Halt, Machine, Trouble, may_call, read_cell, spend, write_cell};
-use crate::tables::{Block, Expression, Program, Routine, Statement};
+use crate::tables::{Block, Expression, SmallProgram, SmallRoutine, Statement};
 use cell_value::{ArithOp, Kind, OpFault, Value, arith};
 
 /// The address of a place in the frame at a base. No cell is at 1,048,576 or above it, and each
@@ -126,7 +126,7 @@ fn assign(
 }
 
 /// Asks leave to call a routine, which may be one that the tables do not have.
-fn ask_leave(machine: &mut Machine, routine: Option<Routine>) -> Result<(), Halt>
+fn ask_leave(machine: &mut Machine, routine: Option<SmallRoutine>) -> Result<(), Halt>
     ensures act { DoesAll (λ _. tt) (performs (leave_to_call routine) (machine_state machine.old)) result
         (moment_of machine.old) (moment_of machine.new) }
     ensures room { OnOk result (HasRoom machine.new) }
@@ -143,7 +143,7 @@ fn ask_leave(machine: &mut Machine, routine: Option<Routine>) -> Result<(), Halt
 /// What a statement on this line does itself, in a block whose frame is at this base: all of an
 /// assignment, and of a call what comes before the routine is entered.
 pub fn execute(
-    program: &Program,
+    program: &SmallProgram,
     machine: &mut Machine,
     line: u32,
     block: Block,

@@ -1,4 +1,4 @@
-//! A program as tables: its statements in rows, and its routines.
+//! A small program as tables: its statements in rows, and its routines.
 
 ghost use Rattle.std.specs.Prelude.{◌≡◌, ◌+◌, [], ◌∷◌, ◌++◌, length, slice_get, OnOk, OnErr};
 ghost use Rattle.core_program.specs.Statements as statements;
@@ -47,7 +47,7 @@ pub fn block_of(routine: u32) -> Block
 
 /// A row of the table of statements.
 #[derive(Clone, Copy, Debug, PartialEq, Eq)]
-pub struct Row {
+pub struct SmallRow {
     /// The line of the source on which the statement's first token stands.
     pub line: u32,
     /// What it does.
@@ -60,7 +60,7 @@ pub struct Row {
 /// A variable is named by its place in the program block's frame. Place 0 is the link, and the first
 /// declared variable has place 1.
 #[derive(Clone, Copy, Debug, PartialEq, Eq)]
-pub struct Routine {
+pub struct SmallRoutine {
     /// The number of the token that spells its name.
     pub name: u32,
     /// The number of cells of its frame, the link included.
@@ -71,31 +71,31 @@ pub struct Routine {
     pub count: u32,
 }
 
-/// A program: the rows of its statements, and its routines, each numbered from 0.
+/// A small program: the rows of its statements, and its routines, each numbered from 0.
 #[derive(Debug, Drop)]
-pub struct Program {
-    statement_rows: Vec<Row>,
-    blocks: Vec<Routine>,
+pub struct SmallProgram {
+    statement_rows: Vec<SmallRow>,
+    blocks: Vec<SmallRoutine>,
 }
 
-impl Model for Program {
+impl Model for SmallProgram {
     ghost use Rattle.std.specs.Prelude.{◌<◌, ◌^◌, vec_len};
-    ghost use Rattle.core_program.specs.ProgramTables.{ProgramTables};
+    ghost use Rattle.core_program.specs.SmallTables.{SmallTables};
 
-    ghost Value = { ProgramTables };
+    ghost Value = { SmallTables };
 
     ghost view = { λ p. record { rows = p.statement_rows.items; routines = p.blocks.items } };
 
     ghost invariant = { λ p. (vec_len p.statement_rows < 2 ^ 32) × (vec_len p.blocks < 2 ^ 32) };
 }
 
-impl Program {
+impl SmallProgram {
     /// A program with no rows and no routines, which takes no memory yet.
-    pub fn new(alloc: Global) -> Program
+    pub fn new(alloc: Global) -> SmallProgram
         ensures rows { result.rows ≡ [] }
         ensures routines { result.routines ≡ [] }
     {
-        Program {
+        SmallProgram {
             statement_rows: Vec::new(alloc),
             blocks: Vec::new(alloc),
         }
@@ -103,7 +103,7 @@ impl Program {
 
     /// Puts a row after the others. A table that has 4,294,967,295 rows takes no more, which counts
     /// as out of memory.
-    pub fn add_row(&mut self, row: Row) -> Result<(), Memory>
+    pub fn add_row(&mut self, row: SmallRow) -> Result<(), Memory>
         ensures added { OnOk result (self.new ≡ record self.old { rows = self.old.rows ++ row ∷ [] }) }
         ensures unchanged { OnErr result (self.new ≡ self.old) }
     {
@@ -116,7 +116,7 @@ impl Program {
 
     /// Puts a routine after the others. A table that has 4,294,967,295 routines takes no more, which
     /// counts as out of memory.
-    pub fn add_routine(&mut self, routine: Routine) -> Result<(), Memory>
+    pub fn add_routine(&mut self, routine: SmallRoutine) -> Result<(), Memory>
         ensures added { OnOk result (self.new ≡ record self.old { routines = self.old.routines ++ routine ∷ [] }) }
         ensures unchanged { OnErr result (self.new ≡ self.old) }
     {
@@ -128,14 +128,14 @@ impl Program {
     }
 
     /// The row of this number, and None where there is none.
-    pub fn row(&self, i: u32) -> Option<Row>
+    pub fn row(&self, i: u32) -> Option<SmallRow>
         ensures { result ≡ slice_get self.now.rows i }
     {
         self.statement_rows.get(i as usize).copied()
     }
 
     /// The row that stands `offset` rows after the first one, and None where there is none.
-    pub fn row_after(&self, first: u32, offset: u32) -> Option<Row>
+    pub fn row_after(&self, first: u32, offset: u32) -> Option<SmallRow>
         ensures { result ≡ slice_get self.now.rows (first + offset) }
     {
         self.statement_rows
@@ -144,7 +144,7 @@ impl Program {
     }
 
     /// The routine of this number, and None where there is none.
-    pub fn routine(&self, i: u32) -> Option<Routine>
+    pub fn routine(&self, i: u32) -> Option<SmallRoutine>
         ensures { result ≡ slice_get self.now.routines i }
     {
         self.blocks.get(i as usize).copied()

@@ -14,7 +14,7 @@ use Rattle.core_program.specs.Numbering.{greatest, belows, last_of, parent_of, i
 use Rattle.plain_search.specs.Numbering.{AreIntervals, IsParent, IsNumbered}
 use Rattle.debuggee.specs.Execution.{parents_of, lasts_of, calls_within, IsReady}
 use Rattle.debuggee.specs.declared.source.Debuggee.{Debuggee}
-use Rattle.core_program.specs.ProgramTables.{ProgramTables}
+use Rattle.core_program.specs.SmallTables.{SmallTables}
 use Rattle.core_program.specs.Run.{Outcome, run}
 use Rattle.core_program.specs.Numbering.{calls_of}
 use Rattle.core_program.specs.Laws.{SubtreeIsInterval, LastIsACall}
@@ -158,12 +158,12 @@ no_calls : IsTree (belows [])
 no_calls = record { subtree = λ k j h. absurd (let f : k < 0 = h in omega (arith, f)); last = λ k h. absurd (let f : k < 0 = h in omega (arith, f)) }
 
 module _ (subtree : SubtreeIsInterval) (last : LastIsACall) where
-  tree_of : (p : ProgramTables) (budget : ℕ) (o : Outcome) → run p budget ≡ o → IsTree (belows (calls_of o))
+  tree_of : (p : SmallTables) (budget : ℕ) (o : Outcome) → run p budget ≡ o → IsTree (belows (calls_of o))
   tree_of p budget None e = no_calls
   tree_of p budget (Some r) e = record { subtree = subtree p budget r e; last = last p budget r e }
 
   -- the columns of the calls of a run
-  pub run_numbered : (p : ProgramTables) (budget : ℕ) → IsNumbered (parents_of (calls_within p budget)) (lasts_of (calls_within p budget))
+  pub run_numbered : (p : SmallTables) (budget : ℕ) → IsNumbered (parents_of (calls_within p budget)) (lasts_of (calls_within p budget))
   unfolding calls_within
   run_numbered p budget = numbered_columns (calls_of (run p budget)) (tree_of p budget (run p budget) refl)
 
@@ -172,7 +172,7 @@ lasts_length' [] = refl
 lasts_length' (r ∷ rows) = omega (arith, lasts_length' rows)
 
 -- a run whose column of last calls is kept is ready to be searched
-pub ready_of : (subtree : SubtreeIsInterval) (last : LastIsACall) (r : Debuggee) (p : ProgramTables) (budget : ℕ) → r.lasts.items ≡ lasts_of r.calls
+pub ready_of : (subtree : SubtreeIsInterval) (last : LastIsACall) (r : Debuggee) (p : SmallTables) (budget : ℕ) → r.lasts.items ≡ lasts_of r.calls
     → length r.calls < 2 ^ 32 → r.calls ≡ calls_within p budget → IsReady r
 ready_of subtree last r p budget lasts few calls = record {
   lasts = lasts;

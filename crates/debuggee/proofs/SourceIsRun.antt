@@ -6,7 +6,7 @@ use Rattle.pas_lexer.specs.declared.kinds.LexFault.TheVariants as lexis
 use Rattle.pas_lexer.specs.Lexed.{Lexed}
 use Rattle.debuggee.specs.declared.refusal.Refusal.{Refusal}
 use Rattle.pas_lexer.specs.Division.{IsLexed}
-use Rattle.core_program.specs.ProgramTables.{ProgramTables}
+use Rattle.core_program.specs.SmallTables.{SmallTables}
 use Rattle.debuggee.specs.declared.source.SourceFault.{SourceFault}
 use Rattle.debuggee.specs.declared.source.SourceFault.TheVariants.{Refused, Memory}
 use Rattle.debuggee.specs.Limits.{default_budget}
@@ -84,7 +84,7 @@ module _ {source : List ℕ} {tokens : Lexed} (the : IsDivided source tokens) wh
 
   -- ---- a program
 
-  pub run_only : (program : ProgramTables) (r : Execution) → ((s : Small) → IsSmall (pieces tokens) s → program ≡ program_of s)
+  pub run_only : (program : SmallTables) (r : Execution) → ((s : Small) → IsSmall (pieces tokens) s → program ≡ program_of s)
       → r ≡ record { tokens = tokens; program = program; calls = calls_within program default_budget }
       → (t : Lexed) (s : Small) → IsProgram source t s → r ≡ execution_of t s
   run_only program r h is t s p =
@@ -92,7 +92,7 @@ module _ {source : List ℕ} {tokens : Lexed} (the : IsDivided source tokens) wh
       let q : program ≡ program_of s = h s (small_is t s p) in
       is ∙ (λ i. record { tokens = same i; program = q i; calls = calls_within (q i) default_budget })
 
-  pub run_found : (program : ProgramTables) (r : Execution) → ((s : Small) × IsSmall (pieces tokens) s × (program ≡ program_of s))
+  pub run_found : (program : SmallTables) (r : Execution) → ((s : Small) × IsSmall (pieces tokens) s × (program ≡ program_of s))
       → r ≡ record { tokens = tokens; program = program; calls = calls_within program default_budget }
       → (t : Lexed) × (s : Small) × IsProgram source t s × (r ≡ execution_of t s)
   run_found program r p is = (
@@ -106,9 +106,9 @@ module _ {source : List ℕ} {tokens : Lexed} (the : IsDivided source tokens) wh
 
 same_program : (l : List Piece) (s s' : Small) → IsSmall l s → IsSmall l s' → program_of s ≡ program_of s'
 same_program l s s' p q =
-    let both : ◌≡◌ {A = Read ProgramTables} (Ok (program_of s, [])) (Ok (program_of s', [])) = sym (small_whole l s p) ∙ small_whole l s' q in
+    let both : ◌≡◌ {A = Read SmallTables} (Ok (program_of s, [])) (Ok (program_of s', [])) = sym (small_whole l s p) ∙ small_whole l s' q in
     let pair : (program_of s, []) ≡ (program_of s', []) = cc in
-    ap (λ (z : ProgramTables × List Piece). z.0) pair
+    ap (λ (z : SmallTables × List Piece). z.0) pair
 
 pub one_run : (source : List ℕ) (t t' : Lexed) (s s' : Small) → IsProgram source t s → IsProgram source t' s' → t.tokens ≡ t'.tokens
     → execution_of t s ≡ execution_of t' s'

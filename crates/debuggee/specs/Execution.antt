@@ -3,8 +3,8 @@ use Rattle.std.specs.Prelude.{◌≡◌, ◌<◌, ◌^◌, ℕ, List, [], Option
 use Rattle.pas_lexer.specs.declared.kinds.Token.{Token}
 use Rattle.pas_lexer.specs.Lexed.{Lexed, text_of}
 use Rattle.core_program.specs.declared.calls.CallRow.{CallRow}
-use Rattle.core_program.specs.declared.tables.Routine.{Routine}
-use Rattle.core_program.specs.ProgramTables.{ProgramTables}
+use Rattle.core_program.specs.declared.tables.SmallRoutine.{SmallRoutine}
+use Rattle.core_program.specs.SmallTables.{SmallTables}
 use Rattle.core_program.specs.Run.{run}
 use Rattle.core_program.specs.Numbering.{numbered, calls_of}
 use Rattle.plain_search.specs.Numbering.{AreIntervals}
@@ -15,11 +15,11 @@ use Rattle.small_program.specs.Small.{Small, program_of}
 -- the tokens of a source, the program that they are, and the calls of its run in order of entry
 pub record Execution : Type 0 where
   pub tokens : Lexed
-  pub program : ProgramTables
+  pub program : SmallTables
   pub calls : List CallRow
 
 -- the calls of the run of a program with a budget
-unfoldable pub calls_within : ProgramTables → ℕ → List CallRow
+unfoldable pub calls_within : SmallTables → ℕ → List CallRow
 calls_within p budget = numbered (calls_of (run p budget))
 
 -- the run of a small program
@@ -31,7 +31,7 @@ abbrev pub text_at : List ℕ → Option Token → List ℕ
 text_at source None = []
 text_at source (Some t) = text_of source t
 
-abbrev pub name_by : Lexed → Option Routine → List ℕ
+abbrev pub name_by : Lexed → Option SmallRoutine → List ℕ
 name_by t None = []
 name_by t (Some r) = text_at t.source (slice_get t.tokens r.name)
 

@@ -7,7 +7,7 @@ use Rattle.pas_lexer.specs.Division.{IsLexed, IsFault, line_at}
 use Rattle.pas_phrases.specs.declared.fault.ParseFault.TheVariants as parser
 use Rattle.pas_parser.specs.Exact.{IsExact}
 use Rattle.pas_parser.specs.Formed.{IsText}
-use Rattle.core_program.specs.ProgramTables.{ProgramTables}
+use Rattle.core_program.specs.SmallTables.{SmallTables}
 use Rattle.debuggee.specs.declared.refusal.Refusal.{Refusal}
 use Rattle.debuggee.specs.declared.refusal.Refusal.TheVariants as refusal
 use Rattle.debuggee.specs.declared.source.SourceFault.{SourceFault}
@@ -110,7 +110,7 @@ TokensAre tokens (Err (Refused why line byte)) = ⊥
 TokensAre tokens (Err Memory) = Unit {0}
 
 -- the answer is this program, or that memory ran out
-abbrev pub ProgramIs : ProgramTables → Result ProgramTables SourceFault → Type 0
+abbrev pub ProgramIs : SmallTables → Result SmallTables SourceFault → Type 0
 ProgramIs p (Ok found) = found ≡ p
 ProgramIs p (Err (Refused why line byte)) = ⊥
 ProgramIs p (Err Memory) = Unit {0}

@@ -14,7 +14,7 @@ ghost use Rattle.debuggee.specs.Execution.{execution, execution_of, calls_within
 ghost use Rattle.debuggee.specs.Limits.{default_budget};
 
 use crate::refusal::Refusal;
-use core_program::{Calls, Program, numbers_tell_the_tree, run_calls};
+use core_program::{Calls, SmallProgram, numbers_tell_the_tree, run_calls};
 use pas_lexer::{LexFault, Tokens, lex, line_at};
 use pas_parser::{ParseFault, parse};
 use small_program::{SmallFault, parse_small};
@@ -31,7 +31,7 @@ pub struct Debuggee {
     /// The tokens of the source, with its bytes.
     pub tokens: Tokens,
     /// The program that they are.
-    pub program: Program,
+    pub program: SmallProgram,
     /// The calls of its run, in order of entry; call 0 is the program.
     pub calls: Calls,
     /// For each call the number of the last call in its subtree.
@@ -142,7 +142,7 @@ fn check_grammar(alloc: Global, tokens: &Tokens) -> Result<(), SourceFault>
 }
 
 /// The program that the tokens are.
-fn read_program(alloc: Global, tokens: &Tokens) -> Result<Program, SourceFault>
+fn read_program(alloc: Global, tokens: &Tokens) -> Result<SmallProgram, SourceFault>
     ensures found { IfOk result (λ p. (s : Small) × IsSmall (pieces tokens.now) s × (p ≡ program_of s)) }
     ensures only { (s : Small) → IsSmall (pieces tokens.now) s → ProgramIs (program_of s) result }
     ensures refused { IfErr result (IsUnread tokens.now) }
@@ -156,7 +156,7 @@ fn read_program(alloc: Global, tokens: &Tokens) -> Result<Program, SourceFault>
 
 /// The calls of the run of a program with this budget.
 #[tactic(auto, unfolding(crate::specs::Execution::calls_within))]
-fn find_calls(alloc: Global, program: &Program, budget: u32) -> Result<Calls, AllocError>
+fn find_calls(alloc: Global, program: &SmallProgram, budget: u32) -> Result<Calls, AllocError>
     ensures { IfOk result (λ calls. calls ≡ calls_within program.now budget) }
 {
     run_calls(alloc, program, budget)
@@ -186,7 +186,7 @@ fn last_calls(alloc: Global, calls: &Calls) -> Result<Vec<u32>, AllocError>
 }
 
 /// The run of a program, whose tokens these are.
-fn run_tokens(alloc: Global, tokens: Tokens, program: Program) -> Result<Debuggee, AllocError>
+fn run_tokens(alloc: Global, tokens: Tokens, program: SmallProgram) -> Result<Debuggee, AllocError>
     ensures kept { IfOk result (λ debuggee. execution debuggee
         ≡ record { tokens = tokens; program = program; calls = calls_within program default_budget }) }
     ensures ready { IfOk result IsReady }

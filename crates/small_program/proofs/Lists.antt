@@ -5,9 +5,9 @@ use Rattle.std.specs.Prelude.{Vec}
 use Rattle.std.specs.declared.alloc.Global.{Global}
 use Rattle.small_program.specs.declared.terminals.Fixed.{Fixed}
 use Rattle.small_program.specs.declared.terminals.Fixed.TheVariants as fixed
-use Rattle.core_program.specs.declared.tables.Row.{Row}
-use Rattle.core_program.specs.declared.tables.Routine.{Routine}
-use Rattle.core_program.specs.ProgramTables.{ProgramTables}
+use Rattle.core_program.specs.declared.tables.SmallRow.{SmallRow}
+use Rattle.core_program.specs.declared.tables.SmallRoutine.{SmallRoutine}
+use Rattle.core_program.specs.SmallTables.{SmallTables}
 use Rattle.small_program.specs.declared.names.Names.{Names}
 use Rattle.small_program.specs.declared.names.Scope.{Scope}
 use Rattle.small_program.specs.declared.small.SmallFault.{SmallFault}
@@ -94,7 +94,7 @@ module _ {A : Type 0} (sep : Fixed) (item : List A → List Piece → Read A)
 pub new_shrinks : (found : List (List ℕ)) (l : List Piece) (x : List ℕ) (rest : List Piece) → new_name found l ≡ Ok (x, rest) → length rest ≤ length l
 new_shrinks found l x rest e = let h = new_sound found l x rest e in begins_shorter (This h.0 ∷ []) l rest h.1
 
-pub step_shrinks : (k : Known) (found : List Row) (l : List Piece) (x : Row) (rest : List Piece) → step_at k l ≡ Ok (x, rest) → length rest ≤ length l
+pub step_shrinks : (k : Known) (found : List SmallRow) (l : List Piece) (x : SmallRow) (rest : List Piece) → step_at k l ≡ Ok (x, rest) → length rest ≤ length l
 step_shrinks k found l x rest e = let h = step_sound k l x rest e in begins_shorter (step_places h.0) l rest h.1
 
 pub procedure_shrinks : (variables : List (List ℕ)) (found : List Translation) (l : List Piece) (x : Translation) (rest : List Piece)
@@ -108,14 +108,14 @@ pub record NamesSoFar (ps : List Piece) (whole : Read (List (List ℕ))) (names 
   pub leads : all_further fixed.Comma new_name found (drop at ps) ≡ whole
 
 -- the rows found so far, behind those that were there
-pub record RowsSoFar (k : Known) (ps : List Piece) (whole : Read (List Row)) (old now : ProgramTables) (at : ℕ) : Type 0 where
-  pub found : List Row
+pub record RowsSoFar (k : Known) (ps : List Piece) (whole : Read (List SmallRow)) (old now : SmallTables) (at : ℕ) : Type 0 where
+  pub found : List SmallRow
   pub is : now ≡ record old { rows = old.rows ++ found }
   pub leads : all_further fixed.Semicolon (λ _ l. step_at k l) found (drop at ps) ≡ whole
 
 -- the procedures found so far
-pub record ProceduresSoFar (variables : List (List ℕ)) (ps : List Piece) (whole : Read (List Translation)) (old now : ProgramTables) (scope : Scope)
-    (routines : List Routine) (at : ℕ) : Type 0 where
+pub record ProceduresSoFar (variables : List (List ℕ)) (ps : List Piece) (whole : Read (List Translation)) (old now : SmallTables) (scope : Scope)
+    (routines : List SmallRoutine) (at : ℕ) : Type 0 where
   pub found : List Translation
   pub is : now ≡ record old { rows = old.rows ++ all_rows found }
   pub routines_are : routines ≡ routines_from (length old.rows) found
@@ -162,85 +162,85 @@ module _ (ps : List Piece) where
       → NamesRead ps names (Ok at) whole
   names_end whole names at s k = (s.found, sym s.leads ∙ is_done fixed.Comma new_name new_shrinks s.found (drop at ps) k.0, s.tabled)
 
-abbrev with_rows : ProgramTables → List Row → ProgramTables
+abbrev with_rows : SmallTables → List SmallRow → SmallTables
 with_rows t rows = record t { rows = t.rows ++ rows }
 
 -- rows behind rows
-rows_behind : (t : ProgramTables) (a b : List Row) → with_rows (with_rows t a) b ≡ with_rows t (a ++ b)
-rows_behind t a b = ap (λ (rs : List Row). record t { rows = rs }) (append_assoc t.rows a b)
+rows_behind : (t : SmallTables) (a b : List SmallRow) → with_rows (with_rows t a) b ≡ with_rows t (a ++ b)
+rows_behind t a b = ap (λ (rs : List SmallRow). record t { rows = rs }) (append_assoc t.rows a b)
 
-pub grows : (t u : ProgramTables) (rows : List Row) → u ≡ with_rows t rows → length t.rows ≤ length u.rows
-grows t u rows e = omega (arith, ap (λ (v : ProgramTables). length v.rows) e, length-append t.rows rows)
+pub grows : (t u : SmallTables) (rows : List SmallRow) → u ≡ with_rows t rows → length t.rows ≤ length u.rows
+grows t u rows e = omega (arith, ap (λ (v : SmallTables). length v.rows) e, length-append t.rows rows)
 
 module _ (ps : List Piece) (k : Known) where
-  abbrev step_item : List Row → List Piece → Read Row
+  abbrev step_item : List SmallRow → List Piece → Read SmallRow
   step_item _ l = step_at k l
 
   -- the first step
-  pub rows_begin : (l : List Piece) (r : Row) (old now : ProgramTables) (n : ℕ) → step_at k l ≡ Ok (r, drop n ps) → now ≡ with_rows old (r ∷ [])
+  pub rows_begin : (l : List Piece) (r : SmallRow) (old now : SmallTables) (n : ℕ) → step_at k l ≡ Ok (r, drop n ps) → now ≡ with_rows old (r ∷ [])
       → RowsSoFar k ps (steps_at k l) old now n
   unfolding steps_at
   rows_begin l r old now n e f = record {
     found = r ∷ [];
     is = f;
-    leads = sym (ap (λ (s : Read Row). after s (λ x l. all_further fixed.Semicolon step_item (x ∷ []) l)) e);
+    leads = sym (ap (λ (s : Read SmallRow). after s (λ x l. all_further fixed.Semicolon step_item (x ∷ []) l)) e);
   }
 
-  pub rows_begin_fails : {X : Type 0} (view : X → Row) (old now : ProgramTables) (l : List Piece) (e : SmallFault) → Gives ps view (Err e) (step_at k l)
+  pub rows_begin_fails : {X : Type 0} (view : X → SmallRow) (old now : SmallTables) (l : List Piece) (e : SmallFault) → Gives ps view (Err e) (step_at k l)
       → RowsRead ps old now (Err e) (steps_at k l)
   unfolding steps_at
-  rows_begin_fails view old now l (Unbuilt i) d = ap (λ (s : Read Row). after s (λ x l. all_further fixed.Semicolon step_item (x ∷ []) l)) d
+  rows_begin_fails view old now l (Unbuilt i) d = ap (λ (s : Read SmallRow). after s (λ x l. all_further fixed.Semicolon step_item (x ∷ []) l)) d
   rows_begin_fails view old now l Memory d = tt
 
   -- one more step
-  pub rows_more : (whole : Read (List Row)) (old now new : ProgramTables) (at behind n : ℕ) (r : Row) (s : RowsSoFar k ps whole old now at)
+  pub rows_more : (whole : Read (List SmallRow)) (old now new : SmallTables) (at behind n : ℕ) (r : SmallRow) (s : RowsSoFar k ps whole old now at)
       → Skips ps at fixed.Semicolon (Some behind)
       → step_at k (drop behind ps) ≡ Ok (r, drop n ps) → new ≡ with_rows now (r ∷ []) → RowsSoFar k ps whole old new n
   rows_more whole old now new at behind n r s skips d f = record {
     found = s.found ++ r ∷ [];
-    is = f ∙ ap (λ (t : ProgramTables). with_rows t (r ∷ [])) s.is ∙ rows_behind old s.found (r ∷ []);
+    is = f ∙ ap (λ (t : SmallTables). with_rows t (r ∷ [])) s.is ∙ rows_behind old s.found (r ∷ []);
     leads = sym (goes_on fixed.Semicolon step_item (step_shrinks k) s.found (drop at ps) (drop behind ps) (drop n ps) r skips.0 skips.1 d) ∙ s.leads;
   }
 
-  pub rows_more_fails : {X : Type 0} (view : X → Row) (whole : Read (List Row)) (old now new : ProgramTables) (at behind : ℕ) (e : SmallFault)
+  pub rows_more_fails : {X : Type 0} (view : X → SmallRow) (whole : Read (List SmallRow)) (old now new : SmallTables) (at behind : ℕ) (e : SmallFault)
       (s : RowsSoFar k ps whole old now at) → Skips ps at fixed.Semicolon (Some behind)
       → Gives ps view (Err e) (step_at k (drop behind ps)) → RowsRead ps old new (Err e) whole
   rows_more_fails view whole old now new at behind (Unbuilt i) s skips d =
       sym s.leads ∙ ends fixed.Semicolon step_item (step_shrinks k) s.found (drop at ps) (drop behind ps) (drop i ps) skips.0 skips.1 d
   rows_more_fails view whole old now new at behind Memory s skips d = tt
 
-  pub rows_end : (whole : Read (List Row)) (old now : ProgramTables) (at : ℕ) (s : RowsSoFar k ps whole old now at) → Skips ps at fixed.Semicolon None
+  pub rows_end : (whole : Read (List SmallRow)) (old now : SmallTables) (at : ℕ) (s : RowsSoFar k ps whole old now at) → Skips ps at fixed.Semicolon None
       → RowsRead ps old now (Ok at) whole
   rows_end whole old now at s skips = (s.found, sym s.leads ∙ is_done fixed.Semicolon step_item (step_shrinks k) s.found (drop at ps) skips.0, s.is)
 
 all_rows_last : (ts : List Translation) (t : Translation) → all_rows (ts ++ t ∷ []) ≡ all_rows ts ++ t.rows
 all_rows_last [] t = append-nil t.rows
-all_rows_last (u ∷ ts) t = ap (λ (rs : List Row). u.rows ++ rs) (all_rows_last ts t) ∙ sym (append_assoc u.rows (all_rows ts) t.rows)
+all_rows_last (u ∷ ts) t = ap (λ (rs : List SmallRow). u.rows ++ rs) (all_rows_last ts t) ∙ sym (append_assoc u.rows (all_rows ts) t.rows)
 
 routines_last : (first : ℕ) (ts : List Translation) (t : Translation)
     → routines_from first (ts ++ t ∷ []) ≡ routines_from first ts ++ routine t.name (first + length (all_rows ts)) (length t.rows) ∷ []
 routines_last first [] t = ap (λ (n : ℕ). routine t.name n (length t.rows) ∷ []) (let e : first ≡ first + 0 = omega arith in e)
 routines_last first (u ∷ ts) t =
     let e : first + length u.rows + length (all_rows ts) ≡ first + length (u.rows ++ all_rows ts) = omega (arith, length-append u.rows (all_rows ts)) in
-    ap (λ (rs : List Routine). routine u.name first (length u.rows) ∷ rs)
+    ap (λ (rs : List SmallRoutine). routine u.name first (length u.rows) ∷ rs)
     (routines_last (first + length u.rows) ts t ∙ ap (λ (n : ℕ). routines_from (first + length u.rows) ts ++ routine t.name n (length t.rows) ∷ []) e)
 
 module _ (ps : List Piece) (variables : List (List ℕ)) where
   -- no procedure yet
-  pub procedures_begin : (old : ProgramTables) (scope : Scope) (routines : List Routine) (at : ℕ) → routines ≡ [] → IsScope (known_after variables []) scope
+  pub procedures_begin : (old : SmallTables) (scope : Scope) (routines : List SmallRoutine) (at : ℕ) → routines ≡ [] → IsScope (known_after variables []) scope
       → ProceduresSoFar variables ps (procedures_at variables (drop at ps)) old old scope routines at
   unfolding procedures_at
   procedures_begin old scope routines at none scoped = record {
     found = [];
-    is = ap (λ (rs : List Row). record old { rows = rs }) (sym (append-nil old.rows));
+    is = ap (λ (rs : List SmallRow). record old { rows = rs }) (sym (append-nil old.rows));
     routines_are = none;
     scoped = scoped;
     leads = refl;
   }
 
   -- one more procedure
-  pub procedures_more : (whole : Read (List Translation)) (old now new : ProgramTables) (scope scope' : Scope) (routines more : List Routine) (at behind n : ℕ)
-      (x : Routine)
+  pub procedures_more : (whole : Read (List Translation)) (old now new : SmallTables) (scope scope' : Scope) (routines more : List SmallRoutine)
+      (at behind n : ℕ) (x : SmallRoutine)
       (s : ProceduresSoFar variables ps whole old now scope routines at) → Skips ps at fixed.Procedure (Some behind)
       → ((found : List Translation) → IsScope (known_after variables found) scope
       → ProcedureRead ps variables found now new scope' (Ok (x, n)) (procedure_at variables found (drop behind ps)))
@@ -249,10 +249,10 @@ module _ (ps : List Piece) (variables : List (List ℕ)) where
       let y = d s.found s.scoped in
       let t : Translation = y.0 in
       let lengths : length now.rows ≡ length old.rows + length (all_rows s.found) =
-      ap (λ (u : ProgramTables). length u.rows) s.is ∙ length-append old.rows (all_rows s.found) in
+      ap (λ (u : SmallTables). length u.rows) s.is ∙ length-append old.rows (all_rows s.found) in
       record {
         found = s.found ++ t ∷ [];
-        is = y.2 ∙ ap (λ (u : ProgramTables). with_rows u t.rows) s.is ∙ rows_behind old (all_rows s.found) t.rows
+        is = y.2 ∙ ap (λ (u : SmallTables). with_rows u t.rows) s.is ∙ rows_behind old (all_rows s.found) t.rows
             ∙ ap (with_rows old) (sym (all_rows_last s.found t));
         routines_are = grown ∙ (λ i. s.routines_are i ++ (y.3 ∙ ap (λ (f : ℕ). routine t.name f (length t.rows)) lengths) i ∷ [])
             ∙ sym (routines_last (length old.rows) s.found t);
@@ -261,8 +261,8 @@ module _ (ps : List Piece) (variables : List (List ℕ)) where
             skips.1 y.1) ∙ s.leads;
       }
 
-  pub procedures_more_fails : (whole : Read (List Translation)) (old now new : ProgramTables) (scope scope' : Scope) (routines : List Routine) (at behind : ℕ)
-      (e : SmallFault)
+  pub procedures_more_fails : (whole : Read (List Translation)) (old now new : SmallTables) (scope scope' : Scope) (routines : List SmallRoutine)
+      (at behind : ℕ) (e : SmallFault)
       (s : ProceduresSoFar variables ps whole old now scope routines at) → Skips ps at fixed.Procedure (Some behind)
       → ((found : List Translation) → IsScope (known_after variables found) scope
       → ProcedureRead ps variables found now new scope' (Err e) (procedure_at variables found (drop behind ps)))
@@ -272,7 +272,7 @@ module _ (ps : List Piece) (variables : List (List ℕ)) where
       skips.1 (d s.found s.scoped)
   procedures_more_fails whole old now new scope scope' routines at behind Memory s skips d = tt
 
-  pub procedures_end : (whole : Read (List Translation)) (old now : ProgramTables) (scope : Scope) (routines : Vec Routine Global) (at : ℕ)
+  pub procedures_end : (whole : Read (List Translation)) (old now : SmallTables) (scope : Scope) (routines : Vec SmallRoutine Global) (at : ℕ)
       (s : ProceduresSoFar variables ps whole old now scope routines.items at) → Skips ps at fixed.Procedure None
       → ProceduresRead ps variables old now scope (Ok (routines, at)) whole
   procedures_end whole old now scope routines at s skips = (
@@ -288,8 +288,8 @@ known_last : (variables : List (List ℕ)) (found : List Translation) (t : Trans
 known_last variables found t = ap (λ (ns : List (List ℕ)). record { variables = variables; procedures = ns }) (sym (names_last found t))
 
 -- a procedure, by its parts
-pub procedure_read : (ps : List Piece) (variables : List (List ℕ)) (found : List Translation) (old new : ProgramTables) (scope : Scope)
-    (at named colon done end : ℕ) (x : Piece) (rows : List Row) (number first count : ℕ)
+pub procedure_read : (ps : List Piece) (variables : List (List ℕ)) (found : List Translation) (old new : SmallTables) (scope : Scope)
+    (at named colon done end : ℕ) (x : Piece) (rows : List SmallRow) (number first count : ℕ)
     → IsScope (with_procedure (known_after variables found) x) scope → free_name (known_after variables found) (drop at ps) ≡ Ok (x, drop named ps)
     → fixed_at fixed.Semicolon (drop named ps) ≡ Ok (tt, drop colon ps)
     → body_at (with_procedure (known_after variables found) x) (drop colon ps) ≡ Ok (rows, drop done ps)
@@ -301,7 +301,7 @@ unfolding procedure_at
 procedure_read ps variables found old new scope at named colon done end x rows number first count scoped a b c d is numbered begins counted =
     let k : Known = with_procedure (known_after variables found) x in
     let t : Translation = translated x rows in
-    let so_many : count ≡ length rows = omega (arith, counted, begins, ap (λ (v : ProgramTables). length v.rows) is, length-append old.rows rows) in (
+    let so_many : count ≡ length rows = omega (arith, counted, begins, ap (λ (v : SmallTables). length v.rows) is, length-append old.rows rows) in (
       t,
       joined (free_name (known_after variables found) (drop at ps))
           (λ p l. after (fixed_at fixed.Semicolon l) (λ _ l. after (body_at (with_procedure (known_after variables found) p) l)

@@ -9,7 +9,7 @@ use Rattle.pas_lexer.specs.declared.kinds.Kind.TheVariants.{End}
 use Rattle.pas_lexer.specs.declared.kinds.Token.{Token}
 use Rattle.pas_lexer.specs.Lexed.{Lexed, EndsOnce}
 use Rattle.core_program.specs.declared.tables.Expression.TheVariants as expression
-use Rattle.core_program.specs.ProgramTables.{ProgramTables}
+use Rattle.core_program.specs.SmallTables.{SmallTables}
 use Rattle.small_program.specs.declared.terminals.Fixed.{Fixed}
 use Rattle.small_program.specs.declared.terminals.Fixed.TheVariants as fixed
 use Rattle.small_program.specs.declared.small.SmallFault.{SmallFault}
@@ -308,19 +308,19 @@ local_block names ts =
     (quoted fixed.Dot refl)
     (λ _. finish (tables_of (length names) ts rows)))
   where
-    at : (t : ProgramTables) (p : Piece) (l : List Piece) (b : Bool)
-        → ◌≡◌ {A = Read ProgramTables} (after {A = Unit {0}} (if b then Ok (tt, l) else Err (p ∷ l)) (λ _ l. Ok (t, l)))
+    at : (t : SmallTables) (p : Piece) (l : List Piece) (b : Bool)
+        → ◌≡◌ {A = Read SmallTables} (after {A = Unit {0}} (if b then Ok (tt, l) else Err (p ∷ l)) (λ _ l. Ok (t, l)))
         (pick_read (if b then Some t else None) p l)
     at t p l true = refl
     at t p l false = refl
 
-    same : (t : ProgramTables) (l : List Piece) → after (fixed_at fixed.Finish l) (λ _ l. Ok (t, l))
+    same : (t : SmallTables) (l : List Piece) → after (fixed_at fixed.Finish l) (λ _ l. Ok (t, l))
         ≡ pick (λ (p : Piece). if is_fixed fixed.Finish p.kind then Some t else None) l
     same t [] = refl
     same t (p ∷ l) = at t p l (is_fixed fixed.Finish p.kind)
 
     -- the end of the source, and nothing behind it is looked at
-    finish : (t : ProgramTables) → Local true (λ (l : List Piece). after (fixed_at fixed.Finish l) (λ _ l. Ok (t, l)))
+    finish : (t : SmallTables) → Local true (λ (l : List Piece). after (fixed_at fixed.Finish l) (λ _ l. Ok (t, l)))
     finish t = local_same true (λ (l : List Piece). after (fixed_at fixed.Finish l) (λ _ l. Ok (t, l)))
         (pick (λ (p : Piece). if is_fixed fixed.Finish p.kind then Some t else None)) (same t)
         (local_pick true (λ (p : Piece). if is_fixed fixed.Finish p.kind then Some t else None) (λ p f k. absurd (let x : ⊥ = cc in x)))
@@ -376,17 +376,17 @@ stopped lexed i e ended = by (drop i (pieces lexed)) refl
           λ others small h same.
               let is = alike (pieces lexed) s.front back others i x s.splits at same in
               let read : small_at others ≡ Err (x ∷ drop (i + 1) others) = ap small_at is ∙ s.again x back (drop (i + 1) others) at in
-              let both : ◌≡◌ {A = Read ProgramTables} (Err (x ∷ drop (i + 1) others)) (Ok (program_of small, [])) = sym read ∙ small_whole others small h in
+              let both : ◌≡◌ {A = Read SmallTables} (Err (x ∷ drop (i + 1) others)) (Ok (program_of small, [])) = sym read ∙ small_whole others small h in
               let y : ⊥ = cc in y,
         )
 
-pub refused_token : (lexed : Lexed) (e : SmallFault) → Gives {X = ProgramTables} (pieces lexed) (λ t. t) (Err e) (small_at (pieces lexed))
+pub refused_token : (lexed : Lexed) (e : SmallFault) → Gives {X = SmallTables} (pieces lexed) (λ t. t) (Err e) (small_at (pieces lexed))
     → RefusedThere lexed e
 refused_token lexed (Unbuilt i) g = stopped lexed i g
 refused_token lexed Memory g = tt
 
 -- the same of a token behind the program
-pub refused_behind : (lexed : Lexed) (t : ProgramTables) (i : ℕ) → i < length lexed.tokens → small_at (pieces lexed) ≡ Ok (t, drop i (pieces lexed))
+pub refused_behind : (lexed : Lexed) (t : SmallTables) (i : ℕ) → i < length lexed.tokens → small_at (pieces lexed) ≡ Ok (t, drop i (pieces lexed))
     → RefusedThere lexed (Unbuilt i)
 refused_behind lexed t i lt e ended = (lt, by (drop i (pieces lexed)) refl)
   where
@@ -398,7 +398,7 @@ refused_behind lexed t i lt e ended = (lt, by (drop i (pieces lexed)) refl)
         let head : SameHead (drop i (pieces lexed)) (x ∷ drop (i + 1) others) =
         subst (λ (l : List Piece). SameHead l (x ∷ drop (i + 1) others)) (sym at) refl in
         let read : small_at others ≡ Ok (t, x ∷ drop (i + 1) others) = ap small_at is ∙ p.again (x ∷ drop (i + 1) others) head in
-        let both : ◌≡◌ {A = Read ProgramTables} (Ok (t, x ∷ drop (i + 1) others)) (Ok (program_of small, [])) = sym read ∙ small_whole others small h in
+        let both : ◌≡◌ {A = Read SmallTables} (Ok (t, x ∷ drop (i + 1) others)) (Ok (program_of small, [])) = sym read ∙ small_whole others small h in
         let pair : (t, x ∷ drop (i + 1) others) ≡ (program_of small, []) = cc in
-        let none : x ∷ drop (i + 1) others ≡ [] = ap (λ (z : ProgramTables × List Piece). z.1) pair in
+        let none : x ∷ drop (i + 1) others ≡ [] = ap (λ (z : SmallTables × List Piece). z.1) pair in
         let y : ⊥ = cc in y

@@ -9,7 +9,7 @@ use Rattle.std.proofs.lemmas.Slice.Eq.{bytes_eq-Decides}
 use Rattle.pas_lexer.specs.declared.kinds.Kind.{Kind}
 use Rattle.pas_lexer.specs.declared.kinds.Kind.TheVariants.{Word, Name, Number, Text, Symbol, End}
 use Rattle.core_program.specs.declared.tables.Expression.TheVariants as expression
-use Rattle.core_program.specs.declared.tables.Row.{Row}
+use Rattle.core_program.specs.declared.tables.SmallRow.{SmallRow}
 use Rattle.small_program.specs.declared.terminals.Fixed.{Fixed}
 use Rattle.small_program.specs.declared.terminals.Fixed.TheVariants as fixed
 use Rattle.small_program.specs.Small.{Piece, Terminal, Quoted, Value, Spelled, This, Assignment, Set, SetSum, Step, Assigns, Calls, assignment_places}
@@ -271,10 +271,10 @@ value_again names (Set x n) l rest h u =
 value_again names (SetSum x y n) l rest h u =
     ap (value_at names) h.2 ∙ value_at_is names h.0 h.1 true (ap named h.3.0) ∙ ap (value_begun true names) (sym h.2) ∙ sum_again names y n l rest h u.1
 
-abbrev becomes_after : List (List ℕ) → ℕ × ℕ → List Piece → Read Row
+abbrev becomes_after : List (List ℕ) → ℕ × ℕ → List Piece → Read SmallRow
 becomes_after names x l = after (fixed_at fixed.Becomes l) (λ _ l. after (value_at names l) (λ e l. Ok (row x e, l)))
 
-pub assignment_sound : (names : List (List ℕ)) (l : List Piece) (r : Row) (rest : List Piece) → assignment_at names l ≡ Ok (r, rest) → (s : Assignment)
+pub assignment_sound : (names : List (List ℕ)) (l : List Piece) (r : SmallRow) (rest : List Piece) → assignment_at names l ≡ Ok (r, rest) → (s : Assignment)
     × Begins (assignment_places s) l rest × UsesVariables names s × (r ≡ assignment_of names s)
 unfolding assignment_at
 assignment_sound names l r rest h =
@@ -318,14 +318,14 @@ assignment_again names s l rest h u =
     (joined (fixed_at fixed.Becomes a.0) (λ _ m. after (value_at names m) (λ e m. Ok (row x e, m))) tt b.0 (ok (assignment_of names s) rest)
     (fixed_again fixed.Becomes a.0 b.0 b.1)
     (joined (value_at names b.0) (λ e m. Ok (row x e, m)) (value_of names s) rest (ok (assignment_of names s) rest)
-    (value_again names s b.0 rest b.2 u) (ap (λ (r : Row). ok r rest) (sym (assignment_row names s)))))
+    (value_again names s b.0 rest b.2 u) (ap (λ (r : SmallRow). ok r rest) (sym (assignment_row names s)))))
 
 -- ---- steps
 
-abbrev step_after : Known → List Piece → Piece → List Piece → Read Row
+abbrev step_after : Known → List Piece → Piece → List Piece → Read SmallRow
 step_after k l p m = step_read (place k.procedures p.spelling) k p l m
 
-step_begun : (k : Known) (l : List Piece) (r : Row) (rest : List Piece) (p : Piece) (m : List Piece) (o : Option ℕ) → place k.procedures p.spelling ≡ o
+step_begun : (k : Known) (l : List Piece) (r : SmallRow) (rest : List Piece) (p : Piece) (m : List Piece) (o : Option ℕ) → place k.procedures p.spelling ≡ o
     → name_at l ≡ Ok (p, m) → step_read o k p l m ≡ Ok (r, rest)
     → (s : Step) × Begins (step_places s) l rest × Uses k s × (r ≡ row_of k s)
 step_begun k l r rest p m (Some n) e f h =
@@ -334,7 +334,7 @@ step_begun k l r rest p m (Some n) e f h =
     (Calls p, (b.0, b.1, b.2, b.3, b.4 ∙ t.1), some_is (place k.procedures p.spelling) n e, sym t.0 ∙ ap (call_row p.line) (sym (link_is k.procedures p n e)))
 step_begun k l r rest p m None e f h = let a = assignment_sound k.variables l r rest h in (Assigns a.0, a.1, a.2, a.3)
 
-pub step_sound : (k : Known) (l : List Piece) (r : Row) (rest : List Piece) → step_at k l ≡ Ok (r, rest) → (s : Step) × Begins (step_places s) l rest
+pub step_sound : (k : Known) (l : List Piece) (r : SmallRow) (rest : List Piece) → step_at k l ≡ Ok (r, rest) → (s : Step) × Begins (step_places s) l rest
     × Uses k s × (r ≡ row_of k s)
 unfolding step_at
 step_sound k l r rest h =

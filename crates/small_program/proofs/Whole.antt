@@ -6,8 +6,8 @@ use Rattle.pas_lexer.specs.declared.kinds.Kind.{Kind}
 use Rattle.pas_lexer.specs.declared.kinds.Kind.TheVariants.{Word, Symbol}
 use Rattle.pas_lexer.specs.declared.kinds.Word.TheVariants as word
 use Rattle.pas_lexer.specs.declared.kinds.Symbol.TheVariants as symbol
-use Rattle.core_program.specs.declared.tables.Row.{Row}
-use Rattle.core_program.specs.ProgramTables.{ProgramTables}
+use Rattle.core_program.specs.declared.tables.SmallRow.{SmallRow}
+use Rattle.core_program.specs.SmallTables.{SmallTables}
 use Rattle.small_program.specs.declared.terminals.Fixed.{Fixed}
 use Rattle.small_program.specs.declared.terminals.Fixed.TheVariants as fixed
 use Rattle.small_program.specs.Small.{Piece, Terminal, Quoted, Spelled, This, Step, Body, Procedure, step_places, further_places, name_places, variable_part}
@@ -305,36 +305,36 @@ variables_again (x ∷ xs) l rest h d e =
 
 -- ---- the statement part
 
-abbrev StepUses : Known → List Row → Step → Type 0
+abbrev StepUses : Known → List SmallRow → Step → Type 0
 StepUses k found s = Uses k s
 
-abbrev step_item : Known → List Row → List Piece → Read Row
+abbrev step_item : Known → List SmallRow → List Piece → Read SmallRow
 step_item k found l = step_at k l
 
-uses_of : (k : Known) (found : List Row) (ss : List Step) → AllValid fixed.Semicolon (step_item k) step_places (StepUses k) (always (row_of k)) found ss
+uses_of : (k : Known) (found : List SmallRow) (ss : List Step) → AllValid fixed.Semicolon (step_item k) step_places (StepUses k) (always (row_of k)) found ss
     → AllUse k ss
 uses_of k found [] h = tt
 uses_of k found (s ∷ ss) h = (h.0, uses_of k (found ++ row_of k s ∷ []) ss h.1)
 
-of_uses : (k : Known) (found : List Row) (ss : List Step) → AllUse k ss
+of_uses : (k : Known) (found : List SmallRow) (ss : List Step) → AllUse k ss
     → AllValid fixed.Semicolon (step_item k) step_places (StepUses k) (always (row_of k)) found ss
 of_uses k found [] h = tt
 of_uses k found (s ∷ ss) h = (h.0, of_uses k (found ++ row_of k s ∷ []) ss h.1)
 
-abbrev steps_after : Known → Row → List Piece → Read (List Row)
+abbrev steps_after : Known → SmallRow → List Piece → Read (List SmallRow)
 steps_after k x l = all_further fixed.Semicolon (step_item k) (x ∷ []) l
 
 abbrev steps_places : Body → List Terminal
 steps_places b = step_places b.first ++ further_places fixed.Semicolon step_places b.others
 
 -- the steps of a statement part in front of a rest
-record Steps (k : Known) (l : List Piece) (rows : List Row) (rest : List Piece) : Type 0 where
+record Steps (k : Known) (l : List Piece) (rows : List SmallRow) (rest : List Piece) : Type 0 where
   steps : Body
   begins : Begins (steps_places steps) l rest
   uses : BodyUses k steps
   rows_are : rows ≡ body_rows k steps
 
-steps_sound : (k : Known) (l : List Piece) (rows : List Row) (rest : List Piece) → steps_at k l ≡ Ok (rows, rest) → Steps k l rows rest
+steps_sound : (k : Known) (l : List Piece) (rows : List SmallRow) (rest : List Piece) → steps_at k l ≡ Ok (rows, rest) → Steps k l rows rest
 unfolding steps_at
 steps_sound k l rows rest h =
     let y = parts (step_at k l) (steps_after k) rows rest h in
@@ -345,8 +345,8 @@ steps_sound k l rows rest h =
       steps = record { first = s.0; others = items.items };
       begins = begins_append (step_places s.0) (further_places fixed.Semicolon step_places items.items) l y.m rest s.1 items.begins;
       uses = record { first = s.2; others = uses_of k (y.x ∷ []) items.items items.valid };
-      rows_are = items.values_are ∙ ap (λ (rs : List Row). y.x ∷ rs) (values_map (row_of k) (y.x ∷ []) items.items)
-          ∙ ap (λ (r : Row). r ∷ map (row_of k) items.items) s.3;
+      rows_are = items.values_are ∙ ap (λ (rs : List SmallRow). y.x ∷ rs) (values_map (row_of k) (y.x ∷ []) items.items)
+          ∙ ap (λ (r : SmallRow). r ∷ map (row_of k) items.items) s.3;
     }
 
 steps_again : (k : Known) (b : Body) (l rest : List Piece) → Apart k → Begins (steps_places b) l rest → BodyUses k b → fixed_next fixed.Semicolon rest ≡ false
@@ -357,13 +357,13 @@ steps_again k b l rest apart h u e =
     joined (step_at k l) (steps_after k) (row_of k b.first) a.0 (ok (body_rows k b) rest) (step_again k b.first l a.0 apart a.1 u.first)
     (all_further_again fixed.Semicolon (step_item k) step_places (StepUses k) (always (row_of k)) (λ found t m r s v. step_again k t m r apart s v)
     (row_of k b.first ∷ []) b.others a.0 rest a.2 (of_uses k (row_of k b.first ∷ []) b.others u.others) e
-    ∙ ap (λ (rs : List Row). ok (row_of k b.first ∷ rs) rest) (values_map (row_of k) (row_of k b.first ∷ []) b.others))
+    ∙ ap (λ (rs : List SmallRow). ok (row_of k b.first ∷ rs) rest) (values_map (row_of k) (row_of k b.first ∷ []) b.others))
 
-abbrev end_of_body : List Row → List Piece → Read (List Row)
+abbrev end_of_body : List SmallRow → List Piece → Read (List SmallRow)
 end_of_body rows l = after (fixed_at fixed.End l) (λ _ l. Ok (rows, l))
 
 -- a statement part in front of a rest
-pub record WholeBody (k : Known) (l : List Piece) (rows : List Row) (rest : List Piece) : Type 0 where
+pub record WholeBody (k : Known) (l : List Piece) (rows : List SmallRow) (rest : List Piece) : Type 0 where
   pub body : Body
   pub begins : Begins (body_places body) l rest
   pub uses : BodyUses k body
@@ -373,7 +373,7 @@ end_places_of : (b : Body) → steps_places b ++ Quoted fixed.End ∷ [] ≡ ste
     ++ (further_places fixed.Semicolon step_places b.others ++ Quoted fixed.End ∷ [])
 end_places_of b = append_assoc (step_places b.first) (further_places fixed.Semicolon step_places b.others) (Quoted fixed.End ∷ [])
 
-pub body_sound : (k : Known) (l : List Piece) (rows : List Row) (rest : List Piece) → body_at k l ≡ Ok (rows, rest) → WholeBody k l rows rest
+pub body_sound : (k : Known) (l : List Piece) (rows : List SmallRow) (rest : List Piece) → body_at k l ≡ Ok (rows, rest) → WholeBody k l rows rest
 unfolding body_at
 body_sound k l rows rest h =
     let y = parts (fixed_at fixed.Begin l) (λ _ l. after (steps_at k l) end_of_body) rows rest h in
@@ -573,19 +573,19 @@ heading_again name l rest h =
     joined (fixed_at fixed.Program l) (λ _ l. after (name_at l) (λ _ l. fixed_at fixed.Semicolon l)) tt a.0 (ok tt rest) (fixed_again fixed.Program l a.0 a.1)
     (joined (name_at a.0) (λ _ l. fixed_at fixed.Semicolon l) name b.0 (ok tt rest) (name_again a.0 name b.0 b.1) (fixed_again fixed.Semicolon b.0 rest b.2))
 
-abbrev finish_after : List (List ℕ) → List Translation → List Row → List Piece → Read ProgramTables
+abbrev finish_after : List (List ℕ) → List Translation → List SmallRow → List Piece → Read SmallTables
 finish_after names ts rows l = after (fixed_at fixed.Dot l) (λ _ l. after (fixed_at fixed.Finish l) (λ _ l. Ok (tables_of (length names) ts rows, l)))
 
-abbrev procedures_after : List (List ℕ) → List Piece → Read ProgramTables
+abbrev procedures_after : List (List ℕ) → List Piece → Read SmallTables
 procedures_after names l = after (procedures_at names l) (block_at names)
 
-abbrev variables_after : Unit {0} → List Piece → Read ProgramTables
+abbrev variables_after : Unit {0} → List Piece → Read SmallTables
 variables_after _ l = after (variables_at l) procedures_after
 
 abbrev end_places : List Terminal
 end_places = Quoted fixed.Dot ∷ Quoted fixed.Finish ∷ []
 
-finish_sound : (names : List (List ℕ)) (ts : List Translation) (rows : List Row) (l : List Piece) (t : ProgramTables) (rest : List Piece)
+finish_sound : (names : List (List ℕ)) (ts : List Translation) (rows : List SmallRow) (l : List Piece) (t : SmallTables) (rest : List Piece)
     → finish_after names ts rows l ≡ Ok (t, rest) → Begins end_places l rest × (t ≡ tables_of (length names) ts rows)
 finish_sound names ts rows l t rest h =
     let y = parts (fixed_at fixed.Dot l) (λ _ l. after (fixed_at fixed.Finish l) (λ _ l. Ok (tables_of (length names) ts rows, l))) t rest h in
@@ -596,22 +596,22 @@ finish_sound names ts rows l t rest h =
       sym s.0,
     )
 
-finish_again : (names : List (List ℕ)) (ts : List Translation) (rows : List Row) (l rest : List Piece) → Begins end_places l rest
+finish_again : (names : List (List ℕ)) (ts : List Translation) (rows : List SmallRow) (l rest : List Piece) → Begins end_places l rest
     → finish_after names ts rows l ≡ Ok (tables_of (length names) ts rows, rest)
 finish_again names ts rows l rest h =
-    let t : ProgramTables = tables_of (length names) ts rows in
+    let t : SmallTables = tables_of (length names) ts rows in
     let a = begins_split (Quoted fixed.Dot ∷ []) (Quoted fixed.Finish ∷ []) l rest h in
     joined (fixed_at fixed.Dot l) (λ _ l. after (fixed_at fixed.Finish l) (λ _ l. Ok (t, l))) tt a.0 (ok t rest) (fixed_again fixed.Dot l a.0 a.1)
     (joined (fixed_at fixed.Finish a.0) (λ _ l. Ok (t, l)) tt rest (ok t rest) (fixed_again fixed.Finish a.0 rest a.2) refl)
 
 -- the statement part of the program and the end
-record Block (names : List (List ℕ)) (ts : List Translation) (l : List Piece) (t : ProgramTables) (rest : List Piece) : Type 0 where
+record Block (names : List (List ℕ)) (ts : List Translation) (l : List Piece) (t : SmallTables) (rest : List Piece) : Type 0 where
   body : Body
   begins : Begins (body_places body ++ end_places) l rest
   uses : BodyUses (known_after names ts) body
   tables_are : t ≡ tables_of (length names) ts (body_rows (known_after names ts) body)
 
-block_sound : (names : List (List ℕ)) (ts : List Translation) (l : List Piece) (t : ProgramTables) (rest : List Piece) → block_at names ts l ≡ Ok (t, rest)
+block_sound : (names : List (List ℕ)) (ts : List Translation) (l : List Piece) (t : SmallTables) (rest : List Piece) → block_at names ts l ≡ Ok (t, rest)
     → Block names ts l t rest
 unfolding block_at
 block_sound names ts l t rest h =
@@ -640,7 +640,7 @@ spellings_length [] = refl
 spellings_length (x ∷ xs) = omega (arith, spellings_length xs)
 
 -- a small program in front of a rest
-pub record SmallBefore (l : List Piece) (t : ProgramTables) (rest : List Piece) : Type 0 where
+pub record SmallBefore (l : List Piece) (t : SmallTables) (rest : List Piece) : Type 0 where
   pub small : Small
   pub begins : Begins (places small) l rest
   pub variables : Declares [] small.variables
@@ -656,7 +656,7 @@ program_is s names ts k e f g =
     let n : length names ≡ length s.variables = ap length e ∙ spellings_length s.variables in
     λ i. tables_of (n i) (f i) (body_rows (g i) s.body)
 
-pub small_sound : (l : List Piece) (t : ProgramTables) (rest : List Piece) → small_at l ≡ Ok (t, rest) → SmallBefore l t rest
+pub small_sound : (l : List Piece) (t : SmallTables) (rest : List Piece) → small_at l ≡ Ok (t, rest) → SmallBefore l t rest
 unfolding small_at
 small_sound l t rest h =
     let y = parts (heading_at l) variables_after t rest h in
@@ -707,11 +707,11 @@ small_again s l rest h vars procs uses =
     (joined (variables_at a.0) procedures_after names b.0 (ok (program_of s) rest) (variables_again s.variables a.0 b.0 b.1 vars no_var)
     (joined (procedures_at names b.0) (block_at names) ts c.0 (ok (program_of s) rest) (procedures_again names s.procedures b.0 c.0 c.1 procs no_procedure)
     (block_again names ts s.body c.0 rest apart c.2 (subst (λ (k : Known). BodyUses k s.body) (sym last) uses)
-    ∙ ap (λ (t : ProgramTables). ok t rest) (program_is s names ts (known_after names ts) refl refl last))))
+    ∙ ap (λ (t : SmallTables). ok t rest) (program_is s names ts (known_after names ts) refl refl last))))
 
 -- ---- all the tokens
 
-pub whole_small : (l : List Piece) (t : ProgramTables) → small_at l ≡ Ok (t, []) → (s : Small) × IsSmall l s × (t ≡ program_of s)
+pub whole_small : (l : List Piece) (t : SmallTables) → small_at l ≡ Ok (t, []) → (s : Small) × IsSmall l s × (t ≡ program_of s)
 whole_small l t h =
     let b = small_sound l t [] h in
     (b.small, record { spelled = begins_whole (places b.small) l b.begins; variables = b.variables; procedures = b.procedures; body = b.body }, b.tables_are)

@@ -10,9 +10,9 @@ use Rattle.pas_lexer.specs.declared.kinds.Token.{Token}
 use Rattle.pas_lexer.specs.Lexed.{Lexed, EndsOnce}
 use Rattle.core_program.specs.declared.tables.Expression.TheVariants as expression
 use Rattle.core_program.specs.declared.tables.Statement.TheVariants.{Assign, Call}
-use Rattle.core_program.specs.declared.tables.Row.{Row}
-use Rattle.core_program.specs.declared.tables.Routine.{Routine}
-use Rattle.core_program.specs.ProgramTables.{ProgramTables}
+use Rattle.core_program.specs.declared.tables.SmallRow.{SmallRow}
+use Rattle.core_program.specs.declared.tables.SmallRoutine.{SmallRoutine}
+use Rattle.core_program.specs.SmallTables.{SmallTables}
 use Rattle.small_program.specs.declared.terminals.Fixed.{Fixed}
 use Rattle.small_program.specs.declared.terminals.Fixed.TheVariants as fixed
 use Rattle.small_program.specs.declared.names.Names.{Names}
@@ -78,7 +78,7 @@ place_read (Some n) p l rest = Ok ((n, p.line), rest)
 abbrev pub known_name : List (List ℕ) → List Piece → Read (ℕ × ℕ)
 known_name names l = after (name_at l) (λ p rest. place_read (place names p.spelling) p l rest)
 
-abbrev pub row : ℕ × ℕ → expression.the_data → Row
+abbrev pub row : ℕ × ℕ → expression.the_data → SmallRow
 row target value = record { line = target.1; statement = Assign target.0 value }
 
 abbrev pub constant_at : List Piece → Read expression.the_data
@@ -92,19 +92,19 @@ unfoldable pub value_at : List (List ℕ) → List Piece → Read expression.the
 value_at names [] = Err []
 value_at names (p ∷ l) = if named p.kind then sum_at names (p ∷ l) else constant_at (p ∷ l)
 
-unfoldable pub assignment_at : List (List ℕ) → List Piece → Read Row
+unfoldable pub assignment_at : List (List ℕ) → List Piece → Read SmallRow
 assignment_at names l = after (known_name names l)
     (λ x l. after (fixed_at fixed.Becomes l) (λ _ l. after (value_at names l) (λ e l. Ok (row x e, l))))
 
-abbrev pub call_row : ℕ → ℕ → Row
+abbrev pub call_row : ℕ → ℕ → SmallRow
 call_row line n = record { line = line; statement = Call n }
 
 -- a step that begins with this name: a call, if it is the name of a procedure
-abbrev pub step_read : Option ℕ → Known → Piece → List Piece → List Piece → Read Row
+abbrev pub step_read : Option ℕ → Known → Piece → List Piece → List Piece → Read SmallRow
 step_read (Some n) k p l rest = Ok (call_row p.line n, rest)
 step_read None k p l rest = assignment_at k.variables l
 
-unfoldable pub step_at : Known → List Piece → Read Row
+unfoldable pub step_at : Known → List Piece → Read SmallRow
 step_at k l = after (name_at l) (λ p rest. step_read (place k.procedures p.spelling) k p l rest)
 
 -- further items, each behind the separator, at most n of them
@@ -131,10 +131,10 @@ variables_at l =
     (λ _ l. after (fixed_at fixed.Semicolon l) (λ _ l. Ok (names, l))))))
     else Ok ([], l)
 
-unfoldable pub steps_at : Known → List Piece → Read (List Row)
+unfoldable pub steps_at : Known → List Piece → Read (List SmallRow)
 steps_at k l = after (step_at k l) (λ x l. all_further fixed.Semicolon (λ _ l. step_at k l) (x ∷ []) l)
 
-unfoldable pub body_at : Known → List Piece → Read (List Row)
+unfoldable pub body_at : Known → List Piece → Read (List SmallRow)
 body_at k l = after (fixed_at fixed.Begin l) (λ _ l. after (steps_at k l)
     (λ rows l. after (fixed_at fixed.End l) (λ _ l. Ok (rows, l))))
 
@@ -147,7 +147,7 @@ free_name k l = after (name_at l) (λ p rest. if is_required p.spelling ||
 abbrev pub known_after : List (List ℕ) → List Translation → Known
 known_after variables found = record { variables = variables; procedures = map (λ t. t.name.spelling) found }
 
-abbrev pub translated : Piece → List Row → Translation
+abbrev pub translated : Piece → List SmallRow → Translation
 translated name rows = record { name = name; rows = rows }
 
 -- a procedure behind the word `procedure` and these procedures
@@ -164,12 +164,12 @@ unfoldable pub heading_at : List Piece → Read (Unit {0})
 heading_at l = after (fixed_at fixed.Program l) (λ _ l. after (name_at l) (λ _ l. fixed_at fixed.Semicolon l))
 
 -- the statement part of the program behind these procedures, and the end
-unfoldable pub block_at : List (List ℕ) → List Translation → List Piece → Read ProgramTables
+unfoldable pub block_at : List (List ℕ) → List Translation → List Piece → Read SmallTables
 block_at names ts l = after (body_at (known_after names ts) l)
     (λ rows l. after (fixed_at fixed.Dot l) (λ _ l. after (fixed_at fixed.Finish l)
     (λ _ l. Ok (tables_of (length names) ts rows, l))))
 
-unfoldable pub small_at : List Piece → Read ProgramTables
+unfoldable pub small_at : List Piece → Read SmallTables
 small_at l = after (heading_at l) (λ _ l. after (variables_at l)
     (λ names l. after (procedures_at names l) (λ ts l. block_at names ts l)))
 
@@ -216,8 +216,8 @@ VariablesRead ps (Err (Unbuilt i)) r = r ≡ Err (drop i ps)
 VariablesRead ps (Err Memory) r = Unit {0}
 
 -- these rows were read and put behind the others
-abbrev pub RowsRead : List Piece → ProgramTables → ProgramTables → Result ℕ SmallFault → Read (List Row) → Type 0
-RowsRead ps old new (Ok n) r = (rows : List Row) × (r ≡ Ok (rows, drop n ps))
+abbrev pub RowsRead : List Piece → SmallTables → SmallTables → Result ℕ SmallFault → Read (List SmallRow) → Type 0
+RowsRead ps old new (Ok n) r = (rows : List SmallRow) × (r ≡ Ok (rows, drop n ps))
     × (new ≡ record old { rows = old.rows ++ rows })
 RowsRead ps old new (Err (Unbuilt i)) r = r ≡ Err (drop i ps)
 RowsRead ps old new (Err Memory) r = Unit {0}
@@ -235,8 +235,8 @@ ProcedureDeclared ps k at scope (Err (Unbuilt i)) r = r ≡ Err (drop i ps)
 ProcedureDeclared ps k at scope (Err Memory) r = Unit {0}
 
 -- a procedure was read: its rows were put behind the others, and its name was declared
-abbrev pub ProcedureRead : List Piece → List (List ℕ) → List Translation → ProgramTables → ProgramTables → Scope
-    → Result (Routine × ℕ) SmallFault → Read Translation → Type 0
+abbrev pub ProcedureRead : List Piece → List (List ℕ) → List Translation → SmallTables → SmallTables → Scope
+    → Result (SmallRoutine × ℕ) SmallFault → Read Translation → Type 0
 ProcedureRead ps variables found old new scope (Ok x) r = (t : Translation) × (r ≡ Ok (t, drop x.1 ps))
     × (new ≡ record old { rows = old.rows ++ t.rows })
     × (x.0 ≡ routine t.name (length old.rows) (length t.rows)) × IsScope (known_after variables (found ++ t ∷ [])) scope
@@ -244,8 +244,8 @@ ProcedureRead ps variables found old new scope (Err (Unbuilt i)) r = r ≡ Err (
 ProcedureRead ps variables found old new scope (Err Memory) r = Unit {0}
 
 -- these procedures were read
-abbrev pub ProceduresRead : List Piece → List (List ℕ) → ProgramTables → ProgramTables → Scope
-    → Result (Vec Routine Global × ℕ) SmallFault → Read (List Translation) → Type 0
+abbrev pub ProceduresRead : List Piece → List (List ℕ) → SmallTables → SmallTables → Scope
+    → Result (Vec SmallRoutine Global × ℕ) SmallFault → Read (List Translation) → Type 0
 ProceduresRead ps variables old new scope (Ok x) r = (ts : List Translation) × (r ≡ Ok (ts, drop x.1 ps))
     × (new ≡ record old { rows = old.rows ++ all_rows ts })
     × (x.0.items ≡ routines_from (length old.rows) ts) × IsScope (known_after variables ts) scope
@@ -253,7 +253,7 @@ ProceduresRead ps variables old new scope (Err (Unbuilt i)) r = r ≡ Err (drop 
 ProceduresRead ps variables old new scope (Err Memory) r = Unit {0}
 
 -- the tables are those read
-abbrev pub TablesRead : List Piece → ProgramTables → Result ℕ SmallFault → Read ProgramTables → Type 0
+abbrev pub TablesRead : List Piece → SmallTables → Result ℕ SmallFault → Read SmallTables → Type 0
 TablesRead ps new (Ok n) r = r ≡ Ok (new, drop n ps)
 TablesRead ps new (Err (Unbuilt i)) r = r ≡ Err (drop i ps)
 TablesRead ps new (Err Memory) r = Unit {0}
@@ -264,7 +264,7 @@ RefusedThere lexed (Unbuilt i) = EndsOnce lexed.tokens → (i < length lexed.tok
 RefusedThere lexed Memory = Unit {0}
 
 -- the answer is this program, or that memory ran out
-abbrev pub IsThat : ProgramTables → Result ProgramTables SmallFault → Type 0
+abbrev pub IsThat : SmallTables → Result SmallTables SmallFault → Type 0
 IsThat t (Ok p) = p ≡ t
 IsThat t (Err (Unbuilt i)) = ⊥
 IsThat t (Err Memory) = Unit {0}

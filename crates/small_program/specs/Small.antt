@@ -17,9 +17,9 @@ use Rattle.pas_lexer.specs.declared.kinds.Token.{Token}
 use Rattle.pas_lexer.specs.Lexed.{Lexed, spelling_of}
 use Rattle.core_program.specs.declared.tables.Expression.TheVariants as expression
 use Rattle.core_program.specs.declared.tables.Statement.TheVariants.{Assign, Call}
-use Rattle.core_program.specs.declared.tables.Row.{Row}
-use Rattle.core_program.specs.declared.tables.Routine.{Routine}
-use Rattle.core_program.specs.ProgramTables.{ProgramTables}
+use Rattle.core_program.specs.declared.tables.SmallRow.{SmallRow}
+use Rattle.core_program.specs.declared.tables.SmallRoutine.{SmallRoutine}
+use Rattle.core_program.specs.SmallTables.{SmallTables}
 use Rattle.small_program.specs.declared.terminals.Fixed.{Fixed}
 use Rattle.small_program.specs.declared.terminals.Fixed.TheVariants as fixed
 
@@ -257,7 +257,7 @@ BeginsNone tokens i = (others : List Piece) (s : Small) → IsSmall others s →
 abbrev pub place_or_link : List (List ℕ) → Piece → ℕ
 place_or_link names x = unwrap_or (place names x.spelling) 0
 
-abbrev pub assignment_of : List (List ℕ) → Assignment → Row
+abbrev pub assignment_of : List (List ℕ) → Assignment → SmallRow
 assignment_of names (Set x n) = record {
   line = x.line;
   statement = Assign (place_or_link names x) (expression.Number n);
@@ -268,20 +268,20 @@ assignment_of names (SetSum x y n) = record {
 }
 
 -- A step begins at its first name. The first procedure is routine 1.
-abbrev pub row_of : Known → Step → Row
+abbrev pub row_of : Known → Step → SmallRow
 row_of k (Assigns a) = assignment_of k.variables a
 row_of k (Calls x) = record { line = x.line; statement = Call (place_or_link k.procedures x) }
 
-abbrev pub rows_of : Known → List Step → List Row
+abbrev pub rows_of : Known → List Step → List SmallRow
 rows_of k steps = map (row_of k) steps
 
-abbrev pub body_rows : Known → Body → List Row
+abbrev pub body_rows : Known → Body → List SmallRow
 body_rows k b = rows_of k (b.first ∷ b.others)
 
 -- a procedure's name and the rows of its statement part
 pub record Translation : Type 0 where
   pub name : Piece
-  pub rows : List Row
+  pub rows : List SmallRow
 
 abbrev pub translation : Known → Procedure → Translation
 translation k q = record { name = q.name; rows = body_rows (with_procedure k q.name) q.body }
@@ -290,29 +290,29 @@ abbrev pub translations : Known → List Procedure → List Translation
 translations k [] = []
 translations k (q ∷ qs) = translation k q ∷ translations (with_procedure k q.name) qs
 
-abbrev pub all_rows : List Translation → List Row
+abbrev pub all_rows : List Translation → List SmallRow
 all_rows [] = []
 all_rows (t ∷ ts) = t.rows ++ all_rows ts
 
 -- a procedure, whose frame has the link alone
-abbrev pub routine : Piece → ℕ → ℕ → Routine
+abbrev pub routine : Piece → ℕ → ℕ → SmallRoutine
 routine name first count = record { name = name.number; cells = 1; first = first; count = count }
 
 -- the procedures, whose rows stand one behind the other
-abbrev pub routines_from : ℕ → List Translation → List Routine
+abbrev pub routines_from : ℕ → List Translation → List SmallRoutine
 routines_from first [] = []
 routines_from first (t ∷ ts) = routine t.name first (length t.rows) ∷ routines_from (first + length t.rows) ts
 
 -- the program block: its name is token 1, and its frame has the link and the variables
-abbrev pub block : ℕ → ℕ → ℕ → Routine
+abbrev pub block : ℕ → ℕ → ℕ → SmallRoutine
 block variables first count = record { name = 1; cells = 1 + variables; first = first; count = count }
 
 -- the rows of the procedures stand in front of those of the program block, which is routine 0
-abbrev pub tables_of : ℕ → List Translation → List Row → ProgramTables
+abbrev pub tables_of : ℕ → List Translation → List SmallRow → SmallTables
 tables_of variables ts rows = record {
   rows = all_rows ts ++ rows;
   routines = block variables (length (all_rows ts)) (length rows) ∷ routines_from 0 ts;
 }
 
-abbrev pub program_of : Small → ProgramTables
+abbrev pub program_of : Small → SmallTables
 program_of s = tables_of (length s.variables) (translations (at_first s) s.procedures) (body_rows (at_last s) s.body)

@@ -19,7 +19,7 @@ ghost use Rattle.small_program.specs.Reading.{TablesRead, IsThat, RefusedThere};
 use crate::names::{Names, Scope};
 use crate::required::is_required_name;
 use crate::terminals::{Fixed, is_fixed};
-use core_program::{Expression, Program, Routine, Row, Statement};
+use core_program::{Expression, SmallProgram, SmallRoutine, SmallRow, Statement};
 use pas_lexer::{Kind, Token, Tokens};
 use std::alloc::{AllocError, AllocFailed, Global};
 use thiserror::Error;
@@ -195,7 +195,7 @@ fn read_constant(tokens: &Tokens, at: u32) -> Result<(Expression, u32), SmallFau
 
 /// An assignment: its row, and the place behind it.
 #[tactic(auto, unfolding(crate::specs::Reading::assignment_at))]
-fn read_assignment(tokens: &Tokens, at: u32, names: &Names) -> Result<(Row, u32), SmallFault>
+fn read_assignment(tokens: &Tokens, at: u32, names: &Names) -> Result<(SmallRow, u32), SmallFault>
     ensures gives { (found : List (List ℕ)) → Tabled found names.now.places names.now.cells
         → Gives (pieces tokens.now) (λ x. x) result (assignment_at found (drop at (pieces tokens.now))) }
     ensures forward { IfOk result (λ x. at < x.1) }
@@ -204,12 +204,12 @@ fn read_assignment(tokens: &Tokens, at: u32, names: &Names) -> Result<(Row, u32)
     let after = expect(tokens, after, Fixed::Becomes)?;
     let (value, after) = read_value(tokens, after, names)?;
     let statement = Statement::Assign { target, value };
-    Ok((Row { line, statement }, after))
+    Ok((SmallRow { line, statement }, after))
 }
 
 /// A step: its row, and the place behind it.
 #[tactic(auto, unfolding(crate::specs::Reading::step_at))]
-fn read_step(tokens: &Tokens, at: u32, scope: &Scope) -> Result<(Row, u32), SmallFault>
+fn read_step(tokens: &Tokens, at: u32, scope: &Scope) -> Result<(SmallRow, u32), SmallFault>
     ensures gives { (k : Known) → IsScope k scope.now
         → Gives (pieces tokens.now) (λ x. x) result (step_at k (drop at (pieces tokens.now))) }
     ensures forward { IfOk result (λ x. at < x.1) }
@@ -219,7 +219,7 @@ fn read_step(tokens: &Tokens, at: u32, scope: &Scope) -> Result<(Row, u32), Smal
         Some(routine) => {
             let statement = Statement::Call { routine };
             Ok((
-                Row {
+                SmallRow {
                     line: token.line,
                     statement,
                 },
@@ -263,7 +263,7 @@ fn read_steps(
     tokens: &Tokens,
     at: u32,
     scope: &Scope,
-    program: &mut Program,
+    program: &mut SmallProgram,
 ) -> Result<u32, SmallFault>
     ensures gives { (k : Known) → IsScope k scope.now
         → RowsRead (pieces tokens.now) program.old program.new result (steps_at k (drop at (pieces tokens.now))) }
@@ -286,7 +286,7 @@ fn read_body(
     tokens: &Tokens,
     at: u32,
     scope: &Scope,
-    program: &mut Program,
+    program: &mut SmallProgram,
 ) -> Result<u32, SmallFault>
     ensures gives { (k : Known) → IsScope k scope.now
         → RowsRead (pieces tokens.now) program.old program.new result (body_at k (drop at (pieces tokens.now))) }
@@ -326,8 +326,8 @@ fn read_procedure<'a>(
     tokens: &'a Tokens,
     at: u32,
     scope: &mut Scope<'a>,
-    program: &mut Program,
-) -> Result<(Routine, u32), SmallFault>
+    program: &mut SmallProgram,
+) -> Result<(SmallRoutine, u32), SmallFault>
     ensures gives { (variables : List (List ℕ)) (found : List Translation)
         → IsScope (known_after variables found) scope.old
         → ProcedureRead (pieces tokens.now) variables found program.old program.new scope.new result
@@ -339,7 +339,7 @@ fn read_procedure<'a>(
     let first = program.rows();
     let after = read_body(tokens, after, scope, program)?;
     let after = expect(tokens, after, Fixed::Semicolon)?;
-    let routine = Routine {
+    let routine = SmallRoutine {
         name: at,
         cells: 1,
         first,
@@ -355,8 +355,8 @@ fn read_procedures<'a>(
     tokens: &'a Tokens,
     at: u32,
     scope: &mut Scope<'a>,
-    program: &mut Program,
-) -> Result<(Vec<Routine>, u32), SmallFault>
+    program: &mut SmallProgram,
+) -> Result<(Vec<SmallRoutine>, u32), SmallFault>
     ensures { (variables : List (List ℕ)) → IsScope (known_after variables []) scope.old
         → ProceduresRead (pieces tokens.now) variables program.old program.new scope.new result
         (procedures_at variables (drop at (pieces tokens.now))) }
@@ -384,7 +384,7 @@ fn read_heading(tokens: &Tokens) -> Result<u32, SmallFault>
 /// The program that the tokens of a source denote. `Unbuilt` names the token at which a reader of the
 /// grammar, who knows the names declared so far, cannot go on.
 #[tactic(auto, unfolding(crate::specs::Reading::small_at))]
-pub fn parse_small(alloc: Global, tokens: &Tokens) -> Result<Program, SmallFault>
+pub fn parse_small(alloc: Global, tokens: &Tokens) -> Result<SmallProgram, SmallFault>
     // The tokens are a small program, and this is what it denotes.
     ensures found { IfOk result (λ p. (s : Small) × IsSmall (pieces tokens.now) s × (p ≡ program_of s)) }
     // Each small program that the tokens are gives this answer, unless memory runs out.
@@ -400,7 +400,7 @@ pub fn parse_small(alloc: Global, tokens: &Tokens) -> Result<Program, SmallFault
 }
 
 /// Puts routines behind the others.
-fn add_routines(program: &mut Program, routines: &[Routine]) -> Result<(), AllocError>
+fn add_routines(program: &mut SmallProgram, routines: &[SmallRoutine]) -> Result<(), AllocError>
     ensures { OnOk result (program.new ≡ record program.old { routines = program.old.routines ++ routines.now }) }
 {
     'routines: for routine in routines {
@@ -416,8 +416,8 @@ fn read_block(
     tokens: &Tokens,
     at: u32,
     scope: &Scope,
-    procedures: &[Routine],
-    program: &mut Program,
+    procedures: &[SmallRoutine],
+    program: &mut SmallProgram,
 ) -> Result<u32, SmallFault>
     ensures { (variables : List (List ℕ)) (ts : List Translation) → IsScope (known_after variables ts) scope.now
         → procedures.now ≡ routines_from 0 ts
@@ -428,7 +428,7 @@ fn read_block(
     let after = read_body(tokens, at, scope, program)?;
     let after = expect(tokens, after, Fixed::Dot)?;
     let after = expect(tokens, after, Fixed::Finish)?;
-    program.add_routine(Routine {
+    program.add_routine(SmallRoutine {
         name: 1,
         cells: scope.variables.cells,
         first,
@@ -440,7 +440,7 @@ fn read_block(
 
 /// A program in front of any other tokens: what it denotes, and the place behind it.
 #[tactic(auto, unfolding(crate::specs::Reading::small_at))]
-fn read_program(alloc: Global, tokens: &Tokens) -> Result<(Program, u32), SmallFault>
+fn read_program(alloc: Global, tokens: &Tokens) -> Result<(SmallProgram, u32), SmallFault>
     ensures { Gives (pieces tokens.now) (λ p. p) result (small_at (pieces tokens.now)) }
 {
     let after = read_heading(tokens)?;
@@ -449,7 +449,7 @@ fn read_program(alloc: Global, tokens: &Tokens) -> Result<(Program, u32), SmallF
         variables,
         procedures: Names::new(alloc),
     };
-    let mut program = Program::new(alloc);
+    let mut program = SmallProgram::new(alloc);
     let (procedures, after) = read_procedures(alloc, tokens, after, &mut scope, &mut program)?;
     let after = read_block(tokens, after, &scope, procedures.as_slice(), &mut program)?;
     Ok((program, after))

@@ -2,7 +2,8 @@
 
 use cell_value::{Kind, Memory, Touch, Value, WayOut, Which};
 use core_program::{
-    CallRow, Calls, Expression, Program, Routine, Row, Statement, run_calls, run_plain,
+    CallRow, Calls, Expression, SmallProgram, SmallRoutine, SmallRow, Statement, run_calls,
+    run_plain,
 };
 use std::alloc::Global;
 use std::process::Abort;
@@ -14,16 +15,16 @@ fn program(
     alloc: Global,
     rows: &[(u32, Statement)],
     routines: &[(u32, u32, u32)],
-) -> Result<Program, Memory> {
-    let mut program = Program::new(alloc);
+) -> Result<SmallProgram, Memory> {
+    let mut program = SmallProgram::new(alloc);
     for (line, statement) in rows {
-        program.add_row(Row {
+        program.add_row(SmallRow {
             line: *line,
             statement: *statement,
         })?;
     }
     for (cells, first, count) in routines {
-        program.add_routine(Routine {
+        program.add_routine(SmallRoutine {
             name: 1,
             cells: *cells,
             first: *first,

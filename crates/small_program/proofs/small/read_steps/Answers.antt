@@ -1,12 +1,12 @@
 use Rattle.std.proofs.Common.{[], ◌∷◌, drop, arith}
 use Rattle.std.proofs.lemmas.Result.{err_from_is_err_and}
-use Rattle.core_program.specs.declared.tables.Row.{Row}
+use Rattle.core_program.specs.declared.tables.SmallRow.{SmallRow}
 use Rattle.small_program.specs.Small.{pieces}
 use Rattle.small_program.specs.Reading.{steps_at}
 use Rattle.small_program.proofs.Lists.{rows_begin, rows_begin_fails, rows_more, rows_more_fails, rows_end, grows}
 use Rattle.small_program.proofs.small.read_steps.Goals as goal
 
-abbrev row : Row → Row
+abbrev row : SmallRow → SmallRow
 row r = r
 
 pub returns-in_err-row-clause-gives : goal.returns-in_err-row-clause-gives
