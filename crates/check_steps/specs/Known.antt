@@ -1,7 +1,8 @@
 -- What the tables of a check say.
 use Rattle.std.specs.Prelude.{ℕ, zero, suc, List, [], ◌∷◌, ◌++◌, Option, Some, None, length}
-use Rattle.std.specs.Prelude.{unwrap_or}
+use Rattle.std.specs.Prelude.{unwrap_or, ◌-◌, Bool, if◌then◌else◌, nat_eq, nat_le, nat_lt, take}
 use Rattle.std.specs.Prelude.{slice_get, slice_set}
+use Rattle.std.specs.List.{list_any}
 use Rattle.program_tables.specs.declared.rows.Row.{Row}
 use Rattle.program_tables.specs.declared.rows.TypeRow.{TypeRow}
 use Rattle.program_tables.specs.declared.program.Routine.{Routine}
@@ -13,7 +14,7 @@ use Rattle.check_steps.specs.declared.words.Word.{Word}
 use Rattle.check_steps.specs.declared.regions.Definition.{Definition}
 use Rattle.check_steps.specs.declared.regions.Found.{Found}
 use Rattle.check_steps.specs.declared.regions.Frame.{Frame}
-use Rattle.check_steps.specs.declared.facts.Fact.{Fact}
+use Rattle.check_steps.specs.declared.regions.Span.{Span}
 use Rattle.check_steps.specs.Regions.{RegionRows, region_at, fresh_region, defined_in, declared_in, or_else}
 
 pub record Known : Type 0 where
@@ -25,8 +26,13 @@ pub record Known : Type 0 where
   pub program : ProgramRows
   pub regions : List RegionRows
   pub frames : List Frame
-  -- what is to be held against other parts of the program
-  pub facts : List Fact
+  -- the control variables of the for statements around, the innermost last
+  pub controls : List ℕ
+  -- Of a variable, at its own token, the last token at which a routine threatens it, and at such a token the one before
+  -- it; 0 where there is none.
+  pub threats : List ℕ
+  -- the block whose statements are checked
+  pub block : Span
 
 -- ---- words
 
@@ -47,6 +53,14 @@ name_in s = 0
 -- the number of the name that a token spells
 abbrev pub name_at : Known → ℕ → ℕ
 name_at k token = name_in (spelled_at k token)
+
+abbrev pub label_in : Spelled → ℕ
+label_in (spelled.Number value) = value
+label_in s = 0
+
+-- the value of a label, by which labels are told apart
+abbrev pub label_at : Known → ℕ → ℕ
+label_at k token = label_in (spelled_at k token)
 
 -- ---- rows
 
@@ -90,9 +104,6 @@ abbrev pub and_label : Known → ℕ → ℕ → ℕ → Known
 and_label k r value token = let region = region_at k.regions r in
     record k { regions = slice_set k.regions r (record region { labels = region.labels ++ (value, token) ∷ [] }) }
 
-abbrev pub and_fact : Known → Fact → Known
-and_fact k f = record k { facts = k.facts ++ f ∷ [] }
-
 abbrev pub frame_at : Known → ℕ → Frame
 frame_at k n = unwrap_or (slice_get k.frames n) (record { region = 0; outer = None; level = 0; withs = 0 })
 
@@ -124,3 +135,45 @@ find_label_from (suc n) k (Some frame) value = or_else (declared_in k.regions (f
 -- the token that declares a label of this value in the closest block around that does
 abbrev pub find_label : Known → ℕ → ℕ → Option ℕ
 find_label k frame value = find_label_from (length k.frames) k (Some frame) value
+
+-- ---- control variables and their threats (6.8.3.9)
+
+-- one more for statement around
+abbrev pub and_control : Known → ℕ → Known
+and_control k variable = record k { controls = k.controls ++ variable ∷ [] }
+
+-- the innermost for statement is left
+abbrev pub without_control : Known → Known
+without_control k = record k { controls = take (length k.controls - 1) k.controls }
+
+abbrev pub is_control : Known → ℕ → Bool
+is_control k variable = list_any (λ c. nat_eq c variable) k.controls
+
+-- the token before this one in a list of threats
+abbrev pub threat_before : Known → ℕ → ℕ
+threat_before k token = unwrap_or (slice_get k.threats token) 0
+
+-- a routine threatens a variable at a token
+abbrev pub and_threat : Known → ℕ → ℕ → Known
+and_threat k variable token = record k {
+  threats = slice_set (slice_set k.threats token (threat_before k variable)) variable token;
+}
+
+-- the first after a token of at most so many threats, from the last one back
+abbrev pub threat_after : ℕ → Known → ℕ → ℕ → Option ℕ
+threat_after zero k last token = None
+threat_after (suc n) k last token =
+    if nat_le last token then None else or_else (threat_after n k (threat_before k last) token) (Some last)
+
+abbrev pub before : ℕ → Option ℕ → Option ℕ
+before token None = None
+before token (Some t) = if nat_lt t token then Some t else None
+
+-- The first token at which a routine of the block threatens a variable. No more tokens threaten it than there are.
+abbrev pub threat_of : Known → ℕ → Option ℕ
+threat_of k variable = before k.block.statements
+    (threat_after (length k.threats) k (threat_before k variable) k.block.first)
+
+-- the block whose statements are checked from now on
+abbrev pub in_block : Known → Span → Known
+in_block k s = record k { block = s }

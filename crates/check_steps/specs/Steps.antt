@@ -5,13 +5,13 @@ use Rattle.program_tables.specs.declared.program.Routine.{Routine}
 use Rattle.check_steps.specs.declared.breaks.Broken.{Broken}
 use Rattle.check_steps.specs.declared.breaks.Broken.TheVariants.{Early, Late, TooBig}
 use Rattle.check_steps.specs.declared.breaks.Break.{Break}
-use Rattle.check_steps.specs.declared.facts.Fact.{Fact}
 use Rattle.check_steps.specs.declared.regions.Definition.{Definition}
 use Rattle.check_steps.specs.declared.regions.Frame.{Frame}
+use Rattle.check_steps.specs.declared.regions.Span.{Span}
 use Rattle.check_steps.specs.declared.work.Work.{Work}
 use Rattle.check_steps.specs.Breaks.{first_of}
-use Rattle.check_steps.specs.Known.{Known, and_definition, and_fact, and_frame, and_label, and_region, and_routine}
-use Rattle.check_steps.specs.Known.{with_routine, with_row}
+use Rattle.check_steps.specs.Known.{Known, and_control, and_definition, and_frame, and_label, and_region, and_routine}
+use Rattle.check_steps.specs.Known.{and_threat, in_block, with_routine, with_row, without_control}
 
 -- what a step gives, what is known after it, and the rules that it breaks
 pub record Done (A : Type 0) : Type 0 where
@@ -95,8 +95,21 @@ add_definition region name d = change (λ k. and_definition k region name d)
 abbrev pub add_label : ℕ → ℕ → ℕ → Step (Unit {0})
 add_label region value token = change (λ k. and_label k region value token)
 
-abbrev pub note : Fact → Step (Unit {0})
-note f = change (λ k. and_fact k f)
+-- inside of a for statement with this control variable
+abbrev pub hold : ℕ → Step (Unit {0})
+hold variable = change (λ k. and_control k variable)
+
+-- outside of the innermost for statement
+abbrev pub release : Step (Unit {0})
+release = change without_control
+
+-- a routine threatens a variable at a token
+abbrev pub threaten : ℕ → ℕ → Step (Unit {0})
+threaten variable token = change (λ k. and_threat k variable token)
+
+-- The statements of this block are checked from now on.
+abbrev pub enter_block : Span → Step (Unit {0})
+enter_block s = change (λ k. in_block k s)
 
 -- a step that is done only if a test holds
 unfoldable pub when : Bool → Step (Unit {0}) → Step (Unit {0})

@@ -1,6 +1,6 @@
 -- What the tokens of a source spell, and the numbers of names.
-use Rattle.std.specs.Prelude.{ℕ, ◌+◌, Bool, List, [], ◌∷◌, ◌++◌, map, fold, length, codes, position, Option, unwrap_or}
-use Rattle.std.specs.Prelude.{if◌then◌else◌, nat_eq}
+use Rattle.std.specs.Prelude.{ℕ, ◌+◌, Bool, List, [], ◌∷◌, ◌++◌, map, fold, length, codes, position, replicate, Option}
+use Rattle.std.specs.Prelude.{if◌then◌else◌, nat_eq, unwrap_or}
 use Rattle.std.specs.Global.{Vec}
 use Rattle.std.specs.List.{list_any}
 use Rattle.std.specs.Cmp.Lexicographic.{pointwise}
@@ -101,5 +101,7 @@ start l = record {
   program = blank (length l.tokens + length required_names) (texts_of l.source l.tokens);
   regions = [];
   frames = [];
-  facts = [];
+  controls = [];
+  threats = replicate (length l.tokens) 0;
+  block = record { first = 0; statements = 0 };
 }

@@ -4,7 +4,6 @@
 #![tactic(auto)]
 
 pub mod breaks;
-pub mod facts;
 pub mod regions;
 pub mod required;
 pub mod tables;
@@ -12,8 +11,7 @@ mod words;
 pub mod work;
 
 pub use breaks::{Break, Broken, CheckFault};
-pub use facts::Fact;
-pub use regions::{Def, Definition, Found, Frame};
+pub use regions::{Def, Definition, Found, Frame, Span};
 pub use tables::Tables;
 pub use words::{Spelled, Word};
 pub use work::Work;

@@ -47,6 +47,13 @@ pub struct Frame {
     pub withs: u32,
 }
 
+/// A block, by its first token and the first token of its statement part.
+#[derive(Clone, Copy)]
+pub struct Span {
+    pub first: u32,
+    pub statements: u32,
+}
+
 /// A region: what its names and labels stand for.
 #[derive(Drop)]
 pub struct Region {

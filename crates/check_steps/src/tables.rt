@@ -1,14 +1,16 @@
 //! The tables that a check fills.
 
-ghost use Rattle.std.specs.Prelude.{◌≡◌, ◌+◌, ◌<◌, ◌^◌, ◌++◌, ◌∷◌, None, Some, length, OnOk, IfOk};
-ghost use Rattle.check_steps.specs.Known.{and_definition, and_fact, and_frame, and_label, and_region, and_routine};
+ghost use Rattle.std.specs.Prelude.{◌≡◌, ◌+◌, ◌<◌, ◌^◌, ◌++◌, ◌∷◌, None, Some, length, slice_set, OnOk, IfOk};
+ghost use Rattle.check_steps.specs.Known.{and_control, and_definition, and_frame, and_label, and_region, and_routine};
+ghost use Rattle.check_steps.specs.Known.{and_threat, in_block, is_control, label_at, threat_after, threat_before};
+ghost use Rattle.check_steps.specs.Known.{threat_of, without_control};
 ghost use Rattle.check_steps.specs.Known.{find, find_label, found_in, frame_at, line_at, name_at, row_at, spelled_at};
 ghost use Rattle.check_steps.specs.Known.{type_at, with_routine, with_row, word_at};
+ghost use Rattle.check_steps.specs.Names.{usable};
 ghost use Rattle.check_steps.specs.Regions.{declared_in, defined_in, region_at};
 ghost use Rattle.check_steps.specs.Words.{number_of, start};
 
-use crate::facts::Fact;
-use crate::regions::{Definition, Found, Frame, Region};
+use crate::regions::{Definition, Found, Frame, Region, Span};
 use crate::words::{REQUIRED_NAMES, Spelled, Word, names, texts, words};
 use indexmap::{IndexMap, IndexSet};
 use pas_lexer::Tokens;
@@ -25,7 +27,9 @@ pub struct Tables {
     program: Program,
     regions: Vec<Region>,
     frames: Vec<Frame>,
-    facts: Vec<Fact>,
+    controls: Vec<u32>,
+    threats: Vec<u32>,
+    block: Span,
 }
 
 impl Model for Tables {
@@ -46,7 +50,9 @@ impl Model for Tables {
         labels = r.labels.entries;
       }) t.regions.items;
       frames = t.frames.items;
-      facts = t.facts.items;
+      controls = t.controls.items;
+      threats = t.threats.items;
+      block = t.block;
     } };
 
     ghost invariant = { λ t. (vec_len t.regions < 2 ^ 32) × (vec_len t.frames < 2 ^ 32)
@@ -70,13 +76,19 @@ impl Tables {
         let words = words(alloc, &names, tokens)?;
         let texts = texts(alloc, tokens)?;
         let program = Program::new(alloc, (count + REQUIRED_NAMES) as usize, texts)?;
+        let threats = vec![in alloc; 0; count as usize]?;
         Ok(Tables {
             names,
             words,
             program,
             regions: Vec::new(alloc),
             frames: Vec::new(alloc),
-            facts: Vec::new(alloc),
+            controls: Vec::new(alloc),
+            threats,
+            block: Span {
+                first: 0,
+                statements: 0,
+            },
         })
     }
 
@@ -131,6 +143,16 @@ impl Tables {
     {
         match self.spelled(token) {
             Spelled::Name(name) => name,
+            _ => 0,
+        }
+    }
+
+    /// The value of the label that a token spells.
+    pub fn label(&self, token: u32) -> u32
+        ensures { result ≡ label_at self.now token }
+    {
+        match self.spelled(token) {
+            Spelled::Number(value) => value,
             _ => 0,
         }
     }
@@ -198,14 +220,6 @@ impl Tables {
         }
         self.frames.push(frame)?;
         Ok(number as u32)
-    }
-
-    /// A new fact after the others.
-    pub fn note(&mut self, fact: Fact) -> Result<(), AllocError>
-        ensures { OnOk result (self.new ≡ and_fact self.old fact) }
-    {
-        self.facts.push(fact)?;
-        Ok(())
     }
 
     /// How many regions there are.
@@ -305,6 +319,22 @@ impl Tables {
         None
     }
 
+    /// What a name stands for, if it may be used for that as if at the token `at`.
+    pub fn usable(&self, frame: u32, at: u32, token: u32) -> Option<Found>
+        ensures { result ≡ usable at (find self.now frame (name_at self.now token)) }
+    {
+        match self.find(frame, self.name(token)) {
+            Some(found) => {
+                if found.definition.end <= at {
+                    Some(found)
+                } else {
+                    None
+                }
+            }
+            None => None,
+        }
+    }
+
     /// The token that declares a label of this value in the closest block around that does.
     #[tactic(auto, using(crate::proofs::Outward::outward))]
     pub fn find_label(&self, frame: u32, value: u32) -> Option<u32>
@@ -384,5 +414,95 @@ impl Tables {
             self.regions[region].labels.insert(value, token)?;
         }
         Ok(())
+    }
+
+    /// Goes into a for statement with this control variable.
+    pub fn hold(&mut self, variable: u32) -> Result<(), AllocError>
+        ensures { OnOk result (self.new ≡ and_control self.old variable) }
+    {
+        self.controls.push(variable)?;
+        Ok(())
+    }
+
+    /// Goes out of the innermost for statement.
+    pub fn release(&mut self)
+        ensures { self.new ≡ without_control self.old }
+    {
+        let _left = self.controls.pop();
+    }
+
+    /// Whether a for statement around has this control variable.
+    pub fn is_control(&self, variable: u32) -> bool
+        ensures { result ≡ is_control self.now variable }
+    {
+        self.controls.contains(&variable)
+    }
+
+    /// The token before this one in a list of threats.
+    fn threat_before(&self, token: u32) -> u32
+        ensures { result ≡ threat_before self.now token }
+    {
+        match self.threats.get(token as usize) {
+            Some(before) => *before,
+            None => 0,
+        }
+    }
+
+    fn put_threat(&mut self, token: u32, before: u32)
+        ensures { self.new ≡ record self.old { threats = slice_set self.old.threats token before } }
+    {
+        let token = token as usize;
+        if token < self.threats.len() {
+            self.threats[token] = before;
+        }
+    }
+
+    /// A routine threatens a variable at a token.
+    pub fn threaten(&mut self, variable: u32, token: u32)
+        ensures { self.new ≡ and_threat self.old variable token }
+    {
+        let before = self.threat_before(variable);
+        self.put_threat(token, before);
+        self.put_threat(variable, token);
+    }
+
+    /// The first threat of a variable after a token.
+    #[tactic(auto, using(crate::proofs::Threats::backwards))]
+    fn threat_after(&self, variable: u32, token: u32) -> Option<u32>
+        ensures { result ≡ threat_after (length self.now.threats) self.now (threat_before self.now variable) token }
+    {
+        let mut first = None;
+        let mut last = self.threat_before(variable);
+        'threats: for _passed in 0..self.threats.len() {
+            if last <= token {
+                return first;
+            }
+            first = Some(last);
+            last = self.threat_before(last);
+        }
+        first
+    }
+
+    /// The first token at which a routine of the block threatens a variable.
+    pub fn threat(&self, variable: u32) -> Option<u32>
+        ensures { result ≡ threat_of self.now variable }
+    {
+        match self.threat_after(variable, self.block.first) {
+            Some(threat) => {
+                if threat < self.block.statements {
+                    Some(threat)
+                } else {
+                    None
+                }
+            }
+            None => None,
+        }
+    }
+
+    /// The statements of this block are checked from now on.
+    pub fn enter_block(&mut self, block: Span)
+        ensures { self.new ≡ in_block self.old block }
+    {
+        self.block = block;
     }
 }

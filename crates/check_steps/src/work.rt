@@ -3,14 +3,12 @@
 ghost use Rattle.std.specs.Prelude.{◌≡◌, None, IfOk};
 ghost use Rattle.check_steps.specs.Regions.{defined_in};
 ghost use Rattle.check_steps.specs.Names.{declare_in, define_in, use_at};
-ghost use Rattle.check_steps.specs.Steps.{Does, add_definition, add_routine, ask, late, note, open_frame, open_region};
-ghost use Rattle.check_steps.specs.Steps.{put};
-ghost use Rattle.check_steps.specs.Steps.{put_routine, rule, too_big};
+ghost use Rattle.check_steps.specs.Steps.{Does, add_definition, add_routine, ask, enter_block, hold, late, open_frame};
+ghost use Rattle.check_steps.specs.Steps.{open_region, put, put_routine, release, rule, threaten, too_big};
 ghost use Rattle.check_steps.specs.Words.{start};
 
 use crate::breaks::{Break, Broken};
-use crate::facts::Fact;
-use crate::regions::{Definition, Found, Frame};
+use crate::regions::{Definition, Found, Frame, Span};
 use crate::tables::Tables;
 use pas_lexer::Tokens;
 use program_tables::Routine;
@@ -142,13 +140,37 @@ impl Work {
         Ok(())
     }
 
-    /// Notes a fact that is to be held against other parts of the program.
+    /// Goes into a for statement with this control variable.
     #[tactic(auto, unfolding(crate::specs::Steps::change, crate::specs::Steps::run))]
-    pub fn note(&mut self, fact: Fact) -> Result<(), AllocError>
-        ensures { IfOk result (λ _. Does (note fact) tt self.old self.new) }
+    pub fn hold(&mut self, variable: u32) -> Result<(), AllocError>
+        ensures { IfOk result (λ _. Does (hold variable) tt self.old self.new) }
     {
-        self.tables.note(fact)?;
+        self.tables.hold(variable)?;
         Ok(())
+    }
+
+    /// Goes out of the innermost for statement.
+    #[tactic(auto, unfolding(crate::specs::Steps::change, crate::specs::Steps::run))]
+    pub fn release(&mut self)
+        ensures { Does release tt self.old self.new }
+    {
+        self.tables.release();
+    }
+
+    /// A routine threatens a variable at a token.
+    #[tactic(auto, unfolding(crate::specs::Steps::change, crate::specs::Steps::run))]
+    pub fn threaten(&mut self, variable: u32, token: u32)
+        ensures { Does (threaten variable token) tt self.old self.new }
+    {
+        self.tables.threaten(variable, token);
+    }
+
+    /// The statements of this block are checked from now on.
+    #[tactic(auto, unfolding(crate::specs::Steps::change, crate::specs::Steps::run))]
+    pub fn enter_block(&mut self, block: Span)
+        ensures { Does (enter_block block) tt self.old self.new }
+    {
+        self.tables.enter_block(block);
     }
 
     /// A definition of a name in a region, where a second one breaks rule 2.
@@ -189,18 +211,7 @@ impl Work {
     pub fn use_at(&mut self, frame: u32, at: u32, token: u32) -> Option<Found>
         ensures { Does (use_at frame at token) result self.old self.new }
     {
-        let name = self.tables.name(token);
-        let found = self.tables.find(frame, name);
-        let usable = match found {
-            Some(found) => {
-                if found.definition.end <= at {
-                    Some(found)
-                } else {
-                    None
-                }
-            }
-            None => None,
-        };
+        let usable = self.tables.usable(frame, at, token);
         self.rule(1, token, usable.is_some());
         usable
     }

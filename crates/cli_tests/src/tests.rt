@@ -35,7 +35,7 @@ fn said_of_repeats(alloc: Global, count: usize) -> Result<Page, Fail> {
         source.extend_from_slice(b"repeat ")?;
     }
     for _ in 0..count {
-        source.extend_from_slice(b"until a ")?;
+        source.extend_from_slice(b"until true ")?;
     }
     source.extend_from_slice(b"end.")?;
     let words = vec![in alloc; "pasask".to_string(alloc)?, "F".to_string(alloc)?]?;

@@ -22,6 +22,8 @@ use Rattle.debug_cli.specs.declared.dialog.Ending.TheVariants as ending
 use Rattle.debug_cli.specs.declared.status.Status.{Status}
 use Rattle.debug_cli.specs.declared.status.Status.TheVariants as status
 use Rattle.debuggee.specs.Program.{IsProgram, NoProgram}
+use Rattle.debuggee.specs.Rules.{BreaksNoRule}
+use Rattle.debuggee.proofs.SourceIsRun.{runs_not}
 use Rattle.debuggee.specs.Execution.{Execution, execution_of}
 use Rattle.debug_cli.specs.Laws.{OneRun}
 use Rattle.debug_cli.specs.Dialog.{opening, replies, ends_among}
@@ -84,11 +86,11 @@ module _ (words : Words) (before after : Outside) where
         by (fetch.TooLong bound) why = longer_not before.files f.name f.bytes f.found short why.1
         by fetch.Memory why = why
 
-    not_refused : (t : Lexed) (s : Small) → IsProgram f.bytes t s → SourceRefused words before.files → ⊥
-    not_refused t s p r = r.no_program t s (subst (λ (b : List ℕ). IsProgram b t s) (sym (same_file r.file)) p)
+    not_refused : (t : Lexed) (s : Small) → IsProgram f.bytes t s → BreaksNoRule t → SourceRefused words before.files → ⊥
+    not_refused t s p none r = runs_not r.file.bytes r.why r.none_runs t s (subst (λ (b : List ℕ). IsProgram b t s) (sym (same_file r.file)) p) none
 
     is_refused : NoProgram f.bytes → Talked → ⊥
-    is_refused none a = none a.tokens a.small (subst (λ (b : List ℕ). IsProgram b a.tokens a.small) (same_file a.file) a.program)
+    is_refused none a = none a.tokens a.small (subst (λ (b : List ℕ). IsProgram b a.tokens a.small) (same_file a.file) a.program) a.kept
 
     pub refused_or_memory : NoProgram f.bytes → length f.bytes ≤ source_bytes → NotRisen before.counts.faults after.counts.faults → (s : Status) → Here s
         → (s ≡ status.Screen → ⊥) → (s ≡ status.Source) ⊎ (s ≡ status.Memory)
@@ -172,7 +174,7 @@ module _ (words : Words) (before after : Outside) where
 
     module _ (short : length set.file.bytes ≤ source_bytes) (stayed : NotRisen before.counts.faults after.counts.faults) where
       refuses_not : SourceRefused words before.files → ⊥
-      refuses_not r = not_refused set.file set.tokens set.small set.program r
+      refuses_not r = not_refused set.file set.tokens set.small set.program set.unbroken r
 
       owed_part : (text : List ℕ) → Owed words before after text → GaveFront text → GaveFront (transcript_of set)
       owed_part text (inl o) g = part_of o.0 (subst GaveFront o.1 g)

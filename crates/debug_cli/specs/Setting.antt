@@ -6,6 +6,7 @@ use Rattle.edge_ports.specs.Limits.{console_bytes}
 use Rattle.pas_lexer.specs.Lexed.{Lexed}
 use Rattle.small_program.specs.Small.{Small}
 use Rattle.debuggee.specs.Program.{IsProgram}
+use Rattle.debuggee.specs.Rules.{BreaksNoRule}
 use Rattle.debuggee.specs.Execution.{execution_of}
 use Rattle.debug_cli.specs.Dialog.{ends_among}
 use Rattle.debug_cli.specs.Asked.{Words, source_of, transcript}
@@ -21,12 +22,13 @@ pub record Stored (words : Words) (files : Option FileMap) : Type 0 where
   pub bytes : List ℕ
   pub found : Finds files name bytes
 
--- that file is a program, and the console tells its bytes
+-- that file is a program that breaks no rule, and the console tells its bytes
 pub record Setting (words : Words) (files : Option FileMap) (left : Option (List ℕ)) : Type 0 where
   pub file : Stored words files
   pub tokens : Lexed
   pub small : Small
   pub program : IsProgram file.bytes tokens small
+  pub unbroken : BreaksNoRule tokens
   pub console : List ℕ
   pub told : left ≡ Some console
 

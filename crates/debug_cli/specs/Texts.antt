@@ -104,18 +104,25 @@ file_line fetch.Failed name = failed_line name
 file_line (fetch.TooLong limit) name = too_long_line name
 file_line fetch.Memory name = []
 
--- why a source is refused
+-- the name of a reason for which a source is refused
+abbrev pub refusal_name : Refusal → List ℕ
+refusal_name refusal.BadByte = codes "BadByte"
+refusal_name refusal.OpenComment = codes "OpenComment"
+refusal_name refusal.OpenString = codes "OpenString"
+refusal_name refusal.EmptyString = codes "EmptyString"
+refusal_name refusal.RealWord = codes "RealWord"
+refusal_name refusal.TooLarge = codes "TooLarge"
+refusal_name refusal.Joined = codes "Joined"
+refusal_name refusal.NotProgram = codes "NotProgram"
+refusal_name refusal.TooDeep = codes "TooDeep"
+refusal_name (refusal.Rule rule) = codes "Rule"
+refusal_name refusal.TooBig = codes "TooBig"
+refusal_name refusal.Unbuilt = codes "Unbuilt"
+
+-- why a source is refused: the reason's name, and after it the number of a rule
 abbrev pub refusal_text : Refusal → List ℕ
-refusal_text refusal.BadByte = codes "BadByte"
-refusal_text refusal.OpenComment = codes "OpenComment"
-refusal_text refusal.OpenString = codes "OpenString"
-refusal_text refusal.EmptyString = codes "EmptyString"
-refusal_text refusal.RealWord = codes "RealWord"
-refusal_text refusal.TooLarge = codes "TooLarge"
-refusal_text refusal.Joined = codes "Joined"
-refusal_text refusal.NotProgram = codes "NotProgram"
-refusal_text refusal.TooDeep = codes "TooDeep"
-refusal_text refusal.Unbuilt = codes "Unbuilt"
+refusal_text (refusal.Rule rule) = codes "Rule " ++ decimal rule
+refusal_text why = refusal_name why
 
 -- a source that is no program of the language, at a place of it
 abbrev pub refused_line : Refusal → (line byte : ℕ) → List ℕ

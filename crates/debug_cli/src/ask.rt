@@ -41,7 +41,7 @@ fn source_name(words: &[String]) -> Option<&str>
     }
 }
 
-/// Says where a source is no program.
+/// Says why and where a source is refused.
 fn refuse_source<O: Sink>(
     alloc: Global,
     why: Refusal,
@@ -151,9 +151,10 @@ fn ask_file<K: Keeper, I: Source, O: Sink>(
 /// the answers stand.
 ///
 /// It answers the exit status: 0 after `quit` or the console's end; 2 where the words are not two; 3
-/// where the source is no program of the language; 4 where it could not be fetched; 5 and 6 where the
-/// console and the screen failed; 7 where memory ran out; 9 where 16,777,216 bytes were taken of the
-/// console and no end was seen. For 2, 3 and 4 one line says so.
+/// where the source is refused; 4 where it could not be fetched; 5 and 6 where the console and the
+/// screen failed; 7 where memory ran out; 9 where 16,777,216 bytes were taken of the console and no end
+/// was seen. For 2, 3 and 4 one line says so. A source is refused that is no program of the language,
+/// that breaks a static rule, or that cannot be run yet.
 pub fn ask_pascal<K: Keeper, I: Source, O: Sink>(
     alloc: Global,
     words: &[String],
@@ -161,8 +162,9 @@ pub fn ask_pascal<K: Keeper, I: Source, O: Sink>(
     console: &mut I,
     screen: &mut O,
 ) -> u8
-    // Where the words name a file that the keeper tells, which is a program, and the console tells its bytes: what the
-    // screen got at status 0, and at every status unless the keeper failed; and the status, if besides nothing failed.
+    // Where the words name a file that the keeper tells, which is a program that breaks no rule, and the console tells
+    // its bytes: what the screen got at status 0, and at every status unless the keeper failed; and the status, if
+    // besides nothing failed.
     ensures transcript { (s : Setting words.now (K.files keeper.old) (I.left console.old)) → result ≡ 0
         → GaveAll (O.given screen.old) (O.given screen.new) (transcript_of s) }
     ensures prefix { (s : Setting words.now (K.files keeper.old) (I.left console.old))
@@ -180,7 +182,8 @@ pub fn ask_pascal<K: Keeper, I: Source, O: Sink>(
     ensures asks { AsksTheBest }
     ensures finds { FindsTheFault }
     ensures one_run { OneRun }
-    // Words that are not two, a file that is no program, and any words that name a source, where nothing failed.
+    // Words that are not two, a file that is no program that keeps the rules, and any words that name a source, where
+    // nothing failed.
     ensures usage { source_of words.now ≡ None → (result ≡ 2) ⊎ (result ≡ 6) }
     ensures no_program { (f : Stored words.now (K.files keeper.old)) → NoProgram f.bytes → length f.bytes ≤ source_bytes
         → NotRisen (K.counts keeper.old).faults (K.counts keeper.new).faults

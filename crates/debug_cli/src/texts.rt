@@ -3,7 +3,8 @@ ghost use Rattle.std.specs.Prelude.{◌≡◌, ◌++◌, IfOk, OnOk, decimal, co
 ghost use Rattle.debuggee.specs.Execution.{execution, name_of, text_at};
 ghost use Rattle.debug_cli.specs.Texts.{kind_text, limit_text, way_text, inner_line, call_text, in_parent};
 ghost use Rattle.debug_cli.specs.Texts.{card, found_text, question_line, report};
-ghost use Rattle.debug_cli.specs.Texts.{absent_line, failed_line, too_long_line, refusal_text, refused_line};
+ghost use Rattle.debug_cli.specs.Texts.{absent_line, failed_line, too_long_line};
+ghost use Rattle.debug_cli.specs.Texts.{refusal_name, refusal_text, refused_line};
 
 use cell_value::{Kind, WayOut, Which};
 use core_program::CallRow;
@@ -240,7 +241,7 @@ pub fn too_long_text(alloc: Global, name: &[u8]) -> Result<Bytes, AllocError>
 
 /// The name of a reason for which a source is refused.
 fn refusal_name(why: Refusal) -> &'static str
-    ensures { result.now ≡ refusal_text why }
+    ensures { result.now ≡ refusal_name why }
 {
     match why {
         Refusal::BadByte => "BadByte",
@@ -252,8 +253,24 @@ fn refusal_name(why: Refusal) -> &'static str
         Refusal::Joined => "Joined",
         Refusal::NotProgram => "NotProgram",
         Refusal::TooDeep => "TooDeep",
+        Refusal::Rule(_) => "Rule",
+        Refusal::TooBig => "TooBig",
         Refusal::Unbuilt => "Unbuilt",
     }
+}
+
+/// Appends why a source is refused, with the number of a rule.
+fn write_refusal(out: &mut Bytes, why: Refusal) -> Result<(), AllocError>
+    ensures { OnOk result (out.new ≡ out.old ++ refusal_text why) }
+{
+    match why {
+        Refusal::Rule(rule) => {
+            out.append(b"Rule ")?;
+            write_number(out, rule)?;
+        }
+        _ => out.append(refusal_name(why).as_bytes())?,
+    }
+    Ok(())
 }
 
 /// The line on a source that is refused for this reason at this place.
@@ -262,7 +279,7 @@ pub fn refused_text(alloc: Global, why: Refusal, line: u32, byte: u32) -> Result
 {
     let mut text = Bytes::new(alloc);
     text.append(b"refused: ")?;
-    text.append(refusal_name(why).as_bytes())?;
+    write_refusal(&mut text, why)?;
     text.append(b", line ")?;
     write_number(&mut text, line)?;
     text.append(b", byte ")?;

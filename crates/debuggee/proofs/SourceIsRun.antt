@@ -1,10 +1,19 @@
 -- From the tokens and the program of a source to its run.
-use Rattle.std.proofs.Common.{◌≡◌, ℕ, List, [], Ok, Err, sym, ap, subst, ◌∙◌, inl, inr}
+use Rattle.std.proofs.Common.{◌≡◌, ◌⊎◌, ℕ, List, [], Ok, Err, sym, ap, subst, ◌∙◌, inl, inr}
 use Rattle.pas_lexer.specs.declared.kinds.Token.{Token}
 use Rattle.pas_lexer.specs.declared.kinds.LexFault.{LexFault}
 use Rattle.pas_lexer.specs.declared.kinds.LexFault.TheVariants as lexis
 use Rattle.pas_lexer.specs.Lexed.{Lexed}
+use Rattle.pas_tree.specs.declared.blocks.Tree.{Tree}
+use Rattle.check_steps.specs.declared.breaks.CheckFault.{CheckFault}
+use Rattle.check_steps.specs.Breaks.{IsOfFirst}
+use Rattle.code_checker.specs.Programs.{broken}
+use Rattle.source_checker.specs.Declarations.{IsTextOf}
+use Rattle.source_checker.specs.declared.programs.ProgramFault.{ProgramFault}
+use Rattle.source_checker.specs.declared.programs.ProgramFault.TheVariants as refused
+use Rattle.source_checker.specs.Programs as check
 use Rattle.debuggee.specs.declared.refusal.Refusal.{Refusal}
+use Rattle.debuggee.specs.declared.refusal.Refusal.TheVariants as refusal
 use Rattle.pas_lexer.specs.Division.{IsLexed}
 use Rattle.core_program.specs.SmallTables.{SmallTables}
 use Rattle.debuggee.specs.declared.source.SourceFault.{SourceFault}
@@ -14,19 +23,33 @@ use Rattle.small_program.specs.Small.{Piece, pieces, Small, IsSmall, program_of}
 use Rattle.small_program.specs.Reading.{Read}
 use Rattle.small_program.proofs.Whole.{small_whole}
 use Rattle.debuggee.specs.Execution.{Execution, execution_of, calls_within}
-use Rattle.pas_parser.specs.Formed.{IsText}
 use Rattle.small_text.specs.Laws.{SmallIsText}
-use Rattle.debuggee.specs.Program.{IsProgram, Keeps, Refuses, IsRefused, IsMisfit, IsUnlexed, IsUnparsed, IsUnread, TokensAre, ProgramIs}
+use Rattle.debuggee.specs.Program.{IsProgram, Keeps, IsNoSmall, NoneRuns, Refuses, RefusesToken, IsRefused, IsMisfit, IsUnlexed, IsUnchecked, IsUnread}
+use Rattle.debuggee.specs.Program.{fault_of_check, TokensAre, ProgramIs}
+use Rattle.debuggee.specs.Rules.{KeepsRules, BreaksRule, BreaksNoRule, RefusesTree}
+
+-- ---- what a refusal says of small programs
+
+-- where there is none, none runs
+none_at_all : (source : List ℕ) (why : Refusal) → IsNoSmall source → NoneRuns source why
+none_at_all source (refusal.Rule rule) none = λ t s p. absurd (none t s p)
+none_at_all source refusal.TooBig none = λ t s p. absurd (none t s p)
+none_at_all source _ none = none
+
+pub runs_not : (source : List ℕ) (why : Refusal) → NoneRuns source why → (t : Lexed) (s : Small) → IsProgram source t s → BreaksNoRule t → ⊥
+runs_not source (refusal.Rule rule) h t s p none = none (h t s p)
+runs_not source refusal.TooBig h t s p none = none (h t s p)
+runs_not source _ h t s p none = h t s p
 
 -- ---- no tokens
 
 pub no_tokens_only : (source : List ℕ) (e : SourceFault) → ((tokens : List Token) → IsLexed source tokens → TokensAre tokens (Err e))
-    → (t : Lexed) (s : Small) → IsProgram source t s → Keeps (execution_of t s) (Err e)
-no_tokens_only source (Refused why line byte) h t s r = h t.tokens r.lexed
-no_tokens_only source Memory h t s r = tt
+    → (t : Lexed) (s : Small) → IsProgram source t s → BreaksNoRule t → Keeps (execution_of t s) (Err e)
+no_tokens_only source (Refused why line byte) h t s r none = h t.tokens r.lexed
+no_tokens_only source Memory h t s r none = tt
 
 pub no_tokens_refused : (source : List ℕ) (e : SourceFault) → IsUnlexed source e → IsRefused source e
-no_tokens_refused source (Refused why line byte) h = ((λ t s p. h.0 t.tokens p.lexed), inl h.1)
+no_tokens_refused source (Refused why line byte) h = (none_at_all source why (λ t s p. h.0 t.tokens p.lexed), inl h.1)
 no_tokens_refused source Memory h = tt
 
 -- a fault of the lexer that has no tokens beside it
@@ -51,6 +74,18 @@ pub small_of : (source : List ℕ) (tokens t : Lexed) (s : Small) → tokens.sou
     → IsSmall (pieces tokens) s
 small_of source tokens t s kept p e = subst (λ (u : Lexed). IsSmall (pieces u) s) (same_tokens source tokens t s kept p e) p.small
 
+-- what is refused for a rule breaks one
+rule_broken : {t : Lexed} {e : CheckFault} → ((x : Tree) × IsTextOf t x × IsOfFirst (broken t x) e) → BreaksRule t
+rule_broken r = (r.0, r.2.0, r.1, r.2.1.0)
+
+-- what the check says of tokens, told as a fault of their source
+pub told_unchecked : (t : Lexed) (f : ProgramFault) → check.IsUnchecked t f → IsUnchecked t (fault_of_check f)
+told_unchecked t (refused.NotProgram line byte) h = inl (h.1.0, (h.0, h.2, h.1.1))
+told_unchecked t (refused.TooDeep line byte) h = inl (h.1.0, (h.0, h.2, h.1.1))
+told_unchecked t (refused.Rule rule line byte) h = inr h
+told_unchecked t (refused.TooBig line byte) h = inr h
+told_unchecked t refused.Memory h = tt
+
 -- the one list of tokens of a source
 pub record IsDivided (source : List ℕ) (tokens : Lexed) : Type 0 where
   pub kept : tokens.source ≡ source
@@ -61,44 +96,66 @@ module _ {source : List ℕ} {tokens : Lexed} (the : IsDivided source tokens) wh
   small_is : (t : Lexed) (s : Small) → IsProgram source t s → IsSmall (pieces tokens) s
   small_is t s p = small_of source tokens t s the.kept p (the.only t.tokens p.lexed)
 
-  pub no_text_only : SmallIsText → (e : SourceFault) → IsUnparsed tokens e → (t : Lexed) (s : Small) → IsProgram source t s → Keeps (execution_of t s) (Err e)
-  no_text_only texts (Refused why line byte) h t s p = h.0 (texts tokens s (small_is t s p))
-  no_text_only texts Memory h t s p = tt
+  -- a program of this source has these tokens, and breaks what they break
+  breaks : (t : Lexed) (s : Small) → IsProgram source t s → BreaksRule tokens → BreaksRule t
+  breaks t s p b = subst BreaksRule (sym (same_tokens source tokens t s the.kept p (the.only t.tokens p.lexed))) b
 
-  pub no_text_refused : SmallIsText → (e : SourceFault) → IsUnparsed tokens e → IsRefused source e
-  no_text_refused texts (Refused why line byte) h = ((λ t s p. h.0 (texts tokens s (small_is t s p))), inr (tokens, the.kept, the.lexed, h.1))
-  no_text_refused texts Memory h = tt
+  -- tokens that are refused for the grammar are no small program, and those refused for a rule break one
+  tree_runs_not : (why : Refusal) (line byte : ℕ) → RefusesTree tokens why line byte → NoneRuns source why
+  tree_runs_not (refusal.Rule rule) line byte r = λ t s p. breaks t s p (rule_broken (r.0, r.1, r.2.1))
+  tree_runs_not refusal.TooBig line byte r = λ t s p. breaks t s p (rule_broken (r.0, r.1, r.2.1))
+  tree_runs_not _ line byte r = absurd r
+
+  unchecked_runs_not : SmallIsText → (why : Refusal) (line byte : ℕ) → IsUnchecked tokens (Refused why line byte) → NoneRuns source why
+  unchecked_runs_not texts why line byte (inl h) = none_at_all source why (λ t s p. h.0 (texts tokens s (small_is t s p)))
+  unchecked_runs_not texts why line byte (inr r) = tree_runs_not why line byte r
+
+  unchecked_place : (why : Refusal) (line byte : ℕ) → IsUnchecked tokens (Refused why line byte)
+      → RefusesToken tokens why line byte ⊎ RefusesTree tokens why line byte
+  unchecked_place why line byte (inl h) = inl h.1
+  unchecked_place why line byte (inr r) = inr r
+
+  pub unchecked_only : SmallIsText → (e : SourceFault) → IsUnchecked tokens e → (t : Lexed) (s : Small) → IsProgram source t s → BreaksNoRule t
+      → Keeps (execution_of t s) (Err e)
+  unchecked_only texts (Refused why line byte) h t s p none = runs_not source why (unchecked_runs_not texts why line byte h) t s p none
+  unchecked_only texts Memory h t s p none = tt
+
+  pub unchecked_refused : SmallIsText → (e : SourceFault) → IsUnchecked tokens e → IsRefused source e
+  unchecked_refused texts (Refused why line byte) h =
+      (unchecked_runs_not texts why line byte h, inr (tokens, the.kept, the.lexed, unchecked_place why line byte h))
+  unchecked_refused texts Memory h = tt
 
   pub no_program_only : (e : SourceFault) → ((s : Small) → IsSmall (pieces tokens) s → ProgramIs (program_of s) (Err e)) → (t : Lexed) (s : Small)
-      → IsProgram source t s → Keeps (execution_of t s) (Err e)
-  no_program_only (Refused why line byte) h t s p = h s (small_is t s p)
-  no_program_only Memory h t s p = tt
+      → IsProgram source t s → BreaksNoRule t → Keeps (execution_of t s) (Err e)
+  no_program_only (Refused why line byte) h t s p none = h s (small_is t s p)
+  no_program_only Memory h t s p none = tt
 
   pub no_program_refused : (e : SourceFault) → ((s : Small) → IsSmall (pieces tokens) s → ProgramIs (program_of s) (Err e))
-      → IsText tokens.tokens → IsUnread tokens e → IsRefused source e
-  no_program_refused (Refused why line byte) h text place = (
-    (λ t s p. h s (small_is t s p)),
-    subst (λ (w : Refusal). Refuses source w line byte) (sym place.0) (inr (tokens, the.kept, the.lexed, (place.1, place.2, (text, place.3)))),
+      → KeepsRules tokens → IsUnread tokens e → IsRefused source e
+  no_program_refused (Refused why line byte) h kept place = (
+    none_at_all source why (λ t s p. h s (small_is t s p)),
+    subst (λ (w : Refusal). Refuses source w line byte) (sym place.0) (inr (tokens, the.kept, the.lexed, inl (place.1, place.2, (kept, place.3)))),
   )
-  no_program_refused Memory h text place = tt
+  no_program_refused Memory h kept place = tt
 
   -- ---- a program
 
   pub run_only : (program : SmallTables) (r : Execution) → ((s : Small) → IsSmall (pieces tokens) s → program ≡ program_of s)
       → r ≡ record { tokens = tokens; program = program; calls = calls_within program default_budget }
-      → (t : Lexed) (s : Small) → IsProgram source t s → r ≡ execution_of t s
-  run_only program r h is t s p =
+      → (t : Lexed) (s : Small) → IsProgram source t s → BreaksNoRule t → r ≡ execution_of t s
+  run_only program r h is t s p none =
       let same : tokens ≡ t = sym (same_tokens source tokens t s the.kept p (the.only t.tokens p.lexed)) in
       let q : program ≡ program_of s = h s (small_is t s p) in
       is ∙ (λ i. record { tokens = same i; program = q i; calls = calls_within (q i) default_budget })
 
   pub run_found : (program : SmallTables) (r : Execution) → ((s : Small) × IsSmall (pieces tokens) s × (program ≡ program_of s))
-      → r ≡ record { tokens = tokens; program = program; calls = calls_within program default_budget }
-      → (t : Lexed) × (s : Small) × IsProgram source t s × (r ≡ execution_of t s)
-  run_found program r p is = (
+      → KeepsRules tokens → r ≡ record { tokens = tokens; program = program; calls = calls_within program default_budget }
+      → (t : Lexed) × (s : Small) × IsProgram source t s × KeepsRules t × (r ≡ execution_of t s)
+  run_found program r p kept is = (
     tokens,
     p.0,
     record { kept = the.kept; lexed = the.lexed; small = p.1 },
+    kept,
     is ∙ (λ i. record { tokens = tokens; program = p.2 i; calls = calls_within (p.2 i) default_budget }),
   )
 

@@ -1,3 +1,4 @@
 pub mod Execution
+pub mod Rules
 pub mod Program
 pub mod Limits

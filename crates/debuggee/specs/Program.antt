@@ -1,5 +1,5 @@
--- What a source is: a small program, and its run; or where it is refused.
-use Rattle.std.specs.Prelude.{◌≡◌, ◌⊎◌, ℕ, List, Some, Result, Ok, Err, slice_get}
+-- What a source is: a small program that breaks no rule, and its run; or why and where it is refused.
+use Rattle.std.specs.Prelude.{◌≡◌, ◌⊎◌, ℕ, List, Result, Ok, Err}
 use Rattle.pas_lexer.specs.declared.kinds.Token.{Token}
 use Rattle.pas_lexer.specs.Lexed.{Lexed}
 use Rattle.pas_lexer.specs.declared.kinds.LexFault.TheVariants as lexis
@@ -7,6 +7,9 @@ use Rattle.pas_lexer.specs.Division.{IsLexed, IsFault, line_at}
 use Rattle.pas_phrases.specs.declared.fault.ParseFault.TheVariants as parser
 use Rattle.pas_parser.specs.Exact.{IsExact}
 use Rattle.pas_parser.specs.Formed.{IsText}
+use Rattle.source_checker.specs.declared.programs.ProgramFault.{ProgramFault}
+use Rattle.source_checker.specs.declared.programs.ProgramFault.TheVariants as refused
+use Rattle.source_checker.specs.Places.{StandsAt}
 use Rattle.core_program.specs.SmallTables.{SmallTables}
 use Rattle.debuggee.specs.declared.refusal.Refusal.{Refusal}
 use Rattle.debuggee.specs.declared.refusal.Refusal.TheVariants as refusal
@@ -14,6 +17,7 @@ use Rattle.debuggee.specs.declared.source.SourceFault.{SourceFault}
 use Rattle.debuggee.specs.declared.source.SourceFault.TheVariants.{Refused, Memory}
 use Rattle.debuggee.specs.declared.source.Debuggee.{Debuggee}
 use Rattle.debuggee.specs.Execution.{Execution, execution}
+use Rattle.debuggee.specs.Rules.{KeepsRules, BreaksRule, RefusesTree}
 use Rattle.small_program.specs.Small.{pieces, Small, IsSmall, BeginsNone}
 
 -- the source has these tokens, which are this small program
@@ -28,9 +32,17 @@ Keeps h (Ok r) = execution r ≡ h
 Keeps h (Err (Refused why line byte)) = ⊥
 Keeps h (Err Memory) = Unit {0}
 
--- no small program has this source
+-- no small program that keeps the rules has this source
 abbrev pub NoProgram : List ℕ → Type 0
-NoProgram source = (t : Lexed) (s : Small) → IsProgram source t s → ⊥
+NoProgram source = (t : Lexed) (s : Small) → IsProgram source t s → KeepsRules t → ⊥
+
+-- no small program has this source
+abbrev pub IsNoSmall : List ℕ → Type 0
+IsNoSmall source = (t : Lexed) (s : Small) → IsProgram source t s → ⊥
+
+-- each small program that has this source breaks a rule
+abbrev pub EachBreaksRule : List ℕ → Type 0
+EachBreaksRule source = (t : Lexed) (s : Small) → IsProgram source t s → BreaksRule t
 
 -- ---- why and where a source is refused
 
@@ -49,36 +61,37 @@ FailsFor source _ byte = ⊥
 abbrev pub RefusesPiece : List ℕ → Refusal → (line byte : ℕ) → Type 0
 RefusesPiece source why line byte = FailsFor source why byte × (line ≡ line_at source byte)
 
--- the token of this number begins at this byte, on this line
-pub record StandsAt (t : Lexed) (number line byte : ℕ) : Type 0 where
-  pub token : Token
-  pub there : slice_get t.tokens number ≡ Some token
-  pub line_is : line ≡ token.line
-  pub byte_is : byte ≡ token.start
-
 -- Tokens are refused at this one: it is the first that is too deep, or else the first with which no tree of the grammar
--- goes on; or, where a formed tree spells them, no small program begins with the tokens up to it.
+-- goes on; or, where they are the text of a tree that keeps the rules, no small program begins with those up to it.
 abbrev pub RefusesAt : Lexed → Refusal → (number : ℕ) → Type 0
 RefusesAt t refusal.NotProgram number = IsExact t.tokens (Err (parser.NotProgram number))
 RefusesAt t refusal.TooDeep number = IsExact t.tokens (Err (parser.TooDeep number))
-RefusesAt t refusal.Unbuilt number = IsText t.tokens × BeginsNone (pieces t) number
+RefusesAt t refusal.Unbuilt number = KeepsRules t × BeginsNone (pieces t) number
 RefusesAt t _ number = ⊥
 
 -- they are refused at a token that stands there
 abbrev pub RefusesToken : Lexed → Refusal → (line byte : ℕ) → Type 0
 RefusesToken t why line byte = (number : ℕ) × StandsAt t number line byte × RefusesAt t why number
 
--- A source is refused at the first piece that does not fit; or, where all pieces fit, at a token.
+-- A source is refused at the first piece that does not fit; or, where all pieces fit, at a token: for the grammar, for
+-- a rule, or for what is not built.
 abbrev pub Refuses : List ℕ → Refusal → (line byte : ℕ) → Type 0
 Refuses source why line byte =
     RefusesPiece source why line byte
-    ⊎ ((t : Lexed) × (t.source ≡ source) × IsLexed source t.tokens × RefusesToken t why line byte)
+    ⊎ ((t : Lexed) × (t.source ≡ source) × IsLexed source t.tokens
+    × (RefusesToken t why line byte ⊎ RefusesTree t why line byte))
+
+-- What a refusal says of small programs: for a rule, that each with this source breaks one; else, that there is none.
+abbrev pub NoneRuns : List ℕ → Refusal → Type 0
+NoneRuns source (refusal.Rule rule) = EachBreaksRule source
+NoneRuns source refusal.TooBig = EachBreaksRule source
+NoneRuns source _ = IsNoSmall source
 
 -- ---- what the parts of the way answer
 
--- a refused source is no program, and this is why and where
+-- a refused source has no small program that runs, and this is why and where it is refused
 abbrev pub IsRefused : List ℕ → SourceFault → Type 0
-IsRefused source (Refused why line byte) = NoProgram source × Refuses source why line byte
+IsRefused source (Refused why line byte) = NoneRuns source why × Refuses source why line byte
 IsRefused source Memory = Unit {0}
 
 -- why and where a piece does not fit
@@ -92,10 +105,20 @@ IsUnlexed source (Refused why line byte) =
     ((tokens : List Token) → IsLexed source tokens → ⊥) × RefusesPiece source why line byte
 IsUnlexed source Memory = Unit {0}
 
--- tokens that no formed tree spells are refused at one of them
-abbrev pub IsUnparsed : Lexed → SourceFault → Type 0
-IsUnparsed t (Refused why line byte) = (IsText t.tokens → ⊥) × RefusesToken t why line byte
-IsUnparsed t Memory = Unit {0}
+-- how the fault of a check is told
+abbrev pub fault_of_check : ProgramFault → SourceFault
+fault_of_check (refused.NotProgram line byte) = Refused refusal.NotProgram line byte
+fault_of_check (refused.TooDeep line byte) = Refused refusal.TooDeep line byte
+fault_of_check (refused.Rule rule line byte) = Refused (refusal.Rule rule) line byte
+fault_of_check (refused.TooBig line byte) = Refused refusal.TooBig line byte
+fault_of_check refused.Memory = Memory
+
+-- tokens that no formed tree spells are refused at one of them, and those of a tree that breaks a rule for the first
+-- that it breaks
+abbrev pub IsUnchecked : Lexed → SourceFault → Type 0
+IsUnchecked t (Refused why line byte) =
+    ((IsText t.tokens → ⊥) × RefusesToken t why line byte) ⊎ RefusesTree t why line byte
+IsUnchecked t Memory = Unit {0}
 
 -- tokens that are no small program are refused at one of them
 abbrev pub IsUnread : Lexed → SourceFault → Type 0

@@ -21,6 +21,10 @@ pub enum Refusal {
     NotProgram,
     /// What begins at a token is nested too deep.
     TooDeep,
+    /// The static rule of this number is broken, and it is the first of those that are.
+    Rule(u32),
+    /// A variable or a parameter has too many cells, and no rule is broken.
+    TooBig,
     /// A token at which no program goes on of the part of Pascal that is built.
     Unbuilt,
 }

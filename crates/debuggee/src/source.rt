@@ -5,20 +5,21 @@ ghost use Rattle.pas_lexer.specs.declared.kinds.Token.{Token};
 ghost use Rattle.pas_lexer.specs.Limits.{source_bytes};
 ghost use Rattle.pas_lexer.specs.Lexed.{Lexed, EndsOnce};
 ghost use Rattle.pas_lexer.specs.Division.{line_at, IsLexed, IsFault};
-ghost use Rattle.pas_parser.specs.Formed.{IsText};
 ghost use Rattle.debuggee.specs.declared.source.SourceFault.TheVariants.{Refused, Memory};
 ghost use Rattle.small_program.specs.Small.{Small, IsSmall, pieces, program_of};
-ghost use Rattle.debuggee.specs.Program.{IsProgram, Keeps, IsRefused, IsMisfit, IsUnlexed, IsUnparsed, IsUnread};
-ghost use Rattle.debuggee.specs.Program.{StandsAt, TokensAre, ProgramIs};
+ghost use Rattle.source_checker.specs.Places.{StandsAt};
+ghost use Rattle.debuggee.specs.Program.{IsProgram, Keeps, IsRefused, IsMisfit, IsUnlexed, IsUnchecked, IsUnread};
+ghost use Rattle.debuggee.specs.Program.{fault_of_check, TokensAre, ProgramIs};
+ghost use Rattle.debuggee.specs.Rules.{KeepsRules, BreaksNoRule};
 ghost use Rattle.debuggee.specs.Execution.{execution, execution_of, calls_within, lasts_of, IsReady};
 ghost use Rattle.debuggee.specs.Limits.{default_budget};
 
 use crate::refusal::Refusal;
 use core_program::{Calls, SmallProgram, numbers_tell_the_tree, run_calls};
 use pas_lexer::{LexFault, Tokens, lex, line_at};
-use pas_parser::{ParseFault, parse};
 use small_program::{SmallFault, parse_small};
 use small_text::small_programs_are_texts;
+use source_checker::{ProgramFault, check_tokens, place_of};
 use std::alloc::{AllocError, Global};
 use thiserror::Error;
 
@@ -41,7 +42,8 @@ pub struct Debuggee {
 /// Why a source opens no session.
 #[derive(Clone, Copy, Debug, PartialEq, Eq, Drop, Error)]
 pub enum SourceFault {
-    /// The source is no program of the language. The line is counted from 1, the byte from 0.
+    /// The source is no program of the language, it breaks a static rule, or it cannot be run yet. The line is
+    /// counted from 1, the byte from 0.
     #[error("refused at line {line}, byte {byte}")]
     Refused { why: Refusal, line: u32, byte: u32 },
     /// Memory ran out.
@@ -57,16 +59,6 @@ impl From<AllocError> for SourceFault {
     fn from(_e: AllocError) -> SourceFault {
         SourceFault::Memory
     }
-}
-
-/// The place of the token of this number, and of the last one where there is none: its line and its
-/// first byte.
-fn place_of(tokens: &Tokens, number: u32) -> (u32, u32)
-    ensures ended { EndsOnce tokens.now.tokens }
-    ensures place { number < length tokens.now.tokens → StandsAt tokens.now number result.0 result.1 }
-{
-    let token = tokens.at(number.min(tokens.len() - 1));
-    (token.line, token.start)
 }
 
 /// The refusal of a source at the token of this number.
@@ -123,21 +115,32 @@ fn read_tokens(alloc: Global, source: &[u8]) -> Result<Tokens, SourceFault>
     }
 }
 
-/// Parses the tokens. The tree is dropped: nothing reads it yet.
-fn check_grammar(alloc: Global, tokens: &Tokens) -> Result<(), SourceFault>
-    ensures found { OnOk result (IsText tokens.now.tokens) }
-    ensures refused { IfErr result (IsUnparsed tokens.now) }
+/// What the check says of the tokens, as a fault of their source.
+fn fault_of_check(fault: ProgramFault) -> SourceFault
+    ensures { result ≡ fault_of_check fault }
 {
-    match parse(alloc, tokens) {
-        Ok(tree) => {
-            drop(tree);
+    let (why, line, byte) = match fault {
+        ProgramFault::NotProgram { line, byte } => (Refusal::NotProgram, line, byte),
+        ProgramFault::TooDeep { line, byte } => (Refusal::TooDeep, line, byte),
+        ProgramFault::Rule { rule, line, byte } => (Refusal::Rule(rule), line, byte),
+        ProgramFault::TooBig { line, byte } => (Refusal::TooBig, line, byte),
+        ProgramFault::Memory => return SourceFault::Memory,
+    };
+    SourceFault::Refused { why, line, byte }
+}
+
+/// Parses the tokens and checks the static rules. The tables that come of it are dropped: nothing runs them yet.
+#[tactic(auto, using(crate::proofs::SourceIsRun::told_unchecked))]
+fn check_rules(alloc: Global, tokens: &Tokens) -> Result<(), SourceFault>
+    ensures kept { OnOk result (KeepsRules tokens.now) }
+    ensures refused { IfErr result (IsUnchecked tokens.now) }
+{
+    match check_tokens(alloc, tokens) {
+        Ok(program) => {
+            drop(program);
             Ok(())
         }
-        Err(ParseFault::NotProgram(token)) => {
-            Err(refused_token(tokens, Refusal::NotProgram, token))
-        }
-        Err(ParseFault::TooDeep(token)) => Err(refused_token(tokens, Refusal::TooDeep, token)),
-        Err(ParseFault::Memory) => Err(SourceFault::Memory),
+        Err(fault) => Err(fault_of_check(fault)),
     }
 }
 
@@ -202,22 +205,25 @@ fn run_tokens(alloc: Global, tokens: Tokens, program: SmallProgram) -> Result<De
     })
 }
 
-/// The run of a source. It takes memory; a source of another language is refused.
+/// The run of a source. It takes memory. A source is refused that is no program of the language, that breaks a static
+/// rule, or that cannot be run yet.
 pub fn run_source(alloc: Global, source: &[u8]) -> Result<Debuggee, SourceFault>
     requires { length source.now ≤ source_bytes }
-    // Each program that the source is has this run.
-    ensures only { (t : Lexed) (s : Small) → IsProgram source.now t s → Keeps (execution_of t s) result }
-    // A refused source is no program, and it is told why and where: at the first piece that does not fit, or
-    // at a token with which no tree of the grammar, or no small program, goes on.
+    // Each program that the source is and that breaks no rule has this run.
+    ensures only { (t : Lexed) (s : Small) → IsProgram source.now t s → BreaksNoRule t
+        → Keeps (execution_of t s) result }
+    // A refused source is no program, or it breaks a rule; and it is told why and where: at the first piece that does
+    // not fit, at a token with which no tree of the grammar goes on, at the first broken rule, or at a token with which
+    // no small program goes on.
     ensures refused { IfErr result (IsRefused source.now) }
-    // A source that is no program is refused, unless memory runs out.
-    ensures found { IfOk result (λ debuggee. (t : Lexed) × (s : Small) × IsProgram source.now t s
+    // A source that is no program that keeps the rules is refused, unless memory runs out.
+    ensures found { IfOk result (λ debuggee. (t : Lexed) × (s : Small) × IsProgram source.now t s × KeepsRules t
         × (execution debuggee ≡ execution_of t s)) }
     ensures ready { IfOk result IsReady }
 {
     small_programs_are_texts();
     let tokens = read_tokens(alloc, source)?;
-    check_grammar(alloc, &tokens)?;
+    check_rules(alloc, &tokens)?;
     let program = read_program(alloc, &tokens)?;
     let debuggee = run_tokens(alloc, tokens, program)?;
     Ok(debuggee)

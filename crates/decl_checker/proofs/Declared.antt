@@ -1,5 +1,5 @@
 -- What the check of a program leaves.
-use Rattle.std.proofs.Common.{◌≡◌, List, None, Result, Ok, Err, IfOk, IfErr, sym, ap, ◌∙◌}
+use Rattle.std.proofs.Common.{◌≡◌, ℕ, List, None, Result, Ok, Err, IfOk, IfErr, sym, ap, ◌∙◌}
 use Rattle.pas_lexer.specs.Lexed.{Lexed}
 use Rattle.pas_tree.specs.declared.blocks.Tree.{Tree}
 use Rattle.check_steps.specs.declared.breaks.Break.{Break}
@@ -16,14 +16,14 @@ pub record Leaves (l : Lexed) (t : Tree) (v : Work) : Type 0 where
   pub first : HasFirst (broken l t) v.least
   pub tables : v.tables ≡ tables_of l t
 
-pub leaves : (l : Lexed) (t : Tree) (w v : Work) → w ≡ record { least = None; tables = start l } → run (program_step t) w ≡ (tt, v)
+pub leaves : (l : Lexed) (t : Tree) (w v : Work) {frame : ℕ} → w ≡ record { least = None; tables = start l } → run (program_step t) w ≡ (frame, v)
     → Leaves l t v
 unfolding run
-leaves l t w v is done =
+leaves l t w v {frame} is done =
     let made = ap (λ (x : Work). run (program_step t) x) (sym is) ∙ done in
     record {
-      first = record { first_is = ap (λ (p : Unit {0} × Work). p.1.least) made };
-      tables = sym (ap (λ (p : Unit {0} × Work). p.1.tables) made);
+      first = record { first_is = ap (λ (p : ℕ × Work). p.1.least) made };
+      tables = sym (ap (λ (p : ℕ × Work). p.1.tables) made);
     }
 
 pub told_tables : (r : Result Known CheckFault) (l : Lexed) (t : Tree) (v : Work) → Leaves l t v → IfOk r (λ s. s ≡ v.tables) → IfOk r (λ s. s ≡ tables_of l t)

@@ -6,7 +6,7 @@ use Rattle.program_tables.specs.declared.program.Routine.{Routine}
 use Rattle.check_steps.specs.declared.breaks.Break.{Break}
 use Rattle.check_steps.specs.Known.{Known, frame_at}
 use Rattle.check_steps.specs.Required.{outermost}
-use Rattle.check_steps.specs.Steps.{Step, ◌>>=◌, look, add_routine, open_region}
+use Rattle.check_steps.specs.Steps.{Step, give, ◌>>=◌, look, add_routine, open_region}
 use Rattle.check_steps.specs.Words.{start}
 use Rattle.decl_checker.specs.Blocks.{define_block}
 use Rattle.decl_checker.specs.Parameters.{parameters}
@@ -38,13 +38,14 @@ define_program frame t = do
   _ ← parameters region t.parameters
   define_block frame t.block
 
--- A program. Its own name defines nothing.
-unfoldable pub program_step : Tree → Step (Unit {0})
+-- A program, the frame of whose block is given. Its own name defines nothing.
+unfoldable pub program_step : Tree → Step ℕ
 program_step t = do
   frame ← open_program
   _ ← define_program frame t
   number ← add_routine (main_row t.name)
-  block frame number 1 t.block
+  _ ← block frame number 1 t.block
+  give frame
 
 -- the rules that a tree breaks
 abbrev pub broken : Lexed → Tree → List Break

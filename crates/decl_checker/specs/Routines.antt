@@ -1,5 +1,5 @@
 -- Blocks and their procedures and functions (6.2.1, 6.6).
-use Rattle.std.specs.Prelude.{ℕ, ◌+◌, ◌-◌, Bool, List, Option, Some, None, nat_lt, if◌then◌else◌}
+use Rattle.std.specs.Prelude.{ℕ, ◌+◌, Bool, false, List, Option, Some, None, nat_lt, if◌then◌else◌}
 use Rattle.pas_tree.specs.declared.blocks.Block.{Block, Block' as BlockTree', Row_of-Routine}
 use Rattle.pas_tree.specs.declared.blocks.Block.{end_of-Routine, more_of-Routine, items-the_row-Routine}
 use Rattle.pas_tree.specs.declared.blocks.Routine.{Routine}
@@ -16,14 +16,14 @@ use Rattle.check_steps.specs.Known.{Known, frame_at, row_at}
 use Rattle.check_steps.specs.Regions.{region_at}
 use Rattle.check_steps.specs.Steps.{Step, give, ◌>>=◌, look, put, add_routine, open_region}
 use Rattle.pas_places.specs.Headings.{heading_name, heading_word}
+use Rattle.kind_checker.specs.Sizes.{frame_capped}
 use Rattle.heading_checker.specs.Formals.{define_formals_at, is_function}
 use Rattle.heading_checker.specs.Headings.{signature}
 use Rattle.heading_checker.specs.RoutineParts.{completion_of, routine_name}
 use Rattle.use_checker.specs.Statements.{compound_uses}
 use Rattle.decl_checker.specs.declared.routines.Entered.{Entered}
 use Rattle.decl_checker.specs.Blocks.{define_block, parts, put_body}
-use Rattle.decl_checker.specs.Regions.{region_of}
-use Rattle.decl_checker.specs.Scopes.{routine_in}
+use Rattle.decl_checker.specs.Scopes.{region_in, routine_in}
 
 -- ---- regions of routines
 
@@ -54,28 +54,33 @@ define_inside frame h body completion = do
 
 -- ---- first headings
 
--- a function's result has the cell before the place after its signature
+-- a function's result stands at the place after its parameters
 abbrev pub result_place : Bool → ℕ → Option ℕ
-result_place function place = if function then Some (place - 1) else None
+result_place function end = if function then Some end else None
 
--- A routine whose block is not known so far. Its own heading stands where its list of statements would.
+-- the place after the parameters and a function's result
+abbrev pub place_after_result : Bool → ℕ → ℕ
+place_after_result function end = if function then frame_capped (end + 1) else end
+
+-- A routine whose block is not known so far, by the place after its parameters. Its own heading stands where its
+-- list of statements would.
 abbrev pub heading_row : Heading → ℕ → ℕ → RoutineRow
-heading_row h level place = record {
+heading_row h level end = record {
   name = heading_name h;
   heading = heading_word h;
   level = level;
-  cells = place;
-  result = result_place (is_function h) place;
+  cells = place_after_result (is_function h) end;
+  result = result_place (is_function h) end;
   statements = heading_word h;
   line = 0;
 }
 
--- a new routine, whose number is given and stands at its name
+-- a new routine, by the place after its parameters; its number is given and stands at its name
 unfoldable pub add_heading : ℕ → Heading → ℕ → Step ℕ
-add_heading frame h place = do
-  level ← look (λ k. (frame_at k frame).level)
-  number ← add_routine (heading_row h level place)
-  _ ← put (heading_name h) (row.Name (named.Routine number))
+add_heading frame h end = do
+  here ← look (λ k. frame_at k frame)
+  number ← add_routine (heading_row h here.level end)
+  _ ← put (heading_name h) (row.Name (named.Routine false number here.region))
   give number
 
 -- a routine's first heading, seen from the frame around, among the routines of its part
@@ -84,9 +89,9 @@ first_heading frame rs r = do
   completion ← look (λ k. completion_of k rs r)
   inner ← open_routine frame (routine_name r)
   _ ← define_inside inner r.heading r.body completion
-  place ← signature frame inner r.heading
-  number ← add_heading inner r.heading place
-  give (record { number = number; frame = inner; place = place })
+  end ← signature frame inner r.heading
+  number ← add_heading inner r.heading end
+  give (record { number = number; frame = inner; place = place_after_result (is_function r.heading) end })
 
 -- ---- completing headings
 
@@ -95,15 +100,15 @@ abbrev pub first_name : Row → Option ℕ
 first_name (row.Part (part.Completing first)) = Some first
 first_name r = None
 
-abbrev pub own_frame : Known → Option ℕ → ℕ
-own_frame k None = 0
-own_frame k (Some region) = (region_at k.regions region).frame
+-- the frame of a routine's region, by its name in its first heading
+abbrev pub own_frame : Known → ℕ → ℕ
+own_frame k name = (region_at k.regions (region_in (row_at k name))).frame
 
 -- a routine that was entered at its first heading, by the name there
 abbrev pub resumed : Known → ℕ → Entered
 resumed k name = record {
   number = routine_in (row_at k name) name;
-  frame = own_frame k (region_of k.regions name);
+  frame = own_frame k name;
   place = frame_of k.program (routine_in (row_at k name) name);
 }
 

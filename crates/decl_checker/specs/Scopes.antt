@@ -13,8 +13,13 @@ use Rattle.check_steps.specs.Words.{number_of}
 
 -- the number of a routine, by the row at its name
 abbrev pub routine_in : Row → ℕ → ℕ
-routine_in (row.Name (named.Routine number)) otherwise = number
+routine_in (row.Name (named.Routine assigned number region)) otherwise = number
 routine_in r otherwise = otherwise
+
+-- the region of a routine, by the row at its name
+abbrev pub region_in : Row → ℕ
+region_in (row.Name (named.Routine assigned number region)) = region
+region_in r = 0
 
 -- what callers see of a definition: of a routine its number
 abbrev pub seen : Known → Def → Def

@@ -130,7 +130,7 @@ fn word_after(variables: &Option<VariablePart>, routines: &[Routine], body: &Com
 }
 
 /// The token after the part of types of a block.
-fn after_types(b: &Block) -> u32
+pub fn after_types(b: &Block) -> u32
     ensures { result ≡ after_types b.now }
 {
     word_after(&b.variables, &b.routines, &b.body)

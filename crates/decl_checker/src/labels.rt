@@ -2,32 +2,25 @@
 
 ghost use Rattle.std.specs.Prelude.{◌≡◌, IfOk};
 ghost use Rattle.check_steps.specs.Steps.{Does, each};
-ghost use Rattle.decl_checker.specs.Labels.{define_label, define_labels, define_next_label, label_value};
+ghost use Rattle.decl_checker.specs.Labels.{define_label, define_labels, define_next_label};
 
-use check_steps::{Frame, Spelled, Work};
+use check_steps::{Frame, Work};
 use pas_tree::blocks::{LabelPart, NextLabel};
 use program_tables::rows::{NameRow, Row};
 use std::alloc::AllocError;
-
-fn label_value(spelled: Spelled) -> u32
-    ensures { result ≡ label_value spelled }
-{
-    match spelled {
-        Spelled::Number(value) => value,
-        _ => 0,
-    }
-}
 
 #[tactic(auto, using(check_steps::proofs::Runs::steps), unfolding(crate::specs::Labels::define_label))]
 fn define_label(work: &mut Work, here: Frame, token: u32) -> Result<(), AllocError>
     ensures { IfOk result (λ _. Does (define_label here token) tt work.old work.new) }
 {
-    let value = label_value(work.tables.spelled(token));
+    let value = work.tables.label(token);
     work.rule(14, token, value <= 9999);
     work.declare_in(here.region, value, token)?;
     let row = NameRow::Label {
+        marked: false,
         value,
         level: here.level,
+        reachable: 0,
     };
     work.put(token, Row::Name(row));
     Ok(())

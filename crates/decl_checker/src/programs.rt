@@ -51,10 +51,10 @@ fn define_program(work: &mut Work, tree: &Tree, frame: u32) -> Result<(), AllocE
     Ok(())
 }
 
-/// The declarations of a program, and the names in its statements.
+/// The declarations of a program, and the names in its statements; the frame of its block is given.
 #[tactic(auto, using(check_steps::proofs::Runs::steps), unfolding(crate::specs::Programs::program_step))]
-pub fn check_program(work: &mut Work, alloc: Global, tree: &Tree) -> Result<(), AllocError>
-    ensures { IfOk result (λ _. Does (program_step tree.now) tt work.old work.new) }
+pub fn check_program(work: &mut Work, alloc: Global, tree: &Tree) -> Result<u32, AllocError>
+    ensures { IfOk result (λ frame. Does (program_step tree.now) frame work.old work.new) }
 {
     let frame = open_program(work, alloc)?;
     define_program(work, tree, frame)?;
@@ -65,7 +65,7 @@ pub fn check_program(work: &mut Work, alloc: Global, tree: &Tree) -> Result<(), 
         place: 1,
     };
     check_block(work, alloc, &tree.block, entered)?;
-    Ok(())
+    Ok(frame)
 }
 
 /// The tables of a program as far as its declarations give them, or the first broken rule of those that can be told

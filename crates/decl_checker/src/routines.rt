@@ -4,13 +4,14 @@ ghost use Rattle.std.specs.Prelude.{◌≡◌, IfOk, option_copied};
 ghost use Rattle.check_steps.specs.Steps.{Does, each};
 ghost use Rattle.decl_checker.specs.Routines.{add_heading, block, body_in, define_body, define_completion};
 ghost use Rattle.decl_checker.specs.Routines.{define_inside, enter, first_heading, first_name, heading_row, one_deeper};
-ghost use Rattle.decl_checker.specs.Routines.{open_routine, own_frame, result_place, resumed, routine};
+ghost use Rattle.decl_checker.specs.Routines.{open_routine, own_frame, place_after_result, result_place, resumed};
+ghost use Rattle.decl_checker.specs.Routines.{routine};
 
 use crate::blocks::{check_parts, define_block, put_body};
-use crate::regions::region_of;
-use crate::scopes::routine_in;
+use crate::scopes::{region_in, routine_in};
 use check_steps::{Tables, Work};
 use heading_checker::{check_signature, completion_of, define_formals_at, is_function};
+use kind_checker::sizes::place_after;
 use pas_places::{heading_name, heading_word};
 use pas_tree::blocks::{Block, Body, Routine};
 use pas_tree::headings::Heading;
@@ -86,47 +87,48 @@ fn define_inside(
     Ok(())
 }
 
-fn result_place(function: bool, place: u32) -> Option<u32>
-    ensures { result ≡ result_place function place }
+/// A function's result stands at the place after its parameters.
+fn result_place(function: bool, end: u32) -> Option<u32>
+    ensures { result ≡ result_place function end }
 {
-    if function {
-        Some(place.saturating_sub(1))
-    } else {
-        None
-    }
+    if function { Some(end) } else { None }
 }
 
-/// A routine of which only the heading is known.
-fn heading_row(heading: &Heading, level: u32, place: u32) -> RoutineRow
-    ensures { result ≡ heading_row heading.now level place }
+/// The place after the parameters and a function's result.
+fn place_after_result(function: bool, end: u32) -> u32
+    ensures { result ≡ place_after_result function end }
+{
+    if function { place_after(end, 1) } else { end }
+}
+
+/// A routine of which only the heading is known, by the place after its parameters.
+fn heading_row(heading: &Heading, level: u32, end: u32) -> RoutineRow
+    ensures { result ≡ heading_row heading.now level end }
 {
     RoutineRow {
         name: heading_name(heading),
         heading: heading_word(heading),
         level,
-        cells: place,
-        result: result_place(is_function(heading), place),
+        cells: place_after_result(is_function(heading), end),
+        result: result_place(is_function(heading), end),
         statements: heading_word(heading),
         line: 0,
     }
 }
 
-/// A new routine, whose number is put down at its name.
+/// A new routine, by the place after its parameters. Its number is put down at its name.
 #[tactic(auto, using(check_steps::proofs::Runs::steps), unfolding(crate::specs::Routines::add_heading))]
-fn add_heading(
-    work: &mut Work,
-    frame: u32,
-    heading: &Heading,
-    place: u32,
-) -> Result<u32, AllocError>
-    ensures { IfOk result (λ number. Does (add_heading frame heading.now place) number work.old work.new) }
+fn add_heading(work: &mut Work, frame: u32, heading: &Heading, end: u32) -> Result<u32, AllocError>
+    ensures { IfOk result (λ number. Does (add_heading frame heading.now end) number work.old work.new) }
 {
-    let level = work.tables.frame(frame).level;
-    let number = work.add_routine(heading_row(heading, level, place))?;
-    work.put(
-        heading_name(heading),
-        Row::Name(NameRow::Routine { number }),
-    );
+    let here = work.tables.frame(frame);
+    let number = work.add_routine(heading_row(heading, here.level, end))?;
+    let row = NameRow::Routine {
+        assigned: false,
+        number,
+        region: here.region,
+    };
+    work.put(heading_name(heading), Row::Name(row));
     Ok(number)
 }
 
@@ -144,12 +146,12 @@ fn enter_first(
     let completion = completion_of(&work.tables, routines, routine);
     let inner = open_routine(work, alloc, frame, heading_name(&routine.heading))?;
     define_inside(work, routine, completion, inner)?;
-    let place = check_signature(work, alloc, &routine.heading, frame, inner)?;
-    let number = add_heading(work, inner, &routine.heading, place)?;
+    let end = check_signature(work, alloc, &routine.heading, frame, inner)?;
+    let number = add_heading(work, inner, &routine.heading, end)?;
     Ok(Entered {
         number,
         frame: inner,
-        place,
+        place: place_after_result(is_function(&routine.heading), end),
     })
 }
 
@@ -162,13 +164,11 @@ fn first_name(row: Row) -> Option<u32>
     }
 }
 
-fn own_frame(tables: &Tables, region: Option<u32>) -> u32
-    ensures { result ≡ own_frame tables.now region }
+/// The frame of a routine's region, by its name in its first heading.
+pub fn own_frame(tables: &Tables, name: u32) -> u32
+    ensures { result ≡ own_frame tables.now name }
 {
-    match region {
-        None => 0,
-        Some(region) => tables.region_frame(region),
-    }
+    tables.region_frame(region_in(tables.row(name)))
 }
 
 /// A routine that was entered at its first heading, by the name there.
@@ -178,7 +178,7 @@ fn resumed(tables: &Tables, name: u32) -> Entered
     let number = routine_in(tables.row(name), name);
     Entered {
         number,
-        frame: own_frame(tables, region_of(tables, name)),
+        frame: own_frame(tables, name),
         place: tables.program().frame(number),
     }
 }

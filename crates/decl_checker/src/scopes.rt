@@ -3,7 +3,7 @@
 ghost use Rattle.std.specs.Prelude.{◌≡◌, length};
 ghost use Rattle.program_tables.specs.ProgramRows.{frame_of, name_of, offset_of, size_of};
 ghost use Rattle.decl_checker.specs.Regions.{region_of};
-ghost use Rattle.decl_checker.specs.Scopes.{held_around, held_in, routine_in, seen, seen_of};
+ghost use Rattle.decl_checker.specs.Scopes.{held_around, held_in, region_in, routine_in, seen, seen_of};
 
 use crate::regions::region_of;
 use check_steps::{Def, Definition, Tables};
@@ -92,8 +92,18 @@ pub(crate) fn routine_in(row: Row, otherwise: u32) -> u32
     ensures { result ≡ routine_in row otherwise }
 {
     match row {
-        Row::Name(NameRow::Routine { number }) => number,
+        Row::Name(NameRow::Routine { number, .. }) => number,
         _ => otherwise,
+    }
+}
+
+/// The region of a routine, by the row at its name, and 0 where there is none.
+pub(crate) fn region_in(row: Row) -> u32
+    ensures { result ≡ region_in row }
+{
+    match row {
+        Row::Name(NameRow::Routine { region, .. }) => region,
+        _ => 0,
     }
 }
 

@@ -2,7 +2,7 @@
 use Rattle.std.specs.Prelude.{ℕ, ◌+◌, Bool, true, false, Option, Some, None, is_none, nat_eq, nat_lt}
 use Rattle.std.specs.Prelude.{◌&&◌, ◌||◌, if◌then◌else◌, length}
 use Rattle.pas_tree.specs.declared.expressions.Factor.{Factor, Access'}
-use Rattle.pas_tree.specs.declared.expressions.Access.{Row_of-Selector, end_of-Selector, more_of-Selector}
+use Rattle.pas_tree.specs.declared.expressions.Access.{Access, Row_of-Selector, end_of-Selector, more_of-Selector}
 use Rattle.pas_tree.specs.declared.expressions.Expression.{Expression, out-Expression}
 use Rattle.pas_tree.specs.declared.expressions.Simple.{Simple, out-Simple}
 use Rattle.pas_tree.specs.declared.expressions.Term.{Term, out-Term}
@@ -27,7 +27,7 @@ use Rattle.type_relations.specs.declared.shapes.ExpressionType.TheVariants as ex
 use Rattle.type_relations.specs.declared.shapes.Shape.{Shape}
 use Rattle.type_relations.specs.declared.shapes.Shape.TheVariants as shape
 use Rattle.type_relations.specs.Headings.{congruous, section_at}
-use Rattle.type_relations.specs.Operators.{is_operand, is_unknown}
+use Rattle.type_relations.specs.Operators.{is_operand, is_ordinal, is_unknown}
 use Rattle.type_relations.specs.Shapes.{is_assignable, is_same_type, shape_of}
 use Rattle.expression_checker.specs.declared.actuals.Argument.{Argument}
 use Rattle.expression_checker.specs.declared.actuals.Formal.{Formal}
@@ -44,6 +44,7 @@ use Rattle.operand_checker.specs.declared.typed.Location.TheVariants as location
 use Rattle.operand_checker.specs.declared.typed.Typed.{Typed}
 use Rattle.expression_checker.specs.Callees.{callee_of}
 use Rattle.operand_checker.specs.Items.{add_item, link}
+use Rattle.operand_checker.specs.Threats.{threat_alone}
 use Rattle.operand_checker.specs.Typed.{unknown_at}
 
 -- ---- the formal parameter of the next actual
@@ -86,15 +87,11 @@ is_free l = false
 abbrev pub is_variable_actual : Known → ℕ → Typed → Bool
 is_variable_actual k t v = is_unknown (shape_of k v.of) || (is_free v.location && is_of_type k t v.of)
 
-abbrev pub is_ordinal_shape : Shape → Bool
-is_ordinal_shape (shape.Ordinal host) = true
-is_ordinal_shape s = is_unknown s
-
 -- abs, sqr, odd and chr take an integer; ord, succ and pred an ordinal
 abbrev pub is_argument : OrdinalFunction → Shape → Bool
-is_argument function.Ord s = is_ordinal_shape s
-is_argument function.Succ s = is_ordinal_shape s
-is_argument function.Pred s = is_ordinal_shape s
+is_argument function.Ord s = is_ordinal s
+is_argument function.Succ s = is_ordinal s
+is_argument function.Pred s = is_ordinal s
 is_argument f s = is_operand 0 s
 
 -- What an actual is to be. A name alone of a routine, and of a text file, is looked at elsewhere.
@@ -147,6 +144,10 @@ name_if alone name = if alone then Some name else None
 abbrev pub factor_name : Factor → Option ℕ
 factor_name (Access' name _ selectors) = name_if (is_name selectors) name
 factor_name f = None
+
+-- the name that an access is, if it is a name alone
+abbrev pub access_name : Access → Option ℕ
+access_name a = name_if (nat_eq (length a.selectors.items) 0) a.name
 
 abbrev pub name_of_if : Bool → Option ℕ → Option ℕ
 name_of_if alone name = if alone then name else None
@@ -218,6 +219,11 @@ argued_as frame f lone.None first walk = walk >>= λ v. argued f first v
 argued_as frame f (lone.Routine name heading) first walk = routine_argued frame name heading
 argued_as frame f (lone.File name file) first walk = file_argued name file
 
+-- A variable as a whole that is passed to a variable parameter is threatened.
+abbrev pub threat_by : ℕ → Formal → Option ℕ → Step (Unit {0})
+threat_by frame (formal.Variable of') name = threat_alone frame name
+threat_by frame f name = give tt
+
 -- ---- lists of actuals
 
 unfoldable pub passed : Passing → ℕ → Argument → Step Passing
@@ -230,6 +236,7 @@ passed p slot a = do
 unfoldable pub actual_by : ℕ → Passing → ℕ → Option ℕ → ℕ → Step Typed → Step Passing
 actual_by frame p slot name first walk = do
   f ← look (λ k. formal_at k p.formals)
+  _ ← threat_by frame f name
   l ← look (λ k. lone_of k frame f name)
   a ← argued_as frame f l first walk
   passed p slot a

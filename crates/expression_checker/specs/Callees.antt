@@ -42,7 +42,8 @@ declared_routine k frame number None = callee.Unknown
 declared_routine k frame number (Some r) = callee.Routine number (levels_to k frame (r.level - 1)) r.heading
 
 abbrev pub callee_in : Known → ℕ → Row → Callee
-callee_in k frame (row.Name (named.Routine number)) = declared_routine k frame number (routine_at k.program number)
+callee_in k frame (row.Name (named.Routine assigned number region)) =
+    declared_routine k frame number (routine_at k.program number)
 callee_in k frame (row.Name (named.RoutineFormal place level heading)) =
     callee.Formal place (levels_to k frame level) heading
 callee_in k frame (row.Name (named.Required routine)) = callee.Required routine

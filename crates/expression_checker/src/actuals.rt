@@ -1,23 +1,24 @@
 //! Actual parameters against formal ones (6.6.3, 6.7.3).
 
 ghost use Rattle.std.specs.Prelude.{◌≡◌};
-ghost use Rattle.check_steps.specs.Names.{usable};
 ghost use Rattle.check_steps.specs.Steps.{Does};
-ghost use Rattle.expression_checker.specs.Actuals.{after_section, argued, closed, factor_name, file_argued};
-ghost use Rattle.expression_checker.specs.Actuals.{file_in, file_of, formal_at, formal_in, formals_after};
+ghost use Rattle.expression_checker.specs.Actuals.{access_name, after_section, argued, closed, factor_name};
+ghost use Rattle.expression_checker.specs.Actuals.{file_argued, file_in, file_of, formal_at, formal_in, formals_after};
 ghost use Rattle.expression_checker.specs.Actuals.{is_actual, is_argument, is_congruous, is_free, is_input, is_of_type};
-ghost use Rattle.expression_checker.specs.Actuals.{is_ordinal_shape, is_variable_actual, item_of, lone_file};
+ghost use Rattle.expression_checker.specs.Actuals.{is_variable_actual, item_of, lone_file};
 ghost use Rattle.expression_checker.specs.Actuals.{lone_of, name_alone, name_if, name_of_if, operand_in, passed};
 ghost use Rattle.expression_checker.specs.Actuals.{routine_argued, routine_item, rule_of, simple_name, term_name};
+ghost use Rattle.expression_checker.specs.Actuals.{threat_by};
 
 use crate::callees::{Callee, Formals, callee_of};
 use check_steps::{Found, Tables, Work};
 use operand_checker::items::{put_item, put_link};
+use operand_checker::threats::check_threat_alone;
 use operand_checker::typed::{Location, Typed, unknown_at};
-use pas_tree::expressions::{Expression, Factor, Simple, Term};
+use pas_tree::expressions::{Access, Expression, Factor, Simple, Term};
 use program_tables::rows::{INTEGER, ItemRow, Mode, NameRow, OrdinalFunction, Row, TextFile};
 use type_relations::headings::{Section, congruous, section_at};
-use type_relations::operators::{is_operand, is_unknown};
+use type_relations::operators::{is_operand, is_ordinal, is_unknown};
 use type_relations::shapes::{is_assignable, is_same_type, shape_of};
 use type_relations::{ExpressionType, Shape};
 
@@ -154,22 +155,13 @@ fn is_variable_actual(tables: &Tables, kind: u32, value: Typed) -> bool
         || (is_free(value.location) && is_of_type(tables, kind, value.of))
 }
 
-fn is_ordinal_shape(shape: Shape) -> bool
-    ensures { result ≡ is_ordinal_shape shape }
-{
-    match shape {
-        Shape::Ordinal(_) => true,
-        _ => is_unknown(shape),
-    }
-}
-
 fn is_argument(function: OrdinalFunction, shape: Shape) -> bool
     ensures { result ≡ is_argument function shape }
 {
     match function {
-        OrdinalFunction::Ord => is_ordinal_shape(shape),
-        OrdinalFunction::Succ => is_ordinal_shape(shape),
-        OrdinalFunction::Pred => is_ordinal_shape(shape),
+        OrdinalFunction::Ord => is_ordinal(shape),
+        OrdinalFunction::Succ => is_ordinal(shape),
+        OrdinalFunction::Pred => is_ordinal(shape),
         _ => is_operand(INTEGER, shape),
     }
 }
@@ -245,12 +237,19 @@ fn name_if(alone: bool, name: u32) -> Option<u32>
     if alone { Some(name) } else { None }
 }
 
+/// The name that an access is, if it is a name alone.
+pub fn access_name(access: &Access) -> Option<u32>
+    ensures { result ≡ access_name access.now }
+{
+    name_if(access.selectors.len() == 0, access.name)
+}
+
 #[tactic(auto, using(crate::proofs::NamesAlone::name_factor))]
 fn factor_name(factor: &Factor) -> Option<u32>
     ensures { result ≡ factor_name factor.now }
 {
     match factor {
-        Factor::Access(access) => name_if(access.selectors.len() == 0, access.name),
+        Factor::Access(access) => access_name(access),
         _ => None,
     }
 }
@@ -292,27 +291,13 @@ fn file_in(row: Row) -> Option<TextFile>
     }
 }
 
-fn file_of(tables: &Tables, found: Option<Found>) -> Option<TextFile>
+/// The text file that a name stands for.
+pub fn file_of(tables: &Tables, found: Option<Found>) -> Option<TextFile>
     ensures { result ≡ file_of tables.now found }
 {
     match found {
         None => None,
         Some(found) => file_in(tables.row(found.definition.token)),
-    }
-}
-
-fn usable(at: u32, found: Option<Found>) -> Option<Found>
-    ensures { result ≡ usable at found }
-{
-    match found {
-        Some(found) => {
-            if found.definition.end <= at {
-                Some(found)
-            } else {
-                None
-            }
-        }
-        None => None,
     }
 }
 
@@ -332,7 +317,7 @@ pub(crate) fn lone_of(tables: &Tables, frame: u32, formal: Formal, name: Option<
     match (formal, name) {
         (Formal::Routine(heading), Some(name)) => Lone::Routine { name, heading },
         (Formal::File, Some(name)) => {
-            let found = usable(name, tables.find(frame, tables.name(name)));
+            let found = tables.usable(frame, name, name);
             lone_file(name, file_of(tables, found))
         }
         _ => Lone::None,
@@ -405,6 +390,17 @@ pub(crate) fn check_file(work: &mut Work, name: u32, file: TextFile) -> Argument
     Argument {
         item: None,
         value: unknown_at(name),
+    }
+}
+
+/// What may be a name alone is passed to a formal parameter.
+#[tactic(auto, using(check_steps::proofs::Runs::steps))]
+pub(crate) fn check_threat_by(work: &mut Work, frame: u32, formal: Formal, name: Option<u32>)
+    ensures { Does (threat_by frame formal name) tt work.old work.new }
+{
+    match formal {
+        Formal::Variable(_) => check_threat_alone(work, frame, name),
+        _ => {}
     }
 }
 

@@ -79,7 +79,7 @@ fn callee_in(tables: &Tables, frame: u32, row: Row) -> Callee
     ensures { result ≡ callee_in tables.now frame row }
 {
     match row {
-        Row::Name(NameRow::Routine { number }) => {
+        Row::Name(NameRow::Routine { number, .. }) => {
             declared_routine(tables, frame, number, tables.program().routine(number))
         }
         Row::Name(
@@ -123,7 +123,8 @@ fn ordinal_function(required: Required) -> Option<OrdinalFunction>
     }
 }
 
-fn is_required_function(required: Required) -> bool
+/// Whether a required routine is a function.
+pub fn is_required_function(required: Required) -> bool
     ensures { result ≡ is_required_function required }
 {
     match required {

@@ -12,7 +12,7 @@ ghost use Rattle.expression_checker.specs.Expressions.{some_members, term};
 
 use crate::actuals::{
     Argument, Formal, Lone, Passing, check_argued, check_closed, check_file, check_passed,
-    check_routine, formal_at, lone_of, name_alone,
+    check_routine, check_threat_by, formal_at, lone_of, name_alone,
 };
 use crate::callees::{Called, check_applied, check_called};
 use check_steps::Work;
@@ -256,8 +256,10 @@ pub fn check_actual(
 ) -> Passing
     ensures { Does (actual frame passing slot e.now) result work.old work.new }
 {
+    let name = name_alone(e);
     let formal = formal_at(&work.tables, passing.formals);
-    let lone = lone_of(&work.tables, frame, formal, name_alone(e));
+    check_threat_by(work, frame, formal, name);
+    let lone = lone_of(&work.tables, frame, formal, name);
     let argument = check_argument(work, e, frame, formal, lone);
     check_passed(work, passing, slot, argument)
 }

@@ -1,13 +1,12 @@
 -- The equations of headings by the fields of their trees.
-use Rattle.std.proofs.Common.{◌≡◌, ℕ, ◌+◌, Option, Some, None, refl, ap, ◌∙◌}
+use Rattle.std.proofs.Common.{◌≡◌, ℕ, Option, Some, None, refl, ap, ◌∙◌}
 use Rattle.pas_tree.specs.declared.headings.Heading.{Procedure, Function}
 use Rattle.pas_tree.specs.declared.headings.Formal.TheBlock.{hidden-the_row-NextFormal-0}
 use Rattle.pas_tree.specs.declared.headings.ProcedureHeading.{ProcedureHeading, out-ProcedureHeading, is-ProcedureHeading'}
 use Rattle.pas_tree.specs.declared.headings.FunctionHeading.{FunctionHeading, out-FunctionHeading, is-FunctionHeading', back-FunctionHeading-formals}
 use Rattle.pas_tree.specs.declared.headings.Formals.{Formals, out-Formals, is-Formals', Row_of-NextFormal, end_of-NextFormal, more_of-NextFormal}
 use Rattle.pas_tree.specs.declared.headings.Formals.{items-the_row-NextFormal, items_hidden-the_row-NextFormal-0}
-use Rattle.check_steps.specs.Steps.{Step, give, ◌>>=◌, each}
-use Rattle.kind_checker.specs.Sizes.{frame_capped}
+use Rattle.check_steps.specs.Steps.{Step, ◌>>=◌, each}
 use Rattle.heading_checker.specs.Formals.{held_formals, formals_of, result_of}
 use Rattle.heading_checker.specs.Headings.{formal_place, function_row, function_signature, more_places, next_formal_place, places, places_held}
 use Rattle.heading_checker.specs.Headings.{places_of, procedure_row, procedure_signature}
@@ -60,8 +59,8 @@ procedure_out frame p =
 
 pub function_out : (around frame : ℕ) (f : FunctionHeading) → function_signature around frame f
     ≡ (function_row around (out-FunctionHeading f).word (out-FunctionHeading f).name (out-FunctionHeading f).formals (out-FunctionHeading f).result
-    >>= λ _. places_of frame (out-FunctionHeading f).formals >>= λ end. give (frame_capped (end + 1)))
+    >>= λ _. places_of frame (out-FunctionHeading f).formals)
 function_out around frame f =
     let o = out-FunctionHeading f in
     ap (function_signature around frame) (is-FunctionHeading' f)
-    ∙ (λ i. function_row around o.word o.name (held_is o.formals i) o.result >>= λ _. held_places frame o.formals i >>= λ end. give (frame_capped (end + 1)))
+    ∙ (λ i. function_row around o.word o.name (held_is o.formals i) o.result >>= λ _. held_places frame o.formals i)

@@ -146,8 +146,8 @@ function_row around word name formals result = do
 
 abbrev mutual
   -- What a heading's formals and its result are. The formals' types are looked up from the frame of its own region,
-  -- the result type from the frame around. In a frame the formals' cells follow the link in order, and the cell of a
-  -- function's result follows these; the place after them is given.
+  -- the result type from the frame around. In a frame the formals' cells follow the link in order; the place after
+  -- them is given.
   pub signature : ℕ → ℕ → Heading → Step ℕ
   signature around frame (Procedure p) = procedure_signature frame p
   signature around frame (Function f) = function_signature around frame f
@@ -160,8 +160,7 @@ abbrev mutual
   pub function_signature : ℕ → ℕ → FunctionHeading → Step ℕ
   function_signature around frame (FunctionHeading' word name formals result) = do
     _ ← function_row around word name (held_formals formals) result
-    end ← places_held frame formals
-    give (frame_capped (end + 1))
+    places_held frame formals
 
   -- the place after the formals
   pub places_held : ℕ → Held-FunctionHeading-formals → Step ℕ

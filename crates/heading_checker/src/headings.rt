@@ -294,9 +294,8 @@ fn put_function(
 }
 
 /// What the formals and the result of a heading are. The formals' types are looked up from the frame of its own region,
-/// in which they are defined; the result type from the frame around. The formals have the cells of a frame from 1 on,
-/// and a function's result the one after them; the place after all of them is given, where 524,289 stands for more than
-/// 524,288.
+/// in which they are defined; the result type from the frame around. The formals have the cells of a frame from 1 on;
+/// the place after them is given, where 524,289 stands for more than 524,288. A function's result has its cell there.
 #[cycle(signatures)]
 #[tactic(auto, using(check_steps::proofs::Runs::steps))]
 pub fn check_signature(
@@ -351,11 +350,8 @@ fn check_function(
         &function.result,
     );
     match &function.formals {
-        None => Ok(place_after(1, 1)),
-        Some(formals) => {
-            let end = check_places(work, alloc, formals, frame)?;
-            Ok(place_after(end, 1))
-        }
+        None => Ok(1),
+        Some(formals) => check_places(work, alloc, formals, frame),
     }
 }
 

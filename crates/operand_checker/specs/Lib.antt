@@ -4,3 +4,4 @@ pub mod Names
 pub mod Selectors
 pub mod Items
 pub mod Members
+pub mod Threats

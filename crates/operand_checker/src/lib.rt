@@ -7,8 +7,10 @@ pub mod members;
 pub mod names;
 pub mod operations;
 pub mod selectors;
+pub mod threats;
 pub mod typed;
 
 pub use members::{Begun, Gathered};
 pub use names::Meaning;
+pub use threats::Whole;
 pub use typed::{Location, Typed};

@@ -120,9 +120,12 @@ pub enum NameRow {
         holder: u32,
         variants: u32,
     },
-    /// A routine that the program declares, by its number among the routines.
+    /// A routine that the program declares: whether a value is assigned to its name so far, its number among the
+    /// routines, and the region of its parameters and its block.
     Routine {
+        assigned: bool,
         number: u32,
+        region: u32,
     },
     Required {
         routine: Required,
@@ -130,10 +133,13 @@ pub enum NameRow {
     TextFile {
         file: TextFile,
     },
-    /// A declared label, and how many blocks are around the one that declares it.
+    /// A declared label: whether it marks a statement so far, its value, how many blocks are around the one that
+    /// declares it, and how many of the statements that it marks may be reached where the check stands.
     Label {
+        marked: bool,
         value: u32,
         level: u32,
+        reachable: u32,
     },
 }
 

@@ -24,6 +24,8 @@ use Rattle.type_relations.specs.Shapes.{shape_of}
 use Rattle.operand_checker.specs.declared.typed.Location.{Location}
 use Rattle.operand_checker.specs.declared.typed.Location.TheVariants as location
 use Rattle.operand_checker.specs.declared.typed.Typed.{Typed}
+use Rattle.operand_checker.specs.Threats.{threat_alone}
+use Rattle.expression_checker.specs.Actuals.{name_alone}
 use Rattle.expression_checker.specs.Expressions.{expression as expression_step}
 use Rattle.statement_rules.specs.Sequences.{stated}
 use Rattle.required_checker.specs.declared.actuals.Call.{Call}
@@ -42,9 +44,11 @@ abbrev pub is_readable : Known → Typed → Bool
 is_readable k v = is_unknown (shape_of k v.of)
     || (is_access v.location && (is_of_host 0 (shape_of k v.of) || is_of_host 2 (shape_of k v.of)))
 
--- rule 32: an actual of read is no access of an integer or a char type, at its first token
+-- rule 32: an actual of read is no access of an integer or a char type, at its first token; a variable as a whole is
+-- threatened
 unfoldable pub read_item : ℕ → ℕ → ℕ → Actual → Step ℕ
 read_item frame last slot a = do
+  _ ← threat_alone frame (name_alone a.expression)
   v ← plain_actual frame a
   fine ← look (λ k. is_readable k v)
   _ ← late 32 (first_of_expression a.expression) fine

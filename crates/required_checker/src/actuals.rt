@@ -1,15 +1,14 @@
 //! The actual parameters of required procedures (6.6.5, 6.9).
 
 ghost use Rattle.std.specs.Prelude.{◌≡◌};
-ghost use Rattle.check_steps.specs.Names.{usable};
 ghost use Rattle.check_steps.specs.Steps.{Does, each};
 ghost use Rattle.expression_checker.specs.Actuals.{file_of};
 ghost use Rattle.required_checker.specs.Actuals.{add_item, file_in, file_without, going_on, link, named_file};
 ghost use Rattle.required_checker.specs.Actuals.{next_plain, no_width, own_parts, plain_actual, surplus_width};
 ghost use Rattle.required_checker.specs.Actuals.{without_actuals, wrong_number};
 
-use check_steps::{Found, Tables, Work};
-use expression_checker::actuals::name_alone;
+use check_steps::{Tables, Work};
+use expression_checker::actuals::{file_of, name_alone};
 use expression_checker::expressions::check_expression;
 use operand_checker::Typed;
 use pas_tree::statements::{Actual, Actuals, NextActual, Width};
@@ -96,39 +95,12 @@ pub(crate) fn check_without_actuals(work: &mut Work, name: u32) -> u32
     name
 }
 
-fn usable(at: u32, found: Option<Found>) -> Option<Found>
-    ensures { result ≡ usable at found }
-{
-    match found {
-        Some(found) => {
-            if found.definition.end <= at {
-                Some(found)
-            } else {
-                None
-            }
-        }
-        None => None,
-    }
-}
-
-fn file_of(tables: &Tables, found: Option<Found>) -> Option<TextFile>
-    ensures { result ≡ file_of tables.now found }
-{
-    let Some(found) = found else {
-        return None;
-    };
-    match tables.row(found.definition.token) {
-        Row::Name(NameRow::TextFile { file }) => Some(file),
-        _ => None,
-    }
-}
-
 fn named_file(tables: &Tables, frame: u32, name: Option<u32>) -> Option<TextFile>
     ensures { result ≡ named_file tables.now frame name }
 {
     match name {
         None => None,
-        Some(name) => file_of(tables, usable(name, tables.find(frame, tables.name(name)))),
+        Some(name) => file_of(tables, tables.usable(frame, name, name)),
     }
 }
 

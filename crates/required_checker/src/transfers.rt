@@ -10,7 +10,9 @@ ghost use Rattle.required_checker.specs.Transfers.{write_item, written, written_
 
 use crate::actuals::{Call, check_plain, check_wrong_number, file_in, put_item, put_link};
 use check_steps::{Tables, Work};
+use expression_checker::actuals::name_alone;
 use expression_checker::expressions::check_expression;
+use operand_checker::threats::check_threat_alone;
 use operand_checker::{Location, Typed};
 use pas_places::first_of_expression;
 use pas_tree::statements::{Actual, Actuals, NextActual, Width};
@@ -48,6 +50,7 @@ fn is_readable(tables: &Tables, value: Typed) -> bool
 fn check_read(work: &mut Work, a: &Actual, frame: u32, last: u32, slot: u32) -> u32
     ensures { Does (read_item frame last slot a.now) result work.old work.new }
 {
+    check_threat_alone(work, frame, name_alone(&a.expression));
     let value = check_plain(work, a, frame);
     let fine = is_readable(&work.tables, value);
     work.late(32, first_of_expression(&a.expression), fine);

@@ -1,1 +1,2 @@
 pub mod WhatComesOfATree
+pub mod ProgramOfATree

@@ -1,7 +1,6 @@
 -- What the declarations of a source come to.
-use Rattle.std.specs.Prelude.{◌≡◌, ℕ, ◌-◌, min, List, Option, Some, Err, length, slice_get}
+use Rattle.std.specs.Prelude.{◌≡◌, ℕ, List, Err}
 use Rattle.grammar.specs.Nodes.{spell}
-use Rattle.pas_lexer.specs.declared.kinds.Token.{Token}
 use Rattle.pas_lexer.specs.Lexed.{Lexed}
 use Rattle.pas_lexer.specs.Division.{IsFault, IsLexed}
 use Rattle.pas_tree.specs.declared.blocks.Tree.{Tree}
@@ -14,6 +13,7 @@ use Rattle.decl_checker.specs.Answers.{EarlyFaultIs, IsWithoutEarly}
 use Rattle.decl_checker.specs.Programs.{broken, tables_of}
 use Rattle.source_checker.specs.declared.declarations.DeclarationFault.{DeclarationFault}
 use Rattle.source_checker.specs.declared.declarations.DeclarationFault.TheVariants as declared
+use Rattle.source_checker.specs.Places.{StandsFor}
 
 -- the source has these tokens
 pub record HasTokens (source : List ℕ) (t : Lexed) : Type 0 where
@@ -24,17 +24,6 @@ pub record HasTokens (source : List ℕ) (t : Lexed) : Type 0 where
 pub record IsTextOf (t : Lexed) (x : Tree) : Type 0 where
   pub formed : IsFormed (tree_node x)
   pub spelled : spell (tree_node x) ≡ items_of t.tokens
-
--- the token of this number, and the last one where there is none
-abbrev pub token_or_last : List Token → ℕ → Option Token
-token_or_last tokens number = slice_get tokens (min number (length tokens - 1))
-
--- that token begins at this byte, on this line
-pub record StandsFor (t : Lexed) (number line byte : ℕ) : Type 0 where
-  pub token : Token
-  pub there : token_or_last t.tokens number ≡ Some token
-  pub line_is : line ≡ token.line
-  pub byte_is : byte ≡ token.start
 
 -- No rule that can be told from declarations and names alone is broken, and these are the tables.
 abbrev pub IsDeclaredBy : Lexed → Tree → Known → Type 0

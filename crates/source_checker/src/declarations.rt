@@ -1,10 +1,10 @@
 //! From the bytes of a source to the tables of its declarations.
 
-ghost use Rattle.std.specs.Prelude.{◌≡◌, ◌≤◌, IfOk, IfErr, length};
+ghost use Rattle.std.specs.Prelude.{◌≤◌, IfOk, IfErr, length};
 ghost use Rattle.pas_lexer.specs.Limits.{source_bytes};
-ghost use Rattle.pas_lexer.specs.Lexed.{EndsOnce};
-ghost use Rattle.source_checker.specs.Declarations.{IsDeclared, IsDeclaredBy, IsUndeclared, IsUndeclaredBy, StandsFor};
+ghost use Rattle.source_checker.specs.Declarations.{IsDeclared, IsDeclaredBy, IsUndeclared, IsUndeclaredBy};
 
+use crate::places::place_of;
 use check_steps::CheckFault;
 use decl_checker::{Scopes, declare};
 use pas_lexer::{LexFault, Tokens, lex};
@@ -29,15 +29,6 @@ pub enum DeclarationFault {
     /// Memory ran out in the check.
     #[error("out of memory")]
     Memory,
-}
-
-/// The place of the token of this number, and of the last one where there is none: its line and its first byte.
-fn place_of(tokens: &Tokens, number: u32) -> (u32, u32)
-    ensures ended { EndsOnce tokens.now.tokens }
-    ensures place { StandsFor tokens.now number result.0 result.1 }
-{
-    let token = tokens.at(number.min(tokens.len() - 1));
-    (token.line, token.start)
 }
 
 /// The tables of the declarations of a tree.

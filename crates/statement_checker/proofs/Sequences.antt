@@ -16,6 +16,7 @@ use Rattle.denoter_checker.specs.Variants.{choices}
 use Rattle.statement_rules.specs.declared.sequences.Branching.{Branching}
 use Rattle.statement_rules.specs.declared.sequences.Element.{Element}
 use Rattle.statement_rules.specs.Choices.{case_row}
+use Rattle.statement_rules.specs.Labels.{leave_all, reach_all}
 use Rattle.statement_checker.specs.Parts.{selected, tested}
 use Rattle.statement_rules.specs.Sequences.{add_element, compound_row, link_element, repeat_row}
 use Rattle.statement_checker.specs.Statements.{branching, case_statement, compound, element, else_held, else_of, if_statement, more_branches}
@@ -42,7 +43,8 @@ branches_each frame c _ (more_of-NextBranch semicolon constants colon label p re
     (λ e. each (next_branch frame c) e (items-the_row-NextBranch _ rest)))
 
 pub compound_out : (frame : ℕ) (c : Compound) → compound frame c
-    ≡ (sequence frame (out-Compound c).begin (out-Compound c).statements >>= λ last. link_element last (out-Compound c).end
+    ≡ (reach_all frame (out-Compound c).statements >>= λ _. sequence frame (out-Compound c).begin (out-Compound c).statements
+    >>= λ last. leave_all frame (out-Compound c).statements >>= λ _. link_element last (out-Compound c).end
     >>= λ _. compound_row (out-Compound c).begin (out-Compound c).end)
 compound_out frame c = ap (compound frame) (is-Compound' c)
 
@@ -83,7 +85,8 @@ case_out frame label x =
     >>= λ _. case_row label o.word s.row o.of)
 
 pub repeat_out : (frame : ℕ) (label : Option ℕ) (x : Repeat) → repeat_statement frame label x
-    ≡ (sequence frame (out-Repeat x).word (out-Repeat x).statements >>= λ last. link_element last (out-Repeat x).until
+    ≡ (reach_all frame (out-Repeat x).statements >>= λ _. sequence frame (out-Repeat x).word (out-Repeat x).statements
+    >>= λ last. leave_all frame (out-Repeat x).statements >>= λ _. link_element last (out-Repeat x).until
     >>= λ _. tested frame (out-Repeat x).condition >>= λ c. repeat_row label (out-Repeat x).word (out-Repeat x).until c)
 repeat_out frame label x = ap (repeat_statement frame label) (is-Repeat' x)
 

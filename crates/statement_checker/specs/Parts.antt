@@ -3,6 +3,7 @@ use Rattle.std.specs.Prelude.{ℕ, ◌+◌, Option, Some, None, nat_eq, length}
 use Rattle.std.specs.Global.{Box}
 use Rattle.pas_tree.specs.declared.expressions.Access.{Access}
 use Rattle.pas_tree.specs.declared.expressions.Expression.{Expression}
+use Rattle.pas_tree.specs.declared.operators.Direction.{Direction}
 use Rattle.pas_tree.specs.declared.statements.Assignment.{Assignment}
 use Rattle.pas_tree.specs.declared.statements.Actuals.{Actuals}
 use Rattle.pas_tree.specs.declared.statements.NextActual.{NextActual}
@@ -14,19 +15,21 @@ use Rattle.expression_checker.specs.declared.actuals.Passing.{Passing}
 use Rattle.expression_checker.specs.declared.callees.Callee.{Callee}
 use Rattle.expression_checker.specs.declared.callees.Callee.TheVariants as callee
 use Rattle.operand_checker.specs.declared.typed.Typed.{Typed}
-use Rattle.expression_checker.specs.Actuals.{closed}
+use Rattle.operand_checker.specs.Threats.{threat_alone}
+use Rattle.expression_checker.specs.Actuals.{access_name, closed}
 use Rattle.expression_checker.specs.Callees.{counted}
 use Rattle.expression_checker.specs.Expressions.{access, actual, expression, passing_to}
 use Rattle.statement_rules.specs.declared.assignments.Target.{Target}
 use Rattle.statement_rules.specs.declared.assignments.Target.TheVariants as target
 use Rattle.statement_rules.specs.declared.loops.Control.{Control}
+use Rattle.statement_checker.specs.declared.parts.Begun.{Begun}
 use Rattle.statement_checker.specs.declared.parts.Opened.{Opened}
 use Rattle.statement_checker.specs.declared.parts.Selected.{Selected}
-use Rattle.statement_rules.specs.Assignments.{assigned, formal_target, result_target, target_at}
+use Rattle.statement_rules.specs.Assignments.{assigned, blockless_target, result_target, target_at}
 use Rattle.statement_rules.specs.Calls.{call_row, procedure_at}
 use Rattle.statement_rules.specs.Choices.{selector}
 use Rattle.statement_rules.specs.Conditions.{condition}
-use Rattle.statement_rules.specs.Loops.{bound}
+use Rattle.statement_rules.specs.Loops.{bound, enter_for, for_row, leave_for, turns_row}
 use Rattle.statement_rules.specs.Records.{inside_record}
 use Rattle.statement_rules.specs.Sequences.{add_element, line_of}
 use Rattle.required_checker.specs.Actuals.{no_width}
@@ -48,6 +51,21 @@ bounded frame c e = do
   _ ← bound c (first_of_expression e) v
   give v.row
 
+-- a for statement up to its bounds, which are inside of it
+unfoldable pub for_begins : ℕ → ℕ → Expression → Expression → Step Begun
+for_begins frame name initial last = do
+  c ← enter_for frame name
+  from ← bounded frame c initial
+  to ← bounded frame c last
+  give (record { control = c; initial = from; last = to })
+
+-- the same after its body
+unfoldable pub for_ends : Option ℕ → ℕ → Direction → Begun → ℕ → Step ℕ
+for_ends label word direction b body = do
+  _ ← leave_for b.control
+  turns ← turns_row direction b.last b.control body
+  for_row label word b.initial turns
+
 -- the selector of a case statement before the word `of`
 unfoldable pub selected : ℕ → ℕ → Expression → Step Selected
 selected frame of' e = do
@@ -57,10 +75,16 @@ selected frame of' e = do
 
 -- ---- assignments
 
+-- a variable as a whole is threatened
+unfoldable pub target_access : ℕ → Access → Step Typed
+target_access frame a = do
+  _ ← threat_alone frame (access_name a)
+  access frame a
+
 abbrev pub target_as : ℕ → Access → Target → Step Typed
-target_as frame a target.Access = access frame a
+target_as frame a target.Access = target_access frame a
 target_as frame a (target.Result r) = result_target frame a.name r
-target_as frame a target.Formal = formal_target a.name
+target_as frame a target.Blockless = blockless_target a.name
 
 -- what stands on the left: an access, or the name alone of a function
 unfoldable pub assigned_to : ℕ → Access → Step Typed

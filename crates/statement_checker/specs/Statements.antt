@@ -19,9 +19,9 @@ use Rattle.denoter_checker.specs.Variants.{choices}
 use Rattle.statement_rules.specs.declared.sequences.Branching.{Branching}
 use Rattle.statement_rules.specs.declared.sequences.Element.{Element}
 use Rattle.statement_rules.specs.Choices.{case_row}
-use Rattle.statement_rules.specs.Labels.{jump, labelled}
-use Rattle.statement_rules.specs.Loops.{control_at, for_row, turns_row}
-use Rattle.statement_checker.specs.Parts.{assignment, bounded, call, first_record, next_record, selected, tested}
+use Rattle.statement_rules.specs.Labels.{jump, labelled, leave, leave_all, mark, reach, reach_all}
+use Rattle.statement_checker.specs.Parts.{assignment, call, first_record, for_begins, for_ends, next_record, selected}
+use Rattle.statement_checker.specs.Parts.{tested}
 use Rattle.statement_rules.specs.Records.{with_row}
 use Rattle.statement_rules.specs.Sequences.{add_element, compound_row, empty, if_else_row, if_row}
 use Rattle.statement_rules.specs.Sequences.{link_element, repeat_row, while_row}
@@ -37,10 +37,15 @@ abbrev pub label_token : Option Label → Option ℕ
 label_token None = None
 label_token (Some l) = Some l.number
 
--- what a statement gives, and then its label's row if it has one
-abbrev pub labelled_by : Option Label → Step ℕ → Step ℕ
-labelled_by None m = m
-labelled_by (Some l) m = m >>= λ n. labelled l.number n
+-- a statement after its label, if it has one: from within it may be reached
+abbrev pub labelled_by : ℕ → Option Label → Step ℕ → Step ℕ
+labelled_by frame None m = m
+labelled_by frame (Some l) m = do
+  _ ← mark frame l.number
+  _ ← reach frame l.number
+  n ← m
+  _ ← leave frame l.number
+  labelled l.number n
 
 abbrev mutual
   -- a statement without its label, whose line is that of the label if there is one
@@ -55,59 +60,58 @@ abbrev mutual
   plain frame label (Repeat' _ r) = repeat_statement frame label r
   plain frame label (While' _ word condition do_word inner p) = do
     c ← tested frame condition
-    body ← labelled_by inner (plain frame (label_token inner) p)
+    body ← labelled_by frame inner (plain frame (label_token inner) p)
     while_row label word c body
   plain frame label (For' _ word name becomes initial direction last do_word inner p) = do
-    c ← control_at frame name
-    from ← bounded frame c initial
-    to ← bounded frame c last
-    body ← labelled_by inner (plain frame (label_token inner) p)
-    turns ← turns_row direction to c body
-    for_row label word from turns
+    b ← for_begins frame name initial last
+    body ← labelled_by frame inner (plain frame (label_token inner) p)
+    for_ends label word direction b body
   plain frame label (With' _ word first others do_word inner p) = do
     one ← first_record frame word first
     all ← each next_record one others.items
     _ ← link_element all.last do_word
-    body ← labelled_by inner (plain all.frame (label_token inner) p)
+    body ← labelled_by all.frame inner (plain all.frame (label_token inner) p)
     with_row label word do_word body
 
-  -- the list of the statements stands at `begin`
+  -- The list of the statements stands at `begin`. From within all of them may be reached.
   pub compound : ℕ → Compound → Step ℕ
   compound frame (CompoundTree' begin statements end) = do
+    _ ← reach_all frame statements
     last ← sequence frame begin statements
+    _ ← leave_all frame statements
     _ ← link_element last end
     compound_row begin end
 
   -- statements in a list that begins at a number; the last one is given
   pub sequence : ℕ → ℕ → Statements → Step Element
   sequence frame list (Statements' label p _ others) = do
-    n ← labelled_by label (plain frame (label_token label) p)
+    n ← labelled_by frame label (plain frame (label_token label) p)
     more_statements frame (element list n) others
 
   pub more_statements : ℕ → Element → {m : _} → Row_of-NextStatement m → Step Element
   more_statements frame last end_of-NextStatement = give last
   more_statements frame last (more_of-NextStatement semicolon label p rest) = do
-    n ← labelled_by label (plain frame (label_token label) p)
+    n ← labelled_by frame label (plain frame (label_token label) p)
     next ← add_element last semicolon n
     more_statements frame next rest
 
   pub if_statement : ℕ → Option ℕ → If → Step ℕ
   if_statement frame label (IfTree' word condition then' inner p alternative) = do
     c ← tested frame condition
-    n ← labelled_by inner (plain frame (label_token inner) p)
+    n ← labelled_by frame inner (plain frame (label_token inner) p)
     else_held frame (branching label word c n) alternative
 
   pub else_held : ℕ → Branching → Held-If-alternative → Step ℕ
   else_held frame b None' = if_row b
   else_held frame b (Some' word label p) = do
-    n ← labelled_by label (plain frame (label_token label) p)
+    n ← labelled_by frame label (plain frame (label_token label) p)
     if_else_row b n
 
   -- The list of the values that choose stands at `of`.
   pub case_statement : ℕ → Option ℕ → Case → Step ℕ
   case_statement frame label (CaseTree' word selector of constants colon inner p _ others semicolon end) = do
     s ← selected frame of selector
-    n ← labelled_by inner (plain frame (label_token inner) p)
+    n ← labelled_by frame inner (plain frame (label_token inner) p)
     last ← choices s.choosing n of of constants
     _ ← more_branches frame s.choosing last others
     case_row label word s.row of
@@ -115,21 +119,23 @@ abbrev mutual
   pub more_branches : ℕ → Choosing → ℕ → {m : _} → Row_of-NextBranch m → Step ℕ
   more_branches frame c last end_of-NextBranch = give last
   more_branches frame c last (more_of-NextBranch semicolon constants colon label p rest) = do
-    n ← labelled_by label (plain frame (label_token label) p)
+    n ← labelled_by frame label (plain frame (label_token label) p)
     next ← choices c n last semicolon constants
     more_branches frame c next rest
 
-  -- the list of the statements stands at `repeat`
+  -- The list of the statements stands at `repeat`. From within all of them may be reached.
   pub repeat_statement : ℕ → Option ℕ → Repeat → Step ℕ
   repeat_statement frame label (RepeatTree' word statements until condition) = do
+    _ ← reach_all frame statements
     last ← sequence frame word statements
+    _ ← leave_all frame statements
     _ ← link_element last until
     c ← tested frame condition
     repeat_row label word until c
 
 -- a statement that may have a label
 abbrev pub statement : ℕ → Option Label → Plain → Step ℕ
-statement frame label p = labelled_by label (plain frame (label_token label) p)
+statement frame label p = labelled_by frame label (plain frame (label_token label) p)
 
 -- ---- the same over lists
 

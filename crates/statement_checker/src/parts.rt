@@ -5,29 +5,32 @@ ghost use Rattle.check_steps.specs.Steps.{Does, each};
 ghost use Rattle.expression_checker.specs.Expressions.{passing_to};
 ghost use Rattle.statement_checker.specs.Parts.{actuals_in, assigned_to, assignment, bounded, call, call_alone};
 ghost use Rattle.statement_checker.specs.Parts.{call_as, call_with, declared_call, first_record, next_passed};
-ghost use Rattle.statement_checker.specs.Parts.{next_record, passed_actual, selected, target_as, tested};
+ghost use Rattle.statement_checker.specs.Parts.{next_record, passed_actual, selected, target_access, target_as};
+ghost use Rattle.statement_checker.specs.Parts.{for_begins, for_ends, tested};
 
 use check_steps::Work;
 use denoter_checker::variants::Choosing;
-use expression_checker::actuals::check_closed;
+use expression_checker::actuals::{access_name, check_closed};
 use expression_checker::callees::check_counted;
 use expression_checker::expressions::{check_access, check_actual, check_expression};
 use expression_checker::{Called, Callee, Passing};
 use operand_checker::Typed;
+use operand_checker::threats::check_threat_alone;
 use operand_checker::typed::unknown_at;
 use pas_places::first_of_expression;
 use pas_tree::expressions::{Access, Expression};
+use pas_tree::operators::Direction;
 use pas_tree::statements::{Actual, Actuals, Assignment, NextAccess, NextActual};
 use required_checker::Call;
 use required_checker::actuals::check_no_width;
 use required_checker::procedures::check_required;
 use statement_rules::assignments::{
-    Target, check_assigned, check_formal_target, check_result_target, target_at,
+    Target, check_assigned, check_blockless_target, check_result_target, target_at,
 };
 use statement_rules::calls::{check_procedure, put_call};
 use statement_rules::choices::check_selector;
 use statement_rules::conditions::check_condition;
-use statement_rules::loops::{Control, check_bound};
+use statement_rules::loops::{Control, check_bound, enter_for, leave_for, put_for, put_turns};
 use statement_rules::records::open_record;
 use statement_rules::sequences::{Element, add_element, line_of};
 use std::alloc::AllocError;
@@ -37,6 +40,14 @@ use std::alloc::AllocError;
 pub struct Selected {
     pub choosing: Choosing,
     pub row: u32,
+}
+
+/// A for statement up to its bounds: the control variable, and the bounds by their numbers.
+#[derive(Clone, Copy)]
+pub struct Begun {
+    pub control: Control,
+    pub initial: u32,
+    pub last: u32,
 }
 
 /// The records of a with statement so far: the frame inside, and the last one.
@@ -58,12 +69,50 @@ pub fn check_tested(work: &mut Work, e: &Expression, frame: u32) -> u32
 
 /// A bound of a for statement, by its number.
 #[tactic(auto, using(check_steps::proofs::Runs::steps), unfolding(crate::specs::Parts::bounded))]
-pub fn check_bounded(work: &mut Work, e: &Expression, frame: u32, control: Control) -> u32
+fn check_bounded(work: &mut Work, e: &Expression, frame: u32, control: Control) -> u32
     ensures { Does (bounded frame control e.now) result work.old work.new }
 {
     let value = check_expression(work, e, frame);
     check_bound(work, control, first_of_expression(e), value);
     value.row
+}
+
+/// A for statement up to its bounds, which are inside of it.
+#[tactic(auto, using(check_steps::proofs::Runs::steps), unfolding(crate::specs::Parts::for_begins))]
+pub fn begin_for(
+    work: &mut Work,
+    frame: u32,
+    name: u32,
+    initial: &Expression,
+    last: &Expression,
+) -> Result<Begun, AllocError>
+    ensures { IfOk result (λ b. Does (for_begins frame name initial.now last.now) b work.old work.new) }
+{
+    let control = enter_for(work, frame, name)?;
+    let initial = check_bounded(work, initial, frame, control);
+    let last = check_bounded(work, last, frame, control);
+    Ok(Begun {
+        control,
+        initial,
+        last,
+    })
+}
+
+/// The same after its body: what is given is its number.
+#[tactic(auto, using(check_steps::proofs::Runs::steps), unfolding(crate::specs::Parts::for_ends))]
+pub fn end_for(
+    work: &mut Work,
+    label: Option<u32>,
+    word: u32,
+    direction: &Direction,
+    begun: Begun,
+    body: u32,
+) -> u32
+    ensures { Does (for_ends label word direction.now begun body) result work.old work.new }
+{
+    leave_for(work, begun.control);
+    let turns = put_turns(work, direction, begun.last, begun.control, body);
+    put_for(work, label, word, begun.initial, turns)
 }
 
 /// The selector of a case statement before the word `of`.
@@ -79,14 +128,22 @@ pub fn check_selected(work: &mut Work, e: &Expression, frame: u32, of: u32) -> S
     }
 }
 
+#[tactic(auto, using(check_steps::proofs::Runs::steps), unfolding(crate::specs::Parts::target_access))]
+fn check_target_access(work: &mut Work, a: &Access, frame: u32) -> Typed
+    ensures { Does (target_access frame a.now) result work.old work.new }
+{
+    check_threat_alone(work, frame, access_name(a));
+    check_access(work, a, frame)
+}
+
 #[tactic(auto, using(check_steps::proofs::Runs::steps))]
 fn check_target_as(work: &mut Work, a: &Access, frame: u32, target: Target) -> Typed
     ensures { Does (target_as frame a.now target) result work.old work.new }
 {
     match target {
-        Target::Access => check_access(work, a, frame),
+        Target::Access => check_target_access(work, a, frame),
         Target::Result(result) => check_result_target(work, frame, a.name, result),
-        Target::Formal => check_formal_target(work, a.name),
+        Target::Blockless => check_blockless_target(work, a.name),
     }
 }
 

@@ -7,8 +7,8 @@ ghost use Rattle.statement_checker.specs.Statements.{next_branch, next_statement
 ghost use Rattle.statement_checker.specs.Statements.{statement};
 
 use crate::parts::{
-    check_assignment, check_bounded, check_call, check_selected, check_tested, open_first_record,
-    open_more_records,
+    begin_for, check_assignment, check_call, check_selected, check_tested, end_for,
+    open_first_record, open_more_records,
 };
 use check_steps::Work;
 use denoter_checker::variants::{Choosing, check_choices};
@@ -16,8 +16,9 @@ use pas_tree::statements::{
     Case, Compound, If, NextBranch, NextStatement, Plain, Repeat, Statement, Statements,
 };
 use statement_rules::choices::put_case;
-use statement_rules::labels::{check_goto, put_labelled};
-use statement_rules::loops::{check_control, put_for, put_turns};
+use statement_rules::labels::{
+    check_goto, check_mark, leave, leave_all, put_labelled, reach, reach_all,
+};
 use statement_rules::records::put_with;
 use statement_rules::sequences::{
     Branching, Element, add_element, link_element, put_compound, put_empty, put_if, put_if_else,
@@ -40,7 +41,10 @@ fn check_statement(work: &mut Work, s: &Statement, frame: u32) -> Result<u32, Al
     match &s.label {
         None => check_plain(work, &s.plain, frame, None),
         Some(label) => {
+            check_mark(work, frame, label.number);
+            reach(work, frame, label.number);
             let number = check_plain(work, &s.plain, frame, Some(label.number))?;
+            leave(work, frame, label.number);
             Ok(put_labelled(work, label.number, number))
         }
     }
@@ -71,12 +75,9 @@ fn check_plain(
             Ok(put_while(work, label, w.word, condition, body))
         }
         Plain::For(f) => {
-            let control = check_control(work, frame, f.name);
-            let from = check_bounded(work, &f.initial, frame, control);
-            let to = check_bounded(work, &f.last, frame, control);
+            let begun = begin_for(work, frame, f.name, &f.initial, &f.last)?;
             let body = check_statement(work, &f.statement, frame)?;
-            let turns = put_turns(work, &f.direction, to, control, body);
-            Ok(put_for(work, label, f.word, from, turns))
+            Ok(end_for(work, label, f.word, &f.direction, begun, body))
         }
         Plain::With(w) => {
             let first = open_first_record(work, &w.first, frame, w.word)?;
@@ -94,7 +95,9 @@ fn check_plain(
 pub fn check_compound(work: &mut Work, c: &Compound, frame: u32) -> Result<u32, AllocError>
     ensures { IfOk result (λ n. Does (compound frame c.now) n work.old work.new) }
 {
+    reach_all(work, &c.statements, frame);
     let last = check_sequence(work, &c.statements, frame, c.begin)?;
+    leave_all(work, &c.statements, frame);
     link_element(work, last, c.end);
     Ok(put_compound(work, c.begin, c.end))
 }
@@ -223,7 +226,9 @@ fn check_repeat(
 ) -> Result<u32, AllocError>
     ensures { IfOk result (λ n. Does (repeat_statement frame label x.now) n work.old work.new) }
 {
+    reach_all(work, &x.statements, frame);
     let last = check_sequence(work, &x.statements, frame, x.word)?;
+    leave_all(work, &x.statements, frame);
     link_element(work, last, x.until);
     let condition = check_tested(work, &x.condition, frame);
     Ok(put_repeat(work, label, x.word, x.until, condition))

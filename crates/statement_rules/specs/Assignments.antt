@@ -12,7 +12,7 @@ use Rattle.check_steps.specs.declared.regions.Found.{Found}
 use Rattle.check_steps.specs.Known.{Known, find, frame_at, name_at, row_at}
 use Rattle.check_steps.specs.Names.{usable}
 use Rattle.check_steps.specs.Regions.{region_at}
-use Rattle.check_steps.specs.Steps.{Step, give, ◌>>=◌, look, late, put}
+use Rattle.check_steps.specs.Steps.{Step, give, ◌>>=◌, look, late, put, when}
 use Rattle.type_relations.specs.declared.shapes.ExpressionType.{ExpressionType}
 use Rattle.type_relations.specs.declared.shapes.ExpressionType.TheVariants as expression
 use Rattle.type_relations.specs.Headings.{signature_at}
@@ -22,6 +22,7 @@ use Rattle.operand_checker.specs.declared.typed.Typed.{Typed}
 use Rattle.operand_checker.specs.Names.{levels_to}
 use Rattle.operand_checker.specs.Selectors.{type_number}
 use Rattle.operand_checker.specs.Typed.{unknown_at}
+use Rattle.expression_checker.specs.Callees.{is_required_function}
 use Rattle.statement_rules.specs.declared.assignments.FunctionResult.{FunctionResult}
 use Rattle.statement_rules.specs.declared.assignments.Target.{Target}
 use Rattle.statement_rules.specs.declared.assignments.Target.TheVariants as target
@@ -44,13 +45,15 @@ abbrev pub result_of : Known → ℕ → Option Routine → Target
 result_of k frame None = target.Access
 result_of k frame (Some r) = result_at k frame r r.result (signature_at k r.heading).result
 
-abbrev pub formal_if : Bool → Target
-formal_if function = if function then target.Formal else target.Access
+-- a function that has no block in the program
+abbrev pub blockless_if : Bool → Target
+blockless_if function = if function then target.Blockless else target.Access
 
 abbrev pub target_in : Known → ℕ → Row → Target
-target_in k frame (row.Name (named.Routine number)) = result_of k frame (routine_at k.program number)
+target_in k frame (row.Name (named.Routine assigned number region)) = result_of k frame (routine_at k.program number)
 target_in k frame (row.Name (named.RoutineFormal place level heading)) =
-    formal_if (is_some (signature_at k heading).result)
+    blockless_if (is_some (signature_at k heading).result)
+target_in k frame (row.Name (named.Required routine)) = blockless_if (is_required_function routine)
 target_in k frame r = target.Access
 
 abbrev pub target_of : Known → ℕ → Option Found → Target
@@ -79,17 +82,36 @@ is_inside_from (suc n) k (Some frame) token = begins_at k frame token
 abbrev pub is_inside : Known → ℕ → ℕ → Bool
 is_inside k frame token = is_inside_from (length k.words) k (Some frame) token
 
--- rule 13: an assignment to a function's name outside its block, at the name
+abbrev pub assigned_in : Row → Bool
+assigned_in (row.Name (named.Routine assigned number region)) = assigned
+assigned_in r = false
+
+-- whether a value is assigned so far to a function's name inside its block, by the name in its first heading
+abbrev pub is_assigned : Known → ℕ → Bool
+is_assigned k name = assigned_in (row_at k name)
+
+abbrev pub with_value : Row → Row
+with_value (row.Name (named.Routine assigned number region)) = row.Name (named.Routine true number region)
+with_value r = r
+
+-- what is known once a value is assigned to a function's name inside its block
+unfoldable pub result_assigned : ℕ → Step (Unit {0})
+result_assigned name = do
+  r ← look (λ k. with_value (row_at k name))
+  put name r
+
+-- Rule 13: an assignment to a function's name outside its block, at the name. One inside is what the block needs.
 unfoldable pub result_target : ℕ → ℕ → FunctionResult → Step Typed
 result_target frame name r = do
   fine ← look (λ k. is_inside k frame r.function)
   _ ← late 13 name fine
+  _ ← when fine (result_assigned r.function)
   _ ← put name (row.Access (accessed.Variable r.place r.levels r.of))
   give (record { row = name; of = expression.Of r.of; location = location.Variable })
 
--- rule 13: a functional parameter has no block in which it could be assigned
-unfoldable pub formal_target : ℕ → Step Typed
-formal_target name = do
+-- rule 13: a functional parameter and a required function have no block in which they could be assigned
+unfoldable pub blockless_target : ℕ → Step Typed
+blockless_target name = do
   _ ← late 13 name false
   give (unknown_at name)
 

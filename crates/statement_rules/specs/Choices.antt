@@ -7,7 +7,7 @@ use Rattle.type_relations.specs.declared.shapes.Shape.{Shape}
 use Rattle.type_relations.specs.declared.shapes.Shape.TheVariants as shape
 use Rattle.type_relations.specs.Shapes.{shape_of}
 use Rattle.operand_checker.specs.declared.typed.Typed.{Typed}
-use Rattle.statement_rules.specs.Conditions.{is_ordinal}
+use Rattle.type_relations.specs.Operators.{is_ordinal}
 use Rattle.statement_rules.specs.Sequences.{line_of, stated}
 
 -- the host type of an ordinal one, and else this number, at which no type stands

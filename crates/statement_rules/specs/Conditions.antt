@@ -1,10 +1,8 @@
--- Conditions, and what is to be ordinal (6.8.3.4, 6.8.3.5, 6.8.3.7, 6.8.3.8).
-use Rattle.std.specs.Prelude.{ℕ, Bool, true}
+-- Conditions (6.8.3.4, 6.8.3.7, 6.8.3.8).
+use Rattle.std.specs.Prelude.{ℕ, Bool}
 use Rattle.check_steps.specs.Known.{Known}
 use Rattle.check_steps.specs.Steps.{Step, ◌>>=◌, look, late}
-use Rattle.type_relations.specs.declared.shapes.Shape.{Shape}
-use Rattle.type_relations.specs.declared.shapes.Shape.TheVariants as shape
-use Rattle.type_relations.specs.Operators.{is_operand, is_unknown}
+use Rattle.type_relations.specs.Operators.{is_operand}
 use Rattle.type_relations.specs.Shapes.{shape_of}
 use Rattle.operand_checker.specs.declared.typed.Typed.{Typed}
 
@@ -17,8 +15,3 @@ unfoldable pub condition : ℕ → Typed → Step (Unit {0})
 condition first v = do
   fine ← look (λ k. is_condition k v)
   late 17 first fine
-
--- What is of unknown type breaks no further rule.
-abbrev pub is_ordinal : Shape → Bool
-is_ordinal (shape.Ordinal host) = true
-is_ordinal s = is_unknown s

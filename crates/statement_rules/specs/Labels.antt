@@ -1,45 +1,134 @@
 -- Labels and gotos (6.8.1, 6.8.2.4).
-use Rattle.std.specs.Prelude.{ℕ, Option, Some, None, is_some}
+--
+-- A goto may lead to a statement around it, to one of a statement sequence around it, and to one of the outermost
+-- sequence of a block around it. The row of a declared label says of how many statements that it marks this holds where
+-- the check stands, and whether it marks one so far.
+use Rattle.std.specs.Prelude.{ℕ, ◌+◌, ◌-◌, min, Bool, true, false, not, nat_eq, nat_lt, if◌then◌else◌}
+use Rattle.std.specs.Prelude.{Option, Some, None}
+use Rattle.pas_tree.specs.declared.statements.Label.{Label}
+use Rattle.pas_tree.specs.declared.statements.NextStatement.{NextStatement}
+use Rattle.pas_tree.specs.declared.statements.Statements.{Statements, out-Statements}
 use Rattle.program_tables.specs.declared.rows.Row.{Row}
 use Rattle.program_tables.specs.declared.rows.Row.TheVariants as row
 use Rattle.program_tables.specs.declared.rows.NameRow.TheVariants as named
 use Rattle.program_tables.specs.declared.rows.StatementRow.TheVariants as statement
-use Rattle.check_steps.specs.declared.words.Spelled.{Spelled}
-use Rattle.check_steps.specs.declared.words.Spelled.TheVariants as spelled
-use Rattle.check_steps.specs.Known.{Known, find_label, row_at, spelled_at}
-use Rattle.check_steps.specs.Steps.{Step, ◌>>=◌, look, late}
+use Rattle.check_steps.specs.Known.{Known, find_label, label_at, row_at}
+use Rattle.check_steps.specs.Steps.{Step, give, ◌>>=◌, look, late, put, each}
 use Rattle.operand_checker.specs.Names.{levels_to}
 use Rattle.statement_rules.specs.Sequences.{line_of, stated}
 
--- the value of a label, by which labels are told apart
-abbrev pub label_value : Spelled → ℕ
-label_value (spelled.Number n) = n
-label_value s = 0
+-- ---- declared labels
 
-abbrev pub value_at : Known → ℕ → ℕ
-value_at k token = label_value (spelled_at k token)
+-- what stands where a label is declared
+abbrev pub row_of : Known → Option ℕ → Row
+row_of k None = row.Nothing
+row_of k (Some d) = row_at k d
+
+-- how many links lead to the frame of the block that declares a label
+abbrev pub levels_in : Known → ℕ → Row → ℕ
+levels_in k frame (row.Name (named.Label marked value level reachable)) = levels_to k frame level
+levels_in k frame r = 0
+
+-- the token that declares a token's label in the closest block around that does
+abbrev pub label_of : Known → ℕ → ℕ → Option ℕ
+label_of k frame token = find_label k frame (label_at k token)
+
+-- the same if the closest block of all declares it, to whose frame no link leads
+abbrev pub own_label : Known → ℕ → ℕ → Option ℕ
+own_label k frame token =
+    let d = label_of k frame token in
+    if nat_eq (levels_in k frame (row_of k d)) 0 then d else None
+
+-- the row of a label where it is declared
+abbrev pub put_label : Option ℕ → Row → Step (Unit {0})
+put_label None r = give tt
+put_label (Some d) r = put d r
+
+-- ---- which statements may be reached
+
+abbrev pub with_one_more : Row → Row
+with_one_more (row.Name (named.Label marked value level reachable)) =
+    row.Name (named.Label marked value level (min (reachable + 1) 4294967295))
+with_one_more r = r
+
+abbrev pub with_one_fewer : Row → Row
+with_one_fewer (row.Name (named.Label marked value level reachable)) =
+    row.Name (named.Label marked value level (reachable - 1))
+with_one_fewer r = r
+
+-- a statement with this label may be reached from here on
+unfoldable pub reach : ℕ → ℕ → Step (Unit {0})
+reach frame token = do
+  d ← look (λ k. own_label k frame token)
+  r ← look (λ k. row_of k d)
+  put_label d (with_one_more r)
+
+-- it may be reached no more from here on
+unfoldable pub leave : ℕ → ℕ → Step (Unit {0})
+leave frame token = do
+  d ← look (λ k. own_label k frame token)
+  r ← look (λ k. row_of k d)
+  put_label d (with_one_fewer r)
+
+-- a step for a statement's label, if it has one
+abbrev pub on_label : (ℕ → Step (Unit {0})) → Option Label → Step (Unit {0})
+on_label f None = give tt
+on_label f (Some l) = f l.number
+
+unfoldable pub on_next : (ℕ → Step (Unit {0})) → Unit {0} → NextStatement → Step (Unit {0})
+on_next f u n = on_label f n.statement.label
+
+-- a step for each label in front of a statement of a sequence
+abbrev pub each_label : (ℕ → Step (Unit {0})) → Statements → Step (Unit {0})
+each_label f s = do
+  _ ← on_label f (out-Statements s).first.label
+  each (on_next f) tt (out-Statements s).others.items
+
+-- all statements of a sequence may be reached from here on
+unfoldable pub reach_all : ℕ → Statements → Step (Unit {0})
+reach_all frame s = each_label (reach frame) s
+
+-- they may be reached no more from here on
+unfoldable pub leave_all : ℕ → Statements → Step (Unit {0})
+leave_all frame s = each_label (leave frame) s
+
+-- ---- labelled statements
+
+abbrev pub is_unmarked : Row → Bool
+is_unmarked (row.Name (named.Label marked value level reachable)) = not marked
+is_unmarked r = false
+
+abbrev pub with_mark : Row → Row
+with_mark (row.Name (named.Label marked value level reachable)) = row.Name (named.Label true value level reachable)
+with_mark r = r
+
+-- rule 15: a statement's label is not declared in the closest block, or marks a second statement, at the label
+unfoldable pub mark : ℕ → ℕ → Step (Unit {0})
+mark frame token = do
+  d ← look (λ k. own_label k frame token)
+  r ← look (λ k. row_of k d)
+  _ ← late 15 token (is_unmarked r)
+  put_label d (with_mark r)
 
 -- a labelled statement, at its label
 unfoldable pub labelled : ℕ → ℕ → Step ℕ
 labelled token n = do
-  value ← look (λ k. value_at k token)
+  value ← look (λ k. label_at k token)
   stated token (statement.Labelled value n)
 
-abbrev pub levels_in : Known → ℕ → Row → ℕ
-levels_in k frame (row.Name (named.Label value level)) = levels_to k frame level
-levels_in k frame r = 0
+-- ---- gotos
 
--- how many links lead to the frame of the block that declares a label
-abbrev pub levels_of : Known → ℕ → Option ℕ → ℕ
-levels_of k frame None = 0
-levels_of k frame (Some d) = levels_in k frame (row_at k d)
+abbrev pub is_reachable : Row → Bool
+is_reachable (row.Name (named.Label marked value level reachable)) = nat_lt 0 reachable
+is_reachable r = false
 
--- A goto, at its word. Rule 16: the label is not declared around it.
+-- A goto, at its word. Rule 16: its label is not declared around it, or marks no statement that a goto there may reach,
+-- at the label.
 unfoldable pub jump : ℕ → Option ℕ → ℕ → ℕ → Step ℕ
 jump frame label word token = do
-  value ← look (λ k. value_at k token)
-  declared ← look (λ k. find_label k frame value)
-  _ ← late 16 token (is_some declared)
-  levels ← look (λ k. levels_of k frame declared)
+  r ← look (λ k. row_of k (label_of k frame token))
+  _ ← late 16 token (is_reachable r)
+  value ← look (λ k. label_at k token)
+  levels ← look (λ k. levels_in k frame r)
   line ← look (λ k. line_of k label word)
   stated word (statement.Goto line value levels)

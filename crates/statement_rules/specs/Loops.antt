@@ -1,4 +1,4 @@
--- For statements (6.8.3.9): control variables and bounds.
+-- For statements (6.8.3.9): control variables, their threats, and bounds.
 use Rattle.std.specs.Prelude.{ℕ, Bool, true, false, Option, Some, None, nat_eq, if◌then◌else◌}
 use Rattle.pas_tree.specs.declared.operators.Direction.{Direction as DirectionTree}
 use Rattle.pas_tree.specs.declared.operators.Direction.TheVariants as tree
@@ -10,41 +10,43 @@ use Rattle.program_tables.specs.declared.rows.Row.{Row}
 use Rattle.program_tables.specs.declared.rows.Row.TheVariants as row
 use Rattle.program_tables.specs.declared.rows.StatementRow.TheVariants as statement
 use Rattle.check_steps.specs.declared.regions.Found.{Found}
-use Rattle.check_steps.specs.Known.{Known, frame_at, row_at}
+use Rattle.check_steps.specs.Known.{Known, frame_at, row_at, threat_of}
 use Rattle.check_steps.specs.Names.{use_at}
-use Rattle.check_steps.specs.Steps.{Step, give, ◌>>=◌, look, late}
+use Rattle.check_steps.specs.Steps.{Step, give, ◌>>=◌, look, late, hold, release}
 use Rattle.pas_places.specs.Operators.{direction_token}
 use Rattle.type_relations.specs.declared.shapes.ExpressionType.{ExpressionType}
 use Rattle.type_relations.specs.declared.shapes.ExpressionType.TheVariants as expression
 use Rattle.type_relations.specs.Shapes.{agree, shape_of}
 use Rattle.operand_checker.specs.declared.typed.Typed.{Typed}
+use Rattle.operand_checker.specs.Threats.{threat}
 use Rattle.statement_rules.specs.declared.loops.Control.{Control}
 use Rattle.statement_rules.specs.declared.loops.Control.TheVariants as control
-use Rattle.statement_rules.specs.Conditions.{is_ordinal}
+use Rattle.type_relations.specs.Operators.{is_ordinal}
 use Rattle.statement_rules.specs.Sequences.{line_of, stated}
 
 -- ---- control variables
 
 -- A variable of a frame's own level is one of the closest block.
-abbrev pub own_if : Bool → ℕ → ℕ → Control
-own_if own of' place = if own then control.Own of' place else control.Other of'
+abbrev pub own_if : Bool → ℕ → ℕ → ℕ → Control
+own_if own variable of' place =
+    if own then control.Own variable of' place else control.Other (Some variable) of'
 
--- what a name stands for by its row, seen from a frame
-abbrev pub control_in : Known → ℕ → Row → Control
-control_in k frame (row.Name (named.Variable mode.Own of' place level)) =
-    own_if (nat_eq level (frame_at k frame).level) of' place
-control_in k frame (row.Name (named.Variable m of' place level)) = control.Other of'
-control_in k frame (row.Name (named.Field of' offset holder)) = control.Other of'
-control_in k frame (row.Name (named.Tag of' offset holder variants)) = control.Other of'
-control_in k frame r = control.Wrong
+-- what a name stands for by the row at its definition, seen from a frame
+abbrev pub control_in : Known → ℕ → ℕ → Row → Control
+control_in k frame variable (row.Name (named.Variable mode.Own of' place level)) =
+    own_if (nat_eq level (frame_at k frame).level) variable of' place
+control_in k frame variable (row.Name (named.Variable m of' place level)) = control.Other (Some variable) of'
+control_in k frame field (row.Name (named.Field of' offset holder)) = control.Other None of'
+control_in k frame field (row.Name (named.Tag of' offset holder variants)) = control.Other None of'
+control_in k frame name r = control.Wrong
 
 abbrev pub control_of : Known → ℕ → Option Found → Control
 control_of k frame None = control.Unknown
-control_of k frame (Some f) = control_in k frame (row_at k f.definition.token)
+control_of k frame (Some f) = control_in k frame f.definition.token (row_at k f.definition.token)
 
 abbrev pub control_type : Control → ExpressionType
-control_type (control.Own of' place) = expression.Of of'
-control_type (control.Other of') = expression.Of of'
+control_type (control.Own variable of' place) = expression.Of of'
+control_type (control.Other variable of') = expression.Of of'
 control_type c = expression.Unknown
 
 -- A name of unknown meaning breaks no further rule.
@@ -54,7 +56,7 @@ is_variable c = true
 
 abbrev pub is_own : Control → Bool
 is_own control.Unknown = true
-is_own (control.Own of' place) = true
+is_own (control.Own variable of' place) = true
 is_own c = false
 
 -- rule 6: a control variable is not ordinal; rule 19: it is not a whole variable of the closest block's variable part;
@@ -65,14 +67,54 @@ controlled name c = do
   _ ← late 6 name ordinal
   late 19 name (is_own c)
 
--- rule 3: the name stands for another kind of thing than a variable, a parameter or a field
+-- Rule 3: the name stands for another kind of thing than a variable, a parameter or a field. A variable as a whole is
+-- threatened, since it may be the control variable of a for statement around.
 unfoldable pub control_at : ℕ → ℕ → Step Control
 control_at frame name = do
   found ← use_at frame name name
   c ← look (λ k. control_of k frame found)
   _ ← late 3 name (is_variable c)
   _ ← controlled name c
+  _ ← threat frame name
   give c
+
+-- ---- inside of a for statement
+
+-- the definition of a control variable that is a whole variable
+abbrev pub held_by : Control → Option ℕ
+held_by (control.Own variable of' place) = Some variable
+held_by (control.Other variable of') = variable
+held_by c = None
+
+-- rule 20: a routine of the block threatens the control variable, at the first name there that does
+abbrev pub unthreatened : Option ℕ → Step (Unit {0})
+unthreatened None = give tt
+unthreatened (Some name) = late 20 name false
+
+unfoldable pub held : ℕ → Step (Unit {0})
+held variable = do
+  first ← look (λ k. threat_of k variable)
+  _ ← unthreatened first
+  hold variable
+
+abbrev pub hold_if : Option ℕ → Step (Unit {0})
+hold_if None = give tt
+hold_if (Some variable) = held variable
+
+abbrev pub release_if : Option ℕ → Step (Unit {0})
+release_if None = give tt
+release_if (Some variable) = release
+
+-- into a for statement, of which the bounds are inside
+unfoldable pub enter_for : ℕ → ℕ → Step Control
+enter_for frame name = do
+  c ← control_at frame name
+  _ ← hold_if (held_by c)
+  give c
+
+-- out of it
+abbrev pub leave_for : Control → Step (Unit {0})
+leave_for c = release_if (held_by c)
 
 -- ---- bounds
 
@@ -89,12 +131,12 @@ direction_of (tree.To n) = Up
 direction_of (tree.Downto n) = Down
 
 abbrev pub place_of : Control → ℕ
-place_of (control.Own of' place) = place
+place_of (control.Own variable of' place) = place
 place_of c = 0
 
 abbrev pub number_of : Control → ℕ
-number_of (control.Own of' place) = of'
-number_of (control.Other of') = of'
+number_of (control.Own variable of' place) = of'
+number_of (control.Other variable of') = of'
 number_of c = 0
 
 -- the turns of a for statement, at `to` or `downto`

@@ -1,15 +1,16 @@
 //! Assignments: what stands on the left, and the value (6.8.2.2).
 
 ghost use Rattle.std.specs.Prelude.{◌≡◌};
-ghost use Rattle.check_steps.specs.Steps.{Does};
+ghost use Rattle.check_steps.specs.Steps.{Does, when};
 ghost use Rattle.operand_checker.specs.Selectors.{type_number};
-ghost use Rattle.check_steps.specs.Names.{usable};
-ghost use Rattle.statement_rules.specs.Assignments.{assigned, begins_at, formal_if, formal_target, is_inside};
-ghost use Rattle.statement_rules.specs.Assignments.{result_at, result_of, result_target, takes, target_at};
-ghost use Rattle.statement_rules.specs.Assignments.{target_in, target_of};
+ghost use Rattle.statement_rules.specs.Assignments.{assigned, assigned_in, begins_at, blockless_if, blockless_target};
+ghost use Rattle.statement_rules.specs.Assignments.{is_assigned, is_inside, result_assigned, result_at, result_of};
+ghost use Rattle.statement_rules.specs.Assignments.{result_target, takes, target_at, target_in, target_of};
+ghost use Rattle.statement_rules.specs.Assignments.{with_value};
 
 use crate::sequences::put_statement;
 use check_steps::{Found, Tables, Work};
+use expression_checker::callees::is_required_function;
 use operand_checker::names::levels_to;
 use operand_checker::typed::unknown_at;
 use operand_checker::{Location, Typed};
@@ -38,8 +39,8 @@ pub enum Target {
     /// An access of a variable.
     Access,
     Result(FunctionResult),
-    /// A function as a parameter.
-    Formal,
+    /// A function that has no block in the program: one as a parameter, or a required one.
+    Blockless,
 }
 
 fn result_at(
@@ -74,11 +75,11 @@ fn result_of(tables: &Tables, frame: u32, routine: Option<Routine>) -> Target
     }
 }
 
-fn formal_if(function: bool) -> Target
-    ensures { result ≡ formal_if function }
+fn blockless_if(function: bool) -> Target
+    ensures { result ≡ blockless_if function }
 {
     if function {
-        Target::Formal
+        Target::Blockless
     } else {
         Target::Access
     }
@@ -88,12 +89,13 @@ fn target_in(tables: &Tables, frame: u32, row: Row) -> Target
     ensures { result ≡ target_in tables.now frame row }
 {
     match row {
-        Row::Name(NameRow::Routine { number }) => {
+        Row::Name(NameRow::Routine { number, .. }) => {
             result_of(tables, frame, tables.program().routine(number))
         }
         Row::Name(NameRow::RoutineFormal { heading, .. }) => {
-            formal_if(signature_at(tables, heading).result.is_some())
+            blockless_if(signature_at(tables, heading).result.is_some())
         }
+        Row::Name(NameRow::Required { routine }) => { blockless_if(is_required_function(routine)) }
         _ => Target::Access,
     }
 }
@@ -107,27 +109,12 @@ fn target_of(tables: &Tables, frame: u32, found: Option<Found>) -> Target
     }
 }
 
-fn usable(at: u32, found: Option<Found>) -> Option<Found>
-    ensures { result ≡ usable at found }
-{
-    match found {
-        Some(found) => {
-            if found.definition.end <= at {
-                Some(found)
-            } else {
-                None
-            }
-        }
-        None => None,
-    }
-}
-
 /// What a name stands for on the left of `:=`, if it stands there alone; with selectors it is an access.
 pub fn target_at(tables: &Tables, frame: u32, name: u32, alone: bool) -> Target
     ensures { result ≡ target_at tables.now frame name alone }
 {
     if alone {
-        let found = usable(name, tables.find(frame, tables.name(name)));
+        let found = tables.usable(frame, name, name);
         target_of(tables, frame, found)
     } else {
         Target::Access
@@ -158,6 +145,52 @@ pub fn is_inside(tables: &Tables, frame: u32, token: u32) -> bool
     false
 }
 
+fn assigned_in(row: Row) -> bool
+    ensures { result ≡ assigned_in row }
+{
+    match row {
+        Row::Name(NameRow::Routine { assigned, .. }) => assigned,
+        _ => false,
+    }
+}
+
+/// Whether a value is assigned so far to a function's name inside its block, by the name in its first heading.
+pub fn is_assigned(tables: &Tables, name: u32) -> bool
+    ensures { result ≡ is_assigned tables.now name }
+{
+    assigned_in(tables.row(name))
+}
+
+fn with_value(row: Row) -> Row
+    ensures { result ≡ with_value row }
+{
+    match row {
+        Row::Name(NameRow::Routine { number, region, .. }) => Row::Name(NameRow::Routine {
+            assigned: true,
+            number,
+            region,
+        }),
+        _ => row,
+    }
+}
+
+#[tactic(auto, using(check_steps::proofs::Runs::steps), unfolding(crate::specs::Assignments::result_assigned))]
+fn put_assigned(work: &mut Work, name: u32)
+    ensures { Does (result_assigned name) tt work.old work.new }
+{
+    let row = with_value(work.tables.row(name));
+    work.put(name, row);
+}
+
+#[tactic(auto, using(check_steps::proofs::Runs::steps), unfolding(check_steps::specs::Steps::when))]
+fn put_assigned_if(work: &mut Work, name: u32, inside: bool)
+    ensures { Does (when inside (result_assigned name)) tt work.old work.new }
+{
+    if inside {
+        put_assigned(work, name);
+    }
+}
+
 /// The result of a function on the left of `:=`, at its name.
 #[tactic(auto, using(check_steps::proofs::Runs::steps), unfolding(crate::specs::Assignments::result_target))]
 pub fn check_result_target(work: &mut Work, frame: u32, name: u32, of: FunctionResult) -> Typed
@@ -165,6 +198,7 @@ pub fn check_result_target(work: &mut Work, frame: u32, name: u32, of: FunctionR
 {
     let fine = is_inside(&work.tables, frame, of.function);
     work.late(13, name, fine);
+    put_assigned_if(work, of.function, fine);
     let row = AccessRow::Variable {
         place: of.place,
         levels: of.levels,
@@ -178,10 +212,10 @@ pub fn check_result_target(work: &mut Work, frame: u32, name: u32, of: FunctionR
     }
 }
 
-/// A function as a parameter on the left of `:=`, at its name.
-#[tactic(auto, using(check_steps::proofs::Runs::steps), unfolding(crate::specs::Assignments::formal_target))]
-pub fn check_formal_target(work: &mut Work, name: u32) -> Typed
-    ensures { Does (formal_target name) result work.old work.new }
+/// A function that has no block in the program, on the left of `:=`, at its name.
+#[tactic(auto, using(check_steps::proofs::Runs::steps), unfolding(crate::specs::Assignments::blockless_target))]
+pub fn check_blockless_target(work: &mut Work, name: u32) -> Typed
+    ensures { Does (blockless_target name) result work.old work.new }
 {
     work.late(13, name, false);
     unknown_at(name)

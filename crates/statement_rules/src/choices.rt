@@ -4,13 +4,13 @@ ghost use Rattle.std.specs.Prelude.{◌≡◌};
 ghost use Rattle.check_steps.specs.Steps.{Does};
 ghost use Rattle.statement_rules.specs.Choices.{case_row, host_or, selector};
 
-use crate::conditions::is_ordinal;
 use crate::sequences::{line_of, put_statement};
 use check_steps::Work;
 use denoter_checker::variants::Choosing;
 use operand_checker::Typed;
 use program_tables::rows::StatementRow;
 use type_relations::Shape;
+use type_relations::operators::is_ordinal;
 use type_relations::shapes::shape_of;
 
 fn host_or(shape: Shape, otherwise: u32) -> u32

@@ -1,14 +1,13 @@
-//! Conditions, and what is to be ordinal (6.8.3.4, 6.8.3.5, 6.8.3.7, 6.8.3.8).
+//! Conditions (6.8.3.4, 6.8.3.7, 6.8.3.8).
 
 ghost use Rattle.std.specs.Prelude.{◌≡◌};
 ghost use Rattle.check_steps.specs.Steps.{Does};
-ghost use Rattle.statement_rules.specs.Conditions.{condition, is_condition, is_ordinal};
+ghost use Rattle.statement_rules.specs.Conditions.{condition, is_condition};
 
 use check_steps::{Tables, Work};
 use operand_checker::Typed;
 use program_tables::rows::BOOLEAN;
-use type_relations::Shape;
-use type_relations::operators::{is_operand, is_unknown};
+use type_relations::operators::is_operand;
 use type_relations::shapes::shape_of;
 
 fn is_condition(tables: &Tables, value: Typed) -> bool
@@ -24,14 +23,4 @@ pub fn check_condition(work: &mut Work, first: u32, value: Typed)
 {
     let fine = is_condition(&work.tables, value);
     work.late(17, first, fine);
-}
-
-/// Whether a type is ordinal, or unknown.
-pub(crate) fn is_ordinal(shape: Shape) -> bool
-    ensures { result ≡ is_ordinal shape }
-{
-    match shape {
-        Shape::Ordinal(_) => true,
-        _ => is_unknown(shape),
-    }
 }

@@ -1,36 +1,24 @@
 //! Labels and gotos (6.8.1, 6.8.2.4).
 
 ghost use Rattle.std.specs.Prelude.{◌≡◌};
-ghost use Rattle.check_steps.specs.Steps.{Does};
-ghost use Rattle.statement_rules.specs.Labels.{jump, label_value, labelled, levels_in, levels_of, value_at};
+ghost use Rattle.check_steps.specs.Steps.{Does, each};
+ghost use Rattle.statement_rules.specs.Labels.{is_reachable, is_unmarked, jump, label_of, labelled, leave, leave_all};
+ghost use Rattle.statement_rules.specs.Labels.{levels_in, mark, on_label, on_next, own_label, put_label, reach};
+ghost use Rattle.statement_rules.specs.Labels.{reach_all, row_of, with_mark, with_one_fewer, with_one_more};
 
 use crate::sequences::{line_of, put_statement};
-use check_steps::{Spelled, Tables, Work};
+use check_steps::{Tables, Work};
 use operand_checker::names::levels_to;
+use pas_tree::statements::{Label, NextStatement, Statements};
 use program_tables::rows::{NameRow, Row, StatementRow};
 
-fn label_value(spelled: Spelled) -> u32
-    ensures { result ≡ label_value spelled }
+fn row_of(tables: &Tables, declared: Option<u32>) -> Row
+    ensures { result ≡ row_of tables.now declared }
 {
-    match spelled {
-        Spelled::Number(value) => value,
-        _ => 0,
+    match declared {
+        None => Row::Nothing,
+        Some(declared) => tables.row(declared),
     }
-}
-
-fn value_at(tables: &Tables, token: u32) -> u32
-    ensures { result ≡ value_at tables.now token }
-{
-    label_value(tables.spelled(token))
-}
-
-/// A labelled statement, at its label.
-#[tactic(auto, using(check_steps::proofs::Runs::steps), unfolding(crate::specs::Labels::labelled))]
-pub fn put_labelled(work: &mut Work, token: u32, statement: u32) -> u32
-    ensures { Does (labelled token statement) result work.old work.new }
-{
-    let label = value_at(&work.tables, token);
-    put_statement(work, token, StatementRow::Labelled { label, statement })
 }
 
 fn levels_in(tables: &Tables, frame: u32, row: Row) -> u32
@@ -42,12 +30,222 @@ fn levels_in(tables: &Tables, frame: u32, row: Row) -> u32
     }
 }
 
-fn levels_of(tables: &Tables, frame: u32, declared: Option<u32>) -> u32
-    ensures { result ≡ levels_of tables.now frame declared }
+fn label_of(tables: &Tables, frame: u32, token: u32) -> Option<u32>
+    ensures { result ≡ label_of tables.now frame token }
+{
+    tables.find_label(frame, tables.label(token))
+}
+
+fn own_label(tables: &Tables, frame: u32, token: u32) -> Option<u32>
+    ensures { result ≡ own_label tables.now frame token }
+{
+    let declared = label_of(tables, frame, token);
+    if levels_in(tables, frame, row_of(tables, declared)) == 0 {
+        declared
+    } else {
+        None
+    }
+}
+
+#[tactic(auto, using(check_steps::proofs::Runs::steps))]
+fn put_label(work: &mut Work, declared: Option<u32>, row: Row)
+    ensures { Does (put_label declared row) tt work.old work.new }
 {
     match declared {
-        None => 0,
-        Some(declared) => levels_in(tables, frame, tables.row(declared)),
+        None => {}
+        Some(declared) => work.put(declared, row),
+    }
+}
+
+fn with_one_more(row: Row) -> Row
+    ensures { result ≡ with_one_more row }
+{
+    match row {
+        Row::Name(
+            NameRow::Label {
+                marked,
+                value,
+                level,
+                reachable,
+            },
+        ) => Row::Name(NameRow::Label {
+            marked,
+            value,
+            level,
+            reachable: reachable.saturating_add(1),
+        }),
+        _ => row,
+    }
+}
+
+fn with_one_fewer(row: Row) -> Row
+    ensures { result ≡ with_one_fewer row }
+{
+    match row {
+        Row::Name(
+            NameRow::Label {
+                marked,
+                value,
+                level,
+                reachable,
+            },
+        ) => Row::Name(NameRow::Label {
+            marked,
+            value,
+            level,
+            reachable: reachable.saturating_sub(1),
+        }),
+        _ => row,
+    }
+}
+
+/// A statement with the label at this token may be reached from here on.
+#[tactic(auto, using(check_steps::proofs::Runs::steps), unfolding(crate::specs::Labels::reach))]
+pub fn reach(work: &mut Work, frame: u32, token: u32)
+    ensures { Does (reach frame token) tt work.old work.new }
+{
+    let declared = own_label(&work.tables, frame, token);
+    let row = row_of(&work.tables, declared);
+    put_label(work, declared, with_one_more(row));
+}
+
+/// It may be reached no more from here on.
+#[tactic(auto, using(check_steps::proofs::Runs::steps), unfolding(crate::specs::Labels::leave))]
+pub fn leave(work: &mut Work, frame: u32, token: u32)
+    ensures { Does (leave frame token) tt work.old work.new }
+{
+    let declared = own_label(&work.tables, frame, token);
+    let row = row_of(&work.tables, declared);
+    put_label(work, declared, with_one_fewer(row));
+}
+
+#[tactic(auto, using(check_steps::proofs::Runs::steps))]
+fn reach_held(work: &mut Work, label: &Option<Label>, frame: u32)
+    ensures { Does (on_label (reach frame) label.now) tt work.old work.new }
+{
+    match label {
+        None => {}
+        Some(label) => reach(work, frame, label.number),
+    }
+}
+
+#[tactic(auto, using(check_steps::proofs::Runs::steps))]
+fn leave_held(work: &mut Work, label: &Option<Label>, frame: u32)
+    ensures { Does (on_label (leave frame) label.now) tt work.old work.new }
+{
+    match label {
+        None => {}
+        Some(label) => leave(work, frame, label.number),
+    }
+}
+
+#[tactic(auto, unfolding(crate::specs::Labels::on_next))]
+fn reach_next(work: &mut Work, n: &NextStatement, frame: u32)
+    ensures { Does (on_next (reach frame) tt n.now) tt work.old work.new }
+{
+    reach_held(work, &n.statement.label, frame);
+}
+
+#[tactic(auto, unfolding(crate::specs::Labels::on_next))]
+fn leave_next(work: &mut Work, n: &NextStatement, frame: u32)
+    ensures { Does (on_next (leave frame) tt n.now) tt work.old work.new }
+{
+    leave_held(work, &n.statement.label, frame);
+}
+
+#[tactic(auto, using(check_steps::proofs::Runs::loops))]
+fn reach_others(work: &mut Work, others: &[NextStatement], frame: u32)
+    ensures { Does (each (on_next (reach frame)) tt others.now) tt work.old work.new }
+{
+    'others: for other in others {
+        reach_next(work, other, frame);
+    }
+}
+
+#[tactic(auto, using(check_steps::proofs::Runs::loops))]
+fn leave_others(work: &mut Work, others: &[NextStatement], frame: u32)
+    ensures { Does (each (on_next (leave frame)) tt others.now) tt work.old work.new }
+{
+    'others: for other in others {
+        leave_next(work, other, frame);
+    }
+}
+
+/// All statements of a sequence may be reached from here on. For the outermost sequence of a block's statement part
+/// that is so before its routines are checked.
+#[tactic(auto, using(check_steps::proofs::Runs::steps), unfolding(crate::specs::Labels::reach_all))]
+pub fn reach_all(work: &mut Work, s: &Statements, frame: u32)
+    ensures { Does (reach_all frame s.now) tt work.old work.new }
+{
+    reach_held(work, &s.first.label, frame);
+    reach_others(work, &s.others, frame);
+}
+
+/// They may be reached no more from here on.
+#[tactic(auto, using(check_steps::proofs::Runs::steps), unfolding(crate::specs::Labels::leave_all))]
+pub fn leave_all(work: &mut Work, s: &Statements, frame: u32)
+    ensures { Does (leave_all frame s.now) tt work.old work.new }
+{
+    leave_held(work, &s.first.label, frame);
+    leave_others(work, &s.others, frame);
+}
+
+fn is_unmarked(row: Row) -> bool
+    ensures { result ≡ is_unmarked row }
+{
+    match row {
+        Row::Name(NameRow::Label { marked, .. }) => !marked,
+        _ => false,
+    }
+}
+
+fn with_mark(row: Row) -> Row
+    ensures { result ≡ with_mark row }
+{
+    match row {
+        Row::Name(
+            NameRow::Label {
+                value,
+                level,
+                reachable,
+                ..
+            },
+        ) => Row::Name(NameRow::Label {
+            marked: true,
+            value,
+            level,
+            reachable,
+        }),
+        _ => row,
+    }
+}
+
+/// The label in front of a statement.
+#[tactic(auto, using(check_steps::proofs::Runs::steps), unfolding(crate::specs::Labels::mark))]
+pub fn check_mark(work: &mut Work, frame: u32, token: u32)
+    ensures { Does (mark frame token) tt work.old work.new }
+{
+    let declared = own_label(&work.tables, frame, token);
+    let row = row_of(&work.tables, declared);
+    work.late(15, token, is_unmarked(row));
+    put_label(work, declared, with_mark(row));
+}
+
+/// A labelled statement, at its label.
+#[tactic(auto, using(check_steps::proofs::Runs::steps), unfolding(crate::specs::Labels::labelled))]
+pub fn put_labelled(work: &mut Work, token: u32, statement: u32) -> u32
+    ensures { Does (labelled token statement) result work.old work.new }
+{
+    let label = work.tables.label(token);
+    put_statement(work, token, StatementRow::Labelled { label, statement })
+}
+
+fn is_reachable(row: Row) -> bool
+    ensures { result ≡ is_reachable row }
+{
+    match row {
+        Row::Name(NameRow::Label { reachable, .. }) => 0 < reachable,
+        _ => false,
     }
 }
 
@@ -56,10 +254,10 @@ fn levels_of(tables: &Tables, frame: u32, declared: Option<u32>) -> u32
 pub fn check_goto(work: &mut Work, frame: u32, label: Option<u32>, word: u32, token: u32) -> u32
     ensures { Does (jump frame label word token) result work.old work.new }
 {
-    let value = value_at(&work.tables, token);
-    let declared = work.tables.find_label(frame, value);
-    work.late(16, token, declared.is_some());
-    let levels = levels_of(&work.tables, frame, declared);
+    let row = row_of(&work.tables, label_of(&work.tables, frame, token));
+    work.late(16, token, is_reachable(row));
+    let value = work.tables.label(token);
+    let levels = levels_in(&work.tables, frame, row);
     let line = line_of(&work.tables, label, word);
     let row = StatementRow::Goto {
         line,

@@ -1,19 +1,22 @@
-//! Control variables and bounds of for statements (6.8.3.9).
+//! Control variables of for statements, their threats, and bounds (6.8.3.9).
 
-ghost use Rattle.std.specs.Prelude.{◌≡◌};
+ghost use Rattle.std.specs.Prelude.{◌≡◌, IfOk};
 ghost use Rattle.check_steps.specs.Steps.{Does};
 ghost use Rattle.statement_rules.specs.Loops.{bound, control_at, control_in, control_of, control_type, controlled};
-ghost use Rattle.statement_rules.specs.Loops.{direction_of, for_row, is_own, is_variable, number_of, own_if, place_of};
-ghost use Rattle.statement_rules.specs.Loops.{turns_row};
+ghost use Rattle.statement_rules.specs.Loops.{direction_of, enter_for, for_row, held, held_by, hold_if, is_own};
+ghost use Rattle.statement_rules.specs.Loops.{is_variable, leave_for, number_of, own_if, place_of, release_if};
+ghost use Rattle.statement_rules.specs.Loops.{turns_row, unthreatened};
 
-use crate::conditions::is_ordinal;
 use crate::sequences::{line_of, put_statement};
 use check_steps::{Found, Tables, Work};
 use operand_checker::Typed;
+use operand_checker::threats::check_threat;
 use pas_places::direction_token;
 use pas_tree::operators::Direction as DirectionTree;
 use program_tables::rows::{Direction, Mode, NameRow, Row, StatementRow};
+use std::alloc::AllocError;
 use type_relations::ExpressionType;
+use type_relations::operators::is_ordinal;
 use type_relations::shapes::{agree, shape_of};
 
 /// What a name stands for as a control variable.
@@ -23,24 +26,32 @@ pub enum Control {
     Unknown,
     /// No variable.
     Wrong,
-    /// A variable of the closest block's variable part: its type, and its place in the frame.
-    Own { of: u32, place: u32 },
-    /// A parameter, a variable of a block around, or a field, by its type.
-    Other { of: u32 },
+    /// A variable of the closest block's variable part: the token of its definition, its type, and its place in the
+    /// frame.
+    Own { variable: u32, of: u32, place: u32 },
+    /// A parameter or a variable of a block around, by the token of its definition, or a field; and its type.
+    Other { variable: Option<u32>, of: u32 },
 }
 
-fn own_if(own: bool, of: u32, place: u32) -> Control
-    ensures { result ≡ own_if own of place }
+fn own_if(own: bool, variable: u32, of: u32, place: u32) -> Control
+    ensures { result ≡ own_if own variable of place }
 {
     if own {
-        Control::Own { of, place }
+        Control::Own {
+            variable,
+            of,
+            place,
+        }
     } else {
-        Control::Other { of }
+        Control::Other {
+            variable: Some(variable),
+            of,
+        }
     }
 }
 
-fn control_in(tables: &Tables, frame: u32, row: Row) -> Control
-    ensures { result ≡ control_in tables.now frame row }
+fn control_in(tables: &Tables, frame: u32, name: u32, row: Row) -> Control
+    ensures { result ≡ control_in tables.now frame name row }
 {
     match row {
         Row::Name(
@@ -51,11 +62,14 @@ fn control_in(tables: &Tables, frame: u32, row: Row) -> Control
                 level,
             },
         ) => match mode {
-            Mode::Own => own_if(level == tables.frame(frame).level, of, place),
-            _ => Control::Other { of },
+            Mode::Own => own_if(level == tables.frame(frame).level, name, of, place),
+            _ => Control::Other {
+                variable: Some(name),
+                of,
+            },
         },
-        Row::Name(NameRow::Field { of, .. }) => Control::Other { of },
-        Row::Name(NameRow::Tag { of, .. }) => Control::Other { of },
+        Row::Name(NameRow::Field { of, .. }) => Control::Other { variable: None, of },
+        Row::Name(NameRow::Tag { of, .. }) => Control::Other { variable: None, of },
         _ => Control::Wrong,
     }
 }
@@ -65,7 +79,10 @@ fn control_of(tables: &Tables, frame: u32, found: Option<Found>) -> Control
 {
     match found {
         None => Control::Unknown,
-        Some(found) => control_in(tables, frame, tables.row(found.definition.token)),
+        Some(found) => {
+            let name = found.definition.token;
+            control_in(tables, frame, name, tables.row(name))
+        }
     }
 }
 
@@ -74,7 +91,7 @@ fn control_type(control: Control) -> ExpressionType
 {
     match control {
         Control::Own { of, .. } => ExpressionType::Of(of),
-        Control::Other { of } => ExpressionType::Of(of),
+        Control::Other { of, .. } => ExpressionType::Of(of),
         _ => ExpressionType::Unknown,
     }
 }
@@ -107,16 +124,86 @@ fn check_controlled(work: &mut Work, name: u32, control: Control)
     work.late(19, name, is_own(control));
 }
 
-/// The control variable of a for statement, at its name.
 #[tactic(auto, using(check_steps::proofs::Runs::steps), unfolding(crate::specs::Loops::control_at))]
-pub fn check_control(work: &mut Work, frame: u32, name: u32) -> Control
+fn check_control(work: &mut Work, frame: u32, name: u32) -> Control
     ensures { Does (control_at frame name) result work.old work.new }
 {
     let found = work.use_at(frame, name, name);
     let control = control_of(&work.tables, frame, found);
     work.late(3, name, is_variable(control));
     check_controlled(work, name, control);
+    check_threat(work, frame, name);
     control
+}
+
+fn held_by(control: Control) -> Option<u32>
+    ensures { result ≡ held_by control }
+{
+    match control {
+        Control::Own { variable, .. } => Some(variable),
+        Control::Other { variable, .. } => variable,
+        _ => None,
+    }
+}
+
+#[tactic(auto, using(check_steps::proofs::Runs::steps))]
+fn check_unthreatened(work: &mut Work, first: Option<u32>)
+    ensures { Does (unthreatened first) tt work.old work.new }
+{
+    match first {
+        None => {}
+        Some(name) => work.late(20, name, false),
+    }
+}
+
+#[tactic(auto, using(check_steps::proofs::Runs::steps), unfolding(crate::specs::Loops::held))]
+fn hold_variable(work: &mut Work, variable: u32) -> Result<(), AllocError>
+    ensures { IfOk result (λ _. Does (held variable) tt work.old work.new) }
+{
+    let first = work.tables.threat(variable);
+    check_unthreatened(work, first);
+    work.hold(variable)?;
+    Ok(())
+}
+
+#[tactic(auto, using(check_steps::proofs::Runs::steps))]
+fn hold_if(work: &mut Work, variable: Option<u32>) -> Result<(), AllocError>
+    ensures { IfOk result (λ _. Does (hold_if variable) tt work.old work.new) }
+{
+    match variable {
+        None => Ok(()),
+        Some(variable) => {
+            hold_variable(work, variable)?;
+            Ok(())
+        }
+    }
+}
+
+#[tactic(auto, using(check_steps::proofs::Runs::steps))]
+fn release_if(work: &mut Work, variable: Option<u32>)
+    ensures { Does (release_if variable) tt work.old work.new }
+{
+    match variable {
+        None => {}
+        Some(_) => work.release(),
+    }
+}
+
+/// Goes into a for statement, of which the bounds are inside: the control variable at its name is given.
+#[tactic(auto, using(check_steps::proofs::Runs::steps), unfolding(crate::specs::Loops::enter_for))]
+pub fn enter_for(work: &mut Work, frame: u32, name: u32) -> Result<Control, AllocError>
+    ensures { IfOk result (λ c. Does (enter_for frame name) c work.old work.new) }
+{
+    let control = check_control(work, frame, name);
+    hold_if(work, held_by(control))?;
+    Ok(control)
+}
+
+/// Goes out of a for statement with this control variable.
+pub fn leave_for(work: &mut Work, control: Control)
+    ensures { Does (leave_for control) tt work.old work.new }
+{
+    release_if(work, held_by(control));
 }
 
 /// A bound of a for statement, which begins at a first token.
@@ -152,7 +239,7 @@ fn number_of(control: Control) -> u32
 {
     match control {
         Control::Own { of, .. } => of,
-        Control::Other { of } => of,
+        Control::Other { of, .. } => of,
         _ => 0,
     }
 }

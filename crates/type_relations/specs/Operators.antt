@@ -35,6 +35,11 @@ abbrev pub is_of_host : ℕ → Shape → Bool
 is_of_host host (shape.Ordinal h) = nat_eq h host
 is_of_host host s = false
 
+-- of an ordinal type, if its type is known
+abbrev pub is_ordinal : Shape → Bool
+is_ordinal (shape.Ordinal host) = true
+is_ordinal s = is_unknown s
+
 -- an operand of an ordinal type of this host, if its type is known
 abbrev pub is_operand : ℕ → Shape → Bool
 is_operand host s = is_unknown s || is_of_host host s

@@ -1,7 +1,8 @@
 //! The operators (6.7.2): which operands fit which, and what comes of them.
 
 ghost use Rattle.std.specs.Prelude.{◌≡◌};
-ghost use Rattle.type_relations.specs.Operators.{equality, fits, is_of_host, is_operand, is_unknown, joined_packing};
+ghost use Rattle.type_relations.specs.Operators.{equality, fits, is_of_host, is_operand, is_ordinal, is_unknown};
+ghost use Rattle.type_relations.specs.Operators.{joined_packing};
 ghost use Rattle.type_relations.specs.Operators.{member_of, on_booleans, on_integers, on_sets, operation_of};
 ghost use Rattle.type_relations.specs.Operators.{operation_row, pointers_by, related, relates_sets, result_of};
 
@@ -52,6 +53,16 @@ pub fn is_unknown(shape: Shape) -> bool
     match shape {
         Shape::Unknown => true,
         _ => false,
+    }
+}
+
+/// Whether a type is an ordinal one, if it is known.
+pub fn is_ordinal(shape: Shape) -> bool
+    ensures { result ≡ is_ordinal shape }
+{
+    match shape {
+        Shape::Ordinal(_) => true,
+        _ => is_unknown(shape),
     }
 }
 

@@ -6,6 +6,7 @@ use crate::sources::Judged;
 use anyhow::{Context, Result, bail, ensure};
 use check_steps::Def;
 use decl_checker::{Scopes, find, find_in};
+use program_tables::Routine;
 use program_tables::rows::{Mode, NameRow, Row, TypeRow};
 use source_checker::{DeclarationFault, declare_source};
 use std::alloc::Global;
@@ -114,6 +115,7 @@ fn answer(alloc: Global, scopes: &Scopes, question: &str) -> Result<String> {
         ["routines"] => plain_text(alloc, scopes.routines()),
         ["routine", number] => bytes_text(alloc, scopes.name(number.parse()?)),
         ["frame", number] => plain_text(alloc, scopes.frame(number.parse()?)),
+        ["result", number] => result_text(alloc, scopes.program().routine(number.parse()?)),
         _ => bail!("no question: {question}"),
     }
 }
@@ -133,6 +135,14 @@ fn bytes_text(alloc: Global, bytes: &[u8]) -> Result<String> {
     match str::from_utf8(bytes) {
         Ok(text) => Ok(text.to_string(alloc)?),
         Err(_) => bail!("no UTF-8 text"),
+    }
+}
+
+/// The place of a function's result.
+fn result_text(alloc: Global, routine: Option<Routine>) -> Result<String> {
+    match routine {
+        Some(routine) => number_text(alloc, routine.result),
+        None => bail!("no routine"),
     }
 }
 
@@ -230,8 +240,10 @@ fn name_text(alloc: Global, row: Row) -> Result<String> {
         NameRow::RoutineFormal { place, level, .. } => {
             Ok(format!(in alloc; "a routine parameter, place {place}, level {level}")?)
         }
-        NameRow::Routine { number } => Ok(format!(in alloc; "routine {number}")?),
-        NameRow::Label { value, level } => Ok(format!(in alloc; "label {value}, level {level}")?),
+        NameRow::Routine { number, .. } => Ok(format!(in alloc; "routine {number}")?),
+        NameRow::Label { value, level, .. } => Ok(format!(in alloc;
+            "label {value}, level {level}"
+        )?),
         _ => Ok("another name".to_string(alloc)?),
     }
 }

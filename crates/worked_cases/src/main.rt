@@ -1,7 +1,7 @@
 //! Runs worked cases. A case is what is given to the command, and what has to come of it, and is held in files of
 //! a folder. The file `index` names the files of cases, each after the word for its kind: `command`, `sources`,
-//! `declarations` or `tables`. The program prints a line for each case and each difference in full, and fails where
-//! there is one.
+//! `rules`, `declarations` or `tables`. The program prints a line for each case and each difference in full, and fails
+//! where there is one.
 //!
 //! Its one argument is the folder, `.` where there is none.
 #![tactic(auto)]
@@ -76,6 +76,25 @@ fn report_rows<R: Print>(rt: &R, name: &str, judged: &Judged, tally: &mut Tally)
     Ok(())
 }
 
+/// Tries a file of the index, by the word for its kind.
+fn try_file<R: Files + AllocGlobal + Print>(
+    rt: &R,
+    folder: &mut Folder,
+    kind: &str,
+    name: &str,
+    tally: &mut Tally,
+) -> Result<()> {
+    let judged = match kind {
+        "command" => return try_cases(rt, folder, name, tally),
+        "sources" => try_sources(rt, folder, name, Judge::Grammar)?,
+        "rules" => try_sources(rt, folder, name, Judge::Rules)?,
+        "declarations" => try_sources(rt, folder, name, Judge::Declarations)?,
+        "tables" => try_tables(rt, folder, name)?,
+        _ => bail!("the index: {kind} {name}"),
+    };
+    report_rows(rt, name, &judged, tally)
+}
+
 /// Tries the files that the index names.
 fn try_index<R: Files + AllocGlobal + Print>(
     rt: &R,
@@ -88,21 +107,9 @@ fn try_index<R: Files + AllocGlobal + Print>(
     };
     for line in index.lines() {
         match line.split_once(' ') {
-            Some(("command", name)) => try_cases(rt, folder, name, tally)?,
-            Some(("sources", name)) => {
-                let judged = try_sources(rt, folder, name, Judge::Command)?;
-                report_rows(rt, name, &judged, tally)?;
-            }
-            Some(("declarations", name)) => {
-                let judged = try_sources(rt, folder, name, Judge::Declarations)?;
-                report_rows(rt, name, &judged, tally)?;
-            }
-            Some(("tables", name)) => {
-                let judged = try_tables(rt, folder, name)?;
-                report_rows(rt, name, &judged, tally)?;
-            }
             _ if line.is_empty() || line.starts_with('#') => {}
-            _ => bail!("the index: {line}"),
+            Some((kind, name)) => try_file(rt, folder, kind, name, tally)?,
+            None => bail!("the index: {line}"),
         }
     }
     Ok(())

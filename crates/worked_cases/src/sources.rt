@@ -13,8 +13,9 @@ use std::str;
 /// The exit status of a source that is refused.
 const REFUSED: u8 = 3;
 
-/// Why a source is refused that is not the text of a program.
-const BEFORE_THE_RULES: [&str; 9] = [
+/// Why a source is refused that is not the text of a program, and then why one is that breaks a static rule or is too
+/// big.
+const REASONS: [&str; 11] = [
     "BadByte",
     "OpenComment",
     "OpenString",
@@ -24,13 +25,20 @@ const BEFORE_THE_RULES: [&str; 9] = [
     "Joined",
     "NotProgram",
     "TooDeep",
+    "Rule",
+    "TooBig",
 ];
+
+/// How many of these reasons come before the static rules.
+const BEFORE_THE_RULES: usize = 9;
 
 /// Who says whether a source is taken.
 #[derive(Clone, Copy)]
 pub(crate) enum Judge {
-    /// The command.
-    Command,
+    /// The command, as far as the grammar.
+    Grammar,
+    /// The command, with the static rules.
+    Rules,
     /// The check of its declarations alone.
     Declarations,
 }
@@ -136,7 +144,8 @@ fn read_row(alloc: Global, text: &str) -> Result<Row> {
 /// What differs, in full: nothing where the source comes to what the row says.
 fn difference(alloc: Global, judge: Judge, row: Row) -> Result<Vec<u8>> {
     match judge {
-        Judge::Command => differences(alloc, &command_case(alloc, row)?),
+        Judge::Grammar => differences(alloc, &command_case(alloc, row, BEFORE_THE_RULES)?),
+        Judge::Rules => differences(alloc, &command_case(alloc, row, REASONS.len())?),
         Judge::Declarations => declared_difference(alloc, &row),
     }
 }
@@ -156,12 +165,12 @@ fn declared_difference(alloc: Global, row: &Row) -> Result<Vec<u8>> {
     Ok(format!(in alloc; "  it is to come to: {wanted}\n  it comes to: {got}\n")?.into_bytes())
 }
 
-/// The run of the command on the source of a row, on a console without lines. A source that is taken is refused neither
-/// for its pieces nor by the grammar.
-fn command_case(alloc: Global, row: Row) -> Result<Case> {
+/// The run of the command on the source of a row, on a console without lines. A source that is taken is refused for
+/// none of the first so many reasons.
+fn command_case(alloc: Global, row: Row, reasons: usize) -> Result<Case> {
     let mut case = Case::new(alloc, "")?;
     if row.why.as_str() == "taken" {
-        for why in BEFORE_THE_RULES {
+        for why in REASONS.iter().take(reasons) {
             let beginning = format!(in alloc; "refused: {why}")?.into_bytes();
             case.wanted.push(Wanted::OtherBeginning(beginning))?;
         }

@@ -23,7 +23,9 @@ returns-in_ok-insert c =
       program = t.program;
       regions = regions;
       frames = t.frames.items;
-      facts = t.facts.items;
+      controls = t.controls.items;
+      threats = t.threats.items;
+      block = t.block;
     })
     (regions-changed kept t.regions.items c.args.region m (record { token = m.token; frame = m.frame; names = m.names; labels = c.insert.new.self })
     (λ g. record g { labels = g.labels ++ (c.args.value, c.args.token) ∷ [] }) below c.index_mut.ensures.value

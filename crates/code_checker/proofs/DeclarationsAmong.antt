@@ -1,0 +1,22 @@
+-- What the declarations break is among all that is broken.
+use Rattle.std.proofs.Common.{zero, suc, List, [], ◌∷◌, ◌++◌, arith}
+use Rattle.std.specs.Prelude.{Contains}
+use Rattle.pas_lexer.specs.Lexed.{Lexed}
+use Rattle.pas_tree.specs.declared.blocks.Tree.{Tree}
+use Rattle.check_steps.specs.declared.breaks.Break.{Break}
+use Rattle.check_steps.specs.Steps.{◌>>=◌}
+use Rattle.check_steps.specs.Words.{start}
+use Rattle.decl_checker.specs.Programs as declarations
+use Rattle.code_checker.specs.Blocks.{code_block}
+use Rattle.code_checker.specs.Programs.{broken, check_step}
+
+among : (xs ys : List Break) (b : Break) → Contains xs b → Contains (xs ++ ys) b
+among [] ys b c = absurd (omega (arith, c.1))
+among (x ∷ xs) ys b (zero, h, same) = (0, omega arith, same)
+among (x ∷ xs) ys b (suc i, h, at) = let c = among xs ys b (i, omega (arith, h), at) in (suc c.0, omega (arith, c.1), c.2)
+
+pub declarations_among : (l : Lexed) (t : Tree) (b : Break) → Contains (declarations.broken l t) b → Contains (broken l t) b
+unfolding check_step ◌>>=◌
+declarations_among l t b c =
+    let d = declarations.program_step t (start l) in
+    among d.broken (code_block d.value t.block d.known).broken b c

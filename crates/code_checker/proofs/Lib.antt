@@ -1,0 +1,4 @@
+pub mod CodeRolls
+pub mod DeclarationsAmong
+pub mod Told
+pub mod TooBigLast

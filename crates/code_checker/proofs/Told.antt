@@ -1,0 +1,54 @@
+-- What the whole check of a program leaves, and what is told of it.
+use Rattle.std.proofs.Common.{◌≡◌, ℕ, List, [], Option, Some, None, Result, Ok, Err, IfOk, IfErr, sym, subst, ap, ◌∙◌}
+use Rattle.pas_lexer.specs.Lexed.{Lexed}
+use Rattle.pas_tree.specs.declared.blocks.Tree.{Tree}
+use Rattle.program_tables.specs.ProgramRows.{ProgramRows}
+use Rattle.check_steps.specs.declared.breaks.Broken.{Broken}
+use Rattle.check_steps.specs.declared.breaks.Broken.TheVariants.{Early, Late, TooBig}
+use Rattle.check_steps.specs.declared.breaks.Break.{Break}
+use Rattle.check_steps.specs.declared.breaks.CheckFault.{CheckFault}
+use Rattle.check_steps.specs.declared.work.Work.{Work}
+use Rattle.check_steps.specs.Breaks.{FaultIs, IsOfFirst, fault_at, fault_of, first_of}
+use Rattle.check_steps.specs.Steps.{run}
+use Rattle.check_steps.specs.Words.{start}
+use Rattle.check_steps.proofs.First.{fault-first, first_of-none}
+use Rattle.code_checker.specs.Programs.{broken, check_step, program_of}
+
+-- the first of what the tree breaks, and its program
+pub record Leaves (l : Lexed) (t : Tree) (v : Work) : Type 0 where
+  pub first : first_of (broken l t) None ≡ v.least
+  pub program : v.tables.program ≡ program_of l t
+
+pub leaves : (l : Lexed) (t : Tree) (w v : Work) → w ≡ record { least = None; tables = start l } → run (check_step t) w ≡ (tt, v) → Leaves l t v
+unfolding run
+leaves l t w v is done =
+    let made = ap (λ (x : Work). run (check_step t) x) (sym is) ∙ done in
+    record {
+      first = ap (λ (p : Unit {0} × Work). p.1.least) made;
+      program = sym (ap (λ (p : Unit {0} × Work). p.1.tables.program) made);
+    }
+
+is_told : (bs : List Break) (what : Broken) (token : ℕ) → IsOfFirst bs (fault_at what token) → FaultIs bs (fault_at what token)
+is_told bs (Early rule) token first = first
+is_told bs (Late rule) token first = first
+is_told bs TooBig token first = first
+
+fault_told : (bs : List Break) (least : Option Break) (b : Break) (e : CheckFault) → first_of bs None ≡ least → least ≡ Some b → e ≡ fault_of b → FaultIs bs e
+fault_told bs least b e known is same =
+    let P : CheckFault → Type 0 = λ x. FaultIs bs x in
+    subst P (sym same) (is_told bs b.broken b.token (fault-first bs b (known ∙ is)))
+
+pub told_program : (r : Result ProgramRows CheckFault) (l : Lexed) (t : Tree) (v : Work) → Leaves l t v → IfOk r (λ p. p ≡ v.tables.program)
+    → IfOk r (λ p. p ≡ program_of l t)
+told_program (Ok p) l t v left told = told ∙ left.program
+told_program (Err e) l t v left told = told
+
+pub told_unbroken : (r : Result ProgramRows CheckFault) (l : Lexed) (t : Tree) (v : Work) → Leaves l t v → IfOk r (λ _. v.least ≡ None)
+    → IfOk r (λ _. broken l t ≡ [])
+told_unbroken (Ok p) l t v left told = first_of-none (broken l t) (left.first ∙ told)
+told_unbroken (Err e) l t v left told = told
+
+pub told_fault : (r : Result ProgramRows CheckFault) (l : Lexed) (t : Tree) (v : Work) → Leaves l t v
+    → IfErr r (λ e. (b : Break) × (v.least ≡ Some b) × (e ≡ fault_of b)) → IfErr r (FaultIs (broken l t))
+told_fault (Ok p) l t v left told = told
+told_fault (Err e) l t v left told = fault_told (broken l t) v.least told.0 e left.first told.1 told.2

@@ -1,0 +1,5 @@
+pub mod Places
+pub mod Results
+pub mod Blocks
+pub mod Programs
+pub mod Laws

@@ -1,0 +1,82 @@
+//! The statements of blocks, those of their routines first (6.2.1).
+
+ghost use Rattle.std.specs.Prelude.{◌≡◌, IfOk};
+ghost use Rattle.check_steps.specs.Steps.{Does, each};
+ghost use Rattle.code_checker.specs.Blocks.{code_block, code_body, code_routine, statement_part};
+
+use crate::places::span_of;
+use crate::results::{check_result, name_in_first};
+use check_steps::{Span, Work};
+use decl_checker::routines::own_frame;
+use heading_checker::is_function;
+use pas_places::heading_name;
+use pas_tree::blocks::{Block, Body, Routine};
+use pas_tree::statements::Compound;
+use statement_checker::statements::check_compound;
+use statement_rules::labels::reach_all;
+use std::alloc::AllocError;
+
+/// The statement part of a block, seen from its frame.
+#[tactic(auto, using(check_steps::proofs::Runs::steps), unfolding(crate::specs::Blocks::statement_part))]
+fn check_statement_part(
+    work: &mut Work,
+    body: &Compound,
+    frame: u32,
+    span: Span,
+) -> Result<(), AllocError>
+    ensures { IfOk result (λ _. Does (statement_part frame span body.now) tt work.old work.new) }
+{
+    work.enter_block(span);
+    let _number = check_compound(work, body, frame)?;
+    Ok(())
+}
+
+/// The statements of the block of a frame and of its routines, once all declarations of the program are checked.
+#[cycle(code)]
+#[tactic(auto, using(check_steps::proofs::Runs::steps, crate::proofs::CodeRolls::code_out))]
+pub fn check_code(work: &mut Work, b: &Block, frame: u32) -> Result<(), AllocError>
+    ensures { IfOk result (λ _. Does (code_block frame b.now) tt work.old work.new) }
+{
+    reach_all(work, &b.body.statements, frame);
+    check_routines(work, &b.routines)?;
+    check_statement_part(work, &b.body, frame, span_of(b))?;
+    Ok(())
+}
+
+#[cycle(code)]
+#[tactic(auto, using(check_steps::proofs::Runs::loops))]
+fn check_routines(work: &mut Work, routines: &[Routine]) -> Result<(), AllocError>
+    ensures { IfOk result (λ _. Does (each code_routine tt routines.now) tt work.old work.new) }
+{
+    'routines: for routine in routines {
+        check_routine(work, routine)?;
+    }
+    Ok(())
+}
+
+#[cycle(code)]
+#[tactic(auto, unfolding(crate::specs::Blocks::code_routine))]
+fn check_routine(work: &mut Work, routine: &Routine) -> Result<(), AllocError>
+    ensures { IfOk result (λ _. Does (code_routine tt routine.now) tt work.old work.new) }
+{
+    let function = is_function(&routine.heading);
+    let name = heading_name(&routine.heading);
+    check_body(work, &routine.body, function, name)
+}
+
+/// What stands after the heading of a function or a procedure with this name.
+#[cycle(code)]
+#[tactic(auto, using(check_steps::proofs::Runs::steps))]
+fn check_body(work: &mut Work, body: &Body, function: bool, name: u32) -> Result<(), AllocError>
+    ensures { IfOk result (λ _. Does (code_body function name body.now) tt work.old work.new) }
+{
+    match body {
+        Body::Directive(_) => Ok(()),
+        Body::Block(block) => {
+            let frame = own_frame(&work.tables, name_in_first(&work.tables, name));
+            check_code(work, block, frame)?;
+            check_result(work, function, name);
+            Ok(())
+        }
+    }
+}
