@@ -1,0 +1,3 @@
+pub mod ActionsCompose
+pub mod Bounds
+pub mod Lists

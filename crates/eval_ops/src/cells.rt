@@ -1,0 +1,93 @@
+//! Actions on the cells of variables.
+
+ghost use Rattle.std.specs.Prelude.{◌≡◌, [], ◌∷◌, ◌++◌, length};
+ghost use Rattle.program_meaning.specs.Actions.{performs};
+ghost use Rattle.program_meaning.specs.Cells as action;
+ghost use Rattle.eval_ops.specs.Machines.{DoesAll, IsReady, machine_state, moment_of};
+
+use crate::frames::moved;
+use crate::halt::Halt;
+use crate::machine::{Machine, read_cell, write_cell};
+use crate::values::{defined, passed, test};
+use cell_value::{Cells, Value};
+use program_tables::rows::TypeRow;
+use std::alloc::Global;
+
+/// The values of so many cells from an address on, each read in order, also those that are undefined.
+pub fn read_cells(
+    alloc: Global,
+    machine: &mut Machine,
+    addr: u32,
+    cells: u32,
+) -> Result<Cells, Halt>
+    requires ready { IsReady machine.old }
+    ensures action { DoesAll (λ vs. vs) (performs (action.reads [] addr cells) (machine_state machine.old)) result
+        (moment_of machine.old) (moment_of machine.new) }
+    ensures ready { IsReady machine.new }
+{
+    let mut values = Cells::new(alloc);
+    let mut at = addr;
+    'cells: for _ in 0..cells {
+        let value = read_cell(machine, at)?;
+        values.push(value)?;
+        at = moved(at, 1);
+    }
+    Ok(values)
+}
+
+/// Puts values into the cells from an address on, in order.
+pub fn write_cells(
+    alloc: Global,
+    machine: &mut Machine,
+    addr: u32,
+    values: &Cells,
+) -> Result<(), Halt>
+    requires ready { IsReady machine.old }
+    ensures action { DoesAll (λ _. tt) (performs (action.writes addr values.now) (machine_state machine.old)) result
+        (moment_of machine.old) (moment_of machine.new) }
+    ensures ready { IsReady machine.new }
+{
+    let mut at = addr;
+    'cells: for i in 0..values.len() {
+        write_cell(alloc, machine, at, values.at(i))?;
+        at = moved(at, 1);
+    }
+    Ok(())
+}
+
+/// The value of a variable of an ordinal type with these bounds. Where the cell holds no value of the type, it is the
+/// fault `Undefined`, after the read.
+pub fn ordinal_at(
+    machine: &mut Machine,
+    least: i32,
+    greatest: i32,
+    addr: u32,
+) -> Result<Value, Halt>
+    requires ready { IsReady machine.old }
+    ensures action { DoesAll (λ v. v) (performs (action.ordinal_at least greatest addr) (machine_state machine.old))
+        result (moment_of machine.old) (moment_of machine.new) }
+    ensures ready { IsReady machine.new }
+{
+    let held = read_cell(machine, addr)?;
+    let value = defined(least, greatest, held)?;
+    Ok(value)
+}
+
+/// Puts a value into a variable of a type of one cell, after the test for the type: of a value that does not pass it
+/// is the fault, and nothing is written.
+pub fn assign(
+    alloc: Global,
+    machine: &mut Machine,
+    kind: Option<TypeRow>,
+    addr: u32,
+    value: Value,
+) -> Result<(), Halt>
+    requires ready { IsReady machine.old }
+    ensures action { DoesAll (λ _. tt) (performs (action.assign kind addr value) (machine_state machine.old)) result
+        (moment_of machine.old) (moment_of machine.new) }
+    ensures ready { IsReady machine.new }
+{
+    let tested = passed(test(kind, value))?;
+    write_cell(alloc, machine, addr, tested)?;
+    Ok(())
+}

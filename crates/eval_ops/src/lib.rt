@@ -1,0 +1,21 @@
+//! The single actions of a run on its state: the acts on cells, and what expressions and accesses are made of. A call
+//! that answers `Memory` leaves the machine in no state that is said; the run is then given up.
+#![tactic(auto)]
+
+mod cells;
+mod frames;
+mod halt;
+mod items;
+mod machine;
+mod values;
+
+pub use cells::{assign, ordinal_at, read_cells, write_cells};
+pub use frames::{cell_out, component, declaring, frame_out, moved, reference_out};
+pub use halt::Halt;
+pub use items::Items;
+pub use machine::{
+    HEAP_END, MOST_CALLS, MOST_DEPTH, Machine, STACK_END, may_call, read_cell, spend, write_cell,
+};
+pub use values::{
+    compare_ordinals, defined, fault_kind, is_true, ordinal_function, passed, sign, test, truth,
+};

@@ -1,0 +1,502 @@
+-- A depth that is always enough. A tree is told by its rank: before a step is taken it has parts of lower rank alone.
+use Rattle.std.proofs.Common.{
+  ◌≡◌,
+  ◌⊎◌,
+  inl,
+  inr,
+  ℕ,
+  zero,
+  suc,
+  ◌+◌,
+  ◌-◌,
+  ◌*◌,
+  ◌<◌,
+  ◌≤◌,
+  ℤ,
+  Bool,
+  true,
+  false,
+  List,
+  [],
+  ◌∷◌,
+  Option,
+  Some,
+  None,
+  refl,
+  sym,
+  ap,
+  subst,
+  ◌∙◌,
+  length,
+  nat_lt,
+  is_some,
+  if◌then◌else◌,
+  slice_get,
+  unwrap_or,
+  arith,
+}
+use Rattle.std.proofs.Math.Nat.{mul-le-mul_left}
+use Rattle.std.proofs.lemmas.Bool.{ltb-false}
+use Rattle.std.proofs.lemmas.Bool.Decides.{nat_tests}
+use Rattle.std.specs.FinMap.{get, insert}
+use Rattle.cell_value.specs.declared.values.Value.{Value}
+use Rattle.cell_value.specs.declared.values.Value.TheVariants as value
+use Rattle.cell_value.specs.declared.entries.Touch.{Touch}
+use Rattle.cell_value.specs.declared.entries.Touch.TheVariants as touch
+use Rattle.cell_value.specs.declared.ways_out.WayOut.{WayOut}
+use Rattle.cell_value.specs.declared.ways_out.Kind.TheVariants as kind
+use Rattle.cell_value.specs.declared.ways_out.Which.{Which}
+use Rattle.cell_value.specs.declared.ways_out.Which.TheVariants.{Stack}
+use Rattle.program_tables.specs.declared.program.Routine.{Routine}
+use Rattle.program_tables.specs.declared.rows.Row.{Row}
+use Rattle.program_tables.specs.declared.rows.Row.TheVariants as rows
+use Rattle.program_tables.specs.declared.rows.ItemRow.{ItemRow}
+use Rattle.program_tables.specs.declared.rows.ItemRow.TheVariants as item
+use Rattle.program_tables.specs.declared.rows.AccessRow.{AccessRow}
+use Rattle.program_tables.specs.declared.rows.AccessRow.TheVariants as access
+use Rattle.program_tables.specs.declared.rows.StatementRow.{StatementRow}
+use Rattle.program_tables.specs.declared.rows.StatementRow.TheVariants as statement
+use Rattle.program_tables.specs.ProgramRows.{ProgramRows, row_at, routine_at}
+use Rattle.program_meaning.specs.State.{State, stack_end, is_in_reach, moved}
+use Rattle.program_meaning.specs.Acts.{
+  Fault,
+  OutOfSteps,
+  Limited,
+  Act,
+  Answer,
+  Done,
+  Went,
+  Stops,
+  Spend,
+  ReadCell,
+  HasCell,
+  WriteCell,
+  MayCall,
+  perform,
+  with_steps,
+  on_cell,
+  read_as,
+  below_limits,
+  limit_passed,
+  spent,
+}
+use Rattle.program_meaning.specs.Tree.{
+  Out,
+  Jump,
+  Here,
+  Part,
+  Eval,
+  Locate,
+  Pass,
+  Exec,
+  Sequence,
+  Turn,
+  Count,
+  Body,
+  Tree,
+  Ret,
+  Halt,
+  Do,
+  Sub,
+  Enter,
+  Line,
+  way_of,
+  doing,
+}
+use Rattle.program_meaning.specs.Actions.{◌>>=◌, act}
+use Rattle.program_meaning.specs.Cells.{write_if}
+use Rattle.program_meaning.specs.Accesses.{no_row, eval, locate, locate_before, of_access, access_in}
+use Rattle.program_meaning.specs.Expressions.{expression_in, of_actual}
+use Rattle.program_meaning.specs.Statements.{on_normal, begins, line_of, statement_in, of_sequence, of_turn, of_count}
+use Rattle.program_meaning.specs.Layer.{layer, of_body}
+use Rattle.program_meaning.specs.Run.{
+  End,
+  Ended,
+  Halted,
+  Result,
+  in_front,
+  ends,
+  on_end,
+  joined,
+  on_done,
+  Outcome,
+  recorded,
+  after_all,
+  in_frame,
+  call_of,
+  plain,
+  run_of,
+  whole,
+  with_frame,
+  without_frame,
+  opened,
+  closed,
+  Call as Record,
+}
+
+-- ---- steps
+
+-- the steps that an act takes where it is done
+abbrev cost : Act → ℕ
+cost (Spend steps) = steps
+cost (ReadCell addr) = 1
+cost (HasCell addr) = 1
+cost (WriteCell addr value) = 1
+cost (MayCall cells) = 0
+
+-- where an act is done this many steps fewer are left, and else no more than there were
+abbrev Acted : {A : Type 0} → ℕ → State → Done A → Type 0
+Acted n σ (Went x w τ) = τ.steps + n ≤ σ.steps
+Acted n σ (Stops why τ) = τ.steps ≤ σ.steps
+
+stepped : {A : Type 0} (n : ℕ) (σ : State) (go : State → Done A) → ((τ : State) → τ.steps + n ≤ σ.steps → Acted n σ (go τ))
+    → Acted n σ (with_steps n σ go)
+stepped {A} n σ go h = by (nat_lt σ.steps n) refl
+  where
+    by : (b : Bool) → nat_lt σ.steps n ≡ b → Acted n σ (if b then Stops OutOfSteps (spent σ) else go (record σ { steps = σ.steps - n }))
+    by true e = omega arith
+    by false e = h (record σ { steps = σ.steps - n }) (let k = ltb-false σ.steps n e in omega arith)
+
+celled : {A : Type 0} (addr : ℕ) (σ : State) (go : State → Done A) → ((τ : State) → τ.steps + 1 ≤ σ.steps → Acted 1 σ (go τ)) → Acted 1 σ (on_cell addr σ go)
+celled {A} addr σ go h = by (is_in_reach σ addr)
+  where
+    by : (b : Bool) → Acted 1 σ (if b then with_steps 1 σ go else Stops (Fault kind.Undefined) σ)
+    by true = stepped 1 σ go h
+    by false = omega arith
+
+found : (addr : ℕ) (o : Option Value) (σ τ : State) → τ.steps + 1 ≤ σ.steps → Acted 1 σ (read_as addr o τ)
+found addr None σ τ h = h
+found addr (Some v) σ τ h = h
+
+limited : (σ : State) (o : Option Which) → Acted 0 σ (below_limits σ o)
+limited σ None = omega arith
+limited σ (Some which) = omega arith
+
+acted : (act : Act) (σ : State) → Acted (cost act) σ (perform act σ)
+acted (Spend steps) σ = stepped steps σ (λ τ. Went tt [] τ) (λ τ h. h)
+acted (ReadCell addr) σ = celled addr σ (λ τ. read_as addr (get σ.cells addr) τ) (λ τ h. found addr (get σ.cells addr) σ τ h)
+acted (HasCell addr) σ = celled addr σ (λ τ. Went (is_some (get σ.cells addr)) (touch.Has addr (is_some (get σ.cells addr)) ∷ []) τ) (λ τ h. h)
+acted (WriteCell addr value) σ = celled addr σ (λ τ. Went tt (touch.Write addr value ∷ []) (record τ { cells = insert τ.cells addr value })) (λ τ h. h)
+acted (MayCall cells) σ = limited σ (limit_passed σ cells)
+
+-- ---- ranks
+
+-- the rank of a part, where the tables have R rows
+abbrev rank : ℕ → Part → ℕ
+rank R (Exec row here) = 0
+rank R (Body routine base) = 0
+rank R (Count row i last here) = 0
+rank R (Sequence at here) = 1
+-- the lesser of R and the row
+rank R (Locate row here) = R - (R - row)
+rank R (Eval row here) = R + 1
+rank R (Pass at passed here) = R + 2
+rank R (Turn row here) = R + 2
+
+-- whether a part takes a step before it ends, if nothing stops the run
+abbrev pays : Part → Bool
+pays (Eval row here) = true
+pays (Locate row here) = true
+pays (Exec row here) = true
+pays (Body routine base) = true
+pays part = false
+
+-- A tree of a rank; and where it is said to pay, it does not end without a step.
+abbrev Ranked : (R r : ℕ) → (pays : Bool) → Tree → Type 0
+Ranked R r b (Ret out) = b ≡ false
+Ranked R r b (Halt way) = Unit {0}
+Ranked R r b (Do line act next) = (1 ≤ cost act) ⊎ ((x : Answer act) → Ranked R r b (next x))
+Ranked R r b (Sub part next) = (rank R part < r) × ((pays part ≡ true) ⊎ ((out : Out) → Ranked R r b (next out)))
+Ranked R r b (Enter f args next) = 1 < r
+Ranked R r b (Line line next) = Ranked R r b next
+
+below_all : (R : ℕ) (part : Part) → rank R part < R + 3
+below_all R (Exec row here) = omega arith
+below_all R (Body routine base) = omega arith
+below_all R (Count row i last here) = omega arith
+below_all R (Sequence at here) = omega arith
+below_all R (Locate row here) = omega arith
+below_all R (Eval row here) = omega arith
+below_all R (Pass at passed here) = omega arith
+below_all R (Turn row here) = omega arith
+
+-- each tree has this rank
+any_tree : (R : ℕ) (t : Tree) → Ranked R (R + 3) false t
+any_tree R (Ret out) = refl
+any_tree R (Halt way) = tt
+any_tree R (Do line act next) = inr (λ x. any_tree R (next x))
+any_tree R (Sub part next) = (below_all R part, inr (λ out. any_tree R (next out)))
+any_tree R (Enter f args next) = omega arith
+any_tree R (Line line next) = any_tree R next
+
+-- ---- each part has its rank
+
+below_length : (rs : List Row) (n : ℕ) → (unwrap_or (slice_get rs n) rows.Nothing ≡ rows.Nothing) ⊎ (n < length rs)
+below_length [] n = inl refl
+below_length (r ∷ rs) zero = inr (omega arith)
+below_length (r ∷ rs) (suc n) = elim (below_length rs n) [ inl e ↦ inl e | inr h ↦ inr (omega (arith, h)) ]
+
+module _ (p : ProgramRows) where
+  abbrev R : ℕ
+  R = length p.rows
+
+  abbrev Fits : Part → Tree → Type 0
+  Fits part t = Ranked R (rank R part) (pays part) t
+
+  one : 1 ≤ 1
+  one = omega arith
+
+  locates : (row access : ℕ) (here : Here) (go : ℕ → Tree) → row < R → Fits (Locate row here) (locate_before row access here go)
+  locates row access here go h = by (nat_lt access row) refl
+    where
+      by : (b : Bool) → nat_lt access row ≡ b → Fits (Locate row here) (if b then locate access here go else no_row)
+      by true e = (grind (arith, nat_tests), inl refl)
+      by false e = tt
+
+  access_fits : (row : ℕ) (here : Here) (a : AccessRow) → row < R → Fits (Locate row here) (of_access p row here a)
+  access_fits row here (access.Variable place levels of') h = inl one
+  access_fits row here (access.Reference place levels of') h = inl one
+  access_fits row here (access.Within record' field of') h = tt
+  access_fits row here (access.Index inner index array of') h = locates row inner here _ h
+  access_fits row here (access.Field inner field of') h = locates row inner here _ h
+  access_fits row here (access.Dereference inner of') h = tt
+
+  there : (row : ℕ) (here : Here) (r : Row) → row < R → Fits (Locate row here) (access_in p row here r)
+  there row here (rows.Access a) h = access_fits row here a h
+  there row here rows.Nothing h = tt
+  there row here (rows.Type t) h = tt
+  there row here (rows.Name n) h = tt
+  there row here (rows.Part q) h = tt
+  there row here (rows.Statement s) h = tt
+  there row here (rows.Expression e) h = tt
+  there row here (rows.Item i) h = tt
+
+  located : (row : ℕ) (here : Here) → Fits (Locate row here) (access_in p row here (row_at p row))
+  located row here = elim (below_length p.rows row) [
+    | inl e ↦ subst (λ r. Fits (Locate row here) (access_in p row here r)) (sym e) tt
+    | inr h ↦ there row here (row_at p row) h
+  ]
+
+  evaluated : (row : ℕ) (here : Here) (r : Row) → Fits (Eval row here) (expression_in p row here r)
+  evaluated row here (rows.Expression e) = inl one
+  evaluated row here (rows.Access a) = (omega arith, inl refl)
+  evaluated row here rows.Nothing = tt
+  evaluated row here (rows.Type t) = tt
+  evaluated row here (rows.Name n) = tt
+  evaluated row here (rows.Part q) = tt
+  evaluated row here (rows.Statement s) = tt
+  evaluated row here (rows.Item i) = tt
+
+  passed_item : (at : ℕ) (vs : List Value) (here : Here) (i : ItemRow) → Fits (Pass at vs here) (of_actual p vs here (rows.Item i))
+  passed_item at vs here (item.Value e of' next) = (omega arith, inl refl)
+  passed_item at vs here (item.Place a next) = (omega arith, inl refl)
+  passed_item at vs here i = refl
+
+  passed_row : (at : ℕ) (vs : List Value) (here : Here) (r : Row) → Fits (Pass at vs here) (of_actual p vs here r)
+  passed_row at vs here (rows.Item i) = passed_item at vs here i
+  passed_row at vs here r = refl
+
+  begun : (row : ℕ) (here : Here) (s : StatementRow) (o : Option ℕ) → Fits (Exec row here) (begins p row here s o)
+  begun row here s (Some line) = inl one
+  begun row here s None = tt
+
+  executed : (row : ℕ) (here : Here) (r : Row) → Fits (Exec row here) (statement_in p row here r)
+  executed row here (rows.Statement statement.Empty) = inl one
+  executed row here (rows.Statement (statement.Compound statements)) = inl one
+  executed row here (rows.Statement s) = begun row here s (line_of s)
+  executed row here r = tt
+
+  in_sequence : (at : ℕ) (here : Here) (r : Row) → Fits (Sequence at here) (of_sequence here r)
+  in_sequence at here (rows.Item (item.Element s next)) = (omega arith, inl refl)
+  in_sequence at here r = refl
+
+  repeated : (row condition : ℕ) (here : Here) (go : Value → Tree) (out : Out) → Ranked R (R + 2) false (on_normal (eval condition here go) out)
+  repeated row condition here go (Jump label base) = refl
+  repeated row condition here go out = (omega arith, inl refl)
+
+  turned : (row : ℕ) (here : Here) (r : Row) → Fits (Turn row here) (of_turn row here r)
+  turned row here (rows.Statement (statement.While line condition body)) = (omega arith, inl refl)
+  turned row here (rows.Statement (statement.Repeat line statements condition)) = (omega arith, inr (repeated row condition here _))
+  turned row here r = tt
+
+  written : (b : Bool) (line addr : ℕ) (v : Value) (t : Tree) → Ranked R 0 false (doing line (if b then act (WriteCell addr v) else
+      (act (HasCell addr) >>= λ there. write_if there addr v)) (λ _. t))
+  written true line addr v t = inl one
+  written false line addr v t = inl one
+
+  counted : (row : ℕ) (i last : ℤ) (here : Here) (r : Row) → Fits (Count row i last here) (of_count row here i last r)
+  counted row i last here (rows.Statement (statement.Turns direction last' place of' body)) =
+      written (nat_lt (moved here.base place) stack_end) here.line (moved here.base place) (value.Number i) _
+  counted row i last here r = tt
+
+  bodied : (routine base : ℕ) (o : Option Routine) → Fits (Body routine base) (of_body base o)
+  bodied routine base None = tt
+  bodied routine base (Some r) = inl one
+
+  part_fits : (part : Part) → Fits part (layer p part)
+  part_fits (Eval row here) = evaluated row here (row_at p row)
+  part_fits (Locate row here) = located row here
+  part_fits (Pass at passed here) = passed_row at passed here (row_at p at)
+  part_fits (Exec row here) = executed row here (row_at p row)
+  part_fits (Sequence at here) = in_sequence at here (row_at p at)
+  part_fits (Turn row here) = turned row here (row_at p row)
+  part_fits (Count row i last here) = counted row i last here (row_at p row)
+  part_fits (Body routine base) = bodied routine base (routine_at p routine)
+
+-- ---- each tree ends
+
+-- what was left of the steps falls, and where something pays it falls by one at least
+abbrev Fell : Bool → End → (after before : ℕ) → Type 0
+Fell true (Ended out) after before = after + 1 ≤ before
+Fell b e after before = after ≤ before
+
+fell_no_more : (b : Bool) (e : End) (a s : ℕ) → Fell b e a s → a ≤ s
+fell_no_more true (Ended out) a s h = omega (arith, h)
+fell_no_more false (Ended out) a s h = h
+fell_no_more true (Halted way) a s h = h
+fell_no_more false (Halted way) a s h = h
+
+fell_less : (b : Bool) (e : End) (a r s : ℕ) → r ≤ s → Fell b e a r → Fell b e a s
+fell_less true (Ended out) a r s k h = omega (arith, h, k)
+fell_less false (Ended out) a r s k h = omega (arith, h, k)
+fell_less true (Halted way) a r s k h = omega (arith, h, k)
+fell_less false (Halted way) a r s k h = omega (arith, h, k)
+
+fell_paid : (b : Bool) (e : End) (a r s : ℕ) → r + 1 ≤ s → a ≤ r → Fell b e a s
+fell_paid true (Ended out) a r s k h = omega (arith, h, k)
+fell_paid false (Ended out) a r s k h = omega (arith, h, k)
+fell_paid true (Halted way) a r s k h = omega (arith, h, k)
+fell_paid false (Halted way) a r s k h = omega (arith, h, k)
+
+fell_halted : (b : Bool) (way : WayOut) (a s : ℕ) → a ≤ s → Fell b (Halted way) a s
+fell_halted true way a s h = h
+fell_halted false way a s h = h
+
+-- there is a result, and the steps fell
+pub record Ends (b : Bool) (s : ℕ) (x : Outcome) : Type 0 where
+  pub result : Result State Record
+  pub is : x ≡ Some result
+  pub falls : Fell b result.end result.after.steps s
+
+halts : (b : Bool) (s : ℕ) (way : WayOut) (σ : State) → σ.steps ≤ s → Ends b s (ends (Halted way) σ)
+halts b s way σ h = record { result = _; is = refl; falls = fell_halted b way σ.steps s h }
+
+ends_less : (b : Bool) (s r : ℕ) (x : Outcome) → r ≤ s → Ends b r x → Ends b s x
+ends_less b s r x k h = record { result = h.result; is = h.is; falls = fell_less b h.result.end h.result.after.steps r s k h.falls }
+
+ends_paid : (b : Bool) (s r : ℕ) (x : Outcome) → r + 1 ≤ s → Ends false r x → Ends b s x
+ends_paid b s r x k h = record {
+  result = h.result;
+  is = h.is;
+  falls = fell_paid b h.result.end h.result.after.steps r s k (fell_no_more false h.result.end h.result.after.steps r h.falls);
+}
+
+ends_front : (b : Bool) (s : ℕ) (w : List Touch) (es : List Record) (x : Outcome) → Ends b s x → Ends b s (in_front w es x)
+ends_front b s w es x h = record { result = _; is = ap (in_front w es) h.is; falls = h.falls }
+
+ends_joined : (b c : Bool) (s : ℕ) (x : Outcome) (g : Out → State → Outcome) → Ends b s x
+    → ((out : Out) (τ : State) → Fell b (Ended out) τ.steps s → Ends c s (g out τ)) → Ends c s (joined x g)
+ends_joined b c s x g h k = go h.result.end refl
+  where
+    go : (e : End) → h.result.end ≡ e → Ends c s (joined x g)
+    go (Ended out) q =
+        let y = ends_front c s h.result.log h.result.events _ (k out h.result.after (subst (λ e. Fell b e h.result.after.steps s) q h.falls)) in
+        record { result = y.result; is = ap (λ z. joined z g) h.is ∙ ap (λ d. on_end d h.result g) q ∙ y.is; falls = y.falls }
+    go (Halted way) q = record {
+      result = h.result;
+      is = ap (λ z. joined z g) h.is ∙ ap (λ d. on_end d h.result g) q;
+      falls = subst (λ e. Fell c e h.result.after.steps s) (sym q) (fell_halted c way h.result.after.steps s
+          (fell_no_more b h.result.end h.result.after.steps s h.falls));
+    }
+
+ends_after : (b : Bool) (s : ℕ) (change : State → State) → ((τ : State) → (change τ).steps ≡ τ.steps) → (x : Outcome) → Ends b s x
+    → Ends b s (after_all change x)
+ends_after b s change keeps x h = record {
+  result = _;
+  is = ap (after_all change) h.is;
+  falls = subst (λ n. Fell b h.result.end n s) (sym (keeps h.result.after)) h.falls;
+}
+
+-- a rank, and so much for each step that is left
+abbrev need : (k r s : ℕ) → ℕ
+need k r s = r + k * s
+
+need_less : (k r a b : ℕ) → a ≤ b → need k r a ≤ need k r b
+need_less k r a b h = omega (arith, mul-le-mul_left k h)
+
+need_paid : (k r q a b : ℕ) → r ≤ k → a + 1 ≤ b → need k r a ≤ need k q b
+need_paid k r q a b h e = omega (arith, h, mul-le-mul_left k e)
+
+module _ (p : ProgramRows) where
+  abbrev K : ℕ
+  K = length p.rows + 4
+
+  abbrev Enough : ℕ → Type 0
+  Enough n = (t : Tree) (b : Bool) (r : ℕ) → Ranked (length p.rows) r b t → (σ : State) → need K r σ.steps < n → Ends b σ.steps (run_of p n t σ)
+
+  call_ends : (run : Tree → State → Outcome) (f : ℕ) (args : List Value) (σ : State)
+      → ((r : Routine) (τ : State) → τ.steps ≤ σ.steps → Ends true τ.steps (run (whole p f σ.top r) τ)) → Ends true σ.steps (call_of p run f args σ)
+  call_ends run f args σ h = rec (after_all (closed σ.depth) (in_frame p run f args (opened σ) (routine_at p f)))
+      (ends_after true σ.steps (closed σ.depth) (λ τ. refl) _ (framed_so (routine_at p f)))
+    where
+      rec : (x : Outcome) → Ends true σ.steps x → Ends true σ.steps (recorded f args σ x)
+      rec x y = record { result = _; is = ap (recorded f args σ) y.is; falls = y.falls }
+
+      by : (r : Routine) (a b : Bool) → Ends true σ.steps (if a then ends (Halted (way_of 0 (Limited Stack))) (opened σ)
+          else if b then ends (Halted (way_of 0 OutOfSteps)) (spent (opened σ))
+          else after_all (without_frame σ.top r.cells) (run (whole p f σ.top r) (with_frame r.cells args (opened σ))))
+      by r true b = halts true σ.steps _ (opened σ) (omega arith)
+      by r false true = halts true σ.steps _ (spent (opened σ)) (omega arith)
+      by r false false = ends_after true σ.steps (without_frame σ.top r.cells) (λ τ. refl) _
+          (ends_less true σ.steps _ _ (omega arith) (h r (with_frame r.cells args (opened σ)) (omega arith)))
+
+      framed_so : (o : Option Routine) → Ends true σ.steps (in_frame p run f args (opened σ) o)
+      framed_so None = halts true σ.steps _ (opened σ) (omega arith)
+      framed_so (Some r) = by r (nat_lt stack_end ((opened σ).top + r.cells)) (nat_lt (opened σ).steps r.cells)
+
+  act_ends : (n : ℕ) (b : Bool) (line : ℕ) (act : Act) (next : Answer act → Tree) (σ : State)
+      → ((x : Answer act) (τ : State) → τ.steps + cost act ≤ σ.steps → Ends b σ.steps (run_of p (suc n) (next x) τ))
+      → Ends b σ.steps (run_of p (suc n) (Do line act next) σ)
+  act_ends n b line act next σ h = go (perform act σ) (acted act σ)
+    where
+      go : (d : Done (Answer act)) → Acted (cost act) σ d → Ends b σ.steps (on_done (plain p) line σ d (λ x τ. run_of p (suc n) (next x) τ))
+      go (Went x w τ) e = ends_front b σ.steps w [] _ (h x τ e)
+      go (Stops why τ) e = halts b σ.steps _ τ e
+
+  abbrev whatever : (t : Tree) → Ranked (length p.rows) (length p.rows + 3) false t
+  whatever t = any_tree (length p.rows) t
+
+  -- a tree after a step
+  after_step : (n : ℕ) (r : ℕ) (σ τ : State) → need K r σ.steps < suc n → τ.steps + 1 ≤ σ.steps → need K (length p.rows + 3) τ.steps < suc n
+  after_step n r σ τ k e = omega (arith, k, need_paid K (length p.rows + 3) r τ.steps σ.steps (omega arith) e)
+
+  ends_more : (n : ℕ) → Enough n → Enough (suc n)
+  ends_more n h (Ret out) b r d σ k = record { result = _; is = refl; falls = subst (λ b. Fell b (Ended out) σ.steps σ.steps) (sym d) (omega arith) }
+  ends_more n h (Halt way) b r d σ k = halts b σ.steps way σ (omega arith)
+  ends_more n h (Line line next) b r d σ k = ends_front b σ.steps [] [] _ (ends_more n h next b r d σ k)
+  ends_more n h (Do line act next) b r (inl c) σ k = act_ends n b line act next σ (λ x τ e.
+      let f : τ.steps + 1 ≤ σ.steps = omega (arith, e, c) in
+      ends_paid b σ.steps τ.steps _ f (ends_more n h (next x) false (length p.rows + 3) (whatever (next x)) τ (after_step n r σ τ k f)))
+  ends_more n h (Do line act next) b r (inr f) σ k = act_ends n b line act next σ (λ x τ e.
+      let m : τ.steps ≤ σ.steps = omega (arith, e) in
+      ends_less b σ.steps τ.steps _ m (ends_more n h (next x) b r (f x) τ (omega (arith, k, need_less K r τ.steps σ.steps m))))
+  ends_more n h (Sub part next) b r (l, inl e) σ k = ends_joined true b σ.steps _ _
+      (subst (λ q. Ends q σ.steps (run_of p n (layer p part) σ)) e
+      (h (layer p part) (pays part) (rank (length p.rows) part) (part_fits p part) σ (omega (arith, k, l))))
+      (λ out τ q. ends_paid b σ.steps τ.steps _ q (ends_more n h (next out) false (length p.rows + 3) (whatever (next out)) τ (after_step n r σ τ k q)))
+  ends_more n h (Sub part next) b r (l, inr f) σ k = ends_joined (pays part) b σ.steps _ _
+      (h (layer p part) (pays part) (rank (length p.rows) part) (part_fits p part) σ (omega (arith, k, l)))
+      (λ out τ q. let m = fell_no_more (pays part) (Ended out) τ.steps σ.steps q in
+      ends_less b σ.steps τ.steps _ m (ends_more n h (next out) b r (f out) τ (omega (arith, k, need_less K r τ.steps σ.steps m))))
+  ends_more n h (Enter f args next) b r d σ k = ends_joined true b σ.steps _ _
+      (call_ends (run_of p n) f args σ (λ q τ m. h (whole p f σ.top q) true 1 (omega arith, inl refl) τ
+      (omega (arith, k, d, need_less K 1 τ.steps σ.steps m))))
+      (λ out τ q. ends_paid b σ.steps τ.steps _ q (ends_more n h (next out) false (length p.rows + 3) (whatever (next out)) τ (after_step n r σ τ k q)))
+
+  enough : (n : ℕ) → Enough n
+  enough zero = λ t b r d σ k. absurd (omega (arith, k))
+  enough (suc n) = ends_more n (enough n)
+
+  -- every tree has a run: this depth is enough
+  pub total : (t : Tree) (σ : State) (n : ℕ) → (length p.rows + 4) * (σ.steps + 1) ≤ n → Ends false σ.steps (run_of p n t σ)
+  total t σ n k = enough n t false (length p.rows + 3) (any_tree (length p.rows) t) σ (omega (arith, k))

@@ -1,0 +1,3 @@
+pub mod EachTreeEnds
+pub mod MoreDepthSameResult
+pub mod RunAtAnyDepth

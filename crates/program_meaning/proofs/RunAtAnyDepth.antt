@@ -1,0 +1,17 @@
+-- The run of a program, at any depth that is enough.
+use Rattle.std.proofs.Common.{◌≡◌, ℕ, ◌+◌, List, Option, Some, IsSome, refl, sym, subst, ◌∙◌, arith}
+use Rattle.program_tables.specs.ProgramRows.{ProgramRows}
+use Rattle.program_meaning.specs.Run.{run_of, run, block, start, depth_enough}
+use Rattle.program_meaning.proofs.MoreDepthSameResult.{more_fuel}
+use Rattle.program_meaning.proofs.EachTreeEnds.{total}
+
+some_is : {A : Type 0} (x : Option A) (r : A) → x ≡ Some r → IsSome x
+some_is x r e = subst (λ y. IsSome y) (sym e) refl
+
+pub runs : (p : ProgramRows) (input : List ℕ) (budget : ℕ) → IsSome (run p input budget)
+runs p input budget = let h = total p block (start input budget) (depth_enough p budget) (omega arith) in some_is _ h.result h.is
+
+pub deeper : (p : ProgramRows) (input : List ℕ) (budget more : ℕ) → run_of p (depth_enough p budget + more) block (start input budget) ≡ run p input budget
+deeper p input budget more =
+    let h = total p block (start input budget) (depth_enough p budget) (omega arith) in
+    more_fuel p (depth_enough p budget) more block (start input budget) h.result h.is ∙ sym h.is

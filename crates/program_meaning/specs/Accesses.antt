@@ -1,0 +1,141 @@
+-- What each access does (6.5), and the parts of constructs that evaluate and locate.
+use Rattle.std.specs.Prelude.{ℕ, ℤ, List, [], Option, Some, nat_lt, if◌then◌else◌}
+use Rattle.cell_value.specs.declared.values.Value.{Value}
+use Rattle.cell_value.specs.declared.ways_out.WayOut.TheVariants as way
+use Rattle.cell_value.specs.declared.ways_out.Kind.TheVariants as kind
+use Rattle.program_tables.specs.declared.rows.Row.{Row}
+use Rattle.program_tables.specs.declared.rows.Row.TheVariants as rows
+use Rattle.program_tables.specs.declared.rows.AccessRow.{AccessRow}
+use Rattle.program_tables.specs.declared.rows.AccessRow.TheVariants.{
+  Variable,
+  Reference,
+  Within,
+  Index,
+  Field,
+  Dereference,
+}
+use Rattle.program_tables.specs.declared.rows.TypeRow.{TypeRow}
+use Rattle.program_tables.specs.declared.rows.TypeRow.TheVariants.{Ordinal, Subrange, Array, Record}
+use Rattle.program_tables.specs.declared.rows.NameRow.TheVariants as named
+use Rattle.program_tables.specs.ProgramRows.{ProgramRows, row_at, type_at, size_of}
+use Rattle.program_meaning.specs.declared.components.Components.{Components}
+use Rattle.program_meaning.specs.State.{moved}
+use Rattle.program_meaning.specs.Acts.{Spend}
+use Rattle.program_meaning.specs.Tree.{
+  Out,
+  Scalar,
+  Cells,
+  Address,
+  Jump,
+  Here,
+  Eval,
+  Locate,
+  Tree,
+  Ret,
+  Halt,
+  Do,
+  Sub,
+  doing,
+}
+use Rattle.program_meaning.specs.Cells.{reads, ordinal_at, cell_out, reference_out, component}
+
+-- The tables name a row that they do not have, or that is of another kind. Such tables are no program of a source, so
+-- that the fault has no line.
+abbrev pub no_row : Tree
+no_row = Halt (way.Faulted kind.Undefined 0)
+
+-- a step is taken first
+abbrev pub spend : Here → Tree → Tree
+spend here next = Do here.line (Spend 1) (λ _. next)
+
+-- Goes on with a value, the cells of one, or an address; a jump goes on outward.
+abbrev pub on_scalar : (Value → Tree) → Out → Tree
+on_scalar go (Scalar v) = go v
+on_scalar go (Jump label base) = Ret (Jump label base)
+on_scalar go out = no_row
+
+abbrev pub on_cells : (List Value → Tree) → Out → Tree
+on_cells go (Cells vs) = go vs
+on_cells go (Jump label base) = Ret (Jump label base)
+on_cells go out = no_row
+
+abbrev pub on_address : (ℕ → Tree) → Out → Tree
+on_address go (Address addr) = go addr
+on_address go (Jump label base) = Ret (Jump label base)
+on_address go out = no_row
+
+abbrev pub eval : (row : ℕ) → Here → (Value → Tree) → Tree
+eval row here go = Sub (Eval row here) (on_scalar go)
+
+abbrev pub locate : (row : ℕ) → Here → (ℕ → Tree) → Tree
+locate row here go = Sub (Locate row here) (on_address go)
+
+abbrev pub scalar : Value → Tree
+scalar v = Ret (Scalar v)
+
+abbrev pub address : ℕ → Tree
+address addr = Ret (Address addr)
+
+-- The access to which a selector is applied stands before the selector.
+abbrev pub locate_before : (row access : ℕ) → Here → (ℕ → Tree) → Tree
+locate_before row access here go = if nat_lt access row then locate access here go else no_row
+
+-- goes on with the bounds of an ordinal type
+abbrev pub with_bounds : Option TypeRow → (ℤ → ℤ → Tree) → Tree
+with_bounds (Some (Ordinal least greatest)) go = go least greatest
+with_bounds (Some (Subrange host least greatest)) go = go least greatest
+with_bounds t go = no_row
+
+-- goes on with what an array type says of its components
+abbrev pub with_components : ProgramRows → Option TypeRow → (Components → Tree) → Tree
+with_components p (Some (Array packed index component cells)) go = with_bounds (type_at p index) (λ least greatest.
+    go (record { least = least; greatest = greatest; size = size_of p component }))
+with_components p t go = no_row
+
+-- a field of the fixed part of a record variable at an address (6.5.3.3)
+abbrev pub field_of : (addr offset : ℕ) → Option TypeRow → Tree
+field_of addr offset (Some (Record packed region cells variants)) = address (moved addr offset)
+field_of addr offset t = no_row
+
+abbrev pub field_in : ProgramRows → (addr : ℕ) → Row → Tree
+field_in p addr (rows.Name (named.Field of' offset holder)) = field_of addr offset (type_at p holder)
+field_in p addr r = no_row
+
+-- An access, in order of its text: its name and each index and field take a step. An index is evaluated after the
+-- variable before it is located.
+abbrev pub of_access : ProgramRows → (row : ℕ) → Here → AccessRow → Tree
+of_access p row here (Variable place levels of') =
+    spend here (doing here.line (cell_out levels here.base place) address)
+of_access p row here (Reference place levels of') =
+    spend here (doing here.line (reference_out levels here.base place) address)
+of_access p row here (Index access index array of') = locate_before row access here (λ addr. spend here
+    (eval index here (λ v. with_components p (type_at p array) (λ a. doing here.line (component a addr v) address))))
+of_access p row here (Field access field of') = locate_before row access here (λ addr. spend here
+    (field_in p addr (row_at p field)))
+of_access p row here (Within record' field of') = no_row
+of_access p row here (Dereference access of') = no_row
+
+abbrev pub access_in : ProgramRows → (row : ℕ) → Here → Row → Tree
+access_in p row here (rows.Access a) = of_access p row here a
+access_in p row here r = no_row
+
+-- the type of what is accessed
+abbrev pub type_accessed : AccessRow → ℕ
+type_accessed (Variable place levels of') = of'
+type_accessed (Reference place levels of') = of'
+type_accessed (Within record' field of') = of'
+type_accessed (Index access index array of') = of'
+type_accessed (Field access field of') = of'
+type_accessed (Dereference access of') = of'
+
+-- the values of so many cells from an address on, each read in order, also those that are undefined
+abbrev pub cells_at : (line addr cells : ℕ) → Tree
+cells_at line addr cells = doing line (reads [] addr cells) (λ vs. Ret (Cells vs))
+
+-- the value of an ordinal variable (6.5.1), or the values of the cells of an array or a record
+abbrev pub value_at : (line addr : ℕ) → Option TypeRow → Tree
+value_at line addr (Some (Ordinal least greatest)) = doing line (ordinal_at least greatest addr) scalar
+value_at line addr (Some (Subrange host least greatest)) = doing line (ordinal_at least greatest addr) scalar
+value_at line addr (Some (Array packed index component cells)) = cells_at line addr cells
+value_at line addr (Some (Record packed region cells variants)) = cells_at line addr cells
+value_at line addr t = no_row

@@ -1,0 +1,95 @@
+-- The acts by which a construct meets the state. An act takes as many steps as it makes entries of the log.
+use Rattle.std.specs.Prelude.{
+  ℕ,
+  ◌+◌,
+  ◌-◌,
+  Bool,
+  false,
+  List,
+  [],
+  ◌∷◌,
+  Option,
+  Some,
+  None,
+  is_some,
+  nat_lt,
+  if◌then◌else◌,
+}
+use Rattle.std.specs.FinMap.{get, insert}
+use Rattle.cell_value.specs.declared.values.Value.{Value}
+use Rattle.cell_value.specs.declared.entries.Touch.{Touch}
+use Rattle.cell_value.specs.declared.entries.Touch.TheVariants as touch
+use Rattle.cell_value.specs.declared.ways_out.Kind.{Kind}
+use Rattle.cell_value.specs.declared.ways_out.Kind.TheVariants as kind
+use Rattle.cell_value.specs.declared.ways_out.Which.{Which}
+use Rattle.cell_value.specs.declared.ways_out.Which.TheVariants.{Calls, Depth, Stack}
+use Rattle.program_meaning.specs.State.{State, stack_end, most_calls, most_depth, is_in_reach}
+
+-- why an act or an action is not done, and the run stops for good
+pub data Trouble : Type 0 where
+  Fault : (kind : Kind) → Trouble
+  OutOfSteps : Trouble
+  Limited : (which : Which) → Trouble
+
+pub data Act : Type 0 where
+  Spend : (steps : ℕ) → Act
+  ReadCell : (addr : ℕ) → Act
+  -- asks whether a cell is there
+  HasCell : (addr : ℕ) → Act
+  WriteCell : (addr : ℕ) (value : Value) → Act
+  -- asks leave for one call more, with a frame of this many cells
+  MayCall : (cells : ℕ) → Act
+
+-- What an act answers. A cell of the heap that is to be read may not be there.
+abbrev pub Answer : Act → Type 0
+Answer (Spend steps) = Unit {0}
+Answer (ReadCell addr) = Option Value
+Answer (HasCell addr) = Bool
+Answer (WriteCell addr value) = Unit {0}
+Answer (MayCall cells) = Unit {0}
+
+-- An act was done, with its answer, what it shows in the log and the state after it; or it was not done, and the run
+-- stops.
+pub data Done (A : Type 0) : Type 0 where
+  Went : (answer : A) (log : List Touch) (after : State) → Done A
+  Stops : (why : Trouble) (after : State) → Done A
+
+-- no steps are left
+abbrev pub spent : State → State
+spent σ = record σ { steps = 0 }
+
+-- An act that takes so many steps. Where fewer are left it is not done, and none are left then.
+abbrev pub with_steps : {A : Type 0} → ℕ → State → (State → Done A) → Done A
+with_steps n σ go = if nat_lt σ.steps n then Stops OutOfSteps (spent σ) else go (record σ { steps = σ.steps - n })
+
+-- An act of one step on a cell. At an address that is not in reach it is not done, and takes no step.
+abbrev pub on_cell : {A : Type 0} → ℕ → State → (State → Done A) → Done A
+on_cell addr σ go = if is_in_reach σ addr then with_steps 1 σ go else Stops (Fault kind.Undefined) σ
+
+abbrev pub read_as : ℕ → Option Value → State → Done (Option Value)
+read_as addr (Some v) σ = Went (Some v) (touch.Read addr v ∷ []) σ
+read_as addr None σ = Went None (touch.Has addr false ∷ []) σ
+
+-- The first limit that one call more, with a frame of this many cells, would pass. The call would stand at the depth
+-- that is the number of open calls.
+abbrev pub limit_passed : State → ℕ → Option Which
+limit_passed σ cells =
+    if nat_lt most_calls (σ.calls + 1) then Some Calls
+    else if nat_lt most_depth σ.depth then Some Depth
+    else if nat_lt stack_end (σ.top + cells) then Some Stack
+    else None
+
+-- a limit that would be passed stops the run, and no step is taken for that
+abbrev pub below_limits : State → Option Which → Done (Unit {0})
+below_limits σ None = Went tt [] σ
+below_limits σ (Some which) = Stops (Limited which) σ
+
+-- what an act does
+abbrev pub perform : (act : Act) → State → Done (Answer act)
+perform (Spend steps) σ = with_steps steps σ (λ τ. Went tt [] τ)
+perform (ReadCell addr) σ = on_cell addr σ (λ τ. read_as addr (get σ.cells addr) τ)
+perform (HasCell addr) σ = on_cell addr σ (λ τ.
+    Went (is_some (get σ.cells addr)) (touch.Has addr (is_some (get σ.cells addr)) ∷ []) τ)
+perform (WriteCell addr value) σ = on_cell addr σ (λ τ.
+    Went tt (touch.Write addr value ∷ []) (record τ { cells = insert τ.cells addr value }))
+perform (MayCall cells) σ = below_limits σ (limit_passed σ cells)

@@ -1,0 +1,96 @@
+-- Actions on cells and frames.
+use Rattle.std.specs.Prelude.{ℕ, zero, suc, ◌*◌, ℤ, ◌-ℤ◌, List, [], ◌∷◌, ◌++◌, Bool, true, false, Option, Some, None}
+use Rattle.std.specs.Prelude.{min, nat_lt, int_le, unsigned_abs, ◌&&◌, if◌then◌else◌}
+use Rattle.cell_value.specs.declared.values.Value.{Value}
+use Rattle.cell_value.specs.declared.values.Value.TheVariants as value
+use Rattle.cell_value.specs.declared.ways_out.Kind.TheVariants as kind
+use Rattle.program_tables.specs.declared.rows.TypeRow.{TypeRow}
+use Rattle.program_meaning.specs.declared.components.Components.{Components}
+use Rattle.program_meaning.specs.State.{stack_end, heap_end, moved}
+use Rattle.program_meaning.specs.Acts.{Fault, ReadCell, HasCell, WriteCell, MayCall}
+use Rattle.program_meaning.specs.Actions.{Action, Give, Fail, ◌>>=◌, act}
+use Rattle.program_meaning.specs.Values.{defined, tested, or_fault}
+
+-- a cell of the heap that is not there was disposed of
+abbrev pub or_disposed : Option Value → Action Value
+or_disposed (Some v) = Give v
+or_disposed None = Fail (Fault kind.Disposed)
+
+-- the value in a cell
+abbrev pub read : (addr : ℕ) → Action Value
+read addr = do
+  found ← act (ReadCell addr)
+  or_disposed found
+
+abbrev pub write_if : Bool → (addr : ℕ) → Value → Action (Unit {0})
+write_if true addr v = act (WriteCell addr v)
+write_if false addr v = Fail (Fault kind.Disposed)
+
+-- A value is put into a cell. Of a cell of the heap it is first asked whether it is there.
+abbrev pub write : (addr : ℕ) → Value → Action (Unit {0})
+write addr v = if nat_lt addr stack_end then act (WriteCell addr v) else (act (HasCell addr) >>= λ there.
+    write_if there addr v)
+
+-- the values of so many cells from an address on, after those that were read before
+abbrev pub reads : List Value → (addr cells : ℕ) → Action (List Value)
+reads vs addr zero = Give vs
+reads vs addr (suc n) = read addr >>= λ v. reads (vs ++ v ∷ []) (moved addr 1) n
+
+-- values are put into the cells from an address on
+abbrev pub writes : (addr : ℕ) → List Value → Action (Unit {0})
+writes addr [] = Give tt
+writes addr (v ∷ vs) = write addr v >>= λ _. writes (moved addr 1) vs
+
+-- the value of a variable of an ordinal type with these bounds
+abbrev pub ordinal_at : (least greatest : ℤ) → (addr : ℕ) → Action Value
+ordinal_at least greatest addr = read addr >>= defined least greatest
+
+-- a variable of a type of one cell gets a value
+abbrev pub assign : Option TypeRow → (addr : ℕ) → Value → Action (Unit {0})
+assign t addr v = or_fault (tested t v) >>= write addr
+
+-- the base of the frame that a link names
+abbrev pub frame_of_link : Value → Action ℕ
+frame_of_link (value.Frame base) = Give base
+frame_of_link _ = Fail (Fault kind.Undefined)
+
+-- The base of the frame in which a frame's routine was declared. The link to it is the cell at the frame's base.
+abbrev pub linked : (base : ℕ) → Action ℕ
+linked base = read base >>= frame_of_link
+
+-- the base of the frame to which so many links lead
+abbrev pub frame_out : (levels base : ℕ) → Action ℕ
+frame_out zero base = Give base
+frame_out (suc n) base = linked base >>= frame_out n
+
+-- the cell at a place in the frame to which so many links lead
+abbrev pub cell_out : (levels base place : ℕ) → Action ℕ
+cell_out levels base place = frame_out levels base >>= λ frame. Give (moved frame place)
+
+-- the address of the variable that a variable parameter stands for
+abbrev pub variable_of : Value → Action ℕ
+variable_of (value.Place addr) = Give (min addr heap_end)
+variable_of _ = Fail (Fault kind.Undefined)
+
+-- the same, of a variable parameter whose cell is at an address
+abbrev pub referred : (addr : ℕ) → Action ℕ
+referred addr = read addr >>= variable_of
+
+-- and of the one at a place in the frame to which so many links lead
+abbrev pub reference_out : (levels base place : ℕ) → Action ℕ
+reference_out levels base place = cell_out levels base place >>= referred
+
+-- how far an ordinal stands from the least of its type
+abbrev pub position_between : (least greatest : ℤ) → Value → Action ℕ
+position_between least greatest (value.Number n) =
+    if int_le least n && int_le n greatest then Give (unsigned_abs (n -ℤ least)) else Fail (Fault kind.OutOfRange)
+position_between least greatest _ = Fail (Fault kind.Undefined)
+
+-- the component of an array variable at an address, by the value of its index (6.5.3.2)
+abbrev pub component : Components → (addr : ℕ) → Value → Action ℕ
+component array addr v = position_between array.least array.greatest v >>= λ n. Give (moved addr (n * array.size))
+
+-- What comes before a routine is entered, once its actual parameters are known: the frame in which it was declared is
+-- found by links, and then the limits are asked for one call more with so many cells (6.6.3.1, 6.8.2.3).
+abbrev pub declaring : (cells levels base : ℕ) → Action ℕ
+declaring cells levels base = frame_out levels base >>= λ frame. act (MayCall cells) >>= λ _. Give frame

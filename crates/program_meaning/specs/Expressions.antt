@@ -1,0 +1,92 @@
+-- What each expression does (6.7), with function designators and actual parameters.
+use Rattle.std.specs.Prelude.{ℕ, List, [], ◌∷◌, ◌++◌, not, Option, Some, None, Result}
+use Rattle.cell_value.specs.Arithmetic.{arith_of}
+use Rattle.cell_value.specs.declared.faults.OpFault.{OpFault}
+use Rattle.cell_value.specs.declared.values.Value.{Value}
+use Rattle.cell_value.specs.declared.values.Value.TheVariants as value
+use Rattle.program_tables.specs.declared.program.Routine.{Routine}
+use Rattle.program_tables.specs.declared.rows.Row.{Row}
+use Rattle.program_tables.specs.declared.rows.Row.TheVariants as rows
+use Rattle.program_tables.specs.declared.rows.ItemRow.TheVariants as item
+use Rattle.program_tables.specs.declared.rows.TypeRow.{TypeRow}
+use Rattle.program_tables.specs.declared.rows.ExpressionRow.{ExpressionRow}
+use Rattle.program_tables.specs.declared.rows.ExpressionRow.TheVariants.{
+  Constant,
+  Sign,
+  Not,
+  Arithmetic,
+  Logic,
+  Compare,
+  Apply,
+  Function,
+}
+use Rattle.program_tables.specs.ProgramRows.{ProgramRows, type_at, routine_at}
+use Rattle.program_meaning.specs.Tree.{Out, Scalar, Cells, Jump, Here, Eval, Pass, Tree, Ret, Sub, Enter, doing}
+use Rattle.program_meaning.specs.Values.{
+  or_fault,
+  tested,
+  truth,
+  is_true,
+  signed,
+  logic_of,
+  compared,
+  function_of,
+}
+use Rattle.program_meaning.specs.Cells.{declaring}
+use Rattle.program_meaning.specs.Accesses.{no_row, spend, on_cells, eval, locate, scalar, type_accessed, value_at}
+
+-- the result of an operation as a value, or its fault
+abbrev pub result_of : Here → Result Value OpFault → Tree
+result_of here r = doing here.line (or_fault r) scalar
+
+-- goes on with the cells of a routine's frame
+abbrev pub with_frame_size : Option Routine → (ℕ → Tree) → Tree
+with_frame_size None go = no_row
+with_frame_size (Some r) go = go r.cells
+
+-- A call of a routine that was declared so many blocks out: the actual parameters, then the links, the limits, and the
+-- routine is entered with its link and the cells of its parameters.
+abbrev pub call : ProgramRows → Here → (routine levels actuals : ℕ) → (Out → Tree) → Tree
+call p here routine levels actuals go = Sub (Pass actuals [] here) (on_cells (λ args.
+    with_frame_size (routine_at p routine) (λ cells. doing here.line (declaring cells levels here.base) (λ frame.
+    Enter routine (value.Frame frame ∷ args) go))))
+
+-- An expression, once its step is taken. Operands are evaluated from left to right, and both operands of `and` and of
+-- `or` always.
+abbrev pub of_expression : ProgramRows → Here → ExpressionRow → Tree
+of_expression p here (Constant n) = scalar (value.Number n)
+of_expression p here (Sign minus operand) = eval operand here (λ v. result_of here (signed minus v))
+of_expression p here (Not operand) = eval operand here (λ v. scalar (truth (not (is_true v))))
+of_expression p here (Arithmetic operator left right) =
+    eval left here (λ x. eval right here (λ y. result_of here (arith_of operator x y)))
+of_expression p here (Logic operator left right) =
+    eval left here (λ x. eval right here (λ y. scalar (truth (logic_of operator (is_true x) (is_true y)))))
+of_expression p here (Compare order left right) =
+    eval left here (λ x. eval right here (λ y. result_of here (compared order x y)))
+of_expression p here (Apply routine levels actuals) = call p here routine levels actuals Ret
+of_expression p here (Function f operand least greatest) =
+    eval operand here (λ v. result_of here (function_of f least greatest v))
+of_expression p here e = no_row
+
+-- An access that is used for its value takes no step beside its own.
+abbrev pub expression_in : ProgramRows → (row : ℕ) → Here → Row → Tree
+expression_in p row here (rows.Expression e) = spend here (of_expression p here e)
+expression_in p row here (rows.Access a) = locate row here (λ addr.
+    value_at here.line addr (type_at p (type_accessed a)))
+expression_in p row here r = no_row
+
+-- the cells of a value parameter of a type, from the value of its actual; the whole of an array or a record is copied
+-- as it is
+abbrev pub on_actual : Here → Option TypeRow → (List Value → Tree) → Out → Tree
+on_actual here t go (Scalar v) = doing here.line (or_fault (tested t v)) (λ w. go (w ∷ []))
+on_actual here t go (Cells vs) = go vs
+on_actual here t go (Jump label base) = Ret (Jump label base)
+on_actual here t go out = no_row
+
+-- The actual parameters from an item on, from left to right (6.6.3.2, 6.6.3.3). What is no actual ends them.
+abbrev pub of_actual : ProgramRows → List Value → Here → Row → Tree
+of_actual p passed here (rows.Item (item.Value e of' next)) = Sub (Eval e here) (on_actual here (type_at p of') (λ vs.
+    Sub (Pass next (passed ++ vs) here) Ret))
+of_actual p passed here (rows.Item (item.Place access next)) = locate access here (λ addr.
+    Sub (Pass next (passed ++ value.Place addr ∷ []) here) Ret)
+of_actual p passed here r = Ret (Cells passed)

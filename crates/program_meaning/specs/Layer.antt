@@ -1,0 +1,26 @@
+-- What a part does, by the program's tables: its own acts, and its parts by name.
+use Rattle.std.specs.Prelude.{ℕ, Option, Some, None}
+use Rattle.program_tables.specs.declared.program.Routine.{Routine}
+use Rattle.program_tables.specs.ProgramRows.{ProgramRows, row_at, routine_at}
+use Rattle.program_meaning.specs.Tree.{Part, Eval, Locate, Pass, Exec, Sequence, Turn, Count, Body, Tree, Ret, Sub}
+use Rattle.program_meaning.specs.Accesses.{no_row, spend, access_in}
+use Rattle.program_meaning.specs.Expressions.{expression_in, of_actual}
+use Rattle.program_meaning.specs.Statements.{statement_in, of_sequence, of_turn, of_count}
+
+-- the statement part of a routine, which is itself a statement and takes a step
+abbrev pub of_body : (base : ℕ) → Option Routine → Tree
+of_body base None = no_row
+of_body base (Some r) = spend (record { line = r.line; base = base }) (Sub (Sequence r.statements (record {
+  line = r.line;
+  base = base;
+})) Ret)
+
+abbrev pub layer : ProgramRows → Part → Tree
+layer p (Eval row here) = expression_in p row here (row_at p row)
+layer p (Locate row here) = access_in p row here (row_at p row)
+layer p (Pass at passed here) = of_actual p passed here (row_at p at)
+layer p (Exec row here) = statement_in p row here (row_at p row)
+layer p (Sequence at here) = of_sequence here (row_at p at)
+layer p (Turn row here) = of_turn row here (row_at p row)
+layer p (Count row i last here) = of_count row here i last (row_at p row)
+layer p (Body routine base) = of_body base (routine_at p routine)

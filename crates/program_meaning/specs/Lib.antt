@@ -1,0 +1,12 @@
+pub mod State
+pub mod Acts
+pub mod Actions
+pub mod Tree
+pub mod Values
+pub mod Cells
+pub mod Accesses
+pub mod Expressions
+pub mod Statements
+pub mod Layer
+pub mod Run
+pub mod Laws

@@ -1,0 +1,192 @@
+-- What each statement does (6.8).
+use Rattle.std.specs.Prelude.{ℕ, zero, suc, ℤ, pos, ◌+ℤ◌, ◌-ℤ◌, Bool, Option, Some, None, length}
+use Rattle.std.specs.Prelude.{nat_lt, int_le, if◌then◌else◌}
+use Rattle.std.specs.Ordering.{int_eq}
+use Rattle.cell_value.specs.declared.values.Value.{Value}
+use Rattle.cell_value.specs.declared.values.Value.TheVariants as value
+use Rattle.cell_value.specs.declared.ways_out.Kind.TheVariants as kind
+use Rattle.program_tables.specs.declared.rows.Row.{Row}
+use Rattle.program_tables.specs.declared.rows.Row.TheVariants as rows
+use Rattle.program_tables.specs.declared.rows.ItemRow.TheVariants as item
+use Rattle.program_tables.specs.declared.rows.TypeRow.{TypeRow}
+use Rattle.program_tables.specs.declared.rows.Direction.{Direction}
+use Rattle.program_tables.specs.declared.rows.Direction.TheVariants.{Up, Down}
+use Rattle.program_tables.specs.declared.rows.StatementRow.{StatementRow}
+use Rattle.program_tables.specs.declared.rows.StatementRow.TheVariants.{
+  Empty,
+  Assign,
+  Call,
+  Compound,
+  If,
+  IfElse,
+  Case,
+  Repeat,
+  While,
+  For,
+  Turns,
+}
+use Rattle.program_tables.specs.ProgramRows.{ProgramRows, row_at, type_at}
+use Rattle.program_meaning.specs.State.{moved}
+use Rattle.program_meaning.specs.Acts.{Fault}
+use Rattle.program_meaning.specs.Actions.{Action, ◌>>=◌}
+use Rattle.program_meaning.specs.Tree.{
+  Out,
+  Nothing,
+  Scalar,
+  Cells,
+  Jump,
+  Here,
+  Eval,
+  Exec,
+  Sequence,
+  Turn,
+  Count,
+  Tree,
+  Ret,
+  Halt,
+  Sub,
+  Line,
+  way_of,
+  doing,
+}
+use Rattle.program_meaning.specs.Values.{or_fault, tested, is_true}
+use Rattle.program_meaning.specs.Cells.{write, writes, assign}
+use Rattle.program_meaning.specs.Accesses.{no_row, spend, eval, locate}
+use Rattle.program_meaning.specs.Expressions.{call}
+
+-- goes on after a statement that ended normally; a jump goes on outward
+abbrev pub on_normal : Tree → Out → Tree
+on_normal next (Jump label base) = Ret (Jump label base)
+on_normal next out = next
+
+abbrev pub nothing : Tree
+nothing = Ret Nothing
+
+-- an action, after which a statement has ended
+abbrev pub finally : Here → Action (Unit {0}) → Tree
+finally here a = doing here.line a (λ _. nothing)
+
+-- Puts the value of an assignment into its target, which is located after the value is known; a value of a scalar type
+-- is tested for the target's type then (6.8.2.2).
+abbrev pub on_value : ProgramRows → Here → (target of' : ℕ) → Out → Tree
+on_value p here target of' (Scalar v) = locate target here (λ addr. finally here (assign (type_at p of') addr v))
+on_value p here target of' (Cells vs) = locate target here (λ addr. finally here (writes addr vs))
+on_value p here target of' (Jump label base) = Ret (Jump label base)
+on_value p here target of' out = no_row
+
+-- the statement that a case constant chooses, among those from a position on of which each next one stands after the
+-- one before it; `n` is how many are looked at
+abbrev pub choose_at : Row → ℕ → ℤ → (ℕ → Option ℕ) → Option ℕ
+choose_at (rows.Item (item.Choice constant chosen next)) at i go =
+    if int_eq constant i then Some chosen else if nat_lt at next then go next else None
+choose_at r at i go = None
+
+abbrev pub choice_of : ProgramRows → (n at : ℕ) → ℤ → Option ℕ
+choice_of p zero at i = None
+choice_of p (suc n) at i = choose_at (row_at p at) at i (λ next. choice_of p n next i)
+
+abbrev pub choose : Here → Option ℕ → Tree
+choose here (Some s) = Sub (Exec s here) Ret
+choose here None = Halt (way_of here.line (Fault kind.NoCase))
+
+abbrev pub chosen_by : ProgramRows → Here → (choices : ℕ) → Value → Tree
+chosen_by p here choices (value.Number i) = choose here (choice_of p (length p.rows) choices i)
+chosen_by p here choices _ = no_row
+
+-- whether a for statement has a turn with this value, where it counts to the last one (6.8.3.9)
+abbrev pub has_turn : Direction → (i last : ℤ) → Bool
+has_turn Up i last = int_le i last
+has_turn Down i last = int_le last i
+
+-- the value of the control variable in the turn after one
+abbrev pub value_after : Direction → ℤ → ℤ
+value_after Up i = i +ℤ pos 1
+value_after Down i = i -ℤ pos 1
+
+-- The control variable of a for statement that ended normally is undefined.
+abbrev pub undefine : Here → (place : ℕ) → Tree
+undefine here place = finally here (write (moved here.base place) value.Undefined)
+
+-- both bounds of a for statement that has a turn are within the control variable's type
+abbrev pub bounds_tested : Option TypeRow → (i last : ℤ) → Action Value
+bounds_tested t i last = or_fault (tested t (value.Number i)) >>= λ _. or_fault (tested t (value.Number last))
+
+-- a for statement, once its bounds are known
+abbrev pub first_turn : ProgramRows → Here → (turns : ℕ) → Row → Value → Value → Tree
+first_turn p here turns (rows.Statement (Turns direction last' place of' body)) (value.Number i) (value.Number last) =
+    if has_turn direction i last then doing here.line (bounds_tested (type_at p of') i last) (λ _.
+    Sub (Count turns i last here) Ret) else undefine here place
+first_turn p here turns r _ _ = no_row
+
+-- the bounds of a for statement, both evaluated before the first turn
+abbrev pub bounds : ProgramRows → Here → (initial turns : ℕ) → Row → Tree
+bounds p here initial turns (rows.Statement (Turns direction last place of' body)) =
+    eval initial here (λ i. eval last here (λ j. first_turn p here turns (row_at p turns) i j))
+bounds p here initial turns r = no_row
+
+-- a statement, once its step is taken and its line is told
+abbrev pub of_statement : ProgramRows → (row : ℕ) → Here → StatementRow → Tree
+of_statement p row here (Assign line target e of') = Sub (Eval e here) (on_value p here target of')
+of_statement p row here (Call line routine levels actuals) = call p here routine levels actuals (on_normal nothing)
+of_statement p row here (If line condition then') = eval condition here (λ v.
+    if is_true v then Sub (Exec then' here) Ret else nothing)
+of_statement p row here (IfElse line condition then' otherwise) = eval condition here (λ v.
+    if is_true v then Sub (Exec then' here) Ret else Sub (Exec otherwise here) Ret)
+of_statement p row here (Case line selector choices) = eval selector here (chosen_by p here choices)
+of_statement p row here (Repeat line statements condition) = Sub (Turn row here) Ret
+of_statement p row here (While line condition body) = Sub (Turn row here) Ret
+of_statement p row here (For line initial turns) = bounds p here initial turns (row_at p turns)
+of_statement p row here s = no_row
+
+-- the line of a statement that is neither compound nor empty
+abbrev pub line_of : StatementRow → Option ℕ
+line_of (Assign line target e of') = Some line
+line_of (Call line routine levels actuals) = Some line
+line_of (If line condition then') = Some line
+line_of (IfElse line condition then' otherwise) = Some line
+line_of (Case line selector choices) = Some line
+line_of (Repeat line statements condition) = Some line
+line_of (While line condition body) = Some line
+line_of (For line initial turns) = Some line
+line_of s = None
+
+-- A statement begins: it takes a step, and then its line is told.
+abbrev pub begins : ProgramRows → (row : ℕ) → Here → StatementRow → Option ℕ → Tree
+begins p row here s (Some line) = spend here (Line line (of_statement p row (record here { line = line }) s))
+begins p row here s None = no_row
+
+abbrev pub statement : ProgramRows → (row : ℕ) → Here → StatementRow → Tree
+statement p row here Empty = spend here nothing
+statement p row here (Compound statements) = spend here (Sub (Sequence statements here) Ret)
+statement p row here s = begins p row here s (line_of s)
+
+abbrev pub statement_in : ProgramRows → (row : ℕ) → Here → Row → Tree
+statement_in p row here (rows.Statement s) = statement p row here s
+statement_in p row here r = no_row
+
+-- The statements from an item on, in order (6.8.3.2). What is no statement ends them.
+abbrev pub of_sequence : Here → Row → Tree
+of_sequence here (rows.Item (item.Element s next)) =
+    Sub (Exec s here) (on_normal (Sub (Sequence next here) Ret))
+of_sequence here r = nothing
+
+-- a turn of a while or repeat statement, and those after it (6.8.3.7, 6.8.3.8)
+abbrev pub of_turn : (row : ℕ) → Here → Row → Tree
+of_turn row here (rows.Statement (While line condition body)) = eval condition here (λ v.
+    if is_true v then Sub (Exec body here) (on_normal (Sub (Turn row here) Ret)) else nothing)
+of_turn row here (rows.Statement (Repeat line statements condition)) =
+    Sub (Sequence statements here) (on_normal (eval condition here (λ v.
+    if is_true v then nothing else Sub (Turn row here) Ret)))
+of_turn row here r = no_row
+
+-- after a turn of a for statement with this value: the next one, or the end
+abbrev pub turn_after : (row : ℕ) → Here → Direction → (place : ℕ) → (i last : ℤ) → Tree
+turn_after row here direction place i last =
+    if int_eq i last then undefine here place else Sub (Count row (value_after direction i) last here) Ret
+
+-- A turn of a for statement, and those after it: the control variable gets its value, and then the body is done.
+abbrev pub of_count : (row : ℕ) → Here → (i last : ℤ) → Row → Tree
+of_count row here i last (rows.Statement (Turns direction last' place of' body)) =
+    doing here.line (write (moved here.base place) (value.Number i)) (λ _.
+    Sub (Exec body here) (on_normal (turn_after row here direction place i last)))
+of_count row here i last r = no_row

@@ -1,0 +1,80 @@
+-- What a construct does, as a tree: acts, whose answers decide how it goes on, parts, and calls.
+use Rattle.std.specs.Prelude.{ℕ, ℤ, List}
+use Rattle.cell_value.specs.declared.values.Value.{Value}
+use Rattle.cell_value.specs.declared.ways_out.WayOut.{WayOut}
+use Rattle.cell_value.specs.declared.ways_out.WayOut.TheVariants as way
+use Rattle.program_meaning.specs.Acts.{Trouble, Fault, OutOfSteps, Limited, Act, Answer}
+use Rattle.program_meaning.specs.Actions.{Action, Give, Fail, Perform}
+
+-- how a part ends, if nothing stops the run
+pub data Out : Type 0 where
+  -- a statement
+  Nothing : Out
+  -- the value of an expression of a type of one cell
+  Scalar : (value : Value) → Out
+  -- the values of the cells of an array, a record or a string, or the cells of parameters
+  Cells : (values : List Value) → Out
+  -- the variable that an access denotes, by the address of its first cell
+  Address : (address : ℕ) → Out
+  -- a goto to a label, in the frame at a base
+  Jump : (label base : ℕ) → Out
+
+-- where a construct is at work
+pub record Here : Type 0 where
+  -- the line of the first token of the innermost statement at work
+  pub line : ℕ
+  -- where the frame of the block begins
+  pub base : ℕ
+
+-- a part of a program at work, by the number of its row
+pub data Part : Type 0 where
+  -- the value of an expression
+  Eval : (row : ℕ) (here : Here) → Part
+  -- the variable that an access denotes
+  Locate : (row : ℕ) (here : Here) → Part
+  -- the actual parameters from a position of a list on, where those before it gave these cells
+  Pass : (at : ℕ) (passed : List Value) (here : Here) → Part
+  -- a statement
+  Exec : (row : ℕ) (here : Here) → Part
+  -- the statements from a position of a list on
+  Sequence : (at : ℕ) (here : Here) → Part
+  -- a further turn of a while or repeat statement
+  Turn : (row : ℕ) (here : Here) → Part
+  -- the turns of a for statement from this value of its control variable on, up or down to the last
+  Count : (row : ℕ) (value last : ℤ) (here : Here) → Part
+  -- the statement part of a routine whose frame is at a base
+  Body : (routine base : ℕ) → Part
+
+pub data Tree : Type 0 where
+  Ret : (out : Out) → Tree
+  -- the run stops, and the open calls end in this way
+  Halt : (way : WayOut) → Tree
+  -- an act of a statement on this line
+  Do : (line : ℕ) (act : Act) (next : Answer act → Tree) → Tree
+  -- a part, and how it goes on after it
+  Sub : (part : Part) (next : Out → Tree) → Tree
+  -- a call of a routine, and how it goes on after it
+  Enter : (routine : ℕ) (args : List Value) (next : Out → Tree) → Tree
+  -- a statement that is neither compound nor empty begins on this line
+  Line : (line : ℕ) (next : Tree) → Tree
+
+-- how the open calls end where a statement on this line stops the run
+abbrev pub way_of : (line : ℕ) → Trouble → WayOut
+way_of line (Fault kind) = way.Faulted kind line
+way_of line OutOfSteps = way.OutOfSteps
+way_of line (Limited which) = way.Limited which
+
+-- goes on after a tree
+abbrev pub bind : Tree → (Out → Tree) → Tree
+bind (Ret out) f = f out
+bind (Halt way) f = Halt way
+bind (Do line act next) f = Do line act (λ x. bind (next x) f)
+bind (Sub part next) f = Sub part (λ x. bind (next x) f)
+bind (Enter routine args next) f = Enter routine args (λ x. bind (next x) f)
+bind (Line line next) f = Line line (bind next f)
+
+-- goes on after an action of a statement on this line
+abbrev pub doing : {A : Type 0} → (line : ℕ) → Action A → (A → Tree) → Tree
+doing line (Give x) k = k x
+doing line (Fail why) k = Halt (way_of line why)
+doing line (Perform act next) k = Do line act (λ x. doing line (next x) k)
