@@ -113,6 +113,19 @@ ways_to_end depth {routines} {wanted} {from} within last =
     sum_stays (way_up depth routines wanted) from (length routines) within
     (λ call at below. other_way depth routines wanted call (λ e. last.none.0 refl call at (record { inside = below; same = e })))
 
+-- the ways up of more calls are no fewer
+pub ways_rise : (depth routines : List ℕ) (wanted from to : ℕ) → from ≤ to → ways_up depth routines wanted from ≤ ways_up depth routines wanted to
+unfolding ways_up
+ways_rise depth routines wanted from zero order = let e : from ≡ 0 = omega arith in rw e (omega arith)
+ways_rise depth routines wanted from (suc to) order = elim (cases_eq from (suc to)) [
+  | inl e ↦ rw e (omega arith)
+  | inr differs ↦
+      let apart : from ≢ suc to = differs in
+      let f = way_up depth routines wanted in
+      let before : sum_by f (numbers_below from) ≤ sum_by f (numbers_below to) = ways_rise depth routines wanted from to (omega arith) in
+      omega (arith, before, sum_more f to)
+]
+
 -- calls with the same columns, and these marks
 pub with_these : (one other : Weighed) {marks : List Mark} → one.columns ≡ other.columns → one.marks ≡ marks → one ≡ with_marks other marks
 with_these one other columns marks = λ i. record { columns = columns i; marks = marks i }

@@ -1,6 +1,6 @@
 -- What an entry changes, and what its change costs.
-use Rattle.std.specs.Prelude.{◌≡◌, ◌≢◌, ℕ, ◌+◌, ◌*◌, ◌<◌, ◌==◌, if◌then◌else◌, List, Option, Some, None, length, sum_by}
-use Rattle.std.specs.Prelude.{slice_index, slice_set}
+use Rattle.std.specs.Prelude.{◌≡◌, ◌≢◌, ℕ, Bool, ◌+◌, ◌*◌, ◌<◌, ◌==◌, nat_le, if◌then◌else◌, List, Option, Some, None}
+use Rattle.std.specs.Prelude.{length, sum_by, slice_index, slice_set}
 use Rattle.answer_book.specs.declared.entries.Entry.{Entry}
 use Rattle.answer_book.specs.declared.entries.What.{What}
 use Rattle.answer_book.specs.declared.entries.What.TheVariants.{Judged, Trusted}
@@ -38,11 +38,17 @@ way_up depth routine wanted call = if slice_index routine call == wanted then sl
 unfoldable pub ways_up : List ℕ → List ℕ → ℕ → ℕ → ℕ
 ways_up depth routine wanted calls = sum_by (way_up depth routine wanted) (numbers_below calls)
 
--- the most steps that a change by such an entry costs
-abbrev pub most_steps : List ℕ → What → ℕ
-most_steps depth (Judged call judgement) = 3 * (slice_index depth call + 1)
-most_steps depth (Trusted routine) = 4 * length depth + 4
+-- whether the calls of the routine count at most a sixteenth of all calls
+abbrev pub are_few : List ℕ → List ℕ → ℕ → Bool
+are_few depth routine wanted = nat_le (16 * ways_up depth routine wanted (length routine)) (length routine)
+
+-- the most steps that a change by such an entry costs; trust costs no more than the calls of its routine count, where
+-- they are few
+abbrev pub most_steps : List ℕ → List ℕ → What → ℕ
+most_steps depth routine (Judged call judgement) = 3 * (slice_index depth call + 1)
+most_steps depth routine (Trusted wanted) =
+    if are_few depth routine wanted then ways_up depth routine wanted (length routine) else 4 * length depth + 4
 
 abbrev pub most_steps_at : Search → Option Entry → ℕ
-most_steps_at search (Some entry) = most_steps search.depth entry.what
+most_steps_at search (Some entry) = most_steps search.depth search.book.routine entry.what
 most_steps_at search None = 0

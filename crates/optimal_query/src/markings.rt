@@ -3,8 +3,9 @@ ghost use Rattle.std.specs.Prelude.{◌≡◌, ◌+◌, ◌*◌, ◌<◌, ◌≤
 ghost use Rattle.std.specs.Option.{ForSome};
 ghost use Rattle.answer_book.specs.Entries.{standing_answers};
 ghost use Rattle.answer_book.specs.Marks.{marks_of};
+ghost use Rattle.answer_book.specs.declared.entries.What.TheVariants as what;
 ghost use Rattle.call_tree.specs.Recording.{depths_of, routines_of};
-ghost use Rattle.optimal_query.specs.Changed.{ChangesCallsOf, ways_up};
+ghost use Rattle.optimal_query.specs.Changed.{ChangesCallsOf, most_steps, ways_up};
 ghost use Rattle.optimal_query.specs.Markings.{askable_flag, verdict_from};
 ghost use Rattle.optimal_query.specs.Region.{doubts_of, next_after};
 ghost use Rattle.optimal_query.specs.State.{state_with};
@@ -13,7 +14,7 @@ ghost use Rattle.subtree_weights.specs.Weighed.{calls_in, unjudged, with_mark, w
 ghost use Rattle.subtree_weights.specs.Weights.{suspects_below};
 
 use crate::region::{end, next_doubt, start};
-use crate::routine_calls::{are_few, next_call};
+use crate::routine_calls::{has_few, next_call};
 use crate::runs::best_of_runs;
 use crate::state::State;
 use answer_book::Book;
@@ -201,10 +202,11 @@ impl Markings {
         ensures looked_up { self.new ≡ with_marks self.old
             (marks_of book.now.routine (standing_answers book.now.entries)) }
         ensures not_fallen { steps.old ≤ steps.new }
-        ensures cost { steps.new ≤ steps.old + 4 * calls_in self.old }
+        ensures cost { steps.new ≤ steps.old
+            + most_steps self.old.columns.depth book.now.routine (what.Trusted routine) }
     {
         calls.are_numbered();
-        if are_few(calls, &self.depths, routine) {
+        if has_few(calls, &self.depths, routine) {
             self.set_each(calls, book, routine, steps);
         } else {
             self.set_all(calls, book, routine, steps);

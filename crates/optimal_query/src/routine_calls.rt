@@ -1,7 +1,7 @@
 //! The calls of a routine.
-ghost use Rattle.std.specs.Prelude.{◌≡◌, ◌≤◌, IsTrue, length};
+ghost use Rattle.std.specs.Prelude.{◌≡◌, ◌≤◌, length};
 ghost use Rattle.call_tree.specs.Recording.{depths_of, routines_of};
-ghost use Rattle.optimal_query.specs.Changed.{ways_up};
+ghost use Rattle.optimal_query.specs.Changed.{are_few};
 ghost use Rattle.weight_lanes.specs.Answers.{IsNext};
 
 use call_tree::Calls;
@@ -20,13 +20,12 @@ pub(crate) fn next_call(calls: &Calls, from: usize, routine: u32) -> Option<usiz
 
 /// Whether the calls of a routine are few: together with the calls above each of them at most a
 /// sixteenth as many as there are calls.
-pub(crate) fn are_few(calls: &Calls, depths: &[u32], routine: u32) -> bool
+pub(crate) fn has_few(calls: &Calls, depths: &[u32], routine: u32) -> bool
     requires depths { depths.now ≡ depths_of calls.now.calls }
     requires few { length calls.now.calls ≤ 500000 }
-    ensures few { IsTrue result → ways_up depths.now (routines_of calls.now.calls) routine
-        (length calls.now.calls) ≤ length calls.now.calls }
+    ensures { result ≡ are_few depths.now (routines_of calls.now.calls) routine }
 {
-    let most = depths.len() / 16;
+    let most = calls.routine_column().len() / 16;
     let mut counted: usize = 0;
     let mut from = 0;
     'calls: while let Some(place) = next_call(calls, from, routine) {

@@ -52,7 +52,7 @@ fn follow<L>(calls: &Calls, book: &Book, markings: &mut Markings, what: What, st
     ensures followed { markings.new ≡ with_marks markings.old
         (marks_of book.now.routine (standing_answers book.now.entries)) }
     ensures not_fallen { steps.old ≤ steps.new }
-    ensures cost { steps.new ≤ steps.old + most_steps markings.old.columns.depth what }
+    ensures cost { steps.new ≤ steps.old + most_steps markings.old.columns.depth book.now.routine what }
 {
     match what {
         What::Judged(call, _) => {
@@ -95,7 +95,8 @@ impl<'a> Debug<'a> {
         ensures added { OnOk result (self.new ≡ search_with self.old (what.Judged call judgement)) }
         ensures unchanged { OnErr result (self.new ≡ self.old) }
         ensures not_fallen { steps.old ≤ steps.new }
-        ensures cost { steps.new ≤ steps.old + most_steps self.old.depth (what.Judged call judgement) }
+        ensures cost { steps.new ≤ steps.old
+            + most_steps self.old.depth self.old.book.routine (what.Judged call judgement) }
     {
         match self.book.judge(call, judgement) {
             Ok(number) => {
@@ -114,7 +115,8 @@ impl<'a> Debug<'a> {
         ensures added { OnOk result (self.new ≡ search_with self.old (what.Trusted routine)) }
         ensures unchanged { OnErr result (self.new ≡ self.old) }
         ensures not_fallen { steps.old ≤ steps.new }
-        ensures cost { steps.new ≤ steps.old + most_steps self.old.depth (what.Trusted routine) }
+        ensures cost { steps.new ≤ steps.old
+            + most_steps self.old.depth self.old.book.routine (what.Trusted routine) }
     {
         match self.book.trust(routine) {
             Ok(number) => {

@@ -36,6 +36,8 @@ returns-in-Ok-clause-cost g c =
     sym (ap (λ (s : Search). entry_at s.book.entries c.in-Ok.number) c.self.view_is) ∙ before in
     let depth : c.args.self.now.depth ≡ c.self.inside.markings.columns.depth =
     sym (ap (λ (s : Search). s.depth) c.self.view_is) ∙ ap (λ (k : Columns). k.depth) c.self.invariant.columns in
-    let most : most_steps_at c.args.self.now (entry_at c.args.self.now.book.entries c.in-Ok.number) ≡ most_steps c.self.inside.markings.columns.depth what =
-    ap (most_steps_at c.args.self.now) entry ∙ ap (λ (d : List ℕ). most_steps d what) depth in
-    omega (arith, c.follow.ensures.cost, most)
+    let most : most_steps_at c.args.self.now (entry_at c.args.self.now.book.entries c.in-Ok.number)
+    ≡ most_steps c.self.inside.markings.columns.depth book.routine what =
+    ap (most_steps_at c.args.self.now) entry ∙ ap (λ (d : List ℕ). most_steps d c.args.self.now.book.routine what) depth
+    ∙ ap (λ (s : Search). most_steps c.self.inside.markings.columns.depth s.book.routine what) (sym c.self.view_is) in
+    omega (arith, rw c.in-Ok.ensures.taken_back at c.follow.ensures.cost, most)
