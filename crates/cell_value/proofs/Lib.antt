@@ -1,1 +1,3 @@
+pub mod BitsAreMembers
 pub mod Laws
+pub mod WordsMakeSets

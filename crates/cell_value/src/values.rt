@@ -28,3 +28,14 @@ pub enum Value {
     /// frame in which it was passed.
     Routine(u32, u32),
 }
+
+/// The relational operators but `in` (ISO 7185, clause 6.7.2.5).
+#[derive(Clone, Copy, Debug, PartialEq, Eq)]
+pub enum Order {
+    Equal,
+    NotEqual,
+    Less,
+    Greater,
+    AtMost,
+    AtLeast,
+}

@@ -3,6 +3,9 @@ use Rattle.std.specs.Prelude.{ℕ, zero, suc, List, [], ◌∷◌, ◌++◌, Opt
 use Rattle.std.specs.Prelude.{unwrap_or, ◌-◌, Bool, if◌then◌else◌, nat_eq, nat_le, nat_lt, take}
 use Rattle.std.specs.Prelude.{slice_get, slice_set}
 use Rattle.std.specs.List.{list_any}
+use Rattle.std.specs.Ordering.{int_eq}
+use Rattle.std.specs.Prelude.{ℤ, ◌&&◌}
+use Rattle.indexmap.specs.IndexSet.{insert_key}
 use Rattle.program_tables.specs.declared.rows.Row.{Row}
 use Rattle.program_tables.specs.declared.rows.TypeRow.{TypeRow}
 use Rattle.program_tables.specs.declared.program.Routine.{Routine}
@@ -33,6 +36,8 @@ pub record Known : Type 0 where
   pub threats : List ℕ
   -- the block whose statements are checked
   pub block : Span
+  -- the values that choose in case statements and variant parts, each after the number of its list
+  pub choices : List (ℕ × ℤ)
 
 -- ---- words
 
@@ -136,6 +141,19 @@ find_label_from (suc n) k (Some frame) value = or_else (declared_in k.regions (f
 abbrev pub find_label : Known → ℕ → ℕ → Option ℕ
 find_label k frame value = find_label_from (length k.frames) k (Some frame) value
 
+-- ---- case constants (6.8.3.5, 6.4.3.3)
+
+abbrev pub same_choice : ℕ × ℤ → ℕ × ℤ → Bool
+same_choice a b = nat_eq a.0 b.0 && int_eq a.1 b.1
+
+-- one more value of a list
+abbrev pub and_choice : Known → ℕ → ℤ → Known
+and_choice k list value = record k { choices = insert_key same_choice k.choices (list, value) }
+
+-- whether a value is in a list
+abbrev pub is_chosen : Known → ℕ → ℤ → Bool
+is_chosen k list value = list_any (same_choice (list, value)) k.choices
+
 -- ---- control variables and their threats (6.8.3.9)
 
 -- one more for statement around
@@ -169,10 +187,22 @@ abbrev pub before : ℕ → Option ℕ → Option ℕ
 before token None = None
 before token (Some t) = if nat_lt t token then Some t else None
 
--- The first token at which a routine of the block threatens a variable. No more tokens threaten it than there are.
+-- the first threat of a variable after the block's first token; no more tokens threaten it than there are
+abbrev pub first_threat : Known → ℕ → Option ℕ
+first_threat k variable = threat_after (length k.threats) k (threat_before k variable) k.block.first
+
+-- the first token at which a routine of the block threatens a variable
 abbrev pub threat_of : Known → ℕ → Option ℕ
-threat_of k variable = before k.block.statements
-    (threat_after (length k.threats) k (threat_before k variable) k.block.first)
+threat_of k variable = before k.block.statements (first_threat k variable)
+
+-- this threat of a variable is taken for its last one
+abbrev pub with_last_threat : Known → ℕ → Option ℕ → Known
+with_last_threat k variable None = k
+with_last_threat k variable (Some token) = record k { threats = slice_set k.threats variable token }
+
+-- Of a variable's threats after the block's first token the first alone is kept: for no block is a later one the first.
+abbrev pub with_first_threat : Known → ℕ → Known
+with_first_threat k variable = with_last_threat k variable (first_threat k variable)
 
 -- the block whose statements are checked from now on
 abbrev pub in_block : Known → Span → Known

@@ -1,5 +1,5 @@
 -- Steps of a check: what a part of a tree does to the tables, and the rules that it breaks.
-use Rattle.std.specs.Prelude.{◌≡◌, ℕ, Bool, List, [], ◌∷◌, ◌++◌, Option, length, if◌then◌else◌}
+use Rattle.std.specs.Prelude.{◌≡◌, ℕ, ℤ, Bool, List, [], ◌∷◌, ◌++◌, Option, length, if◌then◌else◌}
 use Rattle.program_tables.specs.declared.rows.Row.{Row}
 use Rattle.program_tables.specs.declared.program.Routine.{Routine}
 use Rattle.check_steps.specs.declared.breaks.Broken.{Broken}
@@ -10,8 +10,9 @@ use Rattle.check_steps.specs.declared.regions.Frame.{Frame}
 use Rattle.check_steps.specs.declared.regions.Span.{Span}
 use Rattle.check_steps.specs.declared.work.Work.{Work}
 use Rattle.check_steps.specs.Breaks.{first_of}
-use Rattle.check_steps.specs.Known.{Known, and_control, and_definition, and_frame, and_label, and_region, and_routine}
-use Rattle.check_steps.specs.Known.{and_threat, in_block, with_routine, with_row, without_control}
+use Rattle.check_steps.specs.Known.{Known, and_choice, and_control, and_definition, and_frame}
+use Rattle.check_steps.specs.Known.{and_label, and_region, and_routine}
+use Rattle.check_steps.specs.Known.{and_threat, in_block, with_first_threat, with_routine, with_row, without_control}
 
 -- what a step gives, what is known after it, and the rules that it breaks
 pub record Done (A : Type 0) : Type 0 where
@@ -95,6 +96,10 @@ add_definition region name d = change (λ k. and_definition k region name d)
 abbrev pub add_label : ℕ → ℕ → ℕ → Step (Unit {0})
 add_label region value token = change (λ k. and_label k region value token)
 
+-- one more value of a list of values that choose
+abbrev pub add_chosen : ℕ → ℤ → Step (Unit {0})
+add_chosen list value = change (λ k. and_choice k list value)
+
 -- inside of a for statement with this control variable
 abbrev pub hold : ℕ → Step (Unit {0})
 hold variable = change (λ k. and_control k variable)
@@ -106,6 +111,10 @@ release = change without_control
 -- a routine threatens a variable at a token
 abbrev pub threaten : ℕ → ℕ → Step (Unit {0})
 threaten variable token = change (λ k. and_threat k variable token)
+
+-- Of a variable's threats in the block the first alone is kept.
+abbrev pub settle : ℕ → Step (Unit {0})
+settle variable = change (λ k. with_first_threat k variable)
 
 -- The statements of this block are checked from now on.
 abbrev pub enter_block : Span → Step (Unit {0})

@@ -104,4 +104,5 @@ start l = record {
   controls = [];
   threats = replicate (length l.tokens) 0;
   block = record { first = 0; statements = 0 };
+  choices = [];
 }

@@ -1,9 +1,10 @@
 //! The tables that a check fills.
 
 ghost use Rattle.std.specs.Prelude.{◌≡◌, ◌+◌, ◌<◌, ◌^◌, ◌++◌, ◌∷◌, None, Some, length, slice_set, OnOk, IfOk};
+ghost use Rattle.check_steps.specs.Known.{and_choice, is_chosen};
 ghost use Rattle.check_steps.specs.Known.{and_control, and_definition, and_frame, and_label, and_region, and_routine};
-ghost use Rattle.check_steps.specs.Known.{and_threat, in_block, is_control, label_at, threat_after, threat_before};
-ghost use Rattle.check_steps.specs.Known.{threat_of, without_control};
+ghost use Rattle.check_steps.specs.Known.{and_threat, first_threat, in_block, is_control, label_at, threat_before};
+ghost use Rattle.check_steps.specs.Known.{threat_of, with_first_threat, without_control};
 ghost use Rattle.check_steps.specs.Known.{find, find_label, found_in, frame_at, line_at, name_at, row_at, spelled_at};
 ghost use Rattle.check_steps.specs.Known.{type_at, with_routine, with_row, word_at};
 ghost use Rattle.check_steps.specs.Names.{usable};
@@ -30,6 +31,7 @@ pub struct Tables {
     controls: Vec<u32>,
     threats: Vec<u32>,
     block: Span,
+    choices: IndexSet<(u32, i32)>,
 }
 
 impl Model for Tables {
@@ -53,6 +55,7 @@ impl Model for Tables {
       controls = t.controls.items;
       threats = t.threats.items;
       block = t.block;
+      choices = t.choices.keys;
     } };
 
     ghost invariant = { λ t. (vec_len t.regions < 2 ^ 32) × (vec_len t.frames < 2 ^ 32)
@@ -89,6 +92,7 @@ impl Tables {
                 first: 0,
                 statements: 0,
             },
+            choices: IndexSet::new(alloc),
         })
     }
 
@@ -416,6 +420,21 @@ impl Tables {
         Ok(())
     }
 
+    /// One more value of a list of values that choose.
+    pub fn add_chosen(&mut self, list: u32, value: i32) -> Result<(), AllocError>
+        ensures { OnOk result (self.new ≡ and_choice self.old list value) }
+    {
+        self.choices.insert((list, value))?;
+        Ok(())
+    }
+
+    /// Whether a value is in a list of values that choose.
+    pub fn is_chosen(&self, list: u32, value: i32) -> bool
+        ensures { result ≡ is_chosen self.now list value }
+    {
+        self.choices.contains(&(list, value))
+    }
+
     /// Goes into a for statement with this control variable.
     pub fn hold(&mut self, variable: u32) -> Result<(), AllocError>
         ensures { OnOk result (self.new ≡ and_control self.old variable) }
@@ -466,11 +485,12 @@ impl Tables {
         self.put_threat(variable, token);
     }
 
-    /// The first threat of a variable after a token.
+    /// The first threat of a variable after the block's first token.
     #[tactic(auto, using(crate::proofs::Threats::backwards))]
-    fn threat_after(&self, variable: u32, token: u32) -> Option<u32>
-        ensures { result ≡ threat_after (length self.now.threats) self.now (threat_before self.now variable) token }
+    fn first_threat(&self, variable: u32) -> Option<u32>
+        ensures { result ≡ first_threat self.now variable }
     {
+        let token = self.block.first;
         let mut first = None;
         let mut last = self.threat_before(variable);
         'threats: for _passed in 0..self.threats.len() {
@@ -487,7 +507,7 @@ impl Tables {
     pub fn threat(&self, variable: u32) -> Option<u32>
         ensures { result ≡ threat_of self.now variable }
     {
-        match self.threat_after(variable, self.block.first) {
+        match self.first_threat(variable) {
             Some(threat) => {
                 if threat < self.block.statements {
                     Some(threat)
@@ -496,6 +516,16 @@ impl Tables {
                 }
             }
             None => None,
+        }
+    }
+
+    /// Of a variable's threats after the block's first token the first alone is kept.
+    pub fn settle(&mut self, variable: u32)
+        ensures { self.new ≡ with_first_threat self.old variable }
+    {
+        match self.first_threat(variable) {
+            Some(first) => self.put_threat(variable, first),
+            None => {}
         }
     }
 

@@ -3,8 +3,9 @@
 ghost use Rattle.std.specs.Prelude.{◌≡◌, None, IfOk};
 ghost use Rattle.check_steps.specs.Regions.{defined_in};
 ghost use Rattle.check_steps.specs.Names.{declare_in, define_in, use_at};
-ghost use Rattle.check_steps.specs.Steps.{Does, add_definition, add_routine, ask, enter_block, hold, late, open_frame};
-ghost use Rattle.check_steps.specs.Steps.{open_region, put, put_routine, release, rule, threaten, too_big};
+ghost use Rattle.check_steps.specs.Steps.{Does, add_chosen, add_definition, add_routine, ask};
+ghost use Rattle.check_steps.specs.Steps.{enter_block, hold, late, open_frame};
+ghost use Rattle.check_steps.specs.Steps.{open_region, put, put_routine, release, rule, settle, threaten, too_big};
 ghost use Rattle.check_steps.specs.Words.{start};
 
 use crate::breaks::{Break, Broken};
@@ -140,6 +141,15 @@ impl Work {
         Ok(())
     }
 
+    /// One more value of a list of values that choose.
+    #[tactic(auto, unfolding(crate::specs::Steps::change, crate::specs::Steps::run))]
+    pub fn add_chosen(&mut self, list: u32, value: i32) -> Result<(), AllocError>
+        ensures { IfOk result (λ _. Does (add_chosen list value) tt self.old self.new) }
+    {
+        self.tables.add_chosen(list, value)?;
+        Ok(())
+    }
+
     /// Goes into a for statement with this control variable.
     #[tactic(auto, unfolding(crate::specs::Steps::change, crate::specs::Steps::run))]
     pub fn hold(&mut self, variable: u32) -> Result<(), AllocError>
@@ -163,6 +173,14 @@ impl Work {
         ensures { Does (threaten variable token) tt self.old self.new }
     {
         self.tables.threaten(variable, token);
+    }
+
+    /// Of a variable's threats in the block the first alone is kept.
+    #[tactic(auto, unfolding(crate::specs::Steps::change, crate::specs::Steps::run))]
+    pub fn settle(&mut self, variable: u32)
+        ensures { Does (settle variable) tt self.old self.new }
+    {
+        self.tables.settle(variable);
     }
 
     /// The statements of this block are checked from now on.

@@ -25,7 +25,7 @@ pub record NoneRisen (before now : KeeperCounts) : Type 0 where
   pub misses : NotRisen before.misses now.misses
   pub overs : NotRisen before.overs now.overs
 
--- a keeper's counts after the command, which fetches one file at most: they stay, or the one rises that says why
--- it was not fetched
+-- a keeper's counts after the command, which fetches one file at most and stores none: they stay, or the one rises
+-- that says why it was not fetched, and no other
 abbrev pub CountsOneFetch : KeeperCounts → KeeperCounts → Type 0
 CountsOneFetch before now = (now ≡ before) ⊎ ((fault : FetchFault) × CountsFetch (Err fault) before now)

@@ -1,13 +1,14 @@
 -- The first region that begins at a token.
-use Rattle.std.proofs.Common.{◌≡◌, ℕ, zero, suc, ◌+◌, ◌<◌, ◌≤◌, Bool, true, false, List, [], ◌∷◌, length, get_or, nat_eq, nat_lt, Option, Some, None}
-use Rattle.std.proofs.Common.{if◌then◌else◌, refl, sym, ap, ◌∙◌, arith}
+use Rattle.std.proofs.Common.{◌≡◌, ℕ, zero, suc, ◌+◌, ◌<◌, ◌≤◌, Bool, true, false, cond, is_some, List, [], ◌∷◌, length, get_or, nat_eq, nat_lt, Option, Some}
+use Rattle.std.proofs.Common.{None}
+use Rattle.std.proofs.Common.{if◌then◌else◌, refl, sym, subst, ap, ◌∙◌, arith}
 use Rattle.std.specs.List.{position_or_len}
 use Rattle.std.proofs.lemmas.Bool.Decides.{nat_tests}
 use Rattle.std.proofs.lemmas.List.Sums.{position_or_len_is}
 use Rattle.std.proofs.lemmas.Option.{unwrap_or-slice_get}
 use borrow.Author.Count.{below_more}
 use Rattle.check_steps.specs.Regions.{RegionRows, fresh_region, region_at}
-use Rattle.decl_checker.specs.Regions.{after_outermost, begins_at, region_of}
+use Rattle.decl_checker.specs.Regions.{HasRegions, after_outermost, begins_at, region_of}
 
 -- No region from 1 to the one before n begins there.
 pub record NoneBefore (regions : List RegionRows) (token n : ℕ) : Type 0 where
@@ -58,4 +59,80 @@ none_more regions token n before here = record {
   none = below_more (λ k. 0 < k → nat_eq token (region_at regions k).token ≡ false) n before.none (λ a. here);
 }
 
-pub ruleset region_loops = (region_found, region_missing, none_first, none_more)
+-- what a function tells of the regions before number n: the first that begins at a token, or that none does
+abbrev pub Told : List RegionRows → ℕ → ℕ → Option ℕ → Type 0
+Told regions n token None = NoneBefore regions token n
+Told regions n token (Some region) = region_of regions token ≡ Some region
+
+pub record TellsBefore (regions : List RegionRows) (n : ℕ) (starts : ℕ → Option ℕ) : Type 0 where
+  pub told : (token : ℕ) → Told regions n token (starts token)
+
+sym_test : (a b : ℕ) (x : Bool) → nat_eq a b ≡ x → nat_eq b a ≡ x
+sym_test a b true e = grind (arith, nat_tests)
+sym_test a b false e = grind (arith, nat_tests)
+
+same_number : (a b : ℕ) → nat_eq a b ≡ true → a ≡ b
+same_number a b e = grind (arith, nat_tests)
+
+pub tells_first : (regions : List RegionRows) (starts : ℕ → Option ℕ) → ((token : ℕ) → starts token ≡ None) → TellsBefore regions 1 starts
+tells_first regions starts none = record { told = λ token. subst (Told regions 1 token) (sym (none token)) (none_first regions token) }
+
+-- one region more, which begins at a token that one before it begins at
+known : (regions : List RegionRows) (n : ℕ) (starts : ℕ → Option ℕ) → is_some (starts (region_at regions n).token) ≡ true
+    → (token : ℕ) (o : Option ℕ) → starts token ≡ o → Told regions n token o → Told regions (n + 1) token o
+known regions n starts is token (Some region) e told = told
+known regions n starts is token None e told = none_more regions token n told (apart (nat_eq token (region_at regions n).token) refl)
+  where
+    apart : (b : Bool) → nat_eq token (region_at regions n).token ≡ b → b ≡ false
+    apart false h = refl
+    apart true h = sym is ∙ ap is_some (ap starts (sym (same_number token (region_at regions n).token h)) ∙ e)
+
+pub tells_known : (regions : List RegionRows) (n : ℕ) (starts : ℕ → Option ℕ) → TellsBefore regions n starts
+    → is_some (starts (region_at regions n).token) ≡ true → TellsBefore regions (n + 1) starts
+tells_known regions n starts tells is = record { told = λ token. known regions n starts is token (starts token) refl (tells.told token) }
+
+-- one region more, which begins at another token than those before it
+added : (regions : List RegionRows) (n : ℕ) (starts later : ℕ → Option ℕ) → TellsBefore regions n starts → 0 < n → n < length regions
+    → starts (region_at regions n).token ≡ None
+    → (token : ℕ) (b : Bool) → nat_eq token (region_at regions n).token ≡ b → later token ≡ cond b (Some n) (starts token)
+    → Told regions (n + 1) token (later token)
+added regions n starts later tells above below none token true h e =
+    let before : NoneBefore regions token n = subst (Told regions n token) (ap starts (same_number token (region_at regions n).token h) ∙ none)
+    (tells.told token) in
+    subst (Told regions (n + 1) token) (sym e) (region_found regions token n above below before h)
+added regions n starts later tells above below none token false h e = subst (Told regions (n + 1) token) (sym e) (more (starts token) (tells.told token))
+  where
+    more : (o : Option ℕ) → Told regions n token o → Told regions (n + 1) token o
+    more None told = none_more regions token n told h
+    more (Some region) told = told
+
+is_none : {X : Type 0} (o : Option X) → is_some o ≡ false → o ≡ None
+is_none None e = refl
+is_none (Some x) e = absurd (let y : ⊥ = cc in y)
+
+pub tells_new : (regions : List RegionRows) (n : ℕ) (starts later : ℕ → Option ℕ) → TellsBefore regions n starts → 0 < n → n < length regions
+    → is_some (starts (region_at regions n).token) ≡ false
+    → ((token : ℕ) → later token ≡ cond (nat_eq (region_at regions n).token token) (Some n) (starts token)) → TellsBefore regions (n + 1) later
+tells_new regions n starts later tells above below none updates = record {
+  told = λ token. added regions n starts later tells above below (is_none (starts (region_at regions n).token) none) token
+      (nat_eq (region_at regions n).token token) (sym_test (region_at regions n).token token (nat_eq (region_at regions n).token token) refl) (updates token);
+}
+
+pub tells_all : (regions : List RegionRows) (n : ℕ) (starts : ℕ → Option ℕ) → TellsBefore regions n starts → length regions ≤ n → HasRegions regions starts
+tells_all regions n starts tells past = record { each = λ token. all token (starts token) refl (tells.told token) }
+  where
+    all : (token : ℕ) (o : Option ℕ) → starts token ≡ o → Told regions n token o → starts token ≡ region_of regions token
+    all token None e told = e ∙ sym (region_missing regions token n past told)
+    all token (Some region) e told = e ∙ sym told
+
+-- the same, by the token at which the region begins
+pub known_at : (regions : List RegionRows) (n begin : ℕ) (starts : ℕ → Option ℕ) → begin ≡ (region_at regions n).token → TellsBefore regions n starts
+    → is_some (starts begin) ≡ true → TellsBefore regions (n + 1) starts
+known_at regions n begin starts e tells is = tells_known regions n starts tells (subst (λ t. is_some (starts t) ≡ true) e is)
+
+pub new_at : (regions : List RegionRows) (n begin : ℕ) (starts later : ℕ → Option ℕ) → begin ≡ (region_at regions n).token → TellsBefore regions n starts
+    → 0 < n → n < length regions → is_some (starts begin) ≡ false → ((token : ℕ) → later token ≡ cond (nat_eq begin token) (Some n) (starts token))
+    → TellsBefore regions (n + 1) later
+new_at regions n begin starts later e tells above below none updates =
+    tells_new regions n starts later tells above below (subst (λ t. is_some (starts t) ≡ false) e none)
+    (subst (λ t. (token : ℕ) → later token ≡ cond (nat_eq t token) (Some n) (starts token)) e updates)

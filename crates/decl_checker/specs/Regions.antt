@@ -1,5 +1,5 @@
 -- Regions by the tokens at which they begin.
-use Rattle.std.specs.Prelude.{ℕ, suc, Bool, List, Option, Some, None, nat_eq, drop, position}
+use Rattle.std.specs.Prelude.{◌≡◌, ℕ, suc, Bool, List, Option, Some, None, nat_eq, drop, position}
 use Rattle.check_steps.specs.Regions.{RegionRows}
 
 abbrev pub begins_at : ℕ → RegionRows → Bool
@@ -12,3 +12,7 @@ after_outermost (Some n) = Some (suc n)
 -- The number of the region that begins at a token. Region 0 is the outermost one, which begins at none.
 abbrev pub region_of : List RegionRows → ℕ → Option ℕ
 region_of regions token = after_outermost (position (begins_at token) (drop 1 regions))
+
+-- This function gives the number of the region that begins at each token.
+pub record HasRegions (regions : List RegionRows) (starts : ℕ → Option ℕ) : Type 0 where
+  pub each : (token : ℕ) → starts token ≡ region_of regions token

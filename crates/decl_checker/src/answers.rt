@@ -7,6 +7,7 @@ ghost use Rattle.decl_checker.specs.Answers.{EarlyFaultIs, HasFirst, IsWithoutEa
 
 use crate::scopes::Scopes;
 use check_steps::{Break, Broken, CheckFault, Work};
+use std::alloc::Global;
 
 fn is_early(first: &Break) -> bool
     ensures { result ≡ is_early first.now }
@@ -19,7 +20,7 @@ fn is_early(first: &Break) -> bool
 
 /// The tables that a check has left, or the first of the broken rules if that can be told from declarations and names
 /// alone: each of those comes before all others.
-pub(crate) fn answer(work: Work) -> Result<Scopes, CheckFault>
+pub(crate) fn answer(alloc: Global, work: Work) -> Result<Scopes, CheckFault>
     ensures tables { IfOk result (λ s. s ≡ work.tables) }
     ensures unbroken { IfOk result (λ _. (bs : List Break) → HasFirst bs work.least → IsWithoutEarly bs) }
     ensures fault { IfErr result (λ e. (bs : List Break) → HasFirst bs work.least → EarlyFaultIs bs e) }
@@ -30,8 +31,8 @@ pub(crate) fn answer(work: Work) -> Result<Scopes, CheckFault>
             if is_early(&first) {
                 return Err(first.fault());
             }
-            Ok(Scopes::new(tables))
+            Ok(Scopes::new(alloc, tables)?)
         }
-        None => Ok(Scopes::new(tables)),
+        None => Ok(Scopes::new(alloc, tables)?),
     }
 }

@@ -20,7 +20,7 @@ fn define_label(work: &mut Work, here: Frame, token: u32) -> Result<(), AllocErr
         marked: false,
         value,
         level: here.level,
-        reachable: 0,
+        ways: 0,
     };
     work.put(token, Row::Name(row));
     Ok(())

@@ -78,5 +78,5 @@ pub fn declare(alloc: Global, tokens: &Tokens, tree: &Tree) -> Result<Scopes, Ch
 {
     let mut work = Work::new(alloc, tokens)?;
     check_program(&mut work, alloc, tree)?;
-    answer(work)
+    answer(alloc, work)
 }

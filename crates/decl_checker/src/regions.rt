@@ -1,19 +1,23 @@
 //! Regions by the tokens at which they begin.
 
-ghost use Rattle.std.specs.Prelude.{◌≡◌};
-ghost use Rattle.decl_checker.specs.Regions.{region_of};
+ghost use Rattle.std.specs.Prelude.{◌≡◌, nat_eq, IfOk};
+ghost use Rattle.indexmap.specs.IndexMap.{get};
+ghost use Rattle.decl_checker.specs.Regions.{HasRegions};
 
 use check_steps::Tables;
+use indexmap::IndexMap;
+use std::alloc::{AllocError, Global};
 
-/// The number of the region that begins at a token, and None where none does. The outermost one begins at none.
-#[tactic(auto, using(crate::proofs::Places::region_loops))]
-pub fn region_of(tables: &Tables, token: u32) -> Option<u32>
-    ensures { result ≡ region_of tables.now.regions token }
+/// The number of each region by the token at which it begins. The outermost one begins at none.
+pub fn starts(alloc: Global, tables: &Tables) -> Result<IndexMap<u32, u32>, AllocError>
+    ensures { IfOk result (λ starts. HasRegions tables.now.regions (get nat_eq starts)) }
 {
+    let mut starts = IndexMap::new(alloc);
     'regions: for region in 1..tables.regions() {
-        if token == tables.region_token(region) {
-            return Some(region);
+        let token = tables.region_token(region);
+        if !starts.contains_key(&token) {
+            starts.insert(token, region)?;
         }
     }
-    None
+    Ok(starts)
 }

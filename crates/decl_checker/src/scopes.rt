@@ -1,14 +1,16 @@
 //! The declarations of a program, as callers see them.
 
-ghost use Rattle.std.specs.Prelude.{◌≡◌, length};
+ghost use Rattle.std.specs.Prelude.{◌≡◌, length, IfOk};
 ghost use Rattle.program_tables.specs.ProgramRows.{frame_of, name_of, offset_of, size_of};
 ghost use Rattle.decl_checker.specs.Regions.{region_of};
 ghost use Rattle.decl_checker.specs.Scopes.{held_around, held_in, region_in, routine_in, seen, seen_of};
 
-use crate::regions::region_of;
+use crate::regions::starts;
 use check_steps::{Def, Definition, Tables};
+use indexmap::IndexMap;
 use program_tables::Program;
 use program_tables::rows::{NameRow, Row};
+use std::alloc::{AllocError, Global};
 use std::marker::Model;
 
 /// The tables of a program as far as its declarations give them.
@@ -20,28 +22,36 @@ use std::marker::Model;
 #[derive(Drop)]
 pub struct Scopes {
     tables: Tables,
+    /// The number of each region by the token at which it begins.
+    starts: IndexMap<u32, u32>,
 }
 
 impl Model for Scopes {
+    ghost use Rattle.std.specs.Prelude.{nat_eq};
+    ghost use Rattle.indexmap.specs.IndexMap.{get};
     ghost use Rattle.check_steps.specs.Known.{Known};
+    ghost use Rattle.decl_checker.specs.Regions.{HasRegions};
 
     ghost Value = { Known };
 
     ghost view = { λ s. s.tables };
+
+    ghost invariant = { λ s. HasRegions s.tables.regions (get nat_eq s.starts) };
 }
 
 impl Scopes {
-    pub(crate) fn new(tables: Tables) -> Self
-        ensures { result ≡ tables }
+    pub(crate) fn new(alloc: Global, tables: Tables) -> Result<Self, AllocError>
+        ensures { IfOk result (λ s. s ≡ tables) }
     {
-        Scopes { tables }
+        let starts = starts(alloc, &tables)?;
+        Ok(Scopes { tables, starts })
     }
 
     /// The number of the region that begins at a token, and None where none does.
     pub fn region(&self, token: u32) -> Option<u32>
         ensures { result ≡ region_of self.now.regions token }
     {
-        region_of(&self.tables, token)
+        self.starts.get(&token).copied()
     }
 
     /// The rows of the program, as far as the declarations give them.

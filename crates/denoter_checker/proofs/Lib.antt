@@ -1,4 +1,3 @@
-pub mod Choices
 pub mod DefineRolls
 pub mod RecordRolls
 pub mod DomainSteps

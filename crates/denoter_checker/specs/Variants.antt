@@ -1,7 +1,6 @@
 -- The tag of a variant part, and the values that choose its variants (6.4.3.3).
-use Rattle.std.specs.Prelude.{ℕ, zero, suc, ◌+◌, ◌-◌, Bool, true, false, Option, Some, None, is_none, is_some}
+use Rattle.std.specs.Prelude.{ℕ, ◌+◌, ◌-◌, Bool, true, false, Option, Some, None, is_none, is_some}
 use Rattle.std.specs.Prelude.{nat_eq, nat_lt, ◌&&◌, ◌||◌, not, if◌then◌else◌, length, ℤ}
-use Rattle.std.specs.Ordering.{int_eq}
 use Rattle.pas_tree.specs.declared.constants.Constant.{Constant}
 use Rattle.pas_tree.specs.declared.constants.Constants.{Constants}
 use Rattle.pas_tree.specs.declared.constants.NextConstant.{NextConstant}
@@ -12,8 +11,8 @@ use Rattle.program_tables.specs.declared.rows.Row.TheVariants as row
 use Rattle.program_tables.specs.declared.rows.NameRow.TheVariants as named
 use Rattle.program_tables.specs.declared.rows.PartRow.TheVariants as part
 use Rattle.program_tables.specs.declared.rows.ItemRow.TheVariants as item
-use Rattle.check_steps.specs.Known.{Known, row_at, type_at}
-use Rattle.check_steps.specs.Steps.{Step, give, ◌>>=◌, look, late, put, each}
+use Rattle.check_steps.specs.Known.{Known, is_chosen, row_at, type_at}
+use Rattle.check_steps.specs.Steps.{Step, give, ◌>>=◌, add_chosen, look, late, put, each}
 use Rattle.pas_places.specs.Denoters.{first_of_constant}
 use Rattle.kind_checker.specs.declared.constants.Value.{Value}
 use Rattle.kind_checker.specs.declared.constants.Value.TheVariants.{Ordinal, Text}
@@ -50,29 +49,12 @@ tag_part p (Some f) name = named_tag p f.name name
 
 -- ---- lists of the values that choose
 
-abbrev pub choice_in : Row → Option (ℤ × ℕ)
-choice_in (row.Item (item.Choice value chosen next)) = Some (value, next)
-choice_in r = None
-
-abbrev pub found_or : Option (ℤ × ℕ) → ℤ → (ℕ → ℤ → Bool) → Bool
-found_or None value rest = false
-found_or (Some c) value rest = int_eq c.0 value || rest c.1 value
-
--- whether a value is among the first so many of a list
-abbrev pub listed_from : ℕ → Known → ℕ → ℤ → Bool
-listed_from zero k at value = false
-listed_from (suc n) k at value = found_or (choice_in (row_at k at)) value (listed_from n k)
-
--- Whether a value is in a list. No list has more items than there are tokens.
-abbrev pub is_listed : Known → ℕ → ℤ → Bool
-is_listed k list value = listed_from (length k.words) k list value
-
 -- A case constant of unknown value, and one for a selector or tag of unknown type, breaks no further rule.
 abbrev pub is_choice : Known → Choosing → Option Value → Bool
 is_choice k c None = true
 is_choice k c (Some (Text token)) = is_none (type_at k c.host)
 is_choice k c (Some (Ordinal of' value)) =
-    is_none (type_at k c.host) || (nat_eq of' c.host && not (is_listed k c.list value))
+    is_none (type_at k c.host) || (nat_eq of' c.host && not (is_chosen k c.list value))
 
 abbrev pub value_if : Bool → Option Value → Option ℤ
 value_if true (Some (Ordinal of' value)) = Some value
@@ -91,9 +73,15 @@ add_choice value chosen last slot end = do
   _ ← put slot (row.Item (item.Choice value chosen end))
   give slot
 
-abbrev pub listed : Option ℤ → ℕ → ℕ → ℕ → ℕ → Step ℕ
-listed None chosen last slot end = give last
-listed (Some value) chosen last slot end = add_choice value chosen last slot end
+-- the same, with the value put down for the list
+unfoldable pub chosen_by : ℕ → ℤ → ℕ → ℕ → ℕ → ℕ → Step ℕ
+chosen_by list value chosen last slot end = do
+  _ ← add_chosen list value
+  add_choice value chosen last slot end
+
+abbrev pub listed : ℕ → Option ℤ → ℕ → ℕ → ℕ → ℕ → Step ℕ
+listed list None chosen last slot end = give last
+listed list (Some value) chosen last slot end = chosen_by list value chosen last slot end
 
 -- rule 22: a case constant is not of the selector's or tag's host type, or its value is repeated in the same case
 -- statement or variant part
@@ -102,7 +90,7 @@ choice c chosen last slot x = do
   v ← constant c.frame x
   fine ← look (λ k. is_choice k c v)
   _ ← late 22 (first_of_constant x) fine
-  listed (value_if fine v) chosen last slot (first_of_constant x)
+  listed c.list (value_if fine v) chosen last slot (first_of_constant x)
 
 unfoldable pub next_choice : Choosing → ℕ → ℕ → NextConstant → Step ℕ
 next_choice c chosen last n = choice c chosen last n.comma n.constant

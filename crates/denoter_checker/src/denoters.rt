@@ -214,7 +214,7 @@ fn check_variants(
     ensures { IfOk result (λ x. Does (variants_at scope holder offset v.now) x work.old work.new) }
 {
     let place = part_at(scope, v.word, holder, offset);
-    check_choosing(work, place, v);
+    let _listed = check_choosing(work, place, v)?;
     let fields = &v.first.fields;
     let after_tag = offset_after(offset, 1);
     let next = check_fields(work, alloc, fields, scope, v.first.open, after_tag)?;

@@ -142,21 +142,25 @@ fn check_choosing_of(
     of: u32,
     first: &Arm,
     others: &[NextArm],
-) -> Listed
-    ensures { Does (choosing_of place tag.now of first.now.constants first.now.«open» others.now) result
-        work.old work.new }
+) -> Result<Listed, AllocError>
+    ensures { IfOk result (λ l. Does (choosing_of place tag.now of first.now.constants first.now.«open» others.now) l
+        work.old work.new) }
 {
     let host = check_tag(work, place, tag);
     let choosing = choosing_at(place, host, of);
     let listed = nothing_listed(place.word);
-    let so_far = check_arm_choices(work, choosing, listed, of, first.open, &first.constants);
+    let so_far = check_arm_choices(work, choosing, listed, of, first.open, &first.constants)?;
     check_more_arm_choices(work, choosing, so_far, others)
 }
 
 /// The tag of a variant part, and the values that choose its variants.
 #[tactic(auto, using(crate::proofs::RecordRolls::choosing_out))]
-pub(crate) fn check_choosing(work: &mut Work, place: PartPlace, v: &Variants) -> Listed
-    ensures { Does (choosing_in place v.now) result work.old work.new }
+pub(crate) fn check_choosing(
+    work: &mut Work,
+    place: PartPlace,
+    v: &Variants,
+) -> Result<Listed, AllocError>
+    ensures { IfOk result (λ l. Does (choosing_in place v.now) l work.old work.new) }
 {
     check_choosing_of(work, place, &v.tag, v.of, &v.first, &v.others)
 }

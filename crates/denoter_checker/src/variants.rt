@@ -1,9 +1,9 @@
 //! The tag of a variant part, and the values that choose its variants (6.4.3.3).
 
-ghost use Rattle.std.specs.Prelude.{◌≡◌};
+ghost use Rattle.std.specs.Prelude.{◌≡◌, IfOk};
 ghost use Rattle.check_steps.specs.Steps.{Does, each};
-ghost use Rattle.denoter_checker.specs.Variants.{add_choice, arm_choices, choice, choice_in, choices, choosing_at};
-ghost use Rattle.denoter_checker.specs.Variants.{going_on, hidden_tag, is_choice, is_listed, listed, named_tag};
+ghost use Rattle.denoter_checker.specs.Variants.{add_choice, arm_choices, choice, choices, choosing_at, chosen_by};
+ghost use Rattle.denoter_checker.specs.Variants.{going_on, hidden_tag, is_choice, listed, named_tag};
 ghost use Rattle.denoter_checker.specs.Variants.{next_arm_choices, next_choice, nothing_listed, one_more, tag_part};
 ghost use Rattle.denoter_checker.specs.Variants.{tag_type, value_if, variant_part};
 
@@ -16,6 +16,7 @@ use pas_places::first_of_constant;
 use pas_tree::constants::{Constant, Constants, NextConstant};
 use pas_tree::denoters::{NextArm, Tag};
 use program_tables::rows::{ItemRow, NameRow, PartRow, Row};
+use std::alloc::AllocError;
 
 /// Where a variant part stands.
 #[derive(Clone, Copy)]
@@ -94,33 +95,6 @@ pub(crate) fn check_tag(work: &mut Work, place: PartPlace, tag: &Tag) -> u32
     }
 }
 
-fn choice_in(row: Row) -> Option<(i32, u32)>
-    ensures { result ≡ choice_in row }
-{
-    match row {
-        Row::Item(ItemRow::Choice { value, next, .. }) => Some((value, next)),
-        _ => None,
-    }
-}
-
-/// Whether a value is in a list of values that choose.
-#[tactic(auto, using(crate::proofs::Choices::listed_outward))]
-pub fn is_listed(tables: &Tables, list: u32, value: i32) -> bool
-    ensures { result ≡ is_listed tables.now list value }
-{
-    let mut at = list;
-    'items: for _passed in 0..tables.tokens() {
-        let Some((held, next)) = choice_in(tables.row(at)) else {
-            return false;
-        };
-        if held == value {
-            return true;
-        }
-        at = next;
-    }
-    false
-}
-
 fn is_choice(tables: &Tables, choosing: Choosing, value: Option<Value>) -> bool
     ensures { result ≡ is_choice tables.now choosing value }
 {
@@ -129,7 +103,7 @@ fn is_choice(tables: &Tables, choosing: Choosing, value: Option<Value>) -> bool
         Some(Value::Text { .. }) => tables.type_row(choosing.host).is_none(),
         Some(Value::Ordinal { of, value }) => {
             tables.type_row(choosing.host).is_none()
-                || (of == choosing.host && !is_listed(tables, choosing.list, value))
+                || (of == choosing.host && !tables.is_chosen(choosing.list, value))
         }
     }
 }
@@ -174,20 +148,38 @@ fn add_choice(work: &mut Work, value: i32, chosen: u32, last: u32, slot: u32, en
     slot
 }
 
+/// A value that a choice has, beside the list that it belongs to and what it chooses.
+#[tactic(auto, using(check_steps::proofs::Runs::steps), unfolding(crate::specs::Variants::chosen_by))]
+fn add_chosen(
+    work: &mut Work,
+    list: u32,
+    value: i32,
+    chosen: u32,
+    last: u32,
+    slot: u32,
+    end: u32,
+) -> Result<u32, AllocError>
+    ensures { IfOk result (λ n. Does (chosen_by list value chosen last slot end) n work.old work.new) }
+{
+    work.add_chosen(list, value)?;
+    Ok(add_choice(work, value, chosen, last, slot, end))
+}
+
 #[tactic(auto, using(check_steps::proofs::Runs::steps))]
 fn add_listed(
     work: &mut Work,
+    list: u32,
     value: Option<i32>,
     chosen: u32,
     last: u32,
     slot: u32,
     end: u32,
-) -> u32
-    ensures { Does (listed value chosen last slot end) result work.old work.new }
+) -> Result<u32, AllocError>
+    ensures { IfOk result (λ n. Does (listed list value chosen last slot end) n work.old work.new) }
 {
     match value {
-        None => last,
-        Some(value) => add_choice(work, value, chosen, last, slot, end),
+        None => Ok(last),
+        Some(value) => add_chosen(work, list, value, chosen, last, slot, end),
     }
 }
 
@@ -199,14 +191,22 @@ fn check_choice(
     last: u32,
     slot: u32,
     c: &Constant,
-) -> u32
-    ensures { Does (choice choosing chosen last slot c.now) result work.old work.new }
+) -> Result<u32, AllocError>
+    ensures { IfOk result (λ n. Does (choice choosing chosen last slot c.now) n work.old work.new) }
 {
     let value = check_constant(work, choosing.frame, c);
     let fine = is_choice(&work.tables, choosing, value);
     let first = first_of_constant(c);
     work.late(22, first, fine);
-    add_listed(work, value_if(fine, value), chosen, last, slot, first)
+    add_listed(
+        work,
+        choosing.list,
+        value_if(fine, value),
+        chosen,
+        last,
+        slot,
+        first,
+    )
 }
 
 #[tactic(auto, unfolding(crate::specs::Variants::next_choice))]
@@ -216,8 +216,8 @@ fn check_next_choice(
     chosen: u32,
     last: u32,
     next: &NextConstant,
-) -> u32
-    ensures { Does (next_choice choosing chosen last next.now) result work.old work.new }
+) -> Result<u32, AllocError>
+    ensures { IfOk result (λ n. Does (next_choice choosing chosen last next.now) n work.old work.new) }
 {
     check_choice(work, choosing, chosen, last, next.comma, &next.constant)
 }
@@ -229,14 +229,14 @@ fn check_more_choices(
     chosen: u32,
     last: u32,
     constants: &[NextConstant],
-) -> u32
-    ensures { Does (each (next_choice choosing chosen) last constants.now) result work.old work.new }
+) -> Result<u32, AllocError>
+    ensures { IfOk result (λ n. Does (each (next_choice choosing chosen) last constants.now) n work.old work.new) }
 {
     let mut end = last;
     'constants: for constant in constants {
-        end = check_next_choice(work, choosing, chosen, end, constant);
+        end = check_next_choice(work, choosing, chosen, end, constant)?;
     }
-    end
+    Ok(end)
 }
 
 /// The constants that choose one thing, the first at a slot: what is given is where the last item of the list stands.
@@ -248,10 +248,10 @@ pub fn check_choices(
     last: u32,
     slot: u32,
     constants: &Constants,
-) -> u32
-    ensures { Does (choices choosing chosen last slot constants.now) result work.old work.new }
+) -> Result<u32, AllocError>
+    ensures { IfOk result (λ n. Does (choices choosing chosen last slot constants.now) n work.old work.new) }
 {
-    let next = check_choice(work, choosing, chosen, last, slot, &constants.first);
+    let next = check_choice(work, choosing, chosen, last, slot, &constants.first)?;
     check_more_choices(work, choosing, chosen, next, &constants.others)
 }
 
@@ -270,19 +270,19 @@ pub(crate) fn check_arm_choices(
     slot: u32,
     paren: u32,
     constants: &Constants,
-) -> Listed
-    ensures { Does (arm_choices choosing listed slot paren constants.now) result work.old work.new }
+) -> Result<Listed, AllocError>
+    ensures { IfOk result (λ l. Does (arm_choices choosing listed slot paren constants.now) l work.old work.new) }
 {
     let variants = listed.variants;
     let position = one_more(listed.position);
     let row = PartRow::Variant { variants, position };
     work.put(paren, Row::Part(row));
-    let last = check_choices(work, choosing, paren, listed.last, slot, constants);
-    Listed {
+    let last = check_choices(work, choosing, paren, listed.last, slot, constants)?;
+    Ok(Listed {
         variants,
         last,
         position,
-    }
+    })
 }
 
 #[tactic(auto, unfolding(crate::specs::Variants::next_arm_choices))]
@@ -291,8 +291,8 @@ fn check_next_arm_choices(
     choosing: Choosing,
     listed: Listed,
     next: &NextArm,
-) -> Listed
-    ensures { Does (next_arm_choices choosing listed next.now) result work.old work.new }
+) -> Result<Listed, AllocError>
+    ensures { IfOk result (λ l. Does (next_arm_choices choosing listed next.now) l work.old work.new) }
 {
     check_arm_choices(
         work,
@@ -311,14 +311,14 @@ pub(crate) fn check_more_arm_choices(
     choosing: Choosing,
     listed: Listed,
     arms: &[NextArm],
-) -> Listed
-    ensures { Does (each (next_arm_choices choosing) listed arms.now) result work.old work.new }
+) -> Result<Listed, AllocError>
+    ensures { IfOk result (λ l. Does (each (next_arm_choices choosing) listed arms.now) l work.old work.new) }
 {
     let mut so_far = listed;
     'arms: for arm in arms {
-        so_far = check_next_arm_choices(work, choosing, so_far, arm);
+        so_far = check_next_arm_choices(work, choosing, so_far, arm)?;
     }
-    so_far
+    Ok(so_far)
 }
 
 /// What the constants of a variant part have in common.

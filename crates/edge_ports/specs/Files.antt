@@ -1,8 +1,9 @@
 -- The files of a keeper, where it tells them.
-use Rattle.std.specs.Prelude.{◌≡◌, ◌<◌, ℕ, List, length, Option, Some, None, IfSome, IsSomeAnd}
+use Rattle.std.specs.Prelude.{◌≡◌, ◌≢◌, ◌<◌, ℕ, List, length, Option, Some, None, IfSome, IsSomeAnd}
+use Rattle.std.specs.Option.{option_map}
 use Rattle.std.specs.Ordering.{nat_cmp}
 use Rattle.std.specs.Cmp.Lexicographic.{slice_cmp}
-use Rattle.std.specs.FinMap.{FinMap, get}
+use Rattle.std.specs.FinMap.{FinMap, get, insert}
 
 -- a finite map from the bytes of names to the bytes of files
 abbrev pub FileMap : Type 0
@@ -23,3 +24,15 @@ LacksFile files name = IfSome files (λ map. file_at map name ≡ None)
 -- the file of this name has more than `limit` bytes, where files are told
 abbrev pub HoldsLonger : Option FileMap → List ℕ → ℕ → Type 0
 HoldsLonger files name limit = IfSome files (λ map. IsSomeAnd (file_at map name) (λ bytes. limit < length bytes))
+
+-- the file of this name was set to these bytes and all others stay, where files are told
+abbrev pub StoresFile : List ℕ → List ℕ → (before now : Option FileMap) → Type 0
+StoresFile name bytes before now = now ≡ option_map (λ map. insert map name bytes) before
+
+-- what is told of the file of this name, where files are told: its bytes, or that there is none
+abbrev pub told_at : List ℕ → Option FileMap → Option (Option (List ℕ))
+told_at name files = option_map (λ map. file_at map name) files
+
+-- the files of all other names stay, where files are told; of this name nothing is known
+abbrev pub KeepsOthers : List ℕ → (before now : Option FileMap) → Type 0
+KeepsOthers name before now = (other : List ℕ) → other ≢ name → told_at other now ≡ told_at other before

@@ -1,14 +1,16 @@
 -- What contracts see of a keeper in memory.
-use Rattle.std.specs.Prelude.{ℕ, List, Bool, Result, Ok, Err, true, false, refl}
-use Rattle.std.specs.FinMap.{code, empty}
+use Rattle.std.specs.Prelude.{ℕ, List, Bool, Result, Ok, Err, true, false, refl, ⊤}
+use Rattle.std.specs.FinMap.{code, empty, insert}
 use Rattle.std.specs.Coded.{Coded, code_by, coded×, coded_ℕ, coded_list}
 use Rattle.edge_ports.specs.declared.ports.FetchFault.{FetchFault}
 use Rattle.edge_ports.specs.declared.ports.FetchFault.TheVariants.{Absent, Failed, TooLong, Memory}
-use Rattle.edge_ports.specs.Counts.{KeeperCounts, no_counts, counts_after}
+use Rattle.edge_ports.specs.declared.ports.StoreFault.{StoreFault}
+use Rattle.edge_ports.specs.declared.ports.StoreFault.TheVariants as store
+use Rattle.edge_ports.specs.Counts.{KeeperCounts, no_counts, counts_after, counts_stored}
 use Rattle.edge_ports.specs.States.{PlanState, plan_after, plan_of}
 use Rattle.edge_ports.specs.Files.{FileMap}
 
--- the files, which fetches are to fail, and how often one went wrong
+-- the files, which calls are to fail, and how often one went wrong
 pub record ShelfState : Type 0 where
   pub files : FileMap
   pub plan : PlanState
@@ -33,6 +35,25 @@ shelf_after answer shelf = record shelf {
   counts = counts_after answer shelf.counts;
 }
 
+-- the storing failed
+abbrev pub has_not_stored : Result ⊤ StoreFault → Bool
+has_not_stored (Ok _) = false
+has_not_stored (Err store.Failed) = true
+has_not_stored (Err store.Memory) = false
+
+-- the files after one was to be stored, with this answer: it is there exactly where the answer is Ok
+abbrev pub files_stored : Result ⊤ StoreFault → List ℕ → List ℕ → FileMap → FileMap
+files_stored (Ok _) name bytes files = insert files name bytes
+files_stored (Err fault) name bytes files = files
+
+-- the shelf after a file was to be stored, with this answer
+abbrev pub shelf_stored : Result ⊤ StoreFault → List ℕ → List ℕ → ShelfState → ShelfState
+shelf_stored answer name bytes shelf = record {
+  files = files_stored answer name bytes shelf.files;
+  plan = plan_after (has_not_stored answer) shelf.plan;
+  counts = counts_stored answer shelf.counts;
+}
+
 -- a plan is stored as its fields
 abbrev pub plan_code : Coded PlanState
 plan_code =
@@ -45,10 +66,10 @@ plan_code =
 -- counts are stored as their fields
 abbrev pub counts_code : Coded KeeperCounts
 counts_code =
-    code_by (ℕ × (ℕ × ℕ))
-    (coded× coded_ℕ (coded× coded_ℕ coded_ℕ))
-    (λ c. (c.faults, (c.misses, c.overs)))
-    (λ t. record { faults = t.0; misses = t.1.0; overs = t.1.1 })
+    code_by (ℕ × (ℕ × (ℕ × ℕ)))
+    (coded× coded_ℕ (coded× coded_ℕ (coded× coded_ℕ coded_ℕ)))
+    (λ c. (c.faults, (c.misses, (c.overs, c.stores))))
+    (λ t. record { faults = t.0; misses = t.1.0; overs = t.1.1.0; stores = t.1.1.1 })
     (λ _. refl)
 
 -- a shelf is stored as its fields

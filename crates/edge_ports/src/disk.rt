@@ -5,7 +5,8 @@ ghost use Rattle.edge_ports.specs.Counts.{no_counts};
 ghost use Rattle.edge_ports.specs.Streams.{opener_of};
 
 use crate::counts::Counts;
-use crate::{Bytes, FetchFault, Keeper};
+use crate::storing::replace_file;
+use crate::{Bytes, FetchFault, Keeper, StoreFault};
 use std::alloc::Global;
 use std::fs;
 use std::io::{ErrorKind, Read};
@@ -104,6 +105,14 @@ impl<R: Files> Keeper for FileKeeper<R> {
     fn fetch(&mut self, alloc: Global, name: &str, limit: u64) -> Result<Bytes, FetchFault> {
         let answer = read_file(&self.files, alloc, name, limit);
         self.counts.count(&answer);
+        answer
+    }
+
+    /// Writes a new file in the folder of this name and renames it. So a file of this name is whole or as it
+    /// was, whatever fails.
+    fn store(&mut self, alloc: Global, name: &str, bytes: &[u8]) -> Result<(), StoreFault> {
+        let answer = replace_file(&self.files, alloc, name, bytes);
+        self.counts.count_store(&answer);
         answer
     }
 }

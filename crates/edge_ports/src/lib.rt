@@ -11,6 +11,7 @@ mod page;
 mod plan;
 mod ports;
 mod shelf;
+mod storing;
 mod streams;
 mod tape;
 
@@ -18,7 +19,7 @@ pub use bytes::{Bytes, Memory};
 pub use disk::FileKeeper;
 pub use lines::{CONSOLE_BYTES, LINE_BYTES, LineFault, Lines, Turn};
 pub use page::Page;
-pub use ports::{Failed, FetchFault, Keeper, Sink, Source, write_all};
+pub use ports::{Failed, FetchFault, Keeper, Sink, Source, StoreFault, write_all};
 pub use shelf::Shelf;
 pub use streams::{StdSink, StdSource};
 pub use tape::Tape;

@@ -2,9 +2,9 @@
 ghost use Rattle.std.specs.Prelude.{◌≡◌, ◌<◌, ◌≤◌, ℕ, Bool, true, List, Ok, Err, Option, length, take, is_err, IfOk};
 ghost use Rattle.std.specs.Prelude.{OnOk, OnErr};
 ghost use Rattle.std.specs.Io.KnownBytes.{IsAtEnd};
-ghost use Rattle.edge_ports.specs.Counts.{Rose, NotFallen, KeeperCounts, CountsFetch, NoneFallen};
+ghost use Rattle.edge_ports.specs.Counts.{Rose, NotFallen, KeeperCounts, CountsFetch, CountsStore, NoneFallen};
 ghost use Rattle.edge_ports.specs.Told.{GaveAll, GavePrefix, TookAll};
-ghost use Rattle.edge_ports.specs.Files.{FileMap, HoldsFile, LacksFile, HoldsLonger};
+ghost use Rattle.edge_ports.specs.Files.{FileMap, HoldsFile, LacksFile, HoldsLonger, StoresFile, KeepsOthers};
 
 use crate::Bytes;
 use std::alloc::Global;
@@ -78,13 +78,24 @@ pub enum FetchFault {
     Memory,
 }
 
+/// Why a file was not stored.
+#[derive(Clone, Copy, Debug, PartialEq, Eq, Drop, Error)]
+pub enum StoreFault {
+    /// The file could not be written.
+    #[error("the file could not be written")]
+    Failed,
+    /// There was no memory for it.
+    #[error("out of memory")]
+    Memory,
+}
+
 /// Where files are kept, by their names.
 pub trait Keeper {
     /// The files, where the object tells them. A name stands for its bytes.
     ghost files: { Self → Option FileMap };
 
-    /// How often calls went wrong, by reason. A count rises with each call that goes wrong for its reason
-    /// and with no other, and stands still at the last number of 64 bits.
+    /// How often calls went wrong, by reason, and how many calls of `store` there were. A count rises with
+    /// each call that it is about and with no other, and stands still at the last number of 64 bits.
     ghost counts: { Self → KeeperCounts };
 
     /// All the bytes of the file of this name, if they are at most `limit`.
@@ -96,6 +107,15 @@ pub trait Keeper {
             × HoldsLonger (files self.old) name.now limit }
         ensures counts { CountsFetch result (counts self.old) (counts self.new) }
         ensures files { files self.new ≡ files self.old }
+        ensures not_fallen { NoneFallen (counts self.old) (counts self.new) };
+
+    /// Puts a file of this name in the place of the one that is there, if there is one. Where that failed,
+    /// the file of this name may be any or none, as far as is told; out of memory leaves all files.
+    fn store(&mut self, alloc: Global, name: &str, bytes: &[u8]) -> Result<(), StoreFault>
+        ensures stored { OnOk result (StoresFile name.now bytes.now (files self.old) (files self.new)) }
+        ensures failed { result ≡ Err StoreFault.Failed → KeepsOthers name.now (files self.old) (files self.new) }
+        ensures memory { result ≡ Err StoreFault.Memory → files self.new ≡ files self.old }
+        ensures counts { CountsStore result (counts self.old) (counts self.new) }
         ensures not_fallen { NoneFallen (counts self.old) (counts self.new) };
 }
 

@@ -3,15 +3,15 @@ ghost use Rattle.std.specs.Prelude.{◌≡◌, ◌<◌, ◌≤◌, ◌↔◌, �
 ghost use Rattle.std.specs.Prelude.{IsSomeAnd};
 ghost use Rattle.std.specs.Option.{option_map};
 ghost use Rattle.std.specs.FinMap.{empty, insert};
-ghost use Rattle.edge_ports.specs.Counts.{no_counts, NoneFallen, CountsFetch};
+ghost use Rattle.edge_ports.specs.Counts.{no_counts, NoneFallen, CountsFetch, CountsStore};
 ghost use Rattle.edge_ports.specs.States.{IsListed};
-ghost use Rattle.edge_ports.specs.Files.{file_at, HoldsFile, LacksFile, HoldsLonger};
-ghost use Rattle.edge_ports.specs.Shelves.{empty_shelf, shelf_after};
+ghost use Rattle.edge_ports.specs.Files.{file_at, HoldsFile, LacksFile, HoldsLonger, StoresFile, KeepsOthers};
+ghost use Rattle.edge_ports.specs.Shelves.{empty_shelf, shelf_after, shelf_stored, files_stored};
 ghost use Rattle.edge_ports.specs.Entries.{files_of};
 
 use crate::counts::Counts;
 use crate::plan::Plan;
-use crate::{Bytes, FetchFault, Keeper, Memory};
+use crate::{Bytes, FetchFault, Keeper, Memory, StoreFault};
 use std::alloc::Global;
 use std::collections::VecDeque;
 use std::marker::Model;
@@ -45,7 +45,8 @@ impl Model for Shelf {
 }
 
 impl Shelf {
-    /// A shelf with no files. `fails` lists the numbers, from 0, of the calls of `fetch` that are to fail.
+    /// A shelf with no files. `fails` lists the numbers, from 0, of the calls of `fetch` and `store` that are
+    /// to fail.
     pub fn new(alloc: Global, fails: &[u64]) -> Result<Shelf, Memory>
         ensures empty { IfOk result (λ shelf. shelf ≡ empty_shelf fails.now) }
         ensures files { IfOk result (λ shelf. ⟦<Shelf as Keeper>⟧.files shelf ≡ Some empty) }
@@ -126,6 +127,20 @@ impl Shelf {
         }
         fetched(alloc, find(&self.entries, name.as_bytes()), limit)
     }
+
+    // Puts the file unless the call is listed, and answers as a call of `store` does.
+    fn put_unless_listed(&mut self, name: &str, bytes: &[u8]) -> Result<(), StoreFault>
+        ensures listed { (result ≡ Err StoreFault.Failed) ↔ IsListed self.old.plan }
+        ensures after { self.new ≡ record self.old { files = files_stored result name.now bytes.now self.old.files } }
+    {
+        if self.plan.is_listed() {
+            return Err(StoreFault::Failed);
+        }
+        match self.put(name, bytes) {
+            Ok(()) => Ok(()),
+            Err(_) => Err(StoreFault::Memory),
+        }
+    }
 }
 
 impl Keeper for Shelf {
@@ -157,6 +172,24 @@ impl Keeper for Shelf {
         let failed = self.plan.is_listed();
         self.plan.count(failed);
         self.counts.count(&answer);
+        answer
+    }
+
+    /// Fails exactly where the call is listed, and then changes no file.
+    fn store(&mut self, alloc: Global, name: &str, bytes: &[u8]) -> Result<(), StoreFault>
+        ensures listed { (result ≡ Err StoreFault.Failed) ↔ IsListed self.old.plan }
+        ensures after { self.new ≡ shelf_stored result name.now bytes.now self.old }
+        ensures stored { OnOk result (StoresFile name.now bytes.now (Some self.old.files) (Some self.new.files)) }
+        ensures failed { result ≡ Err StoreFault.Failed
+            → KeepsOthers name.now (Some self.old.files) (Some self.new.files) }
+        ensures memory { result ≡ Err StoreFault.Memory → Some self.new.files ≡ Some self.old.files }
+        ensures counts { CountsStore result self.old.counts self.new.counts }
+        ensures not_fallen { NoneFallen self.old.counts self.new.counts }
+    {
+        let failed = self.plan.is_listed();
+        let answer = self.put_unless_listed(name, bytes);
+        self.plan.count(failed);
+        self.counts.count_store(&answer);
         answer
     }
 }

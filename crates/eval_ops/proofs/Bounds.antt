@@ -4,14 +4,14 @@ use mir.Val.{SFits, of_z, to_z}
 use Rattle.std.proofs.Common.{ℤ, Result, subst}
 use Rattle.std.proofs.lemmas.Int.{to_z-of_z}
 use Rattle.cell_value.specs.declared.values.Value.{Value}
-use Rattle.program_meaning.specs.Values.{defined}
+use Rattle.program_meaning.specs.Actions.{Action}
 use Rattle.eval_ops.specs.declared.halt.Halt.{Halt}
 use Rattle.eval_ops.specs.Machines.{Gives}
 
 abbrev word : ℤ → ℤ
 word n = to_z w32 (of_z w32 n)
 
-pub defined_by : (least greatest : ℤ) (v : Value) (r : Result Value Halt) → SFits w32 least → SFits w32 greatest
-    → Gives (λ v. v) (defined (word least) (word greatest) v) r → Gives (λ v. v) (defined least greatest v) r
-defined_by least greatest v r a b h = subst (λ n. Gives (λ v. v) (defined n greatest v) r) (to_z-of_z w32 least a)
-    (subst (λ n. Gives (λ v. v) (defined (word least) n v) r) (to_z-of_z w32 greatest b) h)
+pub within_bounds : (f : ℤ → ℤ → Action Value) (least greatest : ℤ) (r : Result Value Halt) → SFits w32 least → SFits w32 greatest
+    → Gives (λ v. v) (f (word least) (word greatest)) r → Gives (λ v. v) (f least greatest) r
+within_bounds f least greatest r a b h = subst (λ n. Gives (λ v. v) (f n greatest) r) (to_z-of_z w32 least a)
+    (subst (λ n. Gives (λ v. v) (f (word least) n) r) (to_z-of_z w32 greatest b) h)

@@ -1,3 +1,5 @@
 pub mod ActionsCompose
 pub mod Bounds
+pub mod CallsInFrames
+pub mod FramesByCell
 pub mod Lists

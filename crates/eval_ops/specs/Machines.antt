@@ -1,7 +1,7 @@
 -- What a machine stands for, and what the code's acts and actions do to it.
-use Rattle.std.specs.Prelude.{◌≡◌, ◌≤◌, ◌+◌, List, ◌++◌, Result, Ok, Err, length}
+use Rattle.std.specs.Prelude.{◌≡◌, ◌≤◌, ◌<◌, ◌+◌, List, ◌++◌, Result, Ok, Err, length}
 use Rattle.cell_value.specs.declared.entries.Touch.{Touch}
-use Rattle.program_meaning.specs.State.{State, stack_end}
+use Rattle.program_meaning.specs.State.{State, stack_end, most_calls, most_depth}
 use Rattle.program_meaning.specs.Acts.{Trouble, Done, Went, Stops}
 use Rattle.program_meaning.specs.Acts as trouble
 use Rattle.program_meaning.specs.Actions.{Action, Give, Fail, Performed, Finished, Stopped}
@@ -30,12 +30,21 @@ machine_state m = record {
 abbrev pub moment_of : Machine → Moment
 moment_of m = record { state = machine_state m; log = m.log }
 
+-- the state changes, and nothing is put into the log
+abbrev pub changed : (State → State) → Moment → Moment
+changed f m = record { state = f m.state; log = m.log }
+
 -- what each action needs of a machine, and leaves
 pub record IsReady (m : Machine) : Type 0 where
   -- the stack lies below the heap
   pub stack : m.top ≤ stack_end
   -- the log has room for an entry of each step that is left
   pub room : length m.log + m.steps ≤ 8000000
+
+-- a machine on which one call more may be entered
+pub record HasRoom (m : Machine) : Type 0 where
+  pub calls : m.calls < most_calls
+  pub depth : m.depth ≤ most_depth
 
 -- the act was done, with this answer
 abbrev pub ActDone : {A : Type 0} → Done A → A → Moment → Moment → Type 0

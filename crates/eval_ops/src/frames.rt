@@ -1,6 +1,7 @@
 //! Places in frames and in variables.
 
-ghost use Rattle.std.specs.Prelude.{◌≡◌};
+ghost use Rattle.std.specs.Prelude.{◌≡◌, None, OnOk};
+ghost use Rattle.program_meaning.specs.Acts.{limit_passed};
 ghost use Rattle.program_meaning.specs.Actions.{performs};
 ghost use Rattle.program_meaning.specs.Cells as action;
 ghost use Rattle.program_meaning.specs.State as state;
@@ -108,6 +109,7 @@ pub fn declaring(machine: &mut Machine, cells: u32, levels: u32, base: u32) -> R
     requires ready { IsReady machine.old }
     ensures action { DoesAll (λ b. b) (performs (action.declaring cells levels base) (machine_state machine.old)) result
         (moment_of machine.old) (moment_of machine.new) }
+    ensures room { OnOk result (limit_passed (machine_state machine.new) cells ≡ None) }
     ensures ready { IsReady machine.new }
 {
     let frame = frame_out(machine, levels, base)?;

@@ -2,17 +2,17 @@
 //! that answers `Memory` leaves the machine in no state that is said; the run is then given up.
 #![tactic(auto)]
 
+mod calls;
 mod cells;
 mod frames;
 mod halt;
-mod items;
 mod machine;
 mod values;
 
+pub use calls::{close_call, make_frame, open_call, remove_frame, result_at};
 pub use cells::{assign, ordinal_at, read_cells, write_cells};
 pub use frames::{cell_out, component, declaring, frame_out, moved, reference_out};
 pub use halt::Halt;
-pub use items::Items;
 pub use machine::{
     HEAP_END, MOST_CALLS, MOST_DEPTH, Machine, STACK_END, may_call, read_cell, spend, write_cell,
 };

@@ -1,15 +1,14 @@
 //! A run's state with the log so far, and the single acts on it.
 
-ghost use Rattle.std.specs.Prelude.{◌≡◌, ◌<◌, ◌+◌, ◌-◌, ◌++◌, ◌∷◌, [], Err, IfErr, OnOk};
+ghost use Rattle.std.specs.Prelude.{◌≡◌, ◌<◌, ◌+◌, ◌-◌, ◌++◌, ◌∷◌, [], Err, IfErr, None, OnOk};
 ghost use Rattle.program_meaning.specs.State.{is_in_reach};
-ghost use Rattle.program_meaning.specs.Acts.{HasCell, MayCall, Spend, WriteCell, perform};
+ghost use Rattle.program_meaning.specs.Acts.{HasCell, MayCall, Spend, WriteCell, limit_passed, perform};
 ghost use Rattle.program_meaning.specs.Actions.{performs};
 ghost use Rattle.program_meaning.specs.Cells.{read, write};
 ghost use Rattle.eval_ops.specs.Machines.{Does, DoesAll, IsReady, machine_state, moment_of};
 
 use crate::halt::Halt;
-use crate::items::Items;
-use cell_value::{Kind, Steps, Touch, Value, Which};
+use cell_value::{Items, Kind, Steps, Touch, Value, Which};
 use edge_ports::Bytes;
 use effect_log::Log;
 use persistent_store::Store;
@@ -53,7 +52,7 @@ pub struct Machine {
 }
 
 /// What a run counts no nodes by.
-struct Uncounted;
+pub(crate) struct Uncounted;
 
 /// Whether an address is one of the stack below `top`, or one of the heap's range.
 fn reaches(machine: &Machine, addr: u32) -> bool
@@ -187,6 +186,7 @@ pub fn may_call(machine: &mut Machine, cells: u32) -> Result<(), Halt>
     requires ready { IsReady machine.old }
     ensures act { Does (λ _. tt) (perform (MayCall cells) (machine_state machine.old)) result (moment_of machine.old)
         (moment_of machine.new) }
+    ensures room { OnOk result (limit_passed (machine_state machine.new) cells ≡ None) }
     ensures ready { IsReady machine.new }
     ensures no_memory { result ≡ Err Halt.Memory → ⊥ }
 {

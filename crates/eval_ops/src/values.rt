@@ -6,8 +6,8 @@ ghost use Rattle.program_meaning.specs.Values as values;
 ghost use Rattle.eval_ops.specs.Machines.{Gives};
 
 use crate::halt::Halt;
-use cell_value::{ArithOp, Kind, OpFault, Value, arith, in_range, negate};
-use program_tables::rows::{Order, OrdinalFunction, TypeRow};
+use cell_value::{ArithOp, Kind, OpFault, Order, Value, arith, in_range, negate};
+use program_tables::rows::{OrdinalFunction, TypeRow};
 
 /// The fault of an operation that has no result.
 pub fn fault_kind(fault: OpFault) -> Kind

@@ -25,7 +25,6 @@ use Rattle.type_relations.specs.declared.headings.Section.TheVariants as section
 use Rattle.type_relations.specs.declared.shapes.ExpressionType.{ExpressionType}
 use Rattle.type_relations.specs.declared.shapes.ExpressionType.TheVariants as expression
 use Rattle.type_relations.specs.declared.shapes.Shape.{Shape}
-use Rattle.type_relations.specs.declared.shapes.Shape.TheVariants as shape
 use Rattle.type_relations.specs.Headings.{congruous, section_at}
 use Rattle.type_relations.specs.Operators.{is_operand, is_ordinal, is_unknown}
 use Rattle.type_relations.specs.Shapes.{is_assignable, is_same_type, shape_of}

@@ -1,2 +1,1 @@
 pub mod HeadingRolls
-pub mod RoutineSearch

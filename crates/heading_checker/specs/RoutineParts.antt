@@ -1,6 +1,6 @@
 -- The procedures and functions of a block: which names they define, and which heading completes which (6.2.1, 6.6.1,
 -- 6.6.2).
-use Rattle.std.specs.Prelude.{ℕ, Bool, true, false, List, [], ◌∷◌, Option, Some, None, nat_eq, not, codes}
+use Rattle.std.specs.Prelude.{ℕ, ◌+◌, min, Bool, true, false, List, Option, Some, None, nat_eq, not, codes, slice_get}
 use Rattle.std.specs.Prelude.{if◌then◌else◌}
 use Rattle.pas_tree.specs.declared.headings.Heading.{Heading}
 use Rattle.pas_tree.specs.declared.headings.Formals.{Formals}
@@ -91,24 +91,27 @@ abbrev pub no_result : Option ResultType → Step (Unit {0})
 no_result None = give tt
 no_result (Some r) = rule 9 r.colon false
 
--- It defines nothing. The two headings are put down at each other's names.
-unfoldable pub completing : ℕ → Heading → Step (Unit {0})
-completing first h = do
+-- It defines nothing. At the first name it is put down which routine of the part this is, and at its own the first
+-- name.
+unfoldable pub completing : ℕ → ℕ → Heading → Step (Unit {0})
+completing first position h = do
   _ ← no_formals (formals_of h)
   _ ← no_result (result_of h)
-  _ ← put first (row.Part (part.Forward (is_function h) (Some (heading_name h))))
+  _ ← put first (row.Part (part.Forward (is_function h) (Some position)))
   put (heading_name h) (row.Part (part.Completing first))
 
-abbrev pub complete_or_define : Option ℕ → ℕ → Heading → Body → Step (Unit {0})
-complete_or_define None region h body = defining region h body
-complete_or_define (Some first) region h body = completing first h
+abbrev pub complete_or_define : Option ℕ → ℕ → ℕ → Heading → Body → Step (Unit {0})
+complete_or_define None region position h body = defining region h body
+complete_or_define (Some first) region position h body = completing first position h
 
 -- ---- the routines of a part
 
-unfoldable pub define_routine : ℕ → Unit {0} → Routine → Step (Unit {0})
-define_routine region u r = do
+-- a routine by its position in its part; that of the next one is given
+unfoldable pub define_routine : ℕ → ℕ → Routine → Step ℕ
+define_routine region position r = do
   first ← look (λ k. completed_by k region r.heading r.body)
-  complete_or_define first region r.heading r.body
+  _ ← complete_or_define first region position r.heading r.body
+  give (min (position + 1) 4294967295)
 
 abbrev pub is_waiting : Row → Bool
 is_waiting (row.Part (part.Forward function None)) = true
@@ -123,7 +126,7 @@ has_block u r = do
 -- the names of the routines of a part, in the region of the block
 abbrev pub define_routines : ℕ → List Routine → Step (Unit {0})
 define_routines region rs = do
-  _ ← each (define_routine region) tt rs
+  _ ← each (define_routine region) 0 rs
   each has_block tt rs
 
 -- ---- the block of a forward heading
@@ -132,15 +135,10 @@ abbrev pub block_in : Row → Option ℕ
 block_in (row.Part (part.Forward function block)) = block
 block_in r = None
 
--- the routine of a part whose name is this token
-abbrev pub routine_named : List Routine → ℕ → Option Routine
-routine_named [] token = None
-routine_named (r ∷ rs) token = if nat_eq (routine_name r) token then Some r else routine_named rs token
-
-abbrev pub routine_of : List Routine → Option ℕ → Option Routine
-routine_of rs None = None
-routine_of rs (Some token) = routine_named rs token
+abbrev pub routine_at : List Routine → Option ℕ → Option Routine
+routine_at rs None = None
+routine_at rs (Some position) = slice_get rs position
 
 -- of a routine with a forward heading the one of the part that has its block
 abbrev pub completion_of : Known → List Routine → Routine → Option Routine
-completion_of k rs r = routine_of rs (block_in (row_at k (routine_name r)))
+completion_of k rs r = routine_at rs (block_in (row_at k (routine_name r)))

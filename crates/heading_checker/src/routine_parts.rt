@@ -8,7 +8,6 @@ ghost use Rattle.heading_checker.specs.RoutineParts.{completed_by, completing, c
 ghost use Rattle.heading_checker.specs.RoutineParts.{define_routine, define_routines, defining, directed};
 ghost use Rattle.heading_checker.specs.RoutineParts.{directive_in, has_block};
 ghost use Rattle.heading_checker.specs.RoutineParts.{is_forward, is_waiting, no_formals, no_result, routine_name};
-ghost use Rattle.heading_checker.specs.RoutineParts.{routine_named};
 
 use crate::formals::{formals_of, is_complete, is_function, result_of};
 use check_steps::{Def, Definition, Tables, Work};
@@ -150,14 +149,14 @@ fn refuse_result(work: &mut Work, written: Option<&ResultType>)
 }
 
 #[tactic(auto, using(check_steps::proofs::Runs::steps), unfolding(crate::specs::RoutineParts::completing))]
-fn complete(work: &mut Work, first: u32, heading: &Heading)
-    ensures { Does (completing first heading.now) tt work.old work.new }
+fn complete(work: &mut Work, first: u32, position: u32, heading: &Heading)
+    ensures { Does (completing first position heading.now) tt work.old work.new }
 {
     refuse_formals(work, formals_of(heading));
     refuse_result(work, result_of(heading));
     let forward = PartRow::Forward {
         function: is_function(heading),
-        block: Some(heading_name(heading)),
+        block: Some(position),
     };
     work.put(first, Row::Part(forward));
     work.put(
@@ -166,27 +165,54 @@ fn complete(work: &mut Work, first: u32, heading: &Heading)
     );
 }
 
-#[tactic(auto, using(check_steps::proofs::Runs::steps), unfolding(crate::specs::RoutineParts::define_routine))]
-fn define_routine(work: &mut Work, region: u32, routine: &Routine) -> Result<(), AllocError>
-    ensures { IfOk result (λ _. Does (define_routine region tt routine.now) tt work.old work.new) }
+#[tactic(auto, using(check_steps::proofs::Runs::steps))]
+fn complete_or_define(
+    work: &mut Work,
+    first: Option<u32>,
+    region: u32,
+    position: u32,
+    routine: &Routine,
+) -> Result<(), AllocError>
+    ensures { IfOk result (λ _. Does
+        (complete_or_define first region position routine.now.heading routine.now.body) tt work.old work.new) }
 {
-    match completed_by(&work.tables, region, &routine.heading, &routine.body) {
+    match first {
         None => define(work, region, &routine.heading, &routine.body),
         Some(first) => {
-            complete(work, first, &routine.heading);
+            complete(work, first, position, &routine.heading);
             Ok(())
         }
     }
 }
 
-#[tactic(auto, using(check_steps::proofs::Runs::loops))]
-fn define_each_routine(work: &mut Work, region: u32, routines: &[Routine]) -> Result<(), AllocError>
-    ensures { IfOk result (λ _. Does (each (define_routine region) tt routines.now) tt work.old work.new) }
+/// A routine by its position in its part; that of the next one is given.
+#[tactic(auto, using(check_steps::proofs::Runs::steps), unfolding(crate::specs::RoutineParts::define_routine))]
+fn define_routine(
+    work: &mut Work,
+    region: u32,
+    position: u32,
+    routine: &Routine,
+) -> Result<u32, AllocError>
+    ensures { IfOk result (λ next. Does (define_routine region position routine.now) next work.old work.new) }
 {
+    let first = completed_by(&work.tables, region, &routine.heading, &routine.body);
+    complete_or_define(work, first, region, position, routine)?;
+    Ok(position.saturating_add(1))
+}
+
+#[tactic(auto, using(check_steps::proofs::Runs::loops))]
+fn define_each_routine(
+    work: &mut Work,
+    region: u32,
+    routines: &[Routine],
+) -> Result<u32, AllocError>
+    ensures { IfOk result (λ n. Does (each (define_routine region) 0 routines.now) n work.old work.new) }
+{
+    let mut position: u32 = 0;
     'routines: for routine in routines {
-        define_routine(work, region, routine)?;
+        position = define_routine(work, region, position, routine)?;
     }
-    Ok(())
+    Ok(position)
 }
 
 fn is_waiting(row: Row) -> bool
@@ -217,12 +243,12 @@ fn check_blocks(work: &mut Work, routines: &[Routine])
 }
 
 /// Defines the names of the routines of a part in the region of its block. Of a routine with a forward heading the
-/// names in the two headings are put down at each other.
+/// one with its block, and of that the name in the first heading, are put down.
 #[tactic(auto, using(check_steps::proofs::Runs::steps))]
 pub fn define_routines(work: &mut Work, region: u32, routines: &[Routine]) -> Result<(), AllocError>
     ensures { IfOk result (λ _. Does (define_routines region routines.now) tt work.old work.new) }
 {
-    define_each_routine(work, region, routines)?;
+    let _count = define_each_routine(work, region, routines)?;
     check_blocks(work, routines);
     Ok(())
 }
@@ -236,19 +262,6 @@ fn block_in(row: Row) -> Option<u32>
     }
 }
 
-/// The routine of a part whose name is this token.
-#[tactic(auto, using(crate::proofs::RoutineSearch::search_on))]
-fn routine_named(routines: &[Routine], token: u32) -> Option<&Routine>
-    ensures { option_copied result ≡ routine_named routines.now token }
-{
-    'routines: for routine in routines {
-        if routine_name(routine) == token {
-            return Some(routine);
-        }
-    }
-    None
-}
-
 /// Of a routine with a forward heading the one of the same part that has its block, before the routine's own row stands
 /// at its name.
 pub fn completion_of<'a>(
@@ -260,6 +273,6 @@ pub fn completion_of<'a>(
 {
     match block_in(tables.row(routine_name(routine))) {
         None => None,
-        Some(token) => routine_named(routines, token),
+        Some(position) => routines.get(position as usize),
     }
 }

@@ -1,5 +1,8 @@
 //! Hand values for the operators, and that what takes memory can succeed.
-use cell_value::{ArithOp, Cells, OpFault, SetBits, Steps, Value, arith, in_range, negate};
+use cell_value::{
+    ArithOp, Cells, Items, OpFault, Order, SetBits, Steps, Value, arith, compare, holds, in_range,
+    meet, minus, negate, union, with_range, within,
+};
 use std::test::Fail;
 
 const MAXINT: i64 = 2_147_483_647;
@@ -88,6 +91,85 @@ fn signs_and_ranges(rt: HostRuntime) {
     }
 }
 
+/// What a relation is to tell of two lists.
+type Relation<'a> = (Order, &'a [Value], &'a [Value], Result<bool, OpFault>);
+
+#[test]
+fn relations_of_lists(rt: HostRuntime) {
+    let abc = [Value::Number(97), Value::Number(98), Value::Number(99)];
+    let abd = [Value::Number(97), Value::Number(98), Value::Number(100)];
+    let gap = [Value::Number(97), Value::Undefined, Value::Number(99)];
+    let low = [Value::Number(-1), Value::Undefined, Value::Nil];
+    let undefined = Err(OpFault::UndefinedValue);
+    let cases: [Relation; 15] = [
+        (Order::Equal, &abc, &abc, Ok(true)),
+        (Order::NotEqual, &abc, &abc, Ok(false)),
+        (Order::Less, &abc, &abd, Ok(true)),
+        (Order::Less, &abc, &abc, Ok(false)),
+        (Order::Greater, &abd, &abc, Ok(true)),
+        (Order::Greater, &abc, &abd, Ok(false)),
+        (Order::AtMost, &abc, &abc, Ok(true)),
+        (Order::AtMost, &abd, &abc, Ok(false)),
+        (Order::AtLeast, &abc, &abc, Ok(true)),
+        (Order::AtLeast, &abc, &abd, Ok(false)),
+        (Order::Equal, &abc, &gap, undefined),
+        (Order::Less, &gap, &abd, undefined),
+        (Order::Less, &low, &abc, Ok(true)),
+        (Order::Equal, &gap, &low, Ok(false)),
+        (Order::AtLeast, &[], &[], Ok(true)),
+    ];
+    for (order, left, right, want) in cases {
+        assert_eq!(rt;
+            compare(order, left, right),
+            want,
+            "{left:?} {order:?} {right:?}"
+        );
+    }
+}
+
+#[test]
+fn sets_at_hand_values(rt: HostRuntime) {
+    let none = SetBits { words: [0; 4] };
+    let low = with_range(none, 3, 5);
+    let wide = with_range(with_range(none, 62, 65), 255, 255);
+    let cases: [(SetBits, [u64; 4]); 8] = [
+        (low, [0b11_1000, 0, 0, 0]),
+        (
+            wide,
+            [0xc000_0000_0000_0000, 0b11, 0, 0x8000_0000_0000_0000],
+        ),
+        (with_range(low, 5, 3), [0b11_1000, 0, 0, 0]),
+        (with_range(none, 0, 255), [u64::MAX; 4]),
+        (
+            union(low, wide),
+            [0xc000_0000_0000_0038, 0b11, 0, 0x8000_0000_0000_0000],
+        ),
+        (
+            minus(with_range(none, 4, 9), low),
+            [0b11_1100_0000, 0, 0, 0],
+        ),
+        (meet(with_range(none, 4, 9), low), [0b11_0000, 0, 0, 0]),
+        (minus(wide, wide), [0; 4]),
+    ];
+    for (got, want) in cases {
+        assert_eq!(rt; got, SetBits { words: want });
+    }
+    for (ordinal, want) in [
+        (61, false),
+        (62, true),
+        (65, true),
+        (66, false),
+        (255, true),
+        (256, false),
+        (-1, false),
+    ] {
+        assert_eq!(rt; holds(wide, ordinal), want, "{ordinal}");
+    }
+    assert!(rt; within(low, union(low, wide)));
+    assert!(rt; within(none, none));
+    assert!(rt; !within(wide, low));
+}
+
 #[test]
 fn cells_and_steps(rt: HostRuntime) -> Result<(), Fail> {
     let mut cells = Cells::new(rt.alloc());
@@ -97,6 +179,11 @@ fn cells_and_steps(rt: HostRuntime) -> Result<(), Fail> {
     assert_eq!(rt; cells.len(), 2);
     assert_eq!(rt; cells.at(0), Value::Number(7));
     assert_eq!(rt; cells.at(1), Value::Nil);
+    let mut items = Items::new(rt.alloc());
+    items.push(65)?;
+    items.push(256)?;
+    assert_eq!(rt; items.len(), 2);
+    assert_eq!(rt; items.at(1), 256);
     let mut steps: Steps<u8> = Steps::new();
     steps.tick();
     Ok(())

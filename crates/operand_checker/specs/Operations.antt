@@ -10,7 +10,7 @@ use Rattle.pas_tree.specs.declared.operators.RelationalOperator.{RelationalOpera
 use Rattle.pas_tree.specs.declared.operators.RelationalOperator.TheVariants as relate
 use Rattle.program_tables.specs.declared.rows.Row.TheVariants as row
 use Rattle.program_tables.specs.declared.rows.ExpressionRow.TheVariants as written
-use Rattle.program_tables.specs.declared.rows.Order.TheVariants as order
+use Rattle.cell_value.specs.declared.values.Order.TheVariants as order
 use Rattle.check_steps.specs.Steps.{Step, give, ◌>>=◌, look, late, put}
 use Rattle.pas_places.specs.Operators.{sign_token}
 use Rattle.type_relations.specs.declared.operators.Operator.{Operator}

@@ -6,10 +6,11 @@ ghost use Rattle.operand_checker.specs.Operations.{adding_operator, is_minus, mu
 ghost use Rattle.operand_checker.specs.Operations.{operated, relational_operator, sign_before, signed, type_if};
 
 use crate::typed::{Typed, value_at};
+use cell_value::Order;
 use check_steps::Work;
 use pas_places::sign_token;
 use pas_tree::operators::{AddingOperator, MultiplyingOperator, RelationalOperator, Sign};
-use program_tables::rows::{BOOLEAN, ExpressionRow, INTEGER, Order, Row};
+use program_tables::rows::{BOOLEAN, ExpressionRow, INTEGER, Row};
 use type_relations::operators::{
     fits, is_of_host, is_operand, operation_of, operation_row, result_of,
 };

@@ -113,6 +113,7 @@ use Rattle.program_meaning.specs.Run.{
   End,
   Ended,
   Halted,
+  Marked,
   Result,
   in_front,
   ends,
@@ -391,7 +392,7 @@ ends_paid b s r x k h = record {
   falls = fell_paid b h.result.end h.result.after.steps r s k (fell_no_more false h.result.end h.result.after.steps r h.falls);
 }
 
-ends_front : (b : Bool) (s : ℕ) (w : List Touch) (es : List Record) (x : Outcome) → Ends b s x → Ends b s (in_front w es x)
+ends_front : (b : Bool) (s : ℕ) (w : List Touch) (es : List (Marked Record)) (x : Outcome) → Ends b s x → Ends b s (in_front w es x)
 ends_front b s w es x h = record { result = _; is = ap (in_front w es) h.is; falls = h.falls }
 
 ends_joined : (b c : Bool) (s : ℕ) (x : Outcome) (g : Out → State → Outcome) → Ends b s x

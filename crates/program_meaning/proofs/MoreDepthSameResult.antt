@@ -34,6 +34,7 @@ use Rattle.program_meaning.specs.Run.{
   End,
   Ended,
   Halted,
+  Marked,
   Result,
   Rules,
   in_front,
@@ -67,7 +68,7 @@ pub less_same : {A : Type 0} (a : Option A) → Less a a
 less_same a = record { gives = λ r e. e }
 
 module _ {S E : Type 0} where
-  pub in_front_less : (w : List Touch) (es : List E) (a b : Option (Result S E)) → Less a b → Less (in_front w es a) (in_front w es b)
+  pub in_front_less : (w : List Touch) (es : List (Marked E)) (a b : Option (Result S E)) → Less a b → Less (in_front w es a) (in_front w es b)
   in_front_less w es None b h = less_none _
   in_front_less w es (Some x) b h = record { gives = λ r e. ap (in_front w es) (h.gives x refl) ∙ e }
 

@@ -1,8 +1,9 @@
 -- The run of a program, at any depth that is enough.
-use Rattle.std.proofs.Common.{◌≡◌, ℕ, ◌+◌, List, Option, Some, IsSome, refl, sym, subst, ◌∙◌, arith}
+use Rattle.std.proofs.Common.{◌≡◌, ℕ, ◌+◌, List, Option, Some, IsSome, refl, sym, ap, subst, ◌∙◌, arith}
 use Rattle.program_tables.specs.ProgramRows.{ProgramRows}
-use Rattle.program_meaning.specs.Run.{run_of, run, block, start, depth_enough}
-use Rattle.program_meaning.proofs.MoreDepthSameResult.{more_fuel}
+use Rattle.program_meaning.specs.State.{State}
+use Rattle.program_meaning.specs.Run.{Result, Call, run_of, run, block, start, depth_enough}
+use Rattle.program_meaning.proofs.MoreDepthSameResult.{more_fuel, same_result}
 use Rattle.program_meaning.proofs.EachTreeEnds.{total}
 
 some_is : {A : Type 0} (x : Option A) (r : A) → x ≡ Some r → IsSome x
@@ -15,3 +16,10 @@ pub deeper : (p : ProgramRows) (input : List ℕ) (budget more : ℕ) → run_of
 deeper p input budget more =
     let h = total p block (start input budget) (depth_enough p budget) (omega arith) in
     more_fuel p (depth_enough p budget) more block (start input budget) h.result h.is ∙ sym h.is
+
+-- what some depth gives is the run
+pub run_is : (p : ProgramRows) (input : List ℕ) (budget n : ℕ) (r : Result State Call) → run_of p n block (start input budget) ≡ Some r
+    → run p input budget ≡ Some r
+run_is p input budget n r e =
+    let h = total p block (start input budget) (depth_enough p budget) (omega arith) in
+    h.is ∙ ap (λ x. Some x) (same_result p (depth_enough p budget) n block (start input budget) h.result r h.is e)

@@ -9,4 +9,5 @@ pub mod Expressions
 pub mod Statements
 pub mod Layer
 pub mod Run
+pub mod Numbering
 pub mod Laws

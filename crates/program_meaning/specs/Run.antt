@@ -20,6 +20,7 @@ use Rattle.std.specs.Prelude.{
   Ok,
   Err,
   length,
+  map,
   take,
   replicate,
   nat_lt,
@@ -73,21 +74,30 @@ pub data End : Type 0 where
   Ended : (out : Out) → End
   Halted : (way : WayOut) → End
 
+-- an event, and how many entries of the log were made before it
+pub record Marked (E : Type 0) : Type 0 where
+  pub mark : ℕ
+  pub event : E
+
 -- what a run of a tree gave: its end, the state after it, the log, and the events in order
 pub record Result (S E : Type 0) : Type 0 where
   pub end : End
   pub after : S
   pub log : List Touch
-  pub events : List E
+  pub events : List (Marked E)
+
+-- events, so many entries of the log later
+abbrev pub later_by : {E : Type 0} → ℕ → List (Marked E) → List (Marked E)
+later_by n es = map (λ e. record { mark = n + e.mark; event = e.event }) es
 
 module _ {S E : Type 0} where
-  abbrev pub in_front : List Touch → List E → Option (Result S E) → Option (Result S E)
+  abbrev pub in_front : List Touch → List (Marked E) → Option (Result S E) → Option (Result S E)
   in_front log events None = None
   in_front log events (Some r) = Some (record {
     end = r.end;
     after = r.after;
     log = log ++ r.log;
-    events = events ++ r.events;
+    events = events ++ later_by (length log) r.events;
   })
 
   abbrev pub ends : End → S → Option (Result S E)
@@ -107,7 +117,7 @@ module _ {S E : Type 0} where
 pub record Rules (S E : Type 0) : Type 0 where
   pub state_of : S → State
   pub with_state : S → State → S
-  pub line : ℕ → List E
+  pub line : ℕ → List (Marked E)
   pub call : (Tree → S → Option (Result S E)) → ℕ → List Value → S → Option (Result S E)
 
 module _ {S E : Type 0} where
@@ -226,7 +236,9 @@ after_all change (Some r) = Some (record r { after = change r.after })
 
 abbrev pub recorded : ℕ → List Value → State → Outcome → Outcome
 recorded routine args σ None = None
-recorded routine args σ (Some r) = Some (record r { events = record_of routine args σ r ∷ r.events })
+recorded routine args σ (Some r) = Some (record r {
+  events = (record { mark = 0; event = record_of routine args σ r }) ∷ r.events;
+})
 
 -- the type of a function's result, by its heading
 abbrev pub type_in_heading : ProgramRows → Row → Option TypeRow

@@ -38,8 +38,8 @@ use Rattle.cell_value.specs.declared.ways_out.Kind.{Kind}
 use Rattle.cell_value.specs.declared.ways_out.Kind.TheVariants as kind
 use Rattle.program_tables.specs.declared.rows.TypeRow.{TypeRow}
 use Rattle.program_tables.specs.declared.rows.TypeRow.TheVariants.{Ordinal, Subrange}
-use Rattle.program_tables.specs.declared.rows.Order.{Order}
-use Rattle.program_tables.specs.declared.rows.Order.TheVariants.{Equal, NotEqual, Less, Greater, AtMost, AtLeast}
+use Rattle.cell_value.specs.declared.values.Order.{Order}
+use Rattle.cell_value.specs.declared.values.Order.TheVariants.{Equal, NotEqual, Less, Greater, AtMost, AtLeast}
 use Rattle.program_tables.specs.declared.rows.Logic.{Logic}
 use Rattle.program_tables.specs.declared.rows.Logic.TheVariants.{And, Or}
 use Rattle.program_tables.specs.declared.rows.OrdinalFunction.{OrdinalFunction}

@@ -11,7 +11,7 @@
 //!
 //! A type of which a broken rule leaves nothing known is a number at which no type stands.
 
-use cell_value::ArithOp;
+use cell_value::{ArithOp, Order};
 use std::mem::size_of;
 
 /// The number of the type integer.
@@ -134,12 +134,12 @@ pub enum NameRow {
         file: TextFile,
     },
     /// A declared label: whether it marks a statement so far, its value, how many blocks are around the one that
-    /// declares it, and how many of the statements that it marks may be reached where the check stands.
+    /// declares it, and how many ways lead from where the check stands to statements that it marks.
     Label {
         marked: bool,
         value: u32,
         level: u32,
-        reachable: u32,
+        ways: u32,
     },
 }
 
@@ -180,7 +180,7 @@ pub enum PartRow {
         result: Option<u32>,
     },
     /// A routine with a forward heading, at the name there, until its own row takes this place: whether it is a
-    /// function, and the name in the heading that has its block, once that is known (6.6.1, 6.6.2).
+    /// function, and which of the routines of its part, from 0, has its block, once that is known (6.6.1, 6.6.2).
     Forward {
         function: bool,
         block: Option<u32>,
@@ -513,17 +513,6 @@ pub enum ExpressionRow {
     },
     Eof,
     Eoln,
-}
-
-/// The relational operators but `in` (6.7.2.5).
-#[derive(Clone, Copy, PartialEq, Eq)]
-pub enum Order {
-    Equal,
-    NotEqual,
-    Less,
-    Greater,
-    AtMost,
-    AtLeast,
 }
 
 /// The operators on Booleans with two operands (6.7.2.3).

@@ -12,7 +12,7 @@ use expression_checker::actuals::{file_of, name_alone};
 use expression_checker::expressions::check_expression;
 use operand_checker::Typed;
 use pas_tree::statements::{Actual, Actuals, NextActual, Width};
-use program_tables::rows::{ItemRow, NameRow, Row, TextFile};
+use program_tables::rows::{ItemRow, Row, TextFile};
 
 /// A call of a required procedure.
 #[derive(Clone, Copy)]

@@ -3,7 +3,10 @@
 ghost use Rattle.std.specs.Prelude.{◌≤◌, IfOk};
 
 use edge_ports::*;
+use std::alloc::Global;
+use std::fs::Permissions;
 use std::io::{ErrorKind, Read, Write};
+use std::os::unix::fs::PermissionsExt;
 use std::test::Fail;
 use std::{fs, io};
 
@@ -86,6 +89,117 @@ fn real_files(rt: HostRuntime) -> Result<(), Fail> {
         assert_eq!(rt; got, want);
     }
     fs::remove_file(&rt, path.as_str())?;
+    Ok(())
+}
+
+// Stores these bytes under this name of the folder, and answers what came of it; where it was stored, the file
+// holds the bytes.
+fn store_in<K: Keeper>(
+    alloc: Global,
+    keeper: &mut K,
+    folder: &str,
+    name: &str,
+    bytes: &[u8],
+) -> Result<Result<(), StoreFault>, Fail> {
+    let path = format!(in alloc; "{folder}{name}")?;
+    let answer = keeper.store(alloc, path.as_str(), bytes);
+    if answer.is_ok() && keeper.fetch(alloc, path.as_str(), 100)?.as_slice() != bytes {
+        return Ok(Err(StoreFault::Failed));
+    }
+    Ok(answer)
+}
+
+// A file is stored where none is and in the place of one that may be written, and nowhere else. The files that were
+// written on the way are gone.
+#[test]
+fn real_files_stored(rt: HostRuntime) -> Result<(), Fail> {
+    let alloc = rt.alloc();
+    let folder = format!(in alloc; "/tmp/edge_ports_stored_{}", std::process::id(rt.process()))?;
+    fs::create_dir(&rt, folder.as_str())?;
+    let mut keeper = FileKeeper::new(&rt);
+    let here = folder.as_str();
+    let table: [(&str, &str, &[u8], Result<(), StoreFault>); 10] = [
+        (here, "/.store-0", b"a name that is taken", Ok(())),
+        (here, "/session", b"first", Ok(())),
+        (here, "/session", b"", Ok(())),
+        (here, "/session", b"last", Ok(())),
+        (here, "/other", b"kept", Ok(())),
+        (here, "", b"a folder", Err(StoreFault::Failed)),
+        (
+            here,
+            "/absent/session",
+            b"in no folder",
+            Err(StoreFault::Failed),
+        ),
+        (
+            here,
+            "/session/below",
+            b"below a file",
+            Err(StoreFault::Failed),
+        ),
+        ("/dev", "/full", b"a device", Err(StoreFault::Failed)),
+        (
+            "/proc",
+            "/session",
+            b"a place to read",
+            Err(StoreFault::Failed),
+        ),
+    ];
+    for (folder, name, bytes, want) in table {
+        assert_eq!(rt; store_in(alloc, &mut keeper, folder, name, bytes)?, want);
+    }
+    let left: [(&str, &[u8]); 3] = [
+        ("/session", b"last"),
+        ("/other", b"kept"),
+        ("/.store-0", b"a name that is taken"),
+    ];
+    for (name, bytes) in left {
+        let path = format!(in alloc; "{here}{name}")?;
+        assert_eq!(rt; keeper.fetch(alloc, path.as_str(), 100)?.as_slice(), bytes);
+        fs::remove_file(&rt, path.as_str())?;
+    }
+    // A folder is removed only where it is empty.
+    fs::remove_dir(&rt, here)?;
+    Ok(())
+}
+
+// A file that only its owner may read stays so.
+#[test]
+fn real_files_stay_private(rt: HostRuntime) -> Result<(), Fail> {
+    let alloc = rt.alloc();
+    let path = format!(in alloc;
+        "/tmp/edge_ports_private_{}",
+        std::process::id(rt.process())
+    )?;
+    fs::write(&rt, path.as_str(), b"first")?;
+    fs::set_permissions(&rt, path.as_str(), Permissions::from_mode(0o600))?;
+    let mut keeper = FileKeeper::new(&rt);
+    assert_eq!(rt;
+        store_in(alloc, &mut keeper, path.as_str(), "", b"last")?,
+        Ok(())
+    );
+    assert_eq!(rt;
+        fs::metadata(&rt, path.as_str())?.permissions().mode() % 0o1000,
+        0o600
+    );
+    fs::remove_file(&rt, path.as_str())?;
+    Ok(())
+}
+
+// A shelf stores what it is given, and fails at the calls that are listed.
+#[test]
+fn files_stored_in_memory(rt: HostRuntime) -> Result<(), Fail> {
+    let alloc = rt.alloc();
+    let mut shelf = Shelf::new(alloc, &[2, 4])?;
+    assert_eq!(rt; store_in(alloc, &mut shelf, "", "a", b"first")?, Ok(()));
+    assert_eq!(rt;
+        store_in(alloc, &mut shelf, "", "a", b"last")?,
+        Err(StoreFault::Failed)
+    );
+    let first: &[u8] = b"first";
+    assert_eq!(rt; shelf.fetch(alloc, "a", 100)?.as_slice(), first);
+    assert_eq!(rt; shelf.store(alloc, "a", b"last"), Err(StoreFault::Failed));
+    assert_eq!(rt; store_in(alloc, &mut shelf, "", "a", b"last")?, Ok(()));
     Ok(())
 }
 

@@ -177,7 +177,7 @@ fn check_case(work: &mut Work, x: &Case, frame: u32, label: Option<u32>) -> Resu
     let selected = check_selected(work, &x.selector, frame, x.of);
     let first = check_statement(work, &x.first.statement, frame)?;
     let choosing = selected.choosing;
-    let last = check_choices(work, choosing, first, x.of, x.of, &x.first.constants);
+    let last = check_choices(work, choosing, first, x.of, x.of, &x.first.constants)?;
     check_more_branches(work, &x.others, frame, choosing, last)?;
     Ok(put_case(work, label, x.word, selected.row, x.of))
 }
@@ -213,7 +213,7 @@ fn check_next_branch(
 {
     let number = check_statement(work, &n.branch.statement, frame)?;
     let constants = &n.branch.constants;
-    Ok(check_choices(work, choosing, number, last, n.semicolon, constants))
+    check_choices(work, choosing, number, last, n.semicolon, constants)
 }
 
 #[cycle(statements)]

@@ -1,8 +1,8 @@
 -- Labels and gotos (6.8.1, 6.8.2.4).
 --
 -- A goto may lead to a statement around it, to one of a statement sequence around it, and to one of the outermost
--- sequence of a block around it. The row of a declared label says of how many statements that it marks this holds where
--- the check stands, and whether it marks one so far.
+-- sequence of a block around it. The row of a declared label counts the ways to the statements that it marks from where
+-- the check stands, and says whether it marks one so far.
 use Rattle.std.specs.Prelude.{ℕ, ◌+◌, ◌-◌, min, Bool, true, false, not, nat_eq, nat_lt, if◌then◌else◌}
 use Rattle.std.specs.Prelude.{Option, Some, None}
 use Rattle.pas_tree.specs.declared.statements.Label.{Label}
@@ -26,14 +26,14 @@ row_of k (Some d) = row_at k d
 
 -- how many links lead to the frame of the block that declares a label
 abbrev pub levels_in : Known → ℕ → Row → ℕ
-levels_in k frame (row.Name (named.Label marked value level reachable)) = levels_to k frame level
+levels_in k frame (row.Name (named.Label marked value level ways)) = levels_to k frame level
 levels_in k frame r = 0
 
 -- the token that declares a token's label in the closest block around that does
 abbrev pub label_of : Known → ℕ → ℕ → Option ℕ
 label_of k frame token = find_label k frame (label_at k token)
 
--- the same if the closest block of all declares it, to whose frame no link leads
+-- the same if the closest block of all declares it: no link leads to its frame
 abbrev pub own_label : Known → ℕ → ℕ → Option ℕ
 own_label k frame token =
     let d = label_of k frame token in
@@ -46,29 +46,28 @@ put_label (Some d) r = put d r
 
 -- ---- which statements may be reached
 
-abbrev pub with_one_more : Row → Row
-with_one_more (row.Name (named.Label marked value level reachable)) =
-    row.Name (named.Label marked value level (min (reachable + 1) 4294967295))
-with_one_more r = r
+-- how many ways lead to statements that a label marks
+abbrev pub ways_in : Row → ℕ
+ways_in (row.Name (named.Label marked value level ways)) = ways
+ways_in r = 0
 
-abbrev pub with_one_fewer : Row → Row
-with_one_fewer (row.Name (named.Label marked value level reachable)) =
-    row.Name (named.Label marked value level (reachable - 1))
-with_one_fewer r = r
+abbrev pub with_ways : Row → ℕ → Row
+with_ways (row.Name (named.Label marked value level ways)) n = row.Name (named.Label marked value level n)
+with_ways r n = r
 
--- a statement with this label may be reached from here on
+-- from here on there is one more way to a statement with this label
 unfoldable pub reach : ℕ → ℕ → Step (Unit {0})
 reach frame token = do
   d ← look (λ k. own_label k frame token)
   r ← look (λ k. row_of k d)
-  put_label d (with_one_more r)
+  put_label d (with_ways r (min (ways_in r + 1) 4294967295))
 
--- it may be reached no more from here on
+-- from here on there is one way fewer
 unfoldable pub leave : ℕ → ℕ → Step (Unit {0})
 leave frame token = do
   d ← look (λ k. own_label k frame token)
   r ← look (λ k. row_of k d)
-  put_label d (with_one_fewer r)
+  put_label d (with_ways r (ways_in r - 1))
 
 -- a step for a statement's label, if it has one
 abbrev pub on_label : (ℕ → Step (Unit {0})) → Option Label → Step (Unit {0})
@@ -84,22 +83,22 @@ each_label f s = do
   _ ← on_label f (out-Statements s).first.label
   each (on_next f) tt (out-Statements s).others.items
 
--- all statements of a sequence may be reached from here on
+-- from here on there is one more way to each statement of a sequence
 unfoldable pub reach_all : ℕ → Statements → Step (Unit {0})
 reach_all frame s = each_label (reach frame) s
 
--- they may be reached no more from here on
+-- from here on there is one way fewer
 unfoldable pub leave_all : ℕ → Statements → Step (Unit {0})
 leave_all frame s = each_label (leave frame) s
 
 -- ---- labelled statements
 
 abbrev pub is_unmarked : Row → Bool
-is_unmarked (row.Name (named.Label marked value level reachable)) = not marked
+is_unmarked (row.Name (named.Label marked value level ways)) = not marked
 is_unmarked r = false
 
 abbrev pub with_mark : Row → Row
-with_mark (row.Name (named.Label marked value level reachable)) = row.Name (named.Label true value level reachable)
+with_mark (row.Name (named.Label marked value level ways)) = row.Name (named.Label true value level ways)
 with_mark r = r
 
 -- rule 15: a statement's label is not declared in the closest block, or marks a second statement, at the label
@@ -118,16 +117,12 @@ labelled token n = do
 
 -- ---- gotos
 
-abbrev pub is_reachable : Row → Bool
-is_reachable (row.Name (named.Label marked value level reachable)) = nat_lt 0 reachable
-is_reachable r = false
-
 -- A goto, at its word. Rule 16: its label is not declared around it, or marks no statement that a goto there may reach,
 -- at the label.
 unfoldable pub jump : ℕ → Option ℕ → ℕ → ℕ → Step ℕ
 jump frame label word token = do
   r ← look (λ k. row_of k (label_of k frame token))
-  _ ← late 16 token (is_reachable r)
+  _ ← late 16 token (nat_lt 0 (ways_in r))
   value ← look (λ k. label_at k token)
   levels ← look (λ k. levels_in k frame r)
   line ← look (λ k. line_of k label word)

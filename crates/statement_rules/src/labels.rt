@@ -2,9 +2,9 @@
 
 ghost use Rattle.std.specs.Prelude.{◌≡◌};
 ghost use Rattle.check_steps.specs.Steps.{Does, each};
-ghost use Rattle.statement_rules.specs.Labels.{is_reachable, is_unmarked, jump, label_of, labelled, leave, leave_all};
-ghost use Rattle.statement_rules.specs.Labels.{levels_in, mark, on_label, on_next, own_label, put_label, reach};
-ghost use Rattle.statement_rules.specs.Labels.{reach_all, row_of, with_mark, with_one_fewer, with_one_more};
+ghost use Rattle.statement_rules.specs.Labels.{is_unmarked, jump, label_of, labelled, leave, leave_all, levels_in};
+ghost use Rattle.statement_rules.specs.Labels.{mark, on_label, on_next, own_label, put_label, reach, reach_all, row_of};
+ghost use Rattle.statement_rules.specs.Labels.{ways_in, with_mark, with_ways};
 
 use crate::sequences::{line_of, put_statement};
 use check_steps::{Tables, Work};
@@ -57,8 +57,17 @@ fn put_label(work: &mut Work, declared: Option<u32>, row: Row)
     }
 }
 
-fn with_one_more(row: Row) -> Row
-    ensures { result ≡ with_one_more row }
+fn ways_in(row: Row) -> u32
+    ensures { result ≡ ways_in row }
+{
+    match row {
+        Row::Name(NameRow::Label { ways, .. }) => ways,
+        _ => 0,
+    }
+}
+
+fn with_ways(row: Row, ways: u32) -> Row
+    ensures { result ≡ with_ways row ways }
 {
     match row {
         Row::Name(
@@ -66,57 +75,38 @@ fn with_one_more(row: Row) -> Row
                 marked,
                 value,
                 level,
-                reachable,
+                ..
             },
         ) => Row::Name(NameRow::Label {
             marked,
             value,
             level,
-            reachable: reachable.saturating_add(1),
+            ways: ways,
         }),
         _ => row,
     }
 }
 
-fn with_one_fewer(row: Row) -> Row
-    ensures { result ≡ with_one_fewer row }
-{
-    match row {
-        Row::Name(
-            NameRow::Label {
-                marked,
-                value,
-                level,
-                reachable,
-            },
-        ) => Row::Name(NameRow::Label {
-            marked,
-            value,
-            level,
-            reachable: reachable.saturating_sub(1),
-        }),
-        _ => row,
-    }
-}
-
-/// A statement with the label at this token may be reached from here on.
+/// From here on there is one more way to a statement with the label at this token.
 #[tactic(auto, using(check_steps::proofs::Runs::steps), unfolding(crate::specs::Labels::reach))]
 pub fn reach(work: &mut Work, frame: u32, token: u32)
     ensures { Does (reach frame token) tt work.old work.new }
 {
     let declared = own_label(&work.tables, frame, token);
     let row = row_of(&work.tables, declared);
-    put_label(work, declared, with_one_more(row));
+    let ways = ways_in(row).saturating_add(1);
+    put_label(work, declared, with_ways(row, ways));
 }
 
-/// It may be reached no more from here on.
+/// From here on there is one way fewer to a statement with the label at this token.
 #[tactic(auto, using(check_steps::proofs::Runs::steps), unfolding(crate::specs::Labels::leave))]
 pub fn leave(work: &mut Work, frame: u32, token: u32)
     ensures { Does (leave frame token) tt work.old work.new }
 {
     let declared = own_label(&work.tables, frame, token);
     let row = row_of(&work.tables, declared);
-    put_label(work, declared, with_one_fewer(row));
+    let ways = ways_in(row).saturating_sub(1);
+    put_label(work, declared, with_ways(row, ways));
 }
 
 #[tactic(auto, using(check_steps::proofs::Runs::steps))]
@@ -171,8 +161,8 @@ fn leave_others(work: &mut Work, others: &[NextStatement], frame: u32)
     }
 }
 
-/// All statements of a sequence may be reached from here on. For the outermost sequence of a block's statement part
-/// that is so before its routines are checked.
+/// From here on there is one more way to each labelled statement of a sequence. For the outermost sequence of a block's
+/// statement part this is so before the routines of the block are checked.
 #[tactic(auto, using(check_steps::proofs::Runs::steps), unfolding(crate::specs::Labels::reach_all))]
 pub fn reach_all(work: &mut Work, s: &Statements, frame: u32)
     ensures { Does (reach_all frame s.now) tt work.old work.new }
@@ -181,7 +171,7 @@ pub fn reach_all(work: &mut Work, s: &Statements, frame: u32)
     reach_others(work, &s.others, frame);
 }
 
-/// They may be reached no more from here on.
+/// From here on there is one way fewer to each labelled statement of a sequence.
 #[tactic(auto, using(check_steps::proofs::Runs::steps), unfolding(crate::specs::Labels::leave_all))]
 pub fn leave_all(work: &mut Work, s: &Statements, frame: u32)
     ensures { Does (leave_all frame s.now) tt work.old work.new }
@@ -207,20 +197,20 @@ fn with_mark(row: Row) -> Row
             NameRow::Label {
                 value,
                 level,
-                reachable,
+                ways,
                 ..
             },
         ) => Row::Name(NameRow::Label {
             marked: true,
             value,
             level,
-            reachable,
+            ways,
         }),
         _ => row,
     }
 }
 
-/// The label in front of a statement.
+/// The label at this token marks a statement.
 #[tactic(auto, using(check_steps::proofs::Runs::steps), unfolding(crate::specs::Labels::mark))]
 pub fn check_mark(work: &mut Work, frame: u32, token: u32)
     ensures { Does (mark frame token) tt work.old work.new }
@@ -240,22 +230,13 @@ pub fn put_labelled(work: &mut Work, token: u32, statement: u32) -> u32
     put_statement(work, token, StatementRow::Labelled { label, statement })
 }
 
-fn is_reachable(row: Row) -> bool
-    ensures { result ≡ is_reachable row }
-{
-    match row {
-        Row::Name(NameRow::Label { reachable, .. }) => 0 < reachable,
-        _ => false,
-    }
-}
-
 /// A goto, at its word, which may have a label of its own.
 #[tactic(auto, using(check_steps::proofs::Runs::steps), unfolding(crate::specs::Labels::jump))]
 pub fn check_goto(work: &mut Work, frame: u32, label: Option<u32>, word: u32, token: u32) -> u32
     ensures { Does (jump frame label word token) result work.old work.new }
 {
     let row = row_of(&work.tables, label_of(&work.tables, frame, token));
-    work.late(16, token, is_reachable(row));
+    work.late(16, token, 0 < ways_in(row));
     let value = work.tables.label(token);
     let levels = levels_in(&work.tables, frame, row);
     let line = line_of(&work.tables, label, word);

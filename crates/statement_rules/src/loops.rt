@@ -162,6 +162,7 @@ fn hold_variable(work: &mut Work, variable: u32) -> Result<(), AllocError>
 {
     let first = work.tables.threat(variable);
     check_unthreatened(work, first);
+    work.settle(variable);
     work.hold(variable)?;
     Ok(())
 }

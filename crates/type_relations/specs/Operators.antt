@@ -7,8 +7,8 @@ use Rattle.program_tables.specs.declared.rows.Row.TheVariants as row
 use Rattle.program_tables.specs.declared.rows.ExpressionRow.TheVariants as written
 use Rattle.program_tables.specs.declared.rows.Logic.{Logic}
 use Rattle.program_tables.specs.declared.rows.Logic.TheVariants as logic
-use Rattle.program_tables.specs.declared.rows.Order.{Order}
-use Rattle.program_tables.specs.declared.rows.Order.TheVariants as order
+use Rattle.cell_value.specs.declared.values.Order.{Order}
+use Rattle.cell_value.specs.declared.values.Order.TheVariants as order
 use Rattle.program_tables.specs.declared.rows.SetOperator.{SetOperator}
 use Rattle.program_tables.specs.declared.rows.SetOperator.TheVariants as sets
 use Rattle.check_steps.specs.Regions.{or_else}

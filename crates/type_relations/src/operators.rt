@@ -7,8 +7,8 @@ ghost use Rattle.type_relations.specs.Operators.{member_of, on_booleans, on_inte
 ghost use Rattle.type_relations.specs.Operators.{operation_row, pointers_by, related, relates_sets, result_of};
 
 use crate::shapes::{ExpressionType, Packing, Shape, hosts_agree, packings_agree};
-use cell_value::ArithOp;
-use program_tables::rows::{BOOLEAN, ExpressionRow, INTEGER, Logic, Order, Row, SetOperator};
+use cell_value::{ArithOp, Order};
+use program_tables::rows::{BOOLEAN, ExpressionRow, INTEGER, Logic, Row, SetOperator};
 
 /// An operator with two operands.
 #[derive(Clone, Copy)]

@@ -5,4 +5,4 @@ use Rattle.heading_checker.proofs.routine_parts.define_each_routine.Given as goa
 
 abbrev pub invariant-routines : goal.invariant-routines
 invariant-routines l =
-    run (each (define_routine l.region) tt (drop l.routine-index l.routines)) l.work ≡ run (each (define_routine l.region) tt l.routines) l.fn.work
+    run (each (define_routine l.region) l.position (drop l.routine-index l.routines)) l.work ≡ run (each (define_routine l.region) 0 l.routines) l.fn.work

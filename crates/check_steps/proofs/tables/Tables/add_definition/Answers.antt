@@ -27,6 +27,7 @@ returns-in_ok-insert c =
       controls = t.controls.items;
       threats = t.threats.items;
       block = t.block;
+      choices = t.choices.keys;
     })
     (regions-changed kept t.regions.items c.args.region m (record { token = m.token; frame = m.frame; names = c.insert.new.self; labels = m.labels })
     (λ g. record g { names = g.names ++ (c.args.name, c.args.definition) ∷ [] }) below c.index_mut.ensures.value

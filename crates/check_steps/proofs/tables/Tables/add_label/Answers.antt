@@ -26,6 +26,7 @@ returns-in_ok-insert c =
       controls = t.controls.items;
       threats = t.threats.items;
       block = t.block;
+      choices = t.choices.keys;
     })
     (regions-changed kept t.regions.items c.args.region m (record { token = m.token; frame = m.frame; names = m.names; labels = c.insert.new.self })
     (λ g. record g { labels = g.labels ++ (c.args.value, c.args.token) ∷ [] }) below c.index_mut.ensures.value

@@ -1,7 +1,7 @@
 //! The items of an input.
 ghost use Rattle.std.specs.Prelude.{◌≡◌, ◌<◌, [], ◌∷◌, ◌++◌, length, OnOk, OnErr, Some, slice_get};
 
-use cell_value::Memory;
+use crate::cell_list::Memory;
 use std::alloc::Global;
 use std::marker::Model;
 

@@ -1,0 +1,53 @@
+-- Sets of ordinals from 0 to 255. A set is known by the ordinals that it holds (ISO 7185, clauses 6.4.3.4 and 6.7.2.4).
+use Rattle.std.specs.Prelude.{◌≡◌, ℕ, zero, suc, ◌+◌, ◌*◌, ◌/◌, ◌%◌, ◌^◌, ℤ, pos, negsuc, Bool, true, false, ◌==◌}
+use Rattle.std.specs.Prelude.{◌&&◌, ◌||◌, not, if◌then◌else◌, nat_le, Option, Some, None, [], ◌∷◌, slice_get}
+use Rattle.std.specs.Int.{bit_at}
+use Rattle.cell_value.specs.declared.values.SetBits.{SetBits}
+
+-- whether a bit of a word is set; there is no word after the last
+abbrev pub is_set : Option ℕ → ℕ → Bool
+is_set (Some word) place = bit_at word place == 1
+is_set None place = false
+
+-- whether a set holds an ordinal: each word has the bits of 64 ordinals
+abbrev pub has : SetBits → ℕ → Bool
+has set ordinal = is_set (slice_get set.words (ordinal / 64)) (ordinal % 64)
+
+-- the same of any whole number: no set holds one below 0
+abbrev pub has_number : SetBits → ℤ → Bool
+has_number set (pos ordinal) = has set ordinal
+has_number set (negsuc below) = false
+
+-- the number of so many bits, each of which is set where the test holds of its place
+unfoldable pub word_of : (ℕ → Bool) → (bits : ℕ) → ℕ
+word_of test zero = 0
+word_of test (suc place) = (if test place then 1 else 0) * 2 ^ place + word_of test place
+
+-- the set of the ordinals below 256 of which the test holds
+unfoldable pub set_of : (ℕ → Bool) → SetBits
+set_of test = record {
+  words = word_of test 64 ∷ word_of (λ place. test (64 + place)) 64
+      ∷ word_of (λ place. test (128 + place)) 64 ∷ word_of (λ place. test (192 + place)) 64 ∷ [];
+}
+
+-- the union, the difference and the intersection
+abbrev pub union_of : SetBits → SetBits → SetBits
+union_of a b = set_of (λ ordinal. has a ordinal || has b ordinal)
+
+abbrev pub difference_of : SetBits → SetBits → SetBits
+difference_of a b = set_of (λ ordinal. has a ordinal && not (has b ordinal))
+
+abbrev pub intersection_of : SetBits → SetBits → SetBits
+intersection_of a b = set_of (λ ordinal. has a ordinal && has b ordinal)
+
+-- the ordinals from one to another, both of which belong to the range
+abbrev pub is_between : (least greatest : ℕ) → ℕ → Bool
+is_between least greatest ordinal = nat_le least ordinal && nat_le ordinal greatest
+
+-- a set with those of a range
+abbrev pub with_range_of : SetBits → (least greatest : ℕ) → SetBits
+with_range_of a least greatest = set_of (λ ordinal. has a ordinal || is_between least greatest ordinal)
+
+-- each ordinal of the first set is one of the second
+abbrev pub IsIncluded : (inner outer : SetBits) → Type 0
+IsIncluded inner outer = (ordinal : ℕ) → has inner ordinal ≡ true → has outer ordinal ≡ true

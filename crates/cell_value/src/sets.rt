@@ -1,0 +1,104 @@
+//! The operators on sets.
+ghost use Rattle.std.specs.Prelude.{◌≡◌, ℕ, ◌==◌, ◌&&◌, ◌||◌, not, false, IsTrue, ◌↔◌};
+ghost use Rattle.cell_value.specs.Sets.{IsIncluded, difference_of, has, has_number, intersection_of, is_between};
+ghost use Rattle.cell_value.specs.Sets.{union_of, with_range_of};
+
+use crate::values::SetBits;
+
+/// The union: what one of the two sets holds.
+pub fn union(a: SetBits, b: SetBits) -> SetBits
+    ensures exact { result ≡ union_of a b }
+    ensures members { (ordinal : ℕ) → has result ordinal ≡ (has a ordinal || has b ordinal) }
+{
+    SetBits {
+        words: [
+            a.words[0] | b.words[0],
+            a.words[1] | b.words[1],
+            a.words[2] | b.words[2],
+            a.words[3] | b.words[3],
+        ],
+    }
+}
+
+/// The difference: what the first set holds and the second does not.
+pub fn minus(a: SetBits, b: SetBits) -> SetBits
+    ensures exact { result ≡ difference_of a b }
+    ensures members { (ordinal : ℕ) → has result ordinal ≡ (has a ordinal && not (has b ordinal)) }
+{
+    SetBits {
+        words: [
+            a.words[0] & !b.words[0],
+            a.words[1] & !b.words[1],
+            a.words[2] & !b.words[2],
+            a.words[3] & !b.words[3],
+        ],
+    }
+}
+
+/// The intersection: what both sets hold.
+pub fn meet(a: SetBits, b: SetBits) -> SetBits
+    ensures exact { result ≡ intersection_of a b }
+    ensures members { (ordinal : ℕ) → has result ordinal ≡ (has a ordinal && has b ordinal) }
+{
+    SetBits {
+        words: [
+            a.words[0] & b.words[0],
+            a.words[1] & b.words[1],
+            a.words[2] & b.words[2],
+            a.words[3] & b.words[3],
+        ],
+    }
+}
+
+/// Whether a set holds nothing.
+fn is_empty(a: SetBits) -> bool
+    ensures { IsTrue result ↔ ((ordinal : ℕ) → has a ordinal ≡ false) }
+{
+    a.words[0] | a.words[1] | a.words[2] | a.words[3] == 0
+}
+
+/// Whether the second set holds all that the first one holds.
+pub fn within(a: SetBits, b: SetBits) -> bool
+    ensures { IsTrue result ↔ IsIncluded a b }
+{
+    is_empty(minus(a, b))
+}
+
+/// Whether a set holds an ordinal. No set holds one below 0 or above 255.
+pub fn holds(a: SetBits, ordinal: i64) -> bool
+    ensures { result ≡ has_number a ordinal }
+{
+    match u8::try_from(ordinal) {
+        Ok(place) => (a.words[place as usize / 64] >> (place % 64)) & 1 == 1,
+        Err(_) => false,
+    }
+}
+
+/// The set with one ordinal more.
+fn with(a: SetBits, added: u8) -> SetBits
+    ensures { (ordinal : ℕ) → has result ordinal ≡ (has a ordinal || ordinal == added) }
+{
+    let mut words = a.words;
+    words[added as usize / 64] |= 1 << (added % 64);
+    SetBits { words }
+}
+
+/// The set of the ordinals from one to another, both of which belong to the range.
+fn range(from: u8, to: u8) -> SetBits
+    ensures { (ordinal : ℕ) → has result ordinal ≡ is_between from to ordinal }
+{
+    let mut set = SetBits { words: [0; 4] };
+    for ordinal in from..=to {
+        set = with(set, ordinal);
+    }
+    set
+}
+
+/// The set with the ordinals from one to another, both of which belong to the range; with none more where the first is
+/// greater.
+pub fn with_range(a: SetBits, from: u8, to: u8) -> SetBits
+    ensures exact { result ≡ with_range_of a from to }
+    ensures members { (ordinal : ℕ) → has result ordinal ≡ (has a ordinal || is_between from to ordinal) }
+{
+    union(a, range(from, to))
+}
