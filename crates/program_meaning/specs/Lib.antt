@@ -10,4 +10,7 @@ pub mod Statements
 pub mod Layer
 pub mod Run
 pub mod Numbering
+pub mod Apply
+pub mod Replay
+pub mod Agree
 pub mod Laws

@@ -230,7 +230,7 @@ record_of routine args σ r = record {
 }
 
 -- changes what a run left
-abbrev pub after_all : (State → State) → Outcome → Outcome
+abbrev pub after_all : {S E : Type 0} → (S → S) → Option (Result S E) → Option (Result S E)
 after_all change None = None
 after_all change (Some r) = Some (record r { after = change r.after })
 
@@ -264,13 +264,20 @@ abbrev pub whole : ProgramRows → (routine base : ℕ) → Routine → Tree
 whole p routine base r = Sub (Body routine base) (on_normal (return_of p base r r.result))
 
 -- A routine at work in a new frame, which is then removed however it ended. A frame that ends above the stack is not
--- made, nor one that needs more steps than are left.
+-- made, nor one that needs more steps than are left. What runs the routine works on something that has a state in it:
+-- `state` gives the state, and `change` changes it.
+abbrev pub framed_run : {S E : Type 0} → (state : S → State) (change : (State → State) → S → S) → ProgramRows
+    → (Tree → S → Option (Result S E)) → ℕ → List Value → S → Option Routine → Option (Result S E)
+framed_run state change p run routine args s None = ends (Halted (way.Faulted kind.Undefined 0)) s
+framed_run state change p run routine args s (Some r) =
+    if nat_lt stack_end ((state s).top + r.cells) then ends (Halted (way_of 0 (Limited Stack))) s
+    else if nat_lt (state s).steps r.cells then ends (Halted (way_of 0 OutOfSteps)) (change spent s)
+    else after_all (change (without_frame (state s).top r.cells))
+    (run (whole p routine (state s).top r) (change (with_frame r.cells args) s))
+
+-- the same where it works on the state itself
 abbrev pub in_frame : ProgramRows → (Tree → State → Outcome) → ℕ → List Value → State → Option Routine → Outcome
-in_frame p run routine args σ None = ends (Halted (way.Faulted kind.Undefined 0)) σ
-in_frame p run routine args σ (Some r) =
-    if nat_lt stack_end (σ.top + r.cells) then ends (Halted (way_of 0 (Limited Stack))) σ
-    else if nat_lt σ.steps r.cells then ends (Halted (way_of 0 OutOfSteps)) (spent σ)
-    else after_all (without_frame σ.top r.cells) (run (whole p routine σ.top r) (with_frame r.cells args σ))
+in_frame p run routine args σ r = framed_run (λ σ. σ) (λ change σ. change σ) p run routine args σ r
 
 -- a call of a routine
 abbrev pub call_of : ProgramRows → (Tree → State → Outcome) → ℕ → List Value → State → Outcome

@@ -1,0 +1,5 @@
+pub mod ChoicesInOrder
+pub mod Moves
+pub mod StatementsByRow
+pub mod StepsFall
+pub mod Turning

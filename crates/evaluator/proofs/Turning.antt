@@ -1,0 +1,137 @@
+-- What the turns of a body are made of.
+use Rattle.std.proofs.Common.{◌≡◌, ℕ, ◌+◌, ◌-◌, ◌<◌, ◌≤◌, List, [], ◌∷◌, ◌++◌, Bool, true}
+use Rattle.std.proofs.Common.{false, Result, Ok, Err, Option, Some, None, reverse, refl, sym, ap, subst, ◌∙◌}
+use Rattle.std.proofs.Common.{if◌then◌else◌, nat_lt, arith}
+use Rattle.std.proofs.lemmas.Bool.{ltb-false, lt-ltb, le-ltb}
+use Rattle.std.proofs.lemmas.List.{reverse-append, append-nil}
+use Rattle.program_tables.specs.ProgramRows.{ProgramRows, routine_at}
+use Rattle.program_meaning.specs.State.{State}
+use Rattle.program_meaning.specs.Acts.{Trouble, Done, Went, Stops, Spend, perform}
+use Rattle.program_meaning.specs.Acts.{OutOfSteps as OutOfStepsTrouble, spent as spent_state}
+use Rattle.program_meaning.specs.Actions.{Action, act, performs}
+use Rattle.program_meaning.specs.Tree.{Out, Part, Here, Tree, Sub, way_of, bind, doing}
+use Rattle.program_meaning.specs.Accesses.{spend, locate, locate_before, no_row}
+use Rattle.program_meaning.specs.Layer.{layer}
+use Rattle.program_meaning.specs.Run.{Halted}
+use Rattle.eval_ops.specs.declared.halt.Halt.{Halt}
+use Rattle.eval_ops.specs.declared.halt.Halt.TheVariants.{Fault, OutOfSteps, Limited, Memory}
+use Rattle.eval_ops.specs.Machines.{Moment, ActionStopped, Does, DoesAll, Gives}
+use Rattle.eval_ops.proofs.ActionsCompose.{does_act}
+use Rattle.evaluator.specs.Stops.{AtEnd, Comes, StopsAt}
+use Rattle.program_tables.specs.declared.program.Routine.{Routine}
+use Rattle.program_meaning.specs.Acts.{limit_passed}
+use Rattle.evaluator.specs.Turns.{Turns, Fails, Entered}
+use Rattle.evaluator.specs.declared.tasks.Stop.TheVariants as stops
+use Rattle.evaluator.specs.Weight.{Falls}
+use Rattle.evaluator.specs.declared.body.Body.{Body}
+use Rattle.evaluator.specs.declared.tasks.Stop as row
+use Rattle.evaluator.proofs.Moves.{bind_doing, comes_same, comes_then, stops_then, begins, finished, stopped}
+
+-- what was put on top comes first
+pub reverse_pushed : {A : Type 0} (xs ys : List A) (x : A) → ys ≡ xs ++ x ∷ [] → reverse ys ≡ x ∷ reverse xs
+reverse_pushed xs ys x h = ap reverse h ∙ reverse-append xs (x ∷ [])
+
+pub fails_after : (p : ProgramRows) (t t' : Tree) (m m' m'' : Moment) (line : ℕ) (e : Halt) → Comes p t m t' m' → Fails p t' m' line e m'' → Fails p t
+    m line e m''
+fails_after p t t' m m' m'' line (Fault kind) f h = stops_then f h
+fails_after p t t' m m' m'' line OutOfSteps f h = stops_then f h
+fails_after p t t' m m' m'' line (Limited which) f h = stops_then f h
+fails_after p t t' m m' m'' line Memory f h = tt
+
+pub turns_after : (p : ProgramRows) (t t' : Tree) (m m' m'' : Moment) (r : Result (Option row.Stop) Halt) (a : Body) → Comes p t m t' m' → Turns p t'
+    m' r a m'' → Turns p t m r a m''
+turns_after p t t' m m' m'' (Ok None) a f h = comes_then f h
+turns_after p t t' m m' m'' (Ok (Some s)) a f h = (stops_then f h.0, h.1)
+turns_after p t t' m m' m'' (Err e) a f h = fails_after p t t' m m' m'' a.line e f h
+
+pub turns_same : (p : ProgramRows) (t t' : Tree) (m m' : Moment) (r : Result (Option row.Stop) Halt) (a : Body) → t ≡ t' → Turns p t' m r a m' → Turns
+    p t m r a m'
+turns_same p t t' m m' r a e h = subst (λ t. Turns p t m r a m') (sym e) h
+
+-- an action was done
+pub did : {A X : Type 0} (p : ProgramRows) (line : ℕ) (a : Action A) (k : A → Tree) (K : Out → Tree) (seen : X → A) (x : X) (m m' : Moment)
+    → DoesAll seen (performs a m.state) (Ok x) m m' → Comes p (bind (doing line a k) K) m (bind (k (seen x)) K) m'
+did p line a k K seen x m m' h = comes_then (comes_same (bind_doing line a k K)) (finished line a (λ x. bind (k x) K) (seen x) m m' h)
+
+stopped_in : {A : Type 0} (p : ProgramRows) (line : ℕ) (a : Action A) (k : A → Tree) (K : Out → Tree) (why : Trouble) (m m' : Moment)
+    → ActionStopped (performs a m.state) why m m' → StopsAt p (bind (doing line a k) K) m (AtEnd (Halted (way_of line why))) m'
+stopped_in p line a k K why m m' h = stops_then (comes_same (bind_doing line a k K)) (stopped line a (λ x. bind (k x) K) why m m' h)
+
+-- an action was not done
+pub fails : {A X : Type 0} (p : ProgramRows) (line : ℕ) (a : Action A) (k : A → Tree) (K : Out → Tree) (seen : X → A) (e : Halt) (m m' : Moment)
+    → DoesAll seen (performs a m.state) (Err e) m m' → Fails p (bind (doing line a k) K) m line e m'
+fails p line a k K seen (Fault kind) m m' h = stopped_in p line a k K _ m m' h
+fails p line a k K seen OutOfSteps m m' h = stopped_in p line a k K _ m m' h
+fails p line a k K seen (Limited which) m m' h = stopped_in p line a k K _ m m' h
+fails p line a k K seen Memory m m' h = tt
+
+-- and so the body has failed
+pub turns_failed : (p : ProgramRows) (t : Tree) (m m' : Moment) (line : ℕ) (e : Halt) (a : Body) (r : Result (Option row.Stop) Halt) → a.line ≡ line → r ≡ Err e
+    → Fails p t m line e m' → Turns p t m r a m'
+turns_failed p t m m' line e a r g f h = subst (λ r. Turns p t m r a m') (sym f) (subst (λ l. Fails p t m l e m') (sym g) h)
+
+-- a part begins, by its row
+pub part_comes : (p : ProgramRows) (part : Part) (K : Out → Tree) (m : Moment) (t : Tree) → layer p part ≡ t → Comes p (Sub part K) m (bind t K) m
+part_comes p part K m t e = comes_then (begins part K m) (comes_same (ap (λ t. bind t K) e))
+
+-- a step was taken
+pub spent : (p : ProgramRows) (h : Here) (t : Tree) (K : Out → Tree) (m m' : Moment)
+    → Does {X = Unit {0}} (λ _. tt) (perform (Spend 1) m.state) (Ok tt) m m' → Comes p (bind (spend h t) K) m (bind t K) m'
+spent p h t K m m' w = did {X = Unit {0}} p h.line (act (Spend 1)) (λ _. t) K (λ _. tt) tt m m' (does_act {X = Unit {0}} (Spend 1) (λ _. tt) m m' (Ok tt) w)
+
+-- no step was left
+pub not_spent : (p : ProgramRows) (h : Here) (t : Tree) (K : Out → Tree) (e : Halt) (m m' : Moment)
+    → Does {X = Unit {0}} (λ _. tt) (perform (Spend 1) m.state) (Err e) m m' → Fails p (bind (spend h t) K) m h.line e m'
+not_spent p h t K e m m' w = fails {X = Unit {0}} p h.line (act (Spend 1)) (λ _. t) K (λ _. tt) e m m'
+    (does_act {X = Unit {0}} (Spend 1) (λ _. tt) m m' (Err e) w)
+
+-- so much less is left where it was done
+abbrev Took : {A : Type 0} → ℕ → State → Done A → Type 0
+Took n σ (Went x w τ) = τ.steps + n ≡ σ.steps
+Took n σ (Stops why τ) = Unit {0}
+
+took : (σ : State) (b : Bool) → nat_lt σ.steps 1 ≡ b
+    → Took {A = Unit {0}} 1 σ (if b then Stops OutOfStepsTrouble (spent_state σ) else Went tt [] (record σ { steps = σ.steps - 1 }))
+took σ true e = tt
+took σ false e = let k = ltb-false σ.steps 1 e in omega arith
+
+pub spent_less : (m m' : Moment) → Does {X = Unit {0}} (λ _. tt) (perform (Spend 1) m.state) (Ok tt) m m' → m'.state.steps + 1 ≡ m.state.steps
+spent_less m m' w = subst (Took 1 m.state) w.1 (took m.state (nat_lt m.state.steps 1) refl)
+
+-- what needs no machine
+pub given : {A X : Type 0} (seen : X → A) (a : Action A) (r : Result X Halt) (m : Moment) → Gives seen a r → DoesAll seen (performs a m.state) r m m
+given seen a (Ok x) m h = ([], ap (λ a. performs a m.state) h, sym (append-nil m.log))
+given seen a (Err (Fault kind)) m h = ([], ap (λ a. performs a m.state) h, sym (append-nil m.log))
+given seen a (Err OutOfSteps) m h = absurd h
+given seen a (Err (Limited which)) m h = absurd h
+given seen a (Err Memory) m h = absurd h
+
+-- a turn that failed leaves no more to do
+pub falls_failed : (r : Result (Option row.Stop) Halt) (e : Halt) (a b : ℕ) → r ≡ Err e → Falls r a b
+falls_failed r e a b h = subst (λ r. Falls r a b) (sym h) tt
+
+-- an access before a selector
+pub before_it : (row access : ℕ) (h : Here) (go : ℕ → Tree) (K : Out → Tree) → access < row → bind (locate_before row access h go) K ≡ bind
+    (locate access h go) K
+before_it row access h go K l = ap (λ b. bind (if b then locate access h go else no_row) K) (lt-ltb access row l)
+
+pub not_before_it : (row access : ℕ) (h : Here) (go : ℕ → Tree) (K : Out → Tree) → row ≤ access → bind (locate_before row access h go) K ≡ no_row
+not_before_it row access h go K l = ap (λ b. bind (if b then locate access h go else no_row) K) (le-ltb access row l)
+
+-- a call was reached, with room for it
+pub entered_turns : (p : ProgramRows) (t : Tree) (m : Moment) (f : ℕ) (r : Result (Option row.Stop) Halt) (a : Body) → Entered p t m f r a
+    → (x : Routine) → routine_at p f ≡ Some x → limit_passed m.state x.cells ≡ None → Turns p t m r a m
+entered_turns p t m f (Ok None) a h x e l = absurd h
+entered_turns p t m f (Ok (Some (stops.Line n))) a h x e l = absurd h
+entered_turns p t m f (Ok (Some (stops.Enter g args))) a h x e l = (h.0, (x, ap (routine_at p) h.1 ∙ e, l))
+entered_turns p t m f (Ok (Some (stops.Ended w v))) a h x e l = absurd h
+entered_turns p t m f (Err (Fault kind)) a h x e l = absurd h
+entered_turns p t m f (Err OutOfSteps) a h x e l = absurd h
+entered_turns p t m f (Err (Limited which)) a h x e l = absurd h
+entered_turns p t m f (Err Memory) a h x e l = tt
+
+pub entered_falls : (p : ProgramRows) (t : Tree) (m : Moment) (f : ℕ) (r : Result (Option row.Stop) Halt) (a : Body) (left before : ℕ) → Entered p t m
+    f r a → Falls r left before
+entered_falls p t m f (Ok None) a left before h = absurd h
+entered_falls p t m f (Ok (Some s)) a left before h = tt
+entered_falls p t m f (Err e) a left before h = tt

@@ -1,0 +1,33 @@
+use Rattle.std.proofs.Common.{refl, ◌∙◌}
+use Rattle.evaluator.proofs.Moves.{comes_same, comes_then, stops_then}
+use Rattle.evaluator.proofs.body.Body.go_on.Goals as goal
+
+pub turns-init : goal.turns-init
+turns-init c = record { came = comes_same refl; home = refl; ready = c.requires.ready }
+
+pub turns-preserved : goal.turns-preserved
+turns-preserved c = record {
+  came = comes_then c.turns.invariant.came (rw c.in-Ok-None.field-0-is at c.in-Ok-None.ensures.turns);
+  home = c.in-Ok-None.ensures.home ∙ c.turns.invariant.home;
+  ready = c.in-Ok-None.ensures.ready;
+}
+
+pub turns-smaller : goal.turns-smaller
+turns-smaller c = rw c.in-Ok-None.field-0-is at c.in-Ok-None.ensures.falls
+
+pub returns-in-Ok-Some-clause-stops : goal.returns-in-Ok-Some-clause-stops
+returns-in-Ok-Some-clause-stops c = stops_then c.turns.invariant.came (rw c.in-Ok-Some.field-0-is at c.in-Ok-Some.ensures.turns).0
+
+pub returns-in-Ok-Some-clause-room : goal.returns-in-Ok-Some-clause-room
+returns-in-Ok-Some-clause-room c = (rw c.in-Ok-Some.field-0-is at c.in-Ok-Some.ensures.turns).1
+
+pub returns-in-Err-Fault-clause-stops : goal.returns-in-Err-Fault-clause-stops
+returns-in-Err-Fault-clause-stops c = rw c.in-Err-Fault.field-0-is (stops_then c.turns.invariant.came
+    (rw c.in-Err-Fault.field-0-is at c.in-Err-Fault.ensures.turns))
+
+pub returns-in-Err-OutOfSteps-clause-stops : goal.returns-in-Err-OutOfSteps-clause-stops
+returns-in-Err-OutOfSteps-clause-stops c = stops_then c.turns.invariant.came (rw c.in-Err-OutOfSteps.field-0-is at c.in-Err-OutOfSteps.ensures.turns)
+
+pub returns-in-Err-Limited-clause-stops : goal.returns-in-Err-Limited-clause-stops
+returns-in-Err-Limited-clause-stops c = rw c.in-Err-Limited.field-0-is (stops_then c.turns.invariant.came
+    (rw c.in-Err-Limited.field-0-is at c.in-Err-Limited.ensures.turns))

@@ -1,0 +1,326 @@
+//! The turns of for statements.
+
+ghost use Rattle.std.specs.Prelude.{◌≡◌, ◌+◌, true, false};
+ghost use Rattle.std.specs.Ordering.{int_eq};
+ghost use Rattle.cell_value.specs.declared.values.Value.TheVariants as CellValue;
+ghost use Rattle.program_tables.specs.ProgramRows.{ProgramRows, row_at};
+ghost use Rattle.program_meaning.specs.Tree.{Count, Exec, Sub, bind};
+ghost use Rattle.program_meaning.specs.Statements as statements;
+ghost use Rattle.eval_ops.specs.Machines.{Gives, IsReady, Moment, moment_of};
+ghost use Rattle.evaluator.specs.Rest.{counted, here, waiting, with_numbers};
+ghost use Rattle.evaluator.specs.Counting.{both, span_in, turns_in, turns_row};
+ghost use Rattle.evaluator.specs.Turns.{Turns};
+ghost use Rattle.evaluator.specs.Weight.{Falls, body_weight, come, left_of, left_with, tasks_weight};
+
+use crate::body::{Body, Turned};
+use crate::tasks::{Next, Now, Part, Task};
+use cell_value::Value;
+use eval_ops::{Halt, Machine, moved, passed, test, write_cell};
+use program_tables::Program;
+use program_tables::rows::{Direction, Row, StatementRow, TypeRow};
+use std::alloc::Global;
+
+/// How far a for statement has come: the value of a turn, and that of the last one.
+#[derive(Clone, Copy)]
+pub(crate) struct Span {
+    value: i64,
+    last: i64,
+}
+
+/// What the row of the turns of a for statement says.
+#[derive(Clone, Copy)]
+pub(crate) struct Counting {
+    pub(crate) direction: Direction,
+    /// The last value's expression.
+    pub(crate) last: u32,
+    /// The place of the control variable in the frame.
+    pub(crate) place: u32,
+    /// The type of the control variable.
+    pub(crate) of: u32,
+    pub(crate) body: u32,
+}
+
+/// The turns of a for statement, by their row.
+pub(crate) fn turns_of(program: &Program, row: u32) -> Option<Counting>
+    ensures { result ≡ turns_in (row_at program.now row) }
+{
+    match program.row(row) {
+        Row::Statement(
+            StatementRow::Turns {
+                direction,
+                last,
+                place,
+                of,
+                body,
+            },
+        ) => Some(Counting {
+            direction,
+            last,
+            place,
+            of,
+            body,
+        }),
+        _ => None,
+    }
+}
+
+/// How far a for statement has come, if both values are numbers.
+fn span_of(value: Value, last: Value) -> Option<Span>
+    ensures { result ≡ span_in value last }
+{
+    match (value, last) {
+        (Value::Number(value), Value::Number(last)) => Some(Span { value, last }),
+        _ => None,
+    }
+}
+
+/// The turns of a for statement, by their row, and how far it has come, by two values.
+fn counting_at(program: &Program, row: u32, value: Value, last: Value) -> Option<(Counting, Span)>
+    ensures { result ≡ both (turns_in (row_at program.now row)) (span_in value last) }
+{
+    match (turns_of(program, row), span_of(value, last)) {
+        (Some(counting), Some(span)) => Some((counting, span)),
+        _ => None,
+    }
+}
+
+/// The value of a turn.
+fn turn_value(span: Span) -> Value
+    ensures { result ≡ CellValue.Number span.value }
+{
+    Value::Number(span.value)
+}
+
+/// The value of the last turn.
+fn last_value(span: Span) -> Value
+    ensures { result ≡ CellValue.Number span.last }
+{
+    Value::Number(span.last)
+}
+
+/// Whether a for statement has a turn with a value, where it counts to the last one.
+fn has_turn(direction: Direction, span: Span) -> bool
+    ensures { result ≡ statements.has_turn direction span.value span.last }
+{
+    match direction {
+        Direction::Up => span.value <= span.last,
+        Direction::Down => span.last <= span.value,
+    }
+}
+
+/// Whether a turn of a for statement is the last.
+fn is_last(span: Span) -> bool
+    ensures { result ≡ int_eq span.value span.last }
+{
+    span.value == span.last
+}
+
+/// The turn after another that is not the last.
+fn turn_after(direction: Direction, span: Span) -> Span
+    requires turn { statements.has_turn direction span.value span.last ≡ true }
+    requires not_last { int_eq span.value span.last ≡ false }
+    ensures value { result.value ≡ statements.value_after direction span.value }
+    ensures last { result.last ≡ span.last }
+    ensures turn { statements.has_turn direction result.value result.last ≡ true }
+{
+    let value = match direction {
+        Direction::Up => span.value + 1,
+        Direction::Down => span.value - 1,
+    };
+    Span {
+        value,
+        last: span.last,
+    }
+}
+
+/// The test of both bounds of a for statement that has a turn, for the type of its control variable.
+fn bounds_tested(kind: Option<TypeRow>, span: Span) -> Result<Value, Halt>
+    ensures { Gives (λ v. v) (statements.bounds_tested kind span.value span.last) result }
+{
+    passed(test(kind, Value::Number(span.value)))?;
+    passed(test(kind, Value::Number(span.last)))
+}
+
+impl Body {
+    /// The bounds of a for statement are known: its first turn begins, if it has one.
+    pub(crate) fn first_turn(
+        &mut self,
+        alloc: Global,
+        program: &Program,
+        machine: &mut Machine,
+        turns: u32,
+        line: u32,
+        first: Value,
+        last: Value,
+    ) -> Turned
+        requires ready { IsReady machine.old }
+        ensures turns { Turns program.now (bind
+            (statements.first_turn program.now (here self.old.home line) turns (row_at program.now turns) first last)
+            (waiting program.now self.old)) (moment_of machine.old) result self.new (moment_of machine.new) }
+        ensures falls { Falls result (left_of self.new machine.new)
+            (left_with machine.old.steps (come + 1 + tasks_weight self.old)) }
+        ensures home { self.new.home ≡ self.old.home }
+        ensures ready { IsReady machine.new }
+    {
+        match counting_at(program, turns, first, last) {
+            Some((counting, span)) => {
+                self.begin_turns(alloc, program, machine, turns, line, counting, span)
+            }
+            None => self.no_row(),
+        }
+    }
+
+    /// The bounds of a for statement are numbers: its first turn begins, if it has one.
+    fn begin_turns(
+        &mut self,
+        alloc: Global,
+        program: &Program,
+        machine: &mut Machine,
+        turns: u32,
+        line: u32,
+        counting: Counting,
+        span: Span,
+    ) -> Turned
+        requires ready { IsReady machine.old }
+        requires row { row_at program.now turns ≡ turns_row counting }
+        ensures turns { Turns program.now (bind (statements.first_turn program.now (here self.old.home line) turns
+            (turns_row counting) (CellValue.Number span.value) (CellValue.Number span.last))
+            (waiting program.now self.old)) (moment_of machine.old) result self.new (moment_of machine.new) }
+        ensures falls { Falls result (left_of self.new machine.new)
+            (left_with machine.old.steps (come + 1 + tasks_weight self.old)) }
+        ensures home { self.new.home ≡ self.old.home }
+        ensures ready { IsReady machine.new }
+    {
+        if !has_turn(counting.direction, span) {
+            return self.undefine(alloc, machine, counting.place, line);
+        }
+        match bounds_tested(program.type_row(counting.of), span) {
+            Ok(_) => self.count(alloc, machine, turns, line, counting, span),
+            Err(halt) => self.fail(line, halt),
+        }
+    }
+
+    /// The control variable of a for statement that ended is undefined.
+    fn undefine(&mut self, alloc: Global, machine: &mut Machine, place: u32, line: u32) -> Turned
+        requires ready { IsReady machine.old }
+        ensures turns { (p : ProgramRows) → Turns p
+            (bind (statements.undefine (here self.old.home line) place) (waiting p self.old))
+            (moment_of machine.old) result self.new (moment_of machine.new) }
+        ensures falls { Falls result (left_of self.new machine.new)
+            (left_with machine.old.steps (come + 1 + tasks_weight self.old)) }
+        ensures home { self.new.home ≡ self.old.home }
+        ensures ready { IsReady machine.new }
+    {
+        let done = write_cell(
+            alloc,
+            machine,
+            moved(self.home.base, place),
+            Value::Undefined,
+        );
+        self.finally(line, done)
+    }
+
+    /// A turn of a for statement begins: the control variable gets its value, and then the body is done.
+    fn count(
+        &mut self,
+        alloc: Global,
+        machine: &mut Machine,
+        row: u32,
+        line: u32,
+        counting: Counting,
+        span: Span,
+    ) -> Turned
+        requires ready { IsReady machine.old }
+        requires turn { statements.has_turn counting.direction span.value span.last ≡ true }
+        ensures turns { (p : ProgramRows) → row_at p row ≡ turns_row counting → Turns p
+            (Sub (Count row span.value span.last (here self.old.home line)) (waiting p self.old))
+            (moment_of machine.old) result self.new (moment_of machine.new) }
+        ensures falls { Falls result (left_of self.new machine.new)
+            (left_with machine.old.steps (2 + tasks_weight self.old)) }
+        ensures home { self.new.home ≡ self.old.home }
+        ensures ready { IsReady machine.new }
+    {
+        let variable = moved(self.home.base, counting.place);
+        match write_cell(alloc, machine, variable, turn_value(span)) {
+            Ok(()) => self.do_body(row, line, counting.body, span),
+            Err(halt) => self.fail(line, halt),
+        }
+    }
+
+    /// The body of a for statement begins, in a turn whose value the control variable has.
+    fn do_body(&mut self, row: u32, line: u32, body: u32, span: Span) -> Turned
+        ensures turns { (p : ProgramRows) (m : Moment) → Turns p (Sub (Exec body (here self.old.home line)) (λ out. bind
+            (statements.on_normal (counted self.old.home row line span.value span.last (row_at p row)) out)
+            (waiting p self.old))) m result self.new m }
+        ensures falls { Falls result (body_weight self.new) (2 + tasks_weight self.old) }
+        ensures home { self.new.home ≡ self.old.home }
+    {
+        self.values.push(turn_value(span))?;
+        self.hold(
+            last_value(span),
+            Task::Next(Next::Counted { row, line }),
+            Now::Begin(Part::Exec { row: body, line }),
+        )
+    }
+
+    /// A turn of a for statement has ended: the next one begins, if it was not the last.
+    pub(crate) fn turn_ended(
+        &mut self,
+        alloc: Global,
+        program: &Program,
+        machine: &mut Machine,
+        row: u32,
+        line: u32,
+        value: Value,
+        last: Value,
+    ) -> Turned
+        requires ready { IsReady machine.old }
+        ensures turns { Turns program.now (bind
+            (with_numbers value last (λ i last. counted self.old.home row line i last (row_at program.now row)))
+            (waiting program.now self.old)) (moment_of machine.old) result self.new (moment_of machine.new) }
+        ensures falls { Falls result (left_of self.new machine.new)
+            (left_with machine.old.steps (come + 1 + tasks_weight self.old)) }
+        ensures home { self.new.home ≡ self.old.home }
+        ensures ready { IsReady machine.new }
+    {
+        match counting_at(program, row, value, last) {
+            Some((counting, span)) => self.next_turn(alloc, machine, row, line, counting, span),
+            None => self.no_row(),
+        }
+    }
+
+    /// The turn of a for statement with a value has ended.
+    fn next_turn(
+        &mut self,
+        alloc: Global,
+        machine: &mut Machine,
+        row: u32,
+        line: u32,
+        counting: Counting,
+        span: Span,
+    ) -> Turned
+        requires ready { IsReady machine.old }
+        ensures turns { (p : ProgramRows) → row_at p row ≡ turns_row counting → Turns p
+            (bind (counted self.old.home row line span.value span.last (turns_row counting)) (waiting p self.old))
+            (moment_of machine.old) result self.new (moment_of machine.new) }
+        ensures falls { Falls result (left_of self.new machine.new)
+            (left_with machine.old.steps (come + 1 + tasks_weight self.old)) }
+        ensures home { self.new.home ≡ self.old.home }
+        ensures ready { IsReady machine.new }
+    {
+        if !has_turn(counting.direction, span) {
+            return self.no_row();
+        }
+        if is_last(span) {
+            return self.undefine(alloc, machine, counting.place, line);
+        }
+        self.count(
+            alloc,
+            machine,
+            row,
+            line,
+            counting,
+            turn_after(counting.direction, span),
+        )
+    }
+}

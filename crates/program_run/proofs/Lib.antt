@@ -1,0 +1,11 @@
+pub mod ActsKeepCalls
+pub mod CallsBegin
+pub mod CallsEnd
+pub mod ItemsOfInput
+pub mod LinesTakeSteps
+pub mod OpenCalls
+pub mod RowsInParts
+pub mod RunnerSteps
+pub mod RunsAreRuns
+pub mod StepsLeadToTheRun
+pub mod StopsLeadOn

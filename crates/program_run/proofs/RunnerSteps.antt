@@ -1,0 +1,80 @@
+-- What the steps of a runner do with its open calls.
+use Rattle.std.proofs.Common.{◌≡◌, ℕ, ◌<◌, List, [], ◌∷◌, ◌++◌, Option, Some, None, length, map, sym, ap, subst, ◌∙◌, arith, length-append}
+use Rattle.std.specs.Prelude.{reverse, OnOk, Result, Ok, Err}
+use Rattle.std.proofs.Common.{◌+◌, false}
+use Rattle.std.proofs.lemmas.List.{reverse-append}
+use Rattle.cell_value.specs.declared.values.Value.{Value}
+use Rattle.cell_value.specs.declared.ways_out.WayOut.{WayOut}
+use Rattle.call_tree.specs.Recording.{Recording, entered}
+use Rattle.program_tables.specs.declared.program.Routine.{Routine}
+use Rattle.program_tables.specs.ProgramRows.{ProgramRows}
+use Rattle.program_meaning.specs.State.{State}
+use Rattle.program_meaning.specs.Tree.{Tree}
+use Rattle.eval_ops.specs.Machines.{Moment}
+use Rattle.evaluator.specs.Stops.{Stop, StopsAt}
+use Rattle.program_run.specs.declared.open_call.OpenCall.{OpenCall}
+use Rattle.program_run.specs.Table.{side_of}
+use Rattle.program_run.specs.Tower.{Rests, Stage, StagePaid, Calls, Open, View, TowerAt, Begins}
+use Rattle.program_run.specs.Runners.{Begun, open_in}
+use Rattle.program_run.proofs.ActsKeepCalls.{onward}
+use Rattle.program_run.proofs.LinesTakeSteps.{StopPaid, stop_paid}
+use Rattle.program_run.proofs.StepsLeadToTheRun.{climb_enter}
+
+-- an open call more
+pub pushed : (p : ProgramRows) (xs ys : List OpenCall) (o : OpenCall) → ys ≡ xs ++ o ∷ []
+    → map (open_in p) (reverse ys) ≡ open_in p o ∷ map (open_in p) (reverse xs)
+pushed p xs ys o e = ap (λ os. map (open_in p) (reverse os)) e ∙ ap (map (open_in p)) (reverse-append xs (o ∷ []))
+
+-- what is known of a call that was entered
+pub record Entered (p : ProgramRows) (f : ℕ) (args : List Value) (o : Open) (stage : Stage) (v v' : View) : Type 0 where
+  pub begins : Begins p f args o.cells stage v.moment v'.moment
+  pub base : o.base ≡ v.moment.state.top
+  pub recording : v'.recording ≡ entered v.recording f args (side_of (length v.moment.log) v.moment.state)
+  pub opens : v'.opens ≡ o ∷ v.opens
+
+pub entered_stands : {p : ProgramRows} {first : State} {f : ℕ} {args : List Value} {stage : Stage} (o : Open) (v v' : View) → Entered p f args o stage v v'
+    → StagePaid stage → TowerAt p first (Calls f args o.rest) v → TowerAt p first stage v'
+entered_stands {p = p} {first = first} {f = f} {args = args} {stage = stage} o v v' e paid t =
+    subst (λ w. TowerAt p first stage w) (λ i. record {
+      opens = sym (e.opens ∙ ap (λ b. record { base = b; cells = o.cells; rest = o.rest } ∷ v.opens) e.base) i;
+      moment = v'.moment;
+      recording = sym e.recording i;
+    }) (climb_enter v v'.moment f args o.rest o.cells stage t e.begins paid)
+
+pub begun_output : (p : ProgramRows) (f : ℕ) (args : List Value) (r : Routine) (halted : Option WayOut) (m m' : Moment) → Begun p f args r halted m m'
+    → m'.state.output ≡ m.state.output
+begun_output p f args r None m m' b = b.output
+begun_output p f args r (Some way) m m' b = b.output
+
+pub few_begun : (p : ProgramRows) (f : ℕ) (args : List Value) (r : Routine) (halted : Option WayOut) (m m' : Moment) → Begun p f args r halted m m'
+    → length m.state.output < 4294967296 → length m'.state.output < 4294967296
+few_begun p f args r halted m m' b h = subst (λ w. length w < 4294967296) (sym (begun_output p f args r halted m m' b)) h
+
+pub few_onward : {p : ProgramRows} {t : Tree} {m : Moment} {stop : Stop} {m' : Moment} → StopsAt p t m stop m' → length m.state.output < 4294967296
+    → length m'.state.output < 4294967296
+few_onward {p = p} {t = t} {m = m} {stop = stop} {m' = m'} s h =
+    subst (λ w. length w < 4294967296) (sym (onward p s.moves t m stop m' s.is).same.output) h
+
+-- the table of calls has the same open calls, once one is entered
+pub counted_entered : (r r' : Recording) (xs ys : List OpenCall) (o : OpenCall) (f : ℕ) (args : List Value) (side : _) → r' ≡ entered r f args side
+    → ys ≡ xs ++ o ∷ [] → length r.open_calls ≡ length xs → length r'.open_calls ≡ length ys
+counted_entered r r' xs ys o f args side e k h = ap (λ (q : Recording). length q.open_calls) e
+    ∙ (let l = length-append xs (o ∷ []) in let m = ap length k in let n = h in omega (arith, l, m, n))
+
+-- from a stop on fewer steps are left, or no more
+pub steps_onward : {p : ProgramRows} {first : State} {t : Tree} {v : View} {stop : Stop} {m' : Moment} → TowerAt p first (Rests t) v
+    → StopsAt p t v.moment stop m' → StopPaid v.moment.state.steps stop m'.state.steps
+steps_onward {p = p} {t = t} {v = v} {stop = stop} {m' = m'} h s = stop_paid p v.moment.state.steps s.moves t false v.moment stop m' h.paid (omega arith) s.is
+
+pub calls_onward : {p : ProgramRows} {t : Tree} {m : Moment} {stop : Stop} {m' : Moment} → StopsAt p t m stop m' → m'.state.calls ≡ m.state.calls
+calls_onward {p = p} {t = t} {m = m} {stop = stop} {m' = m'} s = (onward p s.moves t m stop m' s.is).same.calls
+
+pub begun_calls : (p : ProgramRows) (f : ℕ) (args : List Value) (r : Routine) (halted : Option WayOut) (m m' : Moment) → Begun p f args r halted m m'
+    → m'.state.calls ≡ m.state.calls + 1
+begun_calls p f args r None m m' b = b.calls
+begun_calls p f args r (Some way) m m' b = b.calls
+
+-- what holds after a success, from what else does
+pub on_ok : {X E : Type 0} (r : Result X E) (A B : Type 0) → (A → B) → OnOk r A → OnOk r B
+on_ok (Ok x) A B f h = f h
+on_ok (Err e) A B f h = h

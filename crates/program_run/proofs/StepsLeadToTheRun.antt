@@ -1,0 +1,272 @@
+-- How the open calls change, from stop to stop.
+use Rattle.std.proofs.Common.{◌≡◌, ℕ, suc, ◌-◌, List, [], ◌∷◌, ◌++◌, Some, length, refl, sym, ap, subst, ◌∙◌, false, append-nil, arith}
+use Rattle.cell_value.specs.declared.values.Value.{Value}
+use Rattle.cell_value.specs.declared.values.Value.TheVariants.{Nil}
+use Rattle.cell_value.specs.declared.entries.Touch.{Touch}
+use Rattle.program_tables.specs.ProgramRows.{ProgramRows}
+use Rattle.program_meaning.specs.State.{State}
+use Rattle.program_meaning.specs.Tree.{Out, Tree, Ret}
+use Rattle.program_meaning.specs.Run.{Ended, Halted}
+use Rattle.program_meaning.specs.Run.{End, Result, Call, Outcome, in_front, ends, recorded, after_all, closed, without_frame, call_of, way_out, result_in}
+use Rattle.program_meaning.specs.Run.{plain, run_of}
+use Rattle.program_meaning.proofs.MoreDepthSameResult.{Less, less_same, joined_less, run_less, plain_grows}
+use Rattle.program_meaning.proofs.OutcomesCompose.{front_nothing, less_then, less_is}
+use Rattle.call_tree.specs.Recording.{Recording, nothing_entered, entered, left, new_call}
+use Rattle.eval_ops.specs.Machines.{Moment}
+use Rattle.evaluator.specs.Stops.{Stop, AtLine, AtCall, AtEnd, StopsAt}
+use Rattle.program_run.specs.Table.{side_of}
+use Rattle.program_run.specs.Tower.{Level, Levels, Bottom, Push, called, followed, whole_from, Stage, Rests, Calls, Ends, stage_of, stage_after, StagePaid}
+use Rattle.program_run.specs.Tower.{left_at, Leads}
+use Rattle.program_run.specs.Tower.{size, numbers_of, logs_of, rows_of, recording_at, Fits, Open, open_of, opens_of, View, TowerAt, Begins, IsOver}
+use Rattle.program_run.proofs.RowsInParts.{rows_whole}
+use Rattle.program_run.proofs.StopsLeadOn.{finish, IsLens, runs}
+use Rattle.program_run.specs.Lines.{Paid}
+use Rattle.program_run.proofs.ActsKeepCalls.{onward}
+use Rattle.program_run.proofs.LinesTakeSteps.{StopPaid, stop_paid}
+use Rattle.program_run.proofs.OpenCalls.{
+  whole_more,
+  whole_some,
+  front_some,
+  more,
+  more_comm,
+  run_more,
+  done,
+  whole_done,
+  logs_done,
+  numbers_done,
+  opens_done,
+  size_done,
+  fits_more,
+  lengths_same,
+  rows_length,
+  rows_done,
+  ended,
+  call_ends,
+  recording_left,
+  fits_ended,
+  Top,
+  top_of,
+}
+
+stage_paid : (before : ℕ) (stop : Stop) (steps : ℕ) → StopPaid before stop steps → StagePaid (stage_of stop)
+stage_paid before (AtLine line rest) steps h = h.1
+stage_paid before (AtCall f args rest) steps h = h.1
+stage_paid before (AtEnd end) steps h = tt
+
+after_paid : (rest : Out → Tree) (e : End) → ((out : Out) → Paid false (rest out)) → StagePaid (stage_after rest e)
+after_paid rest (Ended out) h = h out
+after_paid rest (Halted way) h = tt
+
+plain_lens : (p : ProgramRows) → IsLens (plain p)
+plain_lens p = record { set_get = λ σ τ. refl; get_set = λ σ. refl; set_set = λ σ τ υ. refl }
+
+same_end : (l w v : List Touch) → l ++ w ≡ l ++ v → w ≡ v
+same_end [] w v e = e
+same_end (x ∷ l) w v e = same_end l w v cc
+
+leads_from : {p : ProgramRows} {first : State} {a b : ℕ → Outcome} → Leads p first a
+    → ((n : ℕ) (r : Result State Call) → b n ≡ Some r → (k : ℕ) × (a k ≡ Some r)) → Leads p first b
+leads_from f h = record { leads = λ n r e. let x = h n r e in f.leads x.0 r x.1 }
+
+-- what is left at a stage, one level deeper
+left_finish : (p : ProgramRows) (n : ℕ) (stop : Stop) (σ : State) → Less (left_at p n (stage_of stop) σ) (finish (plain p) p (suc n) stop σ)
+left_finish p n (AtLine line rest) σ = less_then (run_less (plain p) (plain_grows p) p n rest σ) (less_is (sym (front_nothing _)))
+left_finish p n (AtCall f args rest) σ =
+    joined_less _ _ _ _ (less_same (call_of p (run_of p n) f args σ)) (λ out τ. run_less (plain p) (plain_grows p) p n (rest out) τ)
+left_finish p n (AtEnd end) σ = less_same _
+
+same_rows : (ls : Levels) (w : List Touch) → Fits ls → rows_of (done ls w []) ≡ rows_of ls
+same_rows ls w f = rows_done ls w [] f ∙ append-nil (rows_of ls)
+
+module _ {p : ProgramRows} {first : State} where
+  -- on to the innermost body's next stop
+  pub climb : (v : View) (t : Tree) (stop : Stop) (m' : Moment) → TowerAt p first (Rests t) v → StopsAt p t v.moment stop m'
+      → TowerAt p first (stage_of stop) (record { opens = v.opens; moment = m'; recording = v.recording })
+  climb v t stop m' h s =
+      let ls = h.levels in
+      let o = onward p s.moves t v.moment stop m' s.is in
+      let w = o.log in
+      record {
+        levels = done ls w [];
+        opens = h.opens ∙ sym (opens_done ls w []);
+        fits = fits_more ls w h.fits;
+        recording = h.recording ∙ (λ i. record {
+          calls = sym (same_rows ls w h.fits) i;
+          open_calls = sym (numbers_done ls w []) i;
+          routines = length p.routines;
+        });
+        log = o.grown ∙ ap (λ l. l ++ w) h.log ∙ sym (logs_done ls w []);
+        calls = let a = o.same.calls in let b = h.calls in let c = size_done ls w [] in omega (arith, a, b, c);
+        depth = o.same.depth ∙ h.depth ∙ ap length (sym (numbers_done ls w []));
+        items = o.same.items ∙ h.items;
+        paid = stage_paid v.moment.state.steps stop m'.state.steps (stop_paid p v.moment.state.steps s.moves t false v.moment stop m' h.paid (omega arith)
+            s.is);
+        leads = leads_from h.leads (go ls w o.grown);
+      }
+    where
+      go : (ls : Levels) (w : List Touch) → m'.log ≡ v.moment.log ++ w → (n : ℕ) (r : Result State Call)
+          → whole_from p n (done ls w []) (left_at p n (stage_of stop) m'.state) ≡ Some r
+          → (k : ℕ) × (whole_from p k ls (run_of p k t v.moment.state) ≡ Some r)
+      go ls w grown n r e =
+          let e1 = sym (whole_done p n ls w [] (left_at p n (stage_of stop) m'.state)) ∙ e in
+          let a = whole_some p n ls (in_front w [] (left_at p n (stage_of stop) m'.state)) r e1 in
+          let b = front_some w [] (left_at p n (stage_of stop) m'.state) a.0 a.1 in
+          let y = runs (plain p) (plain_grows p) (plain_lens p) p s.moves t v.moment.state v.moment.state v.moment.log (suc n) stop m' b.0 refl s.is
+          ((left_finish p n stop m'.state).gives b.0 b.1) in
+          let same : y.log ≡ w = same_end v.moment.log _ _ (sym y.grown ∙ grown) in (
+            more (suc y.depth) n,
+            (whole_more p (suc y.depth) n ls (in_front w [] (left_at p n (stage_of stop) m'.state)) (run_of p (more (suc y.depth) n) t v.moment.state)
+                (record {
+                  gives = λ q c.
+                      (subst (λ j. Less (run_of p (suc y.depth) t v.moment.state) (run_of p j t v.moment.state)) (more_comm n (suc y.depth))
+                      (run_more p n (suc y.depth) t v.moment.state)).gives _ y.is
+                      ∙ ap (λ u. in_front u [] (Some b.0)) same
+                      ∙ ap (in_front w []) (sym b.1)
+                      ∙ c;
+                })).gives r e1,
+          )
+
+  -- a call is entered
+  pub climb_enter : (v : View) (m' : Moment) (f : ℕ) (args : List Value) (rest : Out → Tree) (cells : ℕ) (stage : Stage)
+      → TowerAt p first (Calls f args rest) v → Begins p f args cells stage v.moment m' → StagePaid stage
+      → TowerAt p first stage (record {
+        opens = (record { base = v.moment.state.top; cells = cells; rest = rest }) ∷ v.opens;
+        moment = m';
+        recording = entered v.recording f args (side_of (length v.moment.log) v.moment.state);
+      })
+  climb_enter v m' f args rest cells stage h b paid =
+      let ls = h.levels in
+      let σ = v.moment.state in
+      let l : Level = record { routine = f; args = args; entry = σ; cells = cells; rest = rest } in
+      record {
+        levels = Push ls l (record { log = []; events = [] });
+        opens = ap (λ os. open_of l ∷ os) h.opens;
+        fits = (record { inside = λ k x. absurd (omega arith) }, h.depth, h.fits, h.paid);
+        recording = ap (λ (r : Recording). entered r f args (side_of (length v.moment.log) σ)) h.recording ∙ (λ i. record {
+          calls = rows_of ls ++ new_call (rows_length ls i) (numbers_of ls) f args (side_of (length (h.log i)) σ) ∷ [];
+          open_calls = rows_length ls i ∷ numbers_of ls;
+          routines = length p.routines;
+        });
+        log = b.log ∙ h.log ∙ sym (append-nil (logs_of ls));
+        calls = let a = b.calls in let c = h.calls in omega (arith, a, c);
+        depth = let a = b.depth in let c = h.depth in omega (arith, a, c);
+        items = b.items ∙ h.items;
+        paid = paid;
+        leads = leads_from h.leads (λ n r e. (n, ap (whole_from p n ls) (enters n) ∙ e));
+      }
+    where
+      enters : (n : ℕ) → followed p n rest (call_of p (run_of p n) f args v.moment.state)
+          ≡ followed p n rest (called (record { routine = f; args = args; entry = v.moment.state; cells = cells; rest = rest })
+          (in_front [] [] (left_at p n stage m'.state)))
+      enters n = ap (λ x. followed p n rest (recorded f args v.moment.state (after_all (closed v.moment.state.depth) x)))
+          (b.is n ∙ ap (after_all (without_frame v.moment.state.top cells)) (sym (front_nothing (left_at p n stage m'.state))))
+
+  -- a call ends
+  pub climb_leave : (v : View) (m' : Moment) (outer : List Open) (o : Open) (depth : ℕ) (e : End) → TowerAt p first (Ends e) v
+      → v.opens ≡ o ∷ outer
+      → m'.state ≡ closed depth (without_frame o.base o.cells v.moment.state) → m'.log ≡ v.moment.log → depth ≡ v.moment.state.depth - 1
+      → TowerAt p first (stage_after o.rest e) (record {
+        opens = outer;
+        moment = m';
+        recording = left v.recording (side_of (length v.moment.log) m'.state) (way_out e) (result_in e);
+      })
+  climb_leave v m' outer o depth e h eo es el ed = go (top_of outer o h.levels (sym eo ∙ h.opens))
+    where
+      go : Top outer o h.levels → TowerAt p first (stage_after o.rest e) (record {
+        opens = outer;
+        moment = m';
+        recording = left v.recording (side_of (length v.moment.log) m'.state) (way_out e) (result_in e);
+      })
+      go y =
+          let under = y.under in
+          let l = y.l in
+          let own = y.own in
+          let fits : Fits (Push under l own) = subst Fits y.is h.fits in
+          let log : v.moment.log ≡ logs_of (Push under l own) = h.log ∙ ap logs_of y.is in
+          let count : v.moment.state.calls ≡ size (Push under l own) = h.calls ∙ ap size y.is in
+          let high : v.moment.state.depth ≡ length (numbers_of (Push under l own)) = h.depth ∙ ap (λ ls. length (numbers_of ls)) y.is in
+          let at : depth ≡ l.entry.depth = let f = fits.1 in omega (arith, ed, high, f) in
+          let one = y.one in
+          let σ : m'.state ≡ closed l.entry.depth (without_frame l.entry.top l.cells v.moment.state) = es
+          ∙ (λ i. closed (at i) (without_frame (one i).base (one i).cells v.moment.state)) in
+          let es' = ended l own e m'.state in
+          record {
+            levels = done under own.log es';
+            opens = y.opens ∙ sym (opens_done under own.log es');
+            fits = fits_ended under l own e m'.state fits;
+            recording = ap (λ (r : Recording). left r (side_of (length v.moment.log) m'.state) (way_out e) (result_in e))
+                (h.recording ∙ ap (recording_at (length p.routines)) y.is)
+                ∙ recording_left (length p.routines) under l own e m'.state v.moment.log fits.2 log;
+            log = el ∙ log ∙ sym (logs_done under own.log es');
+            calls = ap (λ (τ : State). τ.calls) es ∙ (let c = size_done under own.log es' in omega (arith, count, c));
+            depth = ap (λ (τ : State). τ.depth) es ∙ at ∙ fits.1 ∙ ap length (sym (numbers_done under own.log es'));
+            items = ap (λ (τ : State). τ.items) es ∙ h.items;
+            paid = subst (λ (q : Open). StagePaid (stage_after q.rest e)) (sym one) (after_paid l.rest e fits.3);
+            leads = leads_from (subst (λ ls. Leads p first (λ n. whole_from p n ls (ends e v.moment.state))) y.is h.leads) (λ n r c. (
+              n,
+              ap (whole_from p n under) (call_ends p n l own e v.moment.state m'.state σ)
+                  ∙ sym (whole_done p n under own.log es' (left_at p n (stage_after l.rest e) m'.state))
+                  ∙ ap (λ (q : Open). whole_from p n (done under own.log es') (left_at p n (stage_after q.rest e) m'.state)) (sym one)
+                  ∙ c,
+            ));
+          }
+
+  -- no call is open
+  pub over : (v : View) (stage : Stage) (e : End) → TowerAt p first stage v → v.opens ≡ []
+      → ((n : ℕ) → left_at p (suc n) stage v.moment.state ≡ ends e v.moment.state) → IsOver p first v.moment v.recording
+  over v stage e h eo is = go h.levels h.opens h.recording h.log h.leads
+    where
+      go : (ls : Levels) → v.opens ≡ opens_of ls → v.recording ≡ recording_at (length p.routines) ls → v.moment.log ≡ logs_of ls
+          → Leads p first (λ n. whole_from p n ls (left_at p n stage v.moment.state)) → IsOver p first v.moment v.recording
+      go (Push under l own) x rec log f = absurd (let e : [] ≡ open_of l ∷ opens_of under = sym eo ∙ x in let z : ⊥ = cc in z)
+      go (Bottom own) x rec log f =
+          let r : Result State Call = record { end = e; after = v.moment.state; log = own.log; events = own.events } in
+          let y = f.leads 1 r (ap (in_front own.log own.events) (is 0) ∙ (λ i. Some (record {
+            end = e;
+            after = v.moment.state;
+            log = append-nil own.log i;
+            events = append-nil own.events i;
+          }))) in
+          record {
+            result = r;
+            depth = y.0;
+            is = y.1;
+            after = refl;
+            items = h.items;
+            log = log;
+            recording = rec ∙ (λ i. record { calls = rows_whole own.events i; open_calls = []; routines = length p.routines });
+          }
+
+  -- no call is entered yet
+  pub at_first : (m : Moment) → m.state ≡ first → m.log ≡ [] → first.calls ≡ 0 → first.depth ≡ 0
+      → TowerAt p first (Calls 0 (Nil ∷ []) Ret) (record { opens = []; moment = m; recording = nothing_entered (length p.routines) })
+  at_first m es el ec ed = record {
+    levels = Bottom (record { log = []; events = [] });
+    opens = refl;
+    fits = record { inside = λ k x. absurd (omega arith) };
+    recording = refl;
+    log = el;
+    calls = ap (λ (σ : State). σ.calls) es ∙ ec;
+    depth = ap (λ (σ : State). σ.depth) es ∙ ed;
+    items = ap (λ (σ : State). σ.items) es;
+    paid = λ out. tt;
+    leads = record {
+      leads = λ n r e. (
+        suc n,
+        (joined_less _ _ _ _ (less_same (call_of p (run_of p n) 0 (Nil ∷ []) first))
+            (λ out τ. run_less (plain p) (plain_grows p) p n (Ret out) τ)).gives r
+            (ap (λ σ. followed p n Ret (call_of p (run_of p n) 0 (Nil ∷ []) σ)) (sym es) ∙ sym (front_nothing _) ∙ e),
+      );
+    };
+  }
+
+-- what a tower says of what is recorded
+module _ {p : ProgramRows} {first : State} {stage : Stage} {v : View} where
+  pub open_same : TowerAt p first stage v → length v.recording.open_calls ≡ length v.opens
+  open_same h = ap (λ (r : Recording). length r.open_calls) h.recording ∙ lengths_same h.levels ∙ ap length (sym h.opens)
+
+  pub calls_same : TowerAt p first stage v → length v.recording.calls ≡ v.moment.state.calls
+  calls_same h = ap (λ (r : Recording). length r.calls) h.recording ∙ rows_length h.levels ∙ sym h.calls
+
+  pub routines_same : TowerAt p first stage v → v.recording.routines ≡ length p.routines
+  routines_same h = ap (λ (r : Recording). r.routines) h.recording

@@ -1,0 +1,109 @@
+-- From a tree's next stop on, its run is the rest's.
+use Rattle.std.proofs.Common.{◌≡◌, ℕ, zero, suc, List, [], ◌++◌, Option, Some, refl, sym, ap, ◌∙◌, append_assoc, append-nil}
+use Rattle.cell_value.specs.declared.entries.Touch.{Touch}
+use Rattle.program_tables.specs.ProgramRows.{ProgramRows}
+use Rattle.program_meaning.specs.State.{State}
+use Rattle.program_meaning.specs.Acts.{Act, Answer, Done, Went, Stops, perform}
+use Rattle.program_meaning.specs.Tree.{Tree, Ret, Halt, Do, Sub, Enter, Line, way_of, bind}
+use Rattle.program_meaning.specs.Layer.{layer}
+use Rattle.program_meaning.specs.Run.{Ended, Halted, Result, Rules, in_front, ends, on_done, within}
+use Rattle.program_meaning.proofs.MoreDepthSameResult.{Less, Grows, run_less, joined_less, less_same, in_front_less}
+use Rattle.eval_ops.specs.Machines.{Moment}
+use Rattle.evaluator.specs.Stops.{Stop, AtLine, AtCall, AtEnd, on_act, next_stop}
+use Rattle.program_meaning.proofs.OutcomesCompose.{front_nothing, front_twice, walk_bind, some_same, none_some}
+
+-- what is left at a stop
+abbrev pub finish : {S E : Type 0} → Rules S E → ProgramRows → ℕ → Stop → S → Option (Result S E)
+finish rules p n (AtLine line rest) σ = in_front [] (rules.line line) (within rules p n rest σ)
+finish rules p n (AtCall f args next) σ = within rules p n (Enter f args next) σ
+finish rules p n (AtEnd end) σ = ends end σ
+
+-- what the acts do to a state, they do to the state in it
+pub record IsLens {S E : Type 0} (rules : Rules S E) : Type 0 where
+  pub set_get : (σ : S) (τ : State) → rules.state_of (rules.with_state σ τ) ≡ τ
+  pub get_set : (σ : S) → rules.with_state σ (rules.state_of σ) ≡ σ
+  pub set_set : (σ : S) (τ υ : State) → rules.with_state (rules.with_state σ τ) υ ≡ rules.with_state σ υ
+
+abbrev Found : Type 0
+Found = Option (Stop × Moment)
+
+unpack : (a b : Stop × Moment) → Some a ≡ Some b → (a.0 ≡ b.0) × (a.1 ≡ b.1)
+unpack a b h = let e : a ≡ b = some_same h in (ap (λ x. x.0) e, ap (λ x. x.1) e)
+
+module _ {S E : Type 0} (rules : Rules S E) (grows : Grows rules) (lens : IsLens rules) where
+  pub record Runs (p : ProgramRows) (t : Tree) (s : S) (l l' : List Touch) (r : Result S E) : Type 0 where
+    pub depth : ℕ
+    pub log : List Touch
+    pub grown : l' ≡ l ++ log
+    pub is : within rules p (suc depth) t s ≡ in_front log [] (Some r)
+
+  -- a tree that stops at once
+  runs_stop : (p : ProgramRows) (t : Tree) (s : S) (l : List Touch) (first stop : Stop) (m' : Moment) (n : ℕ) (r : Result S E)
+      → Less (finish rules p n first s) (within rules p (suc n) t s)
+      → ◌≡◌ {A = Found} (Some (first, record { state = rules.state_of s; log = l })) (Some (stop, m'))
+      → finish rules p n stop (rules.with_state s m'.state) ≡ Some r → Runs p t s l m'.log r
+  runs_stop p t s l first stop m' n r g h f =
+      let e = unpack (first, record { state = rules.state_of s; log = l }) (stop, m') h in
+      record {
+        depth = n;
+        log = [];
+        grown = ap (λ x. x.log) (sym e.1) ∙ sym (append-nil l);
+        is = g.gives r (ap (λ z. finish rules p n z s) e.0 ∙ ap (finish rules p n stop) (sym (lens.get_set s) ∙ ap (λ x. rules.with_state s x.state) e.1) ∙ f)
+            ∙ sym (front_nothing (Some r));
+      }
+
+  runs_act : (p : ProgramRows) (line : ℕ) (act : Act) (next : Answer act → Tree) (s : S) (l : List Touch) (k n : ℕ) (stop : Stop) (m' : Moment)
+      (r : Result S E)
+      → ((x : Answer act) (σ : State) (l1 : List Touch) → next_stop p k (next x) (record { state = σ; log = l1 }) ≡ Some (stop, m')
+      → Runs p (next x) (rules.with_state s σ) l1 m'.log r)
+      → (d : Done (Answer act)) → perform act (rules.state_of s) ≡ d → on_act line l d (λ x m1. next_stop p k (next x) m1) ≡ Some (stop, m')
+      → finish rules p n stop (rules.with_state s m'.state) ≡ Some r → Runs p (Do line act next) s l m'.log r
+  runs_act p line act next s l k n stop m' r ih (Went x w τ) e h f =
+      let y = ih x τ (l ++ w) h in
+      record {
+        depth = y.depth;
+        log = w ++ y.log;
+        grown = y.grown ∙ append_assoc l w y.log;
+        is = ap (λ d. on_done rules line s d (λ x τ. within rules p (suc y.depth) (next x) τ)) e ∙ ap (in_front w []) y.is
+            ∙ sym (front_twice w y.log [] [] (Some r));
+      }
+  runs_act p line act next s l k n stop m' r ih (Stops why τ) e h f =
+      let u = unpack (AtEnd (Halted (way_of line why)), record { state = τ; log = l }) (stop, m') h in
+      record {
+        depth = zero;
+        log = [];
+        grown = ap (λ x. x.log) (sym u.1) ∙ sym (append-nil l);
+        is = ap (λ d. on_done rules line s d (λ x τ. within rules p (suc zero) (next x) τ)) e
+            ∙ (ap (λ z. finish rules p n z (rules.with_state s τ)) u.0 ∙ ap (λ x. finish rules p n stop (rules.with_state s x.state)) u.1 ∙ f)
+            ∙ sym (front_nothing (Some r));
+      }
+
+  pub runs : (p : ProgramRows) (k : ℕ) (t : Tree) (s : S) (σ : State) (l : List Touch) (n : ℕ) (stop : Stop) (m' : Moment) (r : Result S E)
+      → rules.state_of s ≡ σ → next_stop p k t (record { state = σ; log = l }) ≡ Some (stop, m') → finish rules p n stop (rules.with_state s m'.state) ≡ Some r
+      → Runs p t s l m'.log r
+  runs p zero t s σ l n stop m' r q h f = absurd (none_some h)
+  runs p (suc k) (Ret out) s σ l n stop m' r q h f =
+      runs_stop p (Ret out) s l (AtEnd (Ended out)) stop m' n r (less_same _) (ap (λ z. Some (AtEnd (Ended out), record { state = z; log = l })) q ∙ h) f
+  runs p (suc k) (Halt way) s σ l n stop m' r q h f =
+      runs_stop p (Halt way) s l (AtEnd (Halted way)) stop m' n r (less_same _) (ap (λ z. Some (AtEnd (Halted way), record { state = z; log = l })) q ∙ h) f
+  runs p (suc k) (Do line act next) s σ l n stop m' r q h f =
+      runs_act p line act next s l k n stop m' r
+      (λ x τ l1 g. runs p k (next x) (rules.with_state s τ) τ l1 n stop m' r (lens.set_get s τ) g
+      (ap (finish rules p n stop) (lens.set_set s τ m'.state) ∙ f))
+      (perform act (rules.state_of s)) refl (ap (λ z. on_act line l (perform act z) (λ x m1. next_stop p k (next x) m1)) q ∙ h) f
+  runs p (suc k) (Sub part next) s σ l n stop m' r q h f =
+      let y = runs p k (bind (layer p part) next) s σ l n stop m' r q h f in
+      record {
+        depth = suc y.depth;
+        log = y.log;
+        grown = y.grown;
+        is = (joined_less (within rules p (suc y.depth) (layer p part) s) _ (λ out τ. within rules p (suc y.depth) (next out) τ)
+            (λ out τ. within rules p (suc (suc y.depth)) (next out) τ) (less_same _) (λ out τ. run_less rules grows p (suc y.depth) (next out) τ)).gives _
+            (sym (walk_bind rules _ _ (layer p part) next s) ∙ y.is);
+      }
+  runs p (suc k) (Enter g args next) s σ l n stop m' r q h f =
+      runs_stop p (Enter g args next) s l (AtCall g args next) stop m' n r (run_less rules grows p n (Enter g args next) s)
+      (ap (λ z. Some (AtCall g args next, record { state = z; log = l })) q ∙ h) f
+  runs p (suc k) (Line line next) s σ l n stop m' r q h f =
+      runs_stop p (Line line next) s l (AtLine line next) stop m' n r (in_front_less [] (rules.line line) _ _ (run_less rules grows p n next s))
+      (ap (λ z. Some (AtLine line next, record { state = z; log = l })) q ∙ h) f

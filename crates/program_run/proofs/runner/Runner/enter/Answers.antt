@@ -1,0 +1,115 @@
+use Rattle.std.specs.Prelude.{map, reverse}
+use Rattle.program_run.specs.declared.runner.Runner.{Runner}
+use Rattle.std.proofs.Common.{◌+◌, ◌≤◌, length, length-append, ◌≡◌, Some, refl, sym, ap, subst, ◌∙◌, arith}
+use Rattle.std.proofs.lemmas.Option.{slice_get_within}
+use Rattle.call_tree.specs.Recording.{entered}
+use Rattle.program_tables.specs.ProgramRows.{routine_at}
+use Rattle.eval_ops.specs.Machines.{moment_of}
+use Rattle.program_run.specs.Tower.{Rests, TowerAt, View}
+use Rattle.program_run.specs.Runners.{Begun, open_in, rest_in, view_of, work_left}
+use Rattle.program_run.proofs.LinesTakeSteps.{whole_paid}
+use Rattle.program_run.proofs.RunnerSteps.{begun_calls, counted_entered, entered_stands, few_begun, on_ok, pushed}
+use Rattle.program_run.proofs.StepsLeadToTheRun.{calls_same, routines_same}
+use Rattle.program_run.proofs.runner.Runner.enter.Goals as goal
+
+pub enter-requires-clause-few : goal.enter-requires-clause-few
+enter-requires-clause-few c = let e = calls_same c.requires.calls.1 in let r = c.requires.room.calls in omega (arith, e, r)
+
+pub enter-requires-clause-known : goal.enter-requires-clause-known
+enter-requires-clause-known c =
+    let w = slice_get_within c.args.program.now.routines c.args.routine c.unwrap-row.result (sym c.routine.ensures ∙ c.unwrap-row.ensures) in
+    let e = routines_same c.requires.calls.1 in
+    omega (arith, w, e)
+
+pub enter-requires-clause-under_a_call : goal.enter-requires-clause-under_a_call
+enter-requires-clause-under_a_call c h = let a = c.requires.under h in let b = c.requires.well.counted in omega (arith, a, b)
+
+pub halt-requires : goal.halt-requires
+halt-requires c =
+    let p = c.args.program.now in
+    let row = c.unwrap-row.result in
+    let found : routine_at p c.args.routine ≡ Some row = sym c.routine.ensures ∙ c.unwrap-row.ensures in
+    record {
+      well = record {
+        ready = c.in_ok-halted.ensures.ready;
+        few = few_begun p c.args.routine c.args.args row c.in_ok-halted.halted (moment_of c.args.self.now.machine) (moment_of c.begin.new.machine)
+            (c.in_ok-halted.ensures.begins p c.args.routine row found refl) c.requires.well.few;
+        counted = counted_entered c.args.self.now.calls c.enter.new.self c.args.self.now.opens.items c.push-in-Some.new.self.items _ c.args.routine c.args.args
+            c.in_ok-entry.entry c.in_ok-enter.ensures.entered c.in_ok-push-in-Some.ensures.items c.requires.well.counted;
+      };
+    }
+
+pub returns-in_ok-push-in-None-clause-well : goal.returns-in_ok-push-in-None-clause-well
+returns-in_ok-push-in-None-clause-well c =
+    let p = c.args.program.now in
+    let row = c.unwrap-row.result in
+    let found : routine_at p c.args.routine ≡ Some row = sym c.routine.ensures ∙ c.unwrap-row.ensures in
+    record {
+      ready = c.in_ok-halted.ensures.ready;
+      few = few_begun p c.args.routine c.args.args row c.in_ok-halted.halted (moment_of c.args.self.now.machine) (moment_of c.begin.new.machine)
+          (c.in_ok-halted.ensures.begins p c.args.routine row found refl) c.requires.well.few;
+      counted = counted_entered c.args.self.now.calls c.enter.new.self c.args.self.now.opens.items c.push.new.self.items _ c.args.routine c.args.args
+          c.in_ok-entry.entry c.in_ok-enter.ensures.entered c.in_ok-push-in-None.ensures.items c.requires.well.counted;
+    }
+
+pub returns-in_ok-push-in-None-clause-rests : goal.returns-in_ok-push-in-None-clause-rests
+returns-in_ok-push-in-None-clause-rests c first t =
+    let p = c.args.program.now in
+    let row = c.unwrap-row.result in
+    let old = view_of p c.args.self.now in
+    let found : routine_at p c.args.routine ≡ Some row = sym c.routine.ensures ∙ c.unwrap-row.ensures in
+    let begun = subst (λ h. Begun p c.args.routine c.args.args row h old.moment (moment_of c.begin.new.machine)) c.in-None.is
+    (c.in_ok-halted.ensures.begins p c.args.routine row found refl) in
+    let new : View = record {
+      opens = map (open_in p) (reverse c.push.new.self.items);
+      moment = moment_of c.begin.new.machine;
+      recording = c.enter.new.self;
+    } in
+    subst (λ tree. TowerAt p first (Rests tree) new) (sym (c.new.ensures.begins p row found))
+    (entered_stands (record { base = c.args.self.now.machine.top; cells = row.cells; rest = rest_in p c.args.caller }) old new (record {
+      begins = begun;
+      base = refl;
+      recording = c.in_ok-enter.ensures.entered ∙ ap (entered c.args.self.now.calls c.args.routine c.args.args) c.in_ok-entry.ensures;
+      opens = pushed p c.args.self.now.opens.items c.push.new.self.items _ c.in_ok-push-in-None.ensures.items;
+    }) (whole_paid p c.args.routine c.args.self.now.machine.top row) t)
+
+pub returns-in_ok-push-in-Some-clause-rests : goal.returns-in_ok-push-in-Some-clause-rests
+returns-in_ok-push-in-Some-clause-rests c first t =
+    let p = c.args.program.now in
+    let row = c.unwrap-row.result in
+    let old = view_of p c.args.self.now in
+    let found : routine_at p c.args.routine ≡ Some row = sym c.routine.ensures ∙ c.unwrap-row.ensures in
+    let begun = subst (λ h. Begun p c.args.routine c.args.args row h old.moment (moment_of c.begin.new.machine)) c.in-Some.is
+    (c.in_ok-halted.ensures.begins p c.args.routine row found refl) in
+    c.halt.ensures.over p first
+    (entered_stands (record { base = c.args.self.now.machine.top; cells = 0; rest = rest_in p c.args.caller }) old _ (record {
+      begins = begun;
+      base = refl;
+      recording = c.in_ok-enter.ensures.entered ∙ ap (entered c.args.self.now.calls c.args.routine c.args.args) c.in_ok-entry.ensures;
+      opens = pushed p c.args.self.now.opens.items c.push-in-Some.new.self.items _ c.in_ok-push-in-Some.ensures.items;
+    }) tt t)
+
+pub returns-in_ok-push-in-None-clause-less : goal.returns-in_ok-push-in-None-clause-less
+returns-in_ok-push-in-None-clause-less c =
+    let p = c.args.program.now in
+    let row = c.unwrap-row.result in
+    let found : routine_at p c.args.routine ≡ Some row = sym c.routine.ensures ∙ c.unwrap-row.ensures in
+    let calls : c.begin.new.machine.calls ≡ c.args.self.now.machine.calls + 1 = begun_calls p c.args.routine c.args.args row c.in_ok-halted.halted
+    (moment_of c.args.self.now.machine) (moment_of c.begin.new.machine) (c.in_ok-halted.ensures.begins p c.args.routine row found refl) in
+    let spent = c.in_ok-halted.ensures.spent in
+    let room = c.requires.room.calls in
+    let items = ap length c.in_ok-push-in-None.ensures.items ∙ length-append c.args.self.now.opens.items _ in
+    omega (arith, calls, spent, room, items)
+
+pub returns-in_ok-push-in-Some-clause-less : goal.returns-in_ok-push-in-Some-clause-less
+returns-in_ok-push-in-Some-clause-less c =
+    let p = c.args.program.now in
+    let row = c.unwrap-row.result in
+    let found : routine_at p c.args.routine ≡ Some row = sym c.routine.ensures ∙ c.unwrap-row.ensures in
+    let calls : c.begin.new.machine.calls ≡ c.args.self.now.machine.calls + 1 = begun_calls p c.args.routine c.args.args row c.in_ok-halted.halted
+    (moment_of c.args.self.now.machine) (moment_of c.begin.new.machine) (c.in_ok-halted.ensures.begins p c.args.routine row found refl) in
+    let spent = c.in_ok-halted.ensures.spent in
+    let room = c.requires.room.calls in
+    let mid : Runner = record { machine = c.begin.new.machine; calls = c.enter.new.self; opens = c.push-in-Some.new.self; body = c.args.self.now.body } in
+    on_ok c.halt.result (work_left c.halt.new.self + length mid.opens.items ≤ work_left mid) (work_left c.halt.new.self + 1 ≤ work_left c.args.self.now)
+    (λ h. omega (arith, h, calls, spent, room)) c.halt.ensures.less

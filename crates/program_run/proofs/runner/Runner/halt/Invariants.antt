@@ -1,0 +1,15 @@
+use Rattle.std.proofs.Common.{◌≡◌, length}
+use Rattle.program_tables.specs.ProgramRows.{ProgramRows}
+use Rattle.program_meaning.specs.State.{State}
+use Rattle.program_meaning.specs.Run.{Halted}
+use Rattle.program_run.specs.Tower.{Ends}
+use Rattle.program_run.specs.Runners.{At, IsWell}
+use Rattle.program_run.proofs.runner.Runner.halt.Given as goal
+
+abbrev pub invariant-calls : goal.invariant-calls
+invariant-calls l =
+    ((p : ProgramRows) (first : State) → At p first (Ends (Halted l.way)) l.fn.self → At p first (Ends (Halted l.way)) l.self)
+    × IsWell l.self × (l.self.machine.steps ≡ l.fn.self.machine.steps) × (l.self.machine.calls ≡ l.fn.self.machine.calls)
+
+abbrev pub decreases-calls : goal.decreases-calls
+decreases-calls l = length l.self.opens.items

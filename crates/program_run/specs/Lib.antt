@@ -1,0 +1,5 @@
+pub mod Table
+pub mod History
+pub mod Lines
+pub mod Tower
+pub mod Runners

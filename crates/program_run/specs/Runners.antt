@@ -1,0 +1,74 @@
+-- What a runner stands for, and what its steps do.
+use Rattle.std.specs.Prelude.{◌≡◌, ℕ, ◌<◌, List, [], ◌∷◌, Option, Some, None, length, map, reverse, ◌+◌, ◌-◌, ◌*◌}
+use Rattle.cell_value.specs.declared.values.Value.{Value}
+use Rattle.cell_value.specs.declared.ways_out.WayOut.{WayOut}
+use Rattle.program_tables.specs.declared.program.Routine.{Routine}
+use Rattle.program_tables.specs.ProgramRows.{ProgramRows}
+use Rattle.program_meaning.specs.State.{State}
+use Rattle.program_meaning.specs.Tree.{Out, Tree, Ret}
+use Rattle.program_meaning.specs.Run.{End, Halted, whole, way_out, result_in}
+use Rattle.eval_ops.specs.Machines.{IsReady, Moment, moment_of}
+use Rattle.evaluator.specs.declared.body.Body.{Body}
+use Rattle.evaluator.specs.Rest.{rest_of, waiting}
+use Rattle.program_run.specs.declared.open_call.OpenCall.{OpenCall}
+use Rattle.program_run.specs.declared.runner.Runner.{Runner}
+use Rattle.program_run.specs.Tower.{Stage, Rests, Ends, Open, View, TowerAt, Begins, IsOver}
+
+-- what is done after a call, by its caller
+abbrev pub rest_in : ProgramRows → Option Body → Out → Tree
+rest_in p None = Ret
+rest_in p (Some body) = waiting p body
+
+abbrev pub open_in : ProgramRows → OpenCall → Open
+open_in p o = record { base = o.base; cells = o.cells; rest = rest_in p o.caller }
+
+-- the open calls, the innermost first
+abbrev pub opens_in : Runner → List OpenCall
+opens_in r = reverse r.opens.items
+
+abbrev pub view_of : ProgramRows → Runner → View
+view_of p r = record {
+  opens = map (open_in p) (opens_in r);
+  moment = moment_of r.machine;
+  recording = r.calls;
+}
+
+abbrev pub At : ProgramRows → State → Stage → Runner → Type 0
+At p first stage r = TowerAt p first stage (view_of p r)
+
+-- the outermost open call alone has no caller: where no call is open, there is no body
+abbrev pub Chain : Option Body → List OpenCall → Type 0
+Chain None [] = Unit {0}
+Chain None (o ∷ os) = ⊥
+Chain (Some body) [] = ⊥
+Chain (Some body) (o ∷ os) = Chain o.caller os
+
+-- a body has this still to do, or the run is over
+abbrev pub AtRest : ProgramRows → State → Option Body → Runner → Type 0
+AtRest p first (Some body) r = At p first (Rests (rest_of p body)) r
+AtRest p first None r = IsOver p first (moment_of r.machine) r.calls
+
+-- a runner whose steps can be taken
+pub record IsWell (r : Runner) : Type 0 where
+  pub ready : IsReady r.machine
+  -- the bytes of the output can be counted
+  pub few : length r.machine.output < 4294967296
+  -- the table of calls has the same open calls
+  pub counted : length r.calls.open_calls ≡ length r.opens.items
+
+-- A measure of what a run may still do: each of its turns takes a step, enters a call or ends one.
+abbrev pub work_left : Runner → ℕ
+work_left r = r.machine.steps + 2 * (500000 - r.machine.calls) + length r.opens.items
+
+-- the frame of a call was made, and else the call ends in this way
+abbrev pub Begun : ProgramRows → ℕ → List Value → Routine → Option WayOut → Moment → Moment → Type 0
+Begun p f args r None m m' = Begins p f args r.cells (Rests (whole p f m.state.top r)) m m'
+Begun p f args r (Some way) m m' = Begins p f args 0 (Ends (Halted way)) m m'
+
+-- an open call is innermost, and ends so
+pub record Ending (p : ProgramRows) (first : State) (e : End) (r : Runner) (way : WayOut) (answer : Option Value) :
+    Type 0
+  where
+    pub ends : At p first (Ends e) r
+    pub goes_out : way_out e ≡ way
+    pub gives : result_in e ≡ answer

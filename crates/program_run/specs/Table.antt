@@ -1,0 +1,42 @@
+-- The calls of a run as a table keeps them.
+use Rattle.std.specs.Prelude.{ℕ, ◌+◌, List, Option, length}
+use Rattle.call_tree.specs.declared.records.Side.{Side}
+use Rattle.call_tree.specs.declared.records.Call as table
+use Rattle.program_meaning.specs.State.{State}
+use Rattle.program_meaning.specs.Run.{Marked, Call}
+use Rattle.program_meaning.specs.Numbering.{belows, parent_of, depth_of, last_of, each_from}
+
+-- what is kept of a state beside a call, at a mark of the log
+abbrev pub side_of : (mark : ℕ) → State → Side
+side_of mark σ = record {
+  mark = mark;
+  top = σ.top;
+  fresh = σ.fresh;
+  place = σ.place;
+  output = length σ.output;
+  steps = σ.steps;
+  calls = σ.calls;
+  store = σ.cells;
+}
+
+-- a call's row, with what its number and its mark say
+abbrev pub row_with : Call → (parent : Option ℕ) (depth last mark : ℕ) → table.Call
+row_with c parent depth last mark = record {
+  routine = c.routine;
+  parent = parent;
+  depth = depth;
+  last = last;
+  args = c.args;
+  entry = side_of mark c.entry;
+  exit = side_of (mark + length c.log) c.exit;
+  way = c.way;
+  result = c.result;
+}
+
+-- call k, where these numbers of calls are below each call
+abbrev pub row_of : List ℕ → ℕ → Marked Call → table.Call
+row_of bs k c = row_with c.event (parent_of bs k) (depth_of bs k) (last_of bs k) c.mark
+
+-- the table of these calls
+abbrev pub numbered : List (Marked Call) → List table.Call
+numbered cs = each_from (row_of (belows cs)) 0 cs

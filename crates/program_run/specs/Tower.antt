@@ -1,0 +1,248 @@
+-- Open calls over one another, and the run that they are part of.
+use Rattle.std.specs.Prelude.{
+  ◌≡◌,
+  ℕ,
+  suc,
+  ◌+◌,
+  List,
+  [],
+  ◌∷◌,
+  ◌++◌,
+  Option,
+  Some,
+  None,
+  length,
+  slice_get,
+  false,
+}
+use Rattle.cell_value.specs.declared.values.Value.{Value}
+use Rattle.cell_value.specs.declared.entries.Touch.{Touch}
+use Rattle.call_tree.specs.declared.records.Call as table
+use Rattle.call_tree.specs.Recording.{Recording, new_call}
+use Rattle.program_tables.specs.ProgramRows.{ProgramRows, routine_at}
+use Rattle.program_meaning.specs.State.{State}
+use Rattle.program_meaning.specs.Tree.{Out, Tree}
+use Rattle.program_meaning.specs.Run.{
+  End,
+  Ended,
+  Halted,
+  Marked,
+  Result,
+  Call,
+  Outcome,
+  in_front,
+  ends,
+  joined,
+  recorded,
+  after_all,
+  closed,
+  without_frame,
+  opened,
+  in_frame,
+  call_of,
+  run_of,
+  block,
+}
+use Rattle.program_meaning.specs.Numbering.{belows, parent_of, depth_of, last_of, each_from, Inside}
+use Rattle.eval_ops.specs.Machines.{Moment}
+use Rattle.evaluator.specs.Stops.{Stop, AtLine, AtCall, AtEnd}
+use Rattle.program_run.specs.Lines.{Paid}
+use Rattle.program_run.specs.Table.{side_of, row_with}
+use Rattle.program_run.specs.History.{recording_of}
+
+-- what a body has done so far: its part of the log, and the calls below it, whose marks are counted from there on
+pub record Own : Type 0 where
+  pub log : List Touch
+  pub events : List (Marked Call)
+
+-- an open call: what was called from which state, the cells of its frame, and what is done after it
+pub record Level : Type 0 where
+  pub routine : ℕ
+  pub args : List Value
+  pub entry : State
+  pub cells : ℕ
+  pub rest : Out → Tree
+
+-- the open calls: none, or one over the others
+pub data Levels : Type 0 where
+  Bottom : (own : Own) → Levels
+  Push : (under : Levels) (call : Level) (own : Own) → Levels
+
+-- ---- the run
+
+-- a call, from what its body gave
+abbrev pub called : Level → Outcome → Outcome
+called l x = recorded l.routine l.args l.entry (after_all (closed l.entry.depth)
+    (after_all (without_frame l.entry.top l.cells) x))
+
+-- a call, and what is done after it
+abbrev pub followed : ProgramRows → ℕ → (Out → Tree) → Outcome → Outcome
+followed p n rest x = joined x (λ out τ. run_of p n (rest out) τ)
+
+-- the whole run, from what is left of the innermost body
+abbrev pub whole_from : ProgramRows → ℕ → Levels → Outcome → Outcome
+whole_from p n (Bottom own) x = in_front own.log own.events x
+whole_from p n (Push under l own) x =
+    whole_from p n under (followed p n l.rest (called l (in_front own.log own.events x)))
+
+-- where the innermost body is: before what it has still to do, at a call, or at its end
+pub data Stage : Type 0 where
+  Rests : (tree : Tree) → Stage
+  Calls : (routine : ℕ) (args : List Value) (rest : Out → Tree) → Stage
+  Ends : (end : End) → Stage
+
+abbrev pub stage_of : Stop → Stage
+stage_of (AtLine line rest) = Rests rest
+stage_of (AtCall routine args rest) = Calls routine args rest
+stage_of (AtEnd end) = Ends end
+
+-- the stage of the caller after a call that ended so
+abbrev pub stage_after : (Out → Tree) → End → Stage
+stage_after rest (Ended out) = Rests (rest out)
+stage_after rest (Halted way) = Ends (Halted way)
+
+-- what is to be done at a stage takes steps
+abbrev pub StagePaid : Stage → Type 0
+StagePaid (Rests tree) = Paid false tree
+StagePaid (Calls routine args rest) = (out : Out) → Paid false (rest out)
+StagePaid (Ends end) = Unit {0}
+
+-- what is left inside of it
+abbrev pub left_at : ProgramRows → ℕ → Stage → State → Outcome
+left_at p n (Rests tree) σ = run_of p n tree σ
+left_at p n (Calls routine args rest) σ = followed p n rest (call_of p (run_of p n) routine args σ)
+left_at p n (Ends end) σ = ends end σ
+
+-- what is left of a run, once known, gives the run
+pub record Leads (p : ProgramRows) (first : State) (rest : ℕ → Outcome) : Type 0 where
+  pub leads : (n : ℕ) (r : Result State Call) → rest n ≡ Some r → (k : ℕ) × (run_of p k block first ≡ Some r)
+
+-- ---- the table of calls
+
+-- the calls so far, the open ones too
+abbrev pub size : Levels → ℕ
+size (Bottom own) = length own.events
+size (Push under l own) = size under + suc (length own.events)
+
+-- the numbers of the open calls, the innermost first
+abbrev pub numbers_of : Levels → List ℕ
+numbers_of (Bottom own) = []
+numbers_of (Push under l own) = size under ∷ numbers_of under
+
+-- the log so far
+abbrev pub logs_of : Levels → List Touch
+logs_of (Bottom own) = own.log
+logs_of (Push under l own) = logs_of under ++ own.log
+
+-- where the rows of calls stand that have a call above them in common: the first number, that call, its depth and one
+-- more, and the entries of the log before them
+pub record Spot : Type 0 where
+  pub number : ℕ
+  pub parent : Option ℕ
+  pub depth : ℕ
+  pub mark : ℕ
+
+-- where a call would stand that is entered now
+abbrev pub spot_of : Levels → Spot
+spot_of ls = record {
+  number = size ls;
+  parent = slice_get (numbers_of ls) 0;
+  depth = length (numbers_of ls);
+  mark = length (logs_of ls);
+}
+
+-- where the calls stand that are below a call at a spot
+abbrev pub below : Spot → Spot
+below s = record { number = suc s.number; parent = Some s.number; depth = s.depth + 1; mark = s.mark }
+
+abbrev pub parent_at : ℕ → Option ℕ → Option ℕ → Option ℕ
+parent_at number outer None = outer
+parent_at number outer (Some j) = Some (number + j)
+
+abbrev pub row_at : Spot → List ℕ → ℕ → Marked Call → table.Call
+row_at s bs k m = row_with m.event (parent_at s.number s.parent (parent_of bs k)) (s.depth + depth_of bs k)
+    (s.number + last_of bs k) (s.mark + m.mark)
+
+abbrev pub rows_at : Spot → List (Marked Call) → List table.Call
+rows_at s ms = each_from (row_at s (belows ms)) 0 ms
+
+-- the row of a call that was just entered
+abbrev pub opened_row : Levels → Level → table.Call
+opened_row under l =
+    new_call (size under) (numbers_of under) l.routine l.args (side_of (length (logs_of under)) l.entry)
+
+-- the first spot of a run
+abbrev pub first_spot : Spot
+first_spot = record { number = 0; parent = None; depth = 0; mark = 0 }
+
+-- the rows of all calls so far; a call that is open has no end yet
+abbrev pub rows_of : Levels → List table.Call
+rows_of (Bottom own) = rows_at first_spot own.events
+rows_of (Push under l own) = rows_of under ++ opened_row under l ∷ rows_at (below (spot_of under)) own.events
+
+abbrev pub recording_at : (routines : ℕ) → Levels → Recording
+recording_at routines ls = record { calls = rows_of ls; open_calls = numbers_of ls; routines = routines }
+
+-- the calls below each call are among its body's calls, the depth of each open call is the number of those above it,
+-- and
+-- what is done after it takes steps
+abbrev pub Fits : Levels → Type 0
+Fits (Bottom own) = Inside (belows own.events)
+Fits (Push under l own) = Inside (belows own.events) × (l.entry.depth ≡ length (numbers_of under)) × Fits under
+    × ((out : Out) → Paid false (l.rest out))
+
+-- ---- the open calls in the code
+
+-- an open call: where its frame begins, the cells of its frame, and what is done after it
+pub record Open : Type 0 where
+  pub base : ℕ
+  pub cells : ℕ
+  pub rest : Out → Tree
+
+abbrev pub open_of : Level → Open
+open_of l = record { base = l.entry.top; cells = l.cells; rest = l.rest }
+
+-- the open calls, the innermost first
+abbrev pub opens_of : Levels → List Open
+opens_of (Bottom own) = []
+opens_of (Push under l own) = open_of l ∷ opens_of under
+
+-- what a runner shows: the open calls, the innermost first, the moment, and what is recorded of the calls so far
+pub record View : Type 0 where
+  pub opens : List Open
+  pub moment : Moment
+  pub recording : Recording
+
+-- the open calls, with what is left inside the innermost, are on the way to the whole run from a first state
+pub record TowerAt (p : ProgramRows) (first : State) (stage : Stage) (v : View) : Type 0 where
+  pub levels : Levels
+  pub opens : v.opens ≡ opens_of levels
+  pub fits : Fits levels
+  pub recording : v.recording ≡ recording_at (length p.routines) levels
+  pub log : v.moment.log ≡ logs_of levels
+  pub calls : v.moment.state.calls ≡ size levels
+  pub depth : v.moment.state.depth ≡ length (numbers_of levels)
+  pub items : v.moment.state.items ≡ first.items
+  pub paid : StagePaid stage
+  pub leads : Leads p first (λ n. whole_from p n levels (left_at p n stage v.moment.state))
+
+-- a call was entered, and its body is at this stage
+pub record Begins (p : ProgramRows) (f : ℕ) (args : List Value) (cells : ℕ) (stage : Stage) (m m' : Moment) : Type 0
+  where
+    pub log : m'.log ≡ m.log
+    pub calls : m'.state.calls ≡ m.state.calls + 1
+    pub depth : m'.state.depth ≡ m.state.depth + 1
+    pub output : m'.state.output ≡ m.state.output
+    pub items : m'.state.items ≡ m.state.items
+    pub is : (n : ℕ) → in_frame p (run_of p n) f args (opened m.state) (routine_at p f)
+        ≡ after_all (without_frame m.state.top cells) (left_at p n stage m'.state)
+
+-- the run from a first state is over, and this is what it left
+pub record IsOver (p : ProgramRows) (first : State) (m : Moment) (kept : Recording) : Type 0 where
+  pub result : Result State Call
+  pub depth : ℕ
+  pub is : run_of p depth block first ≡ Some result
+  pub after : m.state ≡ result.after
+  pub items : m.state.items ≡ first.items
+  pub log : m.log ≡ result.log
+  pub recording : kept ≡ recording_of p (Some result)

@@ -1,0 +1,11 @@
+//! The run of a program, with the open calls in a list, so that a call of the program is no call of the runner.
+#![tactic(auto)]
+
+mod history;
+mod input;
+mod open_call;
+mod runner;
+mod runs;
+
+pub use history::History;
+pub use runs::run;

@@ -1,0 +1,304 @@
+-- What an act leaves of a sound state, and that the state after it is sound. Each act has a clause of `act_leaves`.
+use Rattle.std.proofs.Common.{
+  ◌≡◌,
+  ◌⊎◌,
+  inl,
+  inr,
+  ℕ,
+  ◌+◌,
+  ◌-◌,
+  ◌<◌,
+  ◌≤◌,
+  Bool,
+  true,
+  false,
+  List,
+  [],
+  ◌∷◌,
+  ◌++◌,
+  Option,
+  Some,
+  None,
+  refl,
+  sym,
+  ap,
+  subst,
+  ◌∙◌,
+  append_assoc,
+  append-nil,
+  is_some,
+  nat_lt,
+  nat_le,
+  if◌then◌else◌,
+  arith,
+}
+use Rattle.std.specs.Prelude.{◌&&◌, ◌||◌}
+use Rattle.std.specs.Option.{IsSome}
+use Rattle.std.proofs.lemmas.Bool.Decides.{eqb_tells, nat_tests}
+use Rattle.std.proofs.lemmas.List.Sums.{sum_by-append}
+use Rattle.std.proofs.lemmas.List.Elements.{filter_map-append}
+use Rattle.std.specs.FinMap.{get, insert}
+use Rattle.cell_value.specs.declared.values.Value.{Value}
+use Rattle.cell_value.specs.declared.entries.Touch.{Touch}
+use Rattle.cell_value.specs.declared.entries.Touch.TheVariants as touch
+use Rattle.cell_value.specs.declared.entries.Change.TheVariants.{Set}
+use Rattle.cell_value.specs.declared.ways_out.Kind.TheVariants as kind
+use Rattle.cell_value.specs.declared.ways_out.Which.{Which}
+use Rattle.cell_value.specs.declared.ways_out.Which.TheVariants.{Calls, Depth, Stack}
+use Rattle.cell_value.specs.Effects.{is_shared, made_by, made_of, taken_by, taken_of, byte_by, given_of}
+use Rattle.program_meaning.specs.State.{State, IsSound, stack_end, heap_end, most_calls, most_depth, is_in_reach}
+use Rattle.program_meaning.specs.Acts.{
+  Fault,
+  OutOfSteps,
+  Act,
+  Answer,
+  Spend,
+  ReadCell,
+  HasCell,
+  WriteCell,
+  MayCall,
+  Done,
+  Went,
+  Stops,
+  perform,
+  spent,
+  with_steps,
+  on_cell,
+  read_as,
+  limit_passed,
+  below_limits,
+}
+use Rattle.run_laws.proofs.Touches.{written, written-append, left_with, left_same, Serves, serves_append, none_some}
+use Rattle.run_laws.proofs.Cells.{got_same, got_other}
+use Rattle.run_laws.proofs.EachTreeIsTidy.{Mode, Free, MayEnter, mode_after, Allowed}
+
+-- what a part of a run with these touches and so many calls leaves of a state: what it does to the cells that it shares
+-- with its caller, and to all else
+pub record Leaves (σ : State) (w : List Touch) (n : ℕ) (τ : State) : Type 0 where
+  pub top : τ.top ≡ σ.top
+  pub cells : (a : ℕ) → is_shared σ.top a ≡ true → get τ.cells a ≡ written a w (get σ.cells a)
+  -- the touches show the state as it was
+  pub shows : (a : ℕ) → is_shared σ.top a ≡ true → Serves (get σ.cells a) a w
+  pub fresh : τ.fresh ≡ σ.fresh + made_of w
+  pub items : τ.items ≡ σ.items
+  pub place : τ.place ≡ σ.place + taken_of w
+  pub output : τ.output ≡ σ.output ++ given_of w
+  pub steps : τ.steps ≤ σ.steps
+  pub calls : τ.calls ≡ σ.calls + n
+  pub depth : τ.depth ≡ σ.depth
+  pub sound : IsSound τ
+
+pub sound_steps : {σ : State} (k : ℕ) → IsSound σ → IsSound (record σ { steps = k })
+sound_steps k s = record {
+  stack = s.stack;
+  above_stack = s.above_stack;
+  above_heap = s.above_heap;
+  stack_fits = s.stack_fits;
+  heap_begins = s.heap_begins;
+  heap_fits = s.heap_fits;
+  input = s.input;
+  calls = s.calls;
+  depth = s.depth;
+}
+
+-- nothing but steps
+pub leaves_steps : (σ : State) (k : ℕ) → k ≤ σ.steps → IsSound σ → Leaves σ [] 0 (record σ { steps = k })
+leaves_steps σ k h s = record {
+  top = refl;
+  cells = λ a q. refl;
+  shows = λ a q. tt;
+  fresh = omega arith;
+  items = refl;
+  place = omega arith;
+  output = sym (append-nil σ.output);
+  steps = h;
+  calls = omega arith;
+  depth = refl;
+  sound = sound_steps k s;
+}
+
+pub leaves_same : (σ : State) → IsSound σ → Leaves σ [] 0 σ
+leaves_same σ s = leaves_steps σ σ.steps (omega arith) s
+
+made_append : (v w : List Touch) → made_of (v ++ w) ≡ made_of v + made_of w
+made_append v w = sum_by-append made_by v w
+
+taken_append : (v w : List Touch) → taken_of (v ++ w) ≡ taken_of v + taken_of w
+taken_append v w = sum_by-append taken_by v w
+
+given_append : (v w : List Touch) → given_of (v ++ w) ≡ given_of v ++ given_of w
+given_append v w = filter_map-append byte_by v w
+
+pub leaves_then : {σ τ υ : State} {v w : List Touch} {n k : ℕ} → Leaves σ v n τ → Leaves τ w k υ → Leaves σ (v ++ w) (n + k) υ
+leaves_then {σ = σ} {τ = τ} {υ = υ} {v = v} {w = w} {n = n} {k = k} f g = record {
+  top = g.top ∙ f.top;
+  cells = λ a h. g.cells a (shared a h) ∙ ap (written a w) (f.cells a h) ∙ sym (written-append a v w (get σ.cells a));
+  shows = λ a h. serves_append (get σ.cells a) a v w (f.shows a h)
+      (λ l. subst (λ o. Serves o a w) (f.cells a h ∙ left_same a v (get σ.cells a) l) (g.shows a (shared a h)));
+  fresh = omega (arith, f.fresh, g.fresh, made_append v w);
+  items = g.items ∙ f.items;
+  place = omega (arith, f.place, g.place, taken_append v w);
+  output = g.output ∙ ap (λ l. l ++ given_of w) f.output ∙ append_assoc σ.output (given_of v) (given_of w) ∙ ap (λ l. σ.output ++ l) (sym (given_append v w));
+  steps = omega (arith, f.steps, g.steps);
+  calls = omega (arith, f.calls, g.calls);
+  depth = g.depth ∙ f.depth;
+  sound = g.sound;
+}
+  where
+    shared : (a : ℕ) → is_shared σ.top a ≡ true → is_shared τ.top a ≡ true
+    shared a h = ap (λ t. is_shared t a) f.top ∙ h
+
+-- ---- what may come next holds
+
+abbrev pub Holds : Mode → State → Type 0
+Holds (Free None) σ = Unit {0}
+Holds (Free (Some a)) σ = IsSome (get σ.cells a)
+Holds MayEnter σ = (σ.calls < most_calls) × (σ.depth ≤ most_depth)
+
+abbrev pub DoneLeaves : (act : Act) → State → Done (Answer act) → Type 0
+DoneLeaves act σ (Went x w τ) = Leaves σ w 0 τ × Holds (mode_after act x) τ
+DoneLeaves act σ (Stops why τ) = Leaves σ [] 0 τ
+
+stepped : (act : Act) (σ : State) (n : ℕ) (go : State → Done (Answer act)) → IsSound σ
+    → ((k : ℕ) → k ≤ σ.steps → DoneLeaves act σ (go (record σ { steps = k }))) → DoneLeaves act σ (with_steps n σ go)
+stepped act σ n go s h = by (nat_lt σ.steps n)
+  where
+    by : (b : Bool) → DoneLeaves act σ (if b then Stops OutOfSteps (spent σ) else go (record σ { steps = σ.steps - n }))
+    by true = leaves_steps σ 0 (omega arith) s
+    by false = h (σ.steps - n) (omega arith)
+
+celled : (act : Act) (σ : State) (addr : ℕ) (go : State → Done (Answer act)) → IsSound σ
+    → (is_in_reach σ addr ≡ true → (k : ℕ) → k ≤ σ.steps → DoneLeaves act σ (go (record σ { steps = k }))) → DoneLeaves act σ (on_cell addr σ go)
+celled act σ addr go s h = by (is_in_reach σ addr) refl
+  where
+    by : (b : Bool) → is_in_reach σ addr ≡ b → DoneLeaves act σ (if b then with_steps 1 σ go else Stops (Fault kind.Undefined) σ)
+    by true e = stepped act σ 1 go s (h e)
+    by false e = leaves_same σ s
+
+read_shown : (σ : State) (addr k : ℕ) (v : Value) → k ≤ σ.steps → IsSound σ → get σ.cells addr ≡ Some v
+    → Leaves σ (touch.Read addr v ∷ []) 0 (record σ { steps = k })
+read_shown σ addr k v h s e = record {
+  top = refl;
+  cells = λ a q. refl;
+  shows = λ a q. (λ r. ap (get σ.cells) (sym r) ∙ e, λ c. tt);
+  fresh = omega arith;
+  items = refl;
+  place = omega arith;
+  output = sym (append-nil σ.output);
+  steps = h;
+  calls = omega arith;
+  depth = refl;
+  sound = sound_steps k s;
+}
+
+asked_shown : (σ : State) (addr k : ℕ) (b : Bool) → k ≤ σ.steps → IsSound σ → is_some (get σ.cells addr) ≡ b
+    → Leaves σ (touch.Has addr b ∷ []) 0 (record σ { steps = k })
+asked_shown σ addr k b h s e = record {
+  top = refl;
+  cells = λ a q. refl;
+  shows = λ a q. (λ r. ap (λ a. is_some (get σ.cells a)) (sym r) ∙ e, λ c. tt);
+  fresh = omega arith;
+  items = refl;
+  place = omega arith;
+  output = sym (append-nil σ.output);
+  steps = h;
+  calls = omega arith;
+  depth = refl;
+  sound = sound_steps k s;
+}
+
+-- an address in reach
+pub reaches : (σ : State) (addr : ℕ) → is_in_reach σ addr ≡ true → (addr < σ.top) ⊎ ((stack_end ≤ addr) × (addr < heap_end))
+reaches σ addr h = by (nat_lt addr σ.top) (nat_le stack_end addr) (nat_lt addr heap_end) refl refl refl h
+  where
+    by : (a b c : Bool) → nat_lt addr σ.top ≡ a → nat_le stack_end addr ≡ b → nat_lt addr heap_end ≡ c → (a || (b && c)) ≡ true
+        → (addr < σ.top) ⊎ ((stack_end ≤ addr) × (addr < heap_end))
+    by true b c e f g h = inl (grind (arith, nat_tests))
+    by false true true e f g h = inr (grind (arith, nat_tests), grind (arith, nat_tests))
+    by false true false e f g h = absurd (let z : false ≡ true = h in cc)
+    by false false c e f g h = absurd (let z : false ≡ true = h in cc)
+
+not_there : {o : Option Value} → o ≡ None → IsSome o → ⊥
+not_there e h = absurd (let z : false ≡ true = ap is_some (sym e) ∙ h in cc)
+
+-- a cell that is there gets a value
+sound_write : (σ : State) (addr : ℕ) (v : Value) → IsSound σ → IsSome (get σ.cells addr) → IsSound (record σ { cells = insert σ.cells addr v })
+sound_write σ addr v s there = record {
+  stack = λ a h. elim (eqb_tells a addr) [
+    | inl q ↦ ap is_some (got_same σ.cells addr v a q.1)
+    | inr q ↦ ap is_some (got_other σ.cells addr v a q.1) ∙ s.stack a h
+  ];
+  above_stack = λ a h k. elim (eqb_tells a addr) [
+    | inl q ↦ absurd (not_there (ap (get σ.cells) (sym q.1) ∙ s.above_stack a h k) there)
+    | inr q ↦ got_other σ.cells addr v a q.1 ∙ s.above_stack a h k
+  ];
+  above_heap = λ a h. elim (eqb_tells a addr) [
+    | inl q ↦ absurd (not_there (ap (get σ.cells) (sym q.1) ∙ s.above_heap a h) there)
+    | inr q ↦ got_other σ.cells addr v a q.1 ∙ s.above_heap a h
+  ];
+  stack_fits = s.stack_fits;
+  heap_begins = s.heap_begins;
+  heap_fits = s.heap_fits;
+  input = s.input;
+  calls = s.calls;
+  depth = s.depth;
+}
+
+write_leaves : (σ : State) (addr k : ℕ) (v : Value) → k ≤ σ.steps → IsSound σ → IsSome (get σ.cells addr)
+    → Leaves σ (touch.Write addr v ∷ []) 0 (record σ { cells = insert σ.cells addr v; steps = k })
+write_leaves σ addr k v h s there = record {
+  top = refl;
+  cells = λ a q. elim (eqb_tells addr a) [
+    | inl r ↦ got_same σ.cells addr v a (sym r.1) ∙ ap (λ t. left_with (if t then Some (Set v) else None) (get σ.cells a)) (sym r.0)
+    | inr r ↦ got_other σ.cells addr v a (λ z. r.1 (sym z)) ∙ ap (λ t. left_with (if t then Some (Set v) else None) (get σ.cells a)) (sym r.0)
+  ];
+  shows = λ a q. (tt, λ c. tt);
+  fresh = omega arith;
+  items = refl;
+  place = omega arith;
+  output = sym (append-nil σ.output);
+  steps = h;
+  calls = omega arith;
+  depth = refl;
+  sound = sound_steps k (sound_write σ addr v s there);
+}
+
+-- where leave for a call was given no limit is passed
+pub limits_hold : (σ : State) (n : ℕ) → limit_passed σ n ≡ None → (σ.calls < most_calls) × (σ.depth ≤ most_depth)
+limits_hold σ n e = by (nat_lt most_calls (σ.calls + 1)) (nat_lt most_depth σ.depth) (nat_lt stack_end (σ.top + n)) refl refl e
+  where
+    by : (a b c : Bool) → nat_lt most_calls (σ.calls + 1) ≡ a → nat_lt most_depth σ.depth ≡ b
+        → (if a then Some Calls else if b then Some Depth else if c then Some Stack else None) ≡ None → (σ.calls < most_calls) × (σ.depth ≤ most_depth)
+    by true b c e f h = absurd (none_some (sym h))
+    by false true c e f h = absurd (none_some (sym h))
+    by false false c e f h = (grind (arith, nat_tests), grind (arith, nat_tests))
+
+pub act_leaves : (act : Act) (found : Option ℕ) (σ : State) → IsSound σ → Holds (Free found) σ → Allowed found act → DoneLeaves act σ (perform act σ)
+act_leaves (Spend n) found σ s m l = stepped (Spend n) σ n (λ τ. Went tt [] τ) s (λ k h. (leaves_steps σ k h s, tt))
+act_leaves (ReadCell addr) found σ s m l = celled (ReadCell addr) σ addr (λ τ. read_as addr (get τ.cells addr) τ) s (λ r k h. by k h (get σ.cells addr) refl)
+  where
+    by : (k : ℕ) → k ≤ σ.steps → (o : Option Value) → get σ.cells addr ≡ o → DoneLeaves (ReadCell addr) σ (read_as addr o (record σ { steps = k }))
+    by k h None e = (asked_shown σ addr k false h s (ap is_some e), tt)
+    by k h (Some v) e = (read_shown σ addr k v h s e, tt)
+act_leaves (HasCell addr) found σ s m l = celled (HasCell addr) σ addr
+    (λ τ. Went (is_some (get τ.cells addr)) (touch.Has addr (is_some (get τ.cells addr)) ∷ []) τ) s (λ r k h. by k h (is_some (get σ.cells addr)) refl)
+  where
+    by : (k : ℕ) → k ≤ σ.steps → (b : Bool) → is_some (get σ.cells addr) ≡ b
+        → DoneLeaves (HasCell addr) σ (Went b (touch.Has addr b ∷ []) (record σ { steps = k }))
+    by k h true e = (asked_shown σ addr k true h s e, e)
+    by k h false e = (asked_shown σ addr k false h s e, tt)
+act_leaves (WriteCell addr v) found σ s m l = celled (WriteCell addr v) σ addr
+    (λ τ. Went tt (touch.Write addr v ∷ []) (record τ { cells = insert τ.cells addr v })) s
+    (λ r k h. (write_leaves σ addr k v h s (there (reaches σ addr r) found l m), tt))
+  where
+    there : (addr < σ.top) ⊎ ((stack_end ≤ addr) × (addr < heap_end)) → (found : Option ℕ) → (addr < stack_end) ⊎ (found ≡ Some addr) → Holds (Free found) σ
+        → IsSome (get σ.cells addr)
+    there (inl h) f l m = s.stack addr h
+    there (inr h) f (inl l) m = absurd (let k = h.0 in omega arith)
+    there (inr h) None (inr l) m = absurd (none_some l)
+    there (inr h) (Some a) (inr l) m = subst (λ a. IsSome (get σ.cells a)) (let z : a ≡ addr = cc in z) m
+act_leaves (MayCall n) found σ s m l = by (limit_passed σ n) refl
+  where
+    by : (o : Option Which) → limit_passed σ n ≡ o → DoneLeaves (MayCall n) σ (below_limits σ o)
+    by None e = (leaves_same σ s, limits_hold σ n e)
+    by (Some which) e = leaves_same σ s

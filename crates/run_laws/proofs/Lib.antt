@@ -1,0 +1,14 @@
+pub mod Touches
+pub mod Cells
+pub mod Events
+pub mod EachTreeIsTidy
+pub mod ActsLeave
+pub mod Ways
+pub mod RunsLeave
+pub mod RunsRecord
+pub mod Effects
+pub mod BodiesRepeat
+pub mod ActsRepeat
+pub mod RunsRepeat
+pub mod RecordsStand
+pub mod LawsOfRuns

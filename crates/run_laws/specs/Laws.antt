@@ -1,0 +1,104 @@
+-- What holds of the states of every run, and of the records of its calls.
+use Rattle.std.specs.Prelude.{◌≡◌, ◌<◌, ◌≤◌, ℕ, ◌+◌, List, [], Some, map, take, drop}
+use Rattle.std.specs.List.{All, slice_get}
+use Rattle.std.specs.Option.{IsSome}
+use Rattle.std.specs.FinMap.{get}
+use Rattle.cell_value.specs.declared.values.Value.{Value}
+use Rattle.cell_value.specs.Effects.{reads_of, changes_of, made_of, looked_of, taken_of, given_of}
+use Rattle.program_tables.specs.ProgramRows.{ProgramRows}
+use Rattle.program_meaning.specs.State.{State, IsSound, stack_end, most_calls, most_depth}
+use Rattle.program_meaning.specs.Acts.{Act, WriteCell, Done, Went, Stops, perform}
+use Rattle.program_meaning.specs.Tree.{Part}
+use Rattle.program_meaning.specs.Layer.{layer}
+use Rattle.program_meaning.specs.Run.{Result, Call, Outcome, way_out, result_in, call_of, run_of, run, start}
+use Rattle.program_meaning.specs.Apply.{apply}
+use Rattle.program_meaning.specs.Agree.{Agrees}
+use Rattle.program_meaning.specs.Replay.{Event, LineOf, ChildOf, Replaying, Replayed, body}
+
+-- the calls of a run, in order of entry
+abbrev pub calls_in : Result State Call → List Call
+calls_in r = map (λ e. e.event) r.events
+
+-- this holds of each call of each run, with its number and the calls below it
+abbrev pub OfEachCall : (ProgramRows → ℕ → Call → List Call → Type 0) → Type 0
+OfEachCall P = (p : ProgramRows) (input : List ℕ) (budget : ℕ) (r : Result State Call) → run p input budget ≡ Some r
+    → (number : ℕ) (c : Call) → slice_get (calls_in r) number ≡ Some c
+    → P p number c (take c.below (drop (number + 1) (calls_in r)))
+
+-- ---- sound states
+
+-- the first state of each run is sound
+abbrev pub RunsBeginSound : Type 0
+RunsBeginSound = (input : List ℕ) (budget : ℕ) → IsSound (start input budget)
+
+-- the cell that is to be written is there, if it is one of the heap
+abbrev pub MayBeDone : Act → State → Type 0
+MayBeDone (WriteCell addr value) σ = stack_end ≤ addr → IsSome (get σ.cells addr)
+MayBeDone act σ = Unit {0}
+
+abbrev pub IsSoundAfter : {A : Type 0} → Done A → Type 0
+IsSoundAfter (Went answer log after) = IsSound after
+IsSoundAfter (Stops why after) = IsSound after
+
+-- each act keeps a sound state sound
+abbrev pub ActsKeepSound : Type 0
+ActsKeepSound = (act : Act) (σ : State) → IsSound σ → MayBeDone act σ → IsSoundAfter (perform act σ)
+
+-- so does each part of a program, however deep parts and calls stand in one another
+abbrev pub PartsKeepSound : Type 0
+PartsKeepSound = (p : ProgramRows) (depth : ℕ) (part : Part) (σ : State) (r : Result State Call) → IsSound σ
+    → run_of p depth (layer p part) σ ≡ Some r → IsSound r.after
+
+-- and each call that passes no limit
+abbrev pub CallsKeepSound : Type 0
+CallsKeepSound = (p : ProgramRows) (depth routine : ℕ) (args : List Value) (σ : State) (r : Result State Call)
+    → IsSound σ → σ.calls < most_calls → σ.depth ≤ most_depth → call_of p (run_of p depth) routine args σ ≡ Some r
+    → IsSound r.after
+
+-- each call of a run begins in a sound state and ends in one
+abbrev pub RunsKeepSound : Type 0
+RunsKeepSound = OfEachCall (λ p number c below. IsSound c.entry × IsSound c.exit)
+
+-- ---- a call's own work
+
+-- A call that is met is the one of its number, and it is met in its recorded entry state. `first` is the number of the
+-- first of these calls.
+abbrev pub IsMet : (first : ℕ) → List Call → Event → Type 0
+IsMet first calls (LineOf line) = Unit {0}
+IsMet first calls (ChildOf number before) =
+    (i : ℕ) × (c : Call) × (number ≡ first + i) × (slice_get calls i ≡ Some c) × (c.entry ≡ before)
+
+-- this is the call's own work: it comes to the recorded end and state, and has met all calls that the call made
+pub record IsBody (number : ℕ) (c : Call) (below : List Call) (work : Replayed) : Type 0 where
+  pub run : Result Replaying Event
+  pub is : work ≡ Some run
+  pub way : way_out run.end ≡ c.way
+  pub result : result_in run.end ≡ c.result
+  pub exit : run.after.state ≡ c.exit
+  pub met : All (λ e. IsMet (number + 1) below e.event) run.events
+  pub used : run.after.calls ≡ []
+
+-- the own work of each call of each run, from the effects of the calls that it made
+abbrev pub BodiesRepeat : Type 0
+BodiesRepeat = OfEachCall (λ p number c below. (depth : ℕ) × IsBody number c below (body p depth c number below))
+
+-- ---- records in place of runs
+
+-- a call from a state has the recorded end and effect, and leaves what the effect makes of the state
+pub record StandsFor (c : Call) (σ : State) (call : Outcome) : Type 0 where
+  pub run : Result State Call
+  pub is : call ≡ Some run
+  pub way : way_out run.end ≡ c.way
+  pub result : result_in run.end ≡ c.result
+  pub after : run.after ≡ apply c σ
+  pub reads : reads_of σ.top run.log ≡ reads_of c.base c.log
+  pub changes : changes_of σ.top run.log ≡ changes_of c.base c.log
+  pub made : made_of run.log ≡ made_of c.log
+  pub looked : looked_of σ.place run.log ≡ looked_of c.entry.place c.log
+  pub taken : taken_of run.log ≡ taken_of c.log
+  pub given : given_of run.log ≡ given_of c.log
+
+-- the record of each call of each run stands for the call from each sound state that agrees with it
+abbrev pub RecordsStand : Type 0
+RecordsStand = OfEachCall (λ p number c below. (σ : State) → IsSound σ → Agrees c below σ
+    → (depth : ℕ) × StandsFor c σ (call_of p (run_of p depth) c.routine c.args σ))

@@ -1,0 +1,33 @@
+//! Laws of the definitions, each the contract of a call that does nothing.
+
+ghost use Rattle.run_laws.specs.Laws.{
+  ActsKeepSound,
+  BodiesRepeat,
+  CallsKeepSound,
+  PartsKeepSound,
+  RecordsStand,
+  RunsBeginSound,
+  RunsKeepSound,
+};
+
+/// The states of runs are sound: the first one is, and acts, parts of a program and calls keep a sound state sound.
+pub fn states_are_sound()
+    ensures first { RunsBeginSound }
+    ensures acts { ActsKeepSound }
+    ensures parts { PartsKeepSound }
+    ensures calls { CallsKeepSound }
+    ensures runs { RunsKeepSound }
+{}
+
+/// The own work of each call of a run, done again from its recorded entry with the recorded effects of the calls that
+/// it made, meets these calls in order and no others, each in its recorded entry state, and comes to the recorded way
+/// out, result and exit state.
+pub fn bodies_repeat()
+    ensures { BodiesRepeat }
+{}
+
+/// The record of each call of a run stands for the call from each sound state that agrees with it: the call from there
+/// has the recorded way out, result and effect, and its exit state is what the effect makes of the state.
+pub fn records_stand()
+    ensures { RecordsStand }
+{}

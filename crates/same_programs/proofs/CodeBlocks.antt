@@ -1,0 +1,43 @@
+-- What the definitions of `Rattle.code_checker.specs.Blocks` say of bare trees.
+use Rattle.std.specs.Prelude.{ℕ, Bool}
+use Rattle.pas_tree.specs.declared.blocks.Block.{Block, Block' as BlockTree', Row_of-Routine, end_of-Routine, more_of-Routine}
+use Rattle.pas_tree.specs.declared.blocks.Body.{Body, Directive, Block'}
+use Rattle.pas_tree.specs.declared.statements.Compound.{Compound, out-Compound}
+use Rattle.check_steps.specs.declared.regions.Span.{Span}
+use Rattle.check_steps.specs.Steps.{give, ◌>>=◌, look, enter_block}
+use Rattle.statement_rules.specs.Labels.{reach_all}
+use Rattle.decl_checker.specs.Routines.{own_frame}
+use Rattle.code_checker.specs.Places.{span_of}
+use Rattle.code_checker.specs.Results.{function_result, name_in_first}
+use Rattle.code_checker.specs.Blocks.{statement_part, code_block, code_routines, code_body}
+use Rattle.std.proofs.Common.{◌≡◌, refl, ◌∙◌}
+use Rattle.same_programs.proofs.BareTrees.{bare_block, bare_body, bare_routines}
+use Rattle.same_programs.proofs.BareStatements.{bare_compound}
+use Rattle.same_programs.proofs.StatementStatements.{compound-bare}
+use Rattle.same_programs.proofs.HeadingFormals.{is_function-bare}
+use Rattle.same_programs.proofs.PlacesHeadings.{heading_name-bare}
+use Rattle.same_programs.proofs.Readers.{compound_statements}
+use Rattle.same_programs.proofs.RuleLabels.{reach_all-bare}
+use Rattle.same_programs.proofs.CodePlaces.{span_of-bare}
+
+pub statement_part-bare : (frame : ℕ) (span : Span) (c : Compound) → statement_part frame span (bare_compound c) ≡ statement_part frame span c
+unfolding statement_part
+statement_part-bare frame span c = λ i. enter_block span >>= λ _. compound-bare frame c i >>= λ _. give tt
+
+mutual
+  pub code_block-bare : (frame : ℕ) (b : Block) → code_block frame (bare_block b) ≡ code_block frame b
+  code_block-bare frame (BlockTree' labels constants types variables m routines body) =
+      (λ i. reach_all frame (compound_statements body i) >>= λ _. code_routines-bare routines i
+      >>= λ _. statement_part frame (span_of-bare (BlockTree' labels constants types variables m routines body) i) (bare_compound body))
+      ∙ (λ i. reach_all-bare frame (out-Compound body).statements i >>= λ _. code_routines routines
+      >>= λ _. statement_part-bare frame (span_of (BlockTree' labels constants types variables m routines body)) body i)
+
+  pub code_routines-bare : {m : _} (r : Row_of-Routine m) → code_routines (bare_routines r) ≡ code_routines r
+  code_routines-bare end_of-Routine = refl
+  code_routines-bare (more_of-Routine heading semicolon body last_semicolon rest) =
+      λ i. code_body-bare (is_function-bare heading i) (heading_name-bare heading i) body i >>= λ _. code_routines-bare rest i
+
+  pub code_body-bare : (function : Bool) (name : ℕ) (b : Body) → code_body function name (bare_body b) ≡ code_body function name b
+  code_body-bare function name (Directive directive) = refl
+  code_body-bare function name (Block' _ b) =
+      λ i. look (λ k. own_frame k (name_in_first k name)) >>= λ frame. code_block-bare frame b i >>= λ _. function_result function name

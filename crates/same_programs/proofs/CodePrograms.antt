@@ -1,0 +1,12 @@
+-- What the definitions of `Rattle.code_checker.specs.Programs` say of bare trees.
+use Rattle.pas_tree.specs.declared.blocks.Tree.{Tree}
+use Rattle.check_steps.specs.Steps.{◌>>=◌}
+use Rattle.code_checker.specs.Programs.{check_step}
+use Rattle.std.proofs.Common.{◌≡◌}
+use Rattle.same_programs.proofs.BareTrees.{bare_tree}
+use Rattle.same_programs.proofs.DeclarePrograms.{program_step-bare}
+use Rattle.same_programs.proofs.CodeBlocks.{code_block-bare}
+
+pub check_step-bare : (t : Tree) → check_step (bare_tree t) ≡ check_step t
+unfolding check_step
+check_step-bare t = λ i. program_step-bare t i >>= λ frame. code_block-bare frame t.block i

@@ -1,0 +1,22 @@
+-- What the definitions of `Rattle.decl_checker.specs.Programs` say of bare trees.
+use Rattle.std.specs.Prelude.{ℕ}
+use Rattle.pas_tree.specs.declared.blocks.Tree.{Tree}
+use Rattle.check_steps.specs.Known.{frame_at}
+use Rattle.check_steps.specs.Steps.{give, ◌>>=◌, look, add_routine}
+use Rattle.decl_checker.specs.Programs.{main_row, open_program, define_program, program_step}
+use Rattle.std.proofs.Common.{◌≡◌}
+use Rattle.same_programs.proofs.BareTrees.{bare_tree}
+use Rattle.same_programs.proofs.DeclareParameters.{parameters-bare}
+use Rattle.same_programs.proofs.DeclareBlocks.{define_block-bare}
+use Rattle.same_programs.proofs.DeclareRoutines.{block-bare}
+
+pub define_program-bare : (frame : ℕ) (t : Tree) → define_program frame (bare_tree t) ≡ define_program frame t
+unfolding define_program
+define_program-bare frame t =
+    λ i. look (λ k. (frame_at k frame).region) >>= λ region. parameters-bare region t.parameters i >>= λ _. define_block-bare frame t.block i
+
+pub program_step-bare : (t : Tree) → program_step (bare_tree t) ≡ program_step t
+unfolding program_step
+program_step-bare t =
+    λ i. open_program >>= λ frame. define_program-bare frame t i >>= λ _. add_routine (main_row t.name)
+    >>= λ number. block-bare frame number 1 t.block i >>= λ _. give frame

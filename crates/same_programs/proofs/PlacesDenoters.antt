@@ -1,0 +1,21 @@
+-- What the definitions of `Rattle.pas_places.specs.Denoters` say of bare trees.
+use Rattle.std.specs.Prelude.{Some, None}
+use Rattle.pas_tree.specs.declared.denoters.Denoter.{Denoter, Name, Enumeration, Subrange, Pointer, Structure'}
+use Rattle.pas_tree.specs.declared.denoters.Structure.{Structure, Array, Record', Set'}
+use Rattle.pas_tree.specs.declared.denoters.ArrayDenoter.{ArrayDenoter'}
+use Rattle.pas_places.specs.Denoters.{first_of_structure, first_of_denoter}
+use Rattle.std.proofs.Common.{◌≡◌, refl}
+use Rattle.same_programs.proofs.BareDenoters.{bare_denoter, bare_structure}
+
+pub first_of_structure-bare : (s : Structure) → first_of_structure (bare_structure s) ≡ first_of_structure s
+first_of_structure-bare (Array (ArrayDenoter' word open' first _ others close of component)) = refl
+first_of_structure-bare (Record' word fields end) = refl
+first_of_structure-bare (Set' word of base) = refl
+
+pub first_of_denoter-bare : (d : Denoter) → first_of_denoter (bare_denoter d) ≡ first_of_denoter d
+first_of_denoter-bare (Name token) = refl
+first_of_denoter-bare (Enumeration e) = refl
+first_of_denoter-bare (Subrange first dots last) = refl
+first_of_denoter-bare (Pointer caret name) = refl
+first_of_denoter-bare (Structure' (Some packed) _ s) = refl
+first_of_denoter-bare (Structure' None _ s) = λ i. first_of_structure-bare s i

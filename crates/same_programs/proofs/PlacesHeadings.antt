@@ -1,0 +1,15 @@
+-- What the definitions of `Rattle.pas_places.specs.Headings` say of bare trees.
+use Rattle.pas_tree.specs.declared.headings.Heading.{Heading, Procedure, Function}
+use Rattle.pas_tree.specs.declared.headings.ProcedureHeading.{ProcedureHeading'}
+use Rattle.pas_tree.specs.declared.headings.FunctionHeading.{FunctionHeading'}
+use Rattle.pas_places.specs.Headings.{heading_word, heading_name}
+use Rattle.std.proofs.Common.{◌≡◌, refl}
+use Rattle.same_programs.proofs.BareHeadings.{bare_heading}
+
+pub heading_word-bare : (h : Heading) → heading_word (bare_heading h) ≡ heading_word h
+heading_word-bare (Procedure (ProcedureHeading' word name formals)) = refl
+heading_word-bare (Function (FunctionHeading' word name formals result)) = refl
+
+pub heading_name-bare : (h : Heading) → heading_name (bare_heading h) ≡ heading_name h
+heading_name-bare (Procedure (ProcedureHeading' word name formals)) = refl
+heading_name-bare (Function (FunctionHeading' word name formals result)) = refl

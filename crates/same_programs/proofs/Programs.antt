@@ -1,0 +1,49 @@
+-- Trees that are the same break the same rules and denote the same program.
+use Rattle.std.proofs.Common.{◌≡◌, [], ap, sym, subst, ◌∙◌, refl, arith}
+use Rattle.pas_tree.specs.declared.blocks.Tree.{Tree}
+use Rattle.pas_tree.specs.SameTrees.{SameTree}
+use Rattle.pas_tree.proofs.TreesTold.{text_told}
+use Rattle.check_steps.specs.Words.{start}
+use Rattle.decl_checker.specs.Programs.{program_step}
+use Rattle.code_checker.specs.Programs.{check_step}
+use Rattle.check_steps.specs.declared.breaks.Break.{Break}
+use Rattle.check_steps.specs.Breaks.{IsFirst}
+use Rattle.pas_tree.specs.Blocks.{tree_node}
+use Rattle.source_checker.specs.declared.programs.ProgramFault.TheVariants as refused
+use Rattle.same_programs.specs.Laws.{AtMostOneProgram, MemorySaysNothing, NeverBoth, OneTextOneProgram}
+use Rattle.same_programs.proofs.SameTrees.{same_tree}
+use Rattle.same_programs.proofs.DeclarePrograms.{program_step-bare}
+use Rattle.same_programs.proofs.CodePrograms.{check_step-bare}
+
+same_declarations : (a b : Tree) → SameTree a b → program_step a ≡ program_step b
+same_declarations a b p = sym (program_step-bare a) ∙ ap program_step (same_tree a b p) ∙ program_step-bare b
+
+same_check : (a b : Tree) → SameTree a b → check_step a ≡ check_step b
+same_check a b p = sym (check_step-bare a) ∙ ap check_step (same_tree a b p) ∙ check_step-bare b
+
+pub memory_says_nothing : MemorySaysNothing
+memory_says_nothing t a b p = record {
+  broken = λ i. (same_check a b p i (start t)).broken;
+  denoted = λ i. (same_check a b p i (start t)).known.program;
+  declared = λ i. (same_declarations a b p i (start t)).broken;
+  tables = λ i. (same_declarations a b p i (start t)).known;
+}
+
+pub one_text : OneTextOneProgram
+one_text t a b x y = memory_says_nothing t a b (text_told 200 a b x.formed y.formed (x.spelled ∙ sym y.spelled))
+
+pub at_most_one : AtMostOneProgram
+at_most_one t p q (x, a, b) (y, c, d) = b.1 ∙ (one_text t x y a c).denoted ∙ sym d.1
+
+-- no rule is the first of none
+none_first : (b : Break) → IsFirst [] b → ⊥
+none_first b first = omega (arith, first.0.1)
+
+pub never_both : NeverBoth
+never_both t p (refused.NotProgram line byte) (x, a, b) (n, none, at) = absurd (none.0 (tree_node x, a.formed, a.spelled))
+never_both t p (refused.TooDeep line byte) (x, a, b) (n, none, at) = absurd (none.0 (tree_node x, a.formed, a.spelled))
+never_both t p (refused.Rule rule line byte) (x, a, b) (y, c, (token, fault, at)) =
+    absurd (none_first fault.0 (subst (λ bs. IsFirst bs fault.0) ((one_text t y x c a).broken ∙ b.0) fault.1))
+never_both t p (refused.TooBig line byte) (x, a, b) (y, c, (token, fault, at)) =
+    absurd (none_first fault.0 (subst (λ bs. IsFirst bs fault.0) ((one_text t y x c a).broken ∙ b.0) fault.1))
+never_both t p refused.Memory h g = refl

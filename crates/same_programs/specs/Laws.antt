@@ -1,0 +1,35 @@
+-- What the trees of one text have in common.
+use Rattle.std.specs.Prelude.{◌≡◌}
+use Rattle.pas_lexer.specs.Lexed.{Lexed}
+use Rattle.pas_tree.specs.declared.blocks.Tree.{Tree}
+use Rattle.pas_tree.specs.SameTrees.{SameTree}
+use Rattle.program_tables.specs.ProgramRows.{ProgramRows}
+use Rattle.decl_checker.specs.Programs as declarations
+use Rattle.code_checker.specs.Programs as program
+use Rattle.source_checker.specs.declared.programs.ProgramFault.{ProgramFault}
+use Rattle.source_checker.specs.declared.programs.ProgramFault.TheVariants.{Memory}
+use Rattle.source_checker.specs.Declarations.{IsTextOf}
+use Rattle.source_checker.specs.Programs.{IsChecked, IsUnchecked}
+
+-- Over these tokens two trees break the same rules and denote the same program, and so do their declarations alone.
+pub record AreOneProgram (t : Lexed) (a b : Tree) : Type 0 where
+  pub broken : program.broken t a ≡ program.broken t b
+  pub denoted : program.program_of t a ≡ program.program_of t b
+  pub declared : declarations.broken t a ≡ declarations.broken t b
+  pub tables : declarations.tables_of t a ≡ declarations.tables_of t b
+
+-- Where the boxes and vectors of a tree lie in memory says nothing.
+abbrev pub MemorySaysNothing : Type 0
+MemorySaysNothing = (t : Lexed) (a b : Tree) → SameTree a b → AreOneProgram t a b
+
+-- A text has one program, and breaks the same rules in whichever tree it is read.
+abbrev pub OneTextOneProgram : Type 0
+OneTextOneProgram = (t : Lexed) (a b : Tree) → IsTextOf t a → IsTextOf t b → AreOneProgram t a b
+
+-- The tokens are the text of at most one program.
+abbrev pub AtMostOneProgram : Type 0
+AtMostOneProgram = (t : Lexed) (p q : ProgramRows) → IsChecked t p → IsChecked t q → p ≡ q
+
+-- Tokens that are the text of a program are refused for want of memory alone.
+abbrev pub NeverBoth : Type 0
+NeverBoth = (t : Lexed) (p : ProgramRows) (f : ProgramFault) → IsChecked t p → IsUnchecked t f → f ≡ Memory
