@@ -54,7 +54,7 @@ fn deepest_repeats(rt: HostRuntime) -> Result<(), Fail> {
     let taken = said_of_repeats(rt.alloc(), 198)?;
     assert_eq!(rt;
         taken.given(),
-        b"refused: Unbuilt, line 1, byte 17\n".as_slice()
+        b"call 0 p\n  returned\nfound call 0 p\n  returned\n".as_slice()
     );
     let refused = said_of_repeats(rt.alloc(), 199)?;
     assert_eq!(rt;

@@ -3,4 +3,4 @@ pub mod RepliesInOrder
 pub mod StatusByCode
 pub mod StatusTellsWhy
 pub mod TranscriptIsGiven
-pub mod QuestionIsBest
+pub mod SearchesAreRuns

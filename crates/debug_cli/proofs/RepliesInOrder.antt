@@ -9,10 +9,10 @@ use Rattle.edge_ports.proofs.PiecesAddUp.{gave_nothing, gave_more, gave_prefix_a
 use Rattle.edge_ports.proofs.HandedLinesAreHeard.{heard_in_order}
 use Rattle.debug_cli.specs.declared.dialog.Ending.{Ending}
 use Rattle.debug_cli.specs.declared.dialog.Ending.TheVariants as ending
-use Rattle.plain_search.specs.declared.entries.Entry.{Entry}
+use Rattle.answer_book.specs.declared.entries.Entry.{Entry}
 use Rattle.debuggee.specs.Execution.{Execution}
 use Rattle.debug_cli.specs.Dialog.{replies, reply_to, entries_after_line, ends_session, ends_among}
-use Rattle.plain_search.specs.Standing.{first_entries}
+use Rattle.answer_book.specs.Entries.{first_entries}
 use Rattle.debug_cli.specs.Heard.{Heard, IsHeard, EndedBy, GaveBy, lines_in}
 use Rattle.debug_cli.specs.Asked.{said}
 use Rattle.debug_cli.specs.Turned.{entries_through, Stage, Answered, Hands, HandsNone, NextReply, Turned}

@@ -67,10 +67,10 @@ module _ (words : Words) (before after : Outside) where
   -- a source that was fetched
   pub source_goes : (file : Fetched words before.files) (result : Status) → SourceGoes file.bytes before.streams after.streams result → Here result
   source_goes file result (inl s) =
-      let a : Talked = record { file = file; tokens = s.0; small = s.1; program = s.4; kept = s.5; heard = s.2; is_heard = s.6 } in
-      subst Here (sym s.7) (session_goes a s.3 s.8 s.9)
+      let a : Talked = record { file = file; tokens = s.0; rows = s.1; program = s.4; heard = s.2; is_heard = s.5 } in
+      subst Here (sym s.6) (session_goes a s.3 s.7 s.8)
   source_goes file result (inr (inl r)) =
-      let refused : SourceRefused words before.files = record { file = file; why = r.0; none_runs = r.3; line = r.1; byte = r.2; place = r.4 } in
+      let refused : SourceRefused words before.files = record { file = file; none = r.3; why = r.0; line = r.1; byte = r.2; place = r.4 } in
       line_goes result status.Source (refused_line r.0 r.1 r.2) (inr (inl (refused, refl))) r.5 (λ g. (refused, g))
   source_goes file result (inr (inr n)) = nothing_goes result n
 

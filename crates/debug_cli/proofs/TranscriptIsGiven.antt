@@ -16,14 +16,12 @@ use Rattle.edge_ports.proofs.SameBytesCome.{told_still}
 use Rattle.edge_ports.proofs.HandedLinesAreHeard.{heard_longer}
 use Rattle.pas_lexer.specs.Lexed.{Lexed}
 use Rattle.pas_lexer.specs.Limits.{source_bytes}
-use Rattle.small_program.specs.Small.{Small}
-use Rattle.plain_search.specs.Standing.{first_entries}
+use Rattle.program_tables.specs.ProgramRows.{ProgramRows}
+use Rattle.answer_book.specs.Entries.{first_entries}
 use Rattle.debug_cli.specs.declared.dialog.Ending.TheVariants as ending
 use Rattle.debug_cli.specs.declared.status.Status.{Status}
 use Rattle.debug_cli.specs.declared.status.Status.TheVariants as status
 use Rattle.debuggee.specs.Program.{IsProgram, NoProgram}
-use Rattle.debuggee.specs.Rules.{BreaksNoRule}
-use Rattle.debuggee.proofs.SourceIsRun.{runs_not}
 use Rattle.debuggee.specs.Execution.{Execution, execution_of}
 use Rattle.debug_cli.specs.Laws.{OneRun}
 use Rattle.debug_cli.specs.Dialog.{opening, replies, ends_among}
@@ -86,11 +84,11 @@ module _ (words : Words) (before after : Outside) where
         by (fetch.TooLong bound) why = longer_not before.files f.name f.bytes f.found short why.1
         by fetch.Memory why = why
 
-    not_refused : (t : Lexed) (s : Small) → IsProgram f.bytes t s → BreaksNoRule t → SourceRefused words before.files → ⊥
-    not_refused t s p none r = runs_not r.file.bytes r.why r.none_runs t s (subst (λ (b : List ℕ). IsProgram b t s) (sym (same_file r.file)) p) none
+    not_refused : (t : Lexed) (p : ProgramRows) → IsProgram f.bytes t p → SourceRefused words before.files → ⊥
+    not_refused t p is r = r.none t p (subst (λ (b : List ℕ). IsProgram b t p) (sym (same_file r.file)) is)
 
     is_refused : NoProgram f.bytes → Talked → ⊥
-    is_refused none a = none a.tokens a.small (subst (λ (b : List ℕ). IsProgram b a.tokens a.small) (same_file a.file) a.program) a.kept
+    is_refused none a = none a.tokens a.rows (subst (λ (b : List ℕ). IsProgram b a.tokens a.rows) (same_file a.file) a.program)
 
     pub refused_or_memory : NoProgram f.bytes → length f.bytes ≤ source_bytes → NotRisen before.counts.faults after.counts.faults → (s : Status) → Here s
         → (s ≡ status.Screen → ⊥) → (s ≡ status.Source) ⊎ (s ≡ status.Memory)
@@ -107,12 +105,12 @@ module _ (words : Words) (before after : Outside) where
 
   module _ (one : OneRun) (set : Setting words before.files before.streams.left) where
     abbrev wanted : Execution
-    wanted = execution_of set.tokens set.small
+    wanted = execution_of set.tokens set.rows
 
-    same_run : (a : Talked) → execution_of a.tokens a.small ≡ wanted
+    same_run : (a : Talked) → execution_of a.tokens a.rows ≡ wanted
     same_run a =
-        one set.file.bytes a.tokens set.tokens a.small set.small
-        (subst (λ (b : List ℕ). IsProgram b a.tokens a.small) (same_file set.file a.file) a.program) set.program
+        one set.file.bytes a.tokens set.tokens a.rows set.rows
+        (subst (λ (b : List ℕ). IsProgram b a.tokens a.rows) (same_file set.file a.file) a.program) set.program
 
     -- the bytes heard are the first of those told
     abbrev Front : Heard → Type 0
@@ -140,7 +138,7 @@ module _ (words : Words) (before after : Outside) where
     said_first : (a : Talked) → (rest : List ℕ) × (transcript_of set ≡ said_in a ++ rest)
     said_first a =
         let lines = first_lines a.heard a.is_heard a.heard.ended refl in
-        let h : Execution = execution_of a.tokens a.small in
+        let h : Execution = execution_of a.tokens a.rows in
         let r = replies_front h first_entries (lines_in a.heard) lines.0 in (
           r.0,
           ap (λ (g : Execution). transcript g set.console) (sym (same_run a))
@@ -152,11 +150,11 @@ module _ (words : Words) (before after : Outside) where
     said_all : (a : Talked) → EndedBy ending.Done a.heard → transcript_of set ≡ said_in a
     said_all a (inl ended) =
         ap (λ (g : Execution). transcript g set.console) (sym (same_run a))
-        ∙ ap (λ (ls : List (List ℕ)). said (execution_of a.tokens a.small) ls)
+        ∙ ap (λ (ls : List (List ℕ)). said (execution_of a.tokens a.rows) ls)
         (ap lines_of (none_after a.heard a.is_heard ended) ∙ sym (ap (λ (b : Bool). lines_heard b a.heard.bytes) ended))
     said_all a (inr quit) =
         let lines = first_lines a.heard a.is_heard a.heard.ended refl in
-        let h : Execution = execution_of a.tokens a.small in
+        let h : Execution = execution_of a.tokens a.rows in
         ap (λ (g : Execution). transcript g set.console) (sym (same_run a))
         ∙ ap (said h) lines.1
         ∙ ap (λ (text : List ℕ). opening h ++ text) (replies_ended h first_entries (lines_in a.heard) lines.0 quit)
@@ -174,7 +172,7 @@ module _ (words : Words) (before after : Outside) where
 
     module _ (short : length set.file.bytes ≤ source_bytes) (stayed : NotRisen before.counts.faults after.counts.faults) where
       refuses_not : SourceRefused words before.files → ⊥
-      refuses_not r = not_refused set.file set.tokens set.small set.program set.unbroken r
+      refuses_not r = not_refused set.file set.tokens set.rows set.program r
 
       owed_part : (text : List ℕ) → Owed words before after text → GaveFront text → GaveFront (transcript_of set)
       owed_part text (inl o) g = part_of o.0 (subst GaveFront o.1 g)

@@ -11,15 +11,14 @@ use Rattle.edge_ports.specs.declared.ports.FetchFault.{FetchFault}
 use Rattle.edge_ports.specs.declared.ports.FetchFault.TheVariants as fetch
 use Rattle.pas_lexer.specs.Lexed.{Lexed}
 use Rattle.pas_lexer.specs.Limits.{source_bytes}
-use Rattle.small_program.specs.Small.{Small}
-use Rattle.plain_search.specs.Standing.{first_entries}
+use Rattle.program_tables.specs.ProgramRows.{ProgramRows}
+use Rattle.answer_book.specs.Entries.{first_entries}
 use Rattle.debug_cli.specs.declared.dialog.Ending.{Ending}
 use Rattle.debug_cli.specs.declared.dialog.Ending.TheVariants as ending
 use Rattle.debuggee.specs.declared.refusal.Refusal.{Refusal}
 use Rattle.debug_cli.specs.declared.status.Status.{Status}
 use Rattle.debug_cli.specs.declared.status.Status.TheVariants as status
-use Rattle.debuggee.specs.Program.{IsProgram, NoneRuns, Refuses}
-use Rattle.debuggee.specs.Rules.{KeepsRules}
+use Rattle.debuggee.specs.Program.{IsProgram, NoProgram, Refuses}
 use Rattle.debuggee.specs.Execution.{Execution, execution_of}
 use Rattle.debug_cli.specs.Texts.{file_line, refused_line}
 use Rattle.debug_cli.specs.Dialog.{opening, replies}
@@ -67,26 +66,25 @@ pub record Fetched (words : Words) (files : Option FileMap) : Type 0 where
   pub held : HoldsFile files name bytes
   pub short : length bytes ≤ source_bytes
 
--- that file, the program that it is, which keeps the rules, and what was heard of the console
+-- that file, the program that it is, and what was heard of the console
 pub record Session (words : Words) (files : Option FileMap) (left left' : Option (List ℕ)) : Type 0 where
   pub file : Fetched words files
   pub tokens : Lexed
-  pub small : Small
-  pub program : IsProgram file.bytes tokens small
-  pub kept : KeepsRules tokens
+  pub rows : ProgramRows
+  pub program : IsProgram file.bytes tokens rows
   pub heard : Heard
   pub is_heard : IsHeard left left' heard
 
 -- what is printed for that program and what was heard of the console
 abbrev pub said_in : {words : Words} {files : Option FileMap} {left left' : Option (List ℕ)}
     → Session words files left left' → List ℕ
-said_in s = said (execution_of s.tokens s.small) (lines_in s.heard)
+said_in s = said (execution_of s.tokens s.rows) (lines_in s.heard)
 
--- a file that was fetched and is no program that runs, and why and where it is refused
+-- a file that was fetched and is no program, and why and where it is refused
 pub record SourceRefused (words : Words) (files : Option FileMap) : Type 0 where
   pub file : Fetched words files
+  pub none : NoProgram file.bytes
   pub why : Refusal
-  pub none_runs : NoneRuns file.bytes why
   pub line : ℕ
   pub byte : ℕ
   pub place : Refuses file.bytes why line byte
@@ -111,10 +109,10 @@ pub record NotFetched (words : Words) (files : Option FileMap) (before now : Kee
 -- a source that was fetched: a session, a refusal, or memory ran out
 abbrev pub SourceGoes : List ℕ → (before after : Streams) → Status → Type 0
 SourceGoes source before after result =
-    ((t : Lexed) × (s : Small) × (x : Heard) × (e : Ending) × IsProgram source t s × KeepsRules t
+    ((t : Lexed) × (p : ProgramRows) × (x : Heard) × (e : Ending) × IsProgram source t p
     × IsHeard before.left after.left x × (result ≡ session_status e)
-    × GaveBy e before.given after.given (said (execution_of t s) (lines_in x)) × EndedBy e x)
-    ⊎ ((why : Refusal) × (line : ℕ) × (byte : ℕ) × NoneRuns source why × Refuses source why line byte
+    × GaveBy e before.given after.given (said (execution_of t p) (lines_in x)) × EndedBy e x)
+    ⊎ ((why : Refusal) × (line : ℕ) × (byte : ℕ) × NoProgram source × Refuses source why line byte
     × GivesLine result status.Source (refused_line why line byte) before.given after.given)
     ⊎ GivesNothing result before.given after.given
 

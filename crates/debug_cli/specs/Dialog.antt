@@ -1,25 +1,26 @@
 -- The dialog: what each line of the console is replied, up to `quit`.
-use Rattle.std.specs.Prelude.{ℕ, Bool, true, false, nat_lt, if◌then◌else◌, length, List, [], ◌∷◌, ◌++◌, codes, decimal}
+use Rattle.std.specs.Prelude.{ℕ, Bool, true, false, nat_le, nat_lt, if◌then◌else◌, length, List, [], ◌∷◌, ◌++◌}
+use Rattle.std.specs.Prelude.{codes, decimal}
 use Rattle.std.specs.List.{list_any}
 use Rattle.edge_ports.specs.Limits.{line_bytes}
-use Rattle.plain_search.specs.declared.entries.Entry.{Entry}
-use Rattle.plain_search.specs.declared.entries.Judgement.{Judgement}
-use Rattle.plain_search.specs.declared.entries.Judgement.TheVariants as judgement
-use Rattle.plain_search.specs.declared.state.SearchState.{SearchState}
-use Rattle.plain_search.specs.declared.state.SearchState.TheVariants.{Ask, Found, NothingWrong}
-use Rattle.plain_search.specs.State.{state_of}
-use Rattle.plain_search.specs.Laws.{judged}
-use Rattle.plain_search.specs.Standing.{first_entries}
+use Rattle.answer_book.specs.declared.entries.Entry.{Entry}
+use Rattle.answer_book.specs.declared.entries.Judgement.{Judgement}
+use Rattle.answer_book.specs.declared.entries.Judgement.TheVariants as judgement
+use Rattle.answer_book.specs.declared.entries.What.TheVariants.{Judged}
+use Rattle.answer_book.specs.Entries.{entries_with, first_entries, standing_answers}
+use Rattle.optimal_query.specs.declared.state.State.{State}
+use Rattle.optimal_query.specs.declared.state.State.TheVariants.{Ask, Found, Narrowed, NothingWrong, Unclear}
+use Rattle.optimal_query.specs.State.{state_of}
 use Rattle.debug_cli.specs.declared.commands.Command.{Command}
 use Rattle.debug_cli.specs.declared.commands.Command.TheVariants.{Nothing, Right, Wrong, Quit, Other}
 use Rattle.debug_cli.specs.Limits.{book_entries}
 use Rattle.debug_cli.specs.Commands.{command_of}
-use Rattle.debuggee.specs.Execution.{Execution, lasts_of}
+use Rattle.debuggee.specs.Execution.{Execution, lasts_of, routines_of}
 use Rattle.debug_cli.specs.Texts.{card, report}
 
--- the state of the search, from scratch, after these entries
-abbrev pub state : Execution → List Entry → SearchState
-state h entries = state_of (lasts_of h.calls) entries
+-- the state of the search, from scratch, after these entries: a function of the calls and of the answers that stand
+abbrev pub state : Execution → List Entry → State
+state h entries = state_of (lasts_of h.calls) (routines_of h.calls) (standing_answers entries)
 
 -- what a session opens with: the card of call 0, and a report
 abbrev pub opening : Execution → List ℕ
@@ -28,24 +29,23 @@ opening h = card h 0 ++ report h (state h first_entries)
 -- ---- a judgement on the call that is asked about
 
 abbrev pub is_full : List Entry → Bool
-is_full entries = if nat_lt (length entries) book_entries then false else true
+is_full entries = nat_le book_entries (length entries)
 
 -- the entries after the judgement
-abbrev pub entries_judged : SearchState → List Entry → Judgement → List Entry
-entries_judged (Ask call weight suspects left) entries j = if is_full entries then entries else judged entries call j
-entries_judged (Found call) entries j = entries
-entries_judged NothingWrong entries j = entries
+abbrev pub entries_judged : State → List Entry → Judgement → List Entry
+entries_judged (Ask call weight suspects left) entries j =
+    if is_full entries then entries else entries_with entries (Judged call j)
+entries_judged _ entries j = entries
 
 -- the number of the last entry, and a report
 abbrev pub entered : Execution → List Entry → List ℕ
 entered h entries = codes "entry " ++ decimal (length entries) ++ codes "\n" ++ report h (state h entries)
 
 -- the reply to the judgement
-abbrev pub reply_judged : Execution → SearchState → List Entry → Judgement → List ℕ
+abbrev pub reply_judged : Execution → State → List Entry → Judgement → List ℕ
 reply_judged h (Ask call weight suspects left) entries j =
-    if is_full entries then codes "book is full\n" else entered h (judged entries call j)
-reply_judged h (Found call) entries j = codes "no question\n"
-reply_judged h NothingWrong entries j = codes "no question\n"
+    if is_full entries then codes "book is full\n" else entered h (entries_with entries (Judged call j))
+reply_judged h _ entries j = codes "no question\n"
 
 -- ---- a command
 

@@ -9,3 +9,4 @@ pub mod Laws
 pub mod Limits
 pub mod Heard
 pub mod Turned
+pub mod Searches

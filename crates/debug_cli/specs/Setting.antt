@@ -4,9 +4,8 @@ use Rattle.edge_ports.specs.Files.{FileMap, file_at}
 use Rattle.edge_ports.specs.Lines.{whole_lines}
 use Rattle.edge_ports.specs.Limits.{console_bytes}
 use Rattle.pas_lexer.specs.Lexed.{Lexed}
-use Rattle.small_program.specs.Small.{Small}
+use Rattle.program_tables.specs.ProgramRows.{ProgramRows}
 use Rattle.debuggee.specs.Program.{IsProgram}
-use Rattle.debuggee.specs.Rules.{BreaksNoRule}
 use Rattle.debuggee.specs.Execution.{execution_of}
 use Rattle.debug_cli.specs.Dialog.{ends_among}
 use Rattle.debug_cli.specs.Asked.{Words, source_of, transcript}
@@ -22,20 +21,19 @@ pub record Stored (words : Words) (files : Option FileMap) : Type 0 where
   pub bytes : List ℕ
   pub found : Finds files name bytes
 
--- that file is a program that breaks no rule, and the console tells its bytes
+-- that file is a program, and the console tells its bytes
 pub record Setting (words : Words) (files : Option FileMap) (left : Option (List ℕ)) : Type 0 where
   pub file : Stored words files
   pub tokens : Lexed
-  pub small : Small
-  pub program : IsProgram file.bytes tokens small
-  pub unbroken : BreaksNoRule tokens
+  pub rows : ProgramRows
+  pub program : IsProgram file.bytes tokens rows
   pub console : List ℕ
   pub told : left ≡ Some console
 
 -- the whole of what is printed there
 abbrev pub transcript_of : {words : Words} {files : Option FileMap} {left : Option (List ℕ)}
     → Setting words files left → List ℕ
-transcript_of s = transcript (execution_of s.tokens s.small) s.console
+transcript_of s = transcript (execution_of s.tokens s.rows) s.console
 
 -- a console with these bytes ends before console_bytes of it were taken, or a whole line among those ends the session
 abbrev pub EndsInTime : List ℕ → Type 0

@@ -6,12 +6,12 @@ use Rattle.cell_value.specs.declared.ways_out.Which.{Which}
 use Rattle.cell_value.specs.declared.ways_out.Which.TheVariants as which
 use Rattle.cell_value.specs.declared.ways_out.WayOut.{WayOut}
 use Rattle.cell_value.specs.declared.ways_out.WayOut.TheVariants as way
-use Rattle.core_program.specs.declared.calls.CallRow.{CallRow}
-use Rattle.plain_search.specs.declared.state.SearchState.{SearchState}
-use Rattle.plain_search.specs.declared.state.SearchState.TheVariants.{Ask, Found, NothingWrong}
+use Rattle.program_tables.specs.ProgramRows.{name_of}
+use Rattle.optimal_query.specs.declared.state.State.{State}
+use Rattle.optimal_query.specs.declared.state.State.TheVariants.{Ask, Found, Narrowed, NothingWrong, Unclear}
 use Rattle.debuggee.specs.declared.refusal.Refusal.{Refusal}
 use Rattle.debuggee.specs.declared.refusal.Refusal.TheVariants as refusal
-use Rattle.debuggee.specs.Execution.{Execution, name_of}
+use Rattle.debuggee.specs.Execution.{CallRow, Execution}
 use Rattle.edge_ports.specs.declared.ports.FetchFault.{FetchFault}
 use Rattle.edge_ports.specs.declared.ports.FetchFault.TheVariants as fetch
 
@@ -51,7 +51,7 @@ inner_line text = codes "  " ++ text ++ codes "\n"
 
 -- a call by its number and the name of its routine
 abbrev pub call_text : Execution → ℕ → CallRow → List ℕ
-call_text h call row = codes "call " ++ decimal call ++ codes " " ++ name_of h row.routine
+call_text h call row = codes "call " ++ decimal call ++ codes " " ++ name_of h.program row.routine
 
 abbrev pub in_parent : Option ℕ → List ℕ
 in_parent None = []
@@ -73,16 +73,26 @@ found_by h call (Some row) = codes "found " ++ call_text h call row ++ codes "\n
 unfoldable pub found_text : Execution → ℕ → List ℕ
 found_text h call = found_by h call (slice_get h.calls call)
 
+-- the line on the call to which the fault is narrowed down
+abbrev pub narrowed_by : Execution → ℕ → Option CallRow → List ℕ
+narrowed_by h call None = []
+narrowed_by h call (Some row) = codes "narrowed to " ++ call_text h call row ++ codes "\n"
+
+unfoldable pub narrowed_text : Execution → ℕ → List ℕ
+narrowed_text h call = narrowed_by h call (slice_get h.calls call)
+
 abbrev pub question_line : (call suspects left : ℕ) → List ℕ
 question_line call suspects left =
     codes "ask " ++ decimal call ++ codes " suspects " ++ decimal suspects ++ codes " left " ++ decimal left
     ++ codes "\n"
 
--- the report on a state of the search
-unfoldable pub report : Execution → SearchState → List ℕ
+-- The report on a state of the search. No command says yet that a call is unknown; so no doubts are told.
+unfoldable pub report : Execution → State → List ℕ
 report h (Ask call weight suspects left) = question_line call suspects left ++ card h call
 report h (Found call) = found_text h call
+report h (Narrowed call) = narrowed_text h call
 report h NothingWrong = codes "nothing wrong\n"
+report h Unclear = codes "unclear\n"
 
 -- the lines of refusals
 abbrev pub usage_line : List ℕ

@@ -4,9 +4,9 @@ use Rattle.std.specs.Prelude.{Result, Ok, Err}
 use Rattle.edge_ports.specs.Limits.{console_bytes}
 use Rattle.edge_ports.specs.Lines.{LinesState, lines_heard, handed_lines}
 use Rattle.edge_ports.specs.Told.{GaveAll, GavePrefix}
-use Rattle.plain_search.specs.declared.entries.Entry.{Entry}
-use Rattle.plain_search.specs.declared.entries.Judgement.{Judgement}
-use Rattle.plain_search.specs.Standing.{first_entries}
+use Rattle.answer_book.specs.declared.entries.Entry.{Entry}
+use Rattle.answer_book.specs.declared.entries.Judgement.{Judgement}
+use Rattle.answer_book.specs.Entries.{first_entries}
 use Rattle.debug_cli.specs.declared.dialog.Ending.{Ending}
 use Rattle.debug_cli.specs.declared.dialog.Ending.TheVariants as ending
 use Rattle.debug_cli.specs.Status.{is_screen, is_console}

@@ -162,7 +162,7 @@ pub fn ask_pascal<K: Keeper, I: Source, O: Sink>(
     console: &mut I,
     screen: &mut O,
 ) -> u8
-    // Where the words name a file that the keeper tells, which is a program that breaks no rule, and the console tells
+    // Where the words name a file that the keeper tells, which is a program, and the console tells
     // its bytes: what the screen got at status 0, and at every status unless the keeper failed; and the status, if
     // besides nothing failed.
     ensures transcript { (s : Setting words.now (K.files keeper.old) (I.left console.old)) → result ≡ 0
@@ -182,7 +182,7 @@ pub fn ask_pascal<K: Keeper, I: Source, O: Sink>(
     ensures asks { AsksTheBest }
     ensures finds { FindsTheFault }
     ensures one_run { OneRun }
-    // Words that are not two, a file that is no program that keeps the rules, and any words that name a source, where
+    // Words that are not two, a file that is no program, and any words that name a source, where
     // nothing failed.
     ensures usage { source_of words.now ≡ None → (result ≡ 2) ⊎ (result ≡ 6) }
     ensures no_program { (f : Stored words.now (K.files keeper.old)) → NoProgram f.bytes → length f.bytes ≤ source_bytes

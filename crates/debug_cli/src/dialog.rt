@@ -6,18 +6,20 @@ ghost use Rattle.edge_ports.specs.Told.{GaveAll, GavePrefix};
 ghost use Rattle.edge_ports.specs.Lines.{Moves};
 ghost use Rattle.edge_ports.specs.Limits.{line_bytes};
 ghost use Rattle.edge_ports.specs.Turns.{IsConsistent};
-ghost use Rattle.debuggee.specs.Execution.{execution, IsReady};
+ghost use Rattle.debuggee.specs.Execution.{execution};
 ghost use Rattle.debug_cli.specs.Status.{is_console, is_screen};
 ghost use Rattle.debug_cli.specs.Dialog.{replies};
-ghost use Rattle.plain_search.specs.Standing.{first_entries};
+ghost use Rattle.answer_book.specs.Entries.{first_entries};
+ghost use Rattle.debug_cli.specs.Searches.{IsSearch};
 ghost use Rattle.debug_cli.specs.Heard.{Heard, IsHeard, lines_in, EndedBy, GaveBy, session_status};
 ghost use Rattle.debug_cli.specs.Turned.{Answers, NextReply, Turned, console_failed, screen_failed};
 
 use crate::commands::{Command, command_in};
 use crate::judging::{judge, text_of};
+use answer_book::Judgement;
 use debuggee::Debuggee;
 use edge_ports::{Bytes, LineFault, Lines, Sink, Source, Turn, write_all};
-use plain_search::{Entry, Judgement};
+use optimal_query::Debug;
 use std::alloc::{AllocError, AllocFailed, Global};
 
 /// How a dialog ended.
@@ -61,17 +63,18 @@ impl<T: Drop> From<AllocFailed<T>> for Ending {
 fn answer(
     alloc: Global,
     debuggee: &Debuggee,
-    entries: &mut Vec<Entry>,
+    debug: &mut Debug,
     line: &[u8],
 ) -> Result<Bytes, Ending>
-    requires ready { IsReady debuggee.now }
+    requires search { IsSearch debuggee.now debug.old }
     requires short { length line.now ≤ line_bytes }
-    ensures { Answers (execution debuggee.now) entries.old.items line.now result entries.new.items }
+    ensures answers { Answers (execution debuggee.now) debug.old.book.entries line.now result debug.new.book.entries }
+    ensures search { IsSearch debuggee.now debug.new }
 {
     match command_in(line) {
         Command::Nothing => Ok(Bytes::new(alloc)),
-        Command::Right => judge(alloc, debuggee, entries, Judgement::Right),
-        Command::Wrong => judge(alloc, debuggee, entries, Judgement::Wrong),
+        Command::Right => judge(alloc, debuggee, debug, Judgement::Right),
+        Command::Wrong => judge(alloc, debuggee, debug, Judgement::Wrong),
         Command::Quit => Err(Ending::Done),
         Command::Other => text_of(alloc, b"not understood\n"),
     }
@@ -81,24 +84,25 @@ fn answer(
 fn next_reply<I: Source>(
     alloc: Global,
     debuggee: &Debuggee,
-    entries: &mut Vec<Entry>,
+    debug: &mut Debug,
     lines: &mut Lines,
     console: &mut I,
 ) -> Result<Bytes, Ending>
-    requires ready { IsReady debuggee.now }
+    requires search { IsSearch debuggee.now debug.old }
     ensures reply { NextReply (execution debuggee.now)
-        (record { entries = entries.old.items; lines = lines.old }) result
-        (record { entries = entries.new.items; lines = lines.new }) }
+        (record { entries = debug.old.book.entries; lines = lines.old }) result
+        (record { entries = debug.new.book.entries; lines = lines.new }) }
     ensures moved { Moves lines.old.taken lines.new.taken (I.left console.old) (I.left console.new) }
     ensures at_end { (IsTrue lines.old.ended → IsAtEnd (I.left console.old))
         → IsTrue lines.new.ended → IsAtEnd (I.left console.new) }
     ensures faults { Counted (console_failed result) (I.faults console.old) (I.faults console.new) }
     ensures not_screen { screen_failed result ≡ false }
     ensures consistent { IsConsistent lines.new }
+    ensures search { IsSearch debuggee.now debug.new }
     ensures handed { OnOk result (lines.old.handed < lines.new.handed) }
 {
     match lines.next(console) {
-        Ok(Turn::Line) => answer(alloc, debuggee, entries, lines.line()),
+        Ok(Turn::Line) => answer(alloc, debuggee, debug, lines.line()),
         Ok(Turn::TooLong) => text_of(alloc, b"line too long\n"),
         Ok(Turn::End) => Err(Ending::Done),
         Err(LineFault::Failed) => Err(Ending::Console),
@@ -124,16 +128,22 @@ fn give_reply<O: Sink>(screen: &mut O, reply: &[u8]) -> Result<(), Ending>
 fn turn<I: Source, O: Sink>(
     alloc: Global,
     debuggee: &Debuggee,
-    entries: &mut Vec<Entry>,
+    debug: &mut Debug,
     lines: &mut Lines,
     console: &mut I,
     screen: &mut O,
 ) -> Result<(), Ending>
-    requires ready { IsReady debuggee.now }
+    requires search { IsSearch debuggee.now debug.old }
     ensures turned { Turned (execution debuggee.now)
-        (record { progress = record { entries = entries.old.items; lines = lines.old }; given = O.given screen.old })
+        (record {
+          progress = record { entries = debug.old.book.entries; lines = lines.old };
+          given = O.given screen.old;
+        })
         result
-        (record { progress = record { entries = entries.new.items; lines = lines.new }; given = O.given screen.new }) }
+        (record {
+          progress = record { entries = debug.new.book.entries; lines = lines.new };
+          given = O.given screen.new;
+        }) }
     ensures moved { Moves lines.old.taken lines.new.taken (I.left console.old) (I.left console.new) }
     ensures at_end { (IsTrue lines.old.ended → IsAtEnd (I.left console.old))
         → IsTrue lines.new.ended → IsAtEnd (I.left console.new) }
@@ -141,9 +151,10 @@ fn turn<I: Source, O: Sink>(
     ensures screen_faults { Counted (screen_failed result) (O.faults screen.old) (O.faults screen.new) }
     ensures last { IsTrue (screen_failed result) → IsTrue (O.last_failed screen.new) }
     ensures consistent { IsConsistent lines.new }
+    ensures search { IsSearch debuggee.now debug.new }
     ensures handed { OnOk result (lines.old.handed < lines.new.handed) }
 {
-    match next_reply(alloc, debuggee, entries, lines, console) {
+    match next_reply(alloc, debuggee, debug, lines, console) {
         Ok(reply) => give_reply(screen, reply.as_slice()),
         Err(ending) => Err(ending),
     }
@@ -154,13 +165,13 @@ fn turn<I: Source, O: Sink>(
 pub fn converse<I: Source, O: Sink>(
     alloc: Global,
     debuggee: &Debuggee,
-    entries: &mut Vec<Entry>,
+    debug: &mut Debug,
     lines: &mut Lines,
     console: &mut I,
     screen: &mut O,
 ) -> Ending
-    requires ready { IsReady debuggee.now }
-    requires first { entries.old.items ≡ first_entries }
+    requires search { IsSearch debuggee.now debug.old }
+    requires first { debug.old.book.entries ≡ first_entries }
     requires fresh { lines.old ≡ record { taken = []; handed = 0; ended = false; line = [] } }
     // What was heard of the console, what the screen got by how the dialog ended, and why it ended.
     ensures goes { (x : Heard) × IsHeard (I.left console.old) (I.left console.new) x
@@ -174,7 +185,7 @@ pub fn converse<I: Source, O: Sink>(
     ensures last { IsTrue (is_screen (session_status result)) → IsTrue (O.last_failed screen.new) }
 {
     'lines: loop {
-        match turn(alloc, debuggee, entries, lines, console, screen) {
+        match turn(alloc, debuggee, debug, lines, console, screen) {
             Ok(()) => {}
             Err(ending) => return ending,
         }

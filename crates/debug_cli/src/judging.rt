@@ -1,31 +1,21 @@
 //! A judgement on the call that is asked about.
-ghost use Rattle.std.specs.Prelude.{◌≡◌, ◌<◌, ◌++◌, ◌∷◌, [], IfOk, IfErr, length};
-ghost use Rattle.debuggee.specs.Execution.{execution, IsReady};
-ghost use Rattle.debug_cli.specs.Texts.{report};
-ghost use Rattle.debug_cli.specs.Dialog.{state, entered};
+ghost use Rattle.std.specs.Prelude.{◌≡◌, ◌<◌, IfOk, IfErr, length};
+ghost use Rattle.debuggee.specs.Execution.{execution};
+ghost use Rattle.debug_cli.specs.Dialog.{entered, state};
+ghost use Rattle.debug_cli.specs.Searches.{IsSearch};
 ghost use Rattle.debug_cli.specs.Turned.{Judges};
 
 use crate::dialog::Ending;
 use crate::texts::{write_number, write_report};
+use answer_book::Judgement;
+use cell_value::Steps;
 use debuggee::Debuggee;
 use edge_ports::Bytes;
-use plain_search::{Entry, Judgement, SearchState, search};
+use optimal_query::{Debug, State};
 use std::alloc::{AllocError, Global};
 
-/// The most entries of a session.
-pub const BOOK_ENTRIES: usize = 100_000;
-
-/// The state of the search after these entries, from scratch.
-pub fn find_state(
-    alloc: Global,
-    debuggee: &Debuggee,
-    entries: &[Entry],
-) -> Result<SearchState, AllocError>
-    requires { IsReady debuggee.now }
-    ensures { IfOk result (λ found. found ≡ state (execution debuggee.now) entries.now) }
-{
-    search(alloc, debuggee.lasts.as_slice(), entries)
-}
+/// What the steps of the search are counted by.
+struct Uncounted;
 
 /// Bytes of their own with this text.
 pub fn text_of(alloc: Global, text: &[u8]) -> Result<Bytes, Ending>
@@ -37,18 +27,30 @@ pub fn text_of(alloc: Global, text: &[u8]) -> Result<Bytes, Ending>
     Ok(bytes)
 }
 
-/// The number of the last entry, and a report.
-fn entered_text(alloc: Global, debuggee: &Debuggee, entries: &[Entry]) -> Result<Bytes, AllocError>
-    requires ready { IsReady debuggee.now }
-    requires few { length entries.now < 4294967296 }
-    ensures { IfOk result (λ text. text ≡ entered (execution debuggee.now) entries.now) }
+/// The state of the search.
+pub fn find_state(debuggee: &Debuggee, debug: &Debug) -> State
+    requires search { IsSearch debuggee.now debug.now }
+    ensures { result ≡ state (execution debuggee.now) debug.now.book.entries }
 {
-    let found = find_state(alloc, debuggee, entries)?;
+    debug.state()
+}
+
+/// The number of the last entry, and a report.
+fn entered_text(
+    alloc: Global,
+    debuggee: &Debuggee,
+    debug: &Debug,
+    number: u32,
+) -> Result<Bytes, AllocError>
+    requires search { IsSearch debuggee.now debug.now }
+    requires last { number ≡ length debug.now.book.entries }
+    ensures { IfOk result (λ text. text ≡ entered (execution debuggee.now) debug.now.book.entries) }
+{
     let mut text = Bytes::new(alloc);
     text.append(b"entry ")?;
-    write_number(&mut text, entries.len() as u32)?;
+    write_number(&mut text, number)?;
     text.append(b"\n")?;
-    write_report(&mut text, debuggee, found)?;
+    write_report(&mut text, debuggee, find_state(debuggee, debug))?;
     Ok(text)
 }
 
@@ -56,21 +58,22 @@ fn entered_text(alloc: Global, debuggee: &Debuggee, entries: &[Entry]) -> Result
 pub fn judge(
     alloc: Global,
     debuggee: &Debuggee,
-    entries: &mut Vec<Entry>,
+    debug: &mut Debug,
     judgement: Judgement,
 ) -> Result<Bytes, Ending>
-    requires { IsReady debuggee.now }
-    ensures { Judges (execution debuggee.now) entries.old.items judgement result entries.new.items }
+    requires search { IsSearch debuggee.now debug.old }
+    ensures judges { Judges (execution debuggee.now) debug.old.book.entries judgement result debug.new.book.entries }
+    ensures search { IsSearch debuggee.now debug.new }
 {
-    match find_state(alloc, debuggee, entries.as_slice())? {
-        SearchState::Ask { call, .. } => {
-            if entries.len() >= BOOK_ENTRIES {
-                return text_of(alloc, b"book is full\n");
-            }
-            entries.push(Entry { call, judgement })?;
-            let text = entered_text(alloc, debuggee, entries.as_slice())?;
+    let State::Ask { call, .. } = find_state(debuggee, debug) else {
+        return text_of(alloc, b"no question\n");
+    };
+    let mut steps: Steps<Uncounted> = Steps::new();
+    match debug.judge(call, judgement, &mut steps) {
+        Ok(number) => {
+            let text = entered_text(alloc, debuggee, debug, number)?;
             Ok(text)
         }
-        _ => text_of(alloc, b"no question\n"),
+        Err(_) => text_of(alloc, b"book is full\n"),
     }
 }

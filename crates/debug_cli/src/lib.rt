@@ -14,4 +14,3 @@ mod texts;
 
 pub use ask::{SOURCE_BYTES, ask_pascal};
 pub use debuggee::BUDGET;
-pub use judging::BOOK_ENTRIES;

@@ -4,7 +4,8 @@ ghost use Rattle.edge_ports.specs.Counts.{Counted};
 ghost use Rattle.debuggee.specs.Execution.{execution, IsReady};
 ghost use Rattle.debug_cli.specs.Status.{is_console, is_screen};
 ghost use Rattle.debug_cli.specs.Dialog.{opening};
-ghost use Rattle.plain_search.specs.Standing.{first_entries};
+ghost use Rattle.answer_book.specs.Entries.{first_entries};
+ghost use Rattle.debug_cli.specs.Searches.{IsSearch};
 ghost use Rattle.debug_cli.specs.Heard.{Heard, IsHeard, lines_in, EndedBy, GaveBy, session_status};
 ghost use Rattle.debug_cli.specs.Asked.{GivesLine, said};
 
@@ -14,8 +15,8 @@ use crate::status::Status;
 use crate::texts::{write_card, write_report};
 use debuggee::Debuggee;
 use edge_ports::{Bytes, Lines, Sink, Source, write_all};
-use plain_search::{Entry, Judgement};
-use std::alloc::{AllocError, AllocFailed, Global};
+use optimal_query::Debug;
+use std::alloc::{AllocError, Global};
 
 /// Gives a whole line and ends with this status, or with that of a screen that failed.
 pub fn give_line<O: Sink>(screen: &mut O, line: &[u8], status: Status) -> Status
@@ -31,28 +32,15 @@ pub fn give_line<O: Sink>(screen: &mut O, line: &[u8], status: Status) -> Status
 }
 
 /// What a session opens with: the card of call 0, and a report.
-fn opening_text(alloc: Global, debuggee: &Debuggee, entries: &[Entry]) -> Result<Bytes, AllocError>
-    requires ready { IsReady debuggee.now }
-    requires first { entries.now ≡ first_entries }
+fn opening_text(alloc: Global, debuggee: &Debuggee, debug: &Debug) -> Result<Bytes, AllocError>
+    requires search { IsSearch debuggee.now debug.now }
+    requires first { debug.now.book.entries ≡ first_entries }
     ensures { IfOk result (λ text. text ≡ opening (execution debuggee.now)) }
 {
-    let found = find_state(alloc, debuggee, entries)?;
     let mut text = Bytes::new(alloc);
     write_card(&mut text, debuggee, 0)?;
-    write_report(&mut text, debuggee, found)?;
+    write_report(&mut text, debuggee, find_state(debuggee, debug))?;
     Ok(text)
-}
-
-/// The entries with which a session begins: call 0 is taken to be wrong.
-fn begin_entries(alloc: Global) -> Result<Vec<Entry>, AllocFailed<Entry>>
-    ensures { IfOk result (λ entries. entries.items ≡ first_entries) }
-{
-    let mut entries = Vec::new(alloc);
-    entries.push(Entry {
-        call: 0,
-        judgement: Judgement::Wrong,
-    })?;
-    Ok(entries)
 }
 
 /// Gives the opening, and then answers the console up to `quit` or its end.
@@ -74,14 +62,14 @@ pub fn hold_session<I: Source, O: Sink>(
     let Ok(mut lines) = Lines::new(alloc) else {
         return Ending::Memory;
     };
-    let Ok(mut entries) = begin_entries(alloc) else {
+    let Ok(mut debug) = Debug::new(alloc, &debuggee.history.calls) else {
         return Ending::Memory;
     };
-    let Ok(opening) = opening_text(alloc, debuggee, entries.as_slice()) else {
+    let Ok(opening) = opening_text(alloc, debuggee, &debug) else {
         return Ending::Memory;
     };
     match write_all(screen, opening.as_slice()) {
-        Ok(()) => converse(alloc, debuggee, &mut entries, &mut lines, console, screen),
+        Ok(()) => converse(alloc, debuggee, &mut debug, &mut lines, console, screen),
         Err(_) => Ending::Screen,
     }
 }

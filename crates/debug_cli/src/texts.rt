@@ -1,18 +1,18 @@
 //! The texts of a call and of the state of the search.
 ghost use Rattle.std.specs.Prelude.{◌≡◌, ◌++◌, IfOk, OnOk, decimal, codes, slice_get};
-ghost use Rattle.debuggee.specs.Execution.{execution, name_of, text_at};
+ghost use Rattle.std.specs.Option.{option_map};
+ghost use Rattle.debuggee.specs.Execution.{execution, told};
 ghost use Rattle.debug_cli.specs.Texts.{kind_text, limit_text, way_text, inner_line, call_text, in_parent};
-ghost use Rattle.debug_cli.specs.Texts.{card, found_text, question_line, report};
+ghost use Rattle.debug_cli.specs.Texts.{card, found_text, narrowed_text, question_line, report};
 ghost use Rattle.debug_cli.specs.Texts.{absent_line, failed_line, too_long_line};
 ghost use Rattle.debug_cli.specs.Texts.{refusal_name, refusal_text, refused_line};
 
+use call_tree::Call;
 use cell_value::{Kind, WayOut, Which};
-use core_program::CallRow;
 use debuggee::{Debuggee, Refusal};
 use edge_ports::Bytes;
 use itoa::Buffer;
-use pas_lexer::Tokens;
-use plain_search::SearchState;
+use optimal_query::State;
 use std::alloc::{AllocError, Global};
 
 /// The name of a kind of fault.
@@ -92,24 +92,14 @@ pub fn write_way_line(out: &mut Bytes, way: WayOut) -> Result<(), AllocError>
     Ok(())
 }
 
-/// The text of a token, and nothing where there is none.
-fn token_text(tokens: &Tokens, number: u32) -> &[u8]
-    ensures { result.now ≡ text_at tokens.now.source (slice_get tokens.now.tokens number) }
+/// The call of a number, and nothing where there is none.
+fn call_at(debuggee: &Debuggee, number: u32) -> Option<&Call>
+    ensures { option_map (λ call. told call.now) result ≡ slice_get (execution debuggee.now).calls number }
 {
-    if number < tokens.len() {
-        tokens.text(number)
+    if number < debuggee.history.calls.len() {
+        Some(debuggee.history.calls.call(number))
     } else {
-        b""
-    }
-}
-
-/// The name of a routine, and nothing where there is none.
-fn routine_name(debuggee: &Debuggee, routine: u32) -> &[u8]
-    ensures { result.now ≡ name_of (execution debuggee.now) routine }
-{
-    match debuggee.program.routine(routine) {
-        Some(found) => token_text(&debuggee.tokens, found.name),
-        None => b"",
+        None
     }
 }
 
@@ -118,14 +108,14 @@ fn write_call(
     out: &mut Bytes,
     debuggee: &Debuggee,
     number: u32,
-    call: CallRow,
+    call: &Call,
 ) -> Result<(), AllocError>
-    ensures { OnOk result (out.new ≡ out.old ++ call_text (execution debuggee.now) number call) }
+    ensures { OnOk result (out.new ≡ out.old ++ call_text (execution debuggee.now) number (told call.now)) }
 {
     out.append(b"call ")?;
     write_number(out, number)?;
     out.append(b" ")?;
-    out.append(routine_name(debuggee, call.routine))?;
+    out.append(debuggee.program.name(call.routine))?;
     Ok(())
 }
 
@@ -145,7 +135,7 @@ fn write_parent(out: &mut Bytes, parent: Option<u32>) -> Result<(), AllocError>
 pub fn write_card(out: &mut Bytes, debuggee: &Debuggee, number: u32) -> Result<(), AllocError>
     ensures { OnOk result (out.new ≡ out.old ++ card (execution debuggee.now) number) }
 {
-    if let Some(call) = debuggee.calls.get(number) {
+    if let Some(call) = call_at(debuggee, number) {
         write_call(out, debuggee, number, call)?;
         write_parent(out, call.parent)?;
         out.append(b"\n")?;
@@ -159,11 +149,24 @@ pub fn write_card(out: &mut Bytes, debuggee: &Debuggee, number: u32) -> Result<(
 fn write_found(out: &mut Bytes, debuggee: &Debuggee, number: u32) -> Result<(), AllocError>
     ensures { OnOk result (out.new ≡ out.old ++ found_text (execution debuggee.now) number) }
 {
-    if let Some(call) = debuggee.calls.get(number) {
+    if let Some(call) = call_at(debuggee, number) {
         out.append(b"found ")?;
         write_call(out, debuggee, number, call)?;
         out.append(b"\n")?;
         write_way_line(out, call.way)?;
+    }
+    Ok(())
+}
+
+/// Appends the line on the call to which the fault is narrowed down.
+#[tactic(auto, unfolding(crate::specs::Texts::narrowed_text))]
+fn write_narrowed(out: &mut Bytes, debuggee: &Debuggee, number: u32) -> Result<(), AllocError>
+    ensures { OnOk result (out.new ≡ out.old ++ narrowed_text (execution debuggee.now) number) }
+{
+    if let Some(call) = call_at(debuggee, number) {
+        out.append(b"narrowed to ")?;
+        write_call(out, debuggee, number, call)?;
+        out.append(b"\n")?;
     }
     Ok(())
 }
@@ -184,15 +187,11 @@ fn write_question(out: &mut Bytes, call: u32, suspects: u32, left: u32) -> Resul
 
 /// Appends the report on a state of the search.
 #[tactic(auto, unfolding(crate::specs::Texts::report))]
-pub fn write_report(
-    out: &mut Bytes,
-    debuggee: &Debuggee,
-    state: SearchState,
-) -> Result<(), AllocError>
+pub fn write_report(out: &mut Bytes, debuggee: &Debuggee, state: State) -> Result<(), AllocError>
     ensures { OnOk result (out.new ≡ out.old ++ report (execution debuggee.now) state) }
 {
     match state {
-        SearchState::Ask {
+        State::Ask {
             call,
             suspects,
             left,
@@ -201,8 +200,10 @@ pub fn write_report(
             write_question(out, call, suspects, left)?;
             write_card(out, debuggee, call)?;
         }
-        SearchState::Found(call) => write_found(out, debuggee, call)?,
-        SearchState::NothingWrong => out.append(b"nothing wrong\n")?,
+        State::Found(call) => write_found(out, debuggee, call)?,
+        State::Narrowed(call) => write_narrowed(out, debuggee, call)?,
+        State::NothingWrong => out.append(b"nothing wrong\n")?,
+        State::Unclear => out.append(b"unclear\n")?,
     }
     Ok(())
 }

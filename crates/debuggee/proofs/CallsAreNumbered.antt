@@ -1,6 +1,7 @@
 -- The columns of a numbered list of calls: where the subtree of each call is the interval from it to its
 -- last call, their parents and their last calls are those of numbered calls.
-use Rattle.std.proofs.Common.{◌≡◌, ◌↔◌, ℕ, zero, suc, ◌+◌, ◌<◌, ◌≤◌, Bool, true, false, cond, List, [], ◌∷◌, ◌++◌, take, Option, None, Some, length, map}
+use Rattle.std.proofs.Common.{◌≡◌, ◌↔◌, ℕ, zero, suc, ◌+◌, ◌<◌, ◌≤◌, Bool, true, false, cond, List, [], ◌∷◌, ◌++◌, take, Option, None, Some, IsSome, length}
+use Rattle.std.proofs.Common.{map}
 use Rattle.std.proofs.Common.{refl, sym, ap, subst, ◌^◌, ◌∙◌, arith}
 use Rattle.std.specs.Prelude.{slice_get, slice_index}
 use Rattle.std.proofs.Math.Dec.{leb}
@@ -8,16 +9,17 @@ use Rattle.std.specs.Option.{option_map}
 use Rattle.std.proofs.lemmas.Bool.{leb-true, leb-false}
 use Rattle.std.proofs.lemmas.List.{length-map, get_or_past}
 use Rattle.std.proofs.lemmas.Option.{slice_get_within, get_or_from_slice_get, slice_get-map}
-use Rattle.core_program.specs.declared.calls.CallRow.{CallRow}
-use Rattle.core_program.specs.Run.{Call}
-use Rattle.core_program.specs.Numbering.{greatest, belows, last_of, parent_of, is_below, each_from, row_of, numbered, InSubtree, Root, Child}
-use Rattle.plain_search.specs.Numbering.{AreIntervals, IsParent, IsNumbered}
-use Rattle.debuggee.specs.Execution.{parents_of, lasts_of, calls_within, IsReady}
-use Rattle.debuggee.specs.declared.source.Debuggee.{Debuggee}
-use Rattle.core_program.specs.SmallTables.{SmallTables}
-use Rattle.core_program.specs.Run.{Outcome, run}
-use Rattle.core_program.specs.Numbering.{calls_of}
-use Rattle.core_program.specs.Laws.{SubtreeIsInterval, LastIsACall}
+use Rattle.call_tree.specs.Numbering.{AreIntervals, IsParent, IsNumbered}
+use Rattle.call_tree.specs.Recording.{Recording}
+use Rattle.call_tree.specs.Recording as recording
+use Rattle.call_tree.specs.declared.records.Call as recorded
+use Rattle.program_tables.specs.ProgramRows.{ProgramRows}
+use Rattle.program_meaning.specs.Run.{Call, Marked, Outcome, run}
+use Rattle.program_meaning.specs.Numbering.{greatest, belows, calls_of, last_of, parent_of, is_below, each_from, InSubtree, Root, Child}
+use Rattle.program_meaning.specs.Laws.{SubtreeIsInterval, LastIsACall, EveryProgramRuns, EveryRunHasACall}
+use Rattle.program_run.specs.History.{recording_of}
+use Rattle.program_run.specs.Table as table
+use Rattle.debuggee.specs.Execution.{CallRow, calls_within, lasts_of, parents_of, routines_of, row_of, rows_of, told}
 
 -- the subtree of each call is the interval from it to its last call, which is a call
 pub record IsTree (bs : List ℕ) : Type 0 where
@@ -41,26 +43,27 @@ get_within [] i h = absurd (omega arith)
 get_within (x ∷ xs) zero h = (x, refl)
 get_within (x ∷ xs) (suc i) h = get_within xs i (omega arith)
 
-pub numbered_length : (cs : List Call) → length (numbered cs) ≡ length cs
-numbered_length cs = each_length (row_of (belows cs)) 0 cs
+pub rows_length : (cs : List (Marked Call)) → length (rows_of cs) ≡ length cs
+rows_length cs = each_length (row_of (belows cs)) 0 cs
 
 -- the row of a call
-pub row_of_call : (cs : List Call) (k : ℕ) (c : Call) → slice_get cs k ≡ Some c → slice_get (numbered cs) k ≡ Some (row_of (belows cs) k c)
+pub row_of_call : (cs : List (Marked Call)) (k : ℕ) (c : Marked Call) → slice_get cs k ≡ Some c → slice_get (rows_of cs) k ≡ Some (row_of (belows cs) k c)
 row_of_call cs k c e = each_at (row_of (belows cs)) 0 k cs c e ∙ (let n : 0 + k ≡ k = omega arith in ap (λ m. Some (row_of (belows cs) m c)) n)
 
-pub row_at : (cs : List Call) (k : ℕ) → k < length cs → (c : Call) × (slice_get (numbered cs) k ≡ Some (row_of (belows cs) k c)) × (slice_get cs k ≡ Some c)
+pub row_at : (cs : List (Marked Call)) (k : ℕ) → k < length cs → (c : Marked Call) × (slice_get (rows_of cs) k ≡ Some (row_of (belows cs) k c))
+    × (slice_get cs k ≡ Some c)
 row_at cs k h = let here = get_within cs k h in (here.0, row_of_call cs k here.0 here.1, here.1)
 
 -- a column of the row of a call
-column_at : {A : Type 0} (v : CallRow → A) (cs : List Call) (k : ℕ) (h : k < length cs)
-    → slice_get (map v (numbered cs)) k ≡ Some (v (row_of (belows cs) k (row_at cs k h).0))
-column_at v cs k h = slice_get-map v (numbered cs) k ∙ ap (option_map v) (row_at cs k h).1
+column_at : {A : Type 0} (v : CallRow → A) (cs : List (Marked Call)) (k : ℕ) (h : k < length cs)
+    → slice_get (map v (rows_of cs)) k ≡ Some (v (row_of (belows cs) k (row_at cs k h).0))
+column_at v cs k h = slice_get-map v (rows_of cs) k ∙ ap (option_map v) (row_at cs k h).1
 
-pub parent_at : (cs : List Call) (k : ℕ) → k < length cs → slice_get (parents_of (numbered cs)) k ≡ Some (parent_of (belows cs) k)
+pub parent_at : (cs : List (Marked Call)) (k : ℕ) → k < length cs → slice_get (parents_of (rows_of cs)) k ≡ Some (parent_of (belows cs) k)
 parent_at cs k h = column_at (λ r. r.parent) cs k h
 
-pub last_at : (cs : List Call) (k : ℕ) → k < length cs → slice_index (lasts_of (numbered cs)) k ≡ last_of (belows cs) k
-last_at cs k h = get_or_from_slice_get (lasts_of (numbered cs)) k (last_of (belows cs) k) 0 (column_at (λ r. r.last) cs k h)
+pub last_at : (cs : List (Marked Call)) (k : ℕ) → k < length cs → slice_index (lasts_of (rows_of cs)) k ≡ last_of (belows cs) k
+last_at cs k h = get_or_from_slice_get (lasts_of (rows_of cs)) k (last_of (belows cs) k) 0 (column_at (λ r. r.last) cs k h)
 
 -- the greatest number that passes is below the bound
 greatest_below : (p : ℕ → Bool) (n m : ℕ) → greatest p n ≡ Some m → m < n
@@ -71,19 +74,20 @@ greatest_below p (suc n) m e = by (λ q. greatest_below p n m q) (p n) e
     by below true q = let same : n ≡ m = cc in omega arith
     by below false q = let less = below q in omega (arith, less)
 
-parents_length : (cs : List Call) → length (parents_of (numbered cs)) ≡ length cs
-parents_length cs = length-map (numbered cs) (λ r. r.parent) ∙ numbered_length cs
+parents_length : (cs : List (Marked Call)) → length (parents_of (rows_of cs)) ≡ length cs
+parents_length cs = length-map (rows_of cs) (λ r. r.parent) ∙ rows_length cs
 
-lasts_length : (cs : List Call) → length (lasts_of (numbered cs)) ≡ length cs
-lasts_length cs = length-map (numbered cs) (λ r. r.last) ∙ numbered_length cs
+lasts_length : (cs : List (Marked Call)) → length (lasts_of (rows_of cs)) ≡ length cs
+lasts_length cs = length-map (rows_of cs) (λ r. r.last) ∙ rows_length cs
 
-belows_length : (cs : List Call) → length (belows cs) ≡ length cs
-belows_length cs = length-map cs (λ c. c.below)
+belows_length : (cs : List (Marked Call)) → length (belows cs) ≡ length cs
+belows_length cs = length-map cs (λ c. c.event.below)
 
 -- a call of which there is a parent is a call, and that is its parent
-parent_is : (cs : List Call) (above call : ℕ) → IsParent (parents_of (numbered cs)) above call → (call < length cs) × (parent_of (belows cs) call ≡ Some above)
+parent_is : (cs : List (Marked Call)) (above call : ℕ) → IsParent (parents_of (rows_of cs)) above call → (call < length cs)
+    × (parent_of (belows cs) call ≡ Some above)
 parent_is cs above call e =
-    let inside : call < length cs = let l = slice_get_within (parents_of (numbered cs)) call (Some above) e in omega (arith, l, parents_length cs) in
+    let inside : call < length cs = let l = slice_get_within (parents_of (rows_of cs)) call (Some above) e in omega (arith, l, parents_length cs) in
     (inside, inner (parent_of (belows cs) call) (sym (parent_at cs call inside) ∙ e))
   where
     inner : (o : Option ℕ) → Some o ≡ Some (Some above) → o ≡ Some above
@@ -105,8 +109,8 @@ module _ (bs : List ℕ) (tree : IsTree bs) where
   parent_within top _ h later Root = absurd (omega arith)
   parent_within top _ h later (Child call above e s) = (above, ((tree.subtree top above h).0 s).0, e)
 
-pub numbered_columns : (cs : List Call) → IsTree (belows cs) → IsNumbered (parents_of (numbered cs)) (lasts_of (numbered cs))
-numbered_columns cs tree = record {
+pub rows_numbered : (cs : List (Marked Call)) → IsTree (belows cs) → IsNumbered (parents_of (rows_of cs)) (lasts_of (rows_of cs))
+rows_numbered cs tree = record {
   same_length = parents_length cs ∙ sym (lasts_length cs);
   intervals = record { from_itself = itself; to_a_call = a_call };
   child_is_later = λ above call e. greatest_below (is_below (belows cs) call) call above (parent_is cs above call e).1;
@@ -117,17 +121,17 @@ numbered_columns cs tree = record {
     size : length (belows cs) ≡ length cs
     size = belows_length cs
 
-    itself : (call : ℕ) → call < length (lasts_of (numbered cs)) → call ≤ slice_index (lasts_of (numbered cs)) call
+    itself : (call : ℕ) → call < length (lasts_of (rows_of cs)) → call ≤ slice_index (lasts_of (rows_of cs)) call
     itself call h = let l = last_at cs call (omega (arith, lasts_length cs)) in omega (arith, l)
 
-    a_call : (call : ℕ) → call < length (lasts_of (numbered cs)) → slice_index (lasts_of (numbered cs)) call < length (lasts_of (numbered cs))
+    a_call : (call : ℕ) → call < length (lasts_of (rows_of cs)) → slice_index (lasts_of (rows_of cs)) call < length (lasts_of (rows_of cs))
     a_call call h =
         let l = last_at cs call (omega (arith, lasts_length cs)) in
         let x = tree.last call (omega (arith, lasts_length cs, size)) in
         omega (arith, l, x, lasts_length cs, size)
 
-    ends : (above call : ℕ) → IsParent (parents_of (numbered cs)) above call
-        → slice_index (lasts_of (numbered cs)) call ≤ slice_index (lasts_of (numbered cs)) above
+    ends : (above call : ℕ) → IsParent (parents_of (rows_of cs)) above call
+        → slice_index (lasts_of (rows_of cs)) call ≤ slice_index (lasts_of (rows_of cs)) above
     ends above call e =
         let is = parent_is cs above call e in
         let inside : call < length cs = is.0 in
@@ -136,13 +140,13 @@ numbered_columns cs tree = record {
         omega (arith, last_at cs call inside, last_at cs above (omega arith), x)
 
     -- only a call has a last call after it
-    top_inside : (top call : ℕ) → top < call → call ≤ slice_index (lasts_of (numbered cs)) top → (b : Bool) → leb (length cs) top ≡ b → top < length cs
+    top_inside : (top call : ℕ) → top < call → call ≤ slice_index (lasts_of (rows_of cs)) top → (b : Bool) → leb (length cs) top ≡ b → top < length cs
     top_inside top call later h true t =
-        let past = leb-true _ _ t in let none = get_or_past (lasts_of (numbered cs)) top 0 (omega (arith, lasts_length cs)) in absurd (omega (arith, none))
+        let past = leb-true _ _ t in let none = get_or_past (lasts_of (rows_of cs)) top 0 (omega (arith, lasts_length cs)) in absurd (omega (arith, none))
     top_inside top call later h false t = leb-false _ _ t
 
-    within : (top call : ℕ) → top < call → call ≤ slice_index (lasts_of (numbered cs)) top
-        → (above : ℕ) × (top ≤ above) × IsParent (parents_of (numbered cs)) above call
+    within : (top call : ℕ) → top < call → call ≤ slice_index (lasts_of (rows_of cs)) top
+        → (above : ℕ) × (top ≤ above) × IsParent (parents_of (rows_of cs)) above call
     within top call later h =
         let inside : top < length cs = top_inside top call later h (leb (length cs) top) refl in
         let l = last_at cs top inside in
@@ -158,36 +162,50 @@ no_calls : IsTree (belows [])
 no_calls = record { subtree = λ k j h. absurd (let f : k < 0 = h in omega (arith, f)); last = λ k h. absurd (let f : k < 0 = h in omega (arith, f)) }
 
 module _ (subtree : SubtreeIsInterval) (last : LastIsACall) where
-  tree_of : (p : SmallTables) (budget : ℕ) (o : Outcome) → run p budget ≡ o → IsTree (belows (calls_of o))
+  tree_of : (p : ProgramRows) (budget : ℕ) (o : Outcome) → run p [] budget ≡ o → IsTree (belows (calls_of o))
   tree_of p budget None e = no_calls
-  tree_of p budget (Some r) e = record { subtree = subtree p budget r e; last = last p budget r e }
+  tree_of p budget (Some r) e = record { subtree = subtree p [] budget r e; last = last p [] budget r e }
 
   -- the columns of the calls of a run
-  pub run_numbered : (p : SmallTables) (budget : ℕ) → IsNumbered (parents_of (calls_within p budget)) (lasts_of (calls_within p budget))
+  pub run_numbered : (p : ProgramRows) (budget : ℕ) → IsNumbered (parents_of (calls_within p budget)) (lasts_of (calls_within p budget))
   unfolding calls_within
-  run_numbered p budget = numbered_columns (calls_of (run p budget)) (tree_of p budget (run p budget) refl)
+  run_numbered p budget = rows_numbered (calls_of (run p [] budget)) (tree_of p budget (run p [] budget) refl)
 
-lasts_length' : (rows : List CallRow) → length (lasts_of rows) ≡ length rows
-lasts_length' [] = refl
-lasts_length' (r ∷ rows) = omega (arith, lasts_length' rows)
+-- ---- the calls that were recorded
 
--- a run whose column of last calls is kept is ready to be searched
-pub ready_of : (subtree : SubtreeIsInterval) (last : LastIsACall) (r : Debuggee) (p : SmallTables) (budget : ℕ) → r.lasts.items ≡ lasts_of r.calls
-    → length r.calls < 2 ^ 32 → r.calls ≡ calls_within p budget → IsReady r
-ready_of subtree last r p budget lasts few calls = record {
-  lasts = lasts;
-  few = omega (arith, ap length lasts, lasts_length' r.calls, few);
-  intervals = subst AreIntervals (sym (lasts ∙ ap lasts_of calls)) (run_numbered subtree last p budget).intervals;
-}
+told_each : (bs : List ℕ) (k : ℕ) (cs : List (Marked Call)) → map told (each_from (table.row_of bs) k cs) ≡ each_from (row_of bs) k cs
+told_each bs k [] = refl
+told_each bs k (c ∷ cs) = ap (λ (rs : List CallRow). row_of bs k c ∷ rs) (told_each bs (suc k) cs)
 
--- ---- the column of last calls, one call after another
+-- what is told of the calls that were recorded of a run
+pub told_run : (p : ProgramRows) (budget : ℕ) (calls : Recording) → calls ≡ recording_of p (run p [] budget) → map told calls.calls ≡ calls_within p budget
+unfolding calls_within
+told_run p budget calls e =
+    ap (λ (c : Recording). map told c.calls) e ∙ told_each (belows (calls_of (run p [] budget))) 0 (calls_of (run p [] budget))
 
-lasts_first : (rows : List CallRow) (n last : ℕ) → n < length rows → ((row : CallRow) → slice_get rows n ≡ Some row → last ≡ row.last)
-    → lasts_of (take (suc n) rows) ≡ lasts_of (take n rows) ++ last ∷ []
-lasts_first [] n last h f = absurd (omega (arith, h))
-lasts_first (r ∷ rows) zero last h f = ap (λ (x : ℕ). x ∷ []) (sym (f r refl))
-lasts_first (r ∷ rows) (suc n) last h f = ap (λ (xs : List ℕ). r.last ∷ xs) (lasts_first rows n last (omega (arith, h)) f)
+-- a run has a call
+some_in : EveryRunHasACall → (p : ProgramRows) (budget : ℕ) (o : Outcome) → run p [] budget ≡ o → IsSome o → 0 < length (calls_of o)
+some_in has p budget None e is = let x : ⊥ = cc in absurd x
+some_in has p budget (Some r) e is = let some = has p [] budget r e in omega (arith, belows_length r.events, some)
 
-pub lasts_more : (rows : List CallRow) (n last : ℕ) → n < length rows → ((row : CallRow) → slice_get rows n ≡ Some row → last ≡ row.last)
-    → lasts_of (take (n + 1) rows) ≡ lasts_of (take n rows) ++ last ∷ []
-lasts_more rows n last h f = ap (λ (k : ℕ). lasts_of (take k rows)) (let e : n + 1 ≡ suc n = omega arith in e) ∙ lasts_first rows n last h f
+pub some_call : EveryRunHasACall → EveryProgramRuns → (p : ProgramRows) (budget : ℕ) (calls : Recording) → calls ≡ recording_of p (run p [] budget)
+    → 0 < length calls.calls
+some_call has runs p budget calls e =
+    let cs = calls_of (run p [] budget) in
+    let some = some_in has p budget (run p [] budget) refl (runs p [] budget) in
+    omega (arith, ap (λ (c : Recording). length c.calls) e, each_length (table.row_of (belows cs)) 0 cs, some)
+
+-- the column of routines is as long as that of the last calls
+pub columns_of_routines : (rows : List CallRow) → length (routines_of rows) ≡ length (lasts_of rows)
+columns_of_routines rows = length-map rows (λ r. r.routine) ∙ sym (length-map rows (λ r. r.last))
+
+map_told : {A : Type 0} (v : CallRow → A) (cs : List recorded.Call) → map v (map told cs) ≡ map (λ c. v (told c)) cs
+map_told v [] = refl
+map_told v (c ∷ cs) = ap (λ xs. v (told c) ∷ xs) (map_told v cs)
+
+-- the columns of the calls that were recorded are those of what is told of them
+pub lasts_told : (cs : List recorded.Call) → recording.lasts_of cs ≡ lasts_of (map told cs)
+lasts_told cs = sym (map_told (λ r. r.last) cs)
+
+pub routines_told : (cs : List recorded.Call) → recording.routines_of cs ≡ routines_of (map told cs)
+routines_told cs = sym (map_told (λ r. r.routine) cs)

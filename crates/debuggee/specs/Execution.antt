@@ -1,58 +1,63 @@
 -- A run, as the texts and the search see it.
-use Rattle.std.specs.Prelude.{◌≡◌, ◌<◌, ◌^◌, ℕ, List, [], Option, Some, None, length, map, slice_get}
-use Rattle.pas_lexer.specs.declared.kinds.Token.{Token}
-use Rattle.pas_lexer.specs.Lexed.{Lexed, text_of}
-use Rattle.core_program.specs.declared.calls.CallRow.{CallRow}
-use Rattle.core_program.specs.declared.tables.SmallRoutine.{SmallRoutine}
-use Rattle.core_program.specs.SmallTables.{SmallTables}
-use Rattle.core_program.specs.Run.{run}
-use Rattle.core_program.specs.Numbering.{numbered, calls_of}
-use Rattle.plain_search.specs.Numbering.{AreIntervals}
+use Rattle.std.specs.Prelude.{◌≡◌, ℕ, ◌<◌, List, [], Option, length, map}
+use Rattle.cell_value.specs.declared.ways_out.WayOut.{WayOut}
+use Rattle.call_tree.specs.declared.records.Call as table
+use Rattle.pas_lexer.specs.Lexed.{Lexed}
+use Rattle.program_tables.specs.ProgramRows.{ProgramRows}
+use Rattle.program_meaning.specs.Run.{Call, Marked, run}
+use Rattle.program_meaning.specs.Numbering.{belows, calls_of, each_from, last_of, parent_of}
 use Rattle.debuggee.specs.declared.source.Debuggee.{Debuggee}
 use Rattle.debuggee.specs.Limits.{default_budget}
-use Rattle.small_program.specs.Small.{Small, program_of}
+
+-- a call of a run: its routine, the call that made it, the last call below it, and how it ended
+pub record CallRow : Type 0 where
+  pub routine : ℕ
+  pub parent : Option ℕ
+  pub last : ℕ
+  pub way : WayOut
 
 -- the tokens of a source, the program that they are, and the calls of its run in order of entry
 pub record Execution : Type 0 where
   pub tokens : Lexed
-  pub program : SmallTables
+  pub program : ProgramRows
   pub calls : List CallRow
 
--- the calls of the run of a program with a budget
-unfoldable pub calls_within : SmallTables → ℕ → List CallRow
-calls_within p budget = numbered (calls_of (run p budget))
+-- call k of a run, where these numbers of calls are below each call
+abbrev pub row_of : List ℕ → ℕ → Marked Call → CallRow
+row_of bs k c =
+    record { routine = c.event.routine; parent = parent_of bs k; last = last_of bs k; way = c.event.way }
 
--- the run of a small program
-abbrev pub execution_of : Lexed → Small → Execution
-execution_of t s = record { tokens = t; program = program_of s; calls = calls_within (program_of s) default_budget }
+-- the calls of a run
+abbrev pub rows_of : List (Marked Call) → List CallRow
+rows_of cs = each_from (row_of (belows cs)) 0 cs
 
--- the text of a token, and nothing where there is none
-abbrev pub text_at : List ℕ → Option Token → List ℕ
-text_at source None = []
-text_at source (Some t) = text_of source t
+-- the calls of the run of a program with no input and this budget
+unfoldable pub calls_within : ProgramRows → ℕ → List CallRow
+calls_within p budget = rows_of (calls_of (run p [] budget))
 
-abbrev pub name_by : Lexed → Option SmallRoutine → List ℕ
-name_by t None = []
-name_by t (Some r) = text_at t.source (slice_get t.tokens r.name)
+-- the run of a program
+abbrev pub execution_of : Lexed → ProgramRows → Execution
+execution_of t p = record { tokens = t; program = p; calls = calls_within p default_budget }
 
--- the name of a routine, as its heading spells it
-abbrev pub name_of : Execution → ℕ → List ℕ
-name_of h routine = name_by h.tokens (slice_get h.program.routines routine)
-
--- the last call below each call
+-- the columns of the calls
 abbrev pub lasts_of : List CallRow → List ℕ
 lasts_of rows = map (λ r. r.last) rows
 
--- the parent of each call
 abbrev pub parents_of : List CallRow → List (Option ℕ)
 parents_of rows = map (λ r. r.parent) rows
 
+abbrev pub routines_of : List CallRow → List ℕ
+routines_of rows = map (λ r. r.routine) rows
+
+-- what of a call that was recorded is told
+abbrev pub told : table.Call → CallRow
+told c = record { routine = c.routine; parent = c.parent; last = c.last; way = c.way }
+
 -- the code keeps this execution
 abbrev pub execution : Debuggee → Execution
-execution r = record { tokens = r.tokens; program = r.program; calls = r.calls }
+execution d = record { tokens = d.tokens; program = d.program; calls = map told d.history.calls.calls }
 
--- the code keeps the column of the last calls, over which the search goes
-pub record IsReady (r : Debuggee) : Type 0 where
-  pub lasts : r.lasts.items ≡ lasts_of r.calls
-  pub few : length r.lasts.items < 2 ^ 32
-  pub intervals : AreIntervals r.lasts.items
+-- there is a call, and all were left
+pub record IsReady (d : Debuggee) : Type 0 where
+  pub some : 0 < length d.history.calls.calls
+  pub all_left : d.history.calls.open_calls ≡ []

@@ -1,4 +1,3 @@
-pub mod Execution
-pub mod Rules
-pub mod Program
 pub mod Limits
+pub mod Execution
+pub mod Program

@@ -1,30 +1,34 @@
--- What a source is: a small program that breaks no rule, and its run; or why and where it is refused.
-use Rattle.std.specs.Prelude.{◌≡◌, ◌⊎◌, ℕ, List, Result, Ok, Err}
+-- What a source is: a program that can be run, and its run; or why and where it is refused.
+use Rattle.std.specs.Prelude.{◌≡◌, ◌⊎◌, ℕ, List, Option, Some, None, Result, Ok, Err}
 use Rattle.pas_lexer.specs.declared.kinds.Token.{Token}
 use Rattle.pas_lexer.specs.Lexed.{Lexed}
 use Rattle.pas_lexer.specs.declared.kinds.LexFault.TheVariants as lexis
 use Rattle.pas_lexer.specs.Division.{IsLexed, IsFault, line_at}
 use Rattle.pas_phrases.specs.declared.fault.ParseFault.TheVariants as parser
 use Rattle.pas_parser.specs.Exact.{IsExact}
-use Rattle.pas_parser.specs.Formed.{IsText}
+use Rattle.pas_tree.specs.declared.blocks.Tree.{Tree}
+use Rattle.program_tables.specs.ProgramRows.{ProgramRows}
+use Rattle.check_steps.specs.declared.breaks.CheckFault.TheVariants as fault
 use Rattle.source_checker.specs.declared.programs.ProgramFault.{ProgramFault}
 use Rattle.source_checker.specs.declared.programs.ProgramFault.TheVariants as refused
+use Rattle.source_checker.specs.Declarations.{IsTextOf}
 use Rattle.source_checker.specs.Places.{StandsAt}
-use Rattle.core_program.specs.SmallTables.{SmallTables}
+use Rattle.source_checker.specs.Programs.{IsBrokenAt, IsChecked, IsUnchecked}
+use Rattle.unbuilt.specs.Forms.{IsFirstUnbuilt}
 use Rattle.debuggee.specs.declared.refusal.Refusal.{Refusal}
 use Rattle.debuggee.specs.declared.refusal.Refusal.TheVariants as refusal
 use Rattle.debuggee.specs.declared.source.SourceFault.{SourceFault}
 use Rattle.debuggee.specs.declared.source.SourceFault.TheVariants.{Refused, Memory}
 use Rattle.debuggee.specs.declared.source.Debuggee.{Debuggee}
 use Rattle.debuggee.specs.Execution.{Execution, execution}
-use Rattle.debuggee.specs.Rules.{KeepsRules, BreaksRule, RefusesTree}
-use Rattle.small_program.specs.Small.{pieces, Small, IsSmall, BeginsNone}
 
--- the source has these tokens, which are this small program
-pub record IsProgram (source : List ℕ) (t : Lexed) (s : Small) : Type 0 where
+-- The source has these tokens, which are the text of this program; it breaks no rule, nothing in it is too big, and all
+-- of it can be run.
+pub record IsProgram (source : List ℕ) (t : Lexed) (p : ProgramRows) : Type 0 where
   pub kept : t.source ≡ source
   pub lexed : IsLexed source t.tokens
-  pub small : IsSmall (pieces t) s
+  pub checked : IsChecked t p
+  pub built : IsFirstUnbuilt t p None
 
 -- the answer keeps this execution, or memory ran out
 abbrev pub Keeps : Execution → Result Debuggee SourceFault → Type 0
@@ -32,17 +36,9 @@ Keeps h (Ok r) = execution r ≡ h
 Keeps h (Err (Refused why line byte)) = ⊥
 Keeps h (Err Memory) = Unit {0}
 
--- no small program that keeps the rules has this source
+-- no program that can be run has this source
 abbrev pub NoProgram : List ℕ → Type 0
-NoProgram source = (t : Lexed) (s : Small) → IsProgram source t s → KeepsRules t → ⊥
-
--- no small program has this source
-abbrev pub IsNoSmall : List ℕ → Type 0
-IsNoSmall source = (t : Lexed) (s : Small) → IsProgram source t s → ⊥
-
--- each small program that has this source breaks a rule
-abbrev pub EachBreaksRule : List ℕ → Type 0
-EachBreaksRule source = (t : Lexed) (s : Small) → IsProgram source t s → BreaksRule t
+NoProgram source = (t : Lexed) (p : ProgramRows) → IsProgram source t p → ⊥
 
 -- ---- why and where a source is refused
 
@@ -62,16 +58,24 @@ abbrev pub RefusesPiece : List ℕ → Refusal → (line byte : ℕ) → Type 0
 RefusesPiece source why line byte = FailsFor source why byte × (line ≡ line_at source byte)
 
 -- Tokens are refused at this one: it is the first that is too deep, or else the first with which no tree of the grammar
--- goes on; or, where they are the text of a tree that keeps the rules, no small program begins with those up to it.
+-- goes on; or, where they are the text of a program that breaks no rule, the first at which something cannot be run.
 abbrev pub RefusesAt : Lexed → Refusal → (number : ℕ) → Type 0
 RefusesAt t refusal.NotProgram number = IsExact t.tokens (Err (parser.NotProgram number))
 RefusesAt t refusal.TooDeep number = IsExact t.tokens (Err (parser.TooDeep number))
-RefusesAt t refusal.Unbuilt number = KeepsRules t × BeginsNone (pieces t) number
+RefusesAt t refusal.Unbuilt number = (p : ProgramRows) × IsChecked t p × IsFirstUnbuilt t p (Some number)
 RefusesAt t _ number = ⊥
 
 -- they are refused at a token that stands there
 abbrev pub RefusesToken : Lexed → Refusal → (line byte : ℕ) → Type 0
 RefusesToken t why line byte = (number : ℕ) × StandsAt t number line byte × RefusesAt t why number
+
+-- They are the text of a tree in which this is the first broken rule, or the first that is too big where no rule is
+-- broken; and what is broken stands at this byte, on this line.
+abbrev pub RefusesTree : Lexed → Refusal → (line byte : ℕ) → Type 0
+RefusesTree t (refusal.Rule rule) line byte =
+    (x : Tree) × IsTextOf t x × IsBrokenAt t x (fault.Rule rule) line byte
+RefusesTree t refusal.TooBig line byte = (x : Tree) × IsTextOf t x × IsBrokenAt t x fault.TooBig line byte
+RefusesTree t _ line byte = ⊥
 
 -- A source is refused at the first piece that does not fit; or, where all pieces fit, at a token: for the grammar, for
 -- a rule, or for what is not built.
@@ -81,17 +85,11 @@ Refuses source why line byte =
     ⊎ ((t : Lexed) × (t.source ≡ source) × IsLexed source t.tokens
     × (RefusesToken t why line byte ⊎ RefusesTree t why line byte))
 
--- What a refusal says of small programs: for a rule, that each with this source breaks one; else, that there is none.
-abbrev pub NoneRuns : List ℕ → Refusal → Type 0
-NoneRuns source (refusal.Rule rule) = EachBreaksRule source
-NoneRuns source refusal.TooBig = EachBreaksRule source
-NoneRuns source _ = IsNoSmall source
-
 -- ---- what the parts of the way answer
 
--- a refused source has no small program that runs, and this is why and where it is refused
+-- a refused source is no program, and this is why and where it is refused
 abbrev pub IsRefused : List ℕ → SourceFault → Type 0
-IsRefused source (Refused why line byte) = NoneRuns source why × Refuses source why line byte
+IsRefused source (Refused why line byte) = NoProgram source × Refuses source why line byte
 IsRefused source Memory = Unit {0}
 
 -- why and where a piece does not fit
@@ -113,27 +111,19 @@ fault_of_check (refused.Rule rule line byte) = Refused (refusal.Rule rule) line 
 fault_of_check (refused.TooBig line byte) = Refused refusal.TooBig line byte
 fault_of_check refused.Memory = Memory
 
--- tokens that no formed tree spells are refused at one of them, and those of a tree that breaks a rule for the first
--- that it breaks
-abbrev pub IsUnchecked : Lexed → SourceFault → Type 0
-IsUnchecked t (Refused why line byte) =
-    ((IsText t.tokens → ⊥) × RefusesToken t why line byte) ⊎ RefusesTree t why line byte
-IsUnchecked t Memory = Unit {0}
-
--- tokens that are no small program are refused at one of them
-abbrev pub IsUnread : Lexed → SourceFault → Type 0
-IsUnread t (Refused why line byte) =
-    (why ≡ refusal.Unbuilt) × (number : ℕ) × StandsAt t number line byte × BeginsNone (pieces t) number
-IsUnread t Memory = Unit {0}
-
 -- the answer is these tokens, or that memory ran out
 abbrev pub TokensAre : List Token → Result Lexed SourceFault → Type 0
 TokensAre tokens (Ok t) = t.tokens ≡ tokens
 TokensAre tokens (Err (Refused why line byte)) = ⊥
 TokensAre tokens (Err Memory) = Unit {0}
 
--- the answer is this program, or that memory ran out
-abbrev pub ProgramIs : SmallTables → Result SmallTables SourceFault → Type 0
-ProgramIs p (Ok found) = found ≡ p
-ProgramIs p (Err (Refused why line byte)) = ⊥
-ProgramIs p (Err Memory) = Unit {0}
+-- tokens that are not the text of a program that can be run: why, and where
+abbrev pub IsUnread : Lexed → SourceFault → Type 0
+IsUnread t (Refused why line byte) =
+    ((p : ProgramRows) → IsChecked t p → IsFirstUnbuilt t p None → ⊥)
+    × (RefusesToken t why line byte ⊎ RefusesTree t why line byte)
+IsUnread t Memory = Unit {0}
+
+-- the answer is the one program whose text they are
+abbrev pub IsRead : Lexed → ProgramRows → Type 0
+IsRead t p = IsChecked t p × IsFirstUnbuilt t p None × ((q : ProgramRows) → IsChecked t q → q ≡ p)

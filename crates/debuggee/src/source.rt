@@ -1,42 +1,40 @@
 //! From the bytes of a source to its run.
-ghost use Rattle.std.specs.Prelude.{◌≡◌, ◌<◌, ◌≤◌, ◌^◌, ℕ, List, Some, IfOk, IfErr, OnOk, length, slice_get};
-ghost use Rattle.core_program.specs.declared.calls.CallRow.{CallRow};
+ghost use Rattle.std.specs.Prelude.{◌≡◌, ◌<◌, ◌≤◌, ℕ, List, IfOk, IfErr, OnOk, length};
 ghost use Rattle.pas_lexer.specs.declared.kinds.Token.{Token};
 ghost use Rattle.pas_lexer.specs.Limits.{source_bytes};
 ghost use Rattle.pas_lexer.specs.Lexed.{Lexed, EndsOnce};
 ghost use Rattle.pas_lexer.specs.Division.{line_at, IsLexed, IsFault};
-ghost use Rattle.debuggee.specs.declared.source.SourceFault.TheVariants.{Refused, Memory};
-ghost use Rattle.small_program.specs.Small.{Small, IsSmall, pieces, program_of};
+ghost use Rattle.program_tables.specs.ProgramRows.{ProgramRows};
 ghost use Rattle.source_checker.specs.Places.{StandsAt};
-ghost use Rattle.debuggee.specs.Program.{IsProgram, Keeps, IsRefused, IsMisfit, IsUnlexed, IsUnchecked, IsUnread};
-ghost use Rattle.debuggee.specs.Program.{fault_of_check, TokensAre, ProgramIs};
-ghost use Rattle.debuggee.specs.Rules.{KeepsRules, BreaksNoRule};
-ghost use Rattle.debuggee.specs.Execution.{execution, execution_of, calls_within, lasts_of, IsReady};
+ghost use Rattle.debuggee.specs.declared.source.SourceFault.TheVariants.{Refused, Memory};
+ghost use Rattle.debuggee.specs.Program.{IsProgram, Keeps, IsRefused, IsMisfit, IsUnlexed, IsUnread, IsRead};
+ghost use Rattle.debuggee.specs.Program.{fault_of_check, TokensAre};
+ghost use Rattle.debuggee.specs.Execution.{calls_within, execution, execution_of, IsReady};
 ghost use Rattle.debuggee.specs.Limits.{default_budget};
 
 use crate::refusal::Refusal;
-use core_program::{Calls, SmallProgram, numbers_tell_the_tree, run_calls};
 use pas_lexer::{LexFault, Tokens, lex, line_at};
-use small_program::{SmallFault, parse_small};
-use small_text::small_programs_are_texts;
+use program_meaning::{every_program_runs, every_run_has_a_call};
+use program_run::{History, run};
+use program_tables::Program;
+use same_programs::one_text_one_program;
 use source_checker::{ProgramFault, check_tokens, place_of};
 use std::alloc::{AllocError, Global};
 use thiserror::Error;
+use unbuilt::unbuilt;
 
 /// The steps that a run may take.
 pub const BUDGET: u32 = 1_000_000;
 
-/// A source that was run: its tokens, the program that they are, and the calls of its run.
+/// A source that was run: its tokens, the program that they are, and its run.
 #[derive(Drop)]
 pub struct Debuggee {
     /// The tokens of the source, with its bytes.
     pub tokens: Tokens,
     /// The program that they are.
-    pub program: SmallProgram,
-    /// The calls of its run, in order of entry; call 0 is the program.
-    pub calls: Calls,
-    /// For each call the number of the last call in its subtree.
-    pub lasts: Vec<u32>,
+    pub program: Program,
+    /// What its run left: the calls, in order of entry; call 0 is the program.
+    pub history: History,
 }
 
 /// Why a source opens no session.
@@ -129,101 +127,56 @@ fn fault_of_check(fault: ProgramFault) -> SourceFault
     SourceFault::Refused { why, line, byte }
 }
 
-/// Parses the tokens and checks the static rules. The tables that come of it are dropped: nothing runs them yet.
-#[tactic(auto, using(crate::proofs::SourceIsRun::told_unchecked))]
-fn check_rules(alloc: Global, tokens: &Tokens) -> Result<(), SourceFault>
-    ensures kept { OnOk result (KeepsRules tokens.now) }
-    ensures refused { IfErr result (IsUnchecked tokens.now) }
+/// The program that the tokens are the text of, which can be run.
+fn read_program(alloc: Global, tokens: &Tokens) -> Result<Program, SourceFault>
+    ensures found { IfOk result (IsRead tokens.now) }
+    ensures refused { IfErr result (IsUnread tokens.now) }
 {
+    one_text_one_program();
     match check_tokens(alloc, tokens) {
-        Ok(program) => {
-            drop(program);
-            Ok(())
-        }
+        Ok(program) => match unbuilt(tokens, &program) {
+            None => Ok(program),
+            Some(token) => Err(refused_token(tokens, Refusal::Unbuilt, token)),
+        },
         Err(fault) => Err(fault_of_check(fault)),
     }
 }
 
-/// The program that the tokens are.
-fn read_program(alloc: Global, tokens: &Tokens) -> Result<SmallProgram, SourceFault>
-    ensures found { IfOk result (λ p. (s : Small) × IsSmall (pieces tokens.now) s × (p ≡ program_of s)) }
-    ensures only { (s : Small) → IsSmall (pieces tokens.now) s → ProgramIs (program_of s) result }
-    ensures refused { IfErr result (IsUnread tokens.now) }
-{
-    match parse_small(alloc, tokens) {
-        Ok(program) => Ok(program),
-        Err(SmallFault::Unbuilt(token)) => Err(refused_token(tokens, Refusal::Unbuilt, token)),
-        Err(SmallFault::Memory) => Err(SourceFault::Memory),
-    }
-}
-
-/// The calls of the run of a program with this budget.
-#[tactic(auto, unfolding(crate::specs::Execution::calls_within))]
-fn find_calls(alloc: Global, program: &SmallProgram, budget: u32) -> Result<Calls, AllocError>
-    ensures { IfOk result (λ calls. calls ≡ calls_within program.now budget) }
-{
-    run_calls(alloc, program, budget)
-}
-
-/// The last call below the call of this number.
-fn last_call(calls: &Calls, number: u32) -> u32
-    ensures { (row : CallRow) → slice_get calls.now number ≡ Some row → result ≡ row.last }
-{
-    match calls.get(number) {
-        Some(call) => call.last,
-        None => number,
-    }
-}
-
-/// The last call below each call.
-fn last_calls(alloc: Global, calls: &Calls) -> Result<Vec<u32>, AllocError>
-    ensures lasts { IfOk result (λ v. v.items ≡ lasts_of calls.now) }
-    ensures few { length calls.now < 2 ^ 32 }
-{
-    let mut lasts = Vec::new(alloc);
-    let count = calls.count();
-    'calls: for number in 0..count {
-        lasts.push(last_call(calls, number))?;
-    }
-    Ok(lasts)
-}
-
-/// The run of a program, whose tokens these are.
-fn run_tokens(alloc: Global, tokens: Tokens, program: SmallProgram) -> Result<Debuggee, AllocError>
+/// The run of a program, whose tokens these are. It gets no input. Tables without a routine are no program of a source;
+/// they count as out of memory.
+fn run_tokens(alloc: Global, tokens: Tokens, program: Program) -> Result<Debuggee, AllocError>
     ensures kept { IfOk result (λ debuggee. execution debuggee
         ≡ record { tokens = tokens; program = program; calls = calls_within program default_budget }) }
     ensures ready { IfOk result IsReady }
 {
-    numbers_tell_the_tree();
-    let calls = find_calls(alloc, &program, BUDGET)?;
-    let lasts = last_calls(alloc, &calls)?;
+    every_program_runs();
+    every_run_has_a_call();
+    if program.routines() == 0 {
+        return Err(AllocError);
+    }
+    let history = run(alloc, &program, b"", BUDGET)?;
     Ok(Debuggee {
         tokens,
         program,
-        calls,
-        lasts,
+        history,
     })
 }
 
 /// The run of a source. It takes memory. A source is refused that is no program of the language, that breaks a static
-/// rule, or that cannot be run yet.
+/// rule, in which something is too big, or that cannot be run yet.
 pub fn run_source(alloc: Global, source: &[u8]) -> Result<Debuggee, SourceFault>
     requires { length source.now ≤ source_bytes }
-    // Each program that the source is and that breaks no rule has this run.
-    ensures only { (t : Lexed) (s : Small) → IsProgram source.now t s → BreaksNoRule t
-        → Keeps (execution_of t s) result }
-    // A refused source is no program, or it breaks a rule; and it is told why and where: at the first piece that does
-    // not fit, at a token with which no tree of the grammar goes on, at the first broken rule, or at a token with which
-    // no small program goes on.
+    // Each program that the source is has this run.
+    ensures only { (t : Lexed) (p : ProgramRows) → IsProgram source.now t p → Keeps (execution_of t p) result }
+    // A refused source is no program; and it is told why and where: at the first piece that does not fit, at a token
+    // with which no tree of the grammar goes on, at the first broken rule, or at the first token that cannot be run.
     ensures refused { IfErr result (IsRefused source.now) }
-    // A source that is no program that keeps the rules is refused, unless memory runs out.
-    ensures found { IfOk result (λ debuggee. (t : Lexed) × (s : Small) × IsProgram source.now t s × KeepsRules t
-        × (execution debuggee ≡ execution_of t s)) }
+    // A source that is no program is refused, unless memory runs out.
+    ensures found { IfOk result (λ debuggee. (t : Lexed) × (p : ProgramRows) × IsProgram source.now t p
+        × (execution debuggee ≡ execution_of t p)) }
     ensures ready { IfOk result IsReady }
 {
-    small_programs_are_texts();
     let tokens = read_tokens(alloc, source)?;
-    check_rules(alloc, &tokens)?;
     let program = read_program(alloc, &tokens)?;
     let debuggee = run_tokens(alloc, tokens, program)?;
     Ok(debuggee)

@@ -42,7 +42,7 @@ use Rattle.cell_value.specs.Effects.{is_shared, heap_start, heap_end}
 use Rattle.program_tables.specs.declared.program.Routine.{Routine}
 use Rattle.program_tables.specs.ProgramRows.{ProgramRows, routine_at}
 use Rattle.program_meaning.specs.State.{State, IsSound, stack_end}
-use Rattle.program_meaning.specs.Acts.{Trouble, Fault, OutOfSteps, Limited, Act, Answer, Done, perform, spent}
+use Rattle.program_meaning.specs.Acts.{Trouble, Fault, OutOfSteps, Limited, Act, Answer, perform, spent}
 use Rattle.program_meaning.specs.Tree.{Out, Part, Tree, Ret, Halt, Do, Sub, Enter, Line, way_of}
 use Rattle.program_meaning.specs.Layer.{layer}
 use Rattle.program_meaning.specs.Run.{

@@ -44,3 +44,4 @@ mod CodePlaces
 mod CodeBlocks
 mod CodePrograms
 mod Programs
+mod Refusals

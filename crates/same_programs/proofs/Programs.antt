@@ -1,16 +1,18 @@
 -- Trees that are the same break the same rules and denote the same program.
 use Rattle.std.proofs.Common.{◌≡◌, [], ap, sym, subst, ◌∙◌, refl, arith}
+use Rattle.pas_lexer.proofs.OneDivision.{same_tokens}
 use Rattle.pas_tree.specs.declared.blocks.Tree.{Tree}
 use Rattle.pas_tree.specs.SameTrees.{SameTree}
 use Rattle.pas_tree.proofs.TreesTold.{text_told}
 use Rattle.check_steps.specs.Words.{start}
-use Rattle.decl_checker.specs.Programs.{program_step}
+use Rattle.decl_checker.specs.Programs.{program_step, tables_of}
 use Rattle.code_checker.specs.Programs.{check_step}
 use Rattle.check_steps.specs.declared.breaks.Break.{Break}
 use Rattle.check_steps.specs.Breaks.{IsFirst}
 use Rattle.pas_tree.specs.Blocks.{tree_node}
 use Rattle.source_checker.specs.declared.programs.ProgramFault.TheVariants as refused
-use Rattle.same_programs.specs.Laws.{AtMostOneProgram, MemorySaysNothing, NeverBoth, OneTextOneProgram}
+use Rattle.source_checker.specs.Declarations.{IsTextOf}
+use Rattle.same_programs.specs.Laws.{AtMostOneProgram, DeclaredOnce, MemorySaysNothing, NeverBoth, OneTextOneProgram}
 use Rattle.same_programs.proofs.SameTrees.{same_tree}
 use Rattle.same_programs.proofs.DeclarePrograms.{program_step-bare}
 use Rattle.same_programs.proofs.CodePrograms.{check_step-bare}
@@ -47,3 +49,11 @@ never_both t p (refused.Rule rule line byte) (x, a, b) (y, c, (token, fault, at)
 never_both t p (refused.TooBig line byte) (x, a, b) (y, c, (token, fault, at)) =
     absurd (none_first fault.0 (subst (λ bs. IsFirst bs fault.0) ((one_text t y x c a).broken ∙ b.0) fault.1))
 never_both t p refused.Memory h g = refl
+
+pub declared_once : DeclaredOnce
+declared_once source j k (t, x, has, text, is) (u, y, has', text', is') =
+    let e : t ≡ u = λ i. record {
+      tokens = same_tokens source t.tokens u.tokens has.lexed has'.lexed i;
+      source = (has.kept ∙ sym has'.kept) i;
+    } in
+    is.1 ∙ ap (λ v. tables_of v x) e ∙ (one_text u x y (subst (λ v. IsTextOf v x) e text) text').tables ∙ sym is'.1

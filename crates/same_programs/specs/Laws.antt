@@ -1,14 +1,15 @@
 -- What the trees of one text have in common.
-use Rattle.std.specs.Prelude.{◌≡◌}
+use Rattle.std.specs.Prelude.{◌≡◌, ◌≢◌, ℕ, List}
 use Rattle.pas_lexer.specs.Lexed.{Lexed}
 use Rattle.pas_tree.specs.declared.blocks.Tree.{Tree}
 use Rattle.pas_tree.specs.SameTrees.{SameTree}
 use Rattle.program_tables.specs.ProgramRows.{ProgramRows}
+use Rattle.check_steps.specs.Known.{Known}
 use Rattle.decl_checker.specs.Programs as declarations
 use Rattle.code_checker.specs.Programs as program
 use Rattle.source_checker.specs.declared.programs.ProgramFault.{ProgramFault}
 use Rattle.source_checker.specs.declared.programs.ProgramFault.TheVariants.{Memory}
-use Rattle.source_checker.specs.Declarations.{IsTextOf}
+use Rattle.source_checker.specs.Declarations.{IsDeclared, IsTextOf}
 use Rattle.source_checker.specs.Programs.{IsChecked, IsUnchecked}
 
 -- Over these tokens two trees break the same rules and denote the same program, and so do their declarations alone.
@@ -33,3 +34,12 @@ AtMostOneProgram = (t : Lexed) (p q : ProgramRows) → IsChecked t p → IsCheck
 -- Tokens that are the text of a program are refused for want of memory alone.
 abbrev pub NeverBoth : Type 0
 NeverBoth = (t : Lexed) (p : ProgramRows) (f : ProgramFault) → IsChecked t p → IsUnchecked t f → f ≡ Memory
+
+-- A source has at most one set of tables.
+abbrev pub DeclaredOnce : Type 0
+DeclaredOnce = (source : List ℕ) (j k : Known) → IsDeclared source j → IsDeclared source k → j ≡ k
+
+-- Tokens are refused for one reason, at one place, unless memory runs out.
+abbrev pub RefusedOnce : Type 0
+RefusedOnce =
+    (t : Lexed) (e f : ProgramFault) → IsUnchecked t e → IsUnchecked t f → e ≢ Memory → f ≢ Memory → e ≡ f

@@ -9,8 +9,6 @@ mod lanes;
 #[cfg(test)]
 mod queries;
 #[cfg(test)]
-mod search;
-#[cfg(test)]
 mod trees;
 #[cfg(test)]
 mod weights;

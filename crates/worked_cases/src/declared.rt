@@ -14,7 +14,7 @@ use std::rt::Files;
 use std::str;
 
 /// The greatest length of a source, in bytes.
-const SOURCE_BYTES: usize = 1_048_576;
+pub(crate) const SOURCE_BYTES: usize = 1_048_576;
 
 /// `taken`, or what is wrong first.
 pub(crate) fn what_it_comes_to(alloc: Global, source: &[u8]) -> Result<String> {

@@ -1,7 +1,7 @@
 //! Runs worked cases. A case is what is given to the command, and what has to come of it, and is held in files of
 //! a folder. The file `index` names the files of cases, each after the word for its kind: `command`, `sources`,
-//! `rules`, `declarations` or `tables`. The program prints a line for each case and each difference in full, and fails
-//! where there is one.
+//! `rules`, `runs`, `declarations` or `tables`. The program prints a line for each case and each difference in full,
+//! and fails where there is one.
 //!
 //! Its one argument is the folder, `.` where there is none.
 #![tactic(auto)]
@@ -88,6 +88,7 @@ fn try_file<R: Files + AllocGlobal + Print>(
         "command" => return try_cases(rt, folder, name, tally),
         "sources" => try_sources(rt, folder, name, Judge::Grammar)?,
         "rules" => try_sources(rt, folder, name, Judge::Rules)?,
+        "runs" => try_sources(rt, folder, name, Judge::Runs)?,
         "declarations" => try_sources(rt, folder, name, Judge::Declarations)?,
         "tables" => try_tables(rt, folder, name)?,
         _ => bail!("the index: {kind} {name}"),

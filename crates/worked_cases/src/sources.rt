@@ -2,10 +2,12 @@
 
 use crate::case::{Case, File, Wanted};
 use crate::comparing::differences;
-use crate::declared::what_it_comes_to;
+use crate::declared::{SOURCE_BYTES, what_it_comes_to};
 use crate::escapes::unescaped;
 use crate::folder::Folder;
 use anyhow::{Context, Result, bail, ensure};
+use pas_lexer::lex;
+use source_checker::{ProgramFault, check_tokens};
 use std::alloc::Global;
 use std::rt::Files;
 use std::str;
@@ -15,7 +17,7 @@ const REFUSED: u8 = 3;
 
 /// Why a source is refused that is not the text of a program, and then why one is that breaks a static rule or is too
 /// big.
-const REASONS: [&str; 11] = [
+const REASONS: [&str; 12] = [
     "BadByte",
     "OpenComment",
     "OpenString",
@@ -27,10 +29,8 @@ const REASONS: [&str; 11] = [
     "TooDeep",
     "Rule",
     "TooBig",
+    "Unbuilt",
 ];
-
-/// How many of these reasons come before the static rules.
-const BEFORE_THE_RULES: usize = 9;
 
 /// Who says whether a source is taken.
 #[derive(Clone, Copy)]
@@ -39,6 +39,8 @@ pub(crate) enum Judge {
     Grammar,
     /// The command, with the static rules.
     Rules,
+    /// The command, with what can be run.
+    Runs,
     /// The check of its declarations alone.
     Declarations,
 }
@@ -144,10 +146,45 @@ fn read_row(alloc: Global, text: &str) -> Result<Row> {
 /// What differs, in full: nothing where the source comes to what the row says.
 fn difference(alloc: Global, judge: Judge, row: Row) -> Result<Vec<u8>> {
     match judge {
-        Judge::Grammar => differences(alloc, &command_case(alloc, row, BEFORE_THE_RULES)?),
-        Judge::Rules => differences(alloc, &command_case(alloc, row, REASONS.len())?),
+        Judge::Grammar if row.why.as_str() == "taken" => taken_difference(alloc, &row, false),
+        Judge::Rules if row.why.as_str() == "taken" => taken_difference(alloc, &row, true),
+        Judge::Grammar | Judge::Rules | Judge::Runs => differences(
+            alloc,
+            &command_case(alloc, row)?,
+        ),
         Judge::Declarations => declared_difference(alloc, &row),
     }
+}
+
+/// What the whole check says of a source: `taken`, or why it is refused.
+fn checked(alloc: Global, source: &[u8]) -> Result<&'static str> {
+    ensure!(source.len() <= SOURCE_BYTES, "the source is too long");
+    let Ok(tokens) = lex(alloc, source) else {
+        return Ok("a piece does not fit");
+    };
+    match check_tokens(alloc, &tokens) {
+        Ok(_) => Ok("taken"),
+        Err(ProgramFault::NotProgram { .. }) => Ok("NotProgram"),
+        Err(ProgramFault::TooDeep { .. }) => Ok("TooDeep"),
+        Err(ProgramFault::Rule { .. }) => Ok("Rule"),
+        Err(ProgramFault::TooBig { .. }) => Ok("TooBig"),
+        Err(ProgramFault::Memory) => bail!("out of memory"),
+    }
+}
+
+/// What differs, in full: nothing where the source is taken, by the grammar alone or by the static rules too. It is not
+/// run, since many sources of rules run for long.
+fn taken_difference(alloc: Global, row: &Row, rules: bool) -> Result<Vec<u8>> {
+    let got = checked(alloc, &row.source)?;
+    let taken = match got {
+        "taken" => true,
+        "Rule" | "TooBig" => !rules,
+        _ => false,
+    };
+    if taken {
+        return Ok(Vec::new(alloc));
+    }
+    Ok(format!(in alloc; "  it is to be taken\n  it is refused: {got}\n")?.into_bytes())
 }
 
 /// What differs, in full: nothing where the declarations of the source come to what the row says.
@@ -166,11 +203,11 @@ fn declared_difference(alloc: Global, row: &Row) -> Result<Vec<u8>> {
 }
 
 /// The run of the command on the source of a row, on a console without lines. A source that is taken is refused for
-/// none of the first so many reasons.
-fn command_case(alloc: Global, row: Row, reasons: usize) -> Result<Case> {
+/// none of the reasons.
+fn command_case(alloc: Global, row: Row) -> Result<Case> {
     let mut case = Case::new(alloc, "")?;
     if row.why.as_str() == "taken" {
-        for why in REASONS.iter().take(reasons) {
+        for why in &REASONS {
             let beginning = format!(in alloc; "refused: {why}")?.into_bytes();
             case.wanted.push(Wanted::OtherBeginning(beginning))?;
         }

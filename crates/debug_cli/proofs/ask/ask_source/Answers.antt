@@ -10,8 +10,8 @@ returns-in-Ok-clause-goes g c =
     let given' = g.O.Sink.given c.hold_session.new.screen in
     let found = c.in-Ok.ensures.found in
     let talk = c.hold_session.ensures.goes in
-    let gave = subst (λ (h : Execution). GaveBy c.hold_session.result given given' (said h (lines_in talk.0))) found.4 talk.2 in
-    inl (found.0, found.1, talk.0, c.hold_session.result, found.2, found.3, talk.1, c.status_of.ensures, gave, talk.3)
+    let gave = subst (λ (h : Execution). GaveBy c.hold_session.result given given' (said h (lines_in talk.0))) found.3 talk.2 in
+    inl (found.0, found.1, talk.0, c.hold_session.result, found.2, talk.1, c.status_of.ensures, gave, talk.3)
 
 pub returns-in-Err-Refused-clause-goes : goal.returns-in-Err-Refused-clause-goes
 returns-in-Err-Refused-clause-goes g c =

@@ -9,13 +9,14 @@ pub lines-preserved : goal.lines-preserved
 lines-preserved g c =
     let left = g.I.Source.left in
     let given = g.O.Sink.given in
-    let old : Stage = record { progress = record { entries = c.lines.entries.items; lines = c.lines.lines }; given = given c.lines.screen } in
-    let new : Stage = record { progress = record { entries = c.turn.new.entries.items; lines = c.turn.new.lines }; given = given c.turn.new.screen } in
+    let old : Stage = record { progress = record { entries = c.lines.debug.book.entries; lines = c.lines.lines }; given = given c.lines.screen } in
+    let new : Stage = record { progress = record { entries = c.turn.new.debug.book.entries; lines = c.turn.new.lines }; given = given c.turn.new.screen } in
     record {
       answered = answered_more (execution c.args.debuggee.now) (given c.args.screen.now) old new tt c.lines.invariant.answered c.in-Ok.ensures.turned;
       moved = moves_more c.lines.invariant.moved c.turn.ensures.moved;
       at_end = c.turn.ensures.at_end c.lines.invariant.at_end;
       console_faults = c.in-Ok.ensures.console_faults ∙ c.lines.invariant.console_faults;
+      search = c.turn.ensures.search;
       screen_faults = c.in-Ok.ensures.screen_faults ∙ c.lines.invariant.screen_faults;
     }
 
@@ -23,8 +24,8 @@ pub returns-in-Err-clause-goes : goal.returns-in-Err-clause-goes
 returns-in-Err-clause-goes g c =
     let left = g.I.Source.left in
     let given = g.O.Sink.given in
-    let old : Stage = record { progress = record { entries = c.lines.entries.items; lines = c.lines.lines }; given = given c.lines.screen } in
-    let new : Stage = record { progress = record { entries = c.turn.new.entries.items; lines = c.turn.new.lines }; given = given c.turn.new.screen } in
+    let old : Stage = record { progress = record { entries = c.lines.debug.book.entries; lines = c.lines.lines }; given = given c.lines.screen } in
+    let new : Stage = record { progress = record { entries = c.turn.new.debug.book.entries; lines = c.turn.new.lines }; given = given c.turn.new.screen } in
     let ends = talk_ends (execution c.args.debuggee.now) (given c.args.screen.now) old new c.lines.invariant.answered c.turn.ensures.consistent
     c.in-Err.ending c.in-Err.ensures.turned in
     let moved = moves_more c.lines.invariant.moved c.turn.ensures.moved in (

@@ -3,6 +3,7 @@ use Rattle.std.specs.Io.KnownBytes.{IsAtEnd}
 use Rattle.edge_ports.specs.Lines.{Moves}
 use Rattle.edge_ports.specs.Limits.{console_bytes}
 use Rattle.debuggee.specs.Execution.{execution}
+use Rattle.debug_cli.specs.Searches.{IsSearch}
 use Rattle.debug_cli.specs.Turned.{Answered}
 use Rattle.debug_cli.proofs.dialog.converse.Given as goal
 
@@ -12,10 +13,11 @@ invariant-lines g l =
     let given = g.O.Sink.given in
     record {
       answered : Answered (execution l.debuggee) (given l.fn.screen)
-          (record { progress = record { entries = l.entries.items; lines = l.lines }; given = given l.screen });
+          (record { progress = record { entries = l.debug.book.entries; lines = l.lines }; given = given l.screen });
       moved : Moves l.fn.lines.taken l.lines.taken (left l.fn.console) (left l.console);
       at_end : IsTrue l.lines.ended → IsAtEnd (left l.console);
       console_faults : g.I.Source.faults l.console ≡ g.I.Source.faults l.fn.console;
+      search : IsSearch l.debuggee l.debug;
       screen_faults : g.O.Sink.faults l.screen ≡ g.O.Sink.faults l.fn.screen;
     }
 

@@ -1,8 +1,8 @@
-use Rattle.std.proofs.Common.{refl}
+use Rattle.std.proofs.Common.{subst, sym}
+use Rattle.debuggee.specs.Program.{IsUnread}
+use Rattle.debuggee.proofs.SourceIsRun.{told_unchecked}
 use Rattle.debuggee.proofs.source.read_program.Goals as goal
 
-pub returns-in-Err-Unbuilt-clause-refused : goal.returns-in-Err-Unbuilt-clause-refused
-returns-in-Err-Unbuilt-clause-refused c =
-    let refused = (rw c.in-Err-Unbuilt.field-0-is at c.in-Err-Unbuilt.ensures.refused) c.refused_token.ensures.ended in
-    let place = c.refused_token.ensures.place refused.0 in
-    rw place.2 (refl, c.in-Err-Unbuilt.token, place.3, refused.1)
+pub returns-in-Err-clause-refused : goal.returns-in-Err-clause-refused
+returns-in-Err-clause-refused c = subst (IsUnread c.args.tokens.now) (sym c.fault_of_check.ensures)
+    (told_unchecked c.one_text_one_program.ensures.text c.args.tokens.now c.in-Err.fault c.in-Err.ensures.refused)

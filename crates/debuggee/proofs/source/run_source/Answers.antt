@@ -1,57 +1,40 @@
 use Rattle.std.proofs.lemmas.Result.{err_from_is_err_and}
 use Rattle.debuggee.specs.Execution.{execution}
-use Rattle.debuggee.proofs.SourceIsRun.{no_tokens_only, no_tokens_refused, IsDivided, no_program_only, no_program_refused}
-use Rattle.debuggee.proofs.SourceIsRun.{unchecked_only, unchecked_refused, run_only, run_found}
+use Rattle.debuggee.proofs.SourceIsRun.{no_tokens_only, no_tokens_refused, IsDivided, unread_only, unread_refused, run_only, run_found}
 use Rattle.debuggee.proofs.source.run_source.Goals as goal
 
 pub returns-in_err-tokens-clause-only : goal.returns-in_err-tokens-clause-only
-returns-in_err-tokens-clause-only c = λ t s r none.
-    let p = err_from_is_err_and c.from_residual.result c.from_residual.ensures.1 in
-    rw (p.1, p.2) (no_tokens_only c.args.source.now c.in_err-tokens.field-0.0 c.in_err-tokens.ensures.only t s r none)
+returns-in_err-tokens-clause-only c = λ t p is.
+    let e = err_from_is_err_and c.from_residual.result c.from_residual.ensures.1 in
+    rw (e.1, e.2) (no_tokens_only c.args.source.now c.in_err-tokens.field-0.0 c.in_err-tokens.ensures.only t p is)
 
 pub returns-in_err-tokens-clause-refused : goal.returns-in_err-tokens-clause-refused
 returns-in_err-tokens-clause-refused c =
-    let p = err_from_is_err_and c.from_residual.result c.from_residual.ensures.1 in
-    rw (p.1, p.2) (no_tokens_refused c.args.source.now c.in_err-tokens.field-0.0 c.in_err-tokens.ensures.fault)
-
-pub returns-in_err-check_rules-clause-only : goal.returns-in_err-check_rules-clause-only
-returns-in_err-check_rules-clause-only c = λ t s r none.
-    let p = err_from_is_err_and c.from_residual-in_err-check_rules.result c.from_residual-in_err-check_rules.ensures.1 in
-    let the : IsDivided c.args.source.now c.in_ok-tokens.tokens =
-    record { kept = c.in_ok-tokens.ensures.found.0; lexed = c.in_ok-tokens.ensures.found.1; only = c.in_ok-tokens.ensures.only } in
-    rw (p.1, p.2) (unchecked_only the c.small_programs_are_texts.ensures c.in_err-check_rules.field-0.0 c.in_err-check_rules.ensures.refused t s r none)
-
-pub returns-in_err-check_rules-clause-refused : goal.returns-in_err-check_rules-clause-refused
-returns-in_err-check_rules-clause-refused c =
-    let p = err_from_is_err_and c.from_residual-in_err-check_rules.result c.from_residual-in_err-check_rules.ensures.1 in
-    let the : IsDivided c.args.source.now c.in_ok-tokens.tokens =
-    record { kept = c.in_ok-tokens.ensures.found.0; lexed = c.in_ok-tokens.ensures.found.1; only = c.in_ok-tokens.ensures.only } in
-    rw (p.1, p.2) (unchecked_refused the c.small_programs_are_texts.ensures c.in_err-check_rules.field-0.0 c.in_err-check_rules.ensures.refused)
+    let e = err_from_is_err_and c.from_residual.result c.from_residual.ensures.1 in
+    rw (e.1, e.2) (no_tokens_refused c.args.source.now c.in_err-tokens.field-0.0 c.in_err-tokens.ensures.fault)
 
 pub returns-in_err-program-clause-only : goal.returns-in_err-program-clause-only
-returns-in_err-program-clause-only c = λ t s r none.
-    let p = err_from_is_err_and c.from_residual-in_err-program.result c.from_residual-in_err-program.ensures.1 in
+returns-in_err-program-clause-only c = λ t p is.
+    let e = err_from_is_err_and c.from_residual-in_err-program.result c.from_residual-in_err-program.ensures.1 in
     let the : IsDivided c.args.source.now c.in_ok-tokens.tokens =
     record { kept = c.in_ok-tokens.ensures.found.0; lexed = c.in_ok-tokens.ensures.found.1; only = c.in_ok-tokens.ensures.only } in
-    rw (p.1, p.2) (no_program_only the c.in_err-program.field-0.0 c.in_err-program.ensures.only t s r none)
+    rw (e.1, e.2) (unread_only the c.in_err-program.field-0.0 c.in_err-program.ensures.refused t p is)
 
 pub returns-in_err-program-clause-refused : goal.returns-in_err-program-clause-refused
 returns-in_err-program-clause-refused c =
-    let p = err_from_is_err_and c.from_residual-in_err-program.result c.from_residual-in_err-program.ensures.1 in
+    let e = err_from_is_err_and c.from_residual-in_err-program.result c.from_residual-in_err-program.ensures.1 in
     let the : IsDivided c.args.source.now c.in_ok-tokens.tokens =
     record { kept = c.in_ok-tokens.ensures.found.0; lexed = c.in_ok-tokens.ensures.found.1; only = c.in_ok-tokens.ensures.only } in
-    rw (p.1, p.2) (no_program_refused the c.in_err-program.field-0.0 c.in_err-program.ensures.only
-    c.in_ok-check_rules.ensures.kept c.in_err-program.ensures.refused)
+    rw (e.1, e.2) (unread_refused the c.in_err-program.field-0.0 c.in_err-program.ensures.refused)
 
 pub returns-clause-only : goal.returns-clause-only
 returns-clause-only c =
     let the : IsDivided c.args.source.now c.in_ok-tokens.tokens =
     record { kept = c.in_ok-tokens.ensures.found.0; lexed = c.in_ok-tokens.ensures.found.1; only = c.in_ok-tokens.ensures.only } in
-    run_only the c.in_ok-program.program (execution c.in_ok-debuggee.debuggee) c.in_ok-program.ensures.only c.in_ok-debuggee.ensures.kept
+    run_only the c.in_ok-program.program (execution c.in_ok-debuggee.debuggee) c.in_ok-program.ensures.found c.in_ok-debuggee.ensures.kept
 
 pub returns-clause-found : goal.returns-clause-found
 returns-clause-found c =
     let the : IsDivided c.args.source.now c.in_ok-tokens.tokens =
     record { kept = c.in_ok-tokens.ensures.found.0; lexed = c.in_ok-tokens.ensures.found.1; only = c.in_ok-tokens.ensures.only } in
-    run_found the c.in_ok-program.program (execution c.in_ok-debuggee.debuggee) c.in_ok-program.ensures.found c.in_ok-check_rules.ensures.kept
-    c.in_ok-debuggee.ensures.kept
+    run_found the c.in_ok-program.program (execution c.in_ok-debuggee.debuggee) c.in_ok-program.ensures.found c.in_ok-debuggee.ensures.kept

@@ -1,8 +1,19 @@
+use Rattle.std.proofs.Common.{ap}
+use Rattle.call_tree.specs.Recording.{Recording}
 use Rattle.debuggee.specs.Limits.{default_budget}
-use Rattle.debuggee.proofs.CallsAreNumbered.{ready_of}
+use Rattle.debuggee.proofs.CallsAreNumbered.{some_call, told_run}
 use Rattle.debuggee.proofs.source.run_tokens.Goals as goal
 
+pub returns-clause-kept : goal.returns-clause-kept
+returns-clause-kept c = λ i. record {
+  tokens = c.args.tokens;
+  program = c.args.program;
+  calls = told_run c.args.program default_budget c.in_ok-history.history.calls c.in_ok-history.ensures.calls i;
+}
+
 pub returns-clause-ready : goal.returns-clause-ready
-returns-clause-ready c =
-    ready_of c.numbers_tell_the_tree.ensures.subtree c.numbers_tell_the_tree.ensures.last _ c.args.program default_budget c.in_ok-lasts.ensures.lasts
-    c.in_ok-lasts.ensures.few c.in_ok-calls.ensures
+returns-clause-ready c = record {
+  some = some_call c.every_run_has_a_call.ensures c.every_program_runs.ensures c.args.program default_budget c.in_ok-history.history.calls
+      c.in_ok-history.ensures.calls;
+  all_left = ap (λ (r : Recording). r.open_calls) c.in_ok-history.ensures.calls;
+}

@@ -1,7 +1,0 @@
-mod CallsThatPass
-mod OneMoreJudgement
-mod FiltersAndCounts
-mod LastEntryCounts
-mod FirstOfTheLeast
-mod OnePassFindsSuspects
-mod StatesSayWhatHolds

@@ -1,4 +1,0 @@
-mod Makes
-mod Parts
-mod Terminals
-mod Wholes
