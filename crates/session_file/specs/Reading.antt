@@ -1,0 +1,131 @@
+-- Which session a text is, or why it is none. The keys that are not named here say nothing.
+use Rattle.std.specs.Prelude.{ℕ, ◌^◌, ◌==◌, ◌&&◌, Bool, List, [], ◌∷◌, slice_get, codes, nat_lt, nat_le, if◌then◌else◌}
+use Rattle.std.specs.Prelude.{Option, Some, None, option_map, option_and_then, Result, Ok, Err, false}
+use Rattle.std.specs.Result.{result_ok}
+use Rattle.std.specs.Str.{bytes_eq, is_utf8}
+use Rattle.hex.specs.Hex.{decode_sized}
+use Rattle.serde_json.specs.Data.{Data, Items, no_items, item}
+use Rattle.serde_json.specs.Events.{items_len}
+use Rattle.serde_json.specs.Read.{read}
+use Rattle.serde_json.specs.Find.{get, as_number, as_u64, as_str, as_bool, as_array}
+use Rattle.answer_book.specs.declared.entries.Entry.{Entry}
+use Rattle.answer_book.specs.declared.entries.Judgement.TheVariants.{Right, Wrong, Unknown}
+use Rattle.answer_book.specs.declared.entries.What.{What}
+use Rattle.answer_book.specs.declared.entries.What.TheVariants.{Judged, Trusted}
+use Rattle.session_file.specs.declared.session.Session.{Session}
+use Rattle.session_file.specs.declared.session.Field.{Field}
+use Rattle.session_file.specs.declared.session.Field.TheVariants.{Version, Source, Input, Budget, Entries}
+use Rattle.session_file.specs.declared.session.LoadFault.{LoadFault}
+use Rattle.session_file.specs.declared.session.LoadFault.TheVariants.{NotJson, BadShape, BadVersion}
+use Rattle.session_file.specs.Text.{this_version, word_of}
+
+-- ---- what stands under a key
+
+-- the value, if it passes the test
+abbrev pub only_if : {A : Type 0} → (A → Bool) → Option A → Option A
+only_if passes None = None
+only_if passes (Some a) = if passes a then Some a else None
+
+-- a whole number, below 2^64 as all that JSON gives
+abbrev pub whole_at : List ℕ → Data → Option ℕ
+whole_at key d = option_and_then as_u64 (option_and_then as_number (get key d))
+
+-- a whole number of 32 bits
+abbrev pub word_at : List ℕ → Data → Option ℕ
+word_at key d = only_if (λ n. nat_lt n (2 ^ 32)) (whole_at key d)
+
+-- a text
+abbrev pub text_at : List ℕ → Data → Option (List ℕ)
+text_at key d = option_and_then as_str (get key d)
+
+-- the 32 bytes of 64 hexadecimal digits, each of either case
+abbrev pub digest_at : List ℕ → Data → Option (List ℕ)
+digest_at key d = option_and_then (λ text. result_ok (decode_sized text 32)) (text_at key d)
+
+-- ---- an entry
+
+-- what an entry of this kind says
+abbrev pub said_as : List ℕ → Data → Option What
+said_as kind d =
+    if bytes_eq kind (word_of Right) then option_map (λ call. Judged call Right) (word_at (codes "call") d)
+    else if bytes_eq kind (word_of Wrong) then option_map (λ call. Judged call Wrong) (word_at (codes "call") d)
+    else if bytes_eq kind (word_of Unknown) then option_map (λ call. Judged call Unknown) (word_at (codes "call") d)
+    else if bytes_eq kind (codes "trust") then option_map Trusted (word_at (codes "routine") d)
+    else None
+
+-- the entry that a value is
+abbrev pub entry_in : Data → Option Entry
+entry_in d =
+    option_and_then (λ what. option_map (λ standing. record { what = what; standing = standing })
+    (option_and_then as_bool (get (codes "standing") d)))
+    (option_and_then (λ kind. said_as kind d) (text_at (codes "kind") d))
+
+-- the entries that these values are, if each is one
+abbrev pub entries_in : Items → Option (List Entry)
+entries_in no_items = Some []
+entries_in (item d ds) = option_and_then (λ entry. option_map (λ entries. entry ∷ entries) (entries_in ds)) (entry_in d)
+
+-- 1 to 100,000 values
+abbrev pub are_few : Items → Bool
+are_few ds = nat_le 1 (items_len ds) && nat_le (items_len ds) 100000
+
+-- the first entry says that call 0 is wrong
+abbrev pub says_wrong : What → Bool
+says_wrong (Judged call Wrong) = call == 0
+says_wrong _ = false
+
+abbrev pub is_wrong_entry : Option Entry → Bool
+is_wrong_entry (Some entry) = says_wrong entry.what
+is_wrong_entry None = false
+
+abbrev pub begins_wrong : List Entry → Bool
+begins_wrong entries = is_wrong_entry (slice_get entries 0)
+
+-- ---- a session
+
+-- a budget of steps: 1 to 4,000,000
+abbrev pub is_budget : ℕ → Bool
+is_budget n = nat_le 1 n && nat_le n 4000000
+
+abbrev pub budget_at : Data → Option ℕ
+budget_at d = only_if is_budget (whole_at (codes "budget") d)
+
+-- the values under "entries", if there are 1 to 100,000
+abbrev pub values_at : Data → Option Items
+values_at d = only_if are_few (option_and_then as_array (get (codes "entries") d))
+
+-- the entries that they are, if each is one and the first says that call 0 is wrong
+abbrev pub entries_at : Data → Option (List Entry)
+entries_at d = only_if begins_wrong (option_and_then entries_in (values_at d))
+
+-- goes on with what stands in a field, or refuses the field
+abbrev pub with_field : {A : Type 0} → Field → Option A → (A → Result Session LoadFault) → Result Session LoadFault
+with_field field (Some a) rest = rest a
+with_field field None rest = Err (BadShape field)
+
+-- the fields after the version, in the order in which they are looked at
+abbrev pub fields_in : Data → Result Session LoadFault
+fields_in d =
+    with_field Source (digest_at (codes "source") d) (λ source.
+    with_field Input (digest_at (codes "input") d) (λ input.
+    with_field Budget (budget_at d) (λ budget.
+    with_field Entries (entries_at d) (λ entries.
+    Ok (record { source = source; input = input; budget = budget; entries = entries })))))
+
+-- the session that a value is: the version is looked at first
+abbrev pub session_in : Data → Result Session LoadFault
+session_in d =
+    with_field Version (whole_at (codes "version") d) (λ version.
+    if version == this_version then fields_in d else Err (BadVersion version))
+
+-- the value that the bytes are, if they are JSON in UTF-8 that nests no deeper than 127
+abbrev pub json_of : List ℕ → Option Data
+json_of bytes = if is_utf8 bytes then read bytes else None
+
+abbrev pub session_or_fault : Option Data → Result Session LoadFault
+session_or_fault (Some d) = session_in d
+session_or_fault None = Err NotJson
+
+-- the session that the bytes are, or why they are none
+unfoldable pub session_of : List ℕ → Result Session LoadFault
+session_of bytes = session_or_fault (json_of bytes)

@@ -1,0 +1,28 @@
+-- The sessions that are loaded as they were saved.
+use Rattle.std.specs.Prelude.{◌≡◌, ◌<◌, ◌≤◌, ℕ, ◌^◌, All, List, length, IsTrue}
+use Rattle.hex.specs.Hex.{IsBytes}
+use Rattle.answer_book.specs.declared.entries.What.{What}
+use Rattle.answer_book.specs.declared.entries.What.TheVariants.{Judged, Trusted}
+use Rattle.session_file.specs.declared.session.Session.{Session}
+use Rattle.session_file.specs.Reading.{begins_wrong}
+
+-- 32 bytes
+pub record IsDigest (digest : List ℕ) : Type 0 where
+  pub size : length digest ≡ 32
+  pub each : IsBytes digest
+
+-- a call or a routine has a number of 32 bits
+abbrev pub IsNumbered : What → Type 0
+IsNumbered (Judged call judgement) = call < 2 ^ 32
+IsNumbered (Trusted routine) = routine < 2 ^ 32
+
+-- two digests, a budget from 1 to 4,000,000, and 1 to 100,000 entries of which the first says that call 0 is wrong
+pub record IsWhole (s : Session) : Type 0 where
+  pub source : IsDigest s.source
+  pub input : IsDigest s.input
+  pub steps : 1 ≤ s.budget
+  pub budget : s.budget ≤ 4000000
+  pub some : 1 ≤ length s.entries
+  pub few : length s.entries ≤ 100000
+  pub first : IsTrue (begins_wrong s.entries)
+  pub numbered : All (λ entry. IsNumbered entry.what) s.entries

@@ -1,0 +1,29 @@
+//! A saved session as text: what was said of the calls of one run, and which run it was. Version 1 is one JSON object
+//! with no white space between its parts and with the keys of each object in rising order:
+//!
+//!     {"budget":1000,"entries":[E,E,E],"input":"ba78..","source":"e3b0..","version":1}
+//!
+//! Each E is an entry of the book, the oldest first. It judges a call as `right`, `wrong` or `unknown`, or trusts a
+//! routine, and it stands until it is taken back:
+//!
+//!     {"call":12,"kind":"wrong","standing":true}
+//!     {"kind":"trust","routine":3,"standing":false}
+//!
+//! `source` and `input` are the SHA-256 digests of the run's source and input as 64 hexadecimal digits, and `budget` is
+//! the most steps that the run could take. Other texts of the same value are read too. A text that is no session is
+//! refused by its first field that is not as it should be.
+#![tactic(auto)]
+
+mod digests;
+mod entries;
+mod laws;
+mod reading;
+mod session;
+mod writing;
+
+pub use digests::digest_of;
+pub use entries::Entries;
+pub use laws::what_is_saved_is_loaded;
+pub use reading::load;
+pub use session::{Field, LoadFault, Session};
+pub use writing::save;
