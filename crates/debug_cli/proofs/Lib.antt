@@ -1,3 +1,4 @@
+mod FramesOutward
 pub mod LineIsCommand
 pub mod RepliesInOrder
 pub mod StatusByCode

@@ -1,5 +1,6 @@
 -- What is printed of a call, and of the state of the search.
-use Rattle.std.specs.Prelude.{ℕ, List, [], ◌++◌, codes, decimal, Option, Some, None, slice_get}
+use Rattle.std.specs.Prelude.{ℕ, zero, suc, ◌==◌, List, [], ◌++◌, codes, decimal, Option, Some, None, length, slice_get}
+use Rattle.std.specs.Prelude.{if◌then◌else◌}
 use Rattle.cell_value.specs.declared.ways_out.Kind.{Kind}
 use Rattle.cell_value.specs.declared.ways_out.Kind.TheVariants as kind
 use Rattle.cell_value.specs.declared.ways_out.Which.{Which}
@@ -37,13 +38,31 @@ limit_text which.Depth = codes "depth"
 limit_text which.Stack = codes "stack"
 limit_text which.Heap = codes "heap"
 
--- how a call ended, as the last words of its card
-abbrev pub way_text : WayOut → List ℕ
-way_text way.Returned = codes "returned"
-way_text (way.Jumped label base) = codes "jumped to " ++ decimal label
-way_text (way.Faulted k line) = codes "faulted " ++ kind_text k ++ codes " line " ++ decimal line
-way_text way.OutOfSteps = codes "out of steps"
-way_text (way.Limited w) = codes "limited " ++ limit_text w
+-- a call, if its frame begins at a base, and else what is found from its caller on
+abbrev pub framed_at : (call : ℕ) → Option CallRow → (base : ℕ) → (Option ℕ → Option ℕ) → Option ℕ
+framed_at call None base go = None
+framed_at call (Some row) base go = if row.base == base then Some call else go row.parent
+
+-- The first call outward, from one on, whose frame begins at a base: the innermost open call that has this frame. `n`
+-- is how many are looked at.
+abbrev pub call_of_frame : List CallRow → (n : ℕ) → (from : Option ℕ) → (base : ℕ) → Option ℕ
+call_of_frame rows zero from base = None
+call_of_frame rows (suc n) None base = None
+call_of_frame rows (suc n) (Some call) base =
+    framed_at call (slice_get rows call) base (λ parent. call_of_frame rows n parent base)
+
+abbrev pub of_call : Option ℕ → List ℕ
+of_call None = []
+of_call (Some call) = codes " of call " ++ decimal call
+
+-- how a call ended, as the last words of its card; a jump out of it tells the label and the call that went on there
+abbrev pub way_text : Execution → (parent : Option ℕ) → WayOut → List ℕ
+way_text h parent way.Returned = codes "returned"
+way_text h parent (way.Jumped label base) =
+    codes "jumped to " ++ decimal label ++ of_call (call_of_frame h.calls (length h.calls) parent base)
+way_text h parent (way.Faulted k line) = codes "faulted " ++ kind_text k ++ codes " line " ++ decimal line
+way_text h parent way.OutOfSteps = codes "out of steps"
+way_text h parent (way.Limited w) = codes "limited " ++ limit_text w
 
 -- a line after the first one of a card
 abbrev pub inner_line : List ℕ → List ℕ
@@ -60,7 +79,8 @@ in_parent (Some parent) = codes " in call " ++ decimal parent
 -- the card of a call: what was called from where, and how it ended
 abbrev pub card_by : Execution → ℕ → Option CallRow → List ℕ
 card_by h call None = []
-card_by h call (Some row) = call_text h call row ++ in_parent row.parent ++ codes "\n" ++ inner_line (way_text row.way)
+card_by h call (Some row) =
+    call_text h call row ++ in_parent row.parent ++ codes "\n" ++ inner_line (way_text h row.parent row.way)
 
 unfoldable pub card : Execution → ℕ → List ℕ
 card h call = card_by h call (slice_get h.calls call)
@@ -68,7 +88,8 @@ card h call = card_by h call (slice_get h.calls call)
 -- the lines on a call that is found
 abbrev pub found_by : Execution → ℕ → Option CallRow → List ℕ
 found_by h call None = []
-found_by h call (Some row) = codes "found " ++ call_text h call row ++ codes "\n" ++ inner_line (way_text row.way)
+found_by h call (Some row) =
+    codes "found " ++ call_text h call row ++ codes "\n" ++ inner_line (way_text h row.parent row.way)
 
 unfoldable pub found_text : Execution → ℕ → List ℕ
 found_text h call = found_by h call (slice_get h.calls call)

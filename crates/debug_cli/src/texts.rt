@@ -1,8 +1,9 @@
 //! The texts of a call and of the state of the search.
-ghost use Rattle.std.specs.Prelude.{◌≡◌, ◌++◌, IfOk, OnOk, decimal, codes, slice_get};
+ghost use Rattle.std.specs.Prelude.{◌≡◌, ◌++◌, IfOk, OnOk, decimal, codes, length, slice_get};
 ghost use Rattle.std.specs.Option.{option_map};
 ghost use Rattle.debuggee.specs.Execution.{execution, told};
-ghost use Rattle.debug_cli.specs.Texts.{kind_text, limit_text, way_text, inner_line, call_text, in_parent};
+ghost use Rattle.debug_cli.specs.Texts.{kind_text, limit_text, call_of_frame, of_call, way_text, inner_line, call_text};
+ghost use Rattle.debug_cli.specs.Texts.{in_parent};
 ghost use Rattle.debug_cli.specs.Texts.{card, found_text, narrowed_text, question_line, report};
 ghost use Rattle.debug_cli.specs.Texts.{absent_line, failed_line, too_long_line};
 ghost use Rattle.debug_cli.specs.Texts.{refusal_name, refusal_text, refused_line};
@@ -57,15 +58,43 @@ pub fn write_number(out: &mut Bytes, number: u32) -> Result<(), AllocError>
     Ok(())
 }
 
-/// Appends how a call ended.
-pub fn write_way(out: &mut Bytes, way: WayOut) -> Result<(), AllocError>
-    ensures { OnOk result (out.new ≡ out.old ++ way_text way) }
+/// The innermost open call whose frame begins at a base, from one on and then outward.
+fn call_of_frame(debuggee: &Debuggee, from: Option<u32>, base: u32) -> Option<u32>
+    ensures { result ≡ call_of_frame (execution debuggee.now).calls (length (execution debuggee.now).calls) from base }
 {
-    match way {
+    let mut at = from;
+    'calls: for _ in 0..debuggee.history.calls.len() {
+        let number = at?;
+        let call = call_at(debuggee, number)?;
+        if call.entry.top == base {
+            return Some(number);
+        }
+        at = call.parent;
+    }
+    None
+}
+
+/// Appends the label to which a call was left, and the call that went on there.
+fn write_jump(out: &mut Bytes, label: u32, holder: Option<u32>) -> Result<(), AllocError>
+    ensures { OnOk result (out.new ≡ out.old ++ codes "jumped to " ++ decimal label ++ of_call holder) }
+{
+    out.append(b"jumped to ")?;
+    write_number(out, label)?;
+    if let Some(call) = holder {
+        out.append(b" of call ")?;
+        write_number(out, call)?;
+    }
+    Ok(())
+}
+
+/// Appends how a call ended.
+fn write_way(out: &mut Bytes, debuggee: &Debuggee, call: &Call) -> Result<(), AllocError>
+    ensures { OnOk result (out.new ≡ out.old ++ way_text (execution debuggee.now) call.now.parent call.now.way) }
+{
+    match call.way {
         WayOut::Returned => out.append(b"returned")?,
-        WayOut::Jumped(label, _) => {
-            out.append(b"jumped to ")?;
-            write_number(out, label)?;
+        WayOut::Jumped(label, base) => {
+            write_jump(out, label, call_of_frame(debuggee, call.parent, base))?
         }
         WayOut::Faulted(kind, line) => {
             out.append(b"faulted ")?;
@@ -83,11 +112,12 @@ pub fn write_way(out: &mut Bytes, way: WayOut) -> Result<(), AllocError>
 }
 
 /// Appends how a call ended, as a line of its card.
-pub fn write_way_line(out: &mut Bytes, way: WayOut) -> Result<(), AllocError>
-    ensures { OnOk result (out.new ≡ out.old ++ inner_line (way_text way)) }
+fn write_way_line(out: &mut Bytes, debuggee: &Debuggee, call: &Call) -> Result<(), AllocError>
+    ensures { OnOk result (out.new ≡ out.old
+        ++ inner_line (way_text (execution debuggee.now) call.now.parent call.now.way)) }
 {
     out.append(b"  ")?;
-    write_way(out, way)?;
+    write_way(out, debuggee, call)?;
     out.append(b"\n")?;
     Ok(())
 }
@@ -139,7 +169,7 @@ pub fn write_card(out: &mut Bytes, debuggee: &Debuggee, number: u32) -> Result<(
         write_call(out, debuggee, number, call)?;
         write_parent(out, call.parent)?;
         out.append(b"\n")?;
-        write_way_line(out, call.way)?;
+        write_way_line(out, debuggee, call)?;
     }
     Ok(())
 }
@@ -153,7 +183,7 @@ fn write_found(out: &mut Bytes, debuggee: &Debuggee, number: u32) -> Result<(), 
         out.append(b"found ")?;
         write_call(out, debuggee, number, call)?;
         out.append(b"\n")?;
-        write_way_line(out, call.way)?;
+        write_way_line(out, debuggee, call)?;
     }
     Ok(())
 }

@@ -9,11 +9,13 @@ use Rattle.program_meaning.specs.Numbering.{belows, calls_of, each_from, last_of
 use Rattle.debuggee.specs.declared.source.Debuggee.{Debuggee}
 use Rattle.debuggee.specs.Limits.{default_budget}
 
--- a call of a run: its routine, the call that made it, the last call below it, and how it ended
+-- a call of a run: its routine, the call that made it, the last call below it, where its frame begins, and how it
+-- ended
 pub record CallRow : Type 0 where
   pub routine : ℕ
   pub parent : Option ℕ
   pub last : ℕ
+  pub base : ℕ
   pub way : WayOut
 
 -- the tokens of a source, the program that they are, and the calls of its run in order of entry
@@ -24,8 +26,13 @@ pub record Execution : Type 0 where
 
 -- call k of a run, where these numbers of calls are below each call
 abbrev pub row_of : List ℕ → ℕ → Marked Call → CallRow
-row_of bs k c =
-    record { routine = c.event.routine; parent = parent_of bs k; last = last_of bs k; way = c.event.way }
+row_of bs k c = record {
+  routine = c.event.routine;
+  parent = parent_of bs k;
+  last = last_of bs k;
+  base = c.event.entry.top;
+  way = c.event.way;
+}
 
 -- the calls of a run
 abbrev pub rows_of : List (Marked Call) → List CallRow
@@ -51,7 +58,7 @@ routines_of rows = map (λ r. r.routine) rows
 
 -- what of a call that was recorded is told
 abbrev pub told : table.Call → CallRow
-told c = record { routine = c.routine; parent = c.parent; last = c.last; way = c.way }
+told c = record { routine = c.routine; parent = c.parent; last = c.last; base = c.entry.top; way = c.way }
 
 -- the code keeps this execution
 abbrev pub execution : Debuggee → Execution

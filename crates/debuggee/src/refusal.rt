@@ -25,6 +25,6 @@ pub enum Refusal {
     Rule(u32),
     /// A variable or a parameter has too many cells, and no rule is broken.
     TooBig,
-    /// A token at which no program goes on of the part of Pascal that is built.
+    /// The first token of a construct of the program that cannot be run yet.
     Unbuilt,
 }

@@ -41,7 +41,7 @@ before_then w (Stopped why v σ) f = refl
 follow_then : {A B C : Type 0} (d : Done A) (g : A → State → Performed B) (h : A → State → Performed C) (f : B → Action C)
     → ((x : A) (σ : State) → h x σ ≡ then_performs (g x σ) f) → follow d h ≡ then_performs (follow d g) f
 follow_then (Went x w σ) g h f e = ap (before w) (e x σ) ∙ before_then w (g x σ) f
-follow_then (Stops why σ) g h f e = refl
+follow_then (Stops why w σ) g h f e = refl
 
 -- an action and what follows it: first the one, then the other
 performs_bind : {A B : Type 0} (a : Action A) (f : A → Action B) (σ : State) → performs (a >>= f) σ ≡ then_performs (performs a σ) f
@@ -128,7 +128,7 @@ does_stop seen seen' a f old new e h = came_stop seen seen' a f e old new (came_
 pub does_act : {X : Type 0} (a : Act) (seen : X → Answer a) (old new : Moment) (r : Result X Halt) → Does seen (perform a old.state) r old new
     → DoesAll seen (performs (act a) old.state) r old new
 does_act a seen old new (Ok x) w = (w.0, ap (λ d. follow d (λ x τ. Finished x [] τ)) w.1 ∙ ap (λ l. Finished (seen x) l new.state) (append-nil w.0), w.2)
-does_act a seen old new (Err (Fault kind)) w = ([], ap (λ d. follow d (λ x τ. Finished x [] τ)) w.0, w.1 ∙ sym (append-nil old.log))
-does_act a seen old new (Err OutOfSteps) w = ([], ap (λ d. follow d (λ x τ. Finished x [] τ)) w.0, w.1 ∙ sym (append-nil old.log))
-does_act a seen old new (Err (Limited which)) w = ([], ap (λ d. follow d (λ x τ. Finished x [] τ)) w.0, w.1 ∙ sym (append-nil old.log))
+does_act a seen old new (Err (Fault kind)) w = (w.0, ap (λ d. follow d (λ x τ. Finished x [] τ)) w.1, w.2)
+does_act a seen old new (Err OutOfSteps) w = (w.0, ap (λ d. follow d (λ x τ. Finished x [] τ)) w.1, w.2)
+does_act a seen old new (Err (Limited which)) w = (w.0, ap (λ d. follow d (λ x τ. Finished x [] τ)) w.1, w.2)
 does_act a seen old new (Err Memory) w = tt

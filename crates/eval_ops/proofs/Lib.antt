@@ -3,3 +3,4 @@ pub mod Bounds
 pub mod CallsInFrames
 pub mod FramesByCell
 pub mod Lists
+pub mod WritesAsk

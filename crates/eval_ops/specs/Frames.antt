@@ -12,8 +12,8 @@ use Rattle.program_meaning.specs.Run.{with_frame, or_no_result}
 -- than are left.
 abbrev pub framing : (n : ℕ) → (args : List Value) → State → Done (Unit {0})
 framing n args σ =
-    if nat_lt stack_end (σ.top + n) then Stops (Limited Stack) σ
-    else if nat_lt σ.steps n then Stops OutOfSteps (spent σ)
+    if nat_lt stack_end (σ.top + n) then Stops (Limited Stack) [] σ
+    else if nat_lt σ.steps n then Stops OutOfSteps [] (spent σ)
     else Went tt [] (with_frame n args σ)
 
 -- what a function returns, by the value of its result and the bounds of its result type

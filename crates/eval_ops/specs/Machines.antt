@@ -50,9 +50,9 @@ pub record HasRoom (m : Machine) : Type 0 where
 abbrev pub ActDone : {A : Type 0} → Done A → A → Moment → Moment → Type 0
 ActDone {A} did x old new = (w : List Touch) × (did ≡ Went x w new.state) × (new.log ≡ old.log ++ w)
 
--- the act was not done, for this reason
+-- the act was not done, or not whole, for this reason
 abbrev pub ActRefused : {A : Type 0} → Done A → Trouble → Moment → Moment → Type 0
-ActRefused did why old new = (did ≡ Stops why new.state) × (new.log ≡ old.log)
+ActRefused did why old new = (w : List Touch) × (did ≡ Stops why w new.state) × (new.log ≡ old.log ++ w)
 
 -- a call on the machine is the act, unless memory runs out
 abbrev pub Does : {A X : Type 0} → (X → A) → Done A → Result X Halt → Moment → Moment → Type 0

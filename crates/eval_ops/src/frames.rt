@@ -8,7 +8,7 @@ ghost use Rattle.program_meaning.specs.State as state;
 ghost use Rattle.eval_ops.specs.Machines.{DoesAll, Gives, IsReady, machine_state, moment_of};
 
 use crate::halt::Halt;
-use crate::machine::{Machine, may_call, read_cell};
+use crate::machine::{Machine, read_cell};
 use cell_value::{Kind, Value};
 use program_meaning::Components;
 
@@ -72,6 +72,37 @@ pub fn reference_out(machine: &mut Machine, levels: u32, base: u32, place: u32) 
     Ok(addr)
 }
 
+/// The routine that the routine parameter at such a place stands for, and the base of the frame in which that was
+/// declared. Where the cell holds no routine, it is the fault `Undefined`, after the read.
+pub fn routine_out(
+    machine: &mut Machine,
+    levels: u32,
+    base: u32,
+    place: u32,
+) -> Result<(u32, u32), Halt>
+    requires ready { IsReady machine.old }
+    ensures action { DoesAll (λ x. x) (performs (action.routine_out levels base place) (machine_state machine.old))
+        result (moment_of machine.old) (moment_of machine.new) }
+    ensures ready { IsReady machine.new }
+{
+    let cell = cell_out(machine, levels, base, place)?;
+    let found = routine_held(machine, cell)?;
+    Ok(found)
+}
+
+/// The routine that a routine parameter stands for, whose cell is at an address, and the base of its frame.
+fn routine_held(machine: &mut Machine, cell: u32) -> Result<(u32, u32), Halt>
+    requires ready { IsReady machine.old }
+    ensures action { DoesAll (λ x. x) (performs (action.routine_held cell) (machine_state machine.old)) result
+        (moment_of machine.old) (moment_of machine.new) }
+    ensures ready { IsReady machine.new }
+{
+    match read_cell(machine, cell)? {
+        Value::Routine(routine, frame) => Ok((routine, frame)),
+        _ => Err(Halt::Fault(Kind::Undefined)),
+    }
+}
+
 /// The variable that a variable parameter stands for, whose cell is at an address.
 fn referred(machine: &mut Machine, cell: u32) -> Result<u32, Halt>
     requires ready { IsReady machine.old }
@@ -100,19 +131,4 @@ pub fn component(array: Components, addr: u32, value: Value) -> Result<u32, Halt
         Value::Number(_) => Err(Halt::Fault(Kind::OutOfRange)),
         _ => Err(Halt::Fault(Kind::Undefined)),
     }
-}
-
-/// What comes before a routine is entered, once its actual parameters are known: the frame in which it was declared,
-/// found by so many links from the frame at a base, and then the limits for one call more with a frame of so many
-/// cells.
-pub fn declaring(machine: &mut Machine, cells: u32, levels: u32, base: u32) -> Result<u32, Halt>
-    requires ready { IsReady machine.old }
-    ensures action { DoesAll (λ b. b) (performs (action.declaring cells levels base) (machine_state machine.old)) result
-        (moment_of machine.old) (moment_of machine.new) }
-    ensures room { OnOk result (limit_passed (machine_state machine.new) cells ≡ None) }
-    ensures ready { IsReady machine.new }
-{
-    let frame = frame_out(machine, levels, base)?;
-    may_call(machine, cells)?;
-    Ok(frame)
 }

@@ -11,10 +11,11 @@ mod values;
 
 pub use calls::{close_call, make_frame, open_call, remove_frame, result_at};
 pub use cells::{assign, ordinal_at, read_cells, write_cells};
-pub use frames::{cell_out, component, declaring, frame_out, moved, reference_out};
+pub use frames::{cell_out, component, frame_out, moved, reference_out, routine_out};
 pub use halt::Halt;
 pub use machine::{
-    HEAP_END, MOST_CALLS, MOST_DEPTH, Machine, STACK_END, may_call, read_cell, spend, write_cell,
+    HEAP_END, MOST_CALLS, MOST_DEPTH, Machine, STACK_END, limit_passed, read_cell, spend,
+    write_cell,
 };
 pub use values::{
     compare_ordinals, defined, fault_kind, is_true, ordinal_function, passed, sign, test, truth,

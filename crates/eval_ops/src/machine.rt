@@ -1,8 +1,9 @@
 //! A run's state with the log so far, and the single acts on it.
 
-ghost use Rattle.std.specs.Prelude.{◌≡◌, ◌<◌, ◌+◌, ◌-◌, ◌++◌, ◌∷◌, [], Err, IfErr, None, OnOk};
+ghost use Rattle.std.specs.Prelude.{◌≡◌, ◌<◌, ◌+◌, ◌-◌, ◌++◌, ◌∷◌, [], true, Err, IfErr, OnOk};
 ghost use Rattle.program_meaning.specs.State.{is_in_reach};
-ghost use Rattle.program_meaning.specs.Acts.{HasCell, MayCall, Spend, WriteCell, limit_passed, perform};
+ghost use Rattle.program_meaning.specs.Acts as acts;
+ghost use Rattle.program_meaning.specs.Acts.{HasCell, Spend, WriteCell, on_cell, perform, put};
 ghost use Rattle.program_meaning.specs.Actions.{performs};
 ghost use Rattle.program_meaning.specs.Cells.{read, write};
 ghost use Rattle.eval_ops.specs.Machines.{Does, DoesAll, IsReady, machine_state, moment_of};
@@ -143,7 +144,7 @@ fn has_cell(machine: &mut Machine, addr: u32) -> Result<bool, Halt>
 /// Puts a value into the cell at an address, which takes a step.
 fn put_cell(alloc: Global, machine: &mut Machine, addr: u32, value: Value) -> Result<(), Halt>
     requires ready { IsReady machine.old }
-    ensures act { Does (λ _. tt) (perform (WriteCell addr value) (machine_state machine.old)) result
+    ensures act { Does (λ _. true) (on_cell addr (machine_state machine.old) (put addr value)) result
         (moment_of machine.old) (moment_of machine.new) }
     ensures ready { IsReady machine.new }
 {
@@ -160,6 +161,23 @@ fn put_cell(alloc: Global, machine: &mut Machine, addr: u32, value: Value) -> Re
     Ok(())
 }
 
+/// Puts a value into the cell at an address, and of a cell of the heap asks before that whether it is there: that is
+/// the answer.
+fn put_if_there(alloc: Global, machine: &mut Machine, addr: u32, value: Value) -> Result<bool, Halt>
+    requires ready { IsReady machine.old }
+    ensures act { Does (λ there. there) (perform (WriteCell addr value) (machine_state machine.old)) result
+        (moment_of machine.old) (moment_of machine.new) }
+    ensures ready { IsReady machine.new }
+{
+    if STACK_END <= addr {
+        if !has_cell(machine, addr)? {
+            return Ok(false);
+        }
+    }
+    put_cell(alloc, machine, addr, value)?;
+    Ok(true)
+}
+
 /// Puts a value into the cell at an address, which takes a step. Of a cell of the heap it is first asked whether it is
 /// there, which takes a step; where it is not, it is the fault `Disposed`. At an address that is neither one of the
 /// stack below `top` nor one of the heap's range it is the fault `Undefined`, and no step is taken.
@@ -169,35 +187,25 @@ pub fn write_cell(alloc: Global, machine: &mut Machine, addr: u32, value: Value)
         (moment_of machine.old) (moment_of machine.new) }
     ensures ready { IsReady machine.new }
 {
-    if addr < STACK_END {
-        put_cell(alloc, machine, addr, value)?;
-        return Ok(());
+    match put_if_there(alloc, machine, addr, value)? {
+        true => Ok(()),
+        false => Err(Halt::Fault(Kind::Disposed)),
     }
-    if !has_cell(machine, addr)? {
-        return Err(Halt::Fault(Kind::Disposed));
-    }
-    put_cell(alloc, machine, addr, value)?;
-    Ok(())
 }
 
-/// Asks leave for one call more, whose frame has this many cells. The limits are asked in the order calls, depth,
-/// stack. It takes no memory and no step.
-pub fn may_call(machine: &mut Machine, cells: u32) -> Result<(), Halt>
-    requires ready { IsReady machine.old }
-    ensures act { Does (λ _. tt) (perform (MayCall cells) (machine_state machine.old)) result (moment_of machine.old)
-        (moment_of machine.new) }
-    ensures room { OnOk result (limit_passed (machine_state machine.new) cells ≡ None) }
-    ensures ready { IsReady machine.new }
-    ensures no_memory { result ≡ Err Halt.Memory → ⊥ }
+/// The first limit that one call more, whose frame has this many cells, would pass: on the calls, on the depth, on the
+/// stack.
+pub fn limit_passed(machine: &Machine, cells: u32) -> Option<Which>
+    ensures { result ≡ acts.limit_passed (machine_state machine.now) cells }
 {
     if machine.calls >= MOST_CALLS {
-        return Err(Halt::Limited(Which::Calls));
+        return Some(Which::Calls);
     }
     if machine.depth > MOST_DEPTH {
-        return Err(Halt::Limited(Which::Depth));
+        return Some(Which::Depth);
     }
     if u64::from(machine.top) + u64::from(cells) > u64::from(STACK_END) {
-        return Err(Halt::Limited(Which::Stack));
+        return Some(Which::Stack);
     }
-    Ok(())
+    None
 }

@@ -1,4 +1,3 @@
-pub mod ChoicesInOrder
 pub mod Moves
 pub mod StatementsByRow
 pub mod StepsFall

@@ -1,31 +1,33 @@
 -- How moves of a tree follow one another.
-use Rattle.std.proofs.Common.{◌≡◌, ℕ, zero, suc, List, ◌++◌, Option, Some, refl, sym, ap, ◌∙◌, append_assoc, append-nil}
+use Rattle.std.proofs.Common.{◌≡◌, ℕ, zero, suc, List, ◌++◌, Option, Some, None, refl, sym, ap, ◌∙◌, append_assoc, append-nil}
 use Rattle.cell_value.specs.declared.values.Value.{Value}
 use Rattle.cell_value.specs.declared.entries.Touch.{Touch}
+use Rattle.cell_value.specs.declared.ways_out.WayOut.TheVariants as way
+use Rattle.cell_value.specs.declared.ways_out.Which.{Which}
 use Rattle.program_tables.specs.ProgramRows.{ProgramRows}
 use Rattle.program_meaning.specs.State.{State}
-use Rattle.program_meaning.specs.Acts.{Trouble, Act, Answer, Done, Went, Stops, perform}
+use Rattle.program_meaning.specs.Acts.{Trouble, Act, Answer, Spend, Done, Went, Stops, perform, limit_passed}
 use Rattle.program_meaning.specs.Actions.{Action, Give, Fail, Perform, Performed, Finished, Stopped, before, follow, performs}
 use Rattle.program_meaning.specs.Tree.{Out, Part, Tree, Ret, Halt, Do, Sub, Enter, Line, way_of, bind, doing}
 use Rattle.program_meaning.specs.Layer.{layer}
 use Rattle.program_meaning.specs.Run.{Ended, Halted}
-use Rattle.eval_ops.specs.Machines.{Moment, ActionFinished, ActionStopped}
-use Rattle.evaluator.specs.Stops.{Stop, AtLine, AtCall, AtEnd, on_act, next_stop, Comes, StopsAt}
+use Rattle.eval_ops.specs.Machines.{Moment, ActDone, ActRefused, ActionFinished, ActionStopped}
+use Rattle.evaluator.specs.Stops.{Stop, AtLine, AtCall, AtEnd, at_call, on_act, next_stop, Comes, StopsAt}
 
 pub bind_ret : (t : Tree) → bind t Ret ≡ t
 bind_ret (Ret out) = refl
-bind_ret (Halt way) = refl
+bind_ret (Halt line why) = refl
 bind_ret (Do line act next) = λ i. Do line act (λ x. bind_ret (next x) i)
 bind_ret (Sub part next) = λ i. Sub part (λ x. bind_ret (next x) i)
-bind_ret (Enter routine args next) = λ i. Enter routine args (λ x. bind_ret (next x) i)
+bind_ret (Enter routine cells args next) = λ i. Enter routine cells args (λ x. bind_ret (next x) i)
 bind_ret (Line line next) = λ i. Line line (bind_ret next i)
 
 pub bind_bind : (t : Tree) (f g : Out → Tree) → bind (bind t f) g ≡ bind t (λ x. bind (f x) g)
 bind_bind (Ret out) f g = refl
-bind_bind (Halt way) f g = refl
+bind_bind (Halt line why) f g = refl
 bind_bind (Do line act next) f g = λ i. Do line act (λ x. bind_bind (next x) f g i)
 bind_bind (Sub part next) f g = λ i. Sub part (λ x. bind_bind (next x) f g i)
-bind_bind (Enter routine args next) f g = λ i. Enter routine args (λ x. bind_bind (next x) f g i)
+bind_bind (Enter routine cells args next) f g = λ i. Enter routine cells args (λ x. bind_bind (next x) f g i)
 bind_bind (Line line next) f g = λ i. Line line (bind_bind next f g i)
 
 -- what follows an action that is followed
@@ -48,11 +50,30 @@ module _ {p : ProgramRows} where
   pub begins : (part : Part) (k : Out → Tree) (m : Moment) → Comes p (Sub part k) m (bind (layer p part) k) m
   begins part k m = record { each = λ n. (suc n, refl) }
 
-  pub line_here : (line : ℕ) (t : Tree) (m : Moment) → StopsAt p (Line line t) m (AtLine line t) m
-  line_here line t m = record { moves = suc zero; is = refl }
+  -- a statement begins, where there is a step for it, and where there is none
+  pub line_here : (line : ℕ) (t : Tree) (m m' : Moment) → ActDone (perform (Spend 1) m.state) tt m m' → StopsAt p (Line line t) m (AtLine line t) m'
+  line_here line t m m' h = record {
+    moves = suc zero;
+    is = ap (λ d. on_act line m.log d (λ _ m1. Some (AtLine line t, m1))) h.1
+        ∙ ap (λ l. Some (AtLine line t, record { state = m'.state; log = l })) (sym h.2);
+  }
 
-  pub call_here : (f : ℕ) (args : List Value) (k : Out → Tree) (m : Moment) → StopsAt p (Enter f args k) m (AtCall f args k) m
-  call_here f args k m = record { moves = suc zero; is = refl }
+  pub line_stopped : (line : ℕ) (t : Tree) (why : Trouble) (m m' : Moment) → ActRefused (perform (Spend 1) m.state) why m m'
+      → StopsAt p (Line line t) m (AtEnd (Halted (way_of line why))) m'
+  line_stopped line t why m m' h = record {
+    moves = suc zero;
+    is = ap (λ d. on_act line m.log d (λ _ m1. Some (AtLine line t, m1))) h.1
+        ∙ ap (λ l. Some (AtEnd (Halted (way_of line why)), record { state = m'.state; log = l })) (sym h.2);
+  }
+
+  -- a call that passes no limit, and one that would
+  pub call_here : (f cells : ℕ) (args : List Value) (k : Out → Tree) (m : Moment) → limit_passed m.state cells ≡ None
+      → StopsAt p (Enter f cells args k) m (AtCall f args k) m
+  call_here f cells args k m h = record { moves = suc zero; is = ap (λ o. Some (at_call o f args k, m)) h }
+
+  pub limit_here : (f cells : ℕ) (args : List Value) (k : Out → Tree) (which : Which) (m : Moment) → limit_passed m.state cells ≡ Some which
+      → StopsAt p (Enter f cells args k) m (AtEnd (Halted (way.Limited which))) m
+  limit_here f cells args k which m h = record { moves = suc zero; is = ap (λ o. Some (at_call o f args k, m)) h }
 
   pub end_here : (out : Out) (m : Moment) → StopsAt p (Ret out) m (AtEnd (Ended out)) m
   end_here out m = record { moves = suc zero; is = refl }
@@ -80,10 +101,9 @@ module _ (p : ProgramRows) where
     ap (λ d. on_act line l d (λ x m'. next_stop p y.0 (doing line (next x) k) m')) e ∙ y.1 ∙ after_before line n k l w (performs (next x) τ)
         ∙ sym (ap (λ d. stop_after line n k l (follow d (λ x τ. performs (next x) τ))) e),
   )
-  acted_act line act next k σ l n ih (Stops why τ) e = (
+  acted_act line act next k σ l n ih (Stops why w τ) e = (
     suc zero,
     ap (λ d. on_act line l d (λ x m'. next_stop p zero (doing line (next x) k) m')) e
-        ∙ ap (λ u. Some (AtEnd (Halted (way_of line why)), record { state = τ; log = u })) (sym (append-nil l))
         ∙ sym (ap (λ d. stop_after line n k l (follow d (λ x τ. performs (next x) τ))) e),
   )
 

@@ -1,5 +1,5 @@
 -- Statements by their rows.
-use Rattle.std.proofs.Common.{◌≡◌, ℕ, ℤ, Bool, true, false, Option, Some, None, option_map, refl, ap, ◌∙◌, if◌then◌else◌}
+use Rattle.std.proofs.Common.{◌≡◌, ℕ, ℤ, Bool, true, false, List, Option, Some, None, option_map, ◌≤◌, refl, ap, ◌∙◌, if◌then◌else◌, arith}
 use Rattle.cell_value.specs.declared.values.Value.{Value}
 use Rattle.cell_value.specs.declared.values.Value.TheVariants as value
 use Rattle.program_tables.specs.declared.rows.Row.{Row}
@@ -10,6 +10,9 @@ use Rattle.program_tables.specs.declared.rows.StatementRow.TheVariants.{
   Empty,
   Assign,
   Call,
+  CallFormal,
+  Goto,
+  Labelled,
   Compound,
   If,
   IfElse,
@@ -22,7 +25,7 @@ use Rattle.program_tables.specs.declared.rows.StatementRow.TheVariants.{
 use Rattle.program_tables.specs.ProgramRows.{ProgramRows, row_at}
 use Rattle.program_meaning.specs.Tree.{Out, Here, Tree, Ret, Sub, Line, bind}
 use Rattle.program_meaning.specs.Tree as parts
-use Rattle.program_meaning.specs.Accesses.{spend, no_row, eval}
+use Rattle.program_meaning.specs.Accesses.{no_row, eval}
 use Rattle.program_meaning.specs.Statements.{
   line_of,
   of_statement,
@@ -33,15 +36,22 @@ use Rattle.program_meaning.specs.Statements.{
   first_turn,
   of_sequence,
   of_turn,
-  on_normal,
+  on_statement,
   nothing,
 }
-use Rattle.evaluator.specs.Counting.{turns_in, turns_row, span_in, both}
-use Rattle.evaluator.specs.Items.{element_in}
-use Rattle.evaluator.specs.Rest.{carried, carry_with, counted, with_numbers}
-use Rattle.evaluator.specs.declared.counting.Counting.{Counting}
-use Rattle.evaluator.specs.declared.counting.Span.{Span}
+use Rattle.eval_rules.specs.Counting.{turns_in, turns_row, span_in, both}
+use Rattle.eval_rules.specs.Items.{element_in}
+use Rattle.evaluator.specs.Rest.{carried, carry_with, counted, with_numbers, after, after_statement}
+use Rattle.evaluator.specs.Weight.{task_weight}
+use Rattle.eval_rules.specs.declared.counting.Counting.{Counting}
+use Rattle.eval_rules.specs.declared.counting.Span.{Span}
 use Rattle.evaluator.specs.declared.tasks.Home.{Home}
+use Rattle.evaluator.specs.declared.tasks.Next.{Next}
+use Rattle.evaluator.specs.declared.tasks.Next.TheVariants as nexts
+use Rattle.evaluator.specs.declared.tasks.Choice.TheVariants as choices
+use Rattle.evaluator.specs.declared.tasks.Located.TheVariants as locateds
+use Rattle.evaluator.specs.declared.tasks.Task.{Task}
+use Rattle.evaluator.specs.declared.tasks.Task.TheVariants as tasks
 
 -- ---- a statement begins
 
@@ -51,16 +61,23 @@ no_statement p n h r f = refl
 
 -- one that is neither compound nor empty tells its line
 pub told : (p : ProgramRows) (n : ℕ) (h : Here) (s : StatementRow) (own : ℕ) → line_of s ≡ Some own
-    → statement p n h s ≡ spend h (Line own (of_statement p n (record h { line = own }) s))
+    → statement p n h s ≡ Line own (of_statement p n (record h { line = own }) s)
 told p n h Empty own e = absurd (let q : ⊥ = cc in q)
 told p n h (Compound statements) own e = absurd (let q : ⊥ = cc in q)
+told p n h (Labelled label inner) own e = absurd (let q : ⊥ = cc in q)
 told p n h s own e = ap (begins p n h s) e
 
-pub untold : (p : ProgramRows) (n : ℕ) (h : Here) (s : StatementRow) → (s ≡ Empty → ⊥) → ((x : ℕ) → s ≡ Compound x → ⊥) → line_of s ≡ None
-    → statement p n h s ≡ no_row
-untold p n h Empty f g e = absurd (f refl)
-untold p n h (Compound statements) f g e = absurd (g statements refl)
-untold p n h s f g e = ap (begins p n h s) e
+-- a statement of a kind that begins as the others do
+pub record HasNoOther (s : StatementRow) : Type 0 where
+  pub empty : s ≡ Empty → ⊥
+  pub compound : (x : ℕ) → s ≡ Compound x → ⊥
+  pub labelled : (a b : ℕ) → s ≡ Labelled a b → ⊥
+
+pub untold : (p : ProgramRows) (n : ℕ) (h : Here) (s : StatementRow) → HasNoOther s → line_of s ≡ None → statement p n h s ≡ no_row
+untold p n h Empty o e = absurd (o.empty refl)
+untold p n h (Compound statements) o e = absurd (o.compound statements refl)
+untold p n h (Labelled label inner) o e = absurd (o.labelled label inner refl)
+untold p n h s o e = ap (begins p n h s) e
 
 -- ---- its line is told
 
@@ -78,6 +95,8 @@ pub record IsOther (s : StatementRow) : Type 0 where
   pub repeat : (a b c : ℕ) → s ≡ Repeat a b c → ⊥
   pub while : (a b c : ℕ) → s ≡ While a b c → ⊥
   pub for' : (a b c : ℕ) → s ≡ For a b c → ⊥
+  pub call_formal : (a b c d : ℕ) → s ≡ CallFormal a b c d → ⊥
+  pub goto : (a b c : ℕ) → s ≡ Goto a b c → ⊥
 
 pub other_carried : (p : ProgramRows) (home : Home) (n : ℕ) (s : StatementRow) → IsOther s → carry_with p home n s (line_of s) ≡ no_row
 other_carried p home n (Assign a b c d) o = absurd (o.assign a b c d refl)
@@ -88,17 +107,19 @@ other_carried p home n (Case a b c) o = absurd (o.case' a b c refl)
 other_carried p home n (Repeat a b c) o = absurd (o.repeat a b c refl)
 other_carried p home n (While a b c) o = absurd (o.while a b c refl)
 other_carried p home n (For a b c) o = absurd (o.for' a b c refl)
+other_carried p home n (CallFormal a b c d) o = absurd (o.call_formal a b c d refl)
+other_carried p home n (Goto a b c) o = absurd (o.goto a b c refl)
 other_carried p home n s o = refl
 
 -- ---- sequences and turns
 
-abbrev pub in_sequence : Here → Option (ℕ × ℕ) → Tree
-in_sequence h (Some (s, next)) = Sub (parts.Exec s h) (on_normal (Sub (parts.Sequence next h) Ret))
-in_sequence h None = nothing
+abbrev pub in_sequence : ProgramRows → Here → (first : ℕ) → Option (ℕ × ℕ) → Tree
+in_sequence p h first (Some (s, next)) = Sub (parts.Exec s h) (on_statement p h first next)
+in_sequence p h first None = nothing
 
-pub sequence_by : (h : Here) (r : Row) → of_sequence h r ≡ in_sequence h (element_in r)
-sequence_by h (rows.Item (item.Element s next)) = refl
-sequence_by h r = refl
+pub sequence_by : (p : ProgramRows) (h : Here) (first : ℕ) (r : Row) → of_sequence p h first r ≡ in_sequence p h first (element_in r)
+sequence_by p h first (rows.Item (item.Element s next)) = refl
+sequence_by p h first r = refl
 
 pub no_turn : (n : ℕ) (h : Here) (r : Row) → ((s : StatementRow) → r ≡ rows.Statement s → ⊥) → of_turn n h r ≡ no_row
 no_turn n h (rows.Statement s) f = absurd (f s refl)
@@ -189,6 +210,47 @@ counted_both home n line r v w = numbers_by v w (λ i last. counted home n line 
     by (Some c) None h = refl
     by None (Some s) h = h s
     by (Some c) (Some s) h = h s
+
+-- ---- what follows a statement
+
+-- what ended, if not by a jump, is all one
+pub record IsAllOne (t : Out → Tree) : Type 0 where
+  pub scalar : (v : Value) → t (parts.Scalar v) ≡ t parts.Nothing
+  pub cells : (vs : List Value) → t (parts.Cells vs) ≡ t parts.Nothing
+  pub address : (addr : ℕ) → t (parts.Address addr) ≡ t parts.Nothing
+
+all_one : {t : Out → Tree} → ((v : Value) → t (parts.Scalar v) ≡ t parts.Nothing) → ((vs : List Value) → t (parts.Cells vs) ≡ t parts.Nothing)
+    → ((addr : ℕ) → t (parts.Address addr) ≡ t parts.Nothing) → IsAllOne t
+all_one f g h = record { scalar = f; cells = g; address = h }
+
+pub statement_ended : (p : ProgramRows) (home : Home) (n : Next) (vs : List Value) → IsAllOne (after_statement p home n vs)
+statement_ended p home (nexts.Sequence first at line) vs = all_one (λ v. refl) (λ ws. refl) (λ a. refl)
+statement_ended p home (nexts.Labelled row label line) vs = all_one (λ v. refl) (λ ws. refl) (λ a. refl)
+statement_ended p home (nexts.Again row line) vs = all_one (λ v. refl) (λ ws. refl) (λ a. refl)
+statement_ended p home (nexts.Condition row condition line) vs = all_one (λ v. refl) (λ ws. refl) (λ a. refl)
+statement_ended p home (nexts.Counted row line) vs = all_one (λ v. refl) (λ ws. refl) (λ a. refl)
+statement_ended p home nexts.Forget vs = all_one (λ v. refl) (λ ws. refl) (λ a. refl)
+
+-- a jump that a task does not stop goes on outward
+pub other_leaps : (p : ProgramRows) (home : Home) (t : Task) (vs : List Value) (ls : List (List Value)) (label base : ℕ)
+    → ((n : Next) → t ≡ tasks.Next n → ⊥) → after p home t vs ls (parts.Jump label base) ≡ Ret (parts.Jump label base)
+other_leaps p home (tasks.Next n) vs ls label base f = absurd (f n refl)
+other_leaps p home t vs ls label base f = refl
+
+pub other_lands : (p : ProgramRows) (home : Home) (n : Next) (vs : List Value) (label base : ℕ)
+    → ((a b c : ℕ) → n ≡ nexts.Sequence a b c → ⊥) → ((a b c : ℕ) → n ≡ nexts.Labelled a b c → ⊥)
+    → after_statement p home n vs (parts.Jump label base) ≡ Ret (parts.Jump label base)
+other_lands p home (nexts.Sequence first at line) vs label base f g = absurd (f first at line refl)
+other_lands p home (nexts.Labelled row own line) vs label base f g = absurd (g row own line refl)
+other_lands p home n vs label base f g = refl
+
+pub each_weighs : (t : Task) → 1 ≤ task_weight t
+each_weighs (tasks.Located (locateds.Passed next line)) = omega arith
+each_weighs (tasks.Actual of' next line) = omega arith
+each_weighs (tasks.Choice (choices.Until row line)) = omega arith
+each_weighs (tasks.Next (nexts.Sequence first at line)) = omega arith
+each_weighs (tasks.Next (nexts.Again row line)) = omega arith
+each_weighs t = omega arith
 
 -- ---- conditions
 

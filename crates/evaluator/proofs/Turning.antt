@@ -1,17 +1,16 @@
 -- What the turns of a body are made of.
-use Rattle.std.proofs.Common.{◌≡◌, ℕ, ◌+◌, ◌-◌, ◌<◌, ◌≤◌, List, [], ◌∷◌, ◌++◌, Bool, true}
-use Rattle.std.proofs.Common.{false, Result, Ok, Err, Option, Some, None, reverse, refl, sym, ap, subst, ◌∙◌}
-use Rattle.std.proofs.Common.{if◌then◌else◌, nat_lt, arith}
-use Rattle.std.proofs.lemmas.Bool.{ltb-false, lt-ltb, le-ltb}
+use Rattle.std.proofs.Common.{◌≡◌, ℕ, ◌+◌, ◌<◌, ◌≤◌, List, [], ◌∷◌, ◌++◌}
+use Rattle.std.proofs.Common.{Result, Ok, Err, Option, Some, None, reverse, sym, ap, subst, ◌∙◌}
+use Rattle.std.proofs.Common.{if◌then◌else◌, nat_lt}
+use Rattle.std.proofs.lemmas.Bool.{lt-ltb, le-ltb}
 use Rattle.std.proofs.lemmas.List.{reverse-append, append-nil}
 use Rattle.program_tables.specs.ProgramRows.{ProgramRows, routine_at}
-use Rattle.program_meaning.specs.State.{State}
-use Rattle.program_meaning.specs.Acts.{Trouble, Done, Went, Stops, Spend, perform}
-use Rattle.program_meaning.specs.Acts.{OutOfSteps as OutOfStepsTrouble, spent as spent_state}
+use Rattle.program_meaning.specs.Acts.{Trouble, Spend, perform}
 use Rattle.program_meaning.specs.Actions.{Action, act, performs}
-use Rattle.program_meaning.specs.Tree.{Out, Part, Here, Tree, Sub, way_of, bind, doing}
+use Rattle.program_meaning.specs.Tree.{Out, Part, Here, Tree, Sub, Line, way_of, bind, doing}
 use Rattle.program_meaning.specs.Accesses.{spend, locate, locate_before, no_row}
 use Rattle.program_meaning.specs.Layer.{layer}
+use Rattle.program_meaning.proofs.ActsTakeSteps.{Acted, acted}
 use Rattle.program_meaning.specs.Run.{Halted}
 use Rattle.eval_ops.specs.declared.halt.Halt.{Halt}
 use Rattle.eval_ops.specs.declared.halt.Halt.TheVariants.{Fault, OutOfSteps, Limited, Memory}
@@ -25,7 +24,7 @@ use Rattle.evaluator.specs.declared.tasks.Stop.TheVariants as stops
 use Rattle.evaluator.specs.Weight.{Falls}
 use Rattle.evaluator.specs.declared.body.Body.{Body}
 use Rattle.evaluator.specs.declared.tasks.Stop as row
-use Rattle.evaluator.proofs.Moves.{bind_doing, comes_same, comes_then, stops_then, begins, finished, stopped}
+use Rattle.evaluator.proofs.Moves.{bind_doing, comes_same, comes_then, stops_then, begins, finished, stopped, line_stopped}
 
 -- what was put on top comes first
 pub reverse_pushed : {A : Type 0} (xs ys : List A) (x : A) → ys ≡ xs ++ x ∷ [] → reverse ys ≡ x ∷ reverse xs
@@ -85,18 +84,17 @@ pub not_spent : (p : ProgramRows) (h : Here) (t : Tree) (K : Out → Tree) (e : 
 not_spent p h t K e m m' w = fails {X = Unit {0}} p h.line (act (Spend 1)) (λ _. t) K (λ _. tt) e m m'
     (does_act {X = Unit {0}} (Spend 1) (λ _. tt) m m' (Err e) w)
 
--- so much less is left where it was done
-abbrev Took : {A : Type 0} → ℕ → State → Done A → Type 0
-Took n σ (Went x w τ) = τ.steps + n ≡ σ.steps
-Took n σ (Stops why τ) = Unit {0}
+-- a statement did not begin, since no step was left
+pub line_fails : (p : ProgramRows) (line : ℕ) (t : Tree) (e : Halt) (m m' : Moment)
+    → Does {X = Unit {0}} (λ _. tt) (perform (Spend 1) m.state) (Err e) m m' → Fails p (Line line t) m line e m'
+line_fails p line t (Fault kind) m m' w = line_stopped line t _ m m' w
+line_fails p line t OutOfSteps m m' w = line_stopped line t _ m m' w
+line_fails p line t (Limited which) m m' w = line_stopped line t _ m m' w
+line_fails p line t Memory m m' w = tt
 
-took : (σ : State) (b : Bool) → nat_lt σ.steps 1 ≡ b
-    → Took {A = Unit {0}} 1 σ (if b then Stops OutOfStepsTrouble (spent_state σ) else Went tt [] (record σ { steps = σ.steps - 1 }))
-took σ true e = tt
-took σ false e = let k = ltb-false σ.steps 1 e in omega arith
-
-pub spent_less : (m m' : Moment) → Does {X = Unit {0}} (λ _. tt) (perform (Spend 1) m.state) (Ok tt) m m' → m'.state.steps + 1 ≡ m.state.steps
-spent_less m m' w = subst (Took 1 m.state) w.1 (took m.state (nat_lt m.state.steps 1) refl)
+-- a step fewer is left where one was taken
+pub spent_less : (m m' : Moment) → Does {X = Unit {0}} (λ _. tt) (perform (Spend 1) m.state) (Ok tt) m m' → m'.state.steps + 1 ≤ m.state.steps
+spent_less m m' w = subst (Acted 1 m.state) w.1 (acted (Spend 1) m.state)
 
 -- what needs no machine
 pub given : {A X : Type 0} (seen : X → A) (a : Action A) (r : Result X Halt) (m : Moment) → Gives seen a r → DoesAll seen (performs a m.state) r m m
@@ -117,6 +115,13 @@ before_it row access h go K l = ap (λ b. bind (if b then locate access h go els
 
 pub not_before_it : (row access : ℕ) (h : Here) (go : ℕ → Tree) (K : Out → Tree) → row ≤ access → bind (locate_before row access h go) K ≡ no_row
 not_before_it row access h go K l = ap (λ b. bind (if b then locate access h go else no_row) K) (le-ltb access row l)
+
+-- a row that is to stand after another one
+pub after_it : (a b : ℕ) (t : Tree) (K : Out → Tree) → a < b → bind (if nat_lt a b then t else no_row) K ≡ bind t K
+after_it a b t K l = ap (λ x. bind (if x then t else no_row) K) (lt-ltb a b l)
+
+pub not_after_it : (a b : ℕ) (t : Tree) (K : Out → Tree) → b ≤ a → bind (if nat_lt a b then t else no_row) K ≡ no_row
+not_after_it a b t K l = ap (λ x. bind (if x then t else no_row) K) (le-ltb a b l)
 
 -- a call was reached, with room for it
 pub entered_turns : (p : ProgramRows) (t : Tree) (m : Moment) (f : ℕ) (r : Result (Option row.Stop) Halt) (a : Body) → Entered p t m f r a

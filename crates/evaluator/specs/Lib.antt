@@ -1,6 +1,4 @@
-pub mod Choices
-pub mod Counting
-pub mod Items
+pub mod Families
 pub mod Rest
 pub mod Stops
 pub mod Turns

@@ -10,11 +10,12 @@ use Rattle.program_tables.specs.declared.rows.Row.TheVariants as rows
 use Rattle.program_tables.specs.declared.rows.StatementRow.{StatementRow}
 use Rattle.program_tables.specs.declared.rows.StatementRow.TheVariants as statements
 use Rattle.program_tables.specs.ProgramRows.{ProgramRows, row_at, type_at, routine_at}
+use Rattle.program_meaning.specs.Actions.{Action, Give, ◌>>=◌}
 use Rattle.program_meaning.specs.Tree.{Out, Nothing, Scalar, Cells, Address, Jump, Here}
 use Rattle.program_meaning.specs.Tree.{Tree, Ret, Sub, Enter, doing, bind}
 use Rattle.program_meaning.specs.Tree as parts
 use Rattle.program_meaning.specs.Values.{truth, is_true, signed, logic_of, compared, function_of}
-use Rattle.program_meaning.specs.Cells.{writes, assign, component, declaring}
+use Rattle.program_meaning.specs.Cells.{writes, assign, component, frame_out, routine_out}
 use Rattle.program_meaning.specs.Accesses.{
   no_row,
   spend,
@@ -28,9 +29,11 @@ use Rattle.program_meaning.specs.Accesses.{
   field_in,
   value_at,
 }
-use Rattle.program_meaning.specs.Expressions.{result_of, with_frame_size, on_actual}
+use Rattle.program_meaning.specs.Expressions.{result_of, with_frame_size, enter, on_actual}
 use Rattle.program_meaning.specs.Statements.{
   on_normal,
+  on_statement,
+  on_labelled,
   nothing,
   finally,
   on_value,
@@ -100,6 +103,10 @@ operand p home (operands.Component array addr line) x v = with_components p (typ
 abbrev pub pass : Home → (at line : ℕ) → List Value → Tree
 pass home at line passed = Sub (parts.Pass at passed (here home line)) Ret
 
+-- a routine that was declared so many blocks out, and the frame of that block
+abbrev pub declared : (routine levels base : ℕ) → Action (ℕ × ℕ)
+declared routine levels base = frame_out levels base >>= λ frame. Give (routine, frame)
+
 abbrev pub located : ProgramRows → Home → Located → List Value → (addr : ℕ) → Tree
 located p home (locateds.Value of' line) l addr = value_at line addr (type_at p of')
 located p home (locateds.Index index array line) l addr = spend (here home line) (eval index (here home line) (λ v.
@@ -140,13 +147,21 @@ abbrev pub with_numbers : (i last : Value) → (ℤ → ℤ → Tree) → Tree
 with_numbers (value.Number i) (value.Number last) go = go i last
 with_numbers i last go = no_row
 
+-- after a statement that ended normally
 abbrev pub next : ProgramRows → Home → Next → List Value → Tree
-next p home (nexts.Sequence at line) vs = Sub (parts.Sequence at (here home line)) Ret
+next p home (nexts.Sequence first at line) vs = Sub (parts.Sequence first at (here home line)) Ret
+next p home (nexts.Labelled row label line) vs = nothing
 next p home (nexts.Again row line) vs = turn home row line
 next p home (nexts.Condition row condition line) vs = eval condition (here home line) (until home row line)
 next p home (nexts.Counted row line) vs = with_numbers (top (below vs)) (top vs) (λ i last.
     counted home row line i last (row_at p row))
 next p home nexts.Forget vs = nothing
+
+-- after a statement, which may have ended by a jump
+abbrev pub after_statement : ProgramRows → Home → Next → List Value → Out → Tree
+after_statement p home (nexts.Sequence first at line) vs = on_statement p (here home line) first at
+after_statement p home (nexts.Labelled row label line) vs = on_labelled row label (here home line)
+after_statement p home t vs = on_normal (next p home t vs)
 
 -- what comes after a call
 abbrev pub returned : (procedure : Bool) → Out → Tree
@@ -156,8 +171,14 @@ returned false out = Ret out
 -- a call, once its actual parameters are known
 abbrev pub called : ProgramRows → Home → (procedure : Bool) → (routine levels line : ℕ) → List Value → Tree
 called p home procedure routine levels line args = with_frame_size (routine_at p routine) (λ cells.
-    doing line (declaring cells levels home.base) (λ frame.
-    Enter routine (value.Frame frame ∷ args) (returned procedure)))
+    doing line (frame_out levels home.base) (λ frame.
+    Enter routine cells (value.Frame frame ∷ args) (returned procedure)))
+
+-- the call of a routine parameter, once its actual parameters are known
+abbrev pub called_formal : ProgramRows → Home → (procedure : Bool) → (place levels line : ℕ) → List Value → Tree
+called_formal p home procedure place levels line args =
+    doing line (routine_out levels home.base place) (λ (routine, frame).
+    enter p routine frame args (returned procedure))
 
 -- what a task does with how the part before it ended
 abbrev pub after : ProgramRows → Home → Task → List Value → List (List Value) → Out → Tree
@@ -166,12 +187,14 @@ after p home (tasks.Located t) vs ls = on_address (located p home t (top_list ls
 after p home (tasks.Actual of' next line) vs ls = on_actual (here home line) (type_at p of') (λ ws.
     pass home next line (top_list ls ++ ws))
 after p home (tasks.Call procedure routine levels line) vs ls = on_cells (called p home procedure routine levels line)
+after p home (tasks.CallFormal procedure place levels line) vs ls =
+    on_cells (called_formal p home procedure place levels line)
 after p home (tasks.Choice t) vs ls = on_scalar (choice p home t (top vs))
 after p home (tasks.Target target of' line) vs ls = on_value p (here home line) target of'
 after p home (tasks.Put of' line) vs ls = on_address (λ addr.
     finally (here home line) (assign (type_at p of') addr (top vs)))
 after p home (tasks.PutCells line) vs ls = on_address (λ addr. finally (here home line) (writes addr (top_list ls)))
-after p home (tasks.Next t) vs ls = on_normal (next p home t vs)
+after p home (tasks.Next t) vs ls = after_statement p home t vs
 
 -- the values that wait below those that a task holds
 abbrev pub values_below : Task → List Value → List Value
@@ -227,7 +250,8 @@ begun p home (part.Locate row line) ts vs ls = Sub (parts.Locate row (here home 
 begun p home (part.Pass at line) ts vs ls =
     Sub (parts.Pass at (top_list ls) (here home line)) (resume p home ts vs (below ls))
 begun p home (part.Exec row line) ts vs ls = Sub (parts.Exec row (here home line)) (resume p home ts vs ls)
-begun p home (part.Sequence at line) ts vs ls = Sub (parts.Sequence at (here home line)) (resume p home ts vs ls)
+begun p home (part.Sequence first at line) ts vs ls =
+    Sub (parts.Sequence first at (here home line)) (resume p home ts vs ls)
 begun p home (part.Turn row line) ts vs ls = Sub (parts.Turn row (here home line)) (resume p home ts vs ls)
 begun p home part.Block ts vs ls = Sub (parts.Body home.routine home.base) (resume p home ts vs ls)
 

@@ -2,8 +2,10 @@
 use Rattle.std.specs.Prelude.{◌≡◌, ℕ, zero, suc, List, ◌++◌, Option, Some, None}
 use Rattle.cell_value.specs.declared.values.Value.{Value}
 use Rattle.cell_value.specs.declared.entries.Touch.{Touch}
+use Rattle.cell_value.specs.declared.ways_out.WayOut.TheVariants as way
+use Rattle.cell_value.specs.declared.ways_out.Which.{Which}
 use Rattle.program_tables.specs.ProgramRows.{ProgramRows}
-use Rattle.program_meaning.specs.Acts.{Done, Went, Stops, perform}
+use Rattle.program_meaning.specs.Acts.{Spend, Done, Went, Stops, perform, limit_passed}
 use Rattle.program_meaning.specs.Tree.{Out, Tree, Ret, Halt, Do, Sub, Enter, Line, way_of, bind}
 use Rattle.program_meaning.specs.Layer.{layer}
 use Rattle.program_meaning.specs.Run.{End, Ended, Halted}
@@ -20,17 +22,25 @@ pub data Stop : Type 0 where
 abbrev pub on_act : {A : Type 0} → (line : ℕ) → List Touch → Done A → (A → Moment → Option (Stop × Moment))
     → Option (Stop × Moment)
 on_act line log (Went x touches σ) go = go x (record { state = σ; log = log ++ touches })
-on_act line log (Stops why σ) go = Some (AtEnd (Halted (way_of line why)), record { state = σ; log = log })
+on_act line log (Stops why touches σ) go =
+    Some (AtEnd (Halted (way_of line why)), record { state = σ; log = log ++ touches })
+
+-- a call that would pass a limit ends the body
+abbrev pub at_call : Option Which → (routine : ℕ) → List Value → (Out → Tree) → Stop
+at_call None routine args rest = AtCall routine args rest
+at_call (Some which) routine args rest = AtEnd (Halted (way.Limited which))
 
 -- the next stop of a tree, in at most n moves
 abbrev pub next_stop : ProgramRows → ℕ → Tree → Moment → Option (Stop × Moment)
 next_stop p zero t m = None
 next_stop p (suc n) (Ret out) m = Some (AtEnd (Ended out), m)
-next_stop p (suc n) (Halt way) m = Some (AtEnd (Halted way), m)
+next_stop p (suc n) (Halt line why) m = Some (AtEnd (Halted (way_of line why)), m)
 next_stop p (suc n) (Do line act next) m = on_act line m.log (perform act m.state) (λ x m'. next_stop p n (next x) m')
 next_stop p (suc n) (Sub part next) m = next_stop p n (bind (layer p part) next) m
-next_stop p (suc n) (Enter routine args next) m = Some (AtCall routine args next, m)
-next_stop p (suc n) (Line line next) m = Some (AtLine line next, m)
+next_stop p (suc n) (Enter routine cells args next) m =
+    Some (at_call (limit_passed m.state cells) routine args next, m)
+next_stop p (suc n) (Line line next) m =
+    on_act line m.log (perform (Spend 1) m.state) (λ _ m'. Some (AtLine line next, m'))
 
 -- from a tree and a moment a run comes to another tree at another moment, with no stop between
 pub record Comes (p : ProgramRows) (t : Tree) (m : Moment) (t' : Tree) (m' : Moment) : Type 0 where

@@ -1,5 +1,5 @@
 -- What a body has still to do, as a number that falls from turn to turn.
-use Rattle.std.specs.Prelude.{ℕ, ◌+◌, ◌*◌, ◌<◌, sum_by, Result, Ok, Option, None}
+use Rattle.std.specs.Prelude.{ℕ, ◌+◌, ◌-◌, ◌*◌, ◌<◌, sum_by, Result, Ok, Option, None}
 use Rattle.eval_ops.specs.declared.machine.Machine.{Machine}
 use Rattle.evaluator.specs.declared.body.Body.{Body}
 use Rattle.evaluator.specs.declared.tasks.Part.{Part}
@@ -22,13 +22,14 @@ come = 34359738368
 abbrev pub operand_most : ℕ
 operand_most = 17179869196
 
--- A part that takes a step before it ends weighs less than its end.
+-- A part that takes a step before it ends weighs less than its end. A labelled statement begins the one after it
+-- without a step between.
 abbrev pub part_weight : Part → ℕ
 part_weight (part.Eval row line) = 4 * row + 8
 part_weight (part.Locate row line) = 4 * row + 4
 part_weight (part.Pass at line) = come + 1
-part_weight (part.Exec row line) = 0
-part_weight (part.Sequence at line) = come + 1
+part_weight (part.Exec row line) = 2 * (4294967296 - row)
+part_weight (part.Sequence first at line) = come + 1
 part_weight (part.Turn row line) = come + 4
 part_weight part.Block = 0
 
@@ -41,7 +42,7 @@ abbrev pub task_weight : Task → ℕ
 task_weight (tasks.Located (locateds.Passed next line)) = 2
 task_weight (tasks.Actual of' next line) = 2
 task_weight (tasks.Choice (choices.Until row line)) = 5
-task_weight (tasks.Next (nexts.Sequence at line)) = 2
+task_weight (tasks.Next (nexts.Sequence first at line)) = 2
 task_weight (tasks.Next (nexts.Again row line)) = 5
 task_weight t = 1
 

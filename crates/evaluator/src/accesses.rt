@@ -7,7 +7,7 @@ ghost use Rattle.program_meaning.specs.Tree.{bind, doing};
 ghost use Rattle.program_meaning.specs.Tree.{Cells as CellsOut};
 ghost use Rattle.program_meaning.specs.Cells as action;
 ghost use Rattle.program_meaning.specs.Cells.{cell_out, reference_out};
-ghost use Rattle.program_meaning.specs.Accesses.{access_in, address, cells_at, field_in};
+ghost use Rattle.program_meaning.specs.Accesses.{address, cells_at, field_in};
 ghost use Rattle.program_meaning.specs.Accesses.{field_of, of_access, value_at, with_bounds};
 ghost use Rattle.program_meaning.specs.Accesses.{with_components};
 ghost use Rattle.program_meaning.specs.Accesses.{spend as spend_in};
@@ -43,27 +43,7 @@ impl Body {
         ensures home { self.new.home ≡ self.old.home }
         ensures ready { IsReady machine.new }
     {
-        self.locate_row(program, machine, program.row(row), row, line)
-    }
-
-    /// An access begins, by its row.
-    fn locate_row(
-        &mut self,
-        program: &Program,
-        machine: &mut Machine,
-        found: Row,
-        row: u32,
-        line: u32,
-    ) -> Turned
-        requires ready { IsReady machine.old }
-        ensures turns { Turns program.now (bind (access_in program.now row (here self.old.home line) found)
-            (waiting program.now self.old)) (moment_of machine.old) result self.new (moment_of machine.new) }
-        ensures falls { Falls result (left_of self.new machine.new)
-            (left_with machine.old.steps (part_weight (Part.Locate row line) + tasks_weight self.old)) }
-        ensures home { self.new.home ≡ self.old.home }
-        ensures ready { IsReady machine.new }
-    {
-        match found {
+        match program.row(row) {
             Row::Access(access) => self.access(program, machine, access, row, line),
             _ => self.no_row(),
         }

@@ -1,6 +1,6 @@
 //! A body, and its run from stop to stop.
 
-ghost use Rattle.std.specs.Prelude.{◌≡◌, ◌+◌, ◌++◌, ◌∷◌, [], Ok, Err, None, Some, IfOk, IfErr, OnOk, ℕ};
+ghost use Rattle.std.specs.Prelude.{◌≡◌, ◌==◌, ◌&&◌, ◌+◌, ◌++◌, ◌∷◌, [], Ok, Err, None, Some, IfOk, IfErr, OnOk, ℕ};
 ghost use Rattle.cell_value.specs.declared.values.Value.{Value as CellValue};
 ghost use Rattle.program_tables.specs.declared.program.Routine.{Routine as RoutineRow};
 ghost use Rattle.program_tables.specs.ProgramRows.{ProgramRows, routine_at};
@@ -23,6 +23,7 @@ ghost use Rattle.evaluator.specs.Weight.{task_weight, tasks_weight};
 use crate::tasks::{Choice, Home, Located, Next, Now, Operand, Part, Stop, Task, Way};
 use cell_value::{Cells, Kind, Memory, Value, WayOut};
 use eval_ops::{Halt, Machine, moved, result_at, spend};
+use eval_rules::labelled_in;
 use program_tables::rows::{PartRow, Row, TypeRow};
 use program_tables::{Program, Routine};
 use std::alloc::{AllocError, Global};
@@ -41,6 +42,13 @@ pub struct Body {
     pub(crate) now: Now,
     /// The line at which the last turn failed.
     pub(crate) line: u32,
+}
+
+/// Whether a jump to a label in the frame at a base is to this label of this frame.
+fn is_to(label: u32, base: u32, own: u32, frame: u32) -> bool
+    ensures { result ≡ (label == own) && (base == frame) }
+{
+    label == own && base == frame
 }
 
 /// How a turn ends: at a stop, or before one, or it fails on the body's `line`.
@@ -254,7 +262,7 @@ impl Body {
     {
         match self.now {
             Now::Begin(part) => self.begin(alloc, program, machine, part),
-            Now::Carry(row) => self.carry(alloc, program, row),
+            Now::Carry(row) => self.carry(alloc, program, machine, row),
             Now::Came(way) => self.came(alloc, program, machine, way),
         }
     }
@@ -278,9 +286,9 @@ impl Body {
         match part {
             Part::Eval { row, line } => self.evaluate(alloc, program, machine, row, line),
             Part::Locate { row, line } => self.locate(program, machine, row, line),
-            Part::Pass { at, line } => self.pass(program, at, line),
+            Part::Pass { at, line } => self.pass(alloc, program, machine, at, line),
             Part::Exec { row, line } => self.execute(program, machine, row, line),
-            Part::Sequence { at, line } => self.sequence(program, at, line),
+            Part::Sequence { first, at, line } => self.sequence(program, first, at, line),
             Part::Turn { row, line } => self.turn_again(program, row, line),
             Part::Block => self.block(program, machine),
         }
@@ -300,6 +308,7 @@ impl Body {
             None => self.no_row(),
             Some(routine) => match spend(machine, 1) {
                 Ok(()) => self.go(Now::Begin(Part::Sequence {
+                    first: routine.statements,
                     at: routine.statements,
                     line: routine.line,
                 })),
@@ -346,7 +355,7 @@ impl Body {
             Way::Scalar(value) => self.after_scalar(alloc, program, machine, task, value),
             Way::Cells => self.after_cells(alloc, program, machine, task),
             Way::Address(addr) => self.after_address(alloc, program, machine, task, addr),
-            Way::Jump(label, base) => self.leap(alloc, task, label, base),
+            Way::Jump(label, base) => self.leap(alloc, program, task, label, base),
         }
     }
 
@@ -449,41 +458,87 @@ impl Body {
                 levels,
                 line,
             } => self.call(alloc, program, machine, procedure, routine, levels, line),
+            Task::CallFormal {
+                procedure,
+                place,
+                levels,
+                line,
+            } => self.call_formal(alloc, program, machine, procedure, place, levels, line),
             Task::Target { target, of, line } => self.target_cells(program, target, of, line),
-            Task::Next(next) => self.next_after_cells(alloc, program, machine, next),
+            Task::Next(next) => {
+                // The cells are of no use to it.
+                self.drop_list(alloc);
+                self.next(alloc, program, machine, next)
+            }
             _ => self.no_row(),
         }
     }
 
-    /// A task goes on after cells, which are of no use to it.
-    fn next_after_cells(
+    /// A jump comes to a task on its way outward.
+    fn leap(
         &mut self,
         alloc: Global,
         program: &Program,
-        machine: &mut Machine,
-        next: Next,
+        task: Task,
+        label: u32,
+        base: u32,
     ) -> Turned
-        requires ready { IsReady machine.old }
-        ensures turns { Turns program.now (from_under program.now self.old (Now.Came Way.Cells) (Task.Next next))
-            (moment_of machine.old) result self.new (moment_of machine.new) }
-        ensures falls { Falls result (left_of self.new machine.new)
-            (left_with machine.old.steps (come + task_weight (Task.Next next) + tasks_weight self.old)) }
+        ensures turns { (m : Moment) → Turns program.now
+            (from_under program.now self.old (Now.Came (Way.Jump label base)) task) m result self.new m }
+        ensures falls { Falls result (body_weight self.new) (come + task_weight task + tasks_weight self.old) }
         ensures home { self.new.home ≡ self.old.home }
-        ensures ready { IsReady machine.new }
     {
-        drop(self.take_list(alloc));
-        self.next(alloc, program, machine, next)
+        match task {
+            Task::Next(next) => self.land(alloc, program, next, label, base),
+            _ => {
+                self.let_go(alloc, task);
+                self.go(Now::Came(Way::Jump(label, base)))
+            }
+        }
     }
 
-    /// A jump passes a task on its way outward.
-    fn leap(&mut self, alloc: Global, task: Task, label: u32, base: u32) -> Turned
-        ensures turns { (p : ProgramRows) (m : Moment)
-            → Turns p (from_under p self.old (Now.Came (Way.Jump label base)) task) m result self.new m }
-        ensures falls { Falls result (body_weight self.new) (come + 1 + tasks_weight self.old) }
+    /// A jump comes to what follows a statement. In the frame of its label it goes on from the statement of the
+    /// sequence that has the label, or begins the labelled statement again (6.8.1), and else it goes on outward.
+    fn land(
+        &mut self,
+        alloc: Global,
+        program: &Program,
+        next: Next,
+        label: u32,
+        base: u32,
+    ) -> Turned
+        ensures turns { (m : Moment) → Turns program.now
+            (from_under program.now self.old (Now.Came (Way.Jump label base)) (Task.Next next)) m result self.new m }
+        ensures falls { Falls result (body_weight self.new)
+            (come + task_weight (Task.Next next) + tasks_weight self.old) }
         ensures home { self.new.home ≡ self.old.home }
     {
-        self.let_go(alloc, task);
-        self.go(Now::Came(Way::Jump(label, base)))
+        let outward = Now::Came(Way::Jump(label, base));
+        match next {
+            Next::Sequence { first, line, .. } => {
+                if base == self.home.base {
+                    match labelled_in(program, first, label) {
+                        Some(at) => self.go(Now::Begin(Part::Sequence { first, at, line })),
+                        None => self.go(outward),
+                    }
+                } else {
+                    self.go(outward)
+                }
+            }
+            Next::Labelled {
+                row,
+                label: own,
+                line,
+            } => {
+                let again = Now::Begin(Part::Exec { row, line });
+                let found = is_to(label, base, own, self.home.base);
+                self.either(found, again, outward)
+            }
+            _ => {
+                self.let_go(alloc, Task::Next(next));
+                self.go(outward)
+            }
+        }
     }
 
     /// Lets go of what a task holds.

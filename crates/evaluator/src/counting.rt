@@ -1,14 +1,13 @@
 //! The turns of for statements.
 
-ghost use Rattle.std.specs.Prelude.{◌≡◌, ◌+◌, true, false};
-ghost use Rattle.std.specs.Ordering.{int_eq};
+ghost use Rattle.std.specs.Prelude.{◌≡◌, ◌+◌, true};
 ghost use Rattle.cell_value.specs.declared.values.Value.TheVariants as CellValue;
 ghost use Rattle.program_tables.specs.ProgramRows.{ProgramRows, row_at};
 ghost use Rattle.program_meaning.specs.Tree.{Count, Exec, Sub, bind};
 ghost use Rattle.program_meaning.specs.Statements as statements;
 ghost use Rattle.eval_ops.specs.Machines.{Gives, IsReady, Moment, moment_of};
 ghost use Rattle.evaluator.specs.Rest.{counted, here, waiting, with_numbers};
-ghost use Rattle.evaluator.specs.Counting.{both, span_in, turns_in, turns_row};
+ghost use Rattle.eval_rules.specs.Counting.{turns_row};
 ghost use Rattle.evaluator.specs.Turns.{Turns};
 ghost use Rattle.evaluator.specs.Weight.{Falls, body_weight, come, left_of, left_with, tasks_weight};
 
@@ -16,122 +15,12 @@ use crate::body::{Body, Turned};
 use crate::tasks::{Next, Now, Part, Task};
 use cell_value::Value;
 use eval_ops::{Halt, Machine, moved, passed, test, write_cell};
+use eval_rules::{
+    Counting, Span, counting_at, has_turn, is_last, last_value, turn_after, turn_value,
+};
 use program_tables::Program;
-use program_tables::rows::{Direction, Row, StatementRow, TypeRow};
+use program_tables::rows::TypeRow;
 use std::alloc::Global;
-
-/// How far a for statement has come: the value of a turn, and that of the last one.
-#[derive(Clone, Copy)]
-pub(crate) struct Span {
-    value: i64,
-    last: i64,
-}
-
-/// What the row of the turns of a for statement says.
-#[derive(Clone, Copy)]
-pub(crate) struct Counting {
-    pub(crate) direction: Direction,
-    /// The last value's expression.
-    pub(crate) last: u32,
-    /// The place of the control variable in the frame.
-    pub(crate) place: u32,
-    /// The type of the control variable.
-    pub(crate) of: u32,
-    pub(crate) body: u32,
-}
-
-/// The turns of a for statement, by their row.
-pub(crate) fn turns_of(program: &Program, row: u32) -> Option<Counting>
-    ensures { result ≡ turns_in (row_at program.now row) }
-{
-    match program.row(row) {
-        Row::Statement(
-            StatementRow::Turns {
-                direction,
-                last,
-                place,
-                of,
-                body,
-            },
-        ) => Some(Counting {
-            direction,
-            last,
-            place,
-            of,
-            body,
-        }),
-        _ => None,
-    }
-}
-
-/// How far a for statement has come, if both values are numbers.
-fn span_of(value: Value, last: Value) -> Option<Span>
-    ensures { result ≡ span_in value last }
-{
-    match (value, last) {
-        (Value::Number(value), Value::Number(last)) => Some(Span { value, last }),
-        _ => None,
-    }
-}
-
-/// The turns of a for statement, by their row, and how far it has come, by two values.
-fn counting_at(program: &Program, row: u32, value: Value, last: Value) -> Option<(Counting, Span)>
-    ensures { result ≡ both (turns_in (row_at program.now row)) (span_in value last) }
-{
-    match (turns_of(program, row), span_of(value, last)) {
-        (Some(counting), Some(span)) => Some((counting, span)),
-        _ => None,
-    }
-}
-
-/// The value of a turn.
-fn turn_value(span: Span) -> Value
-    ensures { result ≡ CellValue.Number span.value }
-{
-    Value::Number(span.value)
-}
-
-/// The value of the last turn.
-fn last_value(span: Span) -> Value
-    ensures { result ≡ CellValue.Number span.last }
-{
-    Value::Number(span.last)
-}
-
-/// Whether a for statement has a turn with a value, where it counts to the last one.
-fn has_turn(direction: Direction, span: Span) -> bool
-    ensures { result ≡ statements.has_turn direction span.value span.last }
-{
-    match direction {
-        Direction::Up => span.value <= span.last,
-        Direction::Down => span.last <= span.value,
-    }
-}
-
-/// Whether a turn of a for statement is the last.
-fn is_last(span: Span) -> bool
-    ensures { result ≡ int_eq span.value span.last }
-{
-    span.value == span.last
-}
-
-/// The turn after another that is not the last.
-fn turn_after(direction: Direction, span: Span) -> Span
-    requires turn { statements.has_turn direction span.value span.last ≡ true }
-    requires not_last { int_eq span.value span.last ≡ false }
-    ensures value { result.value ≡ statements.value_after direction span.value }
-    ensures last { result.last ≡ span.last }
-    ensures turn { statements.has_turn direction result.value result.last ≡ true }
-{
-    let value = match direction {
-        Direction::Up => span.value + 1,
-        Direction::Down => span.value - 1,
-    };
-    Span {
-        value,
-        last: span.last,
-    }
-}
 
 /// The test of both bounds of a for statement that has a turn, for the type of its control variable.
 fn bounds_tested(kind: Option<TypeRow>, span: Span) -> Result<Value, Halt>
@@ -236,7 +125,7 @@ impl Body {
             (Sub (Count row span.value span.last (here self.old.home line)) (waiting p self.old))
             (moment_of machine.old) result self.new (moment_of machine.new) }
         ensures falls { Falls result (left_of self.new machine.new)
-            (left_with machine.old.steps (2 + tasks_weight self.old)) }
+            (left_with machine.old.steps (come + tasks_weight self.old)) }
         ensures home { self.new.home ≡ self.old.home }
         ensures ready { IsReady machine.new }
     {
@@ -252,7 +141,7 @@ impl Body {
         ensures turns { (p : ProgramRows) (m : Moment) → Turns p (Sub (Exec body (here self.old.home line)) (λ out. bind
             (statements.on_normal (counted self.old.home row line span.value span.last (row_at p row)) out)
             (waiting p self.old))) m result self.new m }
-        ensures falls { Falls result (body_weight self.new) (2 + tasks_weight self.old) }
+        ensures falls { Falls result (body_weight self.new) (come + tasks_weight self.old) }
         ensures home { self.new.home ≡ self.old.home }
     {
         self.values.push(turn_value(span))?;

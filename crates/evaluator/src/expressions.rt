@@ -1,55 +1,24 @@
 //! Expressions.
 
 ghost use Rattle.std.specs.Prelude.{◌≡◌, ◌+◌, ◌*◌};
-ghost use Rattle.cell_value.specs.declared.values.Value.{Value as CellValue};
+ghost use Rattle.program_tables.specs.ProgramRows.{ProgramRows};
 ghost use Rattle.eval_ops.specs.Machines.{IsReady, Moment, moment_of};
 ghost use Rattle.program_meaning.specs.Tree.{bind};
-ghost use Rattle.program_meaning.specs.Accesses as accesses;
-ghost use Rattle.program_meaning.specs.Expressions.{expression_in, of_expression};
-ghost use Rattle.program_meaning.specs.Values.{logic_of};
+ghost use Rattle.program_meaning.specs.Expressions.{of_expression};
+ghost use Rattle.evaluator.specs.Families.{of_dyadic, of_left};
 ghost use Rattle.evaluator.specs.Rest.{from, from_under, here, waiting};
 ghost use Rattle.evaluator.specs.Turns.{Turns};
-ghost use Rattle.evaluator.specs.Weight.{Falls, body_weight, come, left_of, left_with, part_weight, task_weight};
+ghost use Rattle.evaluator.specs.Weight.{Falls, body_weight, come, left_of, left_with, task_weight};
 ghost use Rattle.evaluator.specs.Weight.{now_weight, tasks_weight};
 
 use crate::body::{Body, Turned};
 use crate::tasks::{Located, Now, Operand, Part, Task, Way};
 use cell_value::{Value, arith};
 use eval_ops::{Machine, compare_ordinals, is_true, ordinal_function, passed, sign, spend, truth};
+use eval_rules::{combine, constant, type_accessed};
 use program_tables::Program;
-use program_tables::rows::{AccessRow, ExpressionRow, Logic, Row};
+use program_tables::rows::{ExpressionRow, Row};
 use std::alloc::Global;
-
-/// The type of what is accessed.
-fn type_accessed(access: AccessRow) -> u32
-    ensures { result ≡ accesses.type_accessed access }
-{
-    match access {
-        AccessRow::Variable { of, .. } => of,
-        AccessRow::Reference { of, .. } => of,
-        AccessRow::Within { of, .. } => of,
-        AccessRow::Index { of, .. } => of,
-        AccessRow::Field { of, .. } => of,
-        AccessRow::Dereference { of, .. } => of,
-    }
-}
-
-/// The value of a constant of an ordinal type.
-fn constant(value: i32) -> Value
-    ensures { result ≡ CellValue.Number value }
-{
-    Value::Number(i64::from(value))
-}
-
-/// An operator on two truths.
-fn combine(operator: Logic, left: bool, right: bool) -> bool
-    ensures { result ≡ logic_of operator left right }
-{
-    match operator {
-        Logic::And => left && right,
-        Logic::Or => left || right,
-    }
-}
 
 impl Body {
     /// An expression begins.
@@ -63,35 +32,13 @@ impl Body {
     ) -> Turned
         requires ready { IsReady machine.old }
         ensures turns { Turns program.now (from program.now self.old (Now.Begin (Part.Eval row line)))
-            (moment_of machine.old) result self.new
-            (moment_of machine.new) }
+            (moment_of machine.old) result self.new (moment_of machine.new) }
         ensures falls { Falls result (left_of self.new machine.new)
             (left_with machine.old.steps (now_weight (Now.Begin (Part.Eval row line)) + tasks_weight self.old)) }
         ensures home { self.new.home ≡ self.old.home }
         ensures ready { IsReady machine.new }
     {
-        self.evaluate_row(alloc, program, machine, program.row(row), row, line)
-    }
-
-    /// An expression begins, by its row.
-    fn evaluate_row(
-        &mut self,
-        alloc: Global,
-        program: &Program,
-        machine: &mut Machine,
-        found: Row,
-        row: u32,
-        line: u32,
-    ) -> Turned
-        requires ready { IsReady machine.old }
-        ensures turns { Turns program.now (bind (expression_in program.now row (here self.old.home line) found)
-            (waiting program.now self.old)) (moment_of machine.old) result self.new (moment_of machine.new) }
-        ensures falls { Falls result (left_of self.new machine.new)
-            (left_with machine.old.steps (part_weight (Part.Eval row line) + tasks_weight self.old)) }
-        ensures home { self.new.home ≡ self.old.home }
-        ensures ready { IsReady machine.new }
-    {
-        match found {
+        match program.row(row) {
             Row::Expression(expression) => match spend(machine, 1) {
                 Ok(()) => self.expression(alloc, program, expression, line),
                 Err(halt) => self.fail(line, halt),
@@ -130,6 +77,65 @@ impl Body {
                 Task::Operand(Operand::Not),
                 Now::Begin(Part::Eval { row: operand, line }),
             ),
+            ExpressionRow::Arithmetic { .. } => self.dyadic(expression, line),
+            ExpressionRow::Logic { .. } => self.dyadic(expression, line),
+            ExpressionRow::Compare { .. } => self.dyadic(expression, line),
+            ExpressionRow::Apply {
+                routine,
+                levels,
+                actuals,
+            } => self.begin_call(
+                alloc,
+                Task::Call {
+                    procedure: false,
+                    routine,
+                    levels,
+                    line,
+                },
+                actuals,
+                line,
+            ),
+            ExpressionRow::ApplyFormal {
+                place,
+                levels,
+                actuals,
+            } => self.begin_call(
+                alloc,
+                Task::CallFormal {
+                    procedure: false,
+                    place,
+                    levels,
+                    line,
+                },
+                actuals,
+                line,
+            ),
+            ExpressionRow::Function {
+                function,
+                operand,
+                least,
+                greatest,
+            } => self.wait(
+                Task::Operand(Operand::Function {
+                    function,
+                    least,
+                    greatest,
+                    line,
+                }),
+                Now::Begin(Part::Eval { row: operand, line }),
+            ),
+            _ => self.no_row(),
+        }
+    }
+
+    /// An expression with a dyadic operator (6.7.2) whose step is taken: its left operand begins.
+    fn dyadic(&mut self, expression: ExpressionRow, line: u32) -> Turned
+        ensures turns { (p : ProgramRows) (m : Moment) → Turns p (bind (of_dyadic p (here self.old.home line)
+            expression) (waiting p self.old)) m result self.new m }
+        ensures falls { Falls result (body_weight self.new) (2 * come + tasks_weight self.old) }
+        ensures home { self.new.home ≡ self.old.home }
+    {
+        match expression {
             ExpressionRow::Arithmetic {
                 operator,
                 left,
@@ -158,25 +164,6 @@ impl Body {
                 Task::Operand(Operand::CompareRight { order, right, line }),
                 Now::Begin(Part::Eval { row: left, line }),
             ),
-            ExpressionRow::Apply {
-                routine,
-                levels,
-                actuals,
-            } => { self.begin_call(alloc, program, false, routine, levels, actuals, line) }
-            ExpressionRow::Function {
-                function,
-                operand,
-                least,
-                greatest,
-            } => self.wait(
-                Task::Operand(Operand::Function {
-                    function,
-                    least,
-                    greatest,
-                    line,
-                }),
-                Now::Begin(Part::Eval { row: operand, line }),
-            ),
             _ => self.no_row(),
         }
     }
@@ -193,41 +180,18 @@ impl Body {
         match operand {
             Operand::Sign { minus, line } => self.scalar(line, passed(sign(minus, value))),
             Operand::Not => self.go(Now::Came(Way::Scalar(truth(!is_true(value))))),
-            Operand::ArithmeticRight {
-                operator,
-                right,
-                line,
-            } => self.hold(
-                value,
-                Task::Operand(Operand::Arithmetic { operator, line }),
-                Now::Begin(Part::Eval { row: right, line }),
-            ),
+            Operand::ArithmeticRight { .. } => self.left_operand(operand, value),
             Operand::Arithmetic { operator, line } => {
                 let left = self.take_value();
                 self.scalar(line, passed(arith(operator, left, value)))
             }
-            Operand::LogicRight {
-                operator,
-                right,
-                line,
-            } => self.hold(
-                value,
-                Task::Operand(Operand::Logic { operator }),
-                Now::Begin(Part::Eval { row: right, line }),
-            ),
+            Operand::LogicRight { .. } => self.left_operand(operand, value),
             Operand::Logic { operator } => {
                 let left = self.take_value();
-                self.go(Now::Came(Way::Scalar(truth(combine(
-                    operator,
-                    is_true(left),
-                    is_true(value),
-                )))))
+                let holds = combine(operator, is_true(left), is_true(value));
+                self.go(Now::Came(Way::Scalar(truth(holds))))
             }
-            Operand::CompareRight { order, right, line } => self.hold(
-                value,
-                Task::Operand(Operand::Compare { order, line }),
-                Now::Begin(Part::Eval { row: right, line }),
-            ),
+            Operand::CompareRight { .. } => self.left_operand(operand, value),
             Operand::Compare { order, line } => {
                 let left = self.take_value();
                 self.scalar(line, passed(compare_ordinals(order, left, value)))
@@ -250,6 +214,42 @@ impl Body {
                 line,
                 value,
             ),
+        }
+    }
+
+    /// The left operand of a dyadic operator has a value, which waits: the right operand begins.
+    fn left_operand(&mut self, operand: Operand, value: Value) -> Turned
+        ensures turns { (p : ProgramRows) (m : Moment) → Turns p (bind (of_left p self.old.home operand value)
+            (waiting p self.old)) m result self.new m }
+        ensures falls { Falls result (body_weight self.new) (come + task_weight (Task.Operand operand)
+            + tasks_weight self.old) }
+        ensures home { self.new.home ≡ self.old.home }
+    {
+        match operand {
+            Operand::ArithmeticRight {
+                operator,
+                right,
+                line,
+            } => self.hold(
+                value,
+                Task::Operand(Operand::Arithmetic { operator, line }),
+                Now::Begin(Part::Eval { row: right, line }),
+            ),
+            Operand::LogicRight {
+                operator,
+                right,
+                line,
+            } => self.hold(
+                value,
+                Task::Operand(Operand::Logic { operator }),
+                Now::Begin(Part::Eval { row: right, line }),
+            ),
+            Operand::CompareRight { order, right, line } => self.hold(
+                value,
+                Task::Operand(Operand::Compare { order, line }),
+                Now::Begin(Part::Eval { row: right, line }),
+            ),
+            _ => self.no_row(),
         }
     }
 }

@@ -5,7 +5,6 @@
 mod accesses;
 mod actuals;
 mod body;
-mod choices;
 mod counting;
 mod expressions;
 mod statements;

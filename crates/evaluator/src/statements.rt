@@ -3,51 +3,24 @@
 ghost use Rattle.std.specs.Prelude.{◌≡◌, ◌+◌, ℕ, if◌then◌else◌, max};
 ghost use Rattle.program_tables.specs.ProgramRows.{ProgramRows, row_at};
 ghost use Rattle.program_meaning.specs.Acts.{Spend};
-ghost use Rattle.program_meaning.specs.Tree.{Do, Line, Nothing, bind};
+ghost use Rattle.program_meaning.specs.Tree.{Do, Jump, Line, Nothing, Ret, bind, doing};
+ghost use Rattle.program_meaning.specs.Cells.{frame_out};
 ghost use Rattle.program_meaning.specs.Statements as statements;
 ghost use Rattle.eval_ops.specs.Machines.{IsReady, Moment, moment_of};
+ghost use Rattle.evaluator.specs.Families.{of_conditional};
 ghost use Rattle.evaluator.specs.Rest.{carry_with, from, from_under, here, waiting};
-ghost use Rattle.evaluator.specs.Items.{element_in};
 ghost use Rattle.evaluator.specs.Turns.{Turns};
 ghost use Rattle.evaluator.specs.Weight.{Falls, body_weight, come, left_of, left_with, now_weight, operand_most};
-ghost use Rattle.evaluator.specs.Weight.{task_weight, tasks_weight};
+ghost use Rattle.evaluator.specs.Weight.{part_weight, task_weight, tasks_weight};
 
 use crate::body::{Body, Turned};
-use crate::choices::{Case, case_of};
-use crate::counting::turns_of;
 use crate::tasks::{Choice, Next, Now, Part, Stop, Task, Way};
 use cell_value::{Kind, Value};
-use eval_ops::{Halt, Machine, assign, is_true, spend, write_cells};
+use eval_ops::{Halt, Machine, assign, frame_out, is_true, spend, write_cells};
+use eval_rules::{Case, case_of, element_of, line_of, turns_of};
 use program_tables::Program;
-use program_tables::rows::{ItemRow, Row, StatementRow};
+use program_tables::rows::{Row, StatementRow};
 use std::alloc::Global;
-
-/// The line of a statement that is neither compound nor empty.
-fn line_of(statement: StatementRow) -> Option<u32>
-    ensures { result ≡ statements.line_of statement }
-{
-    match statement {
-        StatementRow::Assign { line, .. } => Some(line),
-        StatementRow::Call { line, .. } => Some(line),
-        StatementRow::If { line, .. } => Some(line),
-        StatementRow::IfElse { line, .. } => Some(line),
-        StatementRow::Case { line, .. } => Some(line),
-        StatementRow::Repeat { line, .. } => Some(line),
-        StatementRow::While { line, .. } => Some(line),
-        StatementRow::For { line, .. } => Some(line),
-        _ => None,
-    }
-}
-
-/// A statement of a sequence and the item after it.
-fn element_of(row: Row) -> Option<(u32, u32)>
-    ensures { result ≡ element_in row }
-{
-    match row {
-        Row::Item(ItemRow::Element { item, next }) => Some((item, next)),
-        _ => None,
-    }
-}
 
 impl Body {
     /// A step of a statement on a line is taken, and then this is at work.
@@ -67,10 +40,9 @@ impl Body {
     }
 
     /// A statement that is neither compound nor empty takes its step and tells its line.
-    fn tell(&mut self, machine: &mut Machine, line: u32, own: u32, row: u32) -> Turned
+    fn tell(&mut self, machine: &mut Machine, line: u32, row: u32) -> Turned
         requires ready { IsReady machine.old }
-        ensures turns { (p : ProgramRows)
-            → Turns p (Do line (Spend 1) (λ _. Line own (from p self.old (Now.Carry row))))
+        ensures turns { (p : ProgramRows) → Turns p (Line line (from p self.old (Now.Carry row)))
             (moment_of machine.old) result self.new (moment_of machine.new) }
         ensures falls { Falls result (left_of self.new machine.new) 0 }
         ensures home { self.new.home ≡ self.old.home }
@@ -79,7 +51,7 @@ impl Body {
         match spend(machine, 1) {
             Ok(()) => {
                 self.now = Now::Carry(row);
-                Ok(Some(Stop::Line(own)))
+                Ok(Some(Stop::Line(line)))
             }
             Err(halt) => self.fail(line, halt),
         }
@@ -120,7 +92,7 @@ impl Body {
             → Turns p (bind (statements.statement p row (here self.old.home line) statement) (waiting p self.old))
             (moment_of machine.old) result self.new (moment_of machine.new) }
         ensures falls { Falls result (left_of self.new machine.new)
-            (left_with machine.old.steps (tasks_weight self.old)) }
+            (left_with machine.old.steps (part_weight (Part.Exec row line) + tasks_weight self.old)) }
         ensures home { self.new.home ≡ self.old.home }
         ensures ready { IsReady machine.new }
     {
@@ -128,27 +100,50 @@ impl Body {
             StatementRow::Empty => self.step(machine, line, Now::Came(Way::Nothing)),
             StatementRow::Compound { statements } => {
                 let inside = Part::Sequence {
+                    first: statements,
                     at: statements,
                     line,
                 };
                 self.step(machine, line, Now::Begin(inside))
             }
+            StatementRow::Labelled {
+                label,
+                statement: inner,
+            } => {
+                if row < inner {
+                    self.wait(
+                        Task::Next(Next::Labelled { row, label, line }),
+                        Now::Begin(Part::Exec { row: inner, line }),
+                    )
+                } else {
+                    self.no_row()
+                }
+            }
             _ => match line_of(statement) {
-                Some(own) => self.tell(machine, line, own, row),
+                Some(own) => self.tell(machine, own, row),
                 None => self.no_row(),
             },
         }
     }
 
     /// A statement whose step is taken and whose line is told.
-    pub(crate) fn carry(&mut self, alloc: Global, program: &Program, row: u32) -> Turned
-        ensures turns { (m : Moment) → Turns program.now (from program.now self.old (Now.Carry row)) m result self.new
-            m }
-        ensures falls { Falls result (body_weight self.new) (now_weight (Now.Carry row) + tasks_weight self.old) }
+    pub(crate) fn carry(
+        &mut self,
+        alloc: Global,
+        program: &Program,
+        machine: &mut Machine,
+        row: u32,
+    ) -> Turned
+        requires ready { IsReady machine.old }
+        ensures turns { Turns program.now (from program.now self.old (Now.Carry row)) (moment_of machine.old) result
+            self.new (moment_of machine.new) }
+        ensures falls { Falls result (left_of self.new machine.new)
+            (left_with machine.old.steps (now_weight (Now.Carry row) + tasks_weight self.old)) }
         ensures home { self.new.home ≡ self.old.home }
+        ensures ready { IsReady machine.new }
     {
         match program.row(row) {
-            Row::Statement(statement) => self.carry_on(alloc, program, row, statement),
+            Row::Statement(statement) => self.carry_on(alloc, program, machine, row, statement),
             _ => self.no_row(),
         }
     }
@@ -158,14 +153,18 @@ impl Body {
         &mut self,
         alloc: Global,
         program: &Program,
+        machine: &mut Machine,
         row: u32,
         statement: StatementRow,
     ) -> Turned
-        ensures turns { (m : Moment) → Turns program.now (bind
+        requires ready { IsReady machine.old }
+        ensures turns { Turns program.now (bind
             (carry_with program.now self.old.home row statement (statements.line_of statement))
-            (waiting program.now self.old)) m result self.new m }
-        ensures falls { Falls result (body_weight self.new) (come + 10 + tasks_weight self.old) }
+            (waiting program.now self.old)) (moment_of machine.old) result self.new (moment_of machine.new) }
+        ensures falls { Falls result (left_of self.new machine.new)
+            (left_with machine.old.steps (now_weight (Now.Carry row) + tasks_weight self.old)) }
         ensures home { self.new.home ≡ self.old.home }
+        ensures ready { IsReady machine.new }
     {
         match statement {
             StatementRow::Assign {
@@ -182,7 +181,77 @@ impl Body {
                 routine,
                 levels,
                 actuals,
-            } => { self.begin_call(alloc, program, true, routine, levels, actuals, line) }
+            } => self.begin_call(
+                alloc,
+                Task::Call {
+                    procedure: true,
+                    routine,
+                    levels,
+                    line,
+                },
+                actuals,
+                line,
+            ),
+            StatementRow::CallFormal {
+                line,
+                place,
+                levels,
+                actuals,
+            } => self.begin_call(
+                alloc,
+                Task::CallFormal {
+                    procedure: true,
+                    place,
+                    levels,
+                    line,
+                },
+                actuals,
+                line,
+            ),
+            StatementRow::Goto {
+                line,
+                label,
+                levels,
+            } => self.jump(machine, label, levels, line),
+            StatementRow::If { .. } => self.conditional(statement),
+            StatementRow::IfElse { .. } => self.conditional(statement),
+            StatementRow::Case { .. } => self.conditional(statement),
+            StatementRow::Repeat { line, .. } => self.go(Now::Begin(Part::Turn { row, line })),
+            StatementRow::While { line, .. } => self.go(Now::Begin(Part::Turn { row, line })),
+            StatementRow::For {
+                line,
+                initial,
+                turns,
+            } => { self.begin_for(program, line, initial, turns) }
+            _ => self.no_row(),
+        }
+    }
+
+    /// A goto statement (6.8.2.4): the links lead to the frame of its label.
+    fn jump(&mut self, machine: &mut Machine, label: u32, levels: u32, line: u32) -> Turned
+        requires ready { IsReady machine.old }
+        ensures turns { (p : ProgramRows) → Turns p (bind (doing line (frame_out levels self.old.home.base) (λ base.
+            Ret (Jump label base))) (waiting p self.old)) (moment_of machine.old) result self.new
+            (moment_of machine.new) }
+        ensures falls { Falls result (left_of self.new machine.new)
+            (left_with machine.old.steps (come + 1 + tasks_weight self.old)) }
+        ensures home { self.new.home ≡ self.old.home }
+        ensures ready { IsReady machine.new }
+    {
+        match frame_out(machine, levels, self.home.base) {
+            Ok(base) => self.go(Now::Came(Way::Jump(label, base))),
+            Err(halt) => self.fail(line, halt),
+        }
+    }
+
+    /// A conditional statement (6.8.3.3) whose line is told: its condition or index begins.
+    fn conditional(&mut self, statement: StatementRow) -> Turned
+        ensures turns { (p : ProgramRows) (row : ℕ) (m : Moment) → Turns p
+            (bind (of_conditional p self.old.home row statement) (waiting p self.old)) m result self.new m }
+        ensures falls { Falls result (body_weight self.new) (come + 10 + tasks_weight self.old) }
+        ensures home { self.new.home ≡ self.old.home }
+    {
+        match statement {
             StatementRow::If {
                 line,
                 condition,
@@ -209,13 +278,6 @@ impl Body {
                 selector,
                 choices,
             } => { self.by_value(line, selector, Choice::Case { choices, line }) }
-            StatementRow::Repeat { line, .. } => self.go(Now::Begin(Part::Turn { row, line })),
-            StatementRow::While { line, .. } => self.go(Now::Begin(Part::Turn { row, line })),
-            StatementRow::For {
-                line,
-                initial,
-                turns,
-            } => { self.begin_for(program, line, initial, turns) }
             _ => self.no_row(),
         }
     }
@@ -256,17 +318,21 @@ impl Body {
         }
     }
 
-    /// The statements from an item on.
-    pub(crate) fn sequence(&mut self, program: &Program, at: u32, line: u32) -> Turned
+    /// The statements from an item on, of the sequence that begins with the first item.
+    pub(crate) fn sequence(&mut self, program: &Program, first: u32, at: u32, line: u32) -> Turned
         ensures turns { (m : Moment) → Turns program.now
-            (from program.now self.old (Now.Begin (Part.Sequence at line))) m result self.new m }
+            (from program.now self.old (Now.Begin (Part.Sequence first at line))) m result self.new m }
         ensures falls { Falls result (body_weight self.new)
-            (now_weight (Now.Begin (Part.Sequence at line)) + tasks_weight self.old) }
+            (now_weight (Now.Begin (Part.Sequence first at line)) + tasks_weight self.old) }
         ensures home { self.new.home ≡ self.old.home }
     {
         match element_of(program.row(at)) {
             Some((item, next)) => self.wait(
-                Task::Next(Next::Sequence { at: next, line }),
+                Task::Next(Next::Sequence {
+                    first,
+                    at: next,
+                    line,
+                }),
                 Now::Begin(Part::Exec { row: item, line }),
             ),
             None => self.go(Now::Came(Way::Nothing)),
@@ -312,6 +378,7 @@ impl Body {
                     line,
                 }),
                 Now::Begin(Part::Sequence {
+                    first: statements,
                     at: statements,
                     line,
                 }),
@@ -376,7 +443,7 @@ impl Body {
     }
 
     /// What is now at work is the one, or else the other.
-    fn either(&mut self, taken: bool, now: Now, otherwise: Now) -> Turned
+    pub(crate) fn either(&mut self, taken: bool, now: Now, otherwise: Now) -> Turned
         ensures turns { (p : ProgramRows) (m : Moment) → Turns p
             (if taken then from p self.old now else from p self.old otherwise) m result self.new m }
         ensures falls { Falls result (body_weight self.new)
@@ -413,7 +480,7 @@ impl Body {
         ensures turns { (m : Moment) → Turns program.now
             (bind (statements.chosen_by program.now (here self.old.home line) choices value)
             (waiting program.now self.old)) m result self.new m }
-        ensures falls { Falls result (body_weight self.new) (1 + tasks_weight self.old) }
+        ensures falls { Falls result (body_weight self.new) (come + 1 + tasks_weight self.old) }
         ensures home { self.new.home ≡ self.old.home }
     {
         match case_of(program, choices, value) {
@@ -530,7 +597,10 @@ impl Body {
         ensures ready { IsReady machine.new }
     {
         match next {
-            Next::Sequence { at, line } => self.go(Now::Begin(Part::Sequence { at, line })),
+            Next::Sequence { first, at, line } => {
+                self.go(Now::Begin(Part::Sequence { first, at, line }))
+            }
+            Next::Labelled { .. } => self.go(Now::Came(Way::Nothing)),
             Next::Again { row, line } => self.go(Now::Begin(Part::Turn { row, line })),
             Next::Condition {
                 row,

@@ -22,8 +22,8 @@ pub enum Part {
     Pass { at: u32, line: u32 },
     /// A statement.
     Exec { row: u32, line: u32 },
-    /// The statements from an item on.
-    Sequence { at: u32, line: u32 },
+    /// The statements from an item on, of the sequence that begins with the first item.
+    Sequence { first: u32, at: u32, line: u32 },
     /// A further turn of a while or repeat statement.
     Turn { row: u32, line: u32 },
     /// The statement part of the body's routine.
@@ -154,7 +154,10 @@ pub enum Choice {
 /// What comes after a statement.
 #[derive(Clone, Copy)]
 pub enum Next {
-    Sequence { at: u32, line: u32 },
+    /// The next item of the sequence that begins with the first item.
+    Sequence { first: u32, at: u32, line: u32 },
+    /// What follows a labelled statement, which begins again after a jump to its label.
+    Labelled { row: u32, label: u32, line: u32 },
     /// A further turn of a while statement.
     Again { row: u32, line: u32 },
     /// The condition of a repeat statement.
@@ -181,6 +184,13 @@ pub enum Task {
     Call {
         procedure: bool,
         routine: u32,
+        levels: u32,
+        line: u32,
+    },
+    /// The call of a routine parameter, once its actual parameters are known: of a procedure, or else of a function.
+    CallFormal {
+        procedure: bool,
+        place: u32,
         levels: u32,
         line: u32,
     },

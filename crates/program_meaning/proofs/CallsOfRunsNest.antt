@@ -8,10 +8,11 @@ use Rattle.std.proofs.lemmas.List.Elements.{All-append, All-cons, All-map, All-n
 use Rattle.cell_value.specs.declared.values.Value.{Value}
 use Rattle.cell_value.specs.declared.values.Value.TheVariants.{Nil}
 use Rattle.cell_value.specs.declared.entries.Touch.{Touch}
+use Rattle.cell_value.specs.declared.ways_out.Which.{Which}
 use Rattle.program_tables.specs.declared.program.Routine.{Routine}
 use Rattle.program_tables.specs.ProgramRows.{ProgramRows, routine_at}
 use Rattle.program_meaning.specs.State.{State, stack_end}
-use Rattle.program_meaning.specs.Acts.{Done, Went, Stops, perform, spent}
+use Rattle.program_meaning.specs.Acts.{Done, Went, Stops, Spend, perform, spent, limit_passed}
 use Rattle.program_meaning.specs.Tree.{Out, Part, Tree, Ret, Halt, Do, Sub, Enter, Line, way_of}
 use Rattle.program_meaning.specs.Layer.{layer}
 use Rattle.program_meaning.specs.Run.{
@@ -26,6 +27,7 @@ use Rattle.program_meaning.specs.Run.{
   on_end,
   joined,
   on_done,
+  if_allowed,
   walk,
   Outcome,
   Call,
@@ -33,6 +35,7 @@ use Rattle.program_meaning.specs.Run.{
   recorded,
   after_all,
   in_frame,
+  at_work,
   call_of,
   plain,
   run_of,
@@ -128,7 +131,7 @@ good_joined (Some r) k g h = good_end r.end r k (g.good r refl) h
 good_done : {A : Type 0} (p : ProgramRows) (line : ℕ) (σ : State) (d : Done A) (go : A → State → Outcome) → ((x : A) (τ : State) → Good (go x τ))
     → Good (on_done (plain p) line σ d go)
 good_done p line σ (Went x w τ) go h = good_front w [] _ (fits_none w) (h x τ)
-good_done p line σ (Stops why τ) go h = good_ends (Halted (way_of line why)) τ
+good_done p line σ (Stops why w τ) go h = good_front w [] _ (fits_none w) (good_ends (Halted (way_of line why)) τ)
 
 good_after : (change : State → State) (x : Outcome) → Good x → Good (after_all change x)
 good_after change None g = good_none
@@ -144,12 +147,16 @@ good_recorded f args σ (Some r) g =
           (record { before = []; later = []; is = sym (append-nil r.log); at = refl }) h.stand;
     })
 
+good_allowed : (o : Option Which) (σ : State) (x : Outcome) → Good x → Good (if_allowed o σ x)
+good_allowed None σ x g = g
+good_allowed (Some which) σ x g = good_ends _ σ
+
 good_if : (b : Bool) (x y : Outcome) → Good x → Good y → Good (if b then x else y)
 good_if true x y g h = g
 good_if false x y g h = h
 
 good_frame : (p : ProgramRows) (go : Tree → State → Outcome) → ((t : Tree) (σ : State) → Good (go t σ)) → (f : ℕ) (args : List Value) (σ : State)
-    (o : Option Routine) → Good (in_frame p go f args σ o)
+    (o : Option Routine) → Good (in_frame (at_work p go f) args σ o)
 good_frame p go h f args σ None = good_ends _ σ
 good_frame p go h f args σ (Some r) =
     good_if (nat_lt stack_end (σ.top + r.cells)) _ _ (good_ends _ σ)
@@ -164,11 +171,13 @@ good_walk : (p : ProgramRows) (sub : Part → State → Outcome) (call : ℕ →
     → ((f : ℕ) (args : List Value) (σ : State) → Good (call f args σ))
     → (t : Tree) (σ : State) → Good (walk (plain p) sub call t σ)
 good_walk p sub call hs hc (Ret out) σ = good_ends _ σ
-good_walk p sub call hs hc (Halt way) σ = good_ends _ σ
+good_walk p sub call hs hc (Halt line why) σ = good_ends _ σ
 good_walk p sub call hs hc (Do line act next) σ = good_done p line σ (perform act σ) _ (λ x τ. good_walk p sub call hs hc (next x) τ)
 good_walk p sub call hs hc (Sub part next) σ = good_joined (sub part σ) _ (hs part σ) (λ out τ. good_walk p sub call hs hc (next out) τ)
-good_walk p sub call hs hc (Enter f args next) σ = good_joined (call f args σ) _ (hc f args σ) (λ out τ. good_walk p sub call hs hc (next out) τ)
-good_walk p sub call hs hc (Line line next) σ = good_front [] [] _ (fits_none []) (good_walk p sub call hs hc next σ)
+good_walk p sub call hs hc (Enter f cells args next) σ = good_allowed (limit_passed σ cells) σ _
+    (good_joined (call f args σ) _ (hc f args σ) (λ out τ. good_walk p sub call hs hc (next out) τ))
+good_walk p sub call hs hc (Line line next) σ = good_done p line σ (perform (Spend 1) σ) _
+    (λ x τ. good_front [] [] _ (fits_none []) (good_walk p sub call hs hc next τ))
 
 good_run : (p : ProgramRows) (n : ℕ) (t : Tree) (σ : State) → Good (run_of p n t σ)
 good_run p zero t σ = good_none
@@ -202,12 +211,13 @@ root_front args (Some q) σ r e = go q.end e
     go (Ended out) h = subst (λ s. Rooted (belows s.events)) (some_same _ r h) root-nil
     go (Halted way) h = subst (λ s. Rooted (belows s.events)) (some_same _ r h) root
 
-root_run : (p : ProgramRows) (n : ℕ) (σ : State) (r : Result State Call) → run_of p n block σ ≡ Some r → Rooted (belows r.events)
-root_run p zero σ r h = absurd (let x : ⊥ = cc in x)
-root_run p (suc n) σ r h = root_front (Nil ∷ []) _ σ r h
+root_run : (p : ProgramRows) (n : ℕ) (input : List ℕ) (budget : ℕ) (r : Result State Call) → run_of p n block (start input budget) ≡ Some r
+    → Rooted (belows r.events)
+root_run p zero input budget r h = absurd (let x : ⊥ = cc in x)
+root_run p (suc n) input budget r h = root_front (Nil ∷ []) _ (start input budget) r h
 
 pub rooted : (p : ProgramRows) (input : List ℕ) (budget : ℕ) (r : Result State Call) → run p input budget ≡ Some r → Rooted (belows r.events)
-rooted p input budget r h = root_run p (depth_enough p budget) (start input budget) r h
+rooted p input budget r h = root_run p (depth_enough p budget) input budget r h
 
 pub has_call : (p : ProgramRows) (input : List ℕ) (budget : ℕ) (r : Result State Call) → run p input budget ≡ Some r → 0 < length (belows r.events)
 has_call p input budget r h = let x = (rooted p input budget r h).first in omega (arith, x)

@@ -38,9 +38,8 @@ use Rattle.std.proofs.Common.{
 use Rattle.std.proofs.Math.Nat.{mul-le-mul_left}
 use Rattle.std.proofs.lemmas.Bool.{ltb-false}
 use Rattle.std.proofs.lemmas.Bool.Decides.{nat_tests}
-use Rattle.std.specs.FinMap.{get, insert}
+use Rattle.std.specs.FinMap.{get}
 use Rattle.cell_value.specs.declared.values.Value.{Value}
-use Rattle.cell_value.specs.declared.values.Value.TheVariants as value
 use Rattle.cell_value.specs.declared.entries.Touch.{Touch}
 use Rattle.cell_value.specs.declared.entries.Touch.TheVariants as touch
 use Rattle.cell_value.specs.declared.ways_out.WayOut.{WayOut}
@@ -57,7 +56,7 @@ use Rattle.program_tables.specs.declared.rows.AccessRow.TheVariants as access
 use Rattle.program_tables.specs.declared.rows.StatementRow.{StatementRow}
 use Rattle.program_tables.specs.declared.rows.StatementRow.TheVariants as statement
 use Rattle.program_tables.specs.ProgramRows.{ProgramRows, row_at, routine_at}
-use Rattle.program_meaning.specs.State.{State, stack_end, is_in_reach, moved}
+use Rattle.program_meaning.specs.State.{State, stack_end, is_in_reach}
 use Rattle.program_meaning.specs.Acts.{
   Fault,
   OutOfSteps,
@@ -71,12 +70,13 @@ use Rattle.program_meaning.specs.Acts.{
   ReadCell,
   HasCell,
   WriteCell,
-  MayCall,
   perform,
   with_steps,
   on_cell,
   read_as,
-  below_limits,
+  put,
+  put_asked,
+  after_touches,
   limit_passed,
   spent,
 }
@@ -101,14 +101,12 @@ use Rattle.program_meaning.specs.Tree.{
   Enter,
   Line,
   way_of,
-  doing,
 }
-use Rattle.program_meaning.specs.Actions.{◌>>=◌, act}
-use Rattle.program_meaning.specs.Cells.{write_if}
 use Rattle.program_meaning.specs.Accesses.{no_row, eval, locate, locate_before, of_access, access_in}
 use Rattle.program_meaning.specs.Expressions.{expression_in, of_actual}
-use Rattle.program_meaning.specs.Statements.{on_normal, begins, line_of, statement_in, of_sequence, of_turn, of_count}
+use Rattle.program_meaning.specs.Statements.{on_normal, on_labelled, begins, line_of, statement_in, of_sequence, of_turn, of_count}
 use Rattle.program_meaning.specs.Layer.{layer, of_body}
+use Rattle.program_meaning.proofs.ActsTakeSteps.{cost, Acted, acted}
 use Rattle.program_meaning.specs.Run.{
   End,
   Ended,
@@ -120,10 +118,12 @@ use Rattle.program_meaning.specs.Run.{
   on_end,
   joined,
   on_done,
+  if_allowed,
   Outcome,
   recorded,
   after_all,
   in_frame,
+  at_work,
   call_of,
   plain,
   run_of,
@@ -135,59 +135,14 @@ use Rattle.program_meaning.specs.Run.{
   Call as Record,
 }
 
--- ---- steps
-
--- the steps that an act takes where it is done
-abbrev cost : Act → ℕ
-cost (Spend steps) = steps
-cost (ReadCell addr) = 1
-cost (HasCell addr) = 1
-cost (WriteCell addr value) = 1
-cost (MayCall cells) = 0
-
--- where an act is done this many steps fewer are left, and else no more than there were
-abbrev Acted : {A : Type 0} → ℕ → State → Done A → Type 0
-Acted n σ (Went x w τ) = τ.steps + n ≤ σ.steps
-Acted n σ (Stops why τ) = τ.steps ≤ σ.steps
-
-stepped : {A : Type 0} (n : ℕ) (σ : State) (go : State → Done A) → ((τ : State) → τ.steps + n ≤ σ.steps → Acted n σ (go τ))
-    → Acted n σ (with_steps n σ go)
-stepped {A} n σ go h = by (nat_lt σ.steps n) refl
-  where
-    by : (b : Bool) → nat_lt σ.steps n ≡ b → Acted n σ (if b then Stops OutOfSteps (spent σ) else go (record σ { steps = σ.steps - n }))
-    by true e = omega arith
-    by false e = h (record σ { steps = σ.steps - n }) (let k = ltb-false σ.steps n e in omega arith)
-
-celled : {A : Type 0} (addr : ℕ) (σ : State) (go : State → Done A) → ((τ : State) → τ.steps + 1 ≤ σ.steps → Acted 1 σ (go τ)) → Acted 1 σ (on_cell addr σ go)
-celled {A} addr σ go h = by (is_in_reach σ addr)
-  where
-    by : (b : Bool) → Acted 1 σ (if b then with_steps 1 σ go else Stops (Fault kind.Undefined) σ)
-    by true = stepped 1 σ go h
-    by false = omega arith
-
-found : (addr : ℕ) (o : Option Value) (σ τ : State) → τ.steps + 1 ≤ σ.steps → Acted 1 σ (read_as addr o τ)
-found addr None σ τ h = h
-found addr (Some v) σ τ h = h
-
-limited : (σ : State) (o : Option Which) → Acted 0 σ (below_limits σ o)
-limited σ None = omega arith
-limited σ (Some which) = omega arith
-
-acted : (act : Act) (σ : State) → Acted (cost act) σ (perform act σ)
-acted (Spend steps) σ = stepped steps σ (λ τ. Went tt [] τ) (λ τ h. h)
-acted (ReadCell addr) σ = celled addr σ (λ τ. read_as addr (get σ.cells addr) τ) (λ τ h. found addr (get σ.cells addr) σ τ h)
-acted (HasCell addr) σ = celled addr σ (λ τ. Went (is_some (get σ.cells addr)) (touch.Has addr (is_some (get σ.cells addr)) ∷ []) τ) (λ τ h. h)
-acted (WriteCell addr value) σ = celled addr σ (λ τ. Went tt (touch.Write addr value ∷ []) (record τ { cells = insert τ.cells addr value })) (λ τ h. h)
-acted (MayCall cells) σ = limited σ (limit_passed σ cells)
-
 -- ---- ranks
 
 -- the rank of a part, where the tables have R rows
 abbrev rank : ℕ → Part → ℕ
-rank R (Exec row here) = 0
+rank R (Exec row here) = R - row
 rank R (Body routine base) = 0
 rank R (Count row i last here) = 0
-rank R (Sequence at here) = 1
+rank R (Sequence first at here) = R + 1
 -- the lesser of R and the row
 rank R (Locate row here) = R - (R - row)
 rank R (Eval row here) = R + 1
@@ -205,17 +160,17 @@ pays part = false
 -- A tree of a rank; and where it is said to pay, it does not end without a step.
 abbrev Ranked : (R r : ℕ) → (pays : Bool) → Tree → Type 0
 Ranked R r b (Ret out) = b ≡ false
-Ranked R r b (Halt way) = Unit {0}
+Ranked R r b (Halt line why) = Unit {0}
 Ranked R r b (Do line act next) = (1 ≤ cost act) ⊎ ((x : Answer act) → Ranked R r b (next x))
 Ranked R r b (Sub part next) = (rank R part < r) × ((pays part ≡ true) ⊎ ((out : Out) → Ranked R r b (next out)))
-Ranked R r b (Enter f args next) = 1 < r
-Ranked R r b (Line line next) = Ranked R r b next
+Ranked R r b (Enter f cells args next) = 1 < r
+Ranked R r b (Line line next) = Unit {0}
 
 below_all : (R : ℕ) (part : Part) → rank R part < R + 3
 below_all R (Exec row here) = omega arith
 below_all R (Body routine base) = omega arith
 below_all R (Count row i last here) = omega arith
-below_all R (Sequence at here) = omega arith
+below_all R (Sequence first at here) = omega arith
 below_all R (Locate row here) = omega arith
 below_all R (Eval row here) = omega arith
 below_all R (Pass at passed here) = omega arith
@@ -224,11 +179,11 @@ below_all R (Turn row here) = omega arith
 -- each tree has this rank
 any_tree : (R : ℕ) (t : Tree) → Ranked R (R + 3) false t
 any_tree R (Ret out) = refl
-any_tree R (Halt way) = tt
+any_tree R (Halt line why) = tt
 any_tree R (Do line act next) = inr (λ x. any_tree R (next x))
 any_tree R (Sub part next) = (below_all R part, inr (λ out. any_tree R (next out)))
-any_tree R (Enter f args next) = omega arith
-any_tree R (Line line next) = any_tree R next
+any_tree R (Enter f cells args next) = omega arith
+any_tree R (Line line next) = tt
 
 -- ---- each part has its rank
 
@@ -291,6 +246,8 @@ module _ (p : ProgramRows) where
   passed_item : (at : ℕ) (vs : List Value) (here : Here) (i : ItemRow) → Fits (Pass at vs here) (of_actual p vs here (rows.Item i))
   passed_item at vs here (item.Value e of' next) = (omega arith, inl refl)
   passed_item at vs here (item.Place a next) = (omega arith, inl refl)
+  passed_item at vs here (item.Routine routine levels next) = inl one
+  passed_item at vs here (item.RoutineFormal place levels next) = inl one
   passed_item at vs here i = refl
 
   passed_row : (at : ℕ) (vs : List Value) (here : Here) (r : Row) → Fits (Pass at vs here) (of_actual p vs here r)
@@ -298,18 +255,32 @@ module _ (p : ProgramRows) where
   passed_row at vs here r = refl
 
   begun : (row : ℕ) (here : Here) (s : StatementRow) (o : Option ℕ) → Fits (Exec row here) (begins p row here s o)
-  begun row here s (Some line) = inl one
+  begun row here s (Some line) = tt
   begun row here s None = tt
 
-  executed : (row : ℕ) (here : Here) (r : Row) → Fits (Exec row here) (statement_in p row here r)
-  executed row here (rows.Statement statement.Empty) = inl one
-  executed row here (rows.Statement (statement.Compound statements)) = inl one
-  executed row here (rows.Statement s) = begun row here s (line_of s)
-  executed row here r = tt
+  labelled : (row label inner : ℕ) (here : Here) → row < R → Fits (Exec row here) (statement_in p row here (rows.Statement (statement.Labelled label inner)))
+  labelled row label inner here h = by (nat_lt row inner) refl
+    where
+      by : (b : Bool) → nat_lt row inner ≡ b → Fits (Exec row here) (if b then Sub (Exec inner here) (on_labelled row label here) else no_row)
+      by true e = (grind (arith, nat_tests), inl refl)
+      by false e = tt
 
-  in_sequence : (at : ℕ) (here : Here) (r : Row) → Fits (Sequence at here) (of_sequence here r)
-  in_sequence at here (rows.Item (item.Element s next)) = (omega arith, inl refl)
-  in_sequence at here r = refl
+  executed : (row : ℕ) (here : Here) (r : Row) → row < R → Fits (Exec row here) (statement_in p row here r)
+  executed row here (rows.Statement statement.Empty) h = inl one
+  executed row here (rows.Statement (statement.Compound statements)) h = inl one
+  executed row here (rows.Statement (statement.Labelled label inner)) h = labelled row label inner here h
+  executed row here (rows.Statement s) h = begun row here s (line_of s)
+  executed row here r h = tt
+
+  done : (row : ℕ) (here : Here) → Fits (Exec row here) (statement_in p row here (row_at p row))
+  done row here = elim (below_length p.rows row) [
+    | inl e ↦ subst (λ r. Fits (Exec row here) (statement_in p row here r)) (sym e) tt
+    | inr h ↦ executed row here (row_at p row) h
+  ]
+
+  in_sequence : (first at : ℕ) (here : Here) (r : Row) → Fits (Sequence first at here) (of_sequence p here first r)
+  in_sequence first at here (rows.Item (item.Element s next)) = (omega arith, inl refl)
+  in_sequence first at here r = refl
 
   repeated : (row condition : ℕ) (here : Here) (go : Value → Tree) (out : Out) → Ranked R (R + 2) false (on_normal (eval condition here go) out)
   repeated row condition here go (Jump label base) = refl
@@ -320,14 +291,8 @@ module _ (p : ProgramRows) where
   turned row here (rows.Statement (statement.Repeat line statements condition)) = (omega arith, inr (repeated row condition here _))
   turned row here r = tt
 
-  written : (b : Bool) (line addr : ℕ) (v : Value) (t : Tree) → Ranked R 0 false (doing line (if b then act (WriteCell addr v) else
-      (act (HasCell addr) >>= λ there. write_if there addr v)) (λ _. t))
-  written true line addr v t = inl one
-  written false line addr v t = inl one
-
   counted : (row : ℕ) (i last : ℤ) (here : Here) (r : Row) → Fits (Count row i last here) (of_count row here i last r)
-  counted row i last here (rows.Statement (statement.Turns direction last' place of' body)) =
-      written (nat_lt (moved here.base place) stack_end) here.line (moved here.base place) (value.Number i) _
+  counted row i last here (rows.Statement (statement.Turns direction last' place of' body)) = inl one
   counted row i last here r = tt
 
   bodied : (routine base : ℕ) (o : Option Routine) → Fits (Body routine base) (of_body base o)
@@ -338,8 +303,8 @@ module _ (p : ProgramRows) where
   part_fits (Eval row here) = evaluated row here (row_at p row)
   part_fits (Locate row here) = located row here
   part_fits (Pass at passed here) = passed_row at passed here (row_at p at)
-  part_fits (Exec row here) = executed row here (row_at p row)
-  part_fits (Sequence at here) = in_sequence at here (row_at p at)
+  part_fits (Exec row here) = done row here
+  part_fits (Sequence first at here) = in_sequence first at here (row_at p at)
   part_fits (Turn row here) = turned row here (row_at p row)
   part_fits (Count row i last here) = counted row i last here (row_at p row)
   part_fits (Body routine base) = bodied routine base (routine_at p routine)
@@ -395,6 +360,10 @@ ends_paid b s r x k h = record {
 ends_front : (b : Bool) (s : ℕ) (w : List Touch) (es : List (Marked Record)) (x : Outcome) → Ends b s x → Ends b s (in_front w es x)
 ends_front b s w es x h = record { result = _; is = ap (in_front w es) h.is; falls = h.falls }
 
+ends_allowed : (b : Bool) (o : Option Which) (σ : State) (x : Outcome) → Ends b σ.steps x → Ends b σ.steps (if_allowed o σ x)
+ends_allowed b None σ x h = h
+ends_allowed b (Some which) σ x h = halts b σ.steps _ σ (omega arith)
+
 ends_joined : (b c : Bool) (s : ℕ) (x : Outcome) (g : Out → State → Outcome) → Ends b s x
     → ((out : Out) (τ : State) → Fell b (Ended out) τ.steps s → Ends c s (g out τ)) → Ends c s (joined x g)
 ends_joined b c s x g h k = go h.result.end refl
@@ -437,7 +406,7 @@ module _ (p : ProgramRows) where
 
   call_ends : (run : Tree → State → Outcome) (f : ℕ) (args : List Value) (σ : State)
       → ((r : Routine) (τ : State) → τ.steps ≤ σ.steps → Ends true τ.steps (run (whole p f σ.top r) τ)) → Ends true σ.steps (call_of p run f args σ)
-  call_ends run f args σ h = rec (after_all (closed σ.depth) (in_frame p run f args (opened σ) (routine_at p f)))
+  call_ends run f args σ h = rec (after_all (closed σ.depth) (in_frame (at_work p run f) args (opened σ) (routine_at p f)))
       (ends_after true σ.steps (closed σ.depth) (λ τ. refl) _ (framed_so (routine_at p f)))
     where
       rec : (x : Outcome) → Ends true σ.steps x → Ends true σ.steps (recorded f args σ x)
@@ -451,18 +420,18 @@ module _ (p : ProgramRows) where
       by r false false = ends_after true σ.steps (without_frame σ.top r.cells) (λ τ. refl) _
           (ends_less true σ.steps _ _ (omega arith) (h r (with_frame r.cells args (opened σ)) (omega arith)))
 
-      framed_so : (o : Option Routine) → Ends true σ.steps (in_frame p run f args (opened σ) o)
+      framed_so : (o : Option Routine) → Ends true σ.steps (in_frame (at_work p run f) args (opened σ) o)
       framed_so None = halts true σ.steps _ (opened σ) (omega arith)
       framed_so (Some r) = by r (nat_lt stack_end ((opened σ).top + r.cells)) (nat_lt (opened σ).steps r.cells)
 
-  act_ends : (n : ℕ) (b : Bool) (line : ℕ) (act : Act) (next : Answer act → Tree) (σ : State)
-      → ((x : Answer act) (τ : State) → τ.steps + cost act ≤ σ.steps → Ends b σ.steps (run_of p (suc n) (next x) τ))
-      → Ends b σ.steps (run_of p (suc n) (Do line act next) σ)
-  act_ends n b line act next σ h = go (perform act σ) (acted act σ)
+  act_ends : (b : Bool) (line : ℕ) (act : Act) (next : Answer act → State → Outcome) (σ : State)
+      → ((x : Answer act) (τ : State) → τ.steps + cost act ≤ σ.steps → Ends b σ.steps (next x τ))
+      → Ends b σ.steps (on_done (plain p) line σ (perform act σ) next)
+  act_ends b line act next σ h = go (perform act σ) (acted act σ)
     where
-      go : (d : Done (Answer act)) → Acted (cost act) σ d → Ends b σ.steps (on_done (plain p) line σ d (λ x τ. run_of p (suc n) (next x) τ))
+      go : (d : Done (Answer act)) → Acted (cost act) σ d → Ends b σ.steps (on_done (plain p) line σ d next)
       go (Went x w τ) e = ends_front b σ.steps w [] _ (h x τ e)
-      go (Stops why τ) e = halts b σ.steps _ τ e
+      go (Stops why w τ) e = ends_front b σ.steps w [] _ (halts b σ.steps _ τ e)
 
   abbrev whatever : (t : Tree) → Ranked (length p.rows) (length p.rows + 3) false t
   whatever t = any_tree (length p.rows) t
@@ -473,12 +442,13 @@ module _ (p : ProgramRows) where
 
   ends_more : (n : ℕ) → Enough n → Enough (suc n)
   ends_more n h (Ret out) b r d σ k = record { result = _; is = refl; falls = subst (λ b. Fell b (Ended out) σ.steps σ.steps) (sym d) (omega arith) }
-  ends_more n h (Halt way) b r d σ k = halts b σ.steps way σ (omega arith)
-  ends_more n h (Line line next) b r d σ k = ends_front b σ.steps [] [] _ (ends_more n h next b r d σ k)
-  ends_more n h (Do line act next) b r (inl c) σ k = act_ends n b line act next σ (λ x τ e.
+  ends_more n h (Halt line why) b r d σ k = halts b σ.steps _ σ (omega arith)
+  ends_more n h (Line line next) b r d σ k = act_ends b line (Spend 1) _ σ (λ x τ e. ends_front b σ.steps [] [] _
+      (ends_paid b σ.steps τ.steps _ e (ends_more n h next false (length p.rows + 3) (whatever next) τ (after_step n r σ τ k e))))
+  ends_more n h (Do line act next) b r (inl c) σ k = act_ends b line act _ σ (λ x τ e.
       let f : τ.steps + 1 ≤ σ.steps = omega (arith, e, c) in
       ends_paid b σ.steps τ.steps _ f (ends_more n h (next x) false (length p.rows + 3) (whatever (next x)) τ (after_step n r σ τ k f)))
-  ends_more n h (Do line act next) b r (inr f) σ k = act_ends n b line act next σ (λ x τ e.
+  ends_more n h (Do line act next) b r (inr f) σ k = act_ends b line act _ σ (λ x τ e.
       let m : τ.steps ≤ σ.steps = omega (arith, e) in
       ends_less b σ.steps τ.steps _ m (ends_more n h (next x) b r (f x) τ (omega (arith, k, need_less K r τ.steps σ.steps m))))
   ends_more n h (Sub part next) b r (l, inl e) σ k = ends_joined true b σ.steps _ _
@@ -489,10 +459,11 @@ module _ (p : ProgramRows) where
       (h (layer p part) (pays part) (rank (length p.rows) part) (part_fits p part) σ (omega (arith, k, l)))
       (λ out τ q. let m = fell_no_more (pays part) (Ended out) τ.steps σ.steps q in
       ends_less b σ.steps τ.steps _ m (ends_more n h (next out) b r (f out) τ (omega (arith, k, need_less K r τ.steps σ.steps m))))
-  ends_more n h (Enter f args next) b r d σ k = ends_joined true b σ.steps _ _
+  ends_more n h (Enter f cells args next) b r d σ k = ends_allowed b (limit_passed σ cells) σ _
+      (ends_joined true b σ.steps _ _
       (call_ends (run_of p n) f args σ (λ q τ m. h (whole p f σ.top q) true 1 (omega arith, inl refl) τ
       (omega (arith, k, d, need_less K 1 τ.steps σ.steps m))))
-      (λ out τ q. ends_paid b σ.steps τ.steps _ q (ends_more n h (next out) false (length p.rows + 3) (whatever (next out)) τ (after_step n r σ τ k q)))
+      (λ out τ q. ends_paid b σ.steps τ.steps _ q (ends_more n h (next out) false (length p.rows + 3) (whatever (next out)) τ (after_step n r σ τ k q))))
 
   enough : (n : ℕ) → Enough n
   enough zero = λ t b r d σ k. absurd (omega (arith, k))
@@ -501,3 +472,9 @@ module _ (p : ProgramRows) where
   -- every tree has a run: this depth is enough
   pub total : (t : Tree) (σ : State) (n : ℕ) → (length p.rows + 4) * (σ.steps + 1) ≤ n → Ends false σ.steps (run_of p n t σ)
   total t σ n k = enough n t false (length p.rows + 3) (any_tree (length p.rows) t) σ (omega (arith, k))
+
+  -- and so has every call
+  pub call_total : (f : ℕ) (args : List Value) (σ : State) (n : ℕ) → (length p.rows + 4) * (σ.steps + 1) ≤ n
+      → Ends true σ.steps (call_of p (run_of p n) f args σ)
+  call_total f args σ n k = call_ends (run_of p n) f args σ (λ q τ m. enough n (whole p f σ.top q) true 1 (omega arith, inl refl) τ
+      (omega (arith, k, need_less K 1 τ.steps σ.steps m)))

@@ -1,3 +1,4 @@
+pub mod ActsTakeSteps
 pub mod CallsOfRunsNest
 pub mod EachTreeEnds
 pub mod MoreDepthSameResult

@@ -24,10 +24,11 @@ use Rattle.std.proofs.Common.{
 }
 use Rattle.cell_value.specs.declared.values.Value.{Value}
 use Rattle.cell_value.specs.declared.entries.Touch.{Touch}
+use Rattle.cell_value.specs.declared.ways_out.Which.{Which}
 use Rattle.program_tables.specs.declared.program.Routine.{Routine}
 use Rattle.program_tables.specs.ProgramRows.{ProgramRows, routine_at}
 use Rattle.program_meaning.specs.State.{State, stack_end}
-use Rattle.program_meaning.specs.Acts.{Done, Went, Stops, perform}
+use Rattle.program_meaning.specs.Acts.{Done, Went, Stops, Spend, perform, limit_passed}
 use Rattle.program_meaning.specs.Tree.{Out, Part, Tree, Ret, Halt, Do, Sub, Enter, Line}
 use Rattle.program_meaning.specs.Layer.{layer}
 use Rattle.program_meaning.specs.Run.{
@@ -41,11 +42,13 @@ use Rattle.program_meaning.specs.Run.{
   on_end,
   joined,
   on_done,
+  if_allowed,
   walk,
   Outcome,
   recorded,
   after_all,
   in_frame,
+  at_work,
   call_of,
   plain,
   within,
@@ -85,21 +88,27 @@ module _ {S E : Type 0} where
   on_done_less : {A : Type 0} (rules : Rules S E) (line : ℕ) (σ : S) (d : Done A) (f g : A → S → Option (Result S E)) → ((x : A) (τ : S) → Less (f x τ) (g x τ))
       → Less (on_done rules line σ d f) (on_done rules line σ d g)
   on_done_less rules line σ (Went x w τ) f g h = in_front_less w [] _ _ (h x _)
-  on_done_less rules line σ (Stops why τ) f g h = less_same _
+  on_done_less rules line σ (Stops why w τ) f g h = less_same _
+
+  allowed_less : (o : Option Which) (σ : S) (a b : Option (Result S E)) → Less a b → Less (if_allowed o σ a) (if_allowed o σ b)
+  allowed_less None σ a b h = h
+  allowed_less (Some which) σ a b h = less_same _
 
   pub walk_less : (rules : Rules S E) (sub sub' : Part → S → Option (Result S E)) (call call' : ℕ → List Value → S → Option (Result S E))
       → ((part : Part) (σ : S) → Less (sub part σ) (sub' part σ)) → ((f : ℕ) (args : List Value) (σ : S) → Less (call f args σ) (call' f args σ))
       → (t : Tree) (σ : S) → Less (walk rules sub call t σ) (walk rules sub' call' t σ)
   walk_less rules sub sub' call call' hs hc (Ret out) σ = less_same _
-  walk_less rules sub sub' call call' hs hc (Halt way) σ = less_same _
+  walk_less rules sub sub' call call' hs hc (Halt line why) σ = less_same _
   walk_less rules sub sub' call call' hs hc (Do line act next) σ =
       on_done_less rules line σ (perform act (rules.state_of σ)) _ _ (λ x τ. walk_less rules sub sub' call call' hs hc (next x) τ)
   walk_less rules sub sub' call call' hs hc (Sub part next) σ =
       joined_less _ _ _ _ (hs part σ) (λ out τ. walk_less rules sub sub' call call' hs hc (next out) τ)
-  walk_less rules sub sub' call call' hs hc (Enter f args next) σ =
-      joined_less _ _ _ _ (hc f args σ) (λ out τ. walk_less rules sub sub' call call' hs hc (next out) τ)
+  walk_less rules sub sub' call call' hs hc (Enter f cells args next) σ =
+      allowed_less (limit_passed (rules.state_of σ) cells) σ _ _
+      (joined_less _ _ _ _ (hc f args σ) (λ out τ. walk_less rules sub sub' call call' hs hc (next out) τ))
   walk_less rules sub sub' call call' hs hc (Line line next) σ =
-      in_front_less [] (rules.line line) _ _ (walk_less rules sub sub' call call' hs hc next σ)
+      on_done_less rules line σ (perform (Spend 1) (rules.state_of σ)) _ _
+      (λ x τ. in_front_less [] (rules.line line) _ _ (walk_less rules sub sub' call call' hs hc next τ))
 
 pub recorded_less : (f : ℕ) (args : List Value) (σ : State) (a b : Outcome) → Less a b → Less (recorded f args σ a) (recorded f args σ b)
 recorded_less f args σ None b h = less_none _
@@ -114,7 +123,7 @@ if_less true a b c d h k = h
 if_less false a b c d h k = k
 
 frame_less : (p : ProgramRows) (run run' : Tree → State → Outcome) → ((t : Tree) (σ : State) → Less (run t σ) (run' t σ)) → (f : ℕ) (args : List Value)
-    (σ : State) (o : Option Routine) → Less (in_frame p run f args σ o) (in_frame p run' f args σ o)
+    (σ : State) (o : Option Routine) → Less (in_frame (at_work p run f) args σ o) (in_frame (at_work p run' f) args σ o)
 frame_less p run run' h f args σ None = less_same _
 frame_less p run run' h f args σ (Some r) =
     if_less (nat_lt stack_end (σ.top + r.cells)) _ _ _ _ (less_same _)

@@ -3,9 +3,10 @@ use Rattle.std.proofs.Common.{◌≡◌, ℕ, ◌+◌, List, [], ◌∷◌, ◌+
 use Rattle.std.proofs.lemmas.List.{map-append}
 use Rattle.cell_value.specs.declared.values.Value.{Value}
 use Rattle.cell_value.specs.declared.entries.Touch.{Touch}
-use Rattle.program_meaning.specs.Acts.{Done, Went, Stops, perform}
-use Rattle.program_meaning.specs.Tree.{Out, Part, Tree, Ret, Halt, Do, Sub, Enter, Line, bind}
-use Rattle.program_meaning.specs.Run.{End, Ended, Halted, Marked, Result, Rules, later_by, in_front, on_end, joined, on_done, walk}
+use Rattle.cell_value.specs.declared.ways_out.Which.{Which}
+use Rattle.program_meaning.specs.Acts.{Done, Went, Stops, Spend, perform, limit_passed}
+use Rattle.program_meaning.specs.Tree.{Out, Part, Tree, Ret, Halt, Do, Sub, Enter, Line, bind, way_of}
+use Rattle.program_meaning.specs.Run.{End, Ended, Halted, Marked, Result, Rules, later_by, in_front, ends, on_end, joined, on_done, if_allowed, walk}
 use Rattle.program_meaning.proofs.MoreDepthSameResult.{Less}
 
 pub some_same : {A : Type 0} {x y : A} → Some x ≡ Some y → x ≡ y
@@ -71,18 +72,26 @@ module _ {S E : Type 0} where
   on_done_joined : {A : Type 0} (rules : Rules S E) (line : ℕ) (σ : S) (d : Done A) (f h : A → S → Option (Result S E)) (g : Out → S → Option (Result S E))
       → ((x : A) (τ : S) → h x τ ≡ joined (f x τ) g) → on_done rules line σ d h ≡ joined (on_done rules line σ d f) g
   on_done_joined rules line σ (Went x w τ) f h g e = ap (in_front w []) (e x _) ∙ sym (front_joined w [] _ g)
-  on_done_joined rules line σ (Stops why τ) f h g e = refl
+  on_done_joined rules line σ (Stops why w τ) f h g e = sym (front_joined w [] (ends (Halted (way_of line why)) (rules.with_state σ τ)) g)
+
+  allowed_joined : (o : Option Which) (σ : S) (x : Option (Result S E)) (g : Out → S → Option (Result S E))
+      → joined (if_allowed o σ x) g ≡ if_allowed o σ (joined x g)
+  allowed_joined None σ x g = refl
+  allowed_joined (Some which) σ x g = refl
 
   pub walk_bind : (rules : Rules S E) (sub : Part → S → Option (Result S E)) (call : ℕ → List Value → S → Option (Result S E)) (t : Tree) (f : Out → Tree)
       (σ : S) → walk rules sub call (bind t f) σ ≡ joined (walk rules sub call t σ) (λ out τ. walk rules sub call (f out) τ)
   walk_bind rules sub call (Ret out) f σ = sym (front_nothing _)
-  walk_bind rules sub call (Halt way) f σ = refl
+  walk_bind rules sub call (Halt line why) f σ = refl
   walk_bind rules sub call (Do line act next) f σ =
       on_done_joined rules line σ (perform act (rules.state_of σ)) _ _ _ (λ x τ. walk_bind rules sub call (next x) f τ)
   walk_bind rules sub call (Sub part next) f σ =
       ap (joined (sub part σ)) (λ i out τ. walk_bind rules sub call (next out) f τ i) ∙ sym (joined_joined (sub part σ) _ _)
-  walk_bind rules sub call (Enter r args next) f σ =
-      ap (joined (call r args σ)) (λ i out τ. walk_bind rules sub call (next out) f τ i) ∙ sym (joined_joined (call r args σ) _ _)
+  walk_bind rules sub call (Enter r cells args next) f σ =
+      ap (if_allowed (limit_passed (rules.state_of σ) cells) σ)
+      (ap (joined (call r args σ)) (λ i out τ. walk_bind rules sub call (next out) f τ i) ∙ sym (joined_joined (call r args σ) _ _))
+      ∙ sym (allowed_joined (limit_passed (rules.state_of σ) cells) σ _ (λ out τ. walk rules sub call (f out) τ))
   walk_bind rules sub call (Line line next) f σ =
-      ap (in_front [] (rules.line line)) (walk_bind rules sub call next f σ)
-      ∙ sym (front_joined [] (rules.line line) (walk rules sub call next σ) (λ out τ. walk rules sub call (f out) τ))
+      on_done_joined rules line σ (perform (Spend 1) (rules.state_of σ)) _ _ _
+      (λ x τ. ap (in_front [] (rules.line line)) (walk_bind rules sub call next f τ)
+      ∙ sym (front_joined [] (rules.line line) (walk rules sub call next τ) (λ out υ. walk rules sub call (f out) υ)))

@@ -1,7 +1,6 @@
 -- What each access does (6.5), and the parts of constructs that evaluate and locate.
 use Rattle.std.specs.Prelude.{ℕ, ℤ, List, [], Option, Some, nat_lt, if◌then◌else◌}
 use Rattle.cell_value.specs.declared.values.Value.{Value}
-use Rattle.cell_value.specs.declared.ways_out.WayOut.TheVariants as way
 use Rattle.cell_value.specs.declared.ways_out.Kind.TheVariants as kind
 use Rattle.program_tables.specs.declared.rows.Row.{Row}
 use Rattle.program_tables.specs.declared.rows.Row.TheVariants as rows
@@ -20,7 +19,7 @@ use Rattle.program_tables.specs.declared.rows.NameRow.TheVariants as named
 use Rattle.program_tables.specs.ProgramRows.{ProgramRows, row_at, type_at, size_of}
 use Rattle.program_meaning.specs.declared.components.Components.{Components}
 use Rattle.program_meaning.specs.State.{moved}
-use Rattle.program_meaning.specs.Acts.{Spend}
+use Rattle.program_meaning.specs.Acts.{Fault, Spend}
 use Rattle.program_meaning.specs.Tree.{
   Out,
   Scalar,
@@ -42,7 +41,7 @@ use Rattle.program_meaning.specs.Cells.{reads, ordinal_at, cell_out, reference_o
 -- The tables name a row that they do not have, or that is of another kind. Such tables are no program of a source, so
 -- that the fault has no line.
 abbrev pub no_row : Tree
-no_row = Halt (way.Faulted kind.Undefined 0)
+no_row = Halt 0 (Fault kind.Undefined)
 
 -- a step is taken first
 abbrev pub spend : Here → Tree → Tree

@@ -30,7 +30,7 @@ before w (Stopped why v σ) = Stopped why (w ++ v) σ
 
 abbrev pub follow : {A B : Type 0} → Done A → (A → State → Performed B) → Performed B
 follow (Went x w σ) go = before w (go x σ)
-follow (Stops why σ) go = Stopped why [] σ
+follow (Stops why w σ) go = Stopped why w σ
 
 -- what an action does from a state
 abbrev pub performs : {A : Type 0} → Action A → State → Performed A

@@ -1,13 +1,16 @@
--- The acts by which a construct meets the state. An act takes as many steps as it makes entries of the log.
+-- The acts by which a construct meets the state. An act takes as many steps as it makes entries of the log; to spend
+-- steps makes none.
 use Rattle.std.specs.Prelude.{
   ℕ,
   ◌+◌,
   ◌-◌,
   Bool,
+  true,
   false,
   List,
   [],
   ◌∷◌,
+  ◌++◌,
   Option,
   Some,
   None,
@@ -36,23 +39,21 @@ pub data Act : Type 0 where
   ReadCell : (addr : ℕ) → Act
   -- asks whether a cell is there
   HasCell : (addr : ℕ) → Act
+  -- puts a value into a cell; of a cell of the heap it first asks whether it is there
   WriteCell : (addr : ℕ) (value : Value) → Act
-  -- asks leave for one call more, with a frame of this many cells
-  MayCall : (cells : ℕ) → Act
 
--- What an act answers. A cell of the heap that is to be read may not be there.
+-- What an act answers. A cell of the heap that is to be read or written may not be there.
 abbrev pub Answer : Act → Type 0
 Answer (Spend steps) = Unit {0}
 Answer (ReadCell addr) = Option Value
 Answer (HasCell addr) = Bool
-Answer (WriteCell addr value) = Unit {0}
-Answer (MayCall cells) = Unit {0}
+Answer (WriteCell addr value) = Bool
 
--- An act was done, with its answer, what it shows in the log and the state after it; or it was not done, and the run
--- stops.
+-- An act was done, with its answer, what it shows in the log and the state after it; or it was not done, or not
+-- whole, and the run stops.
 pub data Done (A : Type 0) : Type 0 where
   Went : (answer : A) (log : List Touch) (after : State) → Done A
-  Stops : (why : Trouble) (after : State) → Done A
+  Stops : (why : Trouble) (log : List Touch) (after : State) → Done A
 
 -- no steps are left
 abbrev pub spent : State → State
@@ -60,11 +61,11 @@ spent σ = record σ { steps = 0 }
 
 -- An act that takes so many steps. Where fewer are left it is not done, and none are left then.
 abbrev pub with_steps : {A : Type 0} → ℕ → State → (State → Done A) → Done A
-with_steps n σ go = if nat_lt σ.steps n then Stops OutOfSteps (spent σ) else go (record σ { steps = σ.steps - n })
+with_steps n σ go = if nat_lt σ.steps n then Stops OutOfSteps [] (spent σ) else go (record σ { steps = σ.steps - n })
 
 -- An act of one step on a cell. At an address that is not in reach it is not done, and takes no step.
 abbrev pub on_cell : {A : Type 0} → ℕ → State → (State → Done A) → Done A
-on_cell addr σ go = if is_in_reach σ addr then with_steps 1 σ go else Stops (Fault kind.Undefined) σ
+on_cell addr σ go = if is_in_reach σ addr then with_steps 1 σ go else Stops (Fault kind.Undefined) [] σ
 
 abbrev pub read_as : ℕ → Option Value → State → Done (Option Value)
 read_as addr (Some v) σ = Went (Some v) (touch.Read addr v ∷ []) σ
@@ -79,10 +80,23 @@ limit_passed σ cells =
     else if nat_lt stack_end (σ.top + cells) then Some Stack
     else None
 
--- a limit that would be passed stops the run, and no step is taken for that
-abbrev pub below_limits : State → Option Which → Done (Unit {0})
-below_limits σ None = Went tt [] σ
-below_limits σ (Some which) = Stops (Limited which) σ
+-- after what these touches show
+abbrev pub after_touches : {A : Type 0} → List Touch → Done A → Done A
+after_touches w (Went x v σ) = Went x (w ++ v) σ
+after_touches w (Stops why v σ) = Stops why (w ++ v) σ
+
+-- a value is put into a cell, once there is a step for it
+abbrev pub put : (addr : ℕ) → Value → State → Done Bool
+put addr value σ = Went true (touch.Write addr value ∷ []) (record σ { cells = insert σ.cells addr value })
+
+-- The same where it was asked whether the cell is there, and this was the answer: a cell that is not there gets no
+-- value, and one that is there takes a step more.
+abbrev pub put_if : Bool → (addr : ℕ) → Value → State → Done Bool
+put_if true addr value σ = with_steps 1 σ (put addr value)
+put_if false addr value σ = Went false [] σ
+
+abbrev pub put_asked : Bool → (addr : ℕ) → Value → State → Done Bool
+put_asked there addr value σ = after_touches (touch.Has addr there ∷ []) (put_if there addr value σ)
 
 -- what an act does
 abbrev pub perform : (act : Act) → State → Done (Answer act)
@@ -91,5 +105,4 @@ perform (ReadCell addr) σ = on_cell addr σ (λ τ. read_as addr (get σ.cells 
 perform (HasCell addr) σ = on_cell addr σ (λ τ.
     Went (is_some (get σ.cells addr)) (touch.Has addr (is_some (get σ.cells addr)) ∷ []) τ)
 perform (WriteCell addr value) σ = on_cell addr σ (λ τ.
-    Went tt (touch.Write addr value ∷ []) (record τ { cells = insert τ.cells addr value }))
-perform (MayCall cells) σ = below_limits σ (limit_passed σ cells)
+    if nat_lt addr stack_end then put addr value τ else put_asked (is_some (get τ.cells addr)) addr value τ)

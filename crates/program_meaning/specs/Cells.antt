@@ -1,13 +1,13 @@
 -- Actions on cells and frames.
 use Rattle.std.specs.Prelude.{ℕ, zero, suc, ◌*◌, ℤ, ◌-ℤ◌, List, [], ◌∷◌, ◌++◌, Bool, true, false, Option, Some, None}
-use Rattle.std.specs.Prelude.{min, nat_lt, int_le, unsigned_abs, ◌&&◌, if◌then◌else◌}
+use Rattle.std.specs.Prelude.{min, int_le, unsigned_abs, ◌&&◌, if◌then◌else◌}
 use Rattle.cell_value.specs.declared.values.Value.{Value}
 use Rattle.cell_value.specs.declared.values.Value.TheVariants as value
 use Rattle.cell_value.specs.declared.ways_out.Kind.TheVariants as kind
 use Rattle.program_tables.specs.declared.rows.TypeRow.{TypeRow}
 use Rattle.program_meaning.specs.declared.components.Components.{Components}
-use Rattle.program_meaning.specs.State.{stack_end, heap_end, moved}
-use Rattle.program_meaning.specs.Acts.{Fault, ReadCell, HasCell, WriteCell, MayCall}
+use Rattle.program_meaning.specs.State.{heap_end, moved}
+use Rattle.program_meaning.specs.Acts.{Fault, ReadCell, WriteCell}
 use Rattle.program_meaning.specs.Actions.{Action, Give, Fail, ◌>>=◌, act}
 use Rattle.program_meaning.specs.Values.{defined, tested, or_fault}
 
@@ -22,14 +22,13 @@ read addr = do
   found ← act (ReadCell addr)
   or_disposed found
 
-abbrev pub write_if : Bool → (addr : ℕ) → Value → Action (Unit {0})
-write_if true addr v = act (WriteCell addr v)
-write_if false addr v = Fail (Fault kind.Disposed)
+abbrev pub if_there : Bool → Action (Unit {0})
+if_there true = Give tt
+if_there false = Fail (Fault kind.Disposed)
 
--- A value is put into a cell. Of a cell of the heap it is first asked whether it is there.
+-- a value is put into a cell
 abbrev pub write : (addr : ℕ) → Value → Action (Unit {0})
-write addr v = if nat_lt addr stack_end then act (WriteCell addr v) else (act (HasCell addr) >>= λ there.
-    write_if there addr v)
+write addr v = act (WriteCell addr v) >>= if_there
 
 -- the values of so many cells from an address on, after those that were read before
 abbrev pub reads : List Value → (addr cells : ℕ) → Action (List Value)
@@ -80,6 +79,19 @@ referred addr = read addr >>= variable_of
 abbrev pub reference_out : (levels base place : ℕ) → Action ℕ
 reference_out levels base place = cell_out levels base place >>= referred
 
+-- the routine that a routine parameter stands for, and the frame in which that was declared
+abbrev pub routine_of : Value → Action (ℕ × ℕ)
+routine_of (value.Routine routine frame) = Give (routine, frame)
+routine_of _ = Fail (Fault kind.Undefined)
+
+-- the same, of a routine parameter whose cell is at an address
+abbrev pub routine_held : (addr : ℕ) → Action (ℕ × ℕ)
+routine_held addr = read addr >>= routine_of
+
+-- and of the one at a place in the frame to which so many links lead
+abbrev pub routine_out : (levels base place : ℕ) → Action (ℕ × ℕ)
+routine_out levels base place = cell_out levels base place >>= routine_held
+
 -- how far an ordinal stands from the least of its type
 abbrev pub position_between : (least greatest : ℤ) → Value → Action ℕ
 position_between least greatest (value.Number n) =
@@ -89,8 +101,3 @@ position_between least greatest _ = Fail (Fault kind.Undefined)
 -- the component of an array variable at an address, by the value of its index (6.5.3.2)
 abbrev pub component : Components → (addr : ℕ) → Value → Action ℕ
 component array addr v = position_between array.least array.greatest v >>= λ n. Give (moved addr (n * array.size))
-
--- What comes before a routine is entered, once its actual parameters are known: the frame in which it was declared is
--- found by links, and then the limits are asked for one call more with so many cells (6.6.3.1, 6.8.2.3).
-abbrev pub declaring : (cells levels base : ℕ) → Action ℕ
-declaring cells levels base = frame_out levels base >>= λ frame. act (MayCall cells) >>= λ _. Give frame

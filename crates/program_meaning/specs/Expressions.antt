@@ -18,6 +18,7 @@ use Rattle.program_tables.specs.declared.rows.ExpressionRow.TheVariants.{
   Logic,
   Compare,
   Apply,
+  ApplyFormal,
   Function,
 }
 use Rattle.program_tables.specs.ProgramRows.{ProgramRows, type_at, routine_at}
@@ -32,7 +33,8 @@ use Rattle.program_meaning.specs.Values.{
   compared,
   function_of,
 }
-use Rattle.program_meaning.specs.Cells.{declaring}
+use Rattle.program_meaning.specs.Actions.{Action, Give, ◌>>=◌}
+use Rattle.program_meaning.specs.Cells.{frame_out, routine_out}
 use Rattle.program_meaning.specs.Accesses.{no_row, spend, on_cells, eval, locate, scalar, type_accessed, value_at}
 
 -- the result of an operation as a value, or its fault
@@ -44,12 +46,25 @@ abbrev pub with_frame_size : Option Routine → (ℕ → Tree) → Tree
 with_frame_size None go = no_row
 with_frame_size (Some r) go = go r.cells
 
--- A call of a routine that was declared so many blocks out: the actual parameters, then the links, the limits, and the
--- routine is entered with its link and the cells of its parameters.
+-- A call of a routine that was declared so many blocks out: the actual parameters, then the links to the frame in which
+-- it was declared, the limits, and the routine is entered with its link and the cells of its parameters (6.6.3.1,
+-- 6.8.2.3).
 abbrev pub call : ProgramRows → Here → (routine levels actuals : ℕ) → (Out → Tree) → Tree
 call p here routine levels actuals go = Sub (Pass actuals [] here) (on_cells (λ args.
-    with_frame_size (routine_at p routine) (λ cells. doing here.line (declaring cells levels here.base) (λ frame.
-    Enter routine (value.Frame frame ∷ args) go))))
+    with_frame_size (routine_at p routine) (λ cells. doing here.line (frame_out levels here.base) (λ frame.
+    Enter routine cells (value.Frame frame ∷ args) go))))
+
+-- a routine is entered with its link and the cells of its parameters, unless a limit forbids it
+abbrev pub enter : ProgramRows → (routine frame : ℕ) → List Value → (Out → Tree) → Tree
+enter p routine frame args go =
+    with_frame_size (routine_at p routine) (λ cells. Enter routine cells (value.Frame frame ∷ args) go)
+
+-- The call of a routine parameter: the actual parameters, then the links to the frame that has the parameter, its cell,
+-- and the routine that it stands for is entered, with a link to the frame in which that was declared (6.6.3.4,
+-- 6.6.3.5).
+abbrev pub call_formal : ProgramRows → Here → (place levels actuals : ℕ) → (Out → Tree) → Tree
+call_formal p here place levels actuals go = Sub (Pass actuals [] here) (on_cells (λ args.
+    doing here.line (routine_out levels here.base place) (λ (routine, frame). enter p routine frame args go)))
 
 -- An expression, once its step is taken. Operands are evaluated from left to right, and both operands of `and` and of
 -- `or` always.
@@ -64,6 +79,7 @@ of_expression p here (Logic operator left right) =
 of_expression p here (Compare order left right) =
     eval left here (λ x. eval right here (λ y. result_of here (compared order x y)))
 of_expression p here (Apply routine levels actuals) = call p here routine levels actuals Ret
+of_expression p here (ApplyFormal place levels actuals) = call_formal p here place levels actuals Ret
 of_expression p here (Function f operand least greatest) =
     eval operand here (λ v. result_of here (function_of f least greatest v))
 of_expression p here e = no_row
@@ -83,10 +99,19 @@ on_actual here t go (Cells vs) = go vs
 on_actual here t go (Jump label base) = Ret (Jump label base)
 on_actual here t go out = no_row
 
--- The actual parameters from an item on, from left to right (6.6.3.2, 6.6.3.3). What is no actual ends them.
+-- A routine as an actual parameter, whose name takes a step, is passed with the frame in which it was declared.
+abbrev pub pass_routine : Here → (next : ℕ) → List Value → Action (ℕ × ℕ) → Tree
+pass_routine here next passed found = spend here (doing here.line found (λ (routine, frame).
+    Sub (Pass next (passed ++ value.Routine routine frame ∷ []) here) Ret))
+
+-- The actual parameters from an item on, from left to right (6.6.3.2 to 6.6.3.5). What is no actual ends them.
 abbrev pub of_actual : ProgramRows → List Value → Here → Row → Tree
-of_actual p passed here (rows.Item (item.Value e of' next)) = Sub (Eval e here) (on_actual here (type_at p of') (λ vs.
-    Sub (Pass next (passed ++ vs) here) Ret))
+of_actual p passed here (rows.Item (item.Value e of' next)) =
+    Sub (Eval e here) (on_actual here (type_at p of') (λ vs. Sub (Pass next (passed ++ vs) here) Ret))
 of_actual p passed here (rows.Item (item.Place access next)) = locate access here (λ addr.
     Sub (Pass next (passed ++ value.Place addr ∷ []) here) Ret)
+of_actual p passed here (rows.Item (item.Routine routine levels next)) =
+    pass_routine here next passed (frame_out levels here.base >>= λ frame. Give (routine, frame))
+of_actual p passed here (rows.Item (item.RoutineFormal place levels next)) =
+    pass_routine here next passed (routine_out levels here.base place)
 of_actual p passed here r = Ret (Cells passed)

@@ -10,7 +10,7 @@ use Rattle.program_meaning.specs.Statements.{statement_in, of_sequence, of_turn,
 -- the statement part of a routine, which is itself a statement and takes a step
 abbrev pub of_body : (base : ℕ) → Option Routine → Tree
 of_body base None = no_row
-of_body base (Some r) = spend (record { line = r.line; base = base }) (Sub (Sequence r.statements (record {
+of_body base (Some r) = spend (record { line = r.line; base = base }) (Sub (Sequence r.statements r.statements (record {
   line = r.line;
   base = base;
 })) Ret)
@@ -20,7 +20,7 @@ layer p (Eval row here) = expression_in p row here (row_at p row)
 layer p (Locate row here) = access_in p row here (row_at p row)
 layer p (Pass at passed here) = of_actual p passed here (row_at p at)
 layer p (Exec row here) = statement_in p row here (row_at p row)
-layer p (Sequence at here) = of_sequence here (row_at p at)
+layer p (Sequence first at here) = of_sequence p here first (row_at p at)
 layer p (Turn row here) = of_turn row here (row_at p row)
 layer p (Count row i last here) = of_count row here i last (row_at p row)
 layer p (Body routine base) = of_body base (routine_at p routine)

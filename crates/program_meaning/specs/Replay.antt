@@ -42,7 +42,9 @@ use Rattle.program_meaning.specs.Run.{
   Call,
   within,
   after_all,
+  Holder,
   framed_run,
+  at_work,
   opened,
   closed,
 }
@@ -107,6 +109,10 @@ next_call routine args σ number (c ∷ cs) = if (c.routine == routine) && same_
 abbrev pub on_state : (State → State) → Replaying → Replaying
 on_state change s = record s { state = change s.state }
 
+-- the state in what is done again
+abbrev pub in_replaying : Holder Replaying
+in_replaying = record { state = λ s. s.state; change = on_state }
+
 abbrev pub replaying : Rules Replaying Event
 replaying = record {
   state_of = λ s. s.state;
@@ -122,5 +128,5 @@ replay_of p = within replaying p
 -- as in a run. `number` is that of the call, and `below` are the calls below it.
 abbrev pub body : ProgramRows → (depth : ℕ) → (c : Call) → (number : ℕ) → (below : List Call) → Replayed
 body p depth c number below =
-    after_all (on_state (closed c.depth)) (framed_run (λ s. s.state) on_state p (replay_of p depth) c.routine c.args
+    after_all (on_state (closed c.depth)) (framed_run in_replaying (at_work p (replay_of p depth) c.routine) c.args
     (record { state = opened c.entry; number = number + 1; calls = below }) (routine_at p c.routine))

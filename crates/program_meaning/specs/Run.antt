@@ -35,6 +35,7 @@ use Rattle.cell_value.specs.declared.entries.Touch.{Touch}
 use Rattle.cell_value.specs.declared.faults.OpFault.{OpFault}
 use Rattle.cell_value.specs.declared.ways_out.WayOut.{WayOut}
 use Rattle.cell_value.specs.declared.ways_out.WayOut.TheVariants as way
+use Rattle.cell_value.specs.declared.ways_out.Which.{Which}
 use Rattle.cell_value.specs.declared.ways_out.Which.TheVariants.{Stack}
 use Rattle.cell_value.specs.declared.ways_out.Kind.TheVariants as kind
 use Rattle.program_tables.specs.declared.program.Routine.{Routine}
@@ -44,7 +45,18 @@ use Rattle.program_tables.specs.declared.rows.PartRow.TheVariants as part
 use Rattle.program_tables.specs.declared.rows.TypeRow.{TypeRow}
 use Rattle.program_tables.specs.ProgramRows.{ProgramRows, row_at, type_at, routine_at}
 use Rattle.program_meaning.specs.State.{State, stack_end, moved}
-use Rattle.program_meaning.specs.Acts.{Fault, OutOfSteps, Limited, Done, Went, Stops, perform, spent}
+use Rattle.program_meaning.specs.Acts.{
+  Fault,
+  OutOfSteps,
+  Limited,
+  Spend,
+  Done,
+  Went,
+  Stops,
+  perform,
+  spent,
+  limit_passed,
+}
 use Rattle.program_meaning.specs.Actions.{Action, Give, Fail, ◌>>=◌}
 use Rattle.program_meaning.specs.Tree.{
   Out,
@@ -124,19 +136,26 @@ module _ {S E : Type 0} where
   abbrev pub on_done : {A : Type 0} → Rules S E → (line : ℕ) → S → Done A → (A → S → Option (Result S E))
       → Option (Result S E)
   on_done rules line σ (Went x log τ) go = in_front log [] (go x (rules.with_state σ τ))
-  on_done rules line σ (Stops why τ) go = ends (Halted (way_of line why)) (rules.with_state σ τ)
+  on_done rules line σ (Stops why log τ) go =
+      in_front log [] (ends (Halted (way_of line why)) (rules.with_state σ τ))
+
+  -- a limit that would be passed stops the run, and no step is taken for that
+  abbrev pub if_allowed : Option Which → S → Option (Result S E) → Option (Result S E)
+  if_allowed None σ goes = goes
+  if_allowed (Some which) σ goes = ends (Halted (way.Limited which)) σ
 
   -- a tree from a state, with its parts and its calls left open
   abbrev pub walk : Rules S E → (Part → S → Option (Result S E)) → (ℕ → List Value → S → Option (Result S E)) → Tree → S
       → Option (Result S E)
   walk rules sub call (Ret out) σ = ends (Ended out) σ
-  walk rules sub call (Halt way) σ = ends (Halted way) σ
+  walk rules sub call (Halt line why) σ = ends (Halted (way_of line why)) σ
   walk rules sub call (Do line act next) σ = on_done rules line σ (perform act (rules.state_of σ))
       (λ x τ. walk rules sub call (next x) τ)
   walk rules sub call (Sub part next) σ = joined (sub part σ) (λ out τ. walk rules sub call (next out) τ)
-  walk rules sub call (Enter routine args next) σ = joined (call routine args σ)
-      (λ out τ. walk rules sub call (next out) τ)
-  walk rules sub call (Line line next) σ = in_front [] (rules.line line) (walk rules sub call next σ)
+  walk rules sub call (Enter routine cells args next) σ = if_allowed (limit_passed (rules.state_of σ) cells) σ
+      (joined (call routine args σ) (λ out τ. walk rules sub call (next out) τ))
+  walk rules sub call (Line line next) σ = on_done rules line σ (perform (Spend 1) (rules.state_of σ))
+      (λ _ τ. in_front [] (rules.line line) (walk rules sub call next τ))
 
   -- a tree from a state, where parts and calls stand at most n deep in one another
   abbrev pub within : Rules S E → ProgramRows → ℕ → Tree → S → Option (Result S E)
@@ -263,27 +282,36 @@ return_of p base r (Some place) = with_bounds (type_in_heading p (row_at p r.hea
 abbrev pub whole : ProgramRows → (routine base : ℕ) → Routine → Tree
 whole p routine base r = Sub (Body routine base) (on_normal (return_of p base r r.result))
 
+-- something that has a state in it: the state, and the same with a changed state
+pub record Holder (S : Type 0) : Type 0 where
+  pub state : S → State
+  pub change : (State → State) → S → S
+
+-- a routine at work in the frame at a base
+abbrev pub at_work : {S E : Type 0} → ProgramRows → (Tree → S → Option (Result S E)) → (routine : ℕ) → Routine
+    → (base : ℕ) → S → Option (Result S E)
+at_work p run routine r base = run (whole p routine base r)
+
 -- A routine at work in a new frame, which is then removed however it ended. A frame that ends above the stack is not
--- made, nor one that needs more steps than are left. What runs the routine works on something that has a state in it:
--- `state` gives the state, and `change` changes it.
-abbrev pub framed_run : {S E : Type 0} → (state : S → State) (change : (State → State) → S → S) → ProgramRows
-    → (Tree → S → Option (Result S E)) → ℕ → List Value → S → Option Routine → Option (Result S E)
-framed_run state change p run routine args s None = ends (Halted (way.Faulted kind.Undefined 0)) s
-framed_run state change p run routine args s (Some r) =
-    if nat_lt stack_end ((state s).top + r.cells) then ends (Halted (way_of 0 (Limited Stack))) s
-    else if nat_lt (state s).steps r.cells then ends (Halted (way_of 0 OutOfSteps)) (change spent s)
-    else after_all (change (without_frame (state s).top r.cells))
-    (run (whole p routine (state s).top r) (change (with_frame r.cells args) s))
+-- made, nor one that needs more steps than are left.
+abbrev pub framed_run : {S E : Type 0} → Holder S → (work : Routine → ℕ → S → Option (Result S E)) → List Value → S
+    → Option Routine → Option (Result S E)
+framed_run holder work args s None = ends (Halted (way.Faulted kind.Undefined 0)) s
+framed_run holder work args s (Some r) =
+    if nat_lt stack_end ((holder.state s).top + r.cells) then ends (Halted (way_of 0 (Limited Stack))) s
+    else if nat_lt (holder.state s).steps r.cells then ends (Halted (way_of 0 OutOfSteps)) (holder.change spent s)
+    else after_all (holder.change (without_frame (holder.state s).top r.cells))
+    (work r (holder.state s).top (holder.change (with_frame r.cells args) s))
 
 -- the same where it works on the state itself
-abbrev pub in_frame : ProgramRows → (Tree → State → Outcome) → ℕ → List Value → State → Option Routine → Outcome
-in_frame p run routine args σ r = framed_run (λ σ. σ) (λ change σ. change σ) p run routine args σ r
+abbrev pub in_frame : (work : Routine → ℕ → State → Outcome) → List Value → State → Option Routine → Outcome
+in_frame work args σ r = framed_run (record { state = λ σ. σ; change = λ f σ. f σ }) work args σ r
 
 -- a call of a routine
 abbrev pub call_of : ProgramRows → (Tree → State → Outcome) → ℕ → List Value → State → Outcome
 call_of p run routine args σ =
     recorded routine args σ (after_all (closed σ.depth)
-    (in_frame p run routine args (opened σ) (routine_at p routine)))
+    (in_frame (at_work p run routine) args (opened σ) (routine_at p routine)))
 
 -- ---- runs
 
@@ -318,12 +346,12 @@ start input budget = record {
   depth = 0;
 }
 
--- The program block is a call whose link leads nowhere.
+-- The program block is a call whose link leads nowhere. It is entered also where its frame is too large for the stack.
 abbrev pub block : Tree
-block = Enter 0 (Nil ∷ []) Ret
+block = Enter 0 0 (Nil ∷ []) Ret
 
--- So deep can parts and calls stand in one another: each takes a step, or is an access before another, or one of a few
--- that lead to one of these.
+-- So deep can parts and calls stand in one another: each takes a step, or is an access before another, or a labelled
+-- statement, or one of a few that lead to one of these.
 abbrev pub depth_enough : ProgramRows → (budget : ℕ) → ℕ
 depth_enough p budget = (length p.rows + 4) * (budget + 1)
 

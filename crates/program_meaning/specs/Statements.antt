@@ -1,6 +1,6 @@
 -- What each statement does (6.8).
-use Rattle.std.specs.Prelude.{ℕ, zero, suc, ℤ, pos, ◌+ℤ◌, ◌-ℤ◌, Bool, Option, Some, None, length}
-use Rattle.std.specs.Prelude.{nat_lt, int_le, if◌then◌else◌}
+use Rattle.std.specs.Prelude.{ℕ, zero, suc, ℤ, pos, ◌+ℤ◌, ◌-ℤ◌, Bool, false, Option, Some, None, length}
+use Rattle.std.specs.Prelude.{nat_lt, int_le, ◌==◌, ◌&&◌, if◌then◌else◌}
 use Rattle.std.specs.Ordering.{int_eq}
 use Rattle.cell_value.specs.declared.values.Value.{Value}
 use Rattle.cell_value.specs.declared.values.Value.TheVariants as value
@@ -16,6 +16,9 @@ use Rattle.program_tables.specs.declared.rows.StatementRow.TheVariants.{
   Empty,
   Assign,
   Call,
+  CallFormal,
+  Goto,
+  Labelled,
   Compound,
   If,
   IfElse,
@@ -46,13 +49,12 @@ use Rattle.program_meaning.specs.Tree.{
   Halt,
   Sub,
   Line,
-  way_of,
   doing,
 }
 use Rattle.program_meaning.specs.Values.{or_fault, tested, is_true}
-use Rattle.program_meaning.specs.Cells.{write, writes, assign}
+use Rattle.program_meaning.specs.Cells.{write, writes, assign, frame_out}
 use Rattle.program_meaning.specs.Accesses.{no_row, spend, eval, locate}
-use Rattle.program_meaning.specs.Expressions.{call}
+use Rattle.program_meaning.specs.Expressions.{call, call_formal}
 
 -- goes on after a statement that ended normally; a jump goes on outward
 abbrev pub on_normal : Tree → Out → Tree
@@ -74,20 +76,24 @@ on_value p here target of' (Cells vs) = locate target here (λ addr. finally her
 on_value p here target of' (Jump label base) = Ret (Jump label base)
 on_value p here target of' out = no_row
 
--- the statement that a case constant chooses, among those from a position on of which each next one stands after the
--- one before it; `n` is how many are looked at
+-- what is found among items, from one on, of which each next one stands after the one before it; `n` is how many are
+-- looked at
+abbrev pub along : (look : ℕ → (ℕ → Option ℕ) → Option ℕ) → (n at : ℕ) → Option ℕ
+along look zero at = None
+along look (suc n) at = look at (along look n)
+
+-- the statement that a case constant chooses, among those from an item on
 abbrev pub choose_at : Row → ℕ → ℤ → (ℕ → Option ℕ) → Option ℕ
 choose_at (rows.Item (item.Choice constant chosen next)) at i go =
     if int_eq constant i then Some chosen else if nat_lt at next then go next else None
 choose_at r at i go = None
 
 abbrev pub choice_of : ProgramRows → (n at : ℕ) → ℤ → Option ℕ
-choice_of p zero at i = None
-choice_of p (suc n) at i = choose_at (row_at p at) at i (λ next. choice_of p n next i)
+choice_of p n at i = along (λ at go. choose_at (row_at p at) at i go) n at
 
 abbrev pub choose : Here → Option ℕ → Tree
 choose here (Some s) = Sub (Exec s here) Ret
-choose here None = Halt (way_of here.line (Fault kind.NoCase))
+choose here None = Halt here.line (Fault kind.NoCase)
 
 abbrev pub chosen_by : ProgramRows → Here → (choices : ℕ) → Value → Tree
 chosen_by p here choices (value.Number i) = choose here (choice_of p (length p.rows) choices i)
@@ -136,6 +142,10 @@ of_statement p row here (Case line selector choices) = eval selector here (chose
 of_statement p row here (Repeat line statements condition) = Sub (Turn row here) Ret
 of_statement p row here (While line condition body) = Sub (Turn row here) Ret
 of_statement p row here (For line initial turns) = bounds p here initial turns (row_at p turns)
+of_statement p row here (CallFormal line place levels actuals) =
+    call_formal p here place levels actuals (on_normal nothing)
+of_statement p row here (Goto line label levels) = doing here.line (frame_out levels here.base) (λ base.
+    Ret (Jump label base))
 of_statement p row here s = no_row
 
 -- the line of a statement that is neither compound nor empty
@@ -148,34 +158,70 @@ line_of (Case line selector choices) = Some line
 line_of (Repeat line statements condition) = Some line
 line_of (While line condition body) = Some line
 line_of (For line initial turns) = Some line
+line_of (CallFormal line place levels actuals) = Some line
+line_of (Goto line label levels) = Some line
 line_of s = None
 
 -- A statement begins: it takes a step, and then its line is told.
 abbrev pub begins : ProgramRows → (row : ℕ) → Here → StatementRow → Option ℕ → Tree
-begins p row here s (Some line) = spend here (Line line (of_statement p row (record here { line = line }) s))
+begins p row here s (Some line) = Line line (of_statement p row (record here { line = line }) s)
 begins p row here s None = no_row
+
+-- A jump out of a labelled statement to its label, in the same frame, begins it again (6.8.1); its statement stands
+-- after it.
+abbrev pub on_labelled : (row label : ℕ) → Here → Out → Tree
+on_labelled row label here (Jump goal base) =
+    if (goal == label) && (base == here.base) then Sub (Exec row here) Ret else Ret (Jump goal base)
+on_labelled row label here out = nothing
 
 abbrev pub statement : ProgramRows → (row : ℕ) → Here → StatementRow → Tree
 statement p row here Empty = spend here nothing
-statement p row here (Compound statements) = spend here (Sub (Sequence statements here) Ret)
+statement p row here (Compound statements) = spend here (Sub (Sequence statements statements here) Ret)
+statement p row here (Labelled label inner) =
+    if nat_lt row inner then Sub (Exec inner here) (on_labelled row label here) else no_row
 statement p row here s = begins p row here s (line_of s)
 
 abbrev pub statement_in : ProgramRows → (row : ℕ) → Here → Row → Tree
 statement_in p row here (rows.Statement s) = statement p row here s
 statement_in p row here r = no_row
 
--- The statements from an item on, in order (6.8.3.2). What is no statement ends them.
-abbrev pub of_sequence : Here → Row → Tree
-of_sequence here (rows.Item (item.Element s next)) =
-    Sub (Exec s here) (on_normal (Sub (Sequence next here) Ret))
-of_sequence here r = nothing
+-- whether a statement has this label
+abbrev pub has_label : Row → (label : ℕ) → Bool
+has_label (rows.Statement (Labelled goal inner)) label = goal == label
+has_label r label = false
+
+-- the item of the statement that has a label, among those from an item on
+abbrev pub label_at : ProgramRows → Row → (at label : ℕ) → (ℕ → Option ℕ) → Option ℕ
+label_at p (rows.Item (item.Element s next)) at label go =
+    if has_label (row_at p s) label then Some at else if nat_lt at next then go next else None
+label_at p r at label go = None
+
+abbrev pub labelled_in : ProgramRows → (n at label : ℕ) → Option ℕ
+labelled_in p n at label = along (λ at go. label_at p (row_at p at) at label go) n at
+
+abbrev pub jumped : Here → (first label base : ℕ) → Option ℕ → Tree
+jumped here first label base (Some at) = Sub (Sequence first at here) Ret
+jumped here first label base None = Ret (Jump label base)
+
+-- After a statement of a sequence comes the next one. A jump to the label of a statement of the sequence, in the same
+-- frame, goes on from that statement (6.8.1).
+abbrev pub on_statement : ProgramRows → Here → (first next : ℕ) → Out → Tree
+on_statement p here first next (Jump label base) = jumped here first label base
+    (if base == here.base then labelled_in p (length p.rows) first label else None)
+on_statement p here first next out = Sub (Sequence first next here) Ret
+
+-- The statements from an item on, in order (6.8.3.2), of the sequence that begins with the first item. What is no
+-- statement ends them.
+abbrev pub of_sequence : ProgramRows → Here → (first : ℕ) → Row → Tree
+of_sequence p here first (rows.Item (item.Element s next)) = Sub (Exec s here) (on_statement p here first next)
+of_sequence p here first r = nothing
 
 -- a turn of a while or repeat statement, and those after it (6.8.3.7, 6.8.3.8)
 abbrev pub of_turn : (row : ℕ) → Here → Row → Tree
 of_turn row here (rows.Statement (While line condition body)) = eval condition here (λ v.
     if is_true v then Sub (Exec body here) (on_normal (Sub (Turn row here) Ret)) else nothing)
 of_turn row here (rows.Statement (Repeat line statements condition)) =
-    Sub (Sequence statements here) (on_normal (eval condition here (λ v.
+    Sub (Sequence statements statements here) (on_normal (eval condition here (λ v.
     if is_true v then nothing else Sub (Turn row here) Ret)))
 of_turn row here r = no_row
 

@@ -36,8 +36,8 @@ pub data Part : Type 0 where
   Pass : (at : ℕ) (passed : List Value) (here : Here) → Part
   -- a statement
   Exec : (row : ℕ) (here : Here) → Part
-  -- the statements from a position of a list on
-  Sequence : (at : ℕ) (here : Here) → Part
+  -- the statements from an item on, of the sequence that begins with the first item
+  Sequence : (first at : ℕ) (here : Here) → Part
   -- a further turn of a while or repeat statement
   Turn : (row : ℕ) (here : Here) → Part
   -- the turns of a for statement from this value of its control variable on, up or down to the last
@@ -47,15 +47,15 @@ pub data Part : Type 0 where
 
 pub data Tree : Type 0 where
   Ret : (out : Out) → Tree
-  -- the run stops, and the open calls end in this way
-  Halt : (way : WayOut) → Tree
+  -- the run stops at a statement on this line
+  Halt : (line : ℕ) (why : Trouble) → Tree
   -- an act of a statement on this line
   Do : (line : ℕ) (act : Act) (next : Answer act → Tree) → Tree
   -- a part, and how it goes on after it
   Sub : (part : Part) (next : Out → Tree) → Tree
-  -- a call of a routine, and how it goes on after it
-  Enter : (routine : ℕ) (args : List Value) (next : Out → Tree) → Tree
-  -- a statement that is neither compound nor empty begins on this line
+  -- a call of a routine with a frame of so many cells, unless a limit would be passed, and how it goes on after it
+  Enter : (routine cells : ℕ) (args : List Value) (next : Out → Tree) → Tree
+  -- a statement that is neither compound nor empty begins on this line, which takes a step
   Line : (line : ℕ) (next : Tree) → Tree
 
 -- how the open calls end where a statement on this line stops the run
@@ -67,14 +67,14 @@ way_of line (Limited which) = way.Limited which
 -- goes on after a tree
 abbrev pub bind : Tree → (Out → Tree) → Tree
 bind (Ret out) f = f out
-bind (Halt way) f = Halt way
+bind (Halt line why) f = Halt line why
 bind (Do line act next) f = Do line act (λ x. bind (next x) f)
 bind (Sub part next) f = Sub part (λ x. bind (next x) f)
-bind (Enter routine args next) f = Enter routine args (λ x. bind (next x) f)
+bind (Enter routine cells args next) f = Enter routine cells args (λ x. bind (next x) f)
 bind (Line line next) f = Line line (bind next f)
 
 -- goes on after an action of a statement on this line
 abbrev pub doing : {A : Type 0} → (line : ℕ) → Action A → (A → Tree) → Tree
 doing line (Give x) k = k x
-doing line (Fail why) k = Halt (way_of line why)
+doing line (Fail why) k = Halt line why
 doing line (Perform act next) k = Do line act (λ x. doing line (next x) k)

@@ -1,16 +1,14 @@
 -- What a body does itself enters no call, leaves none and gives nothing out, and the log only grows.
 use Rattle.std.proofs.Common.{◌≡◌, ℕ, zero, suc, Bool, true, false, List, [], ◌∷◌, ◌++◌, Option, Some, None, refl, sym, ap, ◌∙◌, append_assoc, append-nil}
 use Rattle.std.specs.Prelude.{nat_lt, is_some, if◌then◌else◌}
-use Rattle.std.specs.FinMap.{get, insert}
+use Rattle.std.specs.FinMap.{get}
 use Rattle.cell_value.specs.declared.values.Value.{Value}
 use Rattle.cell_value.specs.declared.entries.Touch.{Touch}
 use Rattle.cell_value.specs.declared.entries.Touch.TheVariants as touch
-use Rattle.cell_value.specs.declared.ways_out.Which.{Which}
 use Rattle.program_tables.specs.ProgramRows.{ProgramRows}
-use Rattle.program_meaning.specs.State.{State, is_in_reach}
+use Rattle.program_meaning.specs.State.{State, stack_end, is_in_reach}
 use Rattle.program_meaning.specs.Acts.{
   Act,
-  Answer,
   Done,
   Went,
   Stops,
@@ -18,12 +16,13 @@ use Rattle.program_meaning.specs.Acts.{
   ReadCell,
   HasCell,
   WriteCell,
-  MayCall,
   perform,
   with_steps,
   on_cell,
   read_as,
-  below_limits,
+  put,
+  put_asked,
+  after_touches,
   limit_passed,
 }
 use Rattle.program_meaning.specs.Tree.{Tree, Ret, Halt, Do, Sub, Enter, Line, way_of, bind}
@@ -48,7 +47,7 @@ calls_then f g = record { calls = g.calls ∙ f.calls; depth = g.depth ∙ f.dep
 
 abbrev Kept : {A : Type 0} → State → Done A → Type 0
 Kept σ (Went x w τ) = SameCalls σ τ
-Kept σ (Stops why τ) = SameCalls σ τ
+Kept σ (Stops why w τ) = SameCalls σ τ
 
 kept_if : {A : Type 0} (σ : State) (b : Bool) (d e : Done A) → Kept σ d → Kept σ e → Kept σ (if b then d else e)
 kept_if σ true d e f g = f
@@ -64,9 +63,20 @@ kept_read : (addr : ℕ) (o : Option Value) (σ τ : State) → SameCalls σ τ 
 kept_read addr (Some v) σ τ h = h
 kept_read addr None σ τ h = h
 
-kept_limit : (σ : State) (o : Option Which) → Kept σ (below_limits σ o)
-kept_limit σ None = same_calls σ
-kept_limit σ (Some which) = same_calls σ
+kept_touched : {A : Type 0} (w : List Touch) (σ : State) (d : Done A) → Kept σ d → Kept σ (after_touches w d)
+kept_touched w σ (Went x v τ) h = h
+kept_touched w σ (Stops why v τ) h = h
+
+kept_put : (there : Bool) (addr : ℕ) (value : Value) (σ : State) (m : ℕ) → Kept σ (put_asked there addr value (record σ { steps = m }))
+kept_put true addr value σ m = kept_touched (touch.Has addr true ∷ []) σ (with_steps 1 (record σ { steps = m }) (put addr value))
+    (kept_if σ (nat_lt m 1) _ _ (record { calls = refl; depth = refl; output = refl; items = refl })
+    (record { calls = refl; depth = refl; output = refl; items = refl }))
+kept_put false addr value σ m = record { calls = refl; depth = refl; output = refl; items = refl }
+
+kept_write : (b : Bool) (addr : ℕ) (value : Value) (σ : State) (m : ℕ)
+    → Kept σ (if b then put addr value (record σ { steps = m }) else put_asked (is_some (get σ.cells addr)) addr value (record σ { steps = m }))
+kept_write true addr value σ m = record { calls = refl; depth = refl; output = refl; items = refl }
+kept_write false addr value σ m = kept_put (is_some (get σ.cells addr)) addr value σ m
 
 kept_act : (act : Act) (σ : State) → Kept σ (perform act σ)
 kept_act (Spend n) σ = kept_steps n σ (λ τ. Went tt [] τ) (λ m. record { calls = refl; depth = refl; output = refl; items = refl })
@@ -74,9 +84,9 @@ kept_act (ReadCell addr) σ = kept_cell addr σ (λ τ. read_as addr (get σ.cel
     (λ m. kept_read addr (get σ.cells addr) σ (record σ { steps = m }) (record { calls = refl; depth = refl; output = refl; items = refl }))
 kept_act (HasCell addr) σ = kept_cell addr σ (λ τ. Went (is_some (get σ.cells addr)) (touch.Has addr (is_some (get σ.cells addr)) ∷ []) τ)
     (λ m. record { calls = refl; depth = refl; output = refl; items = refl })
-kept_act (WriteCell addr value) σ = kept_cell addr σ (λ τ. Went tt (touch.Write addr value ∷ []) (record τ { cells = insert τ.cells addr value }))
-    (λ m. record { calls = refl; depth = refl; output = refl; items = refl })
-kept_act (MayCall cells) σ = kept_limit σ (limit_passed σ cells)
+kept_act (WriteCell addr value) σ = kept_cell addr σ
+    (λ τ. if nat_lt addr stack_end then put addr value τ else put_asked (is_some (get τ.cells addr)) addr value τ)
+    (kept_write (nat_lt addr stack_end) addr value σ)
 
 -- from a moment on to another, within one body
 pub record Onward (m m' : Moment) : Type 0 where
@@ -84,21 +94,21 @@ pub record Onward (m m' : Moment) : Type 0 where
   pub grown : m'.log ≡ m.log ++ log
   pub same : SameCalls m.state m'.state
 
-onward_act : (p : ProgramRows) (k line : ℕ) (act : Act) (next : Answer act → Tree) (m : Moment) (d : Done (Answer act)) (stop : Stop) (m' : Moment)
-    → ((x : Answer act) (m1 : Moment) → next_stop p k (next x) m1 ≡ Some (stop, m') → Onward m1 m') → Kept m.state d
-    → on_act line m.log d (λ x m1. next_stop p k (next x) m1) ≡ Some (stop, m') → Onward m m'
-onward_act p k line act next m (Went x w σ) stop m' ih h e = let y = ih x (record { state = σ; log = m.log ++ w }) e in record {
+onward_act : {A : Type 0} (line : ℕ) (m : Moment) (d : Done A) (go : A → Moment → Option (Stop × Moment)) (stop : Stop) (m' : Moment)
+    → ((x : A) (m1 : Moment) → go x m1 ≡ Some (stop, m') → Onward m1 m') → Kept m.state d → on_act line m.log d go ≡ Some (stop, m') → Onward m m'
+onward_act line m (Went x w σ) go stop m' ih h e = let y = ih x (record { state = σ; log = m.log ++ w }) e in record {
   log = w ++ y.log;
   grown = y.grown ∙ append_assoc m.log w y.log;
   same = calls_then h y.same;
 }
-onward_act p k line act next m (Stops why σ) stop m' ih h e = here h e
+onward_act line m (Stops why w σ) go stop m' ih h e = here h e
   where
-    here : SameCalls m.state σ → ◌≡◌ {A = Option (Stop × Moment)} (Some (AtEnd (Halted (way_of line why)), record { state = σ; log = m.log })) (Some (stop, m'))
+    here : SameCalls m.state σ → ◌≡◌ {A = Option (Stop × Moment)} (Some (AtEnd (Halted (way_of line why)), record { state = σ; log = m.log ++ w }))
+        (Some (stop, m'))
         → Onward m m'
     here h e = let q = ap (λ (x : Stop × Moment). x.1) (some_same e) in record {
-      log = [];
-      grown = ap (λ (x : Moment). x.log) (sym q) ∙ sym (append-nil m.log);
+      log = w;
+      grown = ap (λ (x : Moment). x.log) (sym q);
       same = record {
         calls = ap (λ (x : Moment). x.state.calls) (sym q) ∙ h.calls;
         depth = ap (λ (x : Moment). x.state.depth) (sym q) ∙ h.depth;
@@ -122,9 +132,10 @@ at_once first stop m m' e = let q = ap (λ (x : Stop × Moment). x.1) (some_same
 pub onward : (p : ProgramRows) (k : ℕ) (t : Tree) (m : Moment) (stop : Stop) (m' : Moment) → next_stop p k t m ≡ Some (stop, m') → Onward m m'
 onward p zero t m stop m' h = absurd (none_some h)
 onward p (suc k) (Ret out) m stop m' h = at_once _ stop m m' h
-onward p (suc k) (Halt way) m stop m' h = at_once _ stop m m' h
+onward p (suc k) (Halt line why) m stop m' h = at_once _ stop m m' h
 onward p (suc k) (Do line act next) m stop m' h =
-    onward_act p k line act next m (perform act m.state) stop m' (λ x m1 e. onward p k (next x) m1 stop m' e) (kept_act act m.state) h
+    onward_act line m (perform act m.state) _ stop m' (λ x m1 e. onward p k (next x) m1 stop m' e) (kept_act act m.state) h
 onward p (suc k) (Sub part next) m stop m' h = onward p k (bind (layer p part) next) m stop m' h
-onward p (suc k) (Enter f args next) m stop m' h = at_once _ stop m m' h
-onward p (suc k) (Line line next) m stop m' h = at_once _ stop m m' h
+onward p (suc k) (Enter f cells args next) m stop m' h = at_once _ stop m m' h
+onward p (suc k) (Line line next) m stop m' h =
+    onward_act line m (perform (Spend 1) m.state) _ stop m' (λ x m1 e. at_once _ stop m1 m' e) (kept_act (Spend 1) m.state) h

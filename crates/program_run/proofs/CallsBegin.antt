@@ -8,7 +8,7 @@ use Rattle.program_tables.specs.ProgramRows.{ProgramRows, routine_at}
 use Rattle.program_meaning.specs.State.{State, stack_end}
 use Rattle.program_meaning.specs.Acts.{Trouble, OutOfSteps, Limited, Done, Went, Stops, spent}
 use Rattle.program_meaning.specs.Tree.{way_of}
-use Rattle.program_meaning.specs.Run.{Halted, ends, after_all, opened, with_frame, without_frame, whole, in_frame, run_of}
+use Rattle.program_meaning.specs.Run.{Halted, ends, after_all, opened, with_frame, without_frame, whole, in_frame, at_work, run_of}
 use Rattle.eval_ops.specs.Machines.{Moment}
 use Rattle.eval_ops.specs.Frames.{framing}
 use Rattle.eval_ops.proofs.CallsInFrames.{on_framing, in_frame_made}
@@ -22,15 +22,16 @@ record Framed (σ : State) (w : List Touch) (τ : State) : Type 0 where
   output : τ.output ≡ σ.output
   items : τ.items ≡ σ.items
 
-record Refused (σ τ : State) : Type 0 where
+record Refused (σ : State) (w : List Touch) (τ : State) : Type 0 where
+  log : w ≡ []
   top : τ.top ≡ σ.top
   calls : τ.calls ≡ σ.calls
   depth : τ.depth ≡ σ.depth
   output : τ.output ≡ σ.output
   items : τ.items ≡ σ.items
 
-made_is : (n : ℕ) (args : List Value) (σ τ : State) (w : List Touch) (a b : Bool) → ◌≡◌ {A = Done (Unit {0})} (if a then Stops (Limited Stack) σ
-    else if b then Stops OutOfSteps (spent σ) else Went tt [] (with_frame n args σ)) (Went tt w τ) → Framed σ w τ
+made_is : (n : ℕ) (args : List Value) (σ τ : State) (w : List Touch) (a b : Bool) → ◌≡◌ {A = Done (Unit {0})} (if a then Stops (Limited Stack) [] σ
+    else if b then Stops OutOfSteps [] (spent σ) else Went tt [] (with_frame n args σ)) (Went tt w τ) → Framed σ w τ
 made_is n args σ τ w true b e = absurd (let z : ⊥ = cc in z)
 made_is n args σ τ w false true e = absurd (let z : ⊥ = cc in z)
 made_is n args σ τ w false false e =
@@ -44,27 +45,32 @@ made_is n args σ τ w false false e =
       items = ap (λ (υ : State). υ.items) (sym s);
     }
 
-refused_is : (n : ℕ) (args : List Value) (σ τ : State) (why : Trouble) (a b : Bool) → ◌≡◌ {A = Done (Unit {0})} (if a then Stops (Limited Stack) σ
-    else if b then Stops OutOfSteps (spent σ) else Went tt [] (with_frame n args σ)) (Stops why τ) → Refused σ τ
-refused_is n args σ τ why true b e =
+refused_is : (n : ℕ) (args : List Value) (σ τ : State) (why : Trouble) (w : List Touch) (a b : Bool)
+    → ◌≡◌ {A = Done (Unit {0})} (if a then Stops (Limited Stack) [] σ
+    else if b then Stops OutOfSteps [] (spent σ) else Went tt [] (with_frame n args σ)) (Stops why w τ) → Refused σ w τ
+refused_is n args σ τ why w true b e =
+    let l : [] ≡ w = cc in
     let s : σ ≡ τ = cc in
     record {
+      log = sym l;
       top = ap (λ (υ : State). υ.top) (sym s);
       calls = ap (λ (υ : State). υ.calls) (sym s);
       depth = ap (λ (υ : State). υ.depth) (sym s);
       output = ap (λ (υ : State). υ.output) (sym s);
       items = ap (λ (υ : State). υ.items) (sym s);
     }
-refused_is n args σ τ why false true e =
+refused_is n args σ τ why w false true e =
+    let l : [] ≡ w = cc in
     let s : spent σ ≡ τ = cc in
     record {
+      log = sym l;
       top = ap (λ (υ : State). υ.top) (sym s);
       calls = ap (λ (υ : State). υ.calls) (sym s);
       depth = ap (λ (υ : State). υ.depth) (sym s);
       output = ap (λ (υ : State). υ.output) (sym s);
       items = ap (λ (υ : State). υ.items) (sym s);
     }
-refused_is n args σ τ why false false e = absurd (let z : ⊥ = cc in z)
+refused_is n args σ τ why w false false e = absurd (let z : ⊥ = cc in z)
 
 module _ (p : ProgramRows) (f : ℕ) (args : List Value) (r : Routine) (m m' : Moment) where
   pub begins_made : (w : List Touch) → routine_at p f ≡ Some r → framing r.cells args (opened m.state) ≡ Went tt w m'.state → m'.log ≡ m.log ++ w
@@ -77,23 +83,24 @@ module _ (p : ProgramRows) (f : ℕ) (args : List Value) (r : Routine) (m m' : M
         depth = h.depth;
         output = h.output;
         items = h.items;
-        is = λ n. ap (in_frame p (run_of p n) f args (opened m.state)) found
-            ∙ in_frame_made p (run_of p n) f args (opened m.state) r
+        is = λ n. ap (in_frame (at_work p (run_of p n) f) args (opened m.state)) found
+            ∙ in_frame_made (at_work p (run_of p n) f) args (opened m.state) r
             ∙ ap (λ d. on_framing d (λ τ. after_all (without_frame m.state.top r.cells) (run_of p n (whole p f m.state.top r) τ))) e;
       }
 
-  pub begins_refused : (why : Trouble) → routine_at p f ≡ Some r → framing r.cells args (opened m.state) ≡ Stops why m'.state → m'.log ≡ m.log
+  pub begins_refused : (why : Trouble) (w : List Touch) → routine_at p f ≡ Some r → framing r.cells args (opened m.state) ≡ Stops why w m'.state
+      → m'.log ≡ m.log ++ w
       → Begins p f args 0 (Ends (Halted (way_of 0 why))) m m'
-  begins_refused why found e l =
-      let h = refused_is r.cells args (opened m.state) m'.state why (nat_lt stack_end (m.state.top + r.cells)) (nat_lt m.state.steps r.cells) e in
+  begins_refused why w found e l =
+      let h = refused_is r.cells args (opened m.state) m'.state why w (nat_lt stack_end (m.state.top + r.cells)) (nat_lt m.state.steps r.cells) e in
       record {
-        log = l;
+        log = l ∙ ap (λ v. m.log ++ v) h.log ∙ append-nil m.log;
         calls = h.calls;
         depth = h.depth;
         output = h.output;
         items = h.items;
-        is = λ n. ap (in_frame p (run_of p n) f args (opened m.state)) found
-            ∙ in_frame_made p (run_of p n) f args (opened m.state) r
+        is = λ n. ap (in_frame (at_work p (run_of p n) f) args (opened m.state)) found
+            ∙ in_frame_made (at_work p (run_of p n) f) args (opened m.state) r
             ∙ ap (λ d. on_framing d (λ τ. after_all (without_frame m.state.top r.cells) (run_of p n (whole p f m.state.top r) τ))) e
             ∙ (λ i. ends (Halted (way_of 0 why)) (record m'.state { top = h.top i }));
       }

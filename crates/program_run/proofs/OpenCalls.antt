@@ -136,7 +136,7 @@ inside_later n ds es f g =
 
 pub fits_done : (ls : Levels) (w : List Touch) (es : List (Marked Call)) → Fits ls → Inside (belows es) → Fits (done ls w es)
 fits_done (Bottom own) w es f h = inside_later (length own.log) own.events es f h
-fits_done (Push under l own) w es f h = (inside_later (length own.log) own.events es f.0 h, f.1, f.2, f.3)
+fits_done (Push under l own) w es f h = (inside_later (length own.log) own.events es f.0 h, f.1, f.2)
 
 pub fits_more : (ls : Levels) (w : List Touch) → Fits ls → Fits (done ls w [])
 fits_more ls w f = fits_done ls w [] f inside_none

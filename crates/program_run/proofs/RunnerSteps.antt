@@ -14,10 +14,10 @@ use Rattle.eval_ops.specs.Machines.{Moment}
 use Rattle.evaluator.specs.Stops.{Stop, StopsAt}
 use Rattle.program_run.specs.declared.open_call.OpenCall.{OpenCall}
 use Rattle.program_run.specs.Table.{side_of}
-use Rattle.program_run.specs.Tower.{Rests, Stage, StagePaid, Calls, Open, View, TowerAt, Begins}
+use Rattle.program_run.specs.Tower.{Rests, Stage, Calls, Open, View, TowerAt, Begins}
 use Rattle.program_run.specs.Runners.{Begun, open_in}
 use Rattle.program_run.proofs.ActsKeepCalls.{onward}
-use Rattle.program_run.proofs.LinesTakeSteps.{StopPaid, stop_paid}
+use Rattle.program_run.proofs.LinesTakeSteps.{LeftAt, left_at_stop}
 use Rattle.program_run.proofs.StepsLeadToTheRun.{climb_enter}
 
 -- an open call more
@@ -33,13 +33,13 @@ pub record Entered (p : ProgramRows) (f : ℕ) (args : List Value) (o : Open) (s
   pub opens : v'.opens ≡ o ∷ v.opens
 
 pub entered_stands : {p : ProgramRows} {first : State} {f : ℕ} {args : List Value} {stage : Stage} (o : Open) (v v' : View) → Entered p f args o stage v v'
-    → StagePaid stage → TowerAt p first (Calls f args o.rest) v → TowerAt p first stage v'
-entered_stands {p = p} {first = first} {f = f} {args = args} {stage = stage} o v v' e paid t =
+    → TowerAt p first (Calls f args o.rest) v → TowerAt p first stage v'
+entered_stands {p = p} {first = first} {f = f} {args = args} {stage = stage} o v v' e t =
     subst (λ w. TowerAt p first stage w) (λ i. record {
       opens = sym (e.opens ∙ ap (λ b. record { base = b; cells = o.cells; rest = o.rest } ∷ v.opens) e.base) i;
       moment = v'.moment;
       recording = sym e.recording i;
-    }) (climb_enter v v'.moment f args o.rest o.cells stage t e.begins paid)
+    }) (climb_enter v v'.moment f args o.rest o.cells stage t e.begins)
 
 pub begun_output : (p : ProgramRows) (f : ℕ) (args : List Value) (r : Routine) (halted : Option WayOut) (m m' : Moment) → Begun p f args r halted m m'
     → m'.state.output ≡ m.state.output
@@ -62,9 +62,8 @@ counted_entered r r' xs ys o f args side e k h = ap (λ (q : Recording). length 
     ∙ (let l = length-append xs (o ∷ []) in let m = ap length k in let n = h in omega (arith, l, m, n))
 
 -- from a stop on fewer steps are left, or no more
-pub steps_onward : {p : ProgramRows} {first : State} {t : Tree} {v : View} {stop : Stop} {m' : Moment} → TowerAt p first (Rests t) v
-    → StopsAt p t v.moment stop m' → StopPaid v.moment.state.steps stop m'.state.steps
-steps_onward {p = p} {t = t} {v = v} {stop = stop} {m' = m'} h s = stop_paid p v.moment.state.steps s.moves t false v.moment stop m' h.paid (omega arith) s.is
+pub steps_onward : {p : ProgramRows} {t : Tree} {m : Moment} {stop : Stop} {m' : Moment} → StopsAt p t m stop m' → LeftAt m.state.steps stop m'.state.steps
+steps_onward {p = p} {t = t} {m = m} {stop = stop} {m' = m'} s = left_at_stop p m.state.steps s.moves t m stop m' (omega arith) s.is
 
 pub calls_onward : {p : ProgramRows} {t : Tree} {m : Moment} {stop : Stop} {m' : Moment} → StopsAt p t m stop m' → m'.state.calls ≡ m.state.calls
 calls_onward {p = p} {t = t} {m = m} {stop = stop} {m' = m'} s = (onward p s.moves t m stop m' s.is).same.calls

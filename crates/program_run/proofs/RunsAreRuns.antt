@@ -25,7 +25,7 @@ starts p items budget v args s e =
     subst (λ vs. TowerAt p (first_state items budget) (Calls 0 vs Ret) v) (sym e)
     (subst (λ w. TowerAt p (first_state items budget) (Calls 0 (Nil ∷ []) Ret) w)
     (λ i. record { opens = sym s.opens i; moment = v.moment; recording = sym s.recording i })
-    (at_first v.moment s.state s.log refl refl))
+    (at_first v.moment s.state s.log refl refl refl))
 
 module _ (p : ProgramRows) (input : List ℕ) (budget : ℕ) (m : Moment) (kept : Recording) (h : IsOver p (start input budget) m kept) where
   is : run p input budget ≡ Some h.result

@@ -1,13 +1,15 @@
 -- How the open calls change, from stop to stop.
-use Rattle.std.proofs.Common.{◌≡◌, ℕ, suc, ◌-◌, List, [], ◌∷◌, ◌++◌, Some, length, refl, sym, ap, subst, ◌∙◌, false, append-nil, arith}
+use Rattle.std.proofs.Common.{◌≡◌, ℕ, suc, ◌-◌, List, [], ◌∷◌, ◌++◌, Some, None, length, refl, sym, ap, subst, ◌∙◌, false, append-nil, arith}
 use Rattle.cell_value.specs.declared.values.Value.{Value}
 use Rattle.cell_value.specs.declared.values.Value.TheVariants.{Nil}
 use Rattle.cell_value.specs.declared.entries.Touch.{Touch}
 use Rattle.program_tables.specs.ProgramRows.{ProgramRows}
 use Rattle.program_meaning.specs.State.{State}
+use Rattle.program_meaning.specs.Acts.{limit_passed}
 use Rattle.program_meaning.specs.Tree.{Out, Tree, Ret}
 use Rattle.program_meaning.specs.Run.{Ended, Halted}
-use Rattle.program_meaning.specs.Run.{End, Result, Call, Outcome, in_front, ends, recorded, after_all, closed, without_frame, call_of, way_out, result_in}
+use Rattle.program_meaning.specs.Run.{End, Result, Call, Outcome, in_front, ends, joined, if_allowed, recorded, after_all, closed, without_frame, call_of}
+use Rattle.program_meaning.specs.Run.{way_out, result_in}
 use Rattle.program_meaning.specs.Run.{plain, run_of}
 use Rattle.program_meaning.proofs.MoreDepthSameResult.{Less, less_same, joined_less, run_less, plain_grows}
 use Rattle.program_meaning.proofs.OutcomesCompose.{front_nothing, less_then, less_is}
@@ -15,14 +17,12 @@ use Rattle.call_tree.specs.Recording.{Recording, nothing_entered, entered, left,
 use Rattle.eval_ops.specs.Machines.{Moment}
 use Rattle.evaluator.specs.Stops.{Stop, AtLine, AtCall, AtEnd, StopsAt}
 use Rattle.program_run.specs.Table.{side_of}
-use Rattle.program_run.specs.Tower.{Level, Levels, Bottom, Push, called, followed, whole_from, Stage, Rests, Calls, Ends, stage_of, stage_after, StagePaid}
+use Rattle.program_run.specs.Tower.{Level, Levels, Bottom, Push, called, followed, whole_from, Stage, Rests, Calls, Ends, stage_of, stage_after}
 use Rattle.program_run.specs.Tower.{left_at, Leads}
 use Rattle.program_run.specs.Tower.{size, numbers_of, logs_of, rows_of, recording_at, Fits, Open, open_of, opens_of, View, TowerAt, Begins, IsOver}
 use Rattle.program_run.proofs.RowsInParts.{rows_whole}
 use Rattle.program_run.proofs.StopsLeadOn.{finish, IsLens, runs}
-use Rattle.program_run.specs.Lines.{Paid}
 use Rattle.program_run.proofs.ActsKeepCalls.{onward}
-use Rattle.program_run.proofs.LinesTakeSteps.{StopPaid, stop_paid}
 use Rattle.program_run.proofs.OpenCalls.{
   whole_more,
   whole_some,
@@ -47,15 +47,6 @@ use Rattle.program_run.proofs.OpenCalls.{
   Top,
   top_of,
 }
-
-stage_paid : (before : ℕ) (stop : Stop) (steps : ℕ) → StopPaid before stop steps → StagePaid (stage_of stop)
-stage_paid before (AtLine line rest) steps h = h.1
-stage_paid before (AtCall f args rest) steps h = h.1
-stage_paid before (AtEnd end) steps h = tt
-
-after_paid : (rest : Out → Tree) (e : End) → ((out : Out) → Paid false (rest out)) → StagePaid (stage_after rest e)
-after_paid rest (Ended out) h = h out
-after_paid rest (Halted way) h = tt
 
 plain_lens : (p : ProgramRows) → IsLens (plain p)
 plain_lens p = record { set_get = λ σ τ. refl; get_set = λ σ. refl; set_set = λ σ τ υ. refl }
@@ -99,8 +90,6 @@ module _ {p : ProgramRows} {first : State} where
         calls = let a = o.same.calls in let b = h.calls in let c = size_done ls w [] in omega (arith, a, b, c);
         depth = o.same.depth ∙ h.depth ∙ ap length (sym (numbers_done ls w []));
         items = o.same.items ∙ h.items;
-        paid = stage_paid v.moment.state.steps stop m'.state.steps (stop_paid p v.moment.state.steps s.moves t false v.moment stop m' h.paid (omega arith)
-            s.is);
         leads = leads_from h.leads (go ls w o.grown);
       }
     where
@@ -128,20 +117,20 @@ module _ {p : ProgramRows} {first : State} where
 
   -- a call is entered
   pub climb_enter : (v : View) (m' : Moment) (f : ℕ) (args : List Value) (rest : Out → Tree) (cells : ℕ) (stage : Stage)
-      → TowerAt p first (Calls f args rest) v → Begins p f args cells stage v.moment m' → StagePaid stage
+      → TowerAt p first (Calls f args rest) v → Begins p f args cells stage v.moment m'
       → TowerAt p first stage (record {
         opens = (record { base = v.moment.state.top; cells = cells; rest = rest }) ∷ v.opens;
         moment = m';
         recording = entered v.recording f args (side_of (length v.moment.log) v.moment.state);
       })
-  climb_enter v m' f args rest cells stage h b paid =
+  climb_enter v m' f args rest cells stage h b =
       let ls = h.levels in
       let σ = v.moment.state in
       let l : Level = record { routine = f; args = args; entry = σ; cells = cells; rest = rest } in
       record {
         levels = Push ls l (record { log = []; events = [] });
         opens = ap (λ os. open_of l ∷ os) h.opens;
-        fits = (record { inside = λ k x. absurd (omega arith) }, h.depth, h.fits, h.paid);
+        fits = (record { inside = λ k x. absurd (omega arith) }, h.depth, h.fits);
         recording = ap (λ (r : Recording). entered r f args (side_of (length v.moment.log) σ)) h.recording ∙ (λ i. record {
           calls = rows_of ls ++ new_call (rows_length ls i) (numbers_of ls) f args (side_of (length (h.log i)) σ) ∷ [];
           open_calls = rows_length ls i ∷ numbers_of ls;
@@ -151,7 +140,6 @@ module _ {p : ProgramRows} {first : State} where
         calls = let a = b.calls in let c = h.calls in omega (arith, a, c);
         depth = let a = b.depth in let c = h.depth in omega (arith, a, c);
         items = b.items ∙ h.items;
-        paid = paid;
         leads = leads_from h.leads (λ n r e. (n, ap (whole_from p n ls) (enters n) ∙ e));
       }
     where
@@ -201,7 +189,6 @@ module _ {p : ProgramRows} {first : State} where
             calls = ap (λ (τ : State). τ.calls) es ∙ (let c = size_done under own.log es' in omega (arith, count, c));
             depth = ap (λ (τ : State). τ.depth) es ∙ at ∙ fits.1 ∙ ap length (sym (numbers_done under own.log es'));
             items = ap (λ (τ : State). τ.items) es ∙ h.items;
-            paid = subst (λ (q : Open). StagePaid (stage_after q.rest e)) (sym one) (after_paid l.rest e fits.3);
             leads = leads_from (subst (λ ls. Leads p first (λ n. whole_from p n ls (ends e v.moment.state))) y.is h.leads) (λ n r c. (
               n,
               ap (whole_from p n under) (call_ends p n l own e v.moment.state m'.state σ)
@@ -238,9 +225,9 @@ module _ {p : ProgramRows} {first : State} where
           }
 
   -- no call is entered yet
-  pub at_first : (m : Moment) → m.state ≡ first → m.log ≡ [] → first.calls ≡ 0 → first.depth ≡ 0
+  pub at_first : (m : Moment) → m.state ≡ first → m.log ≡ [] → first.calls ≡ 0 → first.depth ≡ 0 → limit_passed first 0 ≡ None
       → TowerAt p first (Calls 0 (Nil ∷ []) Ret) (record { opens = []; moment = m; recording = nothing_entered (length p.routines) })
-  at_first m es el ec ed = record {
+  at_first m es el ec ed free = record {
     levels = Bottom (record { log = []; events = [] });
     opens = refl;
     fits = record { inside = λ k x. absurd (omega arith) };
@@ -249,11 +236,11 @@ module _ {p : ProgramRows} {first : State} where
     calls = ap (λ (σ : State). σ.calls) es ∙ ec;
     depth = ap (λ (σ : State). σ.depth) es ∙ ed;
     items = ap (λ (σ : State). σ.items) es;
-    paid = λ out. tt;
     leads = record {
       leads = λ n r e. (
         suc n,
-        (joined_less _ _ _ _ (less_same (call_of p (run_of p n) 0 (Nil ∷ []) first))
+        ap (λ o. if_allowed o first (joined (call_of p (run_of p n) 0 (Nil ∷ []) first) (λ out τ. run_of p (suc n) (Ret out) τ))) free
+            ∙ (joined_less _ _ _ _ (less_same (call_of p (run_of p n) 0 (Nil ∷ []) first))
             (λ out τ. run_less (plain p) (plain_grows p) p n (Ret out) τ)).gives r
             (ap (λ σ. followed p n Ret (call_of p (run_of p n) 0 (Nil ∷ []) σ)) (sym es) ∙ sym (front_nothing _) ∙ e),
       );

@@ -1,21 +1,30 @@
 -- From a tree's next stop on, its run is the rest's.
-use Rattle.std.proofs.Common.{◌≡◌, ℕ, zero, suc, List, [], ◌++◌, Option, Some, refl, sym, ap, ◌∙◌, append_assoc, append-nil}
+use Rattle.std.proofs.Common.{◌≡◌, ℕ, zero, suc, List, [], ◌++◌, Option, Some, None, refl, sym, ap, ◌∙◌, append_assoc, append-nil}
+use Rattle.cell_value.specs.declared.values.Value.{Value}
 use Rattle.cell_value.specs.declared.entries.Touch.{Touch}
+use Rattle.cell_value.specs.declared.ways_out.WayOut.TheVariants as way
+use Rattle.cell_value.specs.declared.ways_out.Which.{Which}
 use Rattle.program_tables.specs.ProgramRows.{ProgramRows}
 use Rattle.program_meaning.specs.State.{State}
-use Rattle.program_meaning.specs.Acts.{Act, Answer, Done, Went, Stops, perform}
-use Rattle.program_meaning.specs.Tree.{Tree, Ret, Halt, Do, Sub, Enter, Line, way_of, bind}
+use Rattle.program_meaning.specs.Acts.{Act, Answer, Spend, Done, Went, Stops, perform, limit_passed}
+use Rattle.program_meaning.specs.Tree.{Out, Tree, Ret, Halt, Do, Sub, Enter, Line, way_of, bind}
 use Rattle.program_meaning.specs.Layer.{layer}
-use Rattle.program_meaning.specs.Run.{Ended, Halted, Result, Rules, in_front, ends, on_done, within}
+use Rattle.program_meaning.specs.Run.{Ended, Halted, Result, Rules, in_front, ends, joined, on_done, if_allowed, within}
 use Rattle.program_meaning.proofs.MoreDepthSameResult.{Less, Grows, run_less, joined_less, less_same, in_front_less}
 use Rattle.eval_ops.specs.Machines.{Moment}
-use Rattle.evaluator.specs.Stops.{Stop, AtLine, AtCall, AtEnd, on_act, next_stop}
-use Rattle.program_meaning.proofs.OutcomesCompose.{front_nothing, front_twice, walk_bind, some_same, none_some}
+use Rattle.evaluator.specs.Stops.{Stop, AtLine, AtCall, AtEnd, at_call, on_act, next_stop}
+use Rattle.program_meaning.proofs.OutcomesCompose.{front_nothing, front_twice, walk_bind, some_same, none_some, less_then, less_is}
+
+-- a call that passes no limit, and what follows it
+abbrev pub met : {S E : Type 0} → Rules S E → ProgramRows → ℕ → ℕ → List Value → (Out → Tree) → S → Option (Result S E)
+met rules p zero f args next σ = None
+met rules p (suc n) f args next σ =
+    joined (rules.call (λ u τ. within rules p n u τ) f args σ) (λ out τ. within rules p (suc n) (next out) τ)
 
 -- what is left at a stop
 abbrev pub finish : {S E : Type 0} → Rules S E → ProgramRows → ℕ → Stop → S → Option (Result S E)
 finish rules p n (AtLine line rest) σ = in_front [] (rules.line line) (within rules p n rest σ)
-finish rules p n (AtCall f args next) σ = within rules p n (Enter f args next) σ
+finish rules p n (AtCall f args next) σ = met rules p n f args next σ
 finish rules p n (AtEnd end) σ = ends end σ
 
 -- what the acts do to a state, they do to the state in it
@@ -67,16 +76,56 @@ module _ {S E : Type 0} (rules : Rules S E) (grows : Grows rules) (lens : IsLens
         is = ap (λ d. on_done rules line s d (λ x τ. within rules p (suc y.depth) (next x) τ)) e ∙ ap (in_front w []) y.is
             ∙ sym (front_twice w y.log [] [] (Some r));
       }
-  runs_act p line act next s l k n stop m' r ih (Stops why τ) e h f =
-      let u = unpack (AtEnd (Halted (way_of line why)), record { state = τ; log = l }) (stop, m') h in
+  runs_act p line act next s l k n stop m' r ih (Stops why w τ) e h f =
+      let u = unpack (AtEnd (Halted (way_of line why)), record { state = τ; log = l ++ w }) (stop, m') h in
       record {
         depth = zero;
-        log = [];
-        grown = ap (λ x. x.log) (sym u.1) ∙ sym (append-nil l);
+        log = w;
+        grown = ap (λ x. x.log) (sym u.1);
         is = ap (λ d. on_done rules line s d (λ x τ. within rules p (suc zero) (next x) τ)) e
-            ∙ (ap (λ z. finish rules p n z (rules.with_state s τ)) u.0 ∙ ap (λ x. finish rules p n stop (rules.with_state s x.state)) u.1 ∙ f)
-            ∙ sym (front_nothing (Some r));
+            ∙ ap (in_front w [])
+            (ap (λ z. finish rules p n z (rules.with_state s τ)) u.0 ∙ ap (λ x. finish rules p n stop (rules.with_state s x.state)) u.1 ∙ f);
       }
+
+  -- a statement begins, or there is no step for it
+  runs_line : (p : ProgramRows) (line : ℕ) (next : Tree) (s : S) (l : List Touch) (n : ℕ) (stop : Stop) (m' : Moment) (r : Result S E)
+      (d : Done (Unit {0})) → perform (Spend 1) (rules.state_of s) ≡ d → on_act line l d (λ x m1. Some (AtLine line next, m1)) ≡ Some (stop, m')
+      → finish rules p n stop (rules.with_state s m'.state) ≡ Some r → Runs p (Line line next) s l m'.log r
+  runs_line p line next s l n stop m' r (Went x w τ) e h f =
+      let u = unpack (AtLine line next, record { state = τ; log = l ++ w }) (stop, m') h in
+      record {
+        depth = n;
+        log = w;
+        grown = ap (λ x. x.log) (sym u.1);
+        is = ap (λ d. on_done rules line s d (λ x τ. in_front [] (rules.line line) (within rules p (suc n) next τ))) e
+            ∙ ap (in_front w []) ((in_front_less [] (rules.line line) _ _ (run_less rules grows p n next (rules.with_state s τ))).gives r
+            (ap (λ z. finish rules p n z (rules.with_state s τ)) u.0 ∙ ap (λ x. finish rules p n stop (rules.with_state s x.state)) u.1 ∙ f));
+      }
+  runs_line p line next s l n stop m' r (Stops why w τ) e h f =
+      let u = unpack (AtEnd (Halted (way_of line why)), record { state = τ; log = l ++ w }) (stop, m') h in
+      record {
+        depth = zero;
+        log = w;
+        grown = ap (λ x. x.log) (sym u.1);
+        is = ap (λ d. on_done rules line s d (λ x τ. in_front [] (rules.line line) (within rules p (suc zero) next τ))) e
+            ∙ ap (in_front w [])
+            (ap (λ z. finish rules p n z (rules.with_state s τ)) u.0 ∙ ap (λ x. finish rules p n stop (rules.with_state s x.state)) u.1 ∙ f);
+      }
+
+  met_is : (p : ProgramRows) (n f cells : ℕ) (args : List Value) (next : Out → Tree) (s : S) → limit_passed (rules.state_of s) cells ≡ None
+      → within rules p n (Enter f cells args next) s ≡ met rules p n f args next s
+  met_is p zero f cells args next s e = refl
+  met_is p (suc n) f cells args next s e = ap (λ o. if_allowed o s (met rules p (suc n) f args next s)) e
+
+  runs_call : (p : ProgramRows) (f cells : ℕ) (args : List Value) (next : Out → Tree) (s : S) (l : List Touch) (stop : Stop) (m' : Moment) (n : ℕ)
+      (r : Result S E) (o : Option Which) → limit_passed (rules.state_of s) cells ≡ o
+      → ◌≡◌ {A = Found} (Some (at_call o f args next, record { state = rules.state_of s; log = l })) (Some (stop, m'))
+      → finish rules p n stop (rules.with_state s m'.state) ≡ Some r → Runs p (Enter f cells args next) s l m'.log r
+  runs_call p f cells args next s l stop m' n r None e h g = runs_stop p (Enter f cells args next) s l (AtCall f args next) stop m' n r
+      (less_then (less_is (sym (met_is p n f cells args next s e))) (run_less rules grows p n (Enter f cells args next) s)) h g
+  runs_call p f cells args next s l stop m' n r (Some which) e h g =
+      runs_stop p (Enter f cells args next) s l (AtEnd (Halted (way.Limited which))) stop m' n r
+      (less_is (sym (ap (λ o. if_allowed o s (met rules p (suc n) f args next s)) e))) h g
 
   pub runs : (p : ProgramRows) (k : ℕ) (t : Tree) (s : S) (σ : State) (l : List Touch) (n : ℕ) (stop : Stop) (m' : Moment) (r : Result S E)
       → rules.state_of s ≡ σ → next_stop p k t (record { state = σ; log = l }) ≡ Some (stop, m') → finish rules p n stop (rules.with_state s m'.state) ≡ Some r
@@ -84,8 +133,8 @@ module _ {S E : Type 0} (rules : Rules S E) (grows : Grows rules) (lens : IsLens
   runs p zero t s σ l n stop m' r q h f = absurd (none_some h)
   runs p (suc k) (Ret out) s σ l n stop m' r q h f =
       runs_stop p (Ret out) s l (AtEnd (Ended out)) stop m' n r (less_same _) (ap (λ z. Some (AtEnd (Ended out), record { state = z; log = l })) q ∙ h) f
-  runs p (suc k) (Halt way) s σ l n stop m' r q h f =
-      runs_stop p (Halt way) s l (AtEnd (Halted way)) stop m' n r (less_same _) (ap (λ z. Some (AtEnd (Halted way), record { state = z; log = l })) q ∙ h) f
+  runs p (suc k) (Halt line why) s σ l n stop m' r q h f = runs_stop p (Halt line why) s l (AtEnd (Halted (way_of line why))) stop m' n r (less_same _)
+      (ap (λ z. Some (AtEnd (Halted (way_of line why)), record { state = z; log = l })) q ∙ h) f
   runs p (suc k) (Do line act next) s σ l n stop m' r q h f =
       runs_act p line act next s l k n stop m' r
       (λ x τ l1 g. runs p k (next x) (rules.with_state s τ) τ l1 n stop m' r (lens.set_get s τ) g
@@ -101,9 +150,9 @@ module _ {S E : Type 0} (rules : Rules S E) (grows : Grows rules) (lens : IsLens
             (λ out τ. within rules p (suc (suc y.depth)) (next out) τ) (less_same _) (λ out τ. run_less rules grows p (suc y.depth) (next out) τ)).gives _
             (sym (walk_bind rules _ _ (layer p part) next s) ∙ y.is);
       }
-  runs p (suc k) (Enter g args next) s σ l n stop m' r q h f =
-      runs_stop p (Enter g args next) s l (AtCall g args next) stop m' n r (run_less rules grows p n (Enter g args next) s)
-      (ap (λ z. Some (AtCall g args next, record { state = z; log = l })) q ∙ h) f
+  runs p (suc k) (Enter g cells args next) s σ l n stop m' r q h f =
+      runs_call p g cells args next s l stop m' n r (limit_passed (rules.state_of s) cells) refl
+      (ap (λ z. Some (at_call (limit_passed z cells) g args next, record { state = z; log = l })) q ∙ h) f
   runs p (suc k) (Line line next) s σ l n stop m' r q h f =
-      runs_stop p (Line line next) s l (AtLine line next) stop m' n r (in_front_less [] (rules.line line) _ _ (run_less rules grows p n next s))
-      (ap (λ z. Some (AtLine line next, record { state = z; log = l })) q ∙ h) f
+      runs_line p line next s l n stop m' r (perform (Spend 1) (rules.state_of s)) refl
+      (ap (λ z. on_act line l (perform (Spend 1) z) (λ x m1. Some (AtLine line next, m1))) q ∙ h) f

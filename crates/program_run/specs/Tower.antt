@@ -39,6 +39,7 @@ use Rattle.program_meaning.specs.Run.{
   without_frame,
   opened,
   in_frame,
+  at_work,
   call_of,
   run_of,
   block,
@@ -46,7 +47,6 @@ use Rattle.program_meaning.specs.Run.{
 use Rattle.program_meaning.specs.Numbering.{belows, parent_of, depth_of, last_of, each_from, Inside}
 use Rattle.eval_ops.specs.Machines.{Moment}
 use Rattle.evaluator.specs.Stops.{Stop, AtLine, AtCall, AtEnd}
-use Rattle.program_run.specs.Lines.{Paid}
 use Rattle.program_run.specs.Table.{side_of, row_with}
 use Rattle.program_run.specs.History.{recording_of}
 
@@ -100,12 +100,6 @@ stage_of (AtEnd end) = Ends end
 abbrev pub stage_after : (Out → Tree) → End → Stage
 stage_after rest (Ended out) = Rests (rest out)
 stage_after rest (Halted way) = Ends (Halted way)
-
--- what is to be done at a stage takes steps
-abbrev pub StagePaid : Stage → Type 0
-StagePaid (Rests tree) = Paid false tree
-StagePaid (Calls routine args rest) = (out : Out) → Paid false (rest out)
-StagePaid (Ends end) = Unit {0}
 
 -- what is left inside of it
 abbrev pub left_at : ProgramRows → ℕ → Stage → State → Outcome
@@ -183,13 +177,10 @@ rows_of (Push under l own) = rows_of under ++ opened_row under l ∷ rows_at (be
 abbrev pub recording_at : (routines : ℕ) → Levels → Recording
 recording_at routines ls = record { calls = rows_of ls; open_calls = numbers_of ls; routines = routines }
 
--- the calls below each call are among its body's calls, the depth of each open call is the number of those above it,
--- and
--- what is done after it takes steps
+-- the calls below each call are among its body's calls, and the depth of each open call is the number of those above it
 abbrev pub Fits : Levels → Type 0
 Fits (Bottom own) = Inside (belows own.events)
 Fits (Push under l own) = Inside (belows own.events) × (l.entry.depth ≡ length (numbers_of under)) × Fits under
-    × ((out : Out) → Paid false (l.rest out))
 
 -- ---- the open calls in the code
 
@@ -223,7 +214,6 @@ pub record TowerAt (p : ProgramRows) (first : State) (stage : Stage) (v : View) 
   pub calls : v.moment.state.calls ≡ size levels
   pub depth : v.moment.state.depth ≡ length (numbers_of levels)
   pub items : v.moment.state.items ≡ first.items
-  pub paid : StagePaid stage
   pub leads : Leads p first (λ n. whole_from p n levels (left_at p n stage v.moment.state))
 
 -- a call was entered, and its body is at this stage
@@ -234,7 +224,7 @@ pub record Begins (p : ProgramRows) (f : ℕ) (args : List Value) (cells : ℕ) 
     pub depth : m'.state.depth ≡ m.state.depth + 1
     pub output : m'.state.output ≡ m.state.output
     pub items : m'.state.items ≡ m.state.items
-    pub is : (n : ℕ) → in_frame p (run_of p n) f args (opened m.state) (routine_at p f)
+    pub is : (n : ℕ) → in_frame (at_work p (run_of p n) f) args (opened m.state) (routine_at p f)
         ≡ after_all (without_frame m.state.top cells) (left_at p n stage m'.state)
 
 -- the run from a first state is over, and this is what it left

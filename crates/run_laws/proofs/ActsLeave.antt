@@ -1,37 +1,6 @@
 -- What an act leaves of a sound state, and that the state after it is sound. Each act has a clause of `act_leaves`.
-use Rattle.std.proofs.Common.{
-  ◌≡◌,
-  ◌⊎◌,
-  inl,
-  inr,
-  ℕ,
-  ◌+◌,
-  ◌-◌,
-  ◌<◌,
-  ◌≤◌,
-  Bool,
-  true,
-  false,
-  List,
-  [],
-  ◌∷◌,
-  ◌++◌,
-  Option,
-  Some,
-  None,
-  refl,
-  sym,
-  ap,
-  subst,
-  ◌∙◌,
-  append_assoc,
-  append-nil,
-  is_some,
-  nat_lt,
-  nat_le,
-  if◌then◌else◌,
-  arith,
-}
+use Rattle.std.proofs.Common.{◌≡◌, ◌⊎◌, inl, inr, ℕ, ◌+◌, ◌-◌, ◌<◌, ◌≤◌, Bool, true, false, List, [], ◌∷◌, ◌++◌, Option, Some, None, refl, sym, ap, subst}
+use Rattle.std.proofs.Common.{◌∙◌, append_assoc, append-nil, is_some, nat_lt, nat_le, if◌then◌else◌, arith}
 use Rattle.std.specs.Prelude.{◌&&◌, ◌||◌}
 use Rattle.std.specs.Option.{IsSome}
 use Rattle.std.proofs.lemmas.Bool.Decides.{eqb_tells, nat_tests}
@@ -43,34 +12,13 @@ use Rattle.cell_value.specs.declared.entries.Touch.{Touch}
 use Rattle.cell_value.specs.declared.entries.Touch.TheVariants as touch
 use Rattle.cell_value.specs.declared.entries.Change.TheVariants.{Set}
 use Rattle.cell_value.specs.declared.ways_out.Kind.TheVariants as kind
-use Rattle.cell_value.specs.declared.ways_out.Which.{Which}
 use Rattle.cell_value.specs.declared.ways_out.Which.TheVariants.{Calls, Depth, Stack}
 use Rattle.cell_value.specs.Effects.{is_shared, made_by, made_of, taken_by, taken_of, byte_by, given_of}
 use Rattle.program_meaning.specs.State.{State, IsSound, stack_end, heap_end, most_calls, most_depth, is_in_reach}
-use Rattle.program_meaning.specs.Acts.{
-  Fault,
-  OutOfSteps,
-  Act,
-  Answer,
-  Spend,
-  ReadCell,
-  HasCell,
-  WriteCell,
-  MayCall,
-  Done,
-  Went,
-  Stops,
-  perform,
-  spent,
-  with_steps,
-  on_cell,
-  read_as,
-  limit_passed,
-  below_limits,
-}
+use Rattle.program_meaning.specs.Acts.{Fault, OutOfSteps, Act, Spend, ReadCell, HasCell, WriteCell, Done, Went, Stops, perform, spent, with_steps, on_cell}
+use Rattle.program_meaning.specs.Acts.{read_as, put, put_asked, after_touches, limit_passed}
 use Rattle.run_laws.proofs.Touches.{written, written-append, left_with, left_same, Serves, serves_append, none_some}
 use Rattle.run_laws.proofs.Cells.{got_same, got_other}
-use Rattle.run_laws.proofs.EachTreeIsTidy.{Mode, Free, MayEnter, mode_after, Allowed}
 
 -- what a part of a run with these touches and so many calls leaves of a state: what it does to the cells that it shares
 -- with its caller, and to all else
@@ -148,32 +96,32 @@ leaves_then {σ = σ} {τ = τ} {υ = υ} {v = v} {w = w} {n = n} {k = k} f g = 
     shared : (a : ℕ) → is_shared σ.top a ≡ true → is_shared τ.top a ≡ true
     shared a h = ap (λ t. is_shared t a) f.top ∙ h
 
--- ---- what may come next holds
+-- ---- acts
 
-abbrev pub Holds : Mode → State → Type 0
-Holds (Free None) σ = Unit {0}
-Holds (Free (Some a)) σ = IsSome (get σ.cells a)
-Holds MayEnter σ = (σ.calls < most_calls) × (σ.depth ≤ most_depth)
+abbrev pub DoneLeaves : {A : Type 0} → State → Done A → Type 0
+DoneLeaves σ (Went x w τ) = Leaves σ w 0 τ
+DoneLeaves σ (Stops why w τ) = Leaves σ w 0 τ
 
-abbrev pub DoneLeaves : (act : Act) → State → Done (Answer act) → Type 0
-DoneLeaves act σ (Went x w τ) = Leaves σ w 0 τ × Holds (mode_after act x) τ
-DoneLeaves act σ (Stops why τ) = Leaves σ [] 0 τ
-
-stepped : (act : Act) (σ : State) (n : ℕ) (go : State → Done (Answer act)) → IsSound σ
-    → ((k : ℕ) → k ≤ σ.steps → DoneLeaves act σ (go (record σ { steps = k }))) → DoneLeaves act σ (with_steps n σ go)
-stepped act σ n go s h = by (nat_lt σ.steps n)
+stepped : {A : Type 0} (σ : State) (n : ℕ) (go : State → Done A) → IsSound σ → ((k : ℕ) → k ≤ σ.steps → DoneLeaves σ (go (record σ { steps = k })))
+    → DoneLeaves σ (with_steps n σ go)
+stepped {A} σ n go s h = by (nat_lt σ.steps n)
   where
-    by : (b : Bool) → DoneLeaves act σ (if b then Stops OutOfSteps (spent σ) else go (record σ { steps = σ.steps - n }))
+    by : (b : Bool) → DoneLeaves {A = A} σ (if b then Stops OutOfSteps [] (spent σ) else go (record σ { steps = σ.steps - n }))
     by true = leaves_steps σ 0 (omega arith) s
     by false = h (σ.steps - n) (omega arith)
 
-celled : (act : Act) (σ : State) (addr : ℕ) (go : State → Done (Answer act)) → IsSound σ
-    → (is_in_reach σ addr ≡ true → (k : ℕ) → k ≤ σ.steps → DoneLeaves act σ (go (record σ { steps = k }))) → DoneLeaves act σ (on_cell addr σ go)
-celled act σ addr go s h = by (is_in_reach σ addr) refl
+celled : {A : Type 0} (σ : State) (addr : ℕ) (go : State → Done A) → IsSound σ
+    → (is_in_reach σ addr ≡ true → (k : ℕ) → k ≤ σ.steps → DoneLeaves σ (go (record σ { steps = k }))) → DoneLeaves σ (on_cell addr σ go)
+celled {A} σ addr go s h = by (is_in_reach σ addr) refl
   where
-    by : (b : Bool) → is_in_reach σ addr ≡ b → DoneLeaves act σ (if b then with_steps 1 σ go else Stops (Fault kind.Undefined) σ)
-    by true e = stepped act σ 1 go s (h e)
+    by : (b : Bool) → is_in_reach σ addr ≡ b → DoneLeaves {A = A} σ (if b then with_steps 1 σ go else Stops (Fault kind.Undefined) [] σ)
+    by true e = stepped σ 1 go s (h e)
     by false e = leaves_same σ s
+
+-- touches, and what was done after them
+touches_leave : {A : Type 0} (σ τ : State) (w : List Touch) (d : Done A) → Leaves σ w 0 τ → DoneLeaves τ d → DoneLeaves σ (after_touches w d)
+touches_leave σ τ w (Went x v υ) h k = leaves_then h k
+touches_leave σ τ w (Stops why v υ) h k = leaves_then h k
 
 read_shown : (σ : State) (addr k : ℕ) (v : Value) → k ≤ σ.steps → IsSound σ → get σ.cells addr ≡ Some v
     → Leaves σ (touch.Read addr v ∷ []) 0 (record σ { steps = k })
@@ -263,42 +211,51 @@ write_leaves σ addr k v h s there = record {
   sound = sound_steps k (sound_write σ addr v s there);
 }
 
--- where leave for a call was given no limit is passed
-pub limits_hold : (σ : State) (n : ℕ) → limit_passed σ n ≡ None → (σ.calls < most_calls) × (σ.depth ≤ most_depth)
+-- a write to an address in reach
+write_done : (σ : State) (addr k : ℕ) (v : Value) → IsSound σ → is_in_reach σ addr ≡ true → k ≤ σ.steps → DoneLeaves σ
+    (if nat_lt addr stack_end then put addr v (record σ { steps = k }) else put_asked (is_some (get σ.cells addr)) addr v (record σ { steps = k }))
+write_done σ addr k v s r h = by (nat_lt addr stack_end) refl
+  where
+    in_stack : addr < stack_end → (addr < σ.top) ⊎ ((stack_end ≤ addr) × (addr < heap_end)) → IsSome (get σ.cells addr)
+    in_stack l (inl q) = s.stack addr q
+    in_stack l (inr q) = absurd (let z = q.0 in omega arith)
+
+    asked : (there : Bool) → is_some (get σ.cells addr) ≡ there → DoneLeaves σ (put_asked there addr v (record σ { steps = k }))
+    asked false e = asked_shown σ addr k false h s e
+    asked true e = touches_leave σ (record σ { steps = k }) (touch.Has addr true ∷ []) _ (asked_shown σ addr k true h s e)
+        (stepped (record σ { steps = k }) 1 (put addr v) (sound_steps k s) (λ l m. write_leaves (record σ { steps = k }) addr l v m (sound_steps k s) e))
+
+    by : (b : Bool) → nat_lt addr stack_end ≡ b
+        → DoneLeaves σ (if b then put addr v (record σ { steps = k }) else put_asked (is_some (get σ.cells addr)) addr v (record σ { steps = k }))
+    by true e = write_leaves σ addr k v h s (in_stack (grind (arith, nat_tests)) (reaches σ addr r))
+    by false e = asked (is_some (get σ.cells addr)) refl
+
+pub act_leaves : (act : Act) (σ : State) → IsSound σ → DoneLeaves σ (perform act σ)
+act_leaves (Spend n) σ s = stepped σ n (λ τ. Went tt [] τ) s (λ k h. leaves_steps σ k h s)
+act_leaves (ReadCell addr) σ s = celled σ addr (λ τ. read_as addr (get σ.cells addr) τ) s (λ r k h. by k h (get σ.cells addr) refl)
+  where
+    by : (k : ℕ) → k ≤ σ.steps → (o : Option Value) → get σ.cells addr ≡ o → DoneLeaves σ (read_as addr o (record σ { steps = k }))
+    by k h None e = asked_shown σ addr k false h s (ap is_some e)
+    by k h (Some v) e = read_shown σ addr k v h s e
+act_leaves (HasCell addr) σ s = celled σ addr (λ τ. Went (is_some (get σ.cells addr)) (touch.Has addr (is_some (get σ.cells addr)) ∷ []) τ) s
+    (λ r k h. asked_shown σ addr k (is_some (get σ.cells addr)) h s refl)
+act_leaves (WriteCell addr v) σ s = celled σ addr
+    (λ τ. if nat_lt addr stack_end then put addr v τ else put_asked (is_some (get τ.cells addr)) addr v τ) s (λ r k h. write_done σ addr k v s r h)
+
+-- ---- limits
+
+-- a call more passes neither the limit of calls nor that of depth
+pub record MayEnter (σ : State) : Type 0 where
+  pub calls : σ.calls < most_calls
+  pub depth : σ.depth ≤ most_depth
+
+-- where no limit is passed
+pub limits_hold : (σ : State) (n : ℕ) → limit_passed σ n ≡ None → MayEnter σ
 limits_hold σ n e = by (nat_lt most_calls (σ.calls + 1)) (nat_lt most_depth σ.depth) (nat_lt stack_end (σ.top + n)) refl refl e
   where
     by : (a b c : Bool) → nat_lt most_calls (σ.calls + 1) ≡ a → nat_lt most_depth σ.depth ≡ b
-        → (if a then Some Calls else if b then Some Depth else if c then Some Stack else None) ≡ None → (σ.calls < most_calls) × (σ.depth ≤ most_depth)
+        → (if a then Some Calls else if b then Some Depth else if c then Some Stack else None) ≡ None → MayEnter σ
     by true b c e f h = absurd (none_some (sym h))
     by false true c e f h = absurd (none_some (sym h))
-    by false false c e f h = (grind (arith, nat_tests), grind (arith, nat_tests))
-
-pub act_leaves : (act : Act) (found : Option ℕ) (σ : State) → IsSound σ → Holds (Free found) σ → Allowed found act → DoneLeaves act σ (perform act σ)
-act_leaves (Spend n) found σ s m l = stepped (Spend n) σ n (λ τ. Went tt [] τ) s (λ k h. (leaves_steps σ k h s, tt))
-act_leaves (ReadCell addr) found σ s m l = celled (ReadCell addr) σ addr (λ τ. read_as addr (get τ.cells addr) τ) s (λ r k h. by k h (get σ.cells addr) refl)
-  where
-    by : (k : ℕ) → k ≤ σ.steps → (o : Option Value) → get σ.cells addr ≡ o → DoneLeaves (ReadCell addr) σ (read_as addr o (record σ { steps = k }))
-    by k h None e = (asked_shown σ addr k false h s (ap is_some e), tt)
-    by k h (Some v) e = (read_shown σ addr k v h s e, tt)
-act_leaves (HasCell addr) found σ s m l = celled (HasCell addr) σ addr
-    (λ τ. Went (is_some (get τ.cells addr)) (touch.Has addr (is_some (get τ.cells addr)) ∷ []) τ) s (λ r k h. by k h (is_some (get σ.cells addr)) refl)
-  where
-    by : (k : ℕ) → k ≤ σ.steps → (b : Bool) → is_some (get σ.cells addr) ≡ b
-        → DoneLeaves (HasCell addr) σ (Went b (touch.Has addr b ∷ []) (record σ { steps = k }))
-    by k h true e = (asked_shown σ addr k true h s e, e)
-    by k h false e = (asked_shown σ addr k false h s e, tt)
-act_leaves (WriteCell addr v) found σ s m l = celled (WriteCell addr v) σ addr
-    (λ τ. Went tt (touch.Write addr v ∷ []) (record τ { cells = insert τ.cells addr v })) s
-    (λ r k h. (write_leaves σ addr k v h s (there (reaches σ addr r) found l m), tt))
-  where
-    there : (addr < σ.top) ⊎ ((stack_end ≤ addr) × (addr < heap_end)) → (found : Option ℕ) → (addr < stack_end) ⊎ (found ≡ Some addr) → Holds (Free found) σ
-        → IsSome (get σ.cells addr)
-    there (inl h) f l m = s.stack addr h
-    there (inr h) f (inl l) m = absurd (let k = h.0 in omega arith)
-    there (inr h) None (inr l) m = absurd (none_some l)
-    there (inr h) (Some a) (inr l) m = subst (λ a. IsSome (get σ.cells a)) (let z : a ≡ addr = cc in z) m
-act_leaves (MayCall n) found σ s m l = by (limit_passed σ n) refl
-  where
-    by : (o : Option Which) → limit_passed σ n ≡ o → DoneLeaves (MayCall n) σ (below_limits σ o)
-    by None e = (leaves_same σ s, limits_hold σ n e)
-    by (Some which) e = leaves_same σ s
+    by false false true e f h = absurd (none_some (sym h))
+    by false false false e f h = record { calls = grind (arith, nat_tests); depth = grind (arith, nat_tests) }

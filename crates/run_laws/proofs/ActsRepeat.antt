@@ -1,37 +1,8 @@
 -- Two states that agree on what touches still show: each act gives both the same answer, and keeps them in agreement.
 -- Each act has a clause of `act_again`.
-use Rattle.std.proofs.Common.{
-  ◌≡◌,
-  ◌⊎◌,
-  inl,
-  inr,
-  ℕ,
-  ◌+◌,
-  ◌-◌,
-  ◌<◌,
-  ◌≤◌,
-  Bool,
-  true,
-  false,
-  List,
-  [],
-  ◌∷◌,
-  ◌++◌,
-  Option,
-  Some,
-  None,
-  refl,
-  sym,
-  ap,
-  subst,
-  ◌∙◌,
-  is_some,
-  nat_lt,
-  nat_le,
-  if◌then◌else◌,
-  arith,
-}
-use Rattle.std.specs.Prelude.{◌&&◌, ◌||◌}
+use Rattle.std.proofs.Common.{◌≡◌, ◌⊎◌, inl, inr, ℕ, ◌+◌, ◌-◌, ◌<◌, ◌≤◌, Bool, true, false, List, [], ◌∷◌, ◌++◌, Option, Some, None, refl, sym, ap, subst}
+use Rattle.std.proofs.Common.{◌∙◌, is_some, nat_lt, nat_le, if◌then◌else◌, arith}
+use Rattle.std.specs.Prelude.{◌&&◌, ◌||◌, map}
 use Rattle.std.specs.List.{slice_get}
 use Rattle.std.proofs.lemmas.Bool.Decides.{eqb_tells, nat_tests}
 use Rattle.std.specs.FinMap.{get, insert}
@@ -40,35 +11,15 @@ use Rattle.cell_value.specs.declared.entries.Touch.{Touch}
 use Rattle.cell_value.specs.declared.entries.Touch.TheVariants as touch
 use Rattle.cell_value.specs.declared.entries.Change.TheVariants.{Set}
 use Rattle.cell_value.specs.declared.ways_out.Kind.TheVariants as kind
-use Rattle.cell_value.specs.declared.ways_out.Which.{Which}
 use Rattle.cell_value.specs.declared.ways_out.Which.TheVariants.{Calls, Depth, Stack}
 use Rattle.cell_value.specs.Effects.{made_of, looked_of}
 use Rattle.program_meaning.specs.State.{State, stack_end, heap_end, most_calls, most_depth, is_in_reach}
-use Rattle.program_meaning.specs.Acts.{
-  Trouble,
-  Fault,
-  OutOfSteps,
-  Act,
-  Answer,
-  Spend,
-  ReadCell,
-  HasCell,
-  WriteCell,
-  MayCall,
-  Done,
-  Went,
-  Stops,
-  perform,
-  spent,
-  with_steps,
-  on_cell,
-  read_as,
-  limit_passed,
-  below_limits,
-}
+use Rattle.program_meaning.specs.Acts.{Trouble, Fault, OutOfSteps, Act, Spend, ReadCell, HasCell, WriteCell, Done, Went, Stops, perform, spent, with_steps}
+use Rattle.program_meaning.specs.Acts.{on_cell, read_as, put, put_if, put_asked, after_touches, limit_passed}
 use Rattle.run_laws.proofs.Touches.{Serves, none_some}
 use Rattle.run_laws.proofs.Cells.{Map, got_same, got_other}
-use Rattle.run_laws.proofs.Effects.{SameLog}
+use Rattle.run_laws.proofs.ActsLeave.{MayEnter}
+use Rattle.run_laws.proofs.Effects.{SameLog, relative}
 
 -- the cells of the second serve the touches as those of the first do
 abbrev pub SameCells : List Touch → Map → Map → Type 0
@@ -96,76 +47,121 @@ abbrev pub IsFault : Trouble → Type 0
 IsFault (Fault k) = Unit {0}
 IsFault why = ⊥
 
--- in the second state the act passes no limit
-abbrev pub MayGo : Act → State → Type 0
-MayGo (MayCall n) τ = (τ.calls < most_calls) × (τ.depth ≤ most_depth)
-MayGo act τ = Unit {0}
+-- ---- what was done
+
+abbrev pub ByItself : {A : Type 0} → Done A → Type 0
+ByItself (Went x w σ) = Unit {0}
+ByItself (Stops why w σ) = IsFault why
+
+abbrev pub log_of : {A : Type 0} → Done A → List Touch
+log_of (Went x w σ) = w
+log_of (Stops why w σ) = w
+
+abbrev pub state_of : {A : Type 0} → Done A → State
+state_of (Went x w σ) = σ
+state_of (Stops why w σ) = σ
+
+-- the same was done, with these touches and this state after it
+abbrev pub done_as : {A : Type 0} → Done A → List Touch → State → Done A
+done_as (Went x w σ) v τ = Went x v τ
+done_as (Stops why w σ) v τ = Stops why v τ
+
+touches_after : {A : Type 0} (w : List Touch) (d : Done A) → log_of (after_touches w d) ≡ w ++ log_of d
+touches_after w (Went x v σ) = refl
+touches_after w (Stops why v σ) = refl
+
+state_after : {A : Type 0} (w : List Touch) (d : Done A) → state_of (after_touches w d) ≡ state_of d
+state_after w (Went x v σ) = refl
+state_after w (Stops why v σ) = refl
+
+itself_after : {A : Type 0} (w : List Touch) (d : Done A) → ByItself (after_touches w d) → ByItself d
+itself_after w (Went x v σ) h = h
+itself_after w (Stops why v σ) h = h
+
+as_after : {A : Type 0} (w : List Touch) (d : Done A) (v : List Touch) (τ : State) → after_touches w (done_as d v τ) ≡ done_as (after_touches w d) (w ++ v) τ
+as_after w (Went x u σ) v τ = refl
+as_after w (Stops why u σ) v τ = refl
 
 module _ (from to : ℕ) where
-  abbrev pub WentAgain : {A : Type 0} → A → List Touch → State → Done A → State → State → List Touch → Type 0
-  WentAgain x w σ1 d σ τ u = (τ1 : State) × (w' : List Touch) × (d ≡ Went x w' τ1) × SameLog from to w w' × Agree from to u σ1 τ1 × InStep σ τ σ1 τ1
+  -- `d` was done from the first state, and the second one does the same in `e`; `u` are the touches that are to come
+  pub record DidAgain {A : Type 0} (d e : Done A) (σ τ : State) (u : List Touch) : Type 0 where
+    pub log : List Touch
+    pub after : State
+    pub is : e ≡ done_as d log after
+    pub same : SameLog from to (log_of d) log
+    pub agree : Agree from to u (state_of d) after
+    pub step : InStep σ τ (state_of d) after
 
-  abbrev pub StopsAgain : {A : Type 0} → Trouble → State → Done A → State → State → List Touch → Type 0
-  StopsAgain why σ1 d σ τ u = (τ1 : State) × (d ≡ Stops why τ1) × Agree from to u σ1 τ1 × InStep σ τ σ1 τ1
-
-  -- what was done from the first state is done from the second
-  abbrev pub DoneAgain : (act : Act) → Done (Answer act) → Done (Answer act) → State → State → List Touch → Type 0
-  DoneAgain act (Went x w σ1) d σ τ u = Agree from to (w ++ u) σ τ → σ.steps ≤ τ.steps + σ1.steps → MayGo act τ → WentAgain x w σ1 d σ τ u
-  DoneAgain act (Stops why σ1) d σ τ u = Agree from to u σ τ → IsFault why → StopsAgain why σ1 d σ τ u
+  -- what was done by itself from the first state is done from the second, where that agrees and has steps enough
+  abbrev pub DoneAgain : {A : Type 0} → (d e : Done A) → (σ τ : State) → List Touch → Type 0
+  DoneAgain d e σ τ u = Agree from to (log_of d ++ u) σ τ → σ.steps ≤ τ.steps + (state_of d).steps → ByItself d → DidAgain d e σ τ u
 
   agree_steps : (u : List Touch) (σ τ : State) (k l : ℕ) → Agree from to u σ τ → Agree from to u (record σ { steps = k }) (record τ { steps = l })
   agree_steps u σ τ k l h = record { top = h.top; fresh = h.fresh; cells = h.cells; place = h.place; items = h.items }
 
-  in_step : (σ τ : State) (k l : ℕ) → l + σ.steps ≡ k + τ.steps → InStep σ τ (record σ { steps = k }) (record τ { steps = l })
-  in_step σ τ k l e = record { steps = e; calls = omega arith; depth = omega arith }
+  -- an act goes on from what is left of the steps, and leaves no more of them
+  abbrev GoesOn : {A : Type 0} → (State → Done A) → (σ τ : State) → List Touch → Type 0
+  GoesOn go σ τ u = (k l : ℕ) → ((state_of (go (record σ { steps = k }))).steps ≤ k)
+      × DoneAgain (go (record σ { steps = k })) (go (record τ { steps = l })) (record σ { steps = k }) (record τ { steps = l }) u
 
-  -- an act that takes steps goes on from what is left of them
-  abbrev GoesOn : (act : Act) → State → State → List Touch → (go : State → Done (Answer act)) → (k l : ℕ) → Type 0
-  GoesOn act σ τ u go k l = (x : Answer act) × (w : List Touch) × (σ1 : State) × (go (record σ { steps = k }) ≡ Went x w σ1) × (σ1.steps ≤ k)
-      × (l + σ.steps ≡ k + τ.steps → Agree from to (w ++ u) σ τ → WentAgain x w σ1 (go (record τ { steps = l })) σ τ u)
-
-  stepped : (act : Act) (n : ℕ) (σ τ : State) (u : List Touch) (go : State → Done (Answer act)) → ((k l : ℕ) → GoesOn act σ τ u go k l)
-      → DoneAgain act (with_steps n σ go) (with_steps n τ go) σ τ u
-  stepped act n σ τ u go h = by (nat_lt σ.steps n) (nat_lt τ.steps n) refl refl
+  stepped : {A : Type 0} (n : ℕ) (σ τ : State) (u : List Touch) (go : State → Done A) → GoesOn go σ τ u
+      → DoneAgain (with_steps n σ go) (with_steps n τ go) σ τ u
+  stepped {A} n σ τ u go h = by (nat_lt σ.steps n) (nat_lt τ.steps n) refl refl
     where
-      went : (d : Done (Answer act)) (k l : ℕ) → l + σ.steps ≡ k + τ.steps → GoesOn act σ τ u go k l → go (record σ { steps = k }) ≡ d
-          → DoneAgain act d (go (record τ { steps = l })) σ τ u
-      went d k l e g q = subst (λ d. DoneAgain act d (go (record τ { steps = l })) σ τ u) (sym g.3 ∙ q) (λ a s m. g.5 e a)
-
-      few : (d : Done (Answer act)) (k l : ℕ) (b : Done (Answer act)) → GoesOn act σ τ u go k l → go (record σ { steps = k }) ≡ d → τ.steps + k < σ.steps
-          → DoneAgain act d b σ τ u
-      few d k l b g q f = subst (λ d. DoneAgain act d b σ τ u) (sym g.3 ∙ q) (λ a s m. absurd (let z = g.4 in omega arith))
+      went : (k l : ℕ) → σ.steps ≡ k + n → τ.steps ≡ l + n → DoneAgain (go (record σ { steps = k })) (go (record τ { steps = l })) σ τ u
+      went k l e f = λ g s i.
+          let a = (h k l).1 (agree_steps _ σ τ k l g) (omega (arith, s)) i in
+          record {
+            log = a.log;
+            after = a.after;
+            is = a.is;
+            same = a.same;
+            agree = a.agree;
+            step = record { steps = omega (arith, a.step.steps); calls = a.step.calls; depth = a.step.depth };
+          }
 
       by : (a b : Bool) → nat_lt σ.steps n ≡ a → nat_lt τ.steps n ≡ b
-          → DoneAgain act (if a then Stops OutOfSteps (spent σ) else go (record σ { steps = σ.steps - n }))
-          (if b then Stops OutOfSteps (spent τ) else go (record τ { steps = τ.steps - n })) σ τ u
-      by true b e f = λ a q. absurd q
+          → DoneAgain {A = A} (if a then Stops OutOfSteps [] (spent σ) else go (record σ { steps = σ.steps - n }))
+          (if b then Stops OutOfSteps [] (spent τ) else go (record τ { steps = τ.steps - n })) σ τ u
+      by true b e f = λ g s i. absurd i
       by false false e f =
           let k : n ≤ σ.steps = grind (arith, nat_tests) in
           let l : n ≤ τ.steps = grind (arith, nat_tests) in
-          went (go (record σ { steps = σ.steps - n })) (σ.steps - n) (τ.steps - n) (omega arith) (h (σ.steps - n) (τ.steps - n)) refl
+          went (σ.steps - n) (τ.steps - n) (omega arith) (omega arith)
       by false true e f =
           let k : n ≤ σ.steps = grind (arith, nat_tests) in
           let l : τ.steps < n = grind (arith, nat_tests) in
-          few (go (record σ { steps = σ.steps - n })) (σ.steps - n) 0 (Stops OutOfSteps (spent τ)) (h (σ.steps - n) 0) refl (omega arith)
+          λ g s i. absurd (let z = (h (σ.steps - n) 0).0 in omega (arith, s, z))
 
   -- under agreement the second may be told otherwise
-  told : (act : Act) (d : Done (Answer act)) (a b : Done (Answer act)) (σ τ : State) (u : List Touch) → (σ.top ≡ τ.top → b ≡ a) → DoneAgain act d a σ τ u
-      → DoneAgain act d b σ τ u
-  told act (Went x w σ1) a b σ τ u e h = λ g s m. let r = h g s m in (r.0, r.1, e g.top ∙ r.2, r.3, r.4, r.5)
-  told act (Stops why σ1) a b σ τ u e h = λ g f. let r = h g f in (r.0, e g.top ∙ r.1, r.2, r.3)
+  told : {A : Type 0} (d a b : Done A) (σ τ : State) (u : List Touch) → (Agree from to (log_of d ++ u) σ τ → b ≡ a) → DoneAgain d a σ τ u
+      → DoneAgain d b σ τ u
+  told d a b σ τ u e h = λ g s i.
+      let r = h g s i in
+      record { log = r.log; after = r.after; is = e g ∙ r.is; same = r.same; agree = r.agree; step = r.step }
 
   same_reach : (σ τ : State) (addr : ℕ) → σ.top ≡ τ.top → is_in_reach σ addr ≡ is_in_reach τ addr
   same_reach σ τ addr e = ap (λ t. nat_lt addr t || (nat_le stack_end addr && nat_lt addr heap_end)) e
 
-  celled : (act : Act) (addr : ℕ) (σ τ : State) (u : List Touch) (go : State → Done (Answer act)) → ((k l : ℕ) → GoesOn act σ τ u go k l)
-      → DoneAgain act (on_cell addr σ go) (on_cell addr τ go) σ τ u
-  celled act addr σ τ u go h = by (is_in_reach σ addr) refl
+  celled : {A : Type 0} (addr : ℕ) (σ τ : State) (u : List Touch) (go : State → Done A) → GoesOn go σ τ u
+      → DoneAgain (on_cell addr σ go) (on_cell addr τ go) σ τ u
+  celled {A} addr σ τ u go h = by (is_in_reach σ addr) refl
     where
-      by : (b : Bool) → is_in_reach σ addr ≡ b → DoneAgain act (if b then with_steps 1 σ go else Stops (Fault kind.Undefined) σ) (on_cell addr τ go) σ τ u
-      by true e = told act (with_steps 1 σ go) (with_steps 1 τ go) (on_cell addr τ go) σ τ u
-          (λ t. ap (λ b. if b then with_steps 1 τ go else Stops (Fault kind.Undefined) τ) (sym (same_reach σ τ addr t) ∙ e)) (stepped act 1 σ τ u go h)
-      by false e = λ g f. (τ, ap (λ b. if b then with_steps 1 τ go else Stops (Fault kind.Undefined) τ) (sym (same_reach σ τ addr g.top) ∙ e), g, step_same σ τ)
+      reach : Bool → Done A
+      reach b = if b then with_steps 1 τ go else Stops (Fault kind.Undefined) [] τ
+
+      by : (b : Bool) → is_in_reach σ addr ≡ b
+          → DoneAgain {A = A} (if b then with_steps 1 σ go else Stops (Fault kind.Undefined) [] σ) (on_cell addr τ go) σ τ u
+      by true e = told (with_steps 1 σ go) (with_steps 1 τ go) (on_cell addr τ go) σ τ u
+          (λ g. ap reach (sym (same_reach σ τ addr g.top) ∙ e)) (stepped 1 σ τ u go h)
+      by false e = λ g s i. record {
+        log = [];
+        after = τ;
+        is = ap reach (sym (same_reach σ τ addr g.top) ∙ e);
+        same = refl;
+        agree = g;
+        step = step_same σ τ;
+      }
 
   -- after a touch that changes no cell
   after_read : (addr : ℕ) (v : Value) (u : List Touch) (σ τ : State) → Agree from to (touch.Read addr v ∷ u) σ τ → Agree from to u σ τ
@@ -215,95 +211,136 @@ module _ (from to : ℕ) where
   none_of None e = refl
   none_of (Some v) e = absurd (let z : true ≡ false = e in cc)
 
-  limit_none : (σ τ : State) (n : ℕ) → σ.top ≡ τ.top → limit_passed σ n ≡ None → τ.calls < most_calls → τ.depth ≤ most_depth → limit_passed τ n ≡ None
-  limit_none σ τ n t e c d = by (nat_lt most_calls (τ.calls + 1)) (nat_lt most_depth τ.depth) refl refl
-    where
-      room : (a b x : Bool) → (if a then Some Calls else if b then Some Depth else if x then Some Stack else None) ≡ None → x ≡ false
-      room true b x e = absurd (none_some (sym e))
-      room false true x e = absurd (none_some (sym e))
-      room false false true e = absurd (none_some (sym e))
-      room false false false e = refl
+  -- an answer, and what was done after it
+  asked_first : {A : Type 0} (addr : ℕ) (b : Bool) (σ τ : State) (u : List Touch) (d e : Done A) → DoneAgain d e σ τ u
+      → DoneAgain (after_touches (touch.Has addr b ∷ []) d) (after_touches (touch.Has addr b ∷ []) e) σ τ u
+  asked_first addr b σ τ u d e h = λ g s i.
+      let w : List Touch = touch.Has addr b ∷ [] in
+      let a = h (after_has addr b (log_of d ++ u) σ τ (subst (λ l. Agree from to (l ++ u) σ τ) (touches_after w d) g))
+      (subst (λ υ. σ.steps ≤ τ.steps + υ.steps) (state_after w d) s) (itself_after w d i) in
+      record {
+        log = touch.Has addr b ∷ a.log;
+        after = a.after;
+        is = ap (after_touches w) a.is ∙ as_after w d a.log a.after;
+        same = ap (map (relative from)) (touches_after w d) ∙ ap (λ l. touch.Has addr b ∷ l) a.same;
+        agree = subst (λ υ. Agree from to u υ a.after) (sym (state_after w d)) a.agree;
+        step = subst (λ υ. InStep σ τ υ a.after) (sym (state_after w d)) a.step;
+      }
 
-      by : (a b : Bool) → nat_lt most_calls (τ.calls + 1) ≡ a → nat_lt most_depth τ.depth ≡ b
-          → (if a then Some Calls else if b then Some Depth else if nat_lt stack_end (τ.top + n) then Some Stack else None) ≡ None
-      by true b f g = absurd (let z : most_calls < τ.calls + 1 = grind (arith, nat_tests) in omega arith)
-      by false true f g = absurd (let z : most_depth < τ.depth = grind (arith, nat_tests) in omega arith)
-      by false false f g = ap (λ x. if x then Some Stack else None) (ap (λ t. nat_lt stack_end (t + n)) (sym t)
-          ∙ room (nat_lt most_calls (σ.calls + 1)) (nat_lt most_depth σ.depth) (nat_lt stack_end (σ.top + n)) e)
+  put_again : (addr : ℕ) (v : Value) (σ τ : State) (u : List Touch) → DoneAgain (put addr v σ) (put addr v τ) σ τ u
+  put_again addr v σ τ u = λ g s i. record {
+    log = touch.Write addr v ∷ [];
+    after = record τ { cells = insert τ.cells addr v };
+    is = refl;
+    same = refl;
+    agree = after_write addr v u σ τ g;
+    step = record { steps = omega arith; calls = omega arith; depth = omega arith };
+  }
 
-  pub act_again : (act : Act) (σ τ : State) (u : List Touch) → DoneAgain act (perform act σ) (perform act τ) σ τ u
-  act_again (Spend n) σ τ u = stepped (Spend n) n σ τ u (λ τ. Went tt [] τ)
-      (λ k l. (tt, [], record σ { steps = k }, refl, omega arith, λ e g. (record τ { steps = l }, [], refl, refl, agree_steps u σ τ k l g, in_step σ τ k l e)))
-  act_again (ReadCell addr) σ τ u = celled (ReadCell addr) addr σ τ u (λ τ. read_as addr (get τ.cells addr) τ) (λ k l. by k l (get σ.cells addr) refl)
+  put_if_again : (there : Bool) (addr : ℕ) (v : Value) (σ τ : State) (u : List Touch) → DoneAgain (put_if there addr v σ) (put_if there addr v τ) σ τ u
+  put_if_again true addr v σ τ u = stepped 1 σ τ u (put addr v) (λ k l. (omega arith, put_again addr v (record σ { steps = k }) (record τ { steps = l }) u))
+  put_if_again false addr v σ τ u = λ g s i. record { log = []; after = τ; is = refl; same = refl; agree = g; step = step_same σ τ }
+
+  asked_again : (there : Bool) (addr : ℕ) (v : Value) (σ τ : State) (u : List Touch) → is_some (get σ.cells addr) ≡ there
+      → DoneAgain (put_asked there addr v σ) (put_asked (is_some (get τ.cells addr)) addr v τ) σ τ u
+  asked_again there addr v σ τ u e =
+      told (put_asked there addr v σ) (put_asked there addr v τ) (put_asked (is_some (get τ.cells addr)) addr v τ) σ τ u
+      (λ g. ap (λ b. put_asked b addr v τ) (there_too addr there (log_of (put_if there addr v σ) ++ u) σ τ e
+      (subst (λ l. Agree from to (l ++ u) σ τ) (touches_after (touch.Has addr there ∷ []) (put_if there addr v σ)) g)))
+      (asked_first addr there σ τ u (put_if there addr v σ) (put_if there addr v τ) (put_if_again there addr v σ τ u))
+
+  put_no_more : (there : Bool) (addr : ℕ) (v : Value) (σ : State) → (state_of (put_asked there addr v σ)).steps ≤ σ.steps
+  put_no_more true addr v σ = by (nat_lt σ.steps 1)
     where
-      by : (k l : ℕ) (o : Option Value) → get σ.cells addr ≡ o → GoesOn (ReadCell addr) σ τ u (λ τ. read_as addr (get τ.cells addr) τ) k l
-      by k l (Some v) q = (
-        Some v,
-        touch.Read addr v ∷ [],
-        record σ { steps = k },
-        ap (λ o. read_as addr o (record σ { steps = k })) q,
-        omega arith,
-        λ e g. (
-          record τ { steps = l },
-          touch.Read addr v ∷ [],
-          ap (λ o. read_as addr o (record τ { steps = l })) (held_too addr v u σ τ q g),
-          refl,
-          agree_steps u σ τ k l (after_read addr v u σ τ g),
-          in_step σ τ k l e,
-        ),
-      )
-      by k l None q = (
-        None,
-        touch.Has addr false ∷ [],
-        record σ { steps = k },
-        ap (λ o. read_as addr o (record σ { steps = k })) q,
-        omega arith,
-        λ e g. (
-          record τ { steps = l },
-          touch.Has addr false ∷ [],
-          ap (λ o. read_as addr o (record τ { steps = l }))
-              (none_of (get τ.cells addr) (there_too addr false u σ τ (ap is_some q) g)),
-          refl,
-          agree_steps u σ τ k l (after_has addr false u σ τ g),
-          in_step σ τ k l e,
-        ),
-      )
-  act_again (HasCell addr) σ τ u = celled (HasCell addr) addr σ τ u
-      (λ τ. Went (is_some (get τ.cells addr)) (touch.Has addr (is_some (get τ.cells addr)) ∷ []) τ)
-      (λ k l. (
-        is_some (get σ.cells addr),
-        touch.Has addr (is_some (get σ.cells addr)) ∷ [],
-        record σ { steps = k },
-        refl,
-        omega arith,
-        λ e g. (
-          record τ { steps = l },
-          touch.Has addr (is_some (get σ.cells addr)) ∷ [],
-          ap (λ b. Went b (touch.Has addr b ∷ []) (record τ { steps = l })) (there_too addr (is_some (get σ.cells addr)) u σ τ refl g),
-          refl,
-          agree_steps u σ τ k l (after_has addr (is_some (get σ.cells addr)) u σ τ g),
-          in_step σ τ k l e,
-        ),
-      ))
-  act_again (WriteCell addr v) σ τ u = celled (WriteCell addr v) addr σ τ u
-      (λ τ. Went tt (touch.Write addr v ∷ []) (record τ { cells = insert τ.cells addr v }))
-      (λ k l. (
-        tt,
-        touch.Write addr v ∷ [],
-        record σ { cells = insert σ.cells addr v; steps = k },
-        refl,
-        omega arith,
-        λ e g. (
-          record τ { cells = insert τ.cells addr v; steps = l },
-          touch.Write addr v ∷ [],
-          refl,
-          refl,
-          agree_steps u (record σ { cells = insert σ.cells addr v }) (record τ { cells = insert τ.cells addr v }) k l (after_write addr v u σ τ g),
-          record { steps = e; calls = omega arith; depth = omega arith },
-        ),
-      ))
-  act_again (MayCall n) σ τ u = by (limit_passed σ n) refl
+      by : (b : Bool) → (state_of (after_touches (touch.Has addr true ∷ [])
+          (if b then Stops OutOfSteps [] (spent σ) else put addr v (record σ { steps = σ.steps - 1 })))).steps ≤ σ.steps
+      by true = omega arith
+      by false = omega arith
+  put_no_more false addr v σ = omega arith
+
+  abbrev writing : ℕ → Value → State → Done Bool
+  writing addr v τ = if nat_lt addr stack_end then put addr v τ else put_asked (is_some (get τ.cells addr)) addr v τ
+
+  write_again : (addr : ℕ) (v : Value) (σ τ : State) (u : List Touch) → ((state_of (writing addr v σ)).steps ≤ σ.steps)
+      × DoneAgain (writing addr v σ) (writing addr v τ) σ τ u
+  write_again addr v σ τ u = by (nat_lt addr stack_end)
     where
-      by : (o : Option Which) → limit_passed σ n ≡ o → DoneAgain (MayCall n) (below_limits σ o) (below_limits τ (limit_passed τ n)) σ τ u
-      by None e = λ g s m. (τ, [], ap (below_limits τ) (limit_none σ τ n g.top e m.0 m.1), refl, g, step_same σ τ)
-      by (Some which) e = λ g f. absurd f
+      by : (b : Bool) → ((state_of (if b then put addr v σ else put_asked (is_some (get σ.cells addr)) addr v σ)).steps ≤ σ.steps)
+          × DoneAgain (if b then put addr v σ else put_asked (is_some (get σ.cells addr)) addr v σ)
+          (if b then put addr v τ else put_asked (is_some (get τ.cells addr)) addr v τ) σ τ u
+      by true = (omega arith, put_again addr v σ τ u)
+      by false = (put_no_more (is_some (get σ.cells addr)) addr v σ, asked_again (is_some (get σ.cells addr)) addr v σ τ u refl)
+
+  read_again : (addr : ℕ) (o : Option Value) (σ τ : State) (u : List Touch) → get σ.cells addr ≡ o → ((state_of (read_as addr o σ)).steps ≤ σ.steps)
+      × DoneAgain (read_as addr o σ) (read_as addr (get τ.cells addr) τ) σ τ u
+  read_again addr (Some v) σ τ u q = (
+    omega arith,
+    λ g s i. record {
+      log = touch.Read addr v ∷ [];
+      after = τ;
+      is = ap (λ o. read_as addr o τ) (held_too addr v u σ τ q g);
+      same = refl;
+      agree = after_read addr v u σ τ g;
+      step = step_same σ τ;
+    },
+  )
+  read_again addr None σ τ u q = (
+    omega arith,
+    λ g s i. record {
+      log = touch.Has addr false ∷ [];
+      after = τ;
+      is = ap (λ o. read_as addr o τ) (none_of (get τ.cells addr) (there_too addr false u σ τ (ap is_some q) g));
+      same = refl;
+      agree = after_has addr false u σ τ g;
+      step = step_same σ τ;
+    },
+  )
+
+  pub act_again : (act : Act) (σ τ : State) (u : List Touch) → DoneAgain (perform act σ) (perform act τ) σ τ u
+  act_again (Spend n) σ τ u = stepped n σ τ u (λ τ. Went tt [] τ) (λ k l. (
+    omega arith,
+    λ g s i. record {
+      log = [];
+      after = record τ { steps = l };
+      is = refl;
+      same = refl;
+      agree = g;
+      step = step_same (record σ { steps = k }) (record τ { steps = l });
+    },
+  ))
+  act_again (ReadCell addr) σ τ u = celled addr σ τ u (λ τ. read_as addr (get τ.cells addr) τ)
+      (λ k l. read_again addr (get σ.cells addr) (record σ { steps = k }) (record τ { steps = l }) u refl)
+  act_again (HasCell addr) σ τ u = celled addr σ τ u (λ τ. Went (is_some (get τ.cells addr)) (touch.Has addr (is_some (get τ.cells addr)) ∷ []) τ)
+      (λ k l. (
+        omega arith,
+        λ g s i. record {
+          log = touch.Has addr (is_some (get σ.cells addr)) ∷ [];
+          after = record τ { steps = l };
+          is = ap (λ b. Went b (touch.Has addr b ∷ []) (record τ { steps = l }))
+              (there_too addr (is_some (get σ.cells addr)) u (record σ { steps = k }) (record τ { steps = l }) refl g);
+          same = refl;
+          agree = after_has addr (is_some (get σ.cells addr)) u (record σ { steps = k }) (record τ { steps = l }) g;
+          step = step_same (record σ { steps = k }) (record τ { steps = l });
+        },
+      ))
+  act_again (WriteCell addr v) σ τ u = celled addr σ τ u (writing addr v)
+      (λ k l. write_again addr v (record σ { steps = k }) (record τ { steps = l }) u)
+
+-- ---- limits
+
+-- where the first state passes no limit the second passes none, if it has room for a call
+pub limit_none : (σ τ : State) (n : ℕ) → σ.top ≡ τ.top → limit_passed σ n ≡ None → MayEnter τ → limit_passed τ n ≡ None
+limit_none σ τ n t e m = by (nat_lt most_calls (τ.calls + 1)) (nat_lt most_depth τ.depth) refl refl
+  where
+    room : (a b x : Bool) → (if a then Some Calls else if b then Some Depth else if x then Some Stack else None) ≡ None → x ≡ false
+    room true b x e = absurd (none_some (sym e))
+    room false true x e = absurd (none_some (sym e))
+    room false false true e = absurd (none_some (sym e))
+    room false false false e = refl
+
+    by : (a b : Bool) → nat_lt most_calls (τ.calls + 1) ≡ a → nat_lt most_depth τ.depth ≡ b
+        → (if a then Some Calls else if b then Some Depth else if nat_lt stack_end (τ.top + n) then Some Stack else None) ≡ None
+    by true b f g = absurd (let z : most_calls < τ.calls + 1 = grind (arith, nat_tests) in omega (arith, m.calls))
+    by false true f g = absurd (let z : most_depth < τ.depth = grind (arith, nat_tests) in omega (arith, m.depth))
+    by false false f g = ap (λ x. if x then Some Stack else None) (ap (λ t. nat_lt stack_end (t + n)) (sym t)
+        ∙ room (nat_lt most_calls (σ.calls + 1)) (nat_lt most_depth σ.depth) (nat_lt stack_end (σ.top + n)) e)

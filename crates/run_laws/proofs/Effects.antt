@@ -8,30 +8,8 @@ use Rattle.std.specs.Cmp.{nat_cmp_total}
 use Rattle.std.specs.FinMap.{get, same_map, nat_cmp-IsAntisymmetric}
 use Rattle.cell_value.specs.declared.entries.Touch.{Touch}
 use Rattle.cell_value.specs.declared.entries.Touch.TheVariants as touch
-use Rattle.cell_value.specs.Effects.{
-  heap_start,
-  heap_end,
-  is_shared,
-  change_by,
-  change_at,
-  last_of,
-  read_by,
-  asked_by,
-  seen_by,
-  seen_at,
-  listed,
-  shared,
-  reads_of,
-  changes_of,
-  made_by,
-  made_of,
-  looked_by,
-  looked_of,
-  taken_by,
-  taken_of,
-  byte_by,
-  given_of,
-}
+use Rattle.cell_value.specs.Effects.{heap_start, heap_end, is_shared, change_by, change_at, last_of, read_by, asked_by, seen_by, seen_at, listed, shared}
+use Rattle.cell_value.specs.Effects.{reads_of, changes_of, made_by, made_of, looked_by, looked_of, taken_by, taken_of, byte_by, given_of}
 use Rattle.program_meaning.specs.State.{State, IsSound}
 use Rattle.program_meaning.specs.Run.{Call}
 use Rattle.program_meaning.specs.Apply.{apply, steps_taken, changed_cells}

@@ -1,7 +1,6 @@
 pub mod Touches
 pub mod Cells
 pub mod Events
-pub mod EachTreeIsTidy
 pub mod ActsLeave
 pub mod Ways
 pub mod RunsLeave

@@ -1,36 +1,6 @@
 -- A record of a run stands for the call from each sound state that agrees with it.
-use Rattle.std.proofs.Common.{
-  ◌≡◌,
-  ◌⊎◌,
-  inl,
-  inr,
-  ℕ,
-  zero,
-  suc,
-  ◌+◌,
-  ◌-◌,
-  ◌<◌,
-  ◌≤◌,
-  Bool,
-  true,
-  false,
-  List,
-  [],
-  ◌∷◌,
-  Option,
-  Some,
-  None,
-  refl,
-  sym,
-  ap,
-  subst,
-  ◌∙◌,
-  append-nil,
-  length,
-  take,
-  if◌then◌else◌,
-  arith,
-}
+use Rattle.std.proofs.Common.{◌≡◌, ◌⊎◌, inl, inr, ℕ, zero, suc, ◌+◌, ◌-◌, ◌<◌, ◌≤◌, Bool, true, false, List, [], ◌∷◌, Option, Some, None, refl, sym, ap}
+use Rattle.std.proofs.Common.{subst, ◌∙◌, append-nil, length, take, if◌then◌else◌, arith}
 use Rattle.std.specs.Prelude.{All, map, fold, max}
 use Rattle.std.specs.List.{filter_map, cons_option, range_with_len}
 use Rattle.std.specs.Option.{option_map}
@@ -43,19 +13,20 @@ use Rattle.cell_value.specs.declared.entries.Seen.{Seen}
 use Rattle.cell_value.specs.Effects.{heap_end, is_shared, seen_at, listed, shared, reads_of, changes_of}
 use Rattle.program_tables.specs.ProgramRows.{ProgramRows}
 use Rattle.program_meaning.specs.State.{State, IsSound, most_depth}
-use Rattle.program_meaning.specs.Run.{End, Ended, Halted, Result, Call, way_out, result_in, record_of, recorded, call_of, run_of}
+use Rattle.program_meaning.specs.Run.{End, Ended, Halted, Result, Call, way_out, result_in, record_of, recorded, call_of, run_of, depth_enough}
+use Rattle.program_meaning.proofs.RunAtAnyDepth.{call_deeper}
 use Rattle.program_meaning.specs.Agree.{Agrees, EndedByItself, Shows, deepest}
 use Rattle.run_laws.specs.Laws.{StandsFor}
 use Rattle.run_laws.proofs.Touches.{none_some, some_same, Serves, IsSeen, seen_serves}
 use Rattle.run_laws.proofs.Cells.{shared_in_heap}
 use Rattle.run_laws.proofs.Events.{unmarked}
-use Rattle.run_laws.proofs.EachTreeIsTidy.{Free, MayEnter}
-use Rattle.run_laws.proofs.ActsLeave.{Holds}
+use Rattle.run_laws.proofs.ActsLeave.{MayEnter}
+use Rattle.run_laws.proofs.Ways.{of_call, RanCall, run_gives, gives_inside}
 use Rattle.run_laws.proofs.Effects.{same_reads_of, same_changes_of, same_made, same_looked, same_taken, same_given, unshared, effect_is}
 use Rattle.run_laws.proofs.ActsRepeat.{Agree}
-use Rattle.run_laws.proofs.RunsLeave.{Inner, inside, inside_keeps}
+use Rattle.run_laws.proofs.RunsLeave.{Inner, call_leaves}
 use Rattle.run_laws.proofs.RunsRecord.{MadeBy}
-use Rattle.run_laws.proofs.RunsRepeat.{EndsByItself, Shallow, inside_again, keeps_at, run_repeats}
+use Rattle.run_laws.proofs.RunsRepeat.{EndsByItself, Shallow, call_again}
 
 -- ---- what was seen of a cell is in the list of what was seen
 
@@ -105,15 +76,18 @@ by_itself (Halted way) h = h
 
 -- ---- the record stands
 
-module _ (p : ProgramRows) (n f : ℕ) (args : List Value) (σ0 : State) (y : Result State Call) where
+module _ (p : ProgramRows) {n f : ℕ} {args : List Value} {σ0 : State} {y : Result State Call} (ran : RanCall p n f args σ0 y) (s0 : IsSound σ0)
+    (m0 : MayEnter σ0) where
   abbrev c : Call
   c = record_of f args σ0 y
 
-  stand : (below : List Call) → IsSound σ0 → Holds MayEnter σ0 → inside p (run_of p n) f args σ0 ≡ Some y → unmarked y.events ≡ below → (σ : State) → IsSound σ
-      → Agrees c below σ
-      → (depth : ℕ) × StandsFor c σ (call_of p (run_of p depth) f args σ)
-  stand below s0 m0 q l σ s ag =
-      let inner : Inner σ0 y = inside_keeps p (run_of p n) (keeps_at p n) f args σ0 y s0 m0 q in
+  abbrev below : List Call
+  below = unmarked y.events
+
+  stand : (σ : State) → IsSound σ → Agrees c below σ → (depth : ℕ) → depth_enough p σ.steps ≤ depth
+      → StandsFor c σ (call_of p (run_of p depth) f args σ)
+  stand σ s ag depth deep =
+      let inner = call_leaves p ran s0 m0 in
       let agree : Agree σ0.place σ.place y.log σ0 σ = record {
         top = sym ag.top;
         fresh = λ h. sym (ag.fresh h);
@@ -121,48 +95,44 @@ module _ (p : ProgramRows) (n f : ℕ) (args : List Value) (σ0 : State) (y : Re
         place = omega arith;
         items = λ k h. sym (ag.items k h);
       } in
-      let again = inside_again p n (λ t h. run_repeats p n (Free None) t h) f args σ0 y s0 m0 q σ0.place σ.place σ []
+      let again = call_again p ran s0 m0 σ0.place σ.place σ []
       (subst (λ w. Agree σ0.place σ.place w σ0 σ) (sym (append-nil y.log)) agree)
       (record {
+        itself = by_itself y.end ag.way;
         steps = omega (arith, ag.steps);
         calls = ag.calls;
-        depth = subst (Shallow σ0.depth σ.depth) (sym l) (shallow_below σ0.depth σ.depth σ0.depth (deepest c below) below (omega arith) ag.depth);
-      }) (by_itself y.end ag.way) in
-      let new : Inner σ again.run = inside_keeps p (run_of p n) (keeps_at p n) f args σ again.run s (omega (arith, ag.calls), omega (arith, ag.depth))
-      again.is in (
-        n,
-        record {
-          run = record {
-            end = again.run.end;
-            after = again.run.after;
-            log = again.run.log;
-            events = (record { mark = 0; event = record_of f args σ again.run }) ∷ again.run.events;
-          };
-          is = ap (recorded f args σ) again.is;
-          way = ap way_out again.end;
-          result = ap result_in again.end;
-          after = sym (effect_is c σ again.run.after again.run.log (suc (length again.run.events)) s new.leaves (record {
-            base = sym ag.top;
-            from = σ0.place;
-            to = σ.place;
-            log = again.log;
-            steps = omega (arith, again.step.steps, inner.leaves.steps, ag.steps);
-            calls = omega (arith, new.leaves.calls, inner.leaves.calls, again.step.calls);
-          }));
-          reads = ap (λ t. reads_of t again.run.log) ag.top ∙ sym (same_reads_of σ0.place σ.place y.log again.run.log again.log σ0.top);
-          changes = ap (λ t. changes_of t again.run.log) ag.top ∙ sym (same_changes_of σ0.place σ.place y.log again.run.log again.log σ0.top);
-          made = sym (same_made σ0.place σ.place y.log again.run.log again.log);
-          looked = sym (same_looked σ0.place σ.place y.log again.run.log again.log);
-          taken = sym (same_taken σ0.place σ.place y.log again.run.log again.log);
-          given = sym (same_given σ0.place σ.place y.log again.run.log again.log);
-        },
-      )
+        depth = shallow_below σ0.depth σ.depth σ0.depth (deepest c below) below (omega arith) ag.depth;
+      }) in
+      let new : Inner σ again.run = call_leaves p (gives_inside p n (run_gives p n) f args σ again.run again.is) s
+      (record { calls = omega (arith, ag.calls); depth = omega (arith, ag.depth) }) in
+      record {
+        run = of_call f args σ again.run;
+        is = (call_deeper p n depth f args σ deep).gives (of_call f args σ again.run) (ap (recorded f args σ) again.is);
+        way = ap way_out again.end;
+        result = ap result_in again.end;
+        after = sym (effect_is c σ again.run.after again.run.log (suc (length again.run.events)) s new.leaves (record {
+          base = sym ag.top;
+          from = σ0.place;
+          to = σ.place;
+          log = again.log;
+          steps = omega (arith, again.step.steps, inner.leaves.steps, ag.steps);
+          calls = omega (arith, new.leaves.calls, inner.leaves.calls, again.step.calls);
+        }));
+        reads = ap (λ t. reads_of t again.run.log) ag.top ∙ sym (same_reads_of σ0.place σ.place y.log again.run.log again.log σ0.top);
+        changes = ap (λ t. changes_of t again.run.log) ag.top ∙ sym (same_changes_of σ0.place σ.place y.log again.run.log again.log σ0.top);
+        made = sym (same_made σ0.place σ.place y.log again.run.log again.log);
+        looked = sym (same_looked σ0.place σ.place y.log again.run.log again.log);
+        taken = sym (same_taken σ0.place σ.place y.log again.run.log again.log);
+        given = sym (same_given σ0.place σ.place y.log again.run.log again.log);
+      }
     where
       cell : Inner σ0 y → (a : ℕ) (b : Bool) → is_shared σ0.top a ≡ b → (get σ0.cells a ≡ get σ.cells a) ⊎ Serves (get σ.cells a) a y.log
       cell inner a true e = seen_serves a y.log (get σ0.cells a) (get σ.cells a) (inner.leaves.shows a e) (seen_in σ σ0.top y.log ag.cells a e)
       cell inner a false e = inl (unshared σ0 a s0 e ∙ sym (unshared σ a s (ap (λ t. is_shared t a) ag.top ∙ e)))
 
 pub stands : (p : ProgramRows) (c : Call) (cs : List Call) → MadeBy p c cs → (σ : State) → IsSound σ → Agrees c (take c.below cs) σ
-    → (depth : ℕ) × StandsFor c σ (call_of p (run_of p depth) c.routine c.args σ)
-stands p c cs h σ s = subst (λ (d : Call). Agrees d (take c.below cs) σ → (depth : ℕ) × StandsFor d σ (call_of p (run_of p depth) c.routine c.args σ)) h.record'
-    (stand p h.depth c.routine c.args c.entry h.result (take c.below cs) h.sound h.limits h.is h.calls σ s)
+    → (depth : ℕ) → depth_enough p σ.steps ≤ depth → StandsFor c σ (call_of p (run_of p depth) c.routine c.args σ)
+stands p c cs h σ s = subst
+    (λ (d : Call). Agrees d (take c.below cs) σ → (depth : ℕ) → depth_enough p σ.steps ≤ depth
+    → StandsFor d σ (call_of p (run_of p depth) c.routine c.args σ)) h.record'
+    (λ a. stand p h.ran h.sound h.limits σ s (subst (λ l. Agrees (record_of c.routine c.args c.entry h.result) l σ) (sym h.calls) a))

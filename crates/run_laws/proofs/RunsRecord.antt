@@ -1,84 +1,28 @@
 -- Each record of a run is that of a call from a sound state, and the records of the calls below it follow it.
-use Rattle.std.proofs.Common.{
-  ◌≡◌,
-  ℕ,
-  zero,
-  suc,
-  ◌+◌,
-  ◌≤◌,
-  Bool,
-  true,
-  false,
-  List,
-  [],
-  ◌∷◌,
-  ◌++◌,
-  Option,
-  Some,
-  None,
-  refl,
-  sym,
-  ap,
-  subst,
-  ◌∙◌,
-  length,
-  take,
-  nat_lt,
-  if◌then◌else◌,
-  arith,
-  length-append,
-}
+use Rattle.std.proofs.Common.{◌≡◌, ℕ, ◌≤◌, List, [], ◌∷◌, ◌++◌, refl, sym, ap, subst, ◌∙◌, length, take, arith, length-append}
 use Rattle.std.proofs.lemmas.List.{take-append-le, length-map}
 use Rattle.std.proofs.Math.Seq.{take-length}
 use Rattle.std.proofs.lemmas.Bool.Decides.{nat_tests}
 use Rattle.cell_value.specs.declared.values.Value.{Value}
 use Rattle.cell_value.specs.declared.entries.Touch.{Touch}
-use Rattle.cell_value.specs.declared.ways_out.Which.TheVariants.{Stack}
-use Rattle.program_tables.specs.declared.program.Routine.{Routine}
-use Rattle.program_tables.specs.ProgramRows.{ProgramRows, routine_at}
-use Rattle.program_meaning.specs.State.{State, IsSound, stack_end}
-use Rattle.program_meaning.specs.Acts.{OutOfSteps, Limited, Act, Answer, perform, spent}
-use Rattle.program_meaning.specs.Tree.{Out, Tree, Ret, Halt, Do, Sub, Enter, Line, way_of}
-use Rattle.program_meaning.specs.Layer.{layer}
-use Rattle.program_meaning.specs.Run.{
-  End,
-  Halted,
-  Marked,
-  Result,
-  in_front,
-  ends,
-  joined,
-  on_done,
-  Call,
-  Outcome,
-  record_of,
-  recorded,
-  after_all,
-  in_frame,
-  call_of,
-  plain,
-  run_of,
-  whole,
-  with_frame,
-  without_frame,
-  opened,
-  closed,
-}
-use Rattle.run_laws.proofs.Touches.{none_some, some_same}
+use Rattle.program_tables.specs.ProgramRows.{ProgramRows}
+use Rattle.program_meaning.specs.Acts.{Spend}
+use Rattle.program_meaning.specs.State.{State, IsSound}
+use Rattle.program_meaning.specs.Tree.{Tree}
+use Rattle.program_meaning.specs.Run.{Marked, Result, Call, record_of}
 use Rattle.run_laws.proofs.Events.{unmarked, events_append}
-use Rattle.run_laws.proofs.EachTreeIsTidy.{Mode, Free, MayEnter, mode_after, Allowed, Tidy, IsTidy, part_tidy, whole_tidy}
-use Rattle.run_laws.proofs.ActsLeave.{Holds, DoneLeaves, act_leaves}
+use Rattle.run_laws.proofs.ActsLeave.{MayEnter, limits_hold}
 use Rattle.run_laws.proofs.Ways as ways
-use Rattle.run_laws.proofs.Ways.{front, Fronted, Behind, fronted, Joined, Stopped, WentOn, joined_so, Acted, Refused, acted_so}
-use Rattle.run_laws.proofs.RunsLeave.{Keeps, inside, Changed, Before, changed_so, sound_framed, sound_opened, call_keeps, run_keeps}
+use Rattle.run_laws.proofs.Ways.{front, of_call, Ran, RanFrame, RanCall}
+use Rattle.run_laws.proofs.RunsLeave.{act_left, sound_framed, sound_opened, ran_leaves, call_leaves}
 
 -- the record is that of a call, and the records of the calls below it come first of these
 pub record MadeBy (p : ProgramRows) (c : Call) (cs : List Call) : Type 0 where
   pub depth : ℕ
   pub result : Result State Call
   pub sound : IsSound c.entry
-  pub limits : Holds MayEnter c.entry
-  pub is : inside p (run_of p depth) c.routine c.args c.entry ≡ Some result
+  pub limits : MayEnter c.entry
+  pub ran : RanCall p depth c.routine c.args c.entry result
   pub record' : record_of c.routine c.args c.entry result ≡ c
   pub room : c.below ≤ length cs
   pub calls : unmarked result.events ≡ take c.below cs
@@ -95,7 +39,7 @@ recorded_append p (c ∷ cs) ds h g = (
     result = h.0.result;
     sound = h.0.sound;
     limits = h.0.limits;
-    is = h.0.is;
+    ran = h.0.ran;
     record' = h.0.record';
     room = omega (arith, h.0.room, length-append cs ds);
     calls = h.0.calls ∙ sym (take-append-le c.below cs ds h.0.room);
@@ -104,119 +48,56 @@ recorded_append p (c ∷ cs) ds h g = (
 )
 
 module _ (p : ProgramRows) where
-  record Records (m : Mode) (h : State → Outcome) : Type 0 where
-    left : Keeps m h
-    records : (σ : State) (r : Result State Call) → IsSound σ → Holds m σ → h σ ≡ Some r → Recorded p (unmarked r.events)
+  abbrev Records : Result State Call → Type 0
+  Records r = Recorded p (unmarked r.events)
 
-  front_records : (w : List Touch) (es : List (Marked Call)) (r2 r : Result State Call) → front w es r2 ≡ r → Recorded p (unmarked es)
-      → Recorded p (unmarked r2.events) → Recorded p (unmarked r.events)
-  front_records w es r2 r f h g = subst (λ (r : Result State Call). Recorded p (unmarked r.events)) f
-      (subst (Recorded p) (sym (events_append (length w) es r2.events)) (recorded_append p (unmarked es) (unmarked r2.events) h g))
+  records_front : (w : List Touch) (es : List (Marked Call)) (r : Result State Call) → Recorded p (unmarked es) → Records r → Records (front w es r)
+  records_front w es r h g = subst (Recorded p) (sym (events_append (length w) es r.events)) (recorded_append p (unmarked es) (unmarked r.events) h g)
 
-  joined_records : {m : Mode} (h : State → Outcome) (g : Out → State → Outcome) → Records m h → ((out : Out) → Records (Free None) (g out))
-      → (σ : State) (r : Result State Call) → IsSound σ → Holds m σ → joined (h σ) g ≡ Some r → Recorded p (unmarked r.events)
-  joined_records h g H G σ r s l e = by (joined_so h g σ r e)
-    where
-      by : Joined h g σ r → Recorded p (unmarked r.events)
-      by (Stopped w q d) = H.records σ r s l q
-      by (WentOn r1 out r2 q d c f) = front_records r1.log r1.events r2 r f (H.records σ r1 s l q)
-          ((G out).records r1.after r2 (H.left.keeps σ r1 s l q).leaves.sound tt c)
+  -- a call's record, before those of the calls below it
+  records_call : {n f : ℕ} {args : List Value} {σ : State} {y : Result State Call} → RanCall p n f args σ y → IsSound σ → MayEnter σ → Records y
+      → Records (of_call f args σ y)
+  records_call {n = n} {f = f} {args = args} {σ = σ} {y = y} h s m g = (
+    record {
+      depth = n;
+      result = y;
+      sound = s;
+      limits = m;
+      ran = h;
+      record' = refl;
+      room = omega (arith, length-map y.events (λ e. e.event));
+      calls = sym (take-length (unmarked y.events)) ∙ ap (λ k. take k (unmarked y.events)) (length-map y.events (λ e. e.event));
+    },
+    g,
+  )
 
-  done_records : (line : ℕ) (act : Act) (g : Answer act → State → Outcome) (found : Option ℕ) → Allowed found act
-      → ((x : Answer act) → Records (mode_after act x) (g x))
-      → (σ : State) (r : Result State Call) → IsSound σ → Holds (Free found) σ → on_done (plain p) line σ (perform act σ) g ≡ Some r
-      → Recorded p (unmarked r.events)
-  done_records line act g found l G σ r s m e = by (acted_so p line act g σ r e)
-    where
-      by : Acted line act g σ r → Recorded p (unmarked r.events)
-      by (Refused why τ q f) = subst (λ (r : Result State Call). Recorded p (unmarked r.events)) f tt
-      by (ways.Done x w τ r2 q c f) =
-          let a = subst (DoneLeaves act σ) q (act_leaves act found σ s m l) in
-          front_records w [] r2 r f tt ((G x).records τ r2 a.0.sound a.1 c)
+  mutual
+    -- each record of each run is that of a call
+    pub ran_records : {n : ℕ} {t : Tree} {σ : State} {r : Result State Call} → Ran p n t σ r → IsSound σ → Records r
+    ran_records ways.Returned s = tt
+    ran_records ways.Stopped s = tt
+    ran_records (ways.Refused q) s = tt
+    ran_records (ways.Acted {act = act} {w = w} {r = y} q h) s = records_front w [] y tt (ran_records h (act_left act s q).sound)
+    ran_records (ways.PartStopped h e) s = ran_records h s
+    ran_records (ways.PartEnded {r = y} {s = z} h e g) s =
+        records_front y.log y.events z (ran_records h s) (ran_records g (ran_leaves p h s).leaves.sound)
+    ran_records (ways.AtLimit q) s = tt
+    ran_records (ways.CallStopped {cells = cells} {σ = σ} q h e) s =
+        let m = limits_hold σ cells q in
+        records_call h s m (call_records h s m)
+    ran_records (ways.CallEnded {f = f} {cells = cells} {args = args} {σ = σ} {y = y} {s = z} q h e g) s =
+        let m = limits_hold σ cells q in
+        records_front y.log (of_call f args σ y).events z (records_call h s m (call_records h s m))
+        (ran_records g (call_leaves p h s m).leaves.sound)
+    ran_records (ways.NotBegun q) s = tt
+    ran_records (ways.Began {w = w} {r = y} q h) s =
+        records_front w [] (front [] [] y) tt (records_front [] [] y tt (ran_records h (act_left (Spend 1) s q).sound))
 
-  line_records : (h : State → Outcome) → Records (Free None) h → (σ : State) (r : Result State Call) → IsSound σ → in_front [] [] (h σ) ≡ Some r
-      → Recorded p (unmarked r.events)
-  line_records h H σ r s e = by (fronted [] [] (h σ) r e)
-    where
-      by : Fronted [] [] (h σ) r → Recorded p (unmarked r.events)
-      by (Behind r2 c f) = front_records [] [] r2 r f tt (H.records σ r2 s tt c)
+    frame_records : {n f : ℕ} {args : List Value} {σ : State} {r : Result State Call} → RanFrame p n f args σ r → IsSound σ → Records r
+    frame_records (ways.NoRoutine e) s = tt
+    frame_records (ways.NoRoom e t) s = tt
+    frame_records (ways.NoSteps e t u) s = tt
+    frame_records (ways.Worked {args = args} {σ = σ} {q = q} e t u h) s = ran_records h (sound_framed q.cells args σ s (grind (arith, nat_tests)))
 
-  none_recorded : (e : End) (σ : State) (r : Result State Call) → ends e σ ≡ Some r → Recorded p (unmarked r.events)
-  none_recorded e σ r h = subst (λ (r : Result State Call). Recorded p (unmarked r.events)) (some_same h) tt
-
-  -- the calls of a call's inside
-  module _ (n : ℕ) (R : (t : Tree) → IsTidy t → Records (Free None) (run_of p n t)) (f : ℕ) (args : List Value) where
-    framed_records : (σ : State) (o : Option Routine) (r : Result State Call) → IsSound σ → in_frame p (run_of p n) f args σ o ≡ Some r
-        → Recorded p (unmarked r.events)
-    framed_records σ None r s e = none_recorded _ σ r e
-    framed_records σ (Some q) r s e = by (nat_lt stack_end (σ.top + q.cells)) (nat_lt σ.steps q.cells) refl e
-      where
-        went : σ.top + q.cells ≤ stack_end → Changed (without_frame σ.top q.cells) (run_of p n (whole p f σ.top q) (with_frame q.cells args σ)) r
-            → Recorded p (unmarked r.events)
-        went k (Before y c d) = subst (λ (r : Result State Call). Recorded p (unmarked r.events)) d
-            ((R (whole p f σ.top q) (whole_tidy p f σ.top q)).records (with_frame q.cells args σ) y (sound_framed q.cells args σ s k) tt c)
-
-        by : (a b : Bool) → nat_lt stack_end (σ.top + q.cells) ≡ a → (if a then ends (Halted (way_of 0 (Limited Stack))) σ
-            else if b then ends (Halted (way_of 0 OutOfSteps)) (spent σ)
-            else after_all (without_frame σ.top q.cells) (run_of p n (whole p f σ.top q) (with_frame q.cells args σ))) ≡ Some r → Recorded p (unmarked r.events)
-        by true b t e = none_recorded _ σ r e
-        by false true t e = none_recorded _ (spent σ) r e
-        by false false t e = went (grind (arith, nat_tests)) (changed_so (without_frame σ.top q.cells) _ r e)
-
-    inside_records : (σ : State) (r : Result State Call) → IsSound σ → Holds MayEnter σ → inside p (run_of p n) f args σ ≡ Some r
-        → Recorded p (unmarked r.events)
-    inside_records σ r s m e = by (changed_so (closed σ.depth) (in_frame p (run_of p n) f args (opened σ) (routine_at p f)) r e)
-      where
-        by : Changed (closed σ.depth) (in_frame p (run_of p n) f args (opened σ) (routine_at p f)) r → Recorded p (unmarked r.events)
-        by (Before y c d) = subst (λ (r : Result State Call). Recorded p (unmarked r.events)) d
-            (framed_records (opened σ) (routine_at p f) y (sound_opened σ s m) c)
-
-    call_records : (σ : State) (r : Result State Call) → IsSound σ → Holds MayEnter σ → call_of p (run_of p n) f args σ ≡ Some r
-        → Recorded p (unmarked r.events)
-    call_records σ r s m e = by (inside p (run_of p n) f args σ) refl e
-      where
-        by : (x : Outcome) → inside p (run_of p n) f args σ ≡ x → recorded f args σ x ≡ Some r → Recorded p (unmarked r.events)
-        by None q e = absurd (none_some e)
-        by (Some y) q e = subst (λ (r : Result State Call). Recorded p (unmarked r.events)) (some_same e) (
-          record {
-            depth = n;
-            result = y;
-            sound = s;
-            limits = m;
-            is = q;
-            record' = refl;
-            room = omega (arith, length-map y.events (λ e. e.event));
-            calls = sym (take-length (unmarked y.events)) ∙ ap (λ k. take k (unmarked y.events)) (length-map y.events (λ e. e.event));
-          },
-          inside_records σ y s m q,
-        )
-
-  -- each tree's run one level deeper
-  module _ (n : ℕ) (R : (t : Tree) → IsTidy t → Records (Free None) (run_of p n t)) where
-    deeper : (m : Mode) (t : Tree) → Tidy m t → (σ : State) (r : Result State Call) → IsSound σ → Holds m σ → run_of p (suc n) t σ ≡ Some r
-        → Recorded p (unmarked r.events)
-    deeper (Free o) (Ret out) h σ r s l e = none_recorded _ σ r e
-    deeper (Free o) (Halt way) h σ r s l e = none_recorded _ σ r e
-    deeper (Free o) (Do line act next) h σ r s l e = done_records line act (λ x τ. run_of p (suc n) (next x) τ) o h.0
-        (λ x. record { left = run_keeps p (suc n) (mode_after act x) (next x) (h.1 x); records = deeper (mode_after act x) (next x) (h.1 x) }) σ r s l e
-    deeper (Free o) (Sub part next) h σ r s l e = joined_records (run_of p n (layer p part)) (λ out τ. run_of p (suc n) (next out) τ)
-        (R (layer p part) (part_tidy p part))
-        (λ out. record { left = run_keeps p (suc n) (Free None) (next out) (h out); records = deeper (Free None) (next out) (h out) }) σ r s tt e
-    deeper (Free o) (Enter f args next) h σ r s l e = absurd h
-    deeper (Free o) (Line line next) h σ r s l e = line_records (run_of p (suc n) next)
-        (record { left = run_keeps p (suc n) (Free None) next h; records = deeper (Free None) next h }) σ r s e
-    deeper MayEnter (Enter f args next) h σ r s l e = joined_records (call_of p (run_of p n) f args) (λ out τ. run_of p (suc n) (next out) τ)
-        (record { left = call_keeps p (run_of p n) (λ t k. run_keeps p n (Free None) t k) f args; records = call_records n R f args })
-        (λ out. record { left = run_keeps p (suc n) (Free None) (next out) (h out); records = deeper (Free None) (next out) (h out) }) σ r s l e
-    deeper MayEnter (Ret out) h σ r s l e = absurd h
-    deeper MayEnter (Halt way) h σ r s l e = absurd h
-    deeper MayEnter (Do line act next) h σ r s l e = absurd h
-    deeper MayEnter (Sub part next) h σ r s l e = absurd h
-    deeper MayEnter (Line line next) h σ r s l e = absurd h
-
-  -- Each record of each run is that of a call.
-  pub run_records : (n : ℕ) (m : Mode) (t : Tree) → Tidy m t → (σ : State) (r : Result State Call) → IsSound σ → Holds m σ → run_of p n t σ ≡ Some r
-      → Recorded p (unmarked r.events)
-  run_records zero m t h σ r s l e = absurd (none_some e)
-  run_records (suc n) m t h σ r s l e = deeper n (λ t k. record { left = run_keeps p n (Free None) t k; records = run_records n (Free None) t k }) m t h σ r s
-      l e
+    call_records : {n f : ℕ} {args : List Value} {σ : State} {r : Result State Call} → RanCall p n f args σ r → IsSound σ → MayEnter σ → Records r
+    call_records (ways.Closed {σ = σ} c h) s m = frame_records h (sound_opened σ s m)

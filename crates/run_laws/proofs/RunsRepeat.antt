@@ -1,87 +1,34 @@
 -- Two states that agree on what a run's touches show of the first give the same run.
-use Rattle.std.proofs.Common.{
-  ◌≡◌,
-  inl,
-  inr,
-  ℕ,
-  zero,
-  suc,
-  ◌+◌,
-  ◌≤◌,
-  Bool,
-  true,
-  false,
-  List,
-  [],
-  ◌∷◌,
-  ◌++◌,
-  Option,
-  Some,
-  None,
-  refl,
-  sym,
-  ap,
-  subst,
-  ◌∙◌,
-  append_assoc,
-  length,
-  nat_lt,
-  if◌then◌else◌,
-  arith,
-}
-use Rattle.std.proofs.lemmas.List.{length-map}
+use Rattle.std.proofs.Common.{◌≡◌, inl, inr, ℕ, zero, suc, ◌+◌, ◌≤◌, Bool, false, List, [], ◌∷◌, ◌++◌, Option, Some, refl, sym, ap, subst, ◌∙◌, append_assoc}
+use Rattle.std.proofs.Common.{length, nat_lt, if◌then◌else◌, arith}
 use Rattle.std.proofs.lemmas.Bool.Decides.{eqb_tells, nat_tests}
 use Rattle.std.specs.FinMap.{insert, remove}
 use Rattle.cell_value.specs.declared.values.Value.{Value}
 use Rattle.cell_value.specs.declared.entries.Touch.{Touch}
+use Rattle.cell_value.specs.declared.ways_out.WayOut.{WayOut}
+use Rattle.cell_value.specs.declared.ways_out.WayOut.TheVariants as way
+use Rattle.cell_value.specs.declared.ways_out.Kind.TheVariants as kind
+use Rattle.cell_value.specs.declared.ways_out.Which.{Which}
 use Rattle.cell_value.specs.declared.ways_out.Which.TheVariants.{Stack}
 use Rattle.program_tables.specs.declared.program.Routine.{Routine}
 use Rattle.program_tables.specs.ProgramRows.{ProgramRows, routine_at}
 use Rattle.program_meaning.specs.State.{State, IsSound, stack_end, most_calls, most_depth}
-use Rattle.program_meaning.specs.Acts.{Trouble, Fault, OutOfSteps, Limited, Act, Answer, Spend, ReadCell, HasCell, WriteCell, MayCall, perform}
-use Rattle.program_meaning.specs.Acts.{spent}
-use Rattle.program_meaning.specs.Tree.{Out, Tree, Ret, Halt, Do, Sub, Enter, Line, way_of}
-use Rattle.program_meaning.specs.Layer.{layer}
+use Rattle.program_meaning.specs.Acts.{Trouble, Fault, OutOfSteps, Limited, perform, spent, Spend}
+use Rattle.program_meaning.specs.Tree.{Out, Tree, way_of}
 use Rattle.program_meaning.specs.Agree.{EndedByItself}
-use Rattle.program_meaning.specs.Run.{
-  End,
-  Ended,
-  Halted,
-  Marked,
-  Result,
-  in_front,
-  ends,
-  on_end,
-  joined,
-  on_done,
-  Call,
-  Outcome,
-  record_of,
-  recorded,
-  after_all,
-  in_frame,
-  call_of,
-  plain,
-  run_of,
-  whole,
-  with_frame,
-  without_frame,
-  frame_cells,
-  framed,
-  unframed,
-  opened,
-  closed,
-}
-use Rattle.run_laws.proofs.Touches.{Serves, none_some, some_same}
+use Rattle.program_meaning.specs.Run.{End, Ended, Halted, Marked, Result, in_front, ends, on_end, joined, on_done, if_allowed, Call, Outcome, recorded}
+use Rattle.program_meaning.specs.Run.{after_all, in_frame, at_work, call_of, plain, run_of, whole, with_frame, without_frame, frame_cells, framed, unframed}
+use Rattle.program_meaning.specs.Run.{opened}
+use Rattle.program_meaning.specs.Run.{closed}
+use Rattle.run_laws.proofs.Touches.{Serves}
 use Rattle.run_laws.proofs.Cells.{Map, got_same, got_other, removed_same, removed_other}
 use Rattle.run_laws.proofs.Events.{unmarked, events_append, events_length}
-use Rattle.run_laws.proofs.EachTreeIsTidy.{Mode, Free, MayEnter, mode_after, Allowed, Tidy, IsTidy, part_tidy, whole_tidy}
-use Rattle.run_laws.proofs.ActsLeave.{Leaves, leaves_same, Holds, DoneLeaves, act_leaves}
+use Rattle.run_laws.proofs.ActsLeave.{Leaves, leaves_same, MayEnter, limits_hold}
 use Rattle.run_laws.proofs.Ways as ways
-use Rattle.run_laws.proofs.Ways.{front, Fronted, Behind, fronted, Joined, Stopped, WentOn, joined_so, Acted, Refused, stopped, acted_so}
+use Rattle.run_laws.proofs.Ways.{front, ending, of_call, inside, Ran, RanFrame, RanCall}
 use Rattle.run_laws.proofs.Effects.{SameLog, same_append}
-use Rattle.run_laws.proofs.ActsRepeat.{SameCells, Agree, InStep, step_same, IsFault, MayGo, DoneAgain, act_again}
-use Rattle.run_laws.proofs.RunsLeave.{Keeps, Entered, inside, Changed, Before, changed_so, sound_framed, sound_opened, call_keeps, run_keeps}
+use Rattle.run_laws.proofs.ActsRepeat.{SameCells, Agree, InStep, step_same, IsFault, DoneAgain, act_again, limit_none}
+use Rattle.run_laws.proofs.RunsLeave.{act_left, sound_framed, sound_opened, ran_leaves, call_leaves}
 
 -- an end that a record may stand for
 abbrev pub EndsByItself : End → Type 0
@@ -93,8 +40,9 @@ abbrev pub Shallow : (d e : ℕ) → List Call → Type 0
 Shallow d e [] = Unit {0}
 Shallow d e (c ∷ cs) = (c.depth + e ≤ most_depth + d) × Shallow d e cs
 
--- the second state has steps, calls and depth enough
+-- a run that ended by itself, and a second state that has steps, calls and depth enough for it
 pub record Room (σ τ : State) (r : Result State Call) : Type 0 where
+  pub itself : EndsByItself r.end
   pub steps : σ.steps ≤ τ.steps + r.after.steps
   pub calls : τ.calls + length r.events ≤ most_calls
   pub depth : Shallow σ.depth τ.depth (unmarked r.events)
@@ -122,32 +70,29 @@ pub record Again (from to : ℕ) (r : Result State Call) (v : List Touch) (σ τ
 
 -- so it is from each second state that agrees
 abbrev pub Repeated : (σ : State) (r : Result State Call) → (State → Outcome) → Type 0
-Repeated σ r h = (from to : ℕ) (τ : State) (v : List Touch) → Agree from to (r.log ++ v) σ τ → Room σ τ r → EndsByItself r.end → Again from to r v σ τ (h τ)
-
-pub record Repeats (m : Mode) (h : State → Outcome) : Type 0 where
-  pub left : Keeps m h
-  pub again : (σ : State) (r : Result State Call) → IsSound σ → Holds m σ → h σ ≡ Some r → Repeated σ r h
+Repeated σ r h = (from to : ℕ) (τ : State) (v : List Touch) → Agree from to (r.log ++ v) σ τ → Room σ τ r → Again from to r v σ τ (h τ)
 
 again_at : {from to : ℕ} {r : Result State Call} {v : List Touch} {σ τ : State} {x y : Outcome} → x ≡ y → Again from to r v σ τ y → Again from to r v σ τ x
 again_at e a = record { run = a.run; is = e ∙ a.is; end = a.end; log = a.log; agree = a.agree; step = a.step }
 
-ends_again : (e : End) (σ : State) (r : Result State Call) → ends e σ ≡ Some r → Repeated σ r (λ τ. ends e τ)
-ends_again e σ r h = subst (λ r. Repeated σ r (λ τ. ends e τ)) (some_same h) (λ from to τ v a k g. record {
-  run = record { end = e; after = τ; log = []; events = [] };
+ends_again : (e : End) (σ : State) → Repeated σ (ending e σ) (λ τ. ends e τ)
+ends_again e σ = λ from to τ v a k. record {
+  run = ending e τ;
   is = refl;
   end = refl;
   log = refl;
   agree = a;
   step = step_same σ τ;
-})
+}
 
 step_then : {σ τ σ1 τ1 σ2 τ2 : State} → InStep σ τ σ1 τ1 → InStep σ1 τ1 σ2 τ2 → InStep σ τ σ2 τ2
 step_then f g = record { steps = omega (arith, f.steps, g.steps); calls = omega (arith, f.calls, g.calls); depth = omega (arith, f.depth, g.depth) }
 
 -- the room of what follows
-room_after : (σ τ σ1 τ1 : State) (w : List Touch) (es : List (Marked Call)) (r2 : Result State Call) → Leaves σ w (length es) σ1 → InStep σ τ σ1 τ1
+room_after : {σ τ σ1 τ1 : State} {w : List Touch} (es : List (Marked Call)) (r2 : Result State Call) → Leaves σ w (length es) σ1 → InStep σ τ σ1 τ1
     → Room σ τ (front w es r2) → Room σ1 τ1 r2
-room_after σ τ σ1 τ1 w es r2 l s k = record {
+room_after {σ = σ} {τ = τ} {τ1 = τ1} {w = w} es r2 l s k = record {
+  itself = k.itself;
   steps = omega (arith, s.steps, k.steps);
   calls = omega (arith, s.calls, l.calls, k.calls, events_length (length w) es r2.events);
   depth = subst (λ d. Shallow d τ1.depth (unmarked r2.events)) (sym l.depth)
@@ -155,104 +100,65 @@ room_after σ τ σ1 τ1 w es r2 l s k = record {
       (shallow_right σ.depth τ.depth (unmarked es) (unmarked r2.events) (subst (Shallow σ.depth τ.depth) (events_append (length w) es r2.events) k.depth)));
 }
 
+-- what was before, from the first state and again from the second
+record Before (from to : ℕ) (w : List Touch) (σ τ σ1 τ1 : State) : Type 0 where
+  calls : List (Marked Call)
+  leaves : Leaves σ w (length calls) σ1
+  log : List Touch
+  events : List (Marked Call)
+  same : SameLog from to w log
+  step : InStep σ τ σ1 τ1
+
 -- what was before, and what followed
-front_again : {g : State → Outcome} (w : List Touch) (es : List (Marked Call)) (w' : List Touch) (es' : List (Marked Call)) (σ τ σ1 τ1 : State)
-    (r2 : Result State Call)
-    (from to : ℕ) (v : List Touch) → Leaves σ w (length es) σ1 → InStep σ τ σ1 τ1 → SameLog from to w w' → Agree from to (r2.log ++ v) σ1 τ1
-    → Room σ τ (front w es r2)
-    → EndsByItself r2.end → Repeated σ1 r2 g → Again from to (front w es r2) v σ τ (in_front w' es' (g τ1))
-front_again w es w' es' σ τ σ1 τ1 r2 from to v l s q a k e h =
-    let b = h from to τ1 v a (room_after σ τ σ1 τ1 w es r2 l s k) e in
+front_again : {g : State → Outcome} {w : List Touch} {σ τ σ1 τ1 : State} {from to : ℕ} {v : List Touch} (r : Result State Call)
+    → (b : Before from to w σ τ σ1 τ1) → Agree from to (r.log ++ v) σ1 τ1 → Room σ τ (front w b.calls r) → Repeated σ1 r g
+    → Again from to (front w b.calls r) v σ τ (in_front b.log b.events (g τ1))
+front_again {w = w} {σ = σ} {τ = τ} {σ1 = σ1} {τ1 = τ1} {from = from} {to = to} {v = v} r b a k h =
+    let c = h from to τ1 v a (room_after b.calls r b.leaves b.step k) in
     record {
-      run = front w' es' b.run;
-      is = ap (in_front w' es') b.is;
-      end = b.end;
-      log = same_append from to w r2.log w' b.run.log q b.log;
-      agree = b.agree;
-      step = step_then s b.step;
+      run = front b.log b.events c.run;
+      is = ap (in_front b.log b.events) c.is;
+      end = c.end;
+      log = same_append from to w r.log b.log c.run.log b.same c.log;
+      agree = c.agree;
+      step = step_then b.step c.step;
     }
-
-joined_again : {m : Mode} (h : State → Outcome) (g : Out → State → Outcome) → Repeats m h → ((out : Out) → Repeats (Free None) (g out))
-    → (σ : State) (r : Result State Call) → IsSound σ → Holds m σ → joined (h σ) g ≡ Some r → Repeated σ r (λ τ. joined (h τ) g)
-joined_again h g H G σ r s l e = by (joined_so h g σ r e)
-  where
-    by : Joined h g σ r → Repeated σ r (λ τ. joined (h τ) g)
-    by (Stopped w q d) = λ from to τ v a k n.
-        let b = H.again σ r s l q from to τ v a k n in
-        record {
-          run = b.run;
-          is = ap (λ x. joined x g) b.is ∙ ap (λ e. on_end e b.run g) (b.end ∙ d);
-          end = b.end;
-          log = b.log;
-          agree = b.agree;
-          step = b.step;
-        }
-    by (WentOn r1 out r2 q d c f) = subst (λ r. Repeated σ r (λ τ. joined (h τ) g)) f (λ from to τ v a k n.
-        let left = H.left.keeps σ r1 s l q in
-        let next = (G out).left.keeps r1.after r2 left.leaves.sound tt c in
-        let b = H.again σ r1 s l q from to τ (r2.log ++ v) (subst (λ w. Agree from to w σ τ) (append_assoc r1.log r2.log v) a)
-        (record {
-          steps = omega (arith, k.steps, next.leaves.steps);
-          calls = omega (arith, k.calls, events_length (length r1.log) r1.events r2.events);
-          depth = shallow_left σ.depth τ.depth (unmarked r1.events) (unmarked r2.events)
-              (subst (Shallow σ.depth τ.depth) (events_append (length r1.log) r1.events r2.events) k.depth);
-        }) (subst EndsByItself (sym d) tt) in
-        again_at (ap (λ x. joined x g) b.is ∙ ap (λ e. on_end e b.run g) (b.end ∙ d))
-        (front_again r1.log r1.events b.run.log b.run.events σ τ r1.after b.run.after r2 from to v left.leaves b.step b.log b.agree k n
-        ((G out).again r1.after r2 left.leaves.sound tt c)))
-
--- where leave for a call was given, the call that followed tells that there is room for it
-may_go : (act : Act) (x : Answer act) (σ τ σ1 : State) (r2 : Result State Call) → Entered (mode_after act x) σ1 (unmarked r2.events) → σ1.depth ≡ σ.depth
-    → τ.calls + length r2.events ≤ most_calls → Shallow σ.depth τ.depth (unmarked r2.events) → MayGo act τ
-may_go (Spend n) x σ τ σ1 r2 h d c k = tt
-may_go (ReadCell addr) x σ τ σ1 r2 h d c k = tt
-may_go (HasCell addr) x σ τ σ1 r2 h d c k = tt
-may_go (WriteCell addr v) x σ τ σ1 r2 h d c k = tt
-may_go (MayCall n) x σ τ σ1 r2 h d c k =
-    let s : Shallow σ.depth τ.depth (h.0 ∷ h.1) = subst (Shallow σ.depth τ.depth) h.2 k in
-    let l : length (unmarked r2.events) ≡ length (h.0 ∷ h.1) = ap length h.2 in
-    (omega (arith, c, l, length-map r2.events (λ e. e.event)), omega (arith, s.0, h.3, d))
 
 stop_fault : (line : ℕ) (why : Trouble) → EndsByItself (Halted (way_of line why)) → IsFault why
 stop_fault line (Fault k) h = tt
 stop_fault line OutOfSteps h = h
 stop_fault line (Limited which) h = h
 
-done_again : (p : ProgramRows) (line : ℕ) (act : Act) (g : Answer act → State → Outcome) (found : Option ℕ) → Allowed found act
-    → ((x : Answer act) → Repeats (mode_after act x) (g x))
-    → (σ : State) (r : Result State Call) → IsSound σ → Holds (Free found) σ → on_done (plain p) line σ (perform act σ) g ≡ Some r
-    → Repeated σ r (λ τ. on_done (plain p) line τ (perform act τ) g)
-done_again p line act g found l G σ r s m e = by (acted_so p line act g σ r e)
-  where
-    by : Acted line act g σ r → Repeated σ r (λ τ. on_done (plain p) line τ (perform act τ) g)
-    by (Refused why σ1 q f) = subst (λ r. Repeated σ r (λ τ. on_done (plain p) line τ (perform act τ) g)) f (λ from to τ v a k n.
-        let b = (subst (λ d. DoneAgain from to act d (perform act τ) σ τ v) q (act_again from to act σ τ v)) a (stop_fault line why n) in
-        record {
-          run = stopped line why b.0;
-          is = ap (λ d. on_done (plain p) line τ d g) b.1;
-          end = refl;
-          log = refl;
-          agree = b.2;
-          step = b.3;
-        })
-    by (ways.Done x w σ1 r2 q c f) = subst (λ r. Repeated σ r (λ τ. on_done (plain p) line τ (perform act τ) g)) f (λ from to τ v a k n.
-        let left = subst (DoneLeaves act σ) q (act_leaves act found σ s m l) in
-        let next = (G x).left.keeps σ1 r2 left.0.sound left.1 c in
-        let same = events_append (length w) [] r2.events in
-        let b = (subst (λ d. DoneAgain from to act d (perform act τ) σ τ (r2.log ++ v)) q (act_again from to act σ τ (r2.log ++ v)))
-        (subst (λ u. Agree from to u σ τ) (append_assoc w r2.log v) a) (omega (arith, k.steps, next.leaves.steps))
-        (may_go act x σ τ σ1 r2 next.entered left.0.depth (omega (arith, k.calls, events_length (length w) [] r2.events))
-        (subst (Shallow σ.depth τ.depth) same k.depth)) in
-        again_at (ap (λ d. on_done (plain p) line τ d g) b.2)
-        (front_again w [] b.1 [] σ τ σ1 b.0 r2 from to v left.0 b.5 b.3 b.4 k n ((G x).again σ1 r2 left.0.sound left.1 c)))
+-- a part or a call that stops the run
+stopped_again : {from to : ℕ} {r : Result State Call} {v : List Touch} {σ τ : State} {x : Outcome} {way : WayOut} (g : Out → State → Outcome)
+    → Again from to r v σ τ x → r.end ≡ Halted way → Again from to r v σ τ (joined x g)
+stopped_again g b e = record {
+  run = b.run;
+  is = ap (λ x. joined x g) b.is ∙ ap (λ d. on_end d b.run g) (b.end ∙ e);
+  end = b.end;
+  log = b.log;
+  agree = b.agree;
+  step = b.step;
+}
 
-line_again : (h : State → Outcome) → Repeats (Free None) h → (σ : State) (r : Result State Call) → IsSound σ → in_front [] [] (h σ) ≡ Some r
-    → Repeated σ r (λ τ. in_front [] [] (h τ))
-line_again h H σ r s e = by (fronted [] [] (h σ) r e)
-  where
-    by : Fronted [] [] (h σ) r → Repeated σ r (λ τ. in_front [] [] (h τ))
-    by (Behind r2 c f) = subst (λ r. Repeated σ r (λ τ. in_front [] [] (h τ))) f (λ from to τ v a k n.
-        front_again [] [] [] [] σ τ σ τ r2 from to v (leaves_same σ s) (step_same σ τ) refl a k n (H.again σ r2 s tt c))
+-- or one that ends, and what follows it
+ended_again : {from to : ℕ} {y z : Result State Call} {v : List Touch} {σ τ : State} {x : Outcome} {out : Out} (g : Out → State → Outcome)
+    → Again from to y (z.log ++ v) σ τ x → y.end ≡ Ended out → Leaves σ y.log (length y.events) y.after → Room σ τ (front y.log y.events z)
+    → Repeated y.after z (g out) → Again from to (front y.log y.events z) v σ τ (joined x g)
+ended_again {y = y} {z = z} g b e l k h =
+    again_at (ap (λ x. joined x g) b.is ∙ ap (λ d. on_end d b.run g) (b.end ∙ e))
+    (front_again z (record { calls = y.events; leaves = l; log = b.run.log; events = b.run.events; same = b.log; step = b.step }) b.agree k h)
+
+-- the room of what comes first
+room_before : {σ τ : State} {out : Out} (y z : Result State Call) → Room σ τ (front y.log y.events z) → z.after.steps ≤ y.after.steps → y.end ≡ Ended out
+    → Room σ τ y
+room_before {σ = σ} {τ = τ} y z k m e = record {
+  itself = subst EndsByItself (sym e) tt;
+  steps = omega (arith, k.steps);
+  calls = omega (arith, k.calls, events_length (length y.log) y.events z.events);
+  depth = shallow_left σ.depth τ.depth (unmarked y.events) (unmarked z.events)
+      (subst (Shallow σ.depth τ.depth) (events_append (length y.log) y.events z.events) k.depth);
+}
 
 -- ---- frames
 
@@ -282,9 +188,9 @@ same_unframed : (w : List Touch) (base n : ℕ) (m k : Map) → SameCells w m k 
 same_unframed w base zero m k h = h
 same_unframed w base (suc n) m k h = same_unframed w (base + 1) n (remove m base) (remove k base) (same_remove w m k base h)
 
-agree_framed : (from to : ℕ) (w : List Touch) (n : ℕ) (args : List Value) (σ τ : State) → Agree from to w σ τ
+agree_framed : {from to : ℕ} {w : List Touch} {σ τ : State} (n : ℕ) (args : List Value) → Agree from to w σ τ
     → Agree from to w (with_frame n args σ) (with_frame n args τ)
-agree_framed from to w n args σ τ h = record {
+agree_framed {w = w} {σ = σ} {τ = τ} n args h = record {
   top = ap (λ b. b + n) h.top;
   fresh = h.fresh;
   cells = subst (λ b. SameCells w (framed σ.top (frame_cells n args) σ.cells) (framed b (frame_cells n args) τ.cells)) h.top
@@ -293,9 +199,9 @@ agree_framed from to w n args σ τ h = record {
   items = h.items;
 }
 
-agree_unframed : (from to : ℕ) (w : List Touch) (n base base' : ℕ) (σ τ : State) → base ≡ base' → Agree from to w σ τ
+agree_unframed : {from to : ℕ} {w : List Touch} {σ τ : State} (n base base' : ℕ) → base ≡ base' → Agree from to w σ τ
     → Agree from to w (without_frame base n σ) (without_frame base' n τ)
-agree_unframed from to w n base base' σ τ e h = record {
+agree_unframed {w = w} {σ = σ} {τ = τ} n base base' e h = record {
   top = e;
   fresh = h.fresh;
   cells = subst (λ b. SameCells w (unframed base n σ.cells) (unframed b n τ.cells)) e (same_unframed w base n σ.cells τ.cells h.cells);
@@ -307,121 +213,144 @@ agree_unframed from to w n base base' σ τ e h = record {
 
 -- room for what is inside of a call: the call itself is one
 pub record InnerRoom (σ τ : State) (r : Result State Call) : Type 0 where
+  pub itself : EndsByItself r.end
   pub steps : σ.steps ≤ τ.steps + r.after.steps
   pub calls : τ.calls + (length r.events + 1) ≤ most_calls
   pub depth : Shallow σ.depth τ.depth (unmarked r.events)
 
+-- there is room for a call, and for what is inside of it
+room_inside : {f : ℕ} {args : List Value} {σ τ : State} {y : Result State Call} → Room σ τ (of_call f args σ y) → InnerRoom σ τ y × MayEnter τ
+room_inside k = (
+  record { itself = k.itself; steps = k.steps; calls = omega (arith, k.calls); depth = k.depth.1 },
+  record { calls = omega (arith, k.calls); depth = omega (arith, k.depth.0) },
+)
+
 module _ (p : ProgramRows) where
-  pub keeps_at : (n : ℕ) (t : Tree) → IsTidy t → Keeps (Free None) (run_of p n t)
-  keeps_at n t h = run_keeps p n (Free None) t h
+  abbrev next_of : ℕ → (Out → Tree) → Out → State → Outcome
+  next_of n next out τ = run_of p (suc n) (next out) τ
 
-  module _ (n : ℕ) (R : (t : Tree) → IsTidy t → Repeats (Free None) (run_of p n t)) (f : ℕ) (args : List Value) where
-    abbrev made : (q : Routine) → State → Outcome
-    made q τ = after_all (without_frame τ.top q.cells) (run_of p n (whole p f τ.top q) (with_frame q.cells args τ))
+  abbrev entered : ℕ → ℕ → List Value → (Out → Tree) → Option Which → State → Outcome
+  entered n f args next o τ = if_allowed o τ (joined (call_of p (run_of p n) f args τ) (next_of n next))
 
-    abbrev choice : Routine → State → Bool → Bool → Outcome
-    choice q τ a b = if a then ends (Halted (way_of 0 (Limited Stack))) τ else if b then ends (Halted (way_of 0 OutOfSteps)) (spent τ) else made q τ
+  abbrev choice : ℕ → ℕ → List Value → Routine → State → Bool → Bool → Outcome
+  choice n f args q τ a b =
+      if a then ends (Halted (way_of 0 (Limited Stack))) τ
+      else if b then ends (Halted (way_of 0 OutOfSteps)) (spent τ)
+      else after_all (without_frame τ.top q.cells) (run_of p n (whole p f τ.top q) (with_frame q.cells args τ))
 
-    framed_again : (σ : State) (o : Option Routine) (r : Result State Call) → IsSound σ → in_frame p (run_of p n) f args σ o ≡ Some r
-        → Repeated σ r (λ τ. in_frame p (run_of p n) f args τ o)
-    framed_again σ None r s e = ends_again _ σ r e
-    framed_again σ (Some q) r s e = by (nat_lt stack_end (σ.top + q.cells)) (nat_lt σ.steps q.cells) refl refl e
-      where
-        went : σ.top + q.cells ≤ stack_end → q.cells ≤ σ.steps → Changed (without_frame σ.top q.cells)
-            (run_of p n (whole p f σ.top q) (with_frame q.cells args σ)) r
-            → Repeated σ r (λ τ. choice q τ (nat_lt stack_end (τ.top + q.cells)) (nat_lt τ.steps q.cells))
-        went t u (Before y c d) = subst (λ r. Repeated σ r (λ τ. choice q τ (nat_lt stack_end (τ.top + q.cells)) (nat_lt τ.steps q.cells))) d
-            (λ from to τ v a k e.
-            let sound = sound_framed q.cells args σ s t in
-            let left = (keeps_at n (whole p f σ.top q) (whole_tidy p f σ.top q)).keeps (with_frame q.cells args σ) y sound tt c in
-            let steps : q.cells ≤ τ.steps = omega (arith, k.steps, left.leaves.steps) in
-            let x : nat_lt stack_end (τ.top + q.cells) ≡ false = (let z : τ.top + q.cells ≤ stack_end = omega (arith, a.top) in grind (arith, nat_tests)) in
-            let z : nat_lt τ.steps q.cells ≡ false = grind (arith, nat_tests) in
-            let b = (R (whole p f σ.top q) (whole_tidy p f σ.top q)).again (with_frame q.cells args σ) y sound tt c from to (with_frame q.cells args τ) v
-            (agree_framed from to (y.log ++ v) q.cells args σ τ a) (record { steps = omega (arith, k.steps); calls = k.calls; depth = k.depth }) e in
-            record {
-              run = record { end = b.run.end; after = without_frame τ.top q.cells b.run.after; log = b.run.log; events = b.run.events };
-              is = ap (λ a. choice q τ a (nat_lt τ.steps q.cells)) x ∙ ap (choice q τ false) z
-                  ∙ ap (λ base. after_all (without_frame τ.top q.cells) (run_of p n (whole p f base q) (with_frame q.cells args τ))) (sym a.top)
-                  ∙ ap (after_all (without_frame τ.top q.cells)) b.is;
-              end = b.end;
-              log = b.log;
-              agree = agree_unframed from to v q.cells σ.top τ.top y.after b.run.after a.top b.agree;
-              step = record { steps = omega (arith, b.step.steps); calls = b.step.calls; depth = b.step.depth };
-            })
+  abbrev pub InsideAgain : (n f : ℕ) → List Value → State → Result State Call → Type 0
+  InsideAgain n f args σ r = (from to : ℕ) (τ : State) (v : List Touch) → Agree from to (r.log ++ v) σ τ → InnerRoom σ τ r
+      → Again from to r v σ τ (inside p (run_of p n) f args τ)
 
-        by : (a b : Bool) → nat_lt stack_end (σ.top + q.cells) ≡ a → nat_lt σ.steps q.cells ≡ b → choice q σ a b ≡ Some r
-            → Repeated σ r (λ τ. choice q τ (nat_lt stack_end (τ.top + q.cells)) (nat_lt τ.steps q.cells))
-        by true b t u e = λ from to τ v a k h. absurd (subst EndsByItself (ap (λ (r : Result State Call). r.end) (sym (some_same e))) h)
-        by false true t u e = λ from to τ v a k h. absurd (subst EndsByItself (ap (λ (r : Result State Call). r.end) (sym (some_same e))) h)
-        by false false t u e = went (grind (arith, nat_tests)) (grind (arith, nat_tests)) (changed_so (without_frame σ.top q.cells) _ r e)
+  -- a call, with its record
+  called_again : (n f : ℕ) (args : List Value) {σ τ : State} {y : Result State Call} {from to : ℕ} {v : List Touch}
+      → Again from to y v σ τ (inside p (run_of p n) f args τ) → Again from to (of_call f args σ y) v σ τ (call_of p (run_of p n) f args τ)
+  called_again n f args {τ = τ} b = record {
+    run = of_call f args τ b.run;
+    is = ap (recorded f args τ) b.is;
+    end = b.end;
+    log = b.log;
+    agree = b.agree;
+    step = b.step;
+  }
 
-    abbrev pub InsideAgain : State → Result State Call → Type 0
-    InsideAgain σ r = (from to : ℕ) (τ : State) (v : List Touch) → Agree from to (r.log ++ v) σ τ → InnerRoom σ τ r → EndsByItself r.end
-        → Again from to r v σ τ (inside p (run_of p n) f args τ)
+  mutual
+    -- each run is the same again
+    pub ran_again : {n : ℕ} {t : Tree} {σ : State} {r : Result State Call} → Ran p n t σ r → IsSound σ → Repeated σ r (run_of p n t)
+    ran_again (ways.Returned {out = out} {σ = σ}) s = ends_again (Ended out) σ
+    ran_again (ways.Stopped {line = line} {why = why} {σ = σ}) s = ends_again (Halted (way_of line why)) σ
+    ran_again (ways.Refused {n = n} {line = line} {act = act} {next = next} {σ = σ} {why = why} {w = w} {τ = ρ} q) s = λ from to τ v a k.
+        let d = (subst (λ d. DoneAgain from to d (perform act τ) σ τ v) q (act_again from to act σ τ v))
+        (subst (λ u. Agree from to u σ τ) (append_assoc w [] v) a) k.steps (stop_fault line why k.itself) in
+        again_at (ap (λ d. on_done (plain p) line τ d (λ x τ. run_of p (suc n) (next x) τ)) d.is)
+        (front_again (ending (Halted (way_of line why)) ρ)
+        (record { calls = []; leaves = act_left act s q; log = d.log; events = []; same = d.same; step = d.step }) d.agree k
+        (ends_again (Halted (way_of line why)) ρ))
+    ran_again (ways.Acted {n = n} {line = line} {act = act} {next = next} {σ = σ} {x = x} {w = w} {r = y} q h) s = λ from to τ v a k.
+        let l = act_left act s q in
+        let m = (ran_leaves p h l.sound).leaves.steps in
+        let d = (subst (λ d. DoneAgain from to d (perform act τ) σ τ (y.log ++ v)) q (act_again from to act σ τ (y.log ++ v)))
+        (subst (λ u. Agree from to u σ τ) (append_assoc w y.log v) a) (omega (arith, k.steps, m)) tt in
+        again_at (ap (λ d. on_done (plain p) line τ d (λ x τ. run_of p (suc n) (next x) τ)) d.is)
+        (front_again y (record { calls = []; leaves = l; log = d.log; events = []; same = d.same; step = d.step }) d.agree k (ran_again h l.sound))
+    ran_again (ways.PartStopped {n = n} {next = next} h e) s = λ from to τ v a k. stopped_again (next_of n next) (ran_again h s from to τ v a k) e
+    ran_again (ways.PartEnded {n = n} {next = next} {σ = σ} {r = y} {s = z} h e g) s = λ from to τ v a k.
+        let l = (ran_leaves p h s).leaves in
+        let m = (ran_leaves p g l.sound).leaves.steps in
+        ended_again (next_of n next) (ran_again h s from to τ (z.log ++ v) (subst (λ w. Agree from to w σ τ) (append_assoc y.log z.log v) a)
+        (room_before y z k m e)) e l k (ran_again g l.sound)
+    ran_again (ways.AtLimit q) s = λ from to τ v a k. absurd k.itself
+    ran_again (ways.CallStopped {n = n} {f = f} {cells = cells} {args = args} {next = next} {σ = σ} {y = y} q h e) s = λ from to τ v a k.
+        let m = room_inside k in
+        again_at (ap (λ o. entered n f args next o τ) (limit_none σ τ cells a.top q m.1))
+        (stopped_again (next_of n next) (called_again n f args (call_again h s (limits_hold σ cells q) from to τ v a m.0)) e)
+    ran_again (ways.CallEnded {n = n} {f = f} {cells = cells} {args = args} {next = next} {σ = σ} {y = y} {s = z} q h e g) s = λ from to τ v a k.
+        let l = (call_leaves p h s (limits_hold σ cells q)).leaves in
+        let d = (ran_leaves p g l.sound).leaves.steps in
+        let m = room_inside (room_before (of_call f args σ y) z k d e) in
+        again_at (ap (λ o. entered n f args next o τ) (limit_none σ τ cells a.top q m.1))
+        (ended_again (next_of n next) (called_again n f args (call_again h s (limits_hold σ cells q) from to τ (z.log ++ v)
+        (subst (λ w. Agree from to w σ τ) (append_assoc y.log z.log v) a) m.0)) e l k (ran_again g l.sound))
+    ran_again (ways.NotBegun {n = n} {line = line} {next = next} {σ = σ} {why = why} {w = w} {τ = ρ} q) s = λ from to τ v a k.
+        let d = (subst (λ d. DoneAgain from to d (perform (Spend 1) τ) σ τ v) q (act_again from to (Spend 1) σ τ v))
+        (subst (λ u. Agree from to u σ τ) (append_assoc w [] v) a) k.steps (stop_fault line why k.itself) in
+        again_at (ap (λ d. on_done (plain p) line τ d (λ x υ. in_front [] [] (run_of p (suc n) next υ))) d.is)
+        (front_again (ending (Halted (way_of line why)) ρ)
+        (record { calls = []; leaves = act_left (Spend 1) s q; log = d.log; events = []; same = d.same; step = d.step }) d.agree k
+        (ends_again (Halted (way_of line why)) ρ))
+    ran_again (ways.Began {n = n} {line = line} {next = next} {σ = σ} {w = w} {τ = ρ} {r = y} q h) s = λ from to τ v a k.
+        let l = act_left (Spend 1) s q in
+        let m = (ran_leaves p h l.sound).leaves.steps in
+        let d = (subst (λ d. DoneAgain from to d (perform (Spend 1) τ) σ τ (y.log ++ v)) q (act_again from to (Spend 1) σ τ (y.log ++ v)))
+        (subst (λ u. Agree from to u σ τ) (append_assoc w y.log v) a) (omega (arith, k.steps, m)) tt in
+        again_at (ap (λ d. on_done (plain p) line τ d (λ x υ. in_front [] [] (run_of p (suc n) next υ))) d.is)
+        (front_again (front [] [] y) (record { calls = []; leaves = l; log = d.log; events = []; same = d.same; step = d.step }) d.agree k
+        (λ from' to' τ' v' a' k'. front_again y
+        (record { calls = []; leaves = leaves_same ρ l.sound; log = []; events = []; same = refl; step = step_same ρ τ' }) a' k' (ran_again h l.sound)))
 
-    pub inside_again : (σ : State) (r : Result State Call) → IsSound σ → Holds MayEnter σ → inside p (run_of p n) f args σ ≡ Some r → InsideAgain σ r
-    inside_again σ r s m e = by (changed_so (closed σ.depth) (in_frame p (run_of p n) f args (opened σ) (routine_at p f)) r e)
-      where
-        by : Changed (closed σ.depth) (in_frame p (run_of p n) f args (opened σ) (routine_at p f)) r → InsideAgain σ r
-        by (Before y c d) = subst (InsideAgain σ) d (λ from to τ v a k g.
-            let b = framed_again (opened σ) (routine_at p f) y (sound_opened σ s m) c from to (opened τ) v
-            (record { top = a.top; fresh = a.fresh; cells = a.cells; place = a.place; items = a.items })
-            (record { steps = k.steps; calls = omega (arith, k.calls); depth = shallow_suc σ.depth τ.depth (unmarked y.events) k.depth }) g in
-            record {
-              run = record { end = b.run.end; after = closed τ.depth b.run.after; log = b.run.log; events = b.run.events };
-              is = ap (after_all (closed τ.depth)) b.is;
-              end = b.end;
-              log = b.log;
-              agree = record { top = b.agree.top; fresh = b.agree.fresh; cells = b.agree.cells; place = b.agree.place; items = b.agree.items };
-              step = record { steps = b.step.steps; calls = omega (arith, b.step.calls); depth = omega arith };
-            })
+    frame_again : {n f : ℕ} {args : List Value} {σ : State} {r : Result State Call} → RanFrame p n f args σ r → IsSound σ
+        → Repeated σ r (λ τ. in_frame (at_work p (run_of p n) f) args τ (routine_at p f))
+    frame_again (ways.NoRoutine {n = n} {f = f} {args = args} {σ = σ} e) s = λ from to τ v a k.
+        again_at (ap (in_frame (at_work p (run_of p n) f) args τ) e) (ends_again (Halted (way.Faulted kind.Undefined 0)) σ from to τ v a k)
+    frame_again (ways.NoRoom e t) s = λ from to τ v a k. absurd k.itself
+    frame_again (ways.NoSteps e t u) s = λ from to τ v a k. absurd k.itself
+    frame_again (ways.Worked {n = n} {f = f} {args = args} {σ = σ} {q = q} {y = y} e t u h) s = λ from to τ v a k.
+        let m : σ.top + q.cells ≤ stack_end = grind (arith, nat_tests) in
+        let sound = sound_framed q.cells args σ s m in
+        let left = ran_leaves p h sound in
+        let j : q.cells ≤ σ.steps = grind (arith, nat_tests) in
+        let steps : q.cells ≤ τ.steps = omega (arith, j, k.steps, left.leaves.steps) in
+        let x : nat_lt stack_end (τ.top + q.cells) ≡ false = (let z : τ.top + q.cells ≤ stack_end = omega (arith, a.top) in grind (arith, nat_tests)) in
+        let z : nat_lt τ.steps q.cells ≡ false = grind (arith, nat_tests) in
+        let b = ran_again h sound from to (with_frame q.cells args τ) v (agree_framed q.cells args a)
+        (record { itself = k.itself; steps = omega (arith, j, steps, k.steps); calls = k.calls; depth = k.depth }) in
+        record {
+          run = record { end = b.run.end; after = without_frame τ.top q.cells b.run.after; log = b.run.log; events = b.run.events };
+          is = ap (in_frame (at_work p (run_of p n) f) args τ) e ∙ ap (λ a. choice n f args q τ a (nat_lt τ.steps q.cells)) x ∙ ap (choice n f args q τ false) z
+              ∙ ap (λ base. after_all (without_frame τ.top q.cells) (run_of p n (whole p f base q) (with_frame q.cells args τ))) (sym a.top)
+              ∙ ap (after_all (without_frame τ.top q.cells)) b.is;
+          end = b.end;
+          log = b.log;
+          agree = agree_unframed q.cells σ.top τ.top a.top b.agree;
+          step = record { steps = omega (arith, j, steps, b.step.steps); calls = b.step.calls; depth = b.step.depth };
+        }
 
-    call_again : (σ : State) (r : Result State Call) → IsSound σ → Holds MayEnter σ → call_of p (run_of p n) f args σ ≡ Some r
-        → Repeated σ r (call_of p (run_of p n) f args)
-    call_again σ r s m e = by (inside p (run_of p n) f args σ) refl e
-      where
-        by : (x : Outcome) → inside p (run_of p n) f args σ ≡ x → recorded f args σ x ≡ Some r → Repeated σ r (call_of p (run_of p n) f args)
-        by None q e = absurd (none_some e)
-        by (Some y) q e = subst (λ r. Repeated σ r (call_of p (run_of p n) f args)) (some_same e) (λ from to τ v a k g.
-            let b = inside_again σ y s m q from to τ v a (record { steps = k.steps; calls = omega (arith, k.calls); depth = k.depth.1 }) g in
-            record {
-              run = record {
-                end = b.run.end;
-                after = b.run.after;
-                log = b.run.log;
-                events = (record { mark = 0; event = record_of f args τ b.run }) ∷ b.run.events;
-              };
-              is = ap (recorded f args τ) b.is;
-              end = b.end;
-              log = b.log;
-              agree = b.agree;
-              step = b.step;
-            })
-
-  module _ (n : ℕ) (R : (t : Tree) → IsTidy t → Repeats (Free None) (run_of p n t)) where
-    deeper : (m : Mode) (t : Tree) → Tidy m t → (σ : State) (r : Result State Call) → IsSound σ → Holds m σ → run_of p (suc n) t σ ≡ Some r
-        → Repeated σ r (run_of p (suc n) t)
-    deeper (Free o) (Ret out) h σ r s l e = ends_again (Ended out) σ r e
-    deeper (Free o) (Halt way) h σ r s l e = ends_again (Halted way) σ r e
-    deeper (Free o) (Do line act next) h σ r s l e = done_again p line act (λ x τ. run_of p (suc n) (next x) τ) o h.0
-        (λ x. record { left = run_keeps p (suc n) (mode_after act x) (next x) (h.1 x); again = deeper (mode_after act x) (next x) (h.1 x) }) σ r s l e
-    deeper (Free o) (Sub part next) h σ r s l e = joined_again (run_of p n (layer p part)) (λ out τ. run_of p (suc n) (next out) τ)
-        (R (layer p part) (part_tidy p part))
-        (λ out. record { left = run_keeps p (suc n) (Free None) (next out) (h out); again = deeper (Free None) (next out) (h out) }) σ r s tt e
-    deeper (Free o) (Enter f args next) h σ r s l e = absurd h
-    deeper (Free o) (Line line next) h σ r s l e = line_again (run_of p (suc n) next)
-        (record { left = run_keeps p (suc n) (Free None) next h; again = deeper (Free None) next h }) σ r s e
-    deeper MayEnter (Enter f args next) h σ r s l e = joined_again (call_of p (run_of p n) f args) (λ out τ. run_of p (suc n) (next out) τ)
-        (record { left = call_keeps p (run_of p n) (keeps_at n) f args; again = call_again n R f args })
-        (λ out. record { left = run_keeps p (suc n) (Free None) (next out) (h out); again = deeper (Free None) (next out) (h out) }) σ r s l e
-    deeper MayEnter (Ret out) h σ r s l e = absurd h
-    deeper MayEnter (Halt way) h σ r s l e = absurd h
-    deeper MayEnter (Do line act next) h σ r s l e = absurd h
-    deeper MayEnter (Sub part next) h σ r s l e = absurd h
-    deeper MayEnter (Line line next) h σ r s l e = absurd h
-
-  -- Each run of a tidy tree is the same again.
-  pub run_repeats : (n : ℕ) (m : Mode) (t : Tree) → Tidy m t → Repeats m (run_of p n t)
-  run_repeats zero m t h = record { left = run_keeps p zero m t h; again = λ σ r s l e. absurd (none_some e) }
-  run_repeats (suc n) m t h = record { left = run_keeps p (suc n) m t h; again = deeper n (λ t q. run_repeats n (Free None) t q) m t h }
+    pub call_again : {n f : ℕ} {args : List Value} {σ : State} {r : Result State Call} → RanCall p n f args σ r → IsSound σ → MayEnter σ
+        → InsideAgain n f args σ r
+    call_again (ways.Closed {n = n} {f = f} {args = args} {σ = σ} {y = y} c h) s m = λ from to τ v a k.
+        let b = frame_again h (sound_opened σ s m) from to (opened τ) v
+        (record { top = a.top; fresh = a.fresh; cells = a.cells; place = a.place; items = a.items })
+        (record {
+          itself = k.itself;
+          steps = k.steps;
+          calls = omega (arith, k.calls);
+          depth = shallow_suc σ.depth τ.depth (unmarked y.events) k.depth;
+        }) in
+        record {
+          run = record { end = b.run.end; after = closed τ.depth b.run.after; log = b.run.log; events = b.run.events };
+          is = ap (after_all (closed τ.depth)) b.is;
+          end = b.end;
+          log = b.log;
+          agree = record { top = b.agree.top; fresh = b.agree.fresh; cells = b.agree.cells; place = b.agree.place; items = b.agree.items };
+          step = record { steps = b.step.steps; calls = omega (arith, b.step.calls); depth = omega arith };
+        }

@@ -1,16 +1,15 @@
 -- What holds of the states of every run, and of the records of its calls.
 use Rattle.std.specs.Prelude.{◌≡◌, ◌<◌, ◌≤◌, ℕ, ◌+◌, List, [], Some, map, take, drop}
 use Rattle.std.specs.List.{All, slice_get}
-use Rattle.std.specs.Option.{IsSome}
-use Rattle.std.specs.FinMap.{get}
 use Rattle.cell_value.specs.declared.values.Value.{Value}
 use Rattle.cell_value.specs.Effects.{reads_of, changes_of, made_of, looked_of, taken_of, given_of}
 use Rattle.program_tables.specs.ProgramRows.{ProgramRows}
-use Rattle.program_meaning.specs.State.{State, IsSound, stack_end, most_calls, most_depth}
-use Rattle.program_meaning.specs.Acts.{Act, WriteCell, Done, Went, Stops, perform}
+use Rattle.program_meaning.specs.State.{State, IsSound, most_calls, most_depth}
+use Rattle.program_meaning.specs.Acts.{Act, Done, Went, Stops, perform}
 use Rattle.program_meaning.specs.Tree.{Part}
 use Rattle.program_meaning.specs.Layer.{layer}
 use Rattle.program_meaning.specs.Run.{Result, Call, Outcome, way_out, result_in, call_of, run_of, run, start}
+use Rattle.program_meaning.specs.Run.{depth_enough}
 use Rattle.program_meaning.specs.Apply.{apply}
 use Rattle.program_meaning.specs.Agree.{Agrees}
 use Rattle.program_meaning.specs.Replay.{Event, LineOf, ChildOf, Replaying, Replayed, body}
@@ -31,18 +30,13 @@ OfEachCall P = (p : ProgramRows) (input : List ℕ) (budget : ℕ) (r : Result S
 abbrev pub RunsBeginSound : Type 0
 RunsBeginSound = (input : List ℕ) (budget : ℕ) → IsSound (start input budget)
 
--- the cell that is to be written is there, if it is one of the heap
-abbrev pub MayBeDone : Act → State → Type 0
-MayBeDone (WriteCell addr value) σ = stack_end ≤ addr → IsSome (get σ.cells addr)
-MayBeDone act σ = Unit {0}
-
 abbrev pub IsSoundAfter : {A : Type 0} → Done A → Type 0
 IsSoundAfter (Went answer log after) = IsSound after
-IsSoundAfter (Stops why after) = IsSound after
+IsSoundAfter (Stops why log after) = IsSound after
 
--- each act keeps a sound state sound
+-- each act keeps a sound state sound, whether it is done or not
 abbrev pub ActsKeepSound : Type 0
-ActsKeepSound = (act : Act) (σ : State) → IsSound σ → MayBeDone act σ → IsSoundAfter (perform act σ)
+ActsKeepSound = (act : Act) (σ : State) → IsSound σ → IsSoundAfter (perform act σ)
 
 -- so does each part of a program, however deep parts and calls stand in one another
 abbrev pub PartsKeepSound : Type 0
@@ -78,9 +72,10 @@ pub record IsBody (number : ℕ) (c : Call) (below : List Call) (work : Replayed
   pub met : All (λ e. IsMet (number + 1) below e.event) run.events
   pub used : run.after.calls ≡ []
 
--- the own work of each call of each run, from the effects of the calls that it made
+-- the own work of each call of each run, from the effects of the calls that it made, at each depth that is enough
 abbrev pub BodiesRepeat : Type 0
-BodiesRepeat = OfEachCall (λ p number c below. (depth : ℕ) × IsBody number c below (body p depth c number below))
+BodiesRepeat = OfEachCall (λ p number c below. (depth : ℕ) → depth_enough p c.entry.steps ≤ depth
+    → IsBody number c below (body p depth c number below))
 
 -- ---- records in place of runs
 
@@ -98,7 +93,9 @@ pub record StandsFor (c : Call) (σ : State) (call : Outcome) : Type 0 where
   pub taken : taken_of run.log ≡ taken_of c.log
   pub given : given_of run.log ≡ given_of c.log
 
--- the record of each call of each run stands for the call from each sound state that agrees with it
+-- the record of each call of each run stands for the call from each sound state that agrees with it, at each depth
+-- that is enough
 abbrev pub RecordsStand : Type 0
 RecordsStand = OfEachCall (λ p number c below. (σ : State) → IsSound σ → Agrees c below σ
-    → (depth : ℕ) × StandsFor c σ (call_of p (run_of p depth) c.routine c.args σ))
+    → (depth : ℕ) → depth_enough p σ.steps ≤ depth
+    → StandsFor c σ (call_of p (run_of p depth) c.routine c.args σ))

@@ -1,29 +1,61 @@
 //! The forms of the language that are not built yet.
 
 ghost use Rattle.std.specs.Prelude.{◌≡◌, ◌<◌, length};
-ghost use Rattle.unbuilt.specs.Forms.{IsFirstUnbuilt, calls_required, is_routine_formal, is_unbuilt, is_unbuilt_kind};
-ghost use Rattle.unbuilt.specs.Forms.{is_unbuilt_row, is_unbuilt_word};
+ghost use Rattle.unbuilt.specs.Forms.{IsFirstUnbuilt, begins_set, calls_required, is_member_row, is_set_row};
+ghost use Rattle.unbuilt.specs.Forms.{is_unbuilt, is_unbuilt_kind, is_unbuilt_row, is_unbuilt_symbol, is_unbuilt_word};
 
 use pas_lexer::{Kind, Symbol, Tokens, Word};
 use program_tables::Program;
-use program_tables::rows::{ExpressionRow, NameRow, PartRow, Row, StatementRow};
+use program_tables::rows::{ExpressionRow, ItemRow, NameRow, PartRow, Row, StatementRow};
 
 fn is_unbuilt_word(word: Word) -> bool
     ensures { result ≡ is_unbuilt_word word }
 {
+    matches!(word, Word::WIn | Word::WNil | Word::WSet | Word::WWith)
+}
+
+fn is_member_row(row: Row) -> bool
+    ensures { result ≡ is_member_row row }
+{
     matches!(
-        word,
-        Word::WGoto | Word::WIn | Word::WLabel | Word::WNil | Word::WSet | Word::WWith
+        row,
+        Row::Item(ItemRow::Member { .. } | ItemRow::Members { .. })
     )
 }
 
-fn is_unbuilt_kind(kind: Kind, characters: usize) -> bool
-    ensures { result ≡ is_unbuilt_kind characters kind }
+fn is_set_row(row: Row) -> bool
+    ensures { result ≡ is_set_row row }
+{
+    matches!(row, Row::Expression(ExpressionRow::Set { .. }))
+}
+
+/// Whether a `[` begins a set constructor.
+fn begins_set(program: &Program, bracket: u32) -> bool
+    requires next { bracket < 4294967295 }
+    ensures { result ≡ begins_set program.now bracket }
+{
+    is_member_row(program.row(bracket)) || is_set_row(program.row(bracket + 1))
+}
+
+fn is_unbuilt_symbol(symbol: Symbol, program: &Program, number: u32) -> bool
+    requires next { number < 4294967295 }
+    ensures { result ≡ is_unbuilt_symbol program.now number symbol }
+{
+    match symbol {
+        Symbol::Caret => true,
+        Symbol::LeftBracket => begins_set(program, number),
+        _ => false,
+    }
+}
+
+fn is_unbuilt_kind(kind: Kind, program: &Program, number: u32) -> bool
+    requires next { number < 4294967295 }
+    ensures { result ≡ is_unbuilt_kind program.now number kind }
 {
     match kind {
         Kind::Word(word) => is_unbuilt_word(word),
-        Kind::Symbol(symbol) => symbol == Symbol::Caret,
-        Kind::Text => 1 < characters,
+        Kind::Symbol(symbol) => is_unbuilt_symbol(symbol, program, number),
+        Kind::Text => 1 < program.text(number).len(),
         _ => false,
     }
 }
@@ -42,20 +74,13 @@ fn calls_required(statement: StatementRow) -> bool
     )
 }
 
-fn is_routine_formal(row: Row) -> bool
-    ensures { result ≡ is_routine_formal row }
-{
-    matches!(row, Row::Name(NameRow::RoutineFormal { .. }))
-}
-
-fn is_unbuilt_row(program: &Program, row: Row) -> bool
-    ensures { result ≡ is_unbuilt_row program.now row }
+fn is_unbuilt_row(row: Row) -> bool
+    ensures { result ≡ is_unbuilt_row row }
 {
     match row {
         Row::Part(PartRow::Variants { .. }) => true,
-        Row::Part(PartRow::Heading { name, .. }) => is_routine_formal(program.row(name)),
         Row::Statement(statement) => calls_required(statement),
-        Row::Expression(ExpressionRow::Set { .. } | ExpressionRow::CompareTexts { .. }) => true,
+        Row::Expression(ExpressionRow::CompareTexts { .. }) => true,
         Row::Expression(ExpressionRow::Eof | ExpressionRow::Eoln) => true,
         Row::Name(NameRow::TextFile { .. }) => true,
         _ => false,
@@ -65,16 +90,23 @@ fn is_unbuilt_row(program: &Program, row: Row) -> bool
 /// Whether a token, or the construct that has its number, cannot be run yet.
 fn is_unbuilt(tokens: &Tokens, program: &Program, number: u32) -> bool
     requires inside { number < length tokens.now.tokens }
+    requires next { number < 4294967295 }
     ensures { result ≡ is_unbuilt tokens.now program.now number }
 {
-    is_unbuilt_kind(tokens.at(number).kind, program.text(number).len())
-        || is_unbuilt_row(program, program.row(number))
+    is_unbuilt_kind(tokens.at(number).kind, program, number) || is_unbuilt_row(program.row(number))
 }
 
-/// The first token of a program at which a form stands that cannot be run yet: the words `label`, `goto`, `set`, `in`,
-/// `with` and `nil`; the `case` of a variant part; `^`; the `[` of a set constructor; a string of two or more
-/// characters; the operator of a comparison of strings; the first word of a heading among parameters; a name that
-/// stands for a required procedure, eof, eoln, input or output. None where there is no such token.
+/// The first token of a checked program that cannot be run yet, and none where all can be run. Those tokens are:
+///
+/// - the words `set`, `in`, `with` and `nil`;
+/// - `^`, also written `@`;
+/// - a `[` that begins a set constructor;
+/// - a string of two or more characters;
+/// - `=`, `<>`, `<`, `>`, `<=` or `>=` between two strings;
+/// - the `case` of a variant part;
+/// - the name in a call of a required procedure;
+/// - the name of the required function eof or eoln, where it is called;
+/// - input or output among the program parameters.
 #[tactic(auto, using(crate::proofs::BuiltSoFar::built_more))]
 pub fn unbuilt(tokens: &Tokens, program: &Program) -> Option<u32>
     ensures first { IsFirstUnbuilt tokens.now program.now result }

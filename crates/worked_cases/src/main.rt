@@ -1,7 +1,7 @@
 //! Runs worked cases. A case is what is given to the command, and what has to come of it, and is held in files of
 //! a folder. The file `index` names the files of cases, each after the word for its kind: `command`, `sources`,
-//! `rules`, `runs`, `declarations` or `tables`. The program prints a line for each case and each difference in full,
-//! and fails where there is one.
+//! `rules`, `forms`, `declarations`, `tables` or `runs`. The program prints a line for each case, or for a file of
+//! them, and each difference in full, and fails where there is one.
 //!
 //! Its one argument is the folder, `.` where there is none.
 #![tactic(auto)]
@@ -13,6 +13,7 @@ mod escapes;
 mod folder;
 mod reading;
 mod running;
+mod runs;
 mod sections;
 mod sources;
 
@@ -21,6 +22,7 @@ use comparing::differences;
 use declared::try_tables;
 use folder::Folder;
 use reading::read_cases;
+use runs::try_runs;
 use sources::{Judge, Judged, try_sources};
 use std::io::{self, Write};
 use std::process::ExitCode;
@@ -88,9 +90,10 @@ fn try_file<R: Files + AllocGlobal + Print>(
         "command" => return try_cases(rt, folder, name, tally),
         "sources" => try_sources(rt, folder, name, Judge::Grammar)?,
         "rules" => try_sources(rt, folder, name, Judge::Rules)?,
-        "runs" => try_sources(rt, folder, name, Judge::Runs)?,
+        "forms" => try_sources(rt, folder, name, Judge::Forms)?,
         "declarations" => try_sources(rt, folder, name, Judge::Declarations)?,
         "tables" => try_tables(rt, folder, name)?,
+        "runs" => try_runs(rt, folder, name)?,
         _ => bail!("the index: {kind} {name}"),
     };
     report_rows(rt, name, &judged, tally)

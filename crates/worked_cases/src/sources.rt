@@ -39,8 +39,8 @@ pub(crate) enum Judge {
     Grammar,
     /// The command, with the static rules.
     Rules,
-    /// The command, with what can be run.
-    Runs,
+    /// The command, with the forms that can be run.
+    Forms,
     /// The check of its declarations alone.
     Declarations,
 }
@@ -148,7 +148,7 @@ fn difference(alloc: Global, judge: Judge, row: Row) -> Result<Vec<u8>> {
     match judge {
         Judge::Grammar if row.why.as_str() == "taken" => taken_difference(alloc, &row, false),
         Judge::Rules if row.why.as_str() == "taken" => taken_difference(alloc, &row, true),
-        Judge::Grammar | Judge::Rules | Judge::Runs => differences(
+        Judge::Grammar | Judge::Rules | Judge::Forms => differences(
             alloc,
             &command_case(alloc, row)?,
         ),

@@ -1,6 +1,11 @@
 use Rattle.evaluator.specs.declared.tasks.Way.TheVariants as way
-use Rattle.evaluator.specs.Rest.{from_under}
-use Rattle.std.proofs.Common.{ap}
+use Rattle.evaluator.specs.Rest.{from_under, at_work, resume, top_list, below, tasks_of, values_of, lists_of, values_below, lists_below}
+use Rattle.evaluator.specs.Weight.{task_weight}
+use Rattle.evaluator.specs.declared.tasks.Task.TheVariants as tasks
+use Rattle.evaluator.proofs.StatementsByRow.{statement_ended}
+use Rattle.evaluator.proofs.StepsFall.{falls_so}
+use Rattle.std.proofs.Common.{◌∷◌, sym, ap, ◌∙◌, sum_by, reverse, arith}
+use Rattle.program_meaning.specs.Tree.{bind}
 use Rattle.evaluator.specs.declared.tasks.Now.TheVariants.{Came}
 use Rattle.evaluator.proofs.Turning.{turns_same}
 use Rattle.evaluator.proofs.body.Body.after_cells.Goals as goal
@@ -12,3 +17,22 @@ returns-in-Actual-clause-turns c = turns_same c.args.program.now _ _ _ _ c.actua
 pub returns-in-Target-clause-turns : goal.returns-in-Target-clause-turns
 returns-in-Target-clause-turns c = turns_same c.args.program.now _ _ _ _ c.target_cells.result c.target_cells.new.self
     (ap (from_under c.args.program.now c.args.self.now (Came way.Cells)) c.in-Target.is) (c.target_cells.ensures.turns _)
+
+pub returns-in-Next-clause-turns : goal.returns-in-Next-clause-turns
+returns-in-Next-clause-turns c =
+    let p = c.args.program.now in
+    let a = c.args.self.now in
+    let t = tasks.Next c.in-Next.next in
+    let b = c.drop_list.ensures in
+    turns_same p _ _ _ _ c.next.result c.next.new.self
+    (ap (from_under p a (Came way.Cells)) c.in-Next.is
+    ∙ ap (λ x. bind x (resume p a.home (tasks_of a) (values_below t (values_of a)) (lists_below t (below (lists_of a)))))
+    ((statement_ended p a.home c.in-Next.next (values_of a)).cells (top_list (lists_of a)))
+    ∙ sym (λ i. at_work p (b.home i) (Came way.Nothing) (t ∷ reverse (b.tasks i)) (reverse (b.values i)) (b.lists i)))
+    c.next.ensures.turns
+
+pub returns-in-Next-clause-falls : goal.returns-in-Next-clause-falls
+returns-in-Next-clause-falls c =
+    let k = ap (sum_by task_weight) c.drop_list.ensures.tasks in
+    let e = ap task_weight c.in-Next.is in
+    falls_so c.next.result _ _ _ _ (λ h. omega (arith, h, k, e)) c.next.ensures.falls

@@ -6,7 +6,7 @@ use Rattle.evaluator.proofs.body.Body.begin.Goals as goal
 
 pub returns-in-Pass-clause-turns : goal.returns-in-Pass-clause-turns
 returns-in-Pass-clause-turns c = turns_same c.args.program.now _ _ _ _ c.pass.result c.pass.new.self
-    (ap (λ q. from c.args.program.now c.args.self.now (Begin q)) c.in-Pass.is) (c.pass.ensures.turns _)
+    (ap (λ q. from c.args.program.now c.args.self.now (Begin q)) c.in-Pass.is) c.pass.ensures.turns
 
 pub returns-in-Sequence-clause-turns : goal.returns-in-Sequence-clause-turns
 returns-in-Sequence-clause-turns c = turns_same c.args.program.now _ _ _ _ c.sequence.result c.sequence.new.self

@@ -1,20 +1,17 @@
 use Rattle.std.proofs.Common.{◌∷◌, sym, ap, ◌∙◌}
 use Rattle.evaluator.specs.Rest.{tasks_of, values_of, lists_of, at_work}
 use Rattle.evaluator.specs.declared.tasks.Now.TheVariants.{Begin}
-use Rattle.evaluator.specs.declared.tasks.Task.TheVariants as tasks
 use Rattle.evaluator.specs.declared.tasks.Part.TheVariants as part
 use Rattle.evaluator.proofs.Moves.{comes_same}
 use Rattle.evaluator.proofs.Turning.{reverse_pushed}
 use Rattle.evaluator.proofs.body.Body.begin_call.Goals as goal
 
 pub returns-clause-turns : goal.returns-clause-turns
-returns-clause-turns c m =
-    let p = c.args.program.now in
+returns-clause-turns c p m =
     let a = c.args.self.now in
-    let t = tasks.Call c.args.procedure c.args.routine c.args.levels c.args.line in
+    let now = Begin (part.Pass c.args.actuals c.args.line) in
     comes_same (sym (
-    ap (λ ts. at_work p a.home (Begin (part.Pass c.args.actuals c.args.line)) ts (values_of a) (lists_of (record a { lists = c.push.new.self })))
-    (reverse_pushed a.tasks.items _ t c.in_ok-push-2.ensures.items)
-    ∙ ap (λ ls. at_work p a.home (Begin (part.Pass c.args.actuals c.args.line)) (t ∷ tasks_of a) (values_of a) ls)
-    (reverse_pushed a.lists.items _ _ c.in_ok-push.ensures.items)
-    ∙ ap (λ l. at_work p a.home (Begin (part.Pass c.args.actuals c.args.line)) (t ∷ tasks_of a) (values_of a) (l ∷ lists_of a)) c.new.ensures))
+    ap (λ ts. at_work p a.home now ts (values_of a) (lists_of (record a { lists = c.push.new.self })))
+    (reverse_pushed a.tasks.items _ c.args.task c.in_ok-push-2.ensures.items)
+    ∙ ap (λ ls. at_work p a.home now (c.args.task ∷ tasks_of a) (values_of a) ls) (reverse_pushed a.lists.items _ _ c.in_ok-push.ensures.items)
+    ∙ ap (λ l. at_work p a.home now (c.args.task ∷ tasks_of a) (values_of a) (l ∷ lists_of a)) c.new.ensures))

@@ -4,7 +4,7 @@ use Rattle.program_meaning.specs.Tree.{bind}
 use Rattle.program_meaning.specs.Accesses.{eval}
 use Rattle.program_meaning.specs.Statements as meaning
 use Rattle.evaluator.specs.Rest.{here, waiting}
-use Rattle.evaluator.specs.Counting.{turns_in}
+use Rattle.eval_rules.specs.Counting.{turns_in}
 use Rattle.evaluator.proofs.StatementsByRow.{with_turns, bounds_by}
 use Rattle.evaluator.proofs.StepsFall.{falls_so}
 use Rattle.evaluator.proofs.Turning.{turns_same}

@@ -26,7 +26,7 @@ returns-in-Ok-clause-turns c =
     turns_after p _ _ _ _ _ c.go.result c.go.new.self
     (comes_then (part_comes p (Body home.routine home.base) (waiting p c.args.self.now) (moment_of c.args.machine.now) (of_body home.base (Some r))
     (ap (of_body home.base) h))
-    (spent p (here home r.line) (Sub (Sequence r.statements (here home r.line)) Ret) (waiting p c.args.self.now) (moment_of c.args.machine.now)
+    (spent p (here home r.line) (Sub (Sequence r.statements r.statements (here home r.line)) Ret) (waiting p c.args.self.now) (moment_of c.args.machine.now)
     (moment_of c.spend.new.machine) c.in-Ok.ensures.act))
     (c.go.ensures.turns p _)
 
@@ -40,6 +40,6 @@ returns-in-Err-clause-turns c =
     (fails_after p _ _ _ _ _ r.line c.in-Err.halt
     (part_comes p (Body home.routine home.base) (waiting p c.args.self.now) (moment_of c.args.machine.now) (of_body home.base (Some r))
     (ap (of_body home.base) h))
-    (not_spent p (here home r.line) (Sub (Sequence r.statements (here home r.line)) Ret) (waiting p c.args.self.now) c.in-Err.halt
+    (not_spent p (here home r.line) (Sub (Sequence r.statements r.statements (here home r.line)) Ret) (waiting p c.args.self.now) c.in-Err.halt
     (moment_of c.args.machine.now)
     (moment_of c.spend.new.machine) c.in-Err.ensures.act))

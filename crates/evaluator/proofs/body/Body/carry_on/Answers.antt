@@ -1,113 +1,58 @@
 use Rattle.std.proofs.Common.{ap, arith}
 use Rattle.program_meaning.specs.Tree.{bind}
-use Rattle.program_meaning.specs.Statements as meaning
-use Rattle.evaluator.specs.Rest.{waiting, carry_with}
+use Rattle.eval_ops.specs.Machines.{moment_of}
+use Rattle.evaluator.specs.Rest.{waiting}
 use Rattle.evaluator.proofs.StatementsByRow.{other_carried}
 use Rattle.evaluator.proofs.StepsFall.{falls_so}
 use Rattle.evaluator.proofs.Turning.{turns_same}
 use Rattle.evaluator.proofs.body.Body.carry_on.Goals as goal
 
 pub returns-in-Assign-clause-turns : goal.returns-in-Assign-clause-turns
-returns-in-Assign-clause-turns c m =
-    let p = c.args.program.now in
-    let rest = waiting p c.args.self.now in
-    turns_same p _ _ m m c.wait.result c.wait.new.self
-    (ap (λ s. bind (carry_with p c.args.self.now.home c.args.row s (meaning.line_of s)) rest) c.in-Assign.is)
-    (c.wait.ensures.turns p m)
+returns-in-Assign-clause-turns c = rw c.in-Assign.is (c.wait.ensures.turns c.args.program.now (moment_of c.args.machine.now))
 
 pub returns-in-Assign-clause-falls : goal.returns-in-Assign-clause-falls
-returns-in-Assign-clause-falls c =
-    falls_so c.wait.result _ _ _ _ (λ h. omega (arith, h)) c.wait.ensures.falls
+returns-in-Assign-clause-falls c = falls_so c.wait.result _ _ _ _ (λ h. omega (arith, h)) c.wait.ensures.falls
 
 pub returns-in-Call-clause-turns : goal.returns-in-Call-clause-turns
-returns-in-Call-clause-turns c m =
-    let p = c.args.program.now in
-    let rest = waiting p c.args.self.now in
-    turns_same p _ _ m m c.begin_call.result c.begin_call.new.self
-    (ap (λ s. bind (carry_with p c.args.self.now.home c.args.row s (meaning.line_of s)) rest) c.in-Call.is)
-    (c.begin_call.ensures.turns m)
+returns-in-Call-clause-turns c = rw c.in-Call.is (c.begin_call.ensures.turns c.args.program.now (moment_of c.args.machine.now))
 
 pub returns-in-Call-clause-falls : goal.returns-in-Call-clause-falls
-returns-in-Call-clause-falls c =
-    falls_so c.begin_call.result _ _ _ _ (λ h. omega (arith, h)) c.begin_call.ensures.falls
+returns-in-Call-clause-falls c = falls_so c.begin_call.result _ _ _ _ (λ h. omega (arith, h)) c.begin_call.ensures.falls
 
 pub returns-in-If-clause-turns : goal.returns-in-If-clause-turns
-returns-in-If-clause-turns c m =
-    let p = c.args.program.now in
-    let rest = waiting p c.args.self.now in
-    turns_same p _ _ m m c.by_value.result c.by_value.new.self
-    (ap (λ s. bind (carry_with p c.args.self.now.home c.args.row s (meaning.line_of s)) rest) c.in-If.is)
-    (c.by_value.ensures.turns p m)
-
-pub returns-in-If-clause-falls : goal.returns-in-If-clause-falls
-returns-in-If-clause-falls c =
-    falls_so c.by_value.result _ _ _ _ (λ h. omega (arith, h)) c.by_value.ensures.falls
+returns-in-If-clause-turns c = rw c.in-If.is (rw c.in-If.is at c.conditional.ensures.turns c.args.program.now c.args.row (moment_of c.args.machine.now))
 
 pub returns-in-IfElse-clause-turns : goal.returns-in-IfElse-clause-turns
-returns-in-IfElse-clause-turns c m =
-    let p = c.args.program.now in
-    let rest = waiting p c.args.self.now in
-    turns_same p _ _ m m c.by_value-in-IfElse.result c.by_value-in-IfElse.new.self
-    (ap (λ s. bind (carry_with p c.args.self.now.home c.args.row s (meaning.line_of s)) rest) c.in-IfElse.is)
-    (c.by_value-in-IfElse.ensures.turns p m)
-
-pub returns-in-IfElse-clause-falls : goal.returns-in-IfElse-clause-falls
-returns-in-IfElse-clause-falls c =
-    falls_so c.by_value-in-IfElse.result _ _ _ _ (λ h. omega (arith, h)) c.by_value-in-IfElse.ensures.falls
+returns-in-IfElse-clause-turns c = rw c.in-IfElse.is (rw c.in-IfElse.is at c.conditional-in-IfElse.ensures.turns c.args.program.now c.args.row
+    (moment_of c.args.machine.now))
 
 pub returns-in-Case-clause-turns : goal.returns-in-Case-clause-turns
-returns-in-Case-clause-turns c m =
-    let p = c.args.program.now in
-    let rest = waiting p c.args.self.now in
-    turns_same p _ _ m m c.by_value-in-Case.result c.by_value-in-Case.new.self
-    (ap (λ s. bind (carry_with p c.args.self.now.home c.args.row s (meaning.line_of s)) rest) c.in-Case.is)
-    (c.by_value-in-Case.ensures.turns p m)
-
-pub returns-in-Case-clause-falls : goal.returns-in-Case-clause-falls
-returns-in-Case-clause-falls c =
-    falls_so c.by_value-in-Case.result _ _ _ _ (λ h. omega (arith, h)) c.by_value-in-Case.ensures.falls
+returns-in-Case-clause-turns c = rw c.in-Case.is (rw c.in-Case.is at c.conditional-in-Case.ensures.turns c.args.program.now c.args.row
+    (moment_of c.args.machine.now))
 
 pub returns-in-Repeat-clause-turns : goal.returns-in-Repeat-clause-turns
-returns-in-Repeat-clause-turns c m =
-    let p = c.args.program.now in
-    let rest = waiting p c.args.self.now in
-    turns_same p _ _ m m c.go.result c.go.new.self
-    (ap (λ s. bind (carry_with p c.args.self.now.home c.args.row s (meaning.line_of s)) rest) c.in-Repeat.is)
-    (c.go.ensures.turns p m)
+returns-in-Repeat-clause-turns c = rw c.in-Repeat.is (c.go.ensures.turns c.args.program.now (moment_of c.args.machine.now))
 
 pub returns-in-Repeat-clause-falls : goal.returns-in-Repeat-clause-falls
-returns-in-Repeat-clause-falls c =
-    falls_so c.go.result _ _ _ _ (λ h. omega (arith, h)) c.go.ensures.falls
+returns-in-Repeat-clause-falls c = falls_so c.go.result _ _ _ _ (λ h. omega (arith, h)) c.go.ensures.falls
 
 pub returns-in-While-clause-turns : goal.returns-in-While-clause-turns
-returns-in-While-clause-turns c m =
-    let p = c.args.program.now in
-    let rest = waiting p c.args.self.now in
-    turns_same p _ _ m m c.go-in-While.result c.go-in-While.new.self
-    (ap (λ s. bind (carry_with p c.args.self.now.home c.args.row s (meaning.line_of s)) rest) c.in-While.is)
-    (c.go-in-While.ensures.turns p m)
+returns-in-While-clause-turns c = rw c.in-While.is (c.go-in-While.ensures.turns c.args.program.now (moment_of c.args.machine.now))
 
 pub returns-in-While-clause-falls : goal.returns-in-While-clause-falls
-returns-in-While-clause-falls c =
-    falls_so c.go-in-While.result _ _ _ _ (λ h. omega (arith, h)) c.go-in-While.ensures.falls
+returns-in-While-clause-falls c = falls_so c.go-in-While.result _ _ _ _ (λ h. omega (arith, h)) c.go-in-While.ensures.falls
 
 pub returns-in-For-clause-turns : goal.returns-in-For-clause-turns
-returns-in-For-clause-turns c m =
-    let p = c.args.program.now in
-    let rest = waiting p c.args.self.now in
-    turns_same p _ _ m m c.begin_for.result c.begin_for.new.self
-    (ap (λ s. bind (carry_with p c.args.self.now.home c.args.row s (meaning.line_of s)) rest) c.in-For.is)
-    (c.begin_for.ensures.turns m)
+returns-in-For-clause-turns c = rw c.in-For.is (c.begin_for.ensures.turns (moment_of c.args.machine.now))
 
 pub returns-in-For-clause-falls : goal.returns-in-For-clause-falls
-returns-in-For-clause-falls c =
-    falls_so c.begin_for.result _ _ _ _ (λ h. omega (arith, h)) c.begin_for.ensures.falls
+returns-in-For-clause-falls c = falls_so c.begin_for.result _ _ _ _ (λ h. omega (arith, h)) c.begin_for.ensures.falls
 
 pub returns-in_default-clause-turns : goal.returns-in_default-clause-turns
-returns-in_default-clause-turns c m =
+returns-in_default-clause-turns c =
     let p = c.args.program.now in
     let rest = waiting p c.args.self.now in
-    turns_same p _ _ m m c.no_row.result c.no_row.new.self
+    turns_same p _ _ (moment_of c.args.machine.now) (moment_of c.args.machine.now) c.no_row.result c.no_row.new.self
     (ap (λ t. bind t rest) (other_carried p c.args.self.now.home c.args.row c.args.statement (record {
       assign = c.in_default.not-Assign;
       call = c.in_default.not-Call;
@@ -117,9 +62,24 @@ returns-in_default-clause-turns c m =
       repeat = c.in_default.not-Repeat;
       while = c.in_default.not-While;
       for' = c.in_default.not-For;
+      call_formal = c.in_default.not-CallFormal;
+      goto = c.in_default.not-Goto;
     })))
-    (c.no_row.ensures.turns p m)
+    (c.no_row.ensures.turns p _)
 
 pub returns-in_default-clause-falls : goal.returns-in_default-clause-falls
-returns-in_default-clause-falls c =
-    falls_so c.no_row.result _ _ _ _ (λ h. omega (arith, h)) c.no_row.ensures.falls
+returns-in_default-clause-falls c = falls_so c.no_row.result _ _ _ _ (λ h. omega (arith, h)) c.no_row.ensures.falls
+
+pub returns-in-CallFormal-clause-turns : goal.returns-in-CallFormal-clause-turns
+returns-in-CallFormal-clause-turns c =
+    rw c.in-CallFormal.is (c.begin_call-in-CallFormal.ensures.turns c.args.program.now (moment_of c.args.machine.now))
+
+pub returns-in-CallFormal-clause-falls : goal.returns-in-CallFormal-clause-falls
+returns-in-CallFormal-clause-falls c =
+    falls_so c.begin_call-in-CallFormal.result _ _ _ _ (λ h. omega (arith, h)) c.begin_call-in-CallFormal.ensures.falls
+
+pub returns-in-Goto-clause-turns : goal.returns-in-Goto-clause-turns
+returns-in-Goto-clause-turns c = rw c.in-Goto.is (c.jump.ensures.turns c.args.program.now)
+
+pub returns-in-Goto-clause-falls : goal.returns-in-Goto-clause-falls
+returns-in-Goto-clause-falls c = falls_so c.jump.result _ _ _ _ (λ h. omega (arith, h)) c.jump.ensures.falls

@@ -1,6 +1,6 @@
 use Rattle.std.proofs.Common.{ap, ◌∙◌, refl, arith}
 use Rattle.program_meaning.specs.Tree.{bind}
-use Rattle.evaluator.specs.Choices.{case_tree}
+use Rattle.eval_rules.specs.Choices.{case_tree}
 use Rattle.evaluator.specs.Rest.{here, waiting}
 use Rattle.cell_value.specs.declared.ways_out.Kind.TheVariants as kinds
 use Rattle.eval_ops.specs.declared.halt.Halt.TheVariants as halts

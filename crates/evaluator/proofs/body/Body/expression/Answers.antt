@@ -18,35 +18,25 @@ returns-in-Constant-clause-turns c m = turns_same c.args.program.now _ _ m m c.g
     (c.go.ensures.turns c.args.program.now m)
 
 pub returns-in-Sign-clause-turns : goal.returns-in-Sign-clause-turns
-returns-in-Sign-clause-turns c m = turns_same c.args.program.now _ _ m m c.wait.result c.wait.new.self
-    (ap (λ e. bind (of_expression c.args.program.now (here c.args.self.now.home c.args.line) e) (waiting c.args.program.now c.args.self.now)) c.in-Sign.is)
-    (c.wait.ensures.turns c.args.program.now m)
+returns-in-Sign-clause-turns c m = rw c.in-Sign.is (c.wait.ensures.turns c.args.program.now m)
 
 pub returns-in-Not-clause-turns : goal.returns-in-Not-clause-turns
-returns-in-Not-clause-turns c m = turns_same c.args.program.now _ _ m m c.wait-in-Not.result c.wait-in-Not.new.self
-    (ap (λ e. bind (of_expression c.args.program.now (here c.args.self.now.home c.args.line) e) (waiting c.args.program.now c.args.self.now)) c.in-Not.is)
-    (c.wait-in-Not.ensures.turns c.args.program.now m)
+returns-in-Not-clause-turns c m = rw c.in-Not.is (c.wait-in-Not.ensures.turns c.args.program.now m)
 
 pub returns-in-Arithmetic-clause-turns : goal.returns-in-Arithmetic-clause-turns
-returns-in-Arithmetic-clause-turns c m = turns_same c.args.program.now _ _ m m c.wait-in-Arithmetic.result c.wait-in-Arithmetic.new.self
-    (ap (λ e. bind (of_expression c.args.program.now (here c.args.self.now.home c.args.line) e) (waiting c.args.program.now c.args.self.now))
-    c.in-Arithmetic.is)
-    (c.wait-in-Arithmetic.ensures.turns c.args.program.now m)
+returns-in-Arithmetic-clause-turns c m = rw c.in-Arithmetic.is (rw c.in-Arithmetic.is at c.dyadic.ensures.turns c.args.program.now m)
 
 pub returns-in-Logic-clause-turns : goal.returns-in-Logic-clause-turns
-returns-in-Logic-clause-turns c m = turns_same c.args.program.now _ _ m m c.wait-in-Logic.result c.wait-in-Logic.new.self
-    (ap (λ e. bind (of_expression c.args.program.now (here c.args.self.now.home c.args.line) e) (waiting c.args.program.now c.args.self.now)) c.in-Logic.is)
-    (c.wait-in-Logic.ensures.turns c.args.program.now m)
+returns-in-Logic-clause-turns c m = rw c.in-Logic.is (rw c.in-Logic.is at c.dyadic-in-Logic.ensures.turns c.args.program.now m)
 
 pub returns-in-Compare-clause-turns : goal.returns-in-Compare-clause-turns
-returns-in-Compare-clause-turns c m = turns_same c.args.program.now _ _ m m c.wait-in-Compare.result c.wait-in-Compare.new.self
-    (ap (λ e. bind (of_expression c.args.program.now (here c.args.self.now.home c.args.line) e) (waiting c.args.program.now c.args.self.now)) c.in-Compare.is)
-    (c.wait-in-Compare.ensures.turns c.args.program.now m)
+returns-in-Compare-clause-turns c m = rw c.in-Compare.is (rw c.in-Compare.is at c.dyadic-in-Compare.ensures.turns c.args.program.now m)
 
 pub returns-in-Apply-clause-turns : goal.returns-in-Apply-clause-turns
-returns-in-Apply-clause-turns c m = turns_same c.args.program.now _ _ m m c.begin_call.result c.begin_call.new.self
-    (ap (λ e. bind (of_expression c.args.program.now (here c.args.self.now.home c.args.line) e) (waiting c.args.program.now c.args.self.now)) c.in-Apply.is)
-    (c.begin_call.ensures.turns m)
+returns-in-Apply-clause-turns c m = rw c.in-Apply.is (c.begin_call.ensures.turns c.args.program.now m)
+
+pub returns-in-ApplyFormal-clause-turns : goal.returns-in-ApplyFormal-clause-turns
+returns-in-ApplyFormal-clause-turns c m = rw c.in-ApplyFormal.is (c.begin_call-in-ApplyFormal.ensures.turns c.args.program.now m)
 
 pub returns-in-Function-clause-turns : goal.returns-in-Function-clause-turns
 returns-in-Function-clause-turns c m =

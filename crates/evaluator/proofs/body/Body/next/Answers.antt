@@ -13,11 +13,7 @@ use Rattle.evaluator.proofs.Turning.{turns_same}
 use Rattle.evaluator.proofs.body.Body.next.Goals as goal
 
 pub returns-in-Sequence-clause-turns : goal.returns-in-Sequence-clause-turns
-returns-in-Sequence-clause-turns c =
-    let p = c.args.program.now in
-    turns_same p _ _ (moment_of c.args.machine.now) (moment_of c.args.machine.now) c.go.result c.go.new.self
-    (ap (λ t. from_under p c.args.self.now (Came way.Nothing) (tasks.Next t)) c.in-Sequence.is)
-    (c.go.ensures.turns p _)
+returns-in-Sequence-clause-turns c = rw c.in-Sequence.is (c.go.ensures.turns c.args.program.now (moment_of c.args.machine.now))
 
 pub returns-in-Sequence-clause-falls : goal.returns-in-Sequence-clause-falls
 returns-in-Sequence-clause-falls c =
@@ -25,11 +21,7 @@ returns-in-Sequence-clause-falls c =
     falls_so c.go.result _ _ _ _ (λ h. omega (arith, h, e)) c.go.ensures.falls
 
 pub returns-in-Again-clause-turns : goal.returns-in-Again-clause-turns
-returns-in-Again-clause-turns c =
-    let p = c.args.program.now in
-    turns_same p _ _ (moment_of c.args.machine.now) (moment_of c.args.machine.now) c.go-in-Again.result c.go-in-Again.new.self
-    (ap (λ t. from_under p c.args.self.now (Came way.Nothing) (tasks.Next t)) c.in-Again.is)
-    (c.go-in-Again.ensures.turns p _)
+returns-in-Again-clause-turns c = rw c.in-Again.is (c.go-in-Again.ensures.turns c.args.program.now (moment_of c.args.machine.now))
 
 pub returns-in-Again-clause-falls : goal.returns-in-Again-clause-falls
 returns-in-Again-clause-falls c =
@@ -37,11 +29,7 @@ returns-in-Again-clause-falls c =
     falls_so c.go-in-Again.result _ _ _ _ (λ h. omega (arith, h, e)) c.go-in-Again.ensures.falls
 
 pub returns-in-Condition-clause-turns : goal.returns-in-Condition-clause-turns
-returns-in-Condition-clause-turns c =
-    let p = c.args.program.now in
-    turns_same p _ _ (moment_of c.args.machine.now) (moment_of c.args.machine.now) c.by_value.result c.by_value.new.self
-    (ap (λ t. from_under p c.args.self.now (Came way.Nothing) (tasks.Next t)) c.in-Condition.is)
-    (c.by_value.ensures.turns p _)
+returns-in-Condition-clause-turns c = rw c.in-Condition.is (c.by_value.ensures.turns c.args.program.now (moment_of c.args.machine.now))
 
 pub returns-in-Condition-clause-falls : goal.returns-in-Condition-clause-falls
 returns-in-Condition-clause-falls c =
@@ -82,13 +70,17 @@ returns-in-Counted-clause-falls c =
     falls_so c.turn_ended.result _ _ _ _ (λ h. omega (arith, h, e, k, l)) c.turn_ended.ensures.falls
 
 pub returns-in-Forget-clause-turns : goal.returns-in-Forget-clause-turns
-returns-in-Forget-clause-turns c =
-    let p = c.args.program.now in
-    turns_same p _ _ (moment_of c.args.machine.now) (moment_of c.args.machine.now) c.go-in-Forget.result c.go-in-Forget.new.self
-    (ap (λ t. from_under p c.args.self.now (Came way.Nothing) (tasks.Next t)) c.in-Forget.is)
-    (c.go-in-Forget.ensures.turns p _)
+returns-in-Forget-clause-turns c = rw c.in-Forget.is (c.go-in-Forget.ensures.turns c.args.program.now (moment_of c.args.machine.now))
 
 pub returns-in-Forget-clause-falls : goal.returns-in-Forget-clause-falls
 returns-in-Forget-clause-falls c =
     let e : task_weight (tasks.Next c.args.next) ≡ 1 = ap (λ t. task_weight (tasks.Next t)) c.in-Forget.is in
     falls_so c.go-in-Forget.result _ _ _ _ (λ h. omega (arith, h, e)) c.go-in-Forget.ensures.falls
+
+pub returns-in-Labelled-clause-turns : goal.returns-in-Labelled-clause-turns
+returns-in-Labelled-clause-turns c = rw c.in-Labelled.is (c.go-in-Labelled.ensures.turns c.args.program.now (moment_of c.args.machine.now))
+
+pub returns-in-Labelled-clause-falls : goal.returns-in-Labelled-clause-falls
+returns-in-Labelled-clause-falls c =
+    let e : task_weight (tasks.Next c.args.next) ≡ 1 = ap (λ t. task_weight (tasks.Next t)) c.in-Labelled.is in
+    falls_so c.go-in-Labelled.result _ _ _ _ (λ h. omega (arith, h, e)) c.go-in-Labelled.ensures.falls

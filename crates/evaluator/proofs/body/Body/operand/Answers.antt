@@ -28,22 +28,14 @@ returns-in-Not-clause-turns c m =
     (c.go.ensures.turns c.args.program.now m)
 
 pub returns-in-ArithmeticRight-clause-turns : goal.returns-in-ArithmeticRight-clause-turns
-returns-in-ArithmeticRight-clause-turns c m =
-    turns_same c.args.program.now _ _ m m c.hold.result c.hold.new.self (ap (λ t. resume c.args.program.now c.args.self.now.home
-    (tasks.Operand t ∷ tasks_of c.args.self.now) (values_of c.args.self.now) (lists_of c.args.self.now) (Scalar c.args.value))
-    c.in-ArithmeticRight.is) (c.hold.ensures.turns c.args.program.now m)
+returns-in-ArithmeticRight-clause-turns c m = rw c.in-ArithmeticRight.is (rw c.in-ArithmeticRight.is at c.left_operand.ensures.turns c.args.program.now m)
 
 pub returns-in-LogicRight-clause-turns : goal.returns-in-LogicRight-clause-turns
-returns-in-LogicRight-clause-turns c m =
-    turns_same c.args.program.now _ _ m m c.hold-in-LogicRight.result c.hold-in-LogicRight.new.self
-    (ap (λ t. resume c.args.program.now c.args.self.now.home (tasks.Operand t ∷ tasks_of c.args.self.now) (values_of c.args.self.now)
-    (lists_of c.args.self.now) (Scalar c.args.value)) c.in-LogicRight.is) (c.hold-in-LogicRight.ensures.turns c.args.program.now m)
+returns-in-LogicRight-clause-turns c m = rw c.in-LogicRight.is (rw c.in-LogicRight.is at c.left_operand-in-LogicRight.ensures.turns c.args.program.now m)
 
 pub returns-in-CompareRight-clause-turns : goal.returns-in-CompareRight-clause-turns
 returns-in-CompareRight-clause-turns c m =
-    turns_same c.args.program.now _ _ m m c.hold-in-CompareRight.result c.hold-in-CompareRight.new.self
-    (ap (λ t. resume c.args.program.now c.args.self.now.home (tasks.Operand t ∷ tasks_of c.args.self.now) (values_of c.args.self.now)
-    (lists_of c.args.self.now) (Scalar c.args.value)) c.in-CompareRight.is) (c.hold-in-CompareRight.ensures.turns c.args.program.now m)
+    rw c.in-CompareRight.is (rw c.in-CompareRight.is at c.left_operand-in-CompareRight.ensures.turns c.args.program.now m)
 
 pub returns-in-Arithmetic-clause-turns : goal.returns-in-Arithmetic-clause-turns
 returns-in-Arithmetic-clause-turns c m =

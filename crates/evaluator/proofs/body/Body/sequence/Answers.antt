@@ -2,7 +2,7 @@ use Rattle.std.proofs.Common.{◌≡◌, Some, None, ap, ◌∙◌, arith}
 use Rattle.program_tables.specs.ProgramRows.{row_at}
 use Rattle.program_meaning.specs.Tree.{Sequence}
 use Rattle.evaluator.specs.Rest.{here, waiting}
-use Rattle.evaluator.specs.Items.{element_in}
+use Rattle.eval_rules.specs.Items.{element_in}
 use Rattle.evaluator.proofs.StatementsByRow.{in_sequence, sequence_by}
 use Rattle.evaluator.proofs.StepsFall.{falls_so}
 use Rattle.evaluator.proofs.Turning.{part_comes, turns_after}
@@ -14,8 +14,8 @@ returns-in-Some-clause-turns c m =
     let h = here c.args.self.now.home c.args.line in
     let rest = waiting p c.args.self.now in
     turns_after p _ _ m m m c.wait.result c.wait.new.self
-    (part_comes p (Sequence c.args.at h) rest m _ (sequence_by h (row_at p c.args.at)
-    ∙ ap (in_sequence h) (let e : element_in (row_at p c.args.at) ≡ Some (c.in-Some.item, c.in-Some.next) = cc in e)))
+    (part_comes p (Sequence c.args.first c.args.at h) rest m _ (sequence_by p h c.args.first (row_at p c.args.at)
+    ∙ ap (in_sequence p h c.args.first) (let e : element_in (row_at p c.args.at) ≡ Some (c.in-Some.item, c.in-Some.next) = cc in e)))
     (c.wait.ensures.turns p m)
 
 pub returns-in-Some-clause-falls : goal.returns-in-Some-clause-falls
@@ -28,8 +28,8 @@ returns-in-None-clause-turns c m =
     let h = here c.args.self.now.home c.args.line in
     let rest = waiting p c.args.self.now in
     turns_after p _ _ m m m c.go.result c.go.new.self
-    (part_comes p (Sequence c.args.at h) rest m _ (sequence_by h (row_at p c.args.at)
-    ∙ ap (in_sequence h) (let e : element_in (row_at p c.args.at) ≡ None = cc in e)))
+    (part_comes p (Sequence c.args.first c.args.at h) rest m _ (sequence_by p h c.args.first (row_at p c.args.at)
+    ∙ ap (in_sequence p h c.args.first) (let e : element_in (row_at p c.args.at) ≡ None = cc in e)))
     (c.go.ensures.turns p m)
 
 pub returns-in-None-clause-falls : goal.returns-in-None-clause-falls

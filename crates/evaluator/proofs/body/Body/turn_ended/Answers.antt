@@ -3,7 +3,7 @@ use Rattle.program_tables.specs.ProgramRows.{row_at}
 use Rattle.program_meaning.specs.Tree.{bind}
 use Rattle.eval_ops.specs.Machines.{moment_of}
 use Rattle.evaluator.specs.Rest.{waiting, counted}
-use Rattle.evaluator.specs.Counting.{turns_row, turns_in, span_in, both}
+use Rattle.eval_rules.specs.Counting.{turns_row, turns_in, span_in, both}
 use Rattle.evaluator.proofs.StatementsByRow.{counted_both, row_of_both, with_both}
 use Rattle.evaluator.proofs.StepsFall.{falls_so}
 use Rattle.evaluator.proofs.Turning.{turns_same}

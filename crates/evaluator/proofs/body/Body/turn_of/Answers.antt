@@ -1,7 +1,5 @@
 use Rattle.std.proofs.Common.{ap, arith}
-use Rattle.program_tables.specs.declared.rows.Row.TheVariants as rows
 use Rattle.program_meaning.specs.Tree.{bind}
-use Rattle.program_meaning.specs.Statements as meaning
 use Rattle.evaluator.specs.Rest.{here, waiting}
 use Rattle.evaluator.proofs.StatementsByRow.{other_turn}
 use Rattle.evaluator.proofs.StepsFall.{falls_so}
@@ -9,24 +7,14 @@ use Rattle.evaluator.proofs.Turning.{turns_same}
 use Rattle.evaluator.proofs.body.Body.turn_of.Goals as goal
 
 pub returns-in-While-clause-turns : goal.returns-in-While-clause-turns
-returns-in-While-clause-turns c p m =
-    let h = here c.args.self.now.home c.args.line in
-    let rest = waiting p c.args.self.now in
-    turns_same p _ _ m m c.by_value.result c.by_value.new.self
-    (ap (λ s. bind (meaning.of_turn c.args.row h (rows.Statement s)) rest) c.in-While.is)
-    (c.by_value.ensures.turns p m)
+returns-in-While-clause-turns c p m = rw c.in-While.is (c.by_value.ensures.turns p m)
 
 pub returns-in-While-clause-falls : goal.returns-in-While-clause-falls
 returns-in-While-clause-falls c =
     falls_so c.by_value.result _ _ _ _ (λ h. omega (arith, h)) c.by_value.ensures.falls
 
 pub returns-in-Repeat-clause-turns : goal.returns-in-Repeat-clause-turns
-returns-in-Repeat-clause-turns c p m =
-    let h = here c.args.self.now.home c.args.line in
-    let rest = waiting p c.args.self.now in
-    turns_same p _ _ m m c.wait.result c.wait.new.self
-    (ap (λ s. bind (meaning.of_turn c.args.row h (rows.Statement s)) rest) c.in-Repeat.is)
-    (c.wait.ensures.turns p m)
+returns-in-Repeat-clause-turns c p m = rw c.in-Repeat.is (c.wait.ensures.turns p m)
 
 pub returns-in-Repeat-clause-falls : goal.returns-in-Repeat-clause-falls
 returns-in-Repeat-clause-falls c =

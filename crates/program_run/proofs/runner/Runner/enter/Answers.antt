@@ -7,7 +7,6 @@ use Rattle.program_tables.specs.ProgramRows.{routine_at}
 use Rattle.eval_ops.specs.Machines.{moment_of}
 use Rattle.program_run.specs.Tower.{Rests, TowerAt, View}
 use Rattle.program_run.specs.Runners.{Begun, open_in, rest_in, view_of, work_left}
-use Rattle.program_run.proofs.LinesTakeSteps.{whole_paid}
 use Rattle.program_run.proofs.RunnerSteps.{begun_calls, counted_entered, entered_stands, few_begun, on_ok, pushed}
 use Rattle.program_run.proofs.StepsLeadToTheRun.{calls_same, routines_same}
 use Rattle.program_run.proofs.runner.Runner.enter.Goals as goal
@@ -71,7 +70,7 @@ returns-in_ok-push-in-None-clause-rests c first t =
       base = refl;
       recording = c.in_ok-enter.ensures.entered ∙ ap (entered c.args.self.now.calls c.args.routine c.args.args) c.in_ok-entry.ensures;
       opens = pushed p c.args.self.now.opens.items c.push.new.self.items _ c.in_ok-push-in-None.ensures.items;
-    }) (whole_paid p c.args.routine c.args.self.now.machine.top row) t)
+    }) t)
 
 pub returns-in_ok-push-in-Some-clause-rests : goal.returns-in_ok-push-in-Some-clause-rests
 returns-in_ok-push-in-Some-clause-rests c first t =
@@ -87,7 +86,7 @@ returns-in_ok-push-in-Some-clause-rests c first t =
       base = refl;
       recording = c.in_ok-enter.ensures.entered ∙ ap (entered c.args.self.now.calls c.args.routine c.args.args) c.in_ok-entry.ensures;
       opens = pushed p c.args.self.now.opens.items c.push-in-Some.new.self.items _ c.in_ok-push-in-Some.ensures.items;
-    }) tt t)
+    }) t)
 
 pub returns-in_ok-push-in-None-clause-less : goal.returns-in_ok-push-in-None-clause-less
 returns-in_ok-push-in-None-clause-less c =

@@ -74,7 +74,7 @@ returns-in-Line-clause-less c =
     let stops : StopsAt p (rest_of p c.args.body) old (AtLine c.in-Line.field-0 (rest_of p c.go_on.new.self)) new =
     subst (λ s. StopsAt p (rest_of p c.args.body) old (stop_of p c.go_on.new.self s) new) c.in-Line.is c.in_ok-go_on.ensures.stops in
     let calls : c.go_on.new.machine.calls ≡ c.args.self.now.machine.calls = calls_onward stops in
-    let steps = (steps_onward {v = view_of p c.args.self.now} c.requires.rests.1 stops).0 in
+    let steps = steps_onward stops in
     omega (arith, calls, steps)
 
 pub returns-in-Enter-clause-less : goal.returns-in-Enter-clause-less
@@ -85,7 +85,7 @@ returns-in-Enter-clause-less c =
     let stops : StopsAt p (rest_of p c.args.body) old (AtCall c.in-Enter.routine c.in-Enter.args (waiting p c.go_on.new.self)) new =
     subst (λ s. StopsAt p (rest_of p c.args.body) old (stop_of p c.go_on.new.self s) new) c.in-Enter.is c.in_ok-go_on.ensures.stops in
     let calls : c.go_on.new.machine.calls ≡ c.args.self.now.machine.calls = calls_onward stops in
-    let steps = (steps_onward {v = view_of p c.args.self.now} c.requires.rests.1 stops).0 in
+    let steps = steps_onward stops in
     let mid : Runner = record { machine = c.go_on.new.machine; calls = c.args.self.now.calls; opens = c.args.self.now.opens; body = c.args.self.now.body } in
     on_ok c.enter.result (work_left c.enter.new.self + 1 ≤ work_left mid) (work_left c.enter.new.self < work_left c.args.self.now)
     (λ h. omega (arith, h, calls, steps)) c.enter.ensures.less
@@ -98,7 +98,7 @@ returns-in-Ended-clause-less c =
     let stops : StopsAt p (rest_of p c.args.body) old (AtEnd (end_of c.in-Ended.way c.in-Ended.answer)) new =
     subst (λ s. StopsAt p (rest_of p c.args.body) old (stop_of p c.go_on.new.self s) new) c.in-Ended.is c.in_ok-go_on.ensures.stops in
     let calls : c.go_on.new.machine.calls ≡ c.args.self.now.machine.calls = calls_onward stops in
-    let steps = (steps_onward {v = view_of p c.args.self.now} c.requires.rests.1 stops) in
+    let steps = steps_onward stops in
     let mid : Runner = record { machine = c.go_on.new.machine; calls = c.args.self.now.calls; opens = c.args.self.now.opens; body = c.args.self.now.body } in
     on_ok c.end.result (work_left c.end.new.self < work_left mid) (work_left c.end.new.self < work_left c.args.self.now)
     (λ h. omega (arith, h, calls, steps)) c.end.ensures.less

@@ -1,0 +1,86 @@
+//! The statement that a case statement chooses.
+
+ghost use Rattle.std.specs.Prelude.{◌≡◌, ℕ, Option, length};
+ghost use Rattle.program_tables.specs.ProgramRows.{row_at};
+ghost use Rattle.program_meaning.specs.Tree.{Here};
+ghost use Rattle.program_meaning.specs.Statements.{choice_of, choose_at, chosen_by};
+ghost use Rattle.eval_rules.specs.Choices.{Rises, case_tree, found_by};
+
+use cell_value::Value;
+use program_tables::Program;
+use program_tables::rows::{ItemRow, Row};
+
+/// What an item says of what is looked for.
+#[derive(Clone, Copy)]
+pub(crate) enum Said {
+    /// This is it.
+    Chosen(u32),
+    /// An item after it may be it.
+    After(u32),
+    /// There is none.
+    Nothing,
+}
+
+/// What the choice that stands at an item says of a value.
+fn look(program: &Program, at: u32, value: i64) -> Said
+    ensures found { (go : ℕ → Option ℕ) → choose_at (row_at program.now at) at value go ≡ found_by result go }
+    ensures rises { Rises at result }
+{
+    match program.row(at) {
+        Row::Item(
+            ItemRow::Choice {
+                value: constant,
+                chosen,
+                next,
+            },
+        ) => {
+            if i64::from(constant) == value {
+                Said::Chosen(chosen)
+            } else if at < next {
+                Said::After(next)
+            } else {
+                Said::Nothing
+            }
+        }
+        _ => Said::Nothing,
+    }
+}
+
+/// The statement that a case constant of this value chooses, among those from an item on (6.8.3.5).
+fn chosen(program: &Program, choices: u32, value: i64) -> Option<u32>
+    ensures { result ≡ choice_of program.now (length program.now.rows) choices value }
+{
+    let mut at = choices;
+    'choices: loop {
+        match look(program, at, value) {
+            Said::Chosen(statement) => return Some(statement),
+            Said::After(next) => at = next,
+            Said::Nothing => return None,
+        }
+    }
+}
+
+/// What a case statement does by the value of its index (6.8.3.5).
+#[derive(Clone, Copy)]
+pub enum Case {
+    /// It goes on with the statement of this row.
+    Statement(u32),
+    /// No case constant is the value, which is an error of the program.
+    NoCase,
+    /// The value is no number.
+    NoNumber,
+}
+
+/// What a case statement does by the value of its index. The items of its case constants stand from the row `choices`
+/// on, each after the one before it.
+pub fn case_of(program: &Program, choices: u32, value: Value) -> Case
+    ensures { (h : Here) → chosen_by program.now h choices value ≡ case_tree h result }
+{
+    match value {
+        Value::Number(number) => match chosen(program, choices, number) {
+            Some(statement) => Case::Statement(statement),
+            None => Case::NoCase,
+        },
+        _ => Case::NoNumber,
+    }
+}
