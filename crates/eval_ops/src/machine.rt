@@ -56,6 +56,7 @@ pub struct Machine {
 pub(crate) struct Uncounted;
 
 /// Whether an address is one of the stack below `top`, or one of the heap's range.
+#[inline(always)]
 fn reaches(machine: &Machine, addr: u32) -> bool
     ensures { result ≡ is_in_reach (machine_state machine.now) addr }
 {
@@ -63,6 +64,7 @@ fn reaches(machine: &Machine, addr: u32) -> bool
 }
 
 /// Takes so many steps. Where fewer are left it answers `OutOfSteps` and leaves none. It takes no memory.
+#[inline(always)]
 pub fn spend(machine: &mut Machine, steps: u32) -> Result<(), Halt>
     requires ready { IsReady machine.old }
     ensures act { Does (λ _. tt) (perform (Spend steps) (machine_state machine.old)) result (moment_of machine.old)
@@ -79,6 +81,7 @@ pub fn spend(machine: &mut Machine, steps: u32) -> Result<(), Halt>
 }
 
 /// Takes a step and puts an entry into the log.
+#[inline(always)]
 fn note(machine: &mut Machine, touch: Touch) -> Result<(), Halt>
     requires ready { IsReady machine.old }
     requires left { 0 < machine.old.steps }
@@ -97,6 +100,7 @@ fn note(machine: &mut Machine, touch: Touch) -> Result<(), Halt>
 /// The value in the cell at an address, which takes a step. At an address that is neither one of the stack below `top`
 /// nor one of the heap's range it is the fault `Undefined`, and no step is taken. A cell of the heap that is not there
 /// is the fault `Disposed`.
+#[inline(always)]
 pub fn read_cell(machine: &mut Machine, addr: u32) -> Result<Value, Halt>
     requires ready { IsReady machine.old }
     ensures action { DoesAll (λ v. v) (performs (read addr) (machine_state machine.old)) result (moment_of machine.old)

@@ -7,7 +7,7 @@ use Rattle.std.proofs.lemmas.List.{reverse-append, append-nil}
 use Rattle.program_tables.specs.ProgramRows.{ProgramRows, routine_at}
 use Rattle.program_meaning.specs.Acts.{Trouble, Spend, perform}
 use Rattle.program_meaning.specs.Actions.{Action, act, performs}
-use Rattle.program_meaning.specs.Tree.{Out, Part, Here, Tree, Sub, Line, way_of, bind, doing}
+use Rattle.program_meaning.specs.Tree.{Out, Part, Here, Tree, Sub, Enter, Line, way_of, bind, doing}
 use Rattle.program_meaning.specs.Accesses.{spend, locate, locate_before, no_row}
 use Rattle.program_meaning.specs.Layer.{layer}
 use Rattle.program_meaning.proofs.ActsTakeSteps.{Acted, acted}
@@ -16,15 +16,17 @@ use Rattle.eval_ops.specs.declared.halt.Halt.{Halt}
 use Rattle.eval_ops.specs.declared.halt.Halt.TheVariants.{Fault, OutOfSteps, Limited, Memory}
 use Rattle.eval_ops.specs.Machines.{Moment, ActionStopped, Does, DoesAll, Gives}
 use Rattle.eval_ops.proofs.ActionsCompose.{does_act}
-use Rattle.evaluator.specs.Stops.{AtEnd, Comes, StopsAt}
+use Rattle.evaluator.specs.Stops.{AtCall, AtEnd, Comes, StopsAt}
+use Rattle.evaluator.specs.Rest.{below, lists_of, resume, tasks_of, top_list, values_of}
+use Rattle.cell_value.specs.declared.values.Value.{Value}
 use Rattle.program_tables.specs.declared.program.Routine.{Routine}
 use Rattle.program_meaning.specs.Acts.{limit_passed}
-use Rattle.evaluator.specs.Turns.{Turns, Fails, Entered}
-use Rattle.evaluator.specs.declared.tasks.Stop.TheVariants as stops
+use Rattle.evaluator.specs.Turns.{Turns, Fails, Entered, pause_of}
+use Rattle.evaluator.specs.declared.tasks.Pause.TheVariants as pauses
 use Rattle.evaluator.specs.Weight.{Falls}
 use Rattle.evaluator.specs.declared.body.Body.{Body}
-use Rattle.evaluator.specs.declared.tasks.Stop as row
-use Rattle.evaluator.proofs.Moves.{bind_doing, comes_same, comes_then, stops_then, begins, finished, stopped, line_stopped}
+use Rattle.evaluator.specs.declared.tasks.Pause as row
+use Rattle.evaluator.proofs.Moves.{bind_doing, call_here, comes_same, comes_then, stops_then, begins, finished, stopped, line_stopped}
 
 -- what was put on top comes first
 pub reverse_pushed : {A : Type 0} (xs ys : List A) (x : A) → ys ≡ xs ++ x ∷ [] → reverse ys ≡ x ∷ reverse xs
@@ -37,13 +39,13 @@ fails_after p t t' m m' m'' line OutOfSteps f h = stops_then f h
 fails_after p t t' m m' m'' line (Limited which) f h = stops_then f h
 fails_after p t t' m m' m'' line Memory f h = tt
 
-pub turns_after : (p : ProgramRows) (t t' : Tree) (m m' m'' : Moment) (r : Result (Option row.Stop) Halt) (a : Body) → Comes p t m t' m' → Turns p t'
+pub turns_after : (p : ProgramRows) (t t' : Tree) (m m' m'' : Moment) (r : Result (Option row.Pause) Halt) (a : Body) → Comes p t m t' m' → Turns p t'
     m' r a m'' → Turns p t m r a m''
 turns_after p t t' m m' m'' (Ok None) a f h = comes_then f h
 turns_after p t t' m m' m'' (Ok (Some s)) a f h = (stops_then f h.0, h.1)
 turns_after p t t' m m' m'' (Err e) a f h = fails_after p t t' m m' m'' a.line e f h
 
-pub turns_same : (p : ProgramRows) (t t' : Tree) (m m' : Moment) (r : Result (Option row.Stop) Halt) (a : Body) → t ≡ t' → Turns p t' m r a m' → Turns
+pub turns_same : (p : ProgramRows) (t t' : Tree) (m m' : Moment) (r : Result (Option row.Pause) Halt) (a : Body) → t ≡ t' → Turns p t' m r a m' → Turns
     p t m r a m'
 turns_same p t t' m m' r a e h = subst (λ t. Turns p t m r a m') (sym e) h
 
@@ -65,7 +67,8 @@ fails p line a k K seen (Limited which) m m' h = stopped_in p line a k K _ m m' 
 fails p line a k K seen Memory m m' h = tt
 
 -- and so the body has failed
-pub turns_failed : (p : ProgramRows) (t : Tree) (m m' : Moment) (line : ℕ) (e : Halt) (a : Body) (r : Result (Option row.Stop) Halt) → a.line ≡ line → r ≡ Err e
+pub turns_failed : (p : ProgramRows) (t : Tree) (m m' : Moment) (line : ℕ) (e : Halt) (a : Body) (r : Result (Option row.Pause) Halt) → a.line ≡ line
+    → r ≡ Err e
     → Fails p t m line e m' → Turns p t m r a m'
 turns_failed p t m m' line e a r g f h = subst (λ r. Turns p t m r a m') (sym f) (subst (λ l. Fails p t m l e m') (sym g) h)
 
@@ -105,7 +108,7 @@ given seen a (Err (Limited which)) m h = absurd h
 given seen a (Err Memory) m h = absurd h
 
 -- a turn that failed leaves no more to do
-pub falls_failed : (r : Result (Option row.Stop) Halt) (e : Halt) (a b : ℕ) → r ≡ Err e → Falls r a b
+pub falls_failed : (r : Result (Option row.Pause) Halt) (e : Halt) (a b : ℕ) → r ≡ Err e → Falls r a b
 falls_failed r e a b h = subst (λ r. Falls r a b) (sym h) tt
 
 -- an access before a selector
@@ -123,19 +126,27 @@ after_it a b t K l = ap (λ x. bind (if x then t else no_row) K) (lt-ltb a b l)
 pub not_after_it : (a b : ℕ) (t : Tree) (K : Out → Tree) → b ≤ a → bind (if nat_lt a b then t else no_row) K ≡ no_row
 not_after_it a b t K l = ap (λ x. bind (if x then t else no_row) K) (le-ltb a b l)
 
+-- a call is to be entered, whose link and cells are the last list that waits
+pub call_pauses : {p : ProgramRows} {m : Moment} {K : Out → Tree} {args : List Value} {ls : List (List Value)} (f cells : ℕ) (a : Body)
+    → limit_passed m.state cells ≡ None → lists_of a ≡ args ∷ ls → K ≡ resume p a.home (tasks_of a) (values_of a) ls
+    → StopsAt p (Enter f cells args K) m (pause_of p a (pauses.Enter f)) m
+call_pauses {p = p} {m = m} {K = K} {args = args} {ls = ls} f cells a h l w =
+    subst (λ l. StopsAt p (Enter f cells args K) m (AtCall f (top_list l) (resume p a.home (tasks_of a) (values_of a) (below l))) m) (sym l)
+    (subst (λ k. StopsAt p (Enter f cells args K) m (AtCall f args k) m) w (call_here f cells args K m h))
+
 -- a call was reached, with room for it
-pub entered_turns : (p : ProgramRows) (t : Tree) (m : Moment) (f : ℕ) (r : Result (Option row.Stop) Halt) (a : Body) → Entered p t m f r a
+pub entered_turns : (p : ProgramRows) (t : Tree) (m : Moment) (f : ℕ) (r : Result (Option row.Pause) Halt) (a : Body) → Entered p t m f r a
     → (x : Routine) → routine_at p f ≡ Some x → limit_passed m.state x.cells ≡ None → Turns p t m r a m
 entered_turns p t m f (Ok None) a h x e l = absurd h
-entered_turns p t m f (Ok (Some (stops.Line n))) a h x e l = absurd h
-entered_turns p t m f (Ok (Some (stops.Enter g args))) a h x e l = (h.0, (x, ap (routine_at p) h.1 ∙ e, l))
-entered_turns p t m f (Ok (Some (stops.Ended w v))) a h x e l = absurd h
+entered_turns p t m f (Ok (Some (pauses.Line n))) a h x e l = absurd h
+entered_turns p t m f (Ok (Some (pauses.Enter g))) a h x e l = (h.0, (x, ap (routine_at p) h.1 ∙ e, l))
+entered_turns p t m f (Ok (Some pauses.Ended)) a h x e l = absurd h
 entered_turns p t m f (Err (Fault kind)) a h x e l = absurd h
 entered_turns p t m f (Err OutOfSteps) a h x e l = absurd h
 entered_turns p t m f (Err (Limited which)) a h x e l = absurd h
 entered_turns p t m f (Err Memory) a h x e l = tt
 
-pub entered_falls : (p : ProgramRows) (t : Tree) (m : Moment) (f : ℕ) (r : Result (Option row.Stop) Halt) (a : Body) (left before : ℕ) → Entered p t m
+pub entered_falls : (p : ProgramRows) (t : Tree) (m : Moment) (f : ℕ) (r : Result (Option row.Pause) Halt) (a : Body) (left before : ℕ) → Entered p t m
     f r a → Falls r left before
 entered_falls p t m f (Ok None) a left before h = absurd h
 entered_falls p t m f (Ok (Some s)) a left before h = tt

@@ -10,7 +10,7 @@ use Rattle.evaluator.specs.declared.tasks.Choice.TheVariants as choices
 use Rattle.evaluator.specs.declared.tasks.Located.TheVariants as locateds
 use Rattle.evaluator.specs.declared.tasks.Next.TheVariants as nexts
 use Rattle.eval_ops.specs.declared.halt.Halt.{Halt}
-use Rattle.evaluator.specs.declared.tasks.Stop.{Stop}
+use Rattle.evaluator.specs.declared.tasks.Pause.{Pause}
 use Rattle.evaluator.specs.declared.tasks.Task.{Task}
 use Rattle.evaluator.specs.declared.tasks.Task.TheVariants as tasks
 
@@ -61,6 +61,6 @@ abbrev pub left_of : Body → Machine → ℕ
 left_of a m = left_with m.steps (body_weight a)
 
 -- a turn that came to no stop left less
-abbrev pub Falls : Result (Option Stop) Halt → (left before : ℕ) → Type 0
+abbrev pub Falls : Result (Option Pause) Halt → (left before : ℕ) → Type 0
 Falls (Ok None) left before = left < before
 Falls result left before = Unit {0}

@@ -16,7 +16,7 @@ ghost use Rattle.evaluator.specs.Weight.{Falls, body_weight, come, left_of, left
 ghost use Rattle.evaluator.specs.Weight.{now_weight, tasks_weight};
 
 use crate::body::{Body, Turned};
-use crate::tasks::{Located, Next, Now, Part, Stop, Task, Way};
+use crate::tasks::{Located, Next, Now, Part, Pause, Task, Way};
 use cell_value::{Cells, Value};
 use eval_ops::{Halt, Machine, frame_out, limit_passed, passed, routine_out, spend, test};
 use program_tables::Program;
@@ -323,11 +323,12 @@ impl Body {
     {
         let list = self.take_list(alloc);
         let args = with_link(alloc, frame, &list)?;
+        self.lists.push(args)?;
         if procedure {
             self.tasks.push(Task::Next(Next::Forget))?;
-            Ok(Some(Stop::Enter(routine, args)))
+            Ok(Some(Pause::Enter(routine)))
         } else {
-            Ok(Some(Stop::Enter(routine, args)))
+            Ok(Some(Pause::Enter(routine)))
         }
     }
 }

@@ -11,22 +11,24 @@ ghost use Rattle.program_meaning.specs.Statements.{nothing};
 ghost use Rattle.program_meaning.specs.Run.{Ended, type_in_heading, whole};
 ghost use Rattle.program_meaning.specs.Run as action;
 ghost use Rattle.program_meaning.specs.State as state;
+ghost use Rattle.program_meaning.specs.State.{State};
 ghost use Rattle.eval_ops.specs.Machines.{DoesAll, IsReady, Moment, machine_state, moment_of};
 ghost use Rattle.evaluator.specs.Stops.{StopsAt};
 ghost use Rattle.evaluator.specs.Rest.{at_work, below, from, from_under, lists_of, lists_below};
 ghost use Rattle.evaluator.specs.Rest.{rest_of, resume, tasks_of, top, top_list};
 ghost use Rattle.evaluator.specs.Rest.{returns, values_below, values_of, waiting};
-ghost use Rattle.evaluator.specs.Turns.{HasRoom, Turns, end_of, stop_of};
+ghost use Rattle.evaluator.specs.Turns.{HasRoom, PausesInRoom, Turns, end_of, ended_by, pause_of, stop_of};
 ghost use Rattle.evaluator.specs.Weight.{Falls, body_weight, come, left_of, left_with, now_weight, part_weight};
 ghost use Rattle.evaluator.specs.Weight.{task_weight, tasks_weight};
 
-use crate::tasks::{Choice, Home, Located, Next, Now, Operand, Part, Stop, Task, Way};
+use crate::tasks::{Choice, Home, Located, Next, Now, Operand, Part, Pause, Stop, Task, Way};
 use cell_value::{Cells, Kind, Memory, Value, WayOut};
 use eval_ops::{Halt, Machine, moved, result_at, spend};
 use eval_rules::labelled_in;
 use program_tables::rows::{PartRow, Row, TypeRow};
 use program_tables::{Program, Routine};
 use std::alloc::{AllocError, Global};
+use std::mem::size_of;
 
 /// One activation of a routine. Nothing is said of what a body does after `Memory`.
 #[derive(Drop)]
@@ -52,7 +54,20 @@ fn is_to(label: u32, base: u32, own: u32, frame: u32) -> bool
 }
 
 /// How a turn ends: at a stop, or before one, or it fails on the body's `line`.
-pub(crate) type Turned = Result<Option<Stop>, Halt>;
+pub(crate) type Turned = Result<Option<Pause>, Halt>;
+
+const _: () = prove!(size_of::<Turned>() <= 16);
+
+/// How a body ended, by what came last.
+fn way_ended(now: Now) -> (WayOut, Option<Value>)
+    ensures { end_of result.0 result.1 ≡ Ended (ended_by now) }
+{
+    match now {
+        Now::Came(Way::Jump(label, base)) => (WayOut::Jumped(label, base), None),
+        Now::Came(Way::Scalar(value)) => (WayOut::Returned, Some(value)),
+        _ => (WayOut::Returned, None),
+    }
+}
 
 impl Body {
     /// A body at its beginning, of a routine whose frame begins at a base. It takes no memory yet.
@@ -85,6 +100,7 @@ impl Body {
     }
 
     /// Puts a task on top of those that wait, and sets what is now at work.
+    #[inline(always)]
     pub(crate) fn wait(&mut self, task: Task, now: Now) -> Turned
         ensures turns { (p : ProgramRows) (m : Moment) → Turns p (from_under p self.old now task) m result self.new m }
         ensures home { self.new.home ≡ self.old.home }
@@ -97,6 +113,7 @@ impl Body {
     }
 
     /// Lets a value wait, which the task holds that is put on top, and sets what is now at work.
+    #[inline(always)]
     pub(crate) fn hold(&mut self, value: Value, task: Task, now: Now) -> Turned
         ensures turns { (p : ProgramRows) (m : Moment) → Turns p (at_work p self.old.home now (task ∷ tasks_of self.old)
             (value ∷ values_of self.old) (lists_of self.old)) m result self.new m }
@@ -111,6 +128,7 @@ impl Body {
     }
 
     /// Sets what is now at work.
+    #[inline(always)]
     pub(crate) fn go(&mut self, now: Now) -> Turned
         ensures turns { (p : ProgramRows) (m : Moment) → Turns p (from p self.old now) m result self.new m }
         ensures home { self.new.home ≡ self.old.home }
@@ -121,6 +139,7 @@ impl Body {
     }
 
     /// Stops for good, since an action on a line was not done.
+    #[inline(always)]
     pub(crate) fn fail(&mut self, line: u32, halt: Halt) -> Turned
         ensures fails { result ≡ Err halt }
         ensures line { self.new.line ≡ line }
@@ -131,6 +150,7 @@ impl Body {
     }
 
     /// Stops for good, since the tables name a row that they do not have.
+    #[inline(always)]
     pub(crate) fn no_row(&mut self) -> Turned
         ensures turns { (p : ProgramRows) (m : Moment) → Turns p no_row m result self.new m }
         ensures home { self.new.home ≡ self.old.home }
@@ -140,6 +160,7 @@ impl Body {
     }
 
     /// An action on a line gave the value of an expression, or it was not done.
+    #[inline(always)]
     pub(crate) fn scalar(&mut self, line: u32, done: Result<Value, Halt>) -> Turned
         ensures turns { (p : ProgramRows) (a : Action CellValue) (m m' : Moment)
             → DoesAll (λ v. v) (performs a m.state) done m m'
@@ -157,6 +178,7 @@ impl Body {
     }
 
     /// An action on a line gave the address of a variable, or it was not done.
+    #[inline(always)]
     pub(crate) fn address(&mut self, line: u32, done: Result<u32, Halt>) -> Turned
         ensures turns { (p : ProgramRows) (a : Action ℕ) (m m' : Moment)
             → DoesAll (λ n. n) (performs a m.state) done m m'
@@ -174,6 +196,7 @@ impl Body {
     }
 
     /// An action on a line, after which a statement has ended, was done or not.
+    #[inline(always)]
     pub(crate) fn finally(&mut self, line: u32, done: Result<(), Halt>) -> Turned
         ensures turns { (p : ProgramRows) (a : Action (Unit {0})) (m m' : Moment)
             → DoesAll (λ _. tt) (performs a m.state) done m m'
@@ -239,7 +262,7 @@ impl Body {
         'turns: loop {
             match self.turn(alloc, program, machine) {
                 Ok(None) => {}
-                Ok(Some(stop)) => return Ok(stop),
+                Ok(Some(pause)) => return Ok(self.stop_at(alloc, pause)),
                 Err(Halt::Fault(kind)) => return Ok(Stop::Ended(
                     WayOut::Faulted(kind, self.line),
                     None,
@@ -247,6 +270,22 @@ impl Body {
                 Err(Halt::OutOfSteps) => return Ok(Stop::Ended(WayOut::OutOfSteps, None)),
                 Err(Halt::Limited(which)) => return Ok(Stop::Ended(WayOut::Limited(which), None)),
                 Err(Halt::Memory) => return Err(AllocError),
+            }
+        }
+    }
+
+    /// The stop that a pause is.
+    fn stop_at(&mut self, alloc: Global, pause: Pause) -> Stop
+        ensures stop { (p : ProgramRows) → stop_of p self.new result ≡ pause_of p self.old pause }
+        ensures room { (p : ProgramRows) (σ : State) → PausesInRoom p pause σ → HasRoom p result σ }
+        ensures home { self.new.home ≡ self.old.home }
+    {
+        match pause {
+            Pause::Line(line) => Stop::Line(line),
+            Pause::Enter(routine) => Stop::Enter(routine, self.take_list(alloc)),
+            Pause::Ended => {
+                let (way, answer) = way_ended(self.now);
+                Stop::Ended(way, answer)
             }
         }
     }
@@ -596,7 +635,10 @@ impl Body {
         ensures ready { IsReady machine.new }
     {
         match way {
-            Way::Jump(label, base) => Ok(Some(Stop::Ended(WayOut::Jumped(label, base), None))),
+            Way::Jump(label, base) => {
+                self.now = Now::Came(Way::Jump(label, base));
+                Ok(Some(Pause::Ended))
+            }
             Way::Cells => self.returned(program, machine),
             Way::Nothing => self.returned(program, machine),
             Way::Scalar(_) => self.returned(program, machine),
@@ -617,7 +659,10 @@ impl Body {
         match program.routine(self.home.routine) {
             None => self.no_row(),
             Some(routine) => match routine.result {
-                None => Ok(Some(Stop::Ended(WayOut::Returned, None))),
+                None => {
+                    self.now = Now::Came(Way::Nothing);
+                    Ok(Some(Pause::Ended))
+                }
                 Some(place) => {
                     self.give_result(
                         program,
@@ -707,7 +752,10 @@ impl Body {
         ensures home { self.new.home ≡ self.old.home }
     {
         match done {
-            Ok(value) => Ok(Some(Stop::Ended(WayOut::Returned, Some(value)))),
+            Ok(value) => {
+                self.now = Now::Came(Way::Scalar(value));
+                Ok(Some(Pause::Ended))
+            }
             Err(halt) => self.fail(line, halt),
         }
     }

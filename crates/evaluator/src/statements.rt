@@ -14,7 +14,7 @@ ghost use Rattle.evaluator.specs.Weight.{Falls, body_weight, come, left_of, left
 ghost use Rattle.evaluator.specs.Weight.{part_weight, task_weight, tasks_weight};
 
 use crate::body::{Body, Turned};
-use crate::tasks::{Choice, Next, Now, Part, Stop, Task, Way};
+use crate::tasks::{Choice, Next, Now, Part, Pause, Task, Way};
 use cell_value::{Kind, Value};
 use eval_ops::{Halt, Machine, assign, frame_out, is_true, spend, write_cells};
 use eval_rules::{Case, case_of, element_of, line_of, turns_of};
@@ -24,6 +24,7 @@ use std::alloc::Global;
 
 impl Body {
     /// A step of a statement on a line is taken, and then this is at work.
+    #[inline(always)]
     pub(crate) fn step(&mut self, machine: &mut Machine, line: u32, now: Now) -> Turned
         requires ready { IsReady machine.old }
         ensures turns { (p : ProgramRows) → Turns p (Do line (Spend 1) (λ _. from p self.old now))
@@ -51,7 +52,7 @@ impl Body {
         match spend(machine, 1) {
             Ok(()) => {
                 self.now = Now::Carry(row);
-                Ok(Some(Stop::Line(line)))
+                Ok(Some(Pause::Line(line)))
             }
             Err(halt) => self.fail(line, halt),
         }
@@ -283,6 +284,7 @@ impl Body {
     }
 
     /// An expression of a statement begins, and the statement is to go on by its value.
+    #[inline(always)]
     fn by_value(&mut self, line: u32, expression: u32, choice: Choice) -> Turned
         ensures turns { (p : ProgramRows) (m : Moment) → Turns p
             (from_under p self.old (Now.Begin (Part.Eval expression line)) (Task.Choice choice)) m result self.new m }
@@ -443,6 +445,7 @@ impl Body {
     }
 
     /// What is now at work is the one, or else the other.
+    #[inline(always)]
     pub(crate) fn either(&mut self, taken: bool, now: Now, otherwise: Now) -> Turned
         ensures turns { (p : ProgramRows) (m : Moment) → Turns p
             (if taken then from p self.old now else from p self.old otherwise) m result self.new m }
@@ -458,6 +461,7 @@ impl Body {
     }
 
     /// A turn of a while statement begins, if its condition holds, and else the statement has ended.
+    #[inline(always)]
     fn again(&mut self, taken: bool, row: u32, body: u32, line: u32) -> Turned
         ensures turns { (p : ProgramRows) (m : Moment) → Turns p
             (if taken then from_under p self.old (Now.Begin (Part.Exec body line)) (Task.Next (Next.Again row line))

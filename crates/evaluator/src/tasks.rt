@@ -215,6 +215,17 @@ pub enum Task {
 
 const _: () = prove!(size_of::<Task>() <= 24);
 
+/// What a turn of a body pauses at. It is small, since each turn hands one up. At a call the link and the cells of its
+/// parameters are the last list that waits, and at the end what came tells how the body ended.
+#[derive(Clone, Copy)]
+pub(crate) enum Pause {
+    /// A statement that is neither compound nor empty has begun on this line.
+    Line(u32),
+    /// A call of a routine that has passed its limits is to be entered.
+    Enter(u32),
+    Ended,
+}
+
 /// What a body stops at.
 #[derive(Drop)]
 pub enum Stop {

@@ -95,29 +95,50 @@ fn declared(alloc: Global, text: &str) -> Result<Scopes> {
     }
 }
 
+/// The answer to a question about one number.
+fn answer_of_one(alloc: Global, scopes: &Scopes, word: &str, number: u32) -> Result<String> {
+    match word {
+        "region" => number_text(alloc, scopes.region(number)),
+        "type" => type_text(alloc, scopes.program().type_row(number)),
+        "name" => name_text(alloc, scopes.program().row(number)),
+        "size_of" => plain_text(alloc, scopes.size_of(number)),
+        "routine" => bytes_text(alloc, scopes.name(number)),
+        "frame" => plain_text(alloc, scopes.frame(number)),
+        "result" => result_text(alloc, scopes.program().routine(number)),
+        _ => bail!("no question: {word}"),
+    }
+}
+
+/// The answer to a question about a number and a name or a field.
+fn answer_of_two(
+    alloc: Global,
+    scopes: &Scopes,
+    word: &str,
+    number: u32,
+    last: &str,
+) -> Result<String> {
+    match word {
+        "find" => def_text(alloc, find(scopes, number, last.as_bytes())),
+        "find_in" => def_text(alloc, find_in(scopes, number, last.as_bytes())),
+        "offset_of" => plain_text(alloc, scopes.offset_of(number, last.parse()?)),
+        _ => bail!("no question: {word}"),
+    }
+}
+
+/// The answer to a question, by its words.
+fn answer_of(alloc: Global, scopes: &Scopes, words: &[&str]) -> Result<String> {
+    match words {
+        ["routines"] => plain_text(alloc, scopes.routines()),
+        [word, number] => answer_of_one(alloc, scopes, word, number.parse()?),
+        [word, number, last] => answer_of_two(alloc, scopes, word, number.parse()?, last),
+        _ => bail!("no question of so many words"),
+    }
+}
+
 /// The answer to a question.
 fn answer(alloc: Global, scopes: &Scopes, question: &str) -> Result<String> {
     let words: Vec<&str> = question.split(' ').collect(alloc)?;
-    match words.as_slice() {
-        ["region", token] => number_text(alloc, scopes.region(token.parse()?)),
-        ["find", region, name] => {
-            def_text(alloc, find(scopes, region.parse()?, name.as_bytes()))
-        }
-        ["find_in", region, name] => {
-            def_text(alloc, find_in(scopes, region.parse()?, name.as_bytes()))
-        }
-        ["type", number] => type_text(alloc, scopes.program().type_row(number.parse()?)),
-        ["name", number] => name_text(alloc, scopes.program().row(number.parse()?)),
-        ["size_of", number] => plain_text(alloc, scopes.size_of(number.parse()?)),
-        ["offset_of", number, field] => {
-            plain_text(alloc, scopes.offset_of(number.parse()?, field.parse()?))
-        }
-        ["routines"] => plain_text(alloc, scopes.routines()),
-        ["routine", number] => bytes_text(alloc, scopes.name(number.parse()?)),
-        ["frame", number] => plain_text(alloc, scopes.frame(number.parse()?)),
-        ["result", number] => result_text(alloc, scopes.program().routine(number.parse()?)),
-        _ => bail!("no question: {question}"),
-    }
+    answer_of(alloc, scopes, words.as_slice())
 }
 
 fn plain_text(alloc: Global, number: u32) -> Result<String> {

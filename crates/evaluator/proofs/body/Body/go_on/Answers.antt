@@ -1,4 +1,7 @@
-use Rattle.std.proofs.Common.{refl, ◌∙◌}
+use Rattle.std.proofs.Common.{refl, sym, subst, ◌∙◌}
+use Rattle.eval_ops.specs.Machines.{machine_state, moment_of}
+use Rattle.evaluator.specs.Rest.{rest_of}
+use Rattle.evaluator.specs.Stops.{StopsAt}
 use Rattle.evaluator.proofs.Moves.{comes_same, comes_then, stops_then}
 use Rattle.evaluator.proofs.body.Body.go_on.Goals as goal
 
@@ -16,10 +19,14 @@ pub turns-smaller : goal.turns-smaller
 turns-smaller c = rw c.in-Ok-None.field-0-is at c.in-Ok-None.ensures.falls
 
 pub returns-in-Ok-Some-clause-stops : goal.returns-in-Ok-Some-clause-stops
-returns-in-Ok-Some-clause-stops c = stops_then c.turns.invariant.came (rw c.in-Ok-Some.field-0-is at c.in-Ok-Some.ensures.turns).0
+returns-in-Ok-Some-clause-stops c =
+    let p = c.args.program.now in
+    subst (λ s. StopsAt p (rest_of p c.args.self.now) (moment_of c.args.machine.now) s (moment_of c.turn.new.machine)) (sym (c.stop_at.ensures.stop p))
+    (stops_then c.turns.invariant.came (rw c.in-Ok-Some.field-0-is at c.in-Ok-Some.ensures.turns).0)
 
 pub returns-in-Ok-Some-clause-room : goal.returns-in-Ok-Some-clause-room
-returns-in-Ok-Some-clause-room c = (rw c.in-Ok-Some.field-0-is at c.in-Ok-Some.ensures.turns).1
+returns-in-Ok-Some-clause-room c =
+    c.stop_at.ensures.room c.args.program.now (machine_state c.turn.new.machine) (rw c.in-Ok-Some.field-0-is at c.in-Ok-Some.ensures.turns).1
 
 pub returns-in-Err-Fault-clause-stops : goal.returns-in-Err-Fault-clause-stops
 returns-in-Err-Fault-clause-stops c = rw c.in-Err-Fault.field-0-is (stops_then c.turns.invariant.came

@@ -1,4 +1,4 @@
-use Rattle.std.proofs.Common.{◌≡◌, ℕ, List, refl, sym, ap, ◌∙◌, arith}
+use Rattle.std.proofs.Common.{◌≡◌, List, refl, sym, ap, ◌∙◌, arith}
 use Rattle.cell_value.specs.declared.values.Value.{Value}
 use Rattle.program_tables.specs.declared.rows.ItemRow.{ItemRow}
 use Rattle.program_tables.specs.declared.rows.Row.{Row}

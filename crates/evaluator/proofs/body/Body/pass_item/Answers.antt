@@ -1,4 +1,4 @@
-use Rattle.std.proofs.Common.{[], ◌∷◌, ◌++◌, ap, ◌∙◌, arith}
+use Rattle.std.proofs.Common.{[], ◌∷◌, ◌++◌, ap, arith}
 use Rattle.cell_value.specs.declared.values.Value.TheVariants as value
 use Rattle.program_tables.specs.declared.rows.Row.TheVariants as rows
 use Rattle.program_meaning.specs.Cells.{routine_out}
