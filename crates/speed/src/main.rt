@@ -35,7 +35,7 @@ fn report<R: Print>(rt: &R, name: &str, taken: Measured, yard: Pushed) -> Result
         entry % 10
     )?;
     println!(rt; "{}.{} yardsticks a step", quotient / 10, quotient % 10)?;
-    println!(rt; "{} ms to let go of the run", taken.dropped / 1_000_000)?;
+    println!(rt; "{} ms to drop the run", taken.dropped / 1_000_000)?;
     Ok(())
 }
 

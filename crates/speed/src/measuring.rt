@@ -18,7 +18,7 @@ const BUDGET: u32 = 4_000_000;
 pub struct Measured {
     /// The nanoseconds of the processor for the run.
     pub nanos: u128,
-    /// The same for letting go of what it left.
+    /// The same for dropping what it left.
     pub dropped: u128,
     /// The steps that were taken.
     pub steps: u32,
