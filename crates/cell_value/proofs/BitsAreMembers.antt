@@ -1,7 +1,7 @@
 -- The empty set, one member more, a range, and what a set holds of a whole number.
-use Rattle.std.proofs.Common.{◌≡◌, ◌≢◌, ℕ, ◌+◌, ◌*◌, ◌/◌, ◌%◌, ◌^◌, ◌<◌, ◌≤◌, refl, sym, ◌∙◌, arith, eq-eqb, inl, inr, w64}
-use Rattle.std.proofs.Common.{true, false, length, slice_index_or, slice_set, bit_or, bit_and, lit<, ℤ, pos, negsuc}
-use Rattle.std.specs.Prelude.{◌==◌, ◌||◌, ◌⊎◌}
+use Rattle.std.proofs.Common.{◌≡◌, ◌≢◌, ◌+◌, ◌*◌, ◌/◌, ◌%◌, ◌^◌, ◌<◌, ◌≤◌, refl, sym, ◌∙◌, arith, eq-eqb, inl, inr, w64}
+use Rattle.std.proofs.Common.{Bool, true, false, ℕ, zero, suc, length, slice_index_or, slice_set, bit_or, bit_and, lit<, ℤ, pos, negsuc}
+use Rattle.std.specs.Prelude.{◌==◌, ◌||◌, ◌&&◌, ◌⊎◌, not}
 use Rattle.std.specs.Int.{FitsUnsignedBits}
 use Rattle.std.proofs.Math.Bool.{or-true, or-false}
 use Rattle.std.proofs.Math.IntN.{nat_abs}
@@ -10,8 +10,8 @@ use Rattle.std.proofs.lemmas.List.{get_or-set_same, get_or-set_other, length-set
 use Rattle.std.proofs.lemmas.Nat.Bits.{bit_at-lt, bit_at-zero, bit_at_set_same, bit_at_set_other, same_from_bits_below, shr_and_one}
 use Rattle.std.proofs.lemmas.Nat.{le_or_l, le_or_r}
 use Rattle.cell_value.specs.declared.values.SetBits.{SetBits}
-use Rattle.cell_value.specs.Sets.{has, has_number}
-use Rattle.cell_value.proofs.WordsMakeSets.{IsWhole, each_of_four, bit_from_test, has_at, has_in_word, has_above}
+use Rattle.cell_value.specs.Sets.{has, has_number, holds_below, is_included, difference_of}
+use Rattle.cell_value.proofs.WordsMakeSets.{IsWhole, each_of_four, bit_from_test, has_at, has_in_word, has_above, set_of_four, has_set_of_low}
 
 -- ---- the set that holds nothing
 
@@ -58,6 +58,71 @@ zero_where_nothing set whole none = rw (
   word_is_zero set whole none 2 (lit< tt),
   word_is_zero set whole none 3 (lit< tt),
 ) refl
+
+-- ---- inclusion
+
+both_true : (x y : Bool) → (x && y) ≡ true → (x ≡ true) × (y ≡ true)
+both_true true true e = (refl, refl)
+both_true true false e = cc
+both_true false y e = cc
+
+holds_of_next : (test : ℕ → Bool) (bound n : ℕ) → (test bound ≡ true) × (holds_below test bound ≡ true) → (n < bound → test n ≡ true)
+    → (n < bound) ⊎ (bound ≤ n) → n < suc bound → test n ≡ true
+holds_of_next test bound n both below (inl less) h = below less
+holds_of_next test bound n both below (inr more) h = let e : n ≡ bound = omega arith in rw e both.0
+
+pub holds_of_each : (test : ℕ → Bool) (bound : ℕ) → holds_below test bound ≡ true → (n : ℕ) → n < bound → test n ≡ true
+unfolding holds_below
+holds_of_each test zero e n h = let wrong : ⊥ = omega arith in absurd wrong
+holds_of_each test (suc bound) e n h = holds_of_next test bound n (both_true (test bound) (holds_below test bound) e)
+    (holds_of_each test bound (both_true (test bound) (holds_below test bound) e).1 n) (cases_lt n bound) h
+
+pub each_holds : (test : ℕ → Bool) (bound : ℕ) → ((n : ℕ) → n < bound → test n ≡ true) → holds_below test bound ≡ true
+unfolding holds_below
+each_holds test zero each = refl
+each_holds test (suc bound) each = rw (each bound (omega arith), each_holds test bound (λ n h. each n (omega arith))) refl
+
+-- one number that fails the test is enough
+true_false : (b : Bool) → b ≡ true → b ≡ false → ⊥
+true_false b e f = cc
+
+pub fails_at : (test : ℕ → Bool) (bound n : ℕ) → n < bound → test n ≡ false → holds_below test bound ≡ false
+fails_at test bound n h e = by (holds_below test bound) refl
+  where
+    by : (b : Bool) → holds_below test bound ≡ b → b ≡ false
+    by true f = absurd (true_false (test n) (holds_of_each test bound f n h) e)
+    by false f = refl
+
+-- what a test of inclusion tells of one ordinal of the difference, and the other way round
+outside_is_none : (x y : Bool) → (not x || y) ≡ true → (x && not y) ≡ false
+outside_is_none true true e = refl
+outside_is_none true false e = cc
+outside_is_none false y e = refl
+
+none_is_inside : (x y : Bool) → (x && not y) ≡ false → (not x || y) ≡ true
+none_is_inside true true e = refl
+none_is_inside true false e = cc
+none_is_inside false y e = refl
+
+difference_holds_none : (a b : SetBits) → is_included a b ≡ true → (ordinal : ℕ) → (ordinal < 256) ⊎ (256 ≤ ordinal) → has (difference_of a b) ordinal ≡ false
+difference_holds_none a b e ordinal (inl low) = has_set_of_low (λ o. has a o && not (has b o)) ordinal low
+    ∙ outside_is_none (has a ordinal) (has b ordinal) (holds_of_each (λ o. not (has a o) || has b o) 256 e ordinal low)
+difference_holds_none a b e ordinal (inr above) =
+    has_above (difference_of a b) ordinal (set_of_four (λ o. has a o && not (has b o))) above
+
+-- the difference holds nothing exactly where the first set is included
+pub nothing_outside : (a b : SetBits) → is_included a b ≡ true → (ordinal : ℕ) → has (difference_of a b) ordinal ≡ false
+nothing_outside a b e ordinal = difference_holds_none a b e ordinal (cases_lt ordinal 256)
+
+pub included : (a b : SetBits) → ((ordinal : ℕ) → has (difference_of a b) ordinal ≡ false) → is_included a b ≡ true
+included a b none = each_holds (λ o. not (has a o) || has b o) 256 (λ o low. none_is_inside (has a o) (has b o)
+    (sym (has_set_of_low (λ m. has a m && not (has b m)) o low) ∙ none o))
+
+-- a truth is told by where it holds
+pub same_truth : (a b : Bool) → (a ≡ true → b ≡ true) → (b ≡ true → a ≡ true) → a ≡ b
+same_truth true b f g = sym (f refl)
+same_truth false true f g = g refl
+same_truth false false f g = refl
 
 -- ---- one member more
 

@@ -1,3 +1,4 @@
 pub mod BitsAreMembers
 pub mod Laws
+pub mod ListsRank
 pub mod WordsMakeSets

@@ -133,11 +133,11 @@ set_of_bit test i low = each_of_four (λ k. (bit_at (slice_index_or (set_of test
     (rw (word_of_bit (λ place. test (128 + place)) 64 i low) (test_of_bit (test (128 + i))))
     (rw (word_of_bit (λ place. test (192 + place)) 64 i low) (test_of_bit (test (192 + i))))
 
-set_of_four : (test : ℕ → Bool) → length (set_of test).words ≡ 4
+pub set_of_four : (test : ℕ → Bool) → length (set_of test).words ≡ 4
 unfolding set_of
 set_of_four test = refl
 
-has_set_of_low : (test : ℕ → Bool) (ordinal : ℕ) → ordinal < 256 → has (set_of test) ordinal ≡ test ordinal
+pub has_set_of_low : (test : ℕ → Bool) (ordinal : ℕ) → ordinal < 256 → has (set_of test) ordinal ≡ test ordinal
 has_set_of_low test ordinal low =
     let e : 64 * (ordinal / 64) + ordinal % 64 ≡ ordinal = omega arith in
     subst (λ n. has (set_of test) n ≡ test n) e

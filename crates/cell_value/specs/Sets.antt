@@ -1,6 +1,6 @@
 -- Sets of ordinals from 0 to 255. A set is known by the ordinals that it holds (ISO 7185, clauses 6.4.3.4 and 6.7.2.4).
 use Rattle.std.specs.Prelude.{◌≡◌, ℕ, zero, suc, ◌+◌, ◌*◌, ◌/◌, ◌%◌, ◌^◌, ℤ, pos, negsuc, Bool, true, false, ◌==◌}
-use Rattle.std.specs.Prelude.{◌&&◌, ◌||◌, not, if◌then◌else◌, nat_le, Option, Some, None, [], ◌∷◌, slice_get}
+use Rattle.std.specs.Prelude.{◌&&◌, ◌||◌, not, if◌then◌else◌, nat_le, int_le, Option, Some, None, [], ◌∷◌, slice_get}
 use Rattle.std.specs.Int.{bit_at}
 use Rattle.cell_value.specs.declared.values.SetBits.{SetBits}
 
@@ -48,6 +48,23 @@ is_between least greatest ordinal = nat_le least ordinal && nat_le ordinal great
 abbrev pub with_range_of : SetBits → (least greatest : ℕ) → SetBits
 with_range_of a least greatest = set_of (λ ordinal. has a ordinal || is_between least greatest ordinal)
 
--- each ordinal of the first set is one of the second
+-- whether the test holds of each number below the bound
+unfoldable pub holds_below : (ℕ → Bool) → (bound : ℕ) → Bool
+holds_below test zero = true
+holds_below test (suc n) = test n && holds_below test n
+
+-- whether each ordinal of the first set is one of the second (6.7.2.5)
+abbrev pub is_included : (inner outer : SetBits) → Bool
+is_included inner outer = holds_below (λ ordinal. not (has inner ordinal) || has outer ordinal) 256
+
 abbrev pub IsIncluded : (inner outer : SetBits) → Type 0
 IsIncluded inner outer = (ordinal : ℕ) → has inner ordinal ≡ true → has outer ordinal ≡ true
+
+-- whether a member, if the ordinal is one, lies between two bounds, which belong to the range
+abbrev pub is_outside_or_between : SetBits → (least greatest : ℤ) → (ordinal : ℕ) → Bool
+is_outside_or_between set least greatest ordinal =
+    not (has set ordinal) || (int_le least (pos ordinal) && int_le (pos ordinal) greatest)
+
+-- whether each member lies between two bounds, which belong to the range
+abbrev pub lies_between : SetBits → (least greatest : ℤ) → Bool
+lies_between set least greatest = holds_below (is_outside_or_between set least greatest) 256

@@ -60,4 +60,11 @@ impl Cells {
     {
         self.items[i as usize]
     }
+
+    /// The values as a slice.
+    pub fn as_slice(&self) -> &[Value]
+        ensures { result.now ≡ self.now }
+    {
+        &self.items
+    }
 }

@@ -1,5 +1,5 @@
 //! Relations of lists of numbers.
-ghost use Rattle.std.specs.Prelude.{◌≡◌, length};
+ghost use Rattle.std.specs.Prelude.{◌≡◌};
 ghost use Rattle.cell_value.specs.Comparisons.{admits, compared, lists_ranked, ranked};
 
 use crate::faults::OpFault;
@@ -18,11 +18,13 @@ fn rank(left: Value, right: Value) -> Result<Ordering, OpFault>
 
 /// Which of two lists of numbers comes first: the first two that differ decide.
 fn rank_lists(left: &[Value], right: &[Value]) -> Result<Ordering, OpFault>
-    requires { length left.now ≡ length right.now }
     ensures { result ≡ lists_ranked left.now right.now }
 {
     for (place, value) in left.iter().enumerate() {
-        let found = rank(*value, right[place])?;
+        let Some(other) = right.get(place) else {
+            return Ok(Ordering::Equal);
+        };
+        let found = rank(*value, *other)?;
         if found != Ordering::Equal {
             return Ok(found);
         }
@@ -44,13 +46,12 @@ fn holds_of(order: Order, found: Ordering) -> bool
     }
 }
 
-/// Whether a relation holds of two lists of numbers of equal length, as of two strings: the first two numbers that
-/// differ decide, and lists without any such are equal.
+/// Whether a relation holds of two lists of numbers, as of two strings, which have equal lengths: the first two numbers
+/// that differ decide, and lists without any such count as equal (ISO 7185, clause 6.7.2.5).
 ///
 /// `UndefinedValue` comes exactly where a value that is not a number stands in one of them before, or at, the first
 /// place where they differ.
 pub fn compare(order: Order, left: &[Value], right: &[Value]) -> Result<bool, OpFault>
-    requires { length left.now ≡ length right.now }
     ensures { result ≡ compared order left.now right.now }
 {
     Ok(holds_of(order, rank_lists(left, right)?))

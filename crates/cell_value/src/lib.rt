@@ -21,7 +21,7 @@ pub use comparisons::compare;
 pub use entries::{Change, Seen, Touch};
 pub use faults::OpFault;
 pub use items::Items;
-pub use sets::{holds, meet, minus, union, with_range, within};
+pub use sets::{between, holds, meet, minus, union, with_range, within};
 pub use steps_taken::Steps;
 pub use values::{Order, SetBits, Value};
 pub use ways_out::{Kind, WayOut, Which};

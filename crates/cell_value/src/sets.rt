@@ -1,11 +1,11 @@
 //! The operators on sets.
 ghost use Rattle.std.specs.Prelude.{◌≡◌, ℕ, ◌==◌, ◌&&◌, ◌||◌, not, false, IsTrue, ◌↔◌};
 ghost use Rattle.cell_value.specs.Sets.{IsIncluded, difference_of, has, has_number, intersection_of, is_between};
-ghost use Rattle.cell_value.specs.Sets.{union_of, with_range_of};
+ghost use Rattle.cell_value.specs.Sets.{is_included, is_outside_or_between, lies_between, union_of, with_range_of};
 
 use crate::values::SetBits;
 
-/// The union: what one of the two sets holds.
+/// The union: what one of the sets holds, or both (ISO 7185, clause 6.7.2.4).
 pub fn union(a: SetBits, b: SetBits) -> SetBits
     ensures exact { result ≡ union_of a b }
     ensures members { (ordinal : ℕ) → has result ordinal ≡ (has a ordinal || has b ordinal) }
@@ -20,7 +20,7 @@ pub fn union(a: SetBits, b: SetBits) -> SetBits
     }
 }
 
-/// The difference: what the first set holds and the second does not.
+/// The difference: what the first set holds and the second does not (6.7.2.4).
 pub fn minus(a: SetBits, b: SetBits) -> SetBits
     ensures exact { result ≡ difference_of a b }
     ensures members { (ordinal : ℕ) → has result ordinal ≡ (has a ordinal && not (has b ordinal)) }
@@ -35,7 +35,7 @@ pub fn minus(a: SetBits, b: SetBits) -> SetBits
     }
 }
 
-/// The intersection: what both sets hold.
+/// The intersection: what both sets hold (6.7.2.4).
 pub fn meet(a: SetBits, b: SetBits) -> SetBits
     ensures exact { result ≡ intersection_of a b }
     ensures members { (ordinal : ℕ) → has result ordinal ≡ (has a ordinal && has b ordinal) }
@@ -57,14 +57,15 @@ fn is_empty(a: SetBits) -> bool
     a.words[0] | a.words[1] | a.words[2] | a.words[3] == 0
 }
 
-/// Whether the second set holds all that the first one holds.
+/// Whether the second set holds all that the first one holds (ISO 7185, clause 6.7.2.5).
 pub fn within(a: SetBits, b: SetBits) -> bool
-    ensures { IsTrue result ↔ IsIncluded a b }
+    ensures exact { result ≡ is_included a b }
+    ensures members { IsTrue result ↔ IsIncluded a b }
 {
     is_empty(minus(a, b))
 }
 
-/// Whether a set holds an ordinal. No set holds one below 0 or above 255.
+/// Whether a set holds an ordinal (6.7.2.5). No set holds one below 0 or above 255.
 pub fn holds(a: SetBits, ordinal: i64) -> bool
     ensures { result ≡ has_number a ordinal }
 {
@@ -94,11 +95,31 @@ fn range(from: u8, to: u8) -> SetBits
     set
 }
 
-/// The set with the ordinals from one to another, both of which belong to the range; with none more where the first is
-/// greater.
+/// The set with the ordinals from one to another, both of which belong to the range, as a set constructor has them
+/// (6.7.1); with none more where the first is greater.
 pub fn with_range(a: SetBits, from: u8, to: u8) -> SetBits
     ensures exact { result ≡ with_range_of a from to }
     ensures members { (ordinal : ℕ) → has result ordinal ≡ (has a ordinal || is_between from to ordinal) }
 {
     union(a, range(from, to))
+}
+
+/// Whether an ordinal, if the set holds it, lies between two bounds.
+fn outside_or_between(a: SetBits, least: i64, greatest: i64, ordinal: u32) -> bool
+    ensures { result ≡ is_outside_or_between a least greatest ordinal }
+{
+    let number = i64::from(ordinal);
+    !holds(a, number) || (least <= number && number <= greatest)
+}
+
+/// Whether each member of a set lies between two bounds, which belong to the range (ISO 7185, clause 6.4.6).
+pub fn between(a: SetBits, least: i64, greatest: i64) -> bool
+    ensures { result ≡ lies_between a least greatest }
+{
+    'ordinals: for ordinal in 0..256 {
+        if !outside_or_between(a, least, greatest, ordinal) {
+            return false;
+        }
+    }
+    true
 }

@@ -8,8 +8,9 @@ ghost use Rattle.eval_ops.specs.Machines.{DoesAll, IsReady, machine_state, momen
 use crate::frames::moved;
 use crate::halt::Halt;
 use crate::machine::{Machine, read_cell, write_cell};
-use crate::values::{defined, passed, test};
+use crate::values::{defined, defined_set, passed, test};
 use cell_value::{Cells, Value};
+use program_tables::Program;
 use program_tables::rows::TypeRow;
 use std::alloc::Global;
 
@@ -73,21 +74,34 @@ pub fn ordinal_at(
     Ok(value)
 }
 
+/// The value of a variable of a set type. Where the cell holds no set, it is the fault `Undefined`, after the read.
+pub fn set_at(machine: &mut Machine, addr: u32) -> Result<Value, Halt>
+    requires ready { IsReady machine.old }
+    ensures action { DoesAll (λ v. v) (performs (action.set_at addr) (machine_state machine.old)) result
+        (moment_of machine.old) (moment_of machine.new) }
+    ensures ready { IsReady machine.new }
+{
+    let held = read_cell(machine, addr)?;
+    let value = defined_set(held)?;
+    Ok(value)
+}
+
 /// Puts a value into a variable of a type of one cell, after the test for the type: of a value that does not pass it
 /// is the fault, and nothing is written.
 pub fn assign(
     alloc: Global,
+    program: &Program,
     machine: &mut Machine,
     kind: Option<TypeRow>,
     addr: u32,
     value: Value,
 ) -> Result<(), Halt>
     requires ready { IsReady machine.old }
-    ensures action { DoesAll (λ _. tt) (performs (action.assign kind addr value) (machine_state machine.old)) result
-        (moment_of machine.old) (moment_of machine.new) }
+    ensures action { DoesAll (λ _. tt) (performs (action.assign program.now kind addr value)
+        (machine_state machine.old)) result (moment_of machine.old) (moment_of machine.new) }
     ensures ready { IsReady machine.new }
 {
-    let tested = passed(test(kind, value))?;
+    let tested = passed(test(program, kind, value))?;
     write_cell(alloc, machine, addr, tested)?;
     Ok(())
 }

@@ -7,16 +7,21 @@ mod cells;
 mod frames;
 mod halt;
 mod machine;
+mod sets;
+mod strings;
 mod values;
 
 pub use calls::{close_call, make_frame, open_call, remove_frame, result_at};
-pub use cells::{assign, ordinal_at, read_cells, write_cells};
+pub use cells::{assign, ordinal_at, read_cells, set_at, write_cells};
 pub use frames::{cell_out, component, frame_out, moved, reference_out, routine_out};
 pub use halt::Halt;
 pub use machine::{
     HEAP_END, MOST_CALLS, MOST_DEPTH, Machine, STACK_END, limit_passed, read_cell, spend,
     write_cell,
 };
+pub use sets::{add_members, combine_sets, compare_sets, is_in, no_members};
+pub use strings::{compare_texts, string_of};
 pub use values::{
-    compare_ordinals, defined, fault_kind, is_true, ordinal_function, passed, sign, test, truth,
+    compare_ordinals, defined, defined_set, fault_kind, is_true, ordinal_function, passed, sign,
+    test, truth,
 };

@@ -6,7 +6,8 @@ ghost use Rattle.program_meaning.specs.Values as values;
 ghost use Rattle.eval_ops.specs.Machines.{Gives};
 
 use crate::halt::Halt;
-use cell_value::{ArithOp, Kind, OpFault, Order, Value, arith, in_range, negate};
+use cell_value::{ArithOp, Kind, OpFault, Order, Value, arith, between, in_range, negate};
+use program_tables::Program;
 use program_tables::rows::{OrdinalFunction, TypeRow};
 
 /// The fault of an operation that has no result.
@@ -80,9 +81,43 @@ pub fn compare_ordinals(order: Order, left: Value, right: Value) -> Result<Value
     }
 }
 
-/// The test of a value that a variable of a type is to get: an ordinal is to be one of the type's.
-pub fn test(kind: Option<TypeRow>, value: Value) -> Result<Value, OpFault>
-    ensures { result ≡ values.tested kind value }
+/// The test of a set: each member is to lie between two bounds.
+fn set_in_range(value: Value, least: i32, greatest: i32) -> Result<Value, OpFault>
+    ensures { result ≡ values.set_in_range value least greatest }
+{
+    match value {
+        Value::Bits(set) => {
+            if between(set, i64::from(least), i64::from(greatest)) {
+                Ok(value)
+            } else {
+                Err(OpFault::OutOfRange)
+            }
+        }
+        _ => Err(OpFault::UndefinedValue),
+    }
+}
+
+/// The test of a value that a variable of a set type with this base type is to get.
+fn test_set(base: Option<TypeRow>, value: Value) -> Result<Value, OpFault>
+    ensures { result ≡ values.tested_set base value }
+{
+    match base {
+        Some(TypeRow::Ordinal { least, greatest }) => set_in_range(value, least, greatest),
+        Some(
+            TypeRow::Subrange {
+                least,
+                greatest,
+                ..
+            },
+        ) => set_in_range(value, least, greatest),
+        _ => Ok(value),
+    }
+}
+
+/// The test of a value that a variable of a type is to get: an ordinal is to be one of the type's, and each member of a
+/// set one of its base type's.
+pub fn test(program: &Program, kind: Option<TypeRow>, value: Value) -> Result<Value, OpFault>
+    ensures { result ≡ values.tested program.now kind value }
 {
     match kind {
         Some(TypeRow::Ordinal { least, greatest }) => in_range(
@@ -97,6 +132,7 @@ pub fn test(kind: Option<TypeRow>, value: Value) -> Result<Value, OpFault>
                 ..
             },
         ) => in_range(value, i64::from(least), i64::from(greatest)),
+        Some(TypeRow::Set { base, .. }) => test_set(program.type_row(base), value),
         _ => Ok(value),
     }
 }
@@ -119,6 +155,16 @@ pub fn defined(least: i32, greatest: i32, value: Value) -> Result<Value, Halt>
     match in_range(value, i64::from(least), i64::from(greatest)) {
         Ok(value) => Ok(value),
         Err(_) => Err(Halt::Fault(Kind::Undefined)),
+    }
+}
+
+/// A value that was read from a variable of a set type, for its use: what is no set is the fault `Undefined`.
+pub fn defined_set(value: Value) -> Result<Value, Halt>
+    ensures { Gives (λ v. v) (values.defined_set value) result }
+{
+    match value {
+        Value::Bits(_) => Ok(value),
+        _ => Err(Halt::Fault(Kind::Undefined)),
     }
 }
 

@@ -48,6 +48,7 @@ use Rattle.eval_rules.specs.declared.counting.Span.{Span}
 use Rattle.evaluator.specs.declared.tasks.Home.{Home}
 use Rattle.evaluator.specs.declared.tasks.Next.{Next}
 use Rattle.evaluator.specs.declared.tasks.Next.TheVariants as nexts
+use Rattle.evaluator.specs.declared.tasks.Operand.TheVariants as operands
 use Rattle.evaluator.specs.declared.tasks.Choice.TheVariants as choices
 use Rattle.evaluator.specs.declared.tasks.Located.TheVariants as locateds
 use Rattle.evaluator.specs.declared.tasks.Task.{Task}
@@ -247,6 +248,8 @@ other_lands p home n vs label base f g = refl
 pub each_weighs : (t : Task) → 1 ≤ task_weight t
 each_weighs (tasks.Located (locateds.Passed next line)) = omega arith
 each_weighs (tasks.Actual of' next line) = omega arith
+each_weighs (tasks.Operand (operands.Member next line)) = omega arith
+each_weighs (tasks.Range next line) = omega arith
 each_weighs (tasks.Choice (choices.Until row line)) = omega arith
 each_weighs (tasks.Next (nexts.Sequence first at line)) = omega arith
 each_weighs (tasks.Next (nexts.Again row line)) = omega arith

@@ -7,7 +7,7 @@ use Rattle.program_meaning.specs.Actions.{Action, Give, Fail, Perform, Performed
 use Rattle.program_meaning.proofs.ActsTakeSteps.{Acted, acted, cost}
 use Rattle.eval_ops.specs.declared.halt.Halt.{Halt}
 use Rattle.eval_ops.specs.Machines.{Moment, DoesAll}
-use Rattle.evaluator.specs.declared.tasks.Pause as row
+use Rattle.evaluator.specs.declared.tasks.Pause.{Pause}
 use Rattle.evaluator.specs.Weight.{Falls}
 
 abbrev TookAll : {A : Type 0} → ℕ → Performed A → Type 0
@@ -35,7 +35,7 @@ pub steps_fall : {A X : Type 0} (seen : X → A) (a : Action A) (x : X) (m m' : 
 steps_fall seen a x m m' h = subst (TookAll m.state.steps) h.1 (took_all a m.state)
 
 -- what is left less, by what is left less of another
-pub falls_so : (r : Result (Option row.Pause) Halt) (a b a' b' : ℕ) → (a < b → a' < b') → Falls r a b → Falls r a' b'
+pub falls_so : (r : Result (Option Pause) Halt) (a b a' b' : ℕ) → (a < b → a' < b') → Falls r a b → Falls r a' b'
 falls_so (Ok None) a b a' b' f h = f h
 falls_so (Ok (Some s)) a b a' b' f h = tt
 falls_so (Err e) a b a' b' f h = tt

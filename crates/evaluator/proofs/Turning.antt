@@ -25,7 +25,7 @@ use Rattle.evaluator.specs.Turns.{Turns, Fails, Entered, pause_of}
 use Rattle.evaluator.specs.declared.tasks.Pause.TheVariants as pauses
 use Rattle.evaluator.specs.Weight.{Falls}
 use Rattle.evaluator.specs.declared.body.Body.{Body}
-use Rattle.evaluator.specs.declared.tasks.Pause as row
+use Rattle.evaluator.specs.declared.tasks.Pause.{Pause}
 use Rattle.evaluator.proofs.Moves.{bind_doing, call_here, comes_same, comes_then, stops_then, begins, finished, stopped, line_stopped}
 
 -- what was put on top comes first
@@ -39,13 +39,13 @@ fails_after p t t' m m' m'' line OutOfSteps f h = stops_then f h
 fails_after p t t' m m' m'' line (Limited which) f h = stops_then f h
 fails_after p t t' m m' m'' line Memory f h = tt
 
-pub turns_after : (p : ProgramRows) (t t' : Tree) (m m' m'' : Moment) (r : Result (Option row.Pause) Halt) (a : Body) → Comes p t m t' m' → Turns p t'
+pub turns_after : (p : ProgramRows) (t t' : Tree) (m m' m'' : Moment) (r : Result (Option Pause) Halt) (a : Body) → Comes p t m t' m' → Turns p t'
     m' r a m'' → Turns p t m r a m''
 turns_after p t t' m m' m'' (Ok None) a f h = comes_then f h
 turns_after p t t' m m' m'' (Ok (Some s)) a f h = (stops_then f h.0, h.1)
 turns_after p t t' m m' m'' (Err e) a f h = fails_after p t t' m m' m'' a.line e f h
 
-pub turns_same : (p : ProgramRows) (t t' : Tree) (m m' : Moment) (r : Result (Option row.Pause) Halt) (a : Body) → t ≡ t' → Turns p t' m r a m' → Turns
+pub turns_same : (p : ProgramRows) (t t' : Tree) (m m' : Moment) (r : Result (Option Pause) Halt) (a : Body) → t ≡ t' → Turns p t' m r a m' → Turns
     p t m r a m'
 turns_same p t t' m m' r a e h = subst (λ t. Turns p t m r a m') (sym e) h
 
@@ -67,8 +67,7 @@ fails p line a k K seen (Limited which) m m' h = stopped_in p line a k K _ m m' 
 fails p line a k K seen Memory m m' h = tt
 
 -- and so the body has failed
-pub turns_failed : (p : ProgramRows) (t : Tree) (m m' : Moment) (line : ℕ) (e : Halt) (a : Body) (r : Result (Option row.Pause) Halt) → a.line ≡ line
-    → r ≡ Err e
+pub turns_failed : (p : ProgramRows) (t : Tree) (m m' : Moment) (line : ℕ) (e : Halt) (a : Body) (r : Result (Option Pause) Halt) → a.line ≡ line → r ≡ Err e
     → Fails p t m line e m' → Turns p t m r a m'
 turns_failed p t m m' line e a r g f h = subst (λ r. Turns p t m r a m') (sym f) (subst (λ l. Fails p t m l e m') (sym g) h)
 
@@ -108,7 +107,7 @@ given seen a (Err (Limited which)) m h = absurd h
 given seen a (Err Memory) m h = absurd h
 
 -- a turn that failed leaves no more to do
-pub falls_failed : (r : Result (Option row.Pause) Halt) (e : Halt) (a b : ℕ) → r ≡ Err e → Falls r a b
+pub falls_failed : (r : Result (Option Pause) Halt) (e : Halt) (a b : ℕ) → r ≡ Err e → Falls r a b
 falls_failed r e a b h = subst (λ r. Falls r a b) (sym h) tt
 
 -- an access before a selector
@@ -135,7 +134,7 @@ call_pauses {p = p} {m = m} {K = K} {args = args} {ls = ls} f cells a h l w =
     (subst (λ k. StopsAt p (Enter f cells args K) m (AtCall f args k) m) w (call_here f cells args K m h))
 
 -- a call was reached, with room for it
-pub entered_turns : (p : ProgramRows) (t : Tree) (m : Moment) (f : ℕ) (r : Result (Option row.Pause) Halt) (a : Body) → Entered p t m f r a
+pub entered_turns : (p : ProgramRows) (t : Tree) (m : Moment) (f : ℕ) (r : Result (Option Pause) Halt) (a : Body) → Entered p t m f r a
     → (x : Routine) → routine_at p f ≡ Some x → limit_passed m.state x.cells ≡ None → Turns p t m r a m
 entered_turns p t m f (Ok None) a h x e l = absurd h
 entered_turns p t m f (Ok (Some (pauses.Line n))) a h x e l = absurd h
@@ -146,7 +145,7 @@ entered_turns p t m f (Err OutOfSteps) a h x e l = absurd h
 entered_turns p t m f (Err (Limited which)) a h x e l = absurd h
 entered_turns p t m f (Err Memory) a h x e l = tt
 
-pub entered_falls : (p : ProgramRows) (t : Tree) (m : Moment) (f : ℕ) (r : Result (Option row.Pause) Halt) (a : Body) (left before : ℕ) → Entered p t m
+pub entered_falls : (p : ProgramRows) (t : Tree) (m : Moment) (f : ℕ) (r : Result (Option Pause) Halt) (a : Body) (left before : ℕ) → Entered p t m
     f r a → Falls r left before
 entered_falls p t m f (Ok None) a left before h = absurd h
 entered_falls p t m f (Ok (Some s)) a left before h = tt

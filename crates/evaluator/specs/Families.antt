@@ -24,6 +24,11 @@ of_dyadic p h (expressions.Logic operator left right) =
     of_expression p h (expressions.Logic operator left right)
 of_dyadic p h (expressions.Compare order left right) =
     of_expression p h (expressions.Compare order left right)
+of_dyadic p h (expressions.Sets operator left right) =
+    of_expression p h (expressions.Sets operator left right)
+of_dyadic p h (expressions.CompareSets order left right) =
+    of_expression p h (expressions.CompareSets order left right)
+of_dyadic p h (expressions.In left right) = of_expression p h (expressions.In left right)
 of_dyadic p h e = no_row
 
 -- a dyadic operator goes on with the value of its left operand
@@ -34,7 +39,19 @@ of_left p home (operands.LogicRight operator right line) v =
     operand p home (operands.LogicRight operator right line) value.Undefined v
 of_left p home (operands.CompareRight order right line) v =
     operand p home (operands.CompareRight order right line) value.Undefined v
+of_left p home (operands.SetsRight operator right line) v =
+    operand p home (operands.SetsRight operator right line) value.Undefined v
+of_left p home (operands.CompareSetsRight order right line) v =
+    operand p home (operands.CompareSetsRight order right line) value.Undefined v
+of_left p home (operands.InRight right line) v = operand p home (operands.InRight right line) value.Undefined v
 of_left p home o v = no_row
+
+-- an operator or a relation on sets goes on with the value of its right operand, where the left one waited
+abbrev pub of_set_operand : ProgramRows → Home → Operand → (x v : Value) → Tree
+of_set_operand p home (operands.Sets operator line) x v = operand p home (operands.Sets operator line) x v
+of_set_operand p home (operands.CompareSets order line) x v = operand p home (operands.CompareSets order line) x v
+of_set_operand p home (operands.In line) x v = operand p home (operands.In line) x v
+of_set_operand p home o x v = no_row
 
 -- a conditional statement (6.8.3.3) whose line is told
 abbrev pub of_conditional : ProgramRows → Home → (row : ℕ) → StatementRow → Tree

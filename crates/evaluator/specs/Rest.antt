@@ -14,7 +14,8 @@ use Rattle.program_meaning.specs.Actions.{Action, Give, ◌>>=◌}
 use Rattle.program_meaning.specs.Tree.{Out, Nothing, Scalar, Cells, Address, Jump, Here}
 use Rattle.program_meaning.specs.Tree.{Tree, Ret, Sub, Enter, doing, bind}
 use Rattle.program_meaning.specs.Tree as parts
-use Rattle.program_meaning.specs.Values.{truth, is_true, signed, logic_of, compared, function_of}
+use Rattle.program_meaning.specs.Values.{truth, is_true, signed, logic_of, compared, function_of, sets_of}
+use Rattle.program_meaning.specs.Values.{sets_compared, is_in, members_added, texts_compared}
 use Rattle.program_meaning.specs.Cells.{writes, assign, component, frame_out, routine_out}
 use Rattle.program_meaning.specs.Accesses.{
   no_row,
@@ -23,13 +24,14 @@ use Rattle.program_meaning.specs.Accesses.{
   on_cells,
   on_address,
   eval,
+  eval_cells,
   scalar,
   address,
   with_components,
   field_in,
   value_at,
 }
-use Rattle.program_meaning.specs.Expressions.{result_of, with_frame_size, enter, on_actual}
+use Rattle.program_meaning.specs.Expressions.{result_of, with_frame_size, enter, on_actual, gather}
 use Rattle.program_meaning.specs.Statements.{
   on_normal,
   on_statement,
@@ -94,6 +96,18 @@ operand p home (operands.Logic operator) x v = scalar (truth (logic_of operator 
 operand p home (operands.CompareRight order right line) x v =
     eval right (here home line) (λ y. result_of (here home line) (compared order v y))
 operand p home (operands.Compare order line) x v = result_of (here home line) (compared order x v)
+operand p home (operands.SetsRight operator right line) x v =
+    eval right (here home line) (λ y. result_of (here home line) (sets_of operator v y))
+operand p home (operands.Sets operator line) x v = result_of (here home line) (sets_of operator x v)
+operand p home (operands.CompareSetsRight order right line) x v =
+    eval right (here home line) (λ y. result_of (here home line) (sets_compared order v y))
+operand p home (operands.CompareSets order line) x v = result_of (here home line) (sets_compared order x v)
+operand p home (operands.InRight right line) x v =
+    eval right (here home line) (λ y. result_of (here home line) (is_in v y))
+operand p home (operands.In line) x v = result_of (here home line) (is_in x v)
+operand p home (operands.Member next line) x v = gather (here home line) next (members_added x v v)
+operand p home (operands.First last next line) x v =
+    eval last (here home line) (λ w. gather (here home line) next (members_added x v w))
 operand p home (operands.Function f least greatest line) x v =
     result_of (here home line) (function_of f least greatest v)
 operand p home (operands.Component array addr line) x v = with_components p (type_at p array) (λ a.
@@ -184,15 +198,21 @@ called_formal p home procedure place levels line args =
 abbrev pub after : ProgramRows → Home → Task → List Value → List (List Value) → Out → Tree
 after p home (tasks.Operand t) vs ls = on_scalar (operand p home t (top vs))
 after p home (tasks.Located t) vs ls = on_address (located p home t (top_list ls))
-after p home (tasks.Actual of' next line) vs ls = on_actual (here home line) (type_at p of') (λ ws.
+after p home (tasks.Actual of' next line) vs ls = on_actual p (here home line) (type_at p of') (λ ws.
     pass home next line (top_list ls ++ ws))
 after p home (tasks.Call procedure routine levels line) vs ls = on_cells (called p home procedure routine levels line)
 after p home (tasks.CallFormal procedure place levels line) vs ls =
     on_cells (called_formal p home procedure place levels line)
+after p home (tasks.Range next line) vs ls = on_scalar (λ w.
+    gather (here home line) next (members_added (top (below vs)) (top vs) w))
+after p home (tasks.TextRight order right line) vs ls = on_cells (λ xs.
+    eval_cells right (here home line) (λ ys. result_of (here home line) (texts_compared order xs ys)))
+after p home (tasks.Texts order line) vs ls = on_cells (λ ys.
+    result_of (here home line) (texts_compared order (top_list ls) ys))
 after p home (tasks.Choice t) vs ls = on_scalar (choice p home t (top vs))
 after p home (tasks.Target target of' line) vs ls = on_value p (here home line) target of'
 after p home (tasks.Put of' line) vs ls = on_address (λ addr.
-    finally (here home line) (assign (type_at p of') addr (top vs)))
+    finally (here home line) (assign p (type_at p of') addr (top vs)))
 after p home (tasks.PutCells line) vs ls = on_address (λ addr. finally (here home line) (writes addr (top_list ls)))
 after p home (tasks.Next t) vs ls = after_statement p home t vs
 
@@ -201,6 +221,12 @@ abbrev pub values_below : Task → List Value → List Value
 values_below (tasks.Operand (operands.Arithmetic operator line)) vs = below vs
 values_below (tasks.Operand (operands.Logic operator)) vs = below vs
 values_below (tasks.Operand (operands.Compare order line)) vs = below vs
+values_below (tasks.Operand (operands.Sets operator line)) vs = below vs
+values_below (tasks.Operand (operands.CompareSets order line)) vs = below vs
+values_below (tasks.Operand (operands.In line)) vs = below vs
+values_below (tasks.Operand (operands.Member next line)) vs = below vs
+values_below (tasks.Operand (operands.First last next line)) vs = below vs
+values_below (tasks.Range next line) vs = below (below vs)
 values_below (tasks.Choice (choices.Last turns line)) vs = below vs
 values_below (tasks.Put of' line) vs = below vs
 values_below (tasks.Next (nexts.Counted row line)) vs = below (below vs)
@@ -211,6 +237,7 @@ abbrev pub lists_below : Task → List (List Value) → List (List Value)
 lists_below (tasks.Located (locateds.Passed next line)) ls = below ls
 lists_below (tasks.Actual of' next line) ls = below ls
 lists_below (tasks.PutCells line) ls = below ls
+lists_below (tasks.Texts order line) ls = below ls
 lists_below t ls = ls
 
 -- how the body's routine returns, once its statement part has ended
@@ -249,6 +276,8 @@ begun p home (part.Eval row line) ts vs ls = Sub (parts.Eval row (here home line
 begun p home (part.Locate row line) ts vs ls = Sub (parts.Locate row (here home line)) (resume p home ts vs ls)
 begun p home (part.Pass at line) ts vs ls =
     Sub (parts.Pass at (top_list ls) (here home line)) (resume p home ts vs (below ls))
+begun p home (part.Gather at line) ts vs ls =
+    Sub (parts.Gather at (top vs) (here home line)) (resume p home ts (below vs) ls)
 begun p home (part.Exec row line) ts vs ls = Sub (parts.Exec row (here home line)) (resume p home ts vs ls)
 begun p home (part.Sequence first at line) ts vs ls =
     Sub (parts.Sequence first at (here home line)) (resume p home ts vs ls)

@@ -57,14 +57,16 @@ Fails p t m line halts.OutOfSteps m' = StopsAt p t m (AtEnd (Halted way.OutOfSte
 Fails p t m line (halts.Limited which) m' = StopsAt p t m (AtEnd (Halted (way.Limited which))) m'
 Fails p t m line halts.Memory m' = Unit {0}
 
--- a call that is to be entered is of a routine of the program, and no limit forbids it
+-- the routine is one of the program, and no limit forbids a call of it
 abbrev pub MayEnter : ProgramRows → (routine : ℕ) → State → Type 0
 MayEnter p f σ = (r : Routine) × (routine_at p f ≡ Some r) × (limit_passed σ r.cells ≡ None)
 
+-- a call at which a body stops may be entered
 abbrev pub HasRoom : ProgramRows → stop.Stop → State → Type 0
 HasRoom p (stops.Enter f args) σ = MayEnter p f σ
 HasRoom p s σ = Unit {0}
 
+-- a call at which a turn pauses may be entered
 abbrev pub PausesInRoom : ProgramRows → Pause → State → Type 0
 PausesInRoom p (pauses.Enter f) σ = MayEnter p f σ
 PausesInRoom p pause σ = Unit {0}

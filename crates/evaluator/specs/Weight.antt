@@ -6,6 +6,7 @@ use Rattle.evaluator.specs.declared.tasks.Part.{Part}
 use Rattle.evaluator.specs.declared.tasks.Part.TheVariants as part
 use Rattle.evaluator.specs.declared.tasks.Now.{Now}
 use Rattle.evaluator.specs.declared.tasks.Now.TheVariants.{Begin, Carry, Came}
+use Rattle.evaluator.specs.declared.tasks.Operand.TheVariants as operands
 use Rattle.evaluator.specs.declared.tasks.Choice.TheVariants as choices
 use Rattle.evaluator.specs.declared.tasks.Located.TheVariants as locateds
 use Rattle.evaluator.specs.declared.tasks.Next.TheVariants as nexts
@@ -28,6 +29,7 @@ abbrev pub part_weight : Part → ℕ
 part_weight (part.Eval row line) = 4 * row + 8
 part_weight (part.Locate row line) = 4 * row + 4
 part_weight (part.Pass at line) = come + 1
+part_weight (part.Gather at line) = come + 1
 part_weight (part.Exec row line) = 2 * (4294967296 - row)
 part_weight (part.Sequence first at line) = come + 1
 part_weight (part.Turn row line) = come + 4
@@ -41,6 +43,8 @@ now_weight (Came way) = come
 abbrev pub task_weight : Task → ℕ
 task_weight (tasks.Located (locateds.Passed next line)) = 2
 task_weight (tasks.Actual of' next line) = 2
+task_weight (tasks.Operand (operands.Member next line)) = 2
+task_weight (tasks.Range next line) = 2
 task_weight (tasks.Choice (choices.Until row line)) = 5
 task_weight (tasks.Next (nexts.Sequence first at line)) = 2
 task_weight (tasks.Next (nexts.Again row line)) = 5

@@ -19,7 +19,9 @@ ghost use Rattle.evaluator.specs.Weight.{now_weight, tasks_weight};
 use crate::body::{Body, Turned};
 use crate::tasks::{Located, Now, Operand, Part, Task, Way};
 use cell_value::{Cells, Value};
-use eval_ops::{Machine, cell_out, component, moved, ordinal_at, read_cells, reference_out, spend};
+use eval_ops::{
+    Machine, cell_out, component, moved, ordinal_at, read_cells, reference_out, set_at, spend,
+};
 use program_meaning::Components;
 use program_tables::Program;
 use program_tables::rows::{AccessRow, NameRow, Row, TypeRow};
@@ -227,6 +229,7 @@ impl Body {
                     ..
                 },
             ) => { self.scalar(line, ordinal_at(machine, least, greatest, addr)) }
+            Some(TypeRow::Set { .. }) => self.scalar(line, set_at(machine, addr)),
             Some(TypeRow::Array { cells, .. }) => self.cells(
                 alloc, program, machine, cells, line, addr,
             ),
@@ -262,7 +265,7 @@ impl Body {
     }
 
     /// The values of cells are what came.
-    fn give_cells(&mut self, values: Cells) -> Turned
+    pub(crate) fn give_cells(&mut self, values: Cells) -> Turned
         ensures turns { (p : ProgramRows) (m : Moment) → Turns p (waiting p self.old (CellsOut values)) m result
             self.new m }
         ensures falls { Falls result (body_weight self.new) (come + 1 + tasks_weight self.old) }

@@ -148,7 +148,7 @@ impl Body {
             + tasks_weight self.old) }
         ensures home { self.new.home ≡ self.old.home }
     {
-        match passed(test(program.type_row(of), value)) {
+        match passed(test(program, program.type_row(of), value)) {
             Ok(tested) => self.add_cell(alloc, program, tested, next, line),
             Err(halt) => self.fail(line, halt),
         }

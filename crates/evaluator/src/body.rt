@@ -326,6 +326,7 @@ impl Body {
             Part::Eval { row, line } => self.evaluate(alloc, program, machine, row, line),
             Part::Locate { row, line } => self.locate(program, machine, row, line),
             Part::Pass { at, line } => self.pass(alloc, program, machine, at, line),
+            Part::Gather { at, line } => self.gather(program, at, line),
             Part::Exec { row, line } => self.execute(program, machine, row, line),
             Part::Sequence { first, at, line } => self.sequence(program, first, at, line),
             Part::Turn { row, line } => self.turn_again(program, row, line),
@@ -440,6 +441,7 @@ impl Body {
         match task {
             Task::Operand(operand) => self.operand(program, operand, value),
             Task::Actual { of, next, line } => self.actual(alloc, program, of, next, line, value),
+            Task::Range { next, line } => self.range(next, line, value),
             Task::Choice(choice) => self.choice(alloc, program, machine, choice, value),
             Task::Target { target, of, line } => self.target(program, target, of, line, value),
             Task::Next(next) => self.next(alloc, program, machine, next),
@@ -503,6 +505,8 @@ impl Body {
                 levels,
                 line,
             } => self.call_formal(alloc, program, machine, procedure, place, levels, line),
+            Task::TextRight { order, right, line } => self.text_right(order, right, line),
+            Task::Texts { order, line } => self.texts(alloc, order, line),
             Task::Target { target, of, line } => self.target_cells(program, target, of, line),
             Task::Next(next) => {
                 // The cells are of no use to it.
@@ -591,6 +595,16 @@ impl Body {
             Task::Operand(Operand::Arithmetic { .. }) => self.drop_value(),
             Task::Operand(Operand::Logic { .. }) => self.drop_value(),
             Task::Operand(Operand::Compare { .. }) => self.drop_value(),
+            Task::Operand(Operand::Sets { .. }) => self.drop_value(),
+            Task::Operand(Operand::CompareSets { .. }) => self.drop_value(),
+            Task::Operand(Operand::In { .. }) => self.drop_value(),
+            Task::Operand(Operand::Member { .. }) => self.drop_value(),
+            Task::Operand(Operand::First { .. }) => self.drop_value(),
+            Task::Range { .. } => {
+                self.drop_value();
+                self.drop_value();
+            }
+            Task::Texts { .. } => self.drop_list(alloc),
             Task::Located(Located::Passed { .. }) => self.drop_list(alloc),
             Task::Actual { .. } => self.drop_list(alloc),
             Task::Choice(Choice::Last { .. }) => self.drop_value(),

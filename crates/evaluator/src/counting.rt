@@ -23,11 +23,11 @@ use program_tables::rows::TypeRow;
 use std::alloc::Global;
 
 /// The test of both bounds of a for statement that has a turn, for the type of its control variable.
-fn bounds_tested(kind: Option<TypeRow>, span: Span) -> Result<Value, Halt>
-    ensures { Gives (λ v. v) (statements.bounds_tested kind span.value span.last) result }
+fn bounds_tested(program: &Program, kind: Option<TypeRow>, span: Span) -> Result<Value, Halt>
+    ensures { Gives (λ v. v) (statements.bounds_tested program.now kind span.value span.last) result }
 {
-    passed(test(kind, Value::Number(span.value)))?;
-    passed(test(kind, Value::Number(span.last)))
+    passed(test(program, kind, Value::Number(span.value)))?;
+    passed(test(program, kind, Value::Number(span.last)))
 }
 
 impl Body {
@@ -83,7 +83,7 @@ impl Body {
         if !has_turn(counting.direction, span) {
             return self.undefine(alloc, machine, counting.place, line);
         }
-        match bounds_tested(program.type_row(counting.of), span) {
+        match bounds_tested(program, program.type_row(counting.of), span) {
             Ok(_) => self.count(alloc, machine, turns, line, counting, span),
             Err(halt) => self.fail(line, halt),
         }

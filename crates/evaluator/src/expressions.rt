@@ -14,7 +14,10 @@ ghost use Rattle.evaluator.specs.Weight.{now_weight, tasks_weight};
 use crate::body::{Body, Turned};
 use crate::tasks::{Located, Now, Operand, Part, Task, Way};
 use cell_value::{Value, arith};
-use eval_ops::{Machine, compare_ordinals, is_true, ordinal_function, passed, sign, spend, truth};
+use eval_ops::{
+    Machine, add_members, compare_ordinals, is_true, no_members, ordinal_function, passed, sign,
+    spend, truth,
+};
 use eval_rules::{combine, constant, type_accessed};
 use program_tables::Program;
 use program_tables::rows::{ExpressionRow, Row};
@@ -80,6 +83,15 @@ impl Body {
             ExpressionRow::Arithmetic { .. } => self.dyadic(expression, line),
             ExpressionRow::Logic { .. } => self.dyadic(expression, line),
             ExpressionRow::Compare { .. } => self.dyadic(expression, line),
+            ExpressionRow::Sets { .. } => self.dyadic(expression, line),
+            ExpressionRow::CompareSets { .. } => self.dyadic(expression, line),
+            ExpressionRow::In { .. } => self.dyadic(expression, line),
+            ExpressionRow::Text { token } => self.string(alloc, program, token),
+            ExpressionRow::CompareTexts { order, left, right } => self.wait(
+                Task::TextRight { order, right, line },
+                Now::Begin(Part::Eval { row: left, line }),
+            ),
+            ExpressionRow::Set { members } => self.gather_from(no_members(), members, line),
             ExpressionRow::Apply {
                 routine,
                 levels,
@@ -164,6 +176,26 @@ impl Body {
                 Task::Operand(Operand::CompareRight { order, right, line }),
                 Now::Begin(Part::Eval { row: left, line }),
             ),
+            ExpressionRow::Sets {
+                operator,
+                left,
+                right,
+            } => self.wait(
+                Task::Operand(Operand::SetsRight {
+                    operator,
+                    right,
+                    line,
+                }),
+                Now::Begin(Part::Eval { row: left, line }),
+            ),
+            ExpressionRow::CompareSets { order, left, right } => self.wait(
+                Task::Operand(Operand::CompareSetsRight { order, right, line }),
+                Now::Begin(Part::Eval { row: left, line }),
+            ),
+            ExpressionRow::In { left, right } => self.wait(
+                Task::Operand(Operand::InRight { right, line }),
+                Now::Begin(Part::Eval { row: left, line }),
+            ),
             _ => self.no_row(),
         }
     }
@@ -196,6 +228,21 @@ impl Body {
                 let left = self.take_value();
                 self.scalar(line, passed(compare_ordinals(order, left, value)))
             }
+            Operand::SetsRight { .. } => self.left_operand(operand, value),
+            Operand::Sets { .. } => self.set_operand(operand, value),
+            Operand::CompareSetsRight { .. } => self.left_operand(operand, value),
+            Operand::CompareSets { .. } => self.set_operand(operand, value),
+            Operand::InRight { .. } => self.left_operand(operand, value),
+            Operand::In { .. } => self.set_operand(operand, value),
+            Operand::Member { next, line } => {
+                let set = self.take_value();
+                self.gathered(add_members(set, value, value), next, line)
+            }
+            Operand::First { last, next, line } => self.hold(
+                value,
+                Task::Range { next, line },
+                Now::Begin(Part::Eval { row: last, line }),
+            ),
             Operand::Function {
                 function,
                 least,
@@ -247,6 +294,25 @@ impl Body {
             Operand::CompareRight { order, right, line } => self.hold(
                 value,
                 Task::Operand(Operand::Compare { order, line }),
+                Now::Begin(Part::Eval { row: right, line }),
+            ),
+            Operand::SetsRight {
+                operator,
+                right,
+                line,
+            } => self.hold(
+                value,
+                Task::Operand(Operand::Sets { operator, line }),
+                Now::Begin(Part::Eval { row: right, line }),
+            ),
+            Operand::CompareSetsRight { order, right, line } => self.hold(
+                value,
+                Task::Operand(Operand::CompareSets { order, line }),
+                Now::Begin(Part::Eval { row: right, line }),
+            ),
+            Operand::InRight { right, line } => self.hold(
+                value,
+                Task::Operand(Operand::In { line }),
                 Now::Begin(Part::Eval { row: right, line }),
             ),
             _ => self.no_row(),

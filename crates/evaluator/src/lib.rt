@@ -7,6 +7,7 @@ mod actuals;
 mod body;
 mod counting;
 mod expressions;
+mod sets;
 mod statements;
 mod tasks;
 

@@ -557,7 +557,7 @@ impl Body {
         ensures ready { IsReady machine.new }
     {
         let value = self.take_value();
-        let done = assign(alloc, machine, program.type_row(of), addr, value);
+        let done = assign(alloc, program, machine, program.type_row(of), addr, value);
         self.finally(line, done)
     }
 

@@ -1,7 +1,7 @@
 //! What a body has to do, and how far it is with it.
 
 use cell_value::{ArithOp, Cells, Order, Value, WayOut};
-use program_tables::rows::{Logic, OrdinalFunction};
+use program_tables::rows::{Logic, OrdinalFunction, SetOperator};
 use std::mem::size_of;
 
 /// The routine that a body is of, and where its frame begins.
@@ -20,6 +20,8 @@ pub enum Part {
     Locate { row: u32, line: u32 },
     /// The actual parameters from an item on. The cells of those before it are the last list that waits.
     Pass { at: u32, line: u32 },
+    /// The members of a set constructor from an item on. The set of those before it is the last value that waits.
+    Gather { at: u32, line: u32 },
     /// A statement.
     Exec { row: u32, line: u32 },
     /// The statements from an item on, of the sequence that begins with the first item.
@@ -85,6 +87,43 @@ pub enum Operand {
     },
     Compare {
         order: Order,
+        line: u32,
+    },
+    SetsRight {
+        operator: SetOperator,
+        right: u32,
+        line: u32,
+    },
+    /// The left operand is the last value that waits, as in `CompareSets` and `In`.
+    Sets {
+        operator: SetOperator,
+        line: u32,
+    },
+    CompareSetsRight {
+        order: Order,
+        right: u32,
+        line: u32,
+    },
+    CompareSets {
+        order: Order,
+        line: u32,
+    },
+    InRight {
+        right: u32,
+        line: u32,
+    },
+    In {
+        line: u32,
+    },
+    /// A member of a set constructor. The set of those before it is the last value that waits, as in `First`.
+    Member {
+        next: u32,
+        line: u32,
+    },
+    /// The first of a range of members, before its last.
+    First {
+        last: u32,
+        next: u32,
         line: u32,
     },
     Function {
@@ -192,6 +231,23 @@ pub enum Task {
         procedure: bool,
         place: u32,
         levels: u32,
+        line: u32,
+    },
+    /// The last of a range of members. The last values that wait are the first of the range, and below it the set of
+    /// the members before.
+    Range {
+        next: u32,
+        line: u32,
+    },
+    /// The left one of two strings, before the right one.
+    TextRight {
+        order: Order,
+        right: u32,
+        line: u32,
+    },
+    /// The right one of two strings. The left one is the last list that waits.
+    Texts {
+        order: Order,
         line: u32,
     },
     Choice(Choice),

@@ -88,6 +88,7 @@ use Rattle.program_meaning.specs.Tree.{
   Eval,
   Locate,
   Pass,
+  Gather,
   Exec,
   Sequence,
   Turn,
@@ -103,7 +104,7 @@ use Rattle.program_meaning.specs.Tree.{
   way_of,
 }
 use Rattle.program_meaning.specs.Accesses.{no_row, eval, locate, locate_before, of_access, access_in}
-use Rattle.program_meaning.specs.Expressions.{expression_in, of_actual}
+use Rattle.program_meaning.specs.Expressions.{expression_in, of_actual, of_members}
 use Rattle.program_meaning.specs.Statements.{on_normal, on_labelled, begins, line_of, statement_in, of_sequence, of_turn, of_count}
 use Rattle.program_meaning.specs.Layer.{layer, of_body}
 use Rattle.program_meaning.proofs.ActsTakeSteps.{cost, Acted, acted}
@@ -147,6 +148,7 @@ rank R (Sequence first at here) = R + 1
 rank R (Locate row here) = R - (R - row)
 rank R (Eval row here) = R + 1
 rank R (Pass at passed here) = R + 2
+rank R (Gather at set here) = R + 2
 rank R (Turn row here) = R + 2
 
 -- whether a part takes a step before it ends, if nothing stops the run
@@ -174,6 +176,7 @@ below_all R (Sequence first at here) = omega arith
 below_all R (Locate row here) = omega arith
 below_all R (Eval row here) = omega arith
 below_all R (Pass at passed here) = omega arith
+below_all R (Gather at set here) = omega arith
 below_all R (Turn row here) = omega arith
 
 -- each tree has this rank
@@ -254,6 +257,11 @@ module _ (p : ProgramRows) where
   passed_row at vs here (rows.Item i) = passed_item at vs here i
   passed_row at vs here r = refl
 
+  gathered : (at : ℕ) (set : Value) (here : Here) (r : Row) → Fits (Gather at set here) (of_members set here r)
+  gathered at set here (rows.Item (item.Member e next)) = (omega arith, inl refl)
+  gathered at set here (rows.Item (item.Members first last next)) = (omega arith, inl refl)
+  gathered at set here r = refl
+
   begun : (row : ℕ) (here : Here) (s : StatementRow) (o : Option ℕ) → Fits (Exec row here) (begins p row here s o)
   begun row here s (Some line) = tt
   begun row here s None = tt
@@ -303,6 +311,7 @@ module _ (p : ProgramRows) where
   part_fits (Eval row here) = evaluated row here (row_at p row)
   part_fits (Locate row here) = located row here
   part_fits (Pass at passed here) = passed_row at passed here (row_at p at)
+  part_fits (Gather at set here) = gathered at set here (row_at p at)
   part_fits (Exec row here) = done row here
   part_fits (Sequence first at here) = in_sequence first at here (row_at p at)
   part_fits (Turn row here) = turned row here (row_at p row)

@@ -14,7 +14,7 @@ use Rattle.program_tables.specs.declared.rows.AccessRow.TheVariants.{
   Dereference,
 }
 use Rattle.program_tables.specs.declared.rows.TypeRow.{TypeRow}
-use Rattle.program_tables.specs.declared.rows.TypeRow.TheVariants.{Ordinal, Subrange, Array, Record}
+use Rattle.program_tables.specs.declared.rows.TypeRow.TheVariants.{Ordinal, Subrange, Set, Array, Record}
 use Rattle.program_tables.specs.declared.rows.NameRow.TheVariants as named
 use Rattle.program_tables.specs.ProgramRows.{ProgramRows, row_at, type_at, size_of}
 use Rattle.program_meaning.specs.declared.components.Components.{Components}
@@ -36,7 +36,7 @@ use Rattle.program_meaning.specs.Tree.{
   Sub,
   doing,
 }
-use Rattle.program_meaning.specs.Cells.{reads, ordinal_at, cell_out, reference_out, component}
+use Rattle.program_meaning.specs.Cells.{reads, ordinal_at, set_at, cell_out, reference_out, component}
 
 -- The tables name a row that they do not have, or that is of another kind. Such tables are no program of a source, so
 -- that the fault has no line.
@@ -65,6 +65,9 @@ on_address go out = no_row
 
 abbrev pub eval : (row : ℕ) → Here → (Value → Tree) → Tree
 eval row here go = Sub (Eval row here) (on_scalar go)
+
+abbrev pub eval_cells : (row : ℕ) → Here → (List Value → Tree) → Tree
+eval_cells row here go = Sub (Eval row here) (on_cells go)
 
 abbrev pub locate : (row : ℕ) → Here → (ℕ → Tree) → Tree
 locate row here go = Sub (Locate row here) (on_address go)
@@ -131,10 +134,11 @@ type_accessed (Dereference access of') = of'
 abbrev pub cells_at : (line addr cells : ℕ) → Tree
 cells_at line addr cells = doing line (reads [] addr cells) (λ vs. Ret (Cells vs))
 
--- the value of an ordinal variable (6.5.1), or the values of the cells of an array or a record
+-- the value of an ordinal variable or of a set (6.5.1), or the values of the cells of an array or a record
 abbrev pub value_at : (line addr : ℕ) → Option TypeRow → Tree
 value_at line addr (Some (Ordinal least greatest)) = doing line (ordinal_at least greatest addr) scalar
 value_at line addr (Some (Subrange host least greatest)) = doing line (ordinal_at least greatest addr) scalar
+value_at line addr (Some (Set packed base)) = doing line (set_at addr) scalar
 value_at line addr (Some (Array packed index component cells)) = cells_at line addr cells
 value_at line addr (Some (Record packed region cells variants)) = cells_at line addr cells
 value_at line addr t = no_row

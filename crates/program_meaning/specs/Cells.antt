@@ -9,7 +9,8 @@ use Rattle.program_meaning.specs.declared.components.Components.{Components}
 use Rattle.program_meaning.specs.State.{heap_end, moved}
 use Rattle.program_meaning.specs.Acts.{Fault, ReadCell, WriteCell}
 use Rattle.program_meaning.specs.Actions.{Action, Give, Fail, ◌>>=◌, act}
-use Rattle.program_meaning.specs.Values.{defined, tested, or_fault}
+use Rattle.program_tables.specs.ProgramRows.{ProgramRows}
+use Rattle.program_meaning.specs.Values.{defined, defined_set, tested, or_fault}
 
 -- a cell of the heap that is not there was disposed of
 abbrev pub or_disposed : Option Value → Action Value
@@ -44,9 +45,13 @@ writes addr (v ∷ vs) = write addr v >>= λ _. writes (moved addr 1) vs
 abbrev pub ordinal_at : (least greatest : ℤ) → (addr : ℕ) → Action Value
 ordinal_at least greatest addr = read addr >>= defined least greatest
 
+-- the value of a variable of a set type
+abbrev pub set_at : (addr : ℕ) → Action Value
+set_at addr = read addr >>= defined_set
+
 -- a variable of a type of one cell gets a value
-abbrev pub assign : Option TypeRow → (addr : ℕ) → Value → Action (Unit {0})
-assign t addr v = or_fault (tested t v) >>= write addr
+abbrev pub assign : ProgramRows → Option TypeRow → (addr : ℕ) → Value → Action (Unit {0})
+assign p t addr v = or_fault (tested p t v) >>= write addr
 
 -- the base of the frame that a link names
 abbrev pub frame_of_link : Value → Action ℕ

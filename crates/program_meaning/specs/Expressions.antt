@@ -1,4 +1,4 @@
--- What each expression does (6.7), with function designators and actual parameters.
+-- What each expression does (6.7), with function designators, actual parameters and set constructors.
 use Rattle.std.specs.Prelude.{ℕ, List, [], ◌∷◌, ◌++◌, not, Option, Some, None, Result}
 use Rattle.cell_value.specs.Arithmetic.{arith_of}
 use Rattle.cell_value.specs.declared.faults.OpFault.{OpFault}
@@ -12,17 +12,23 @@ use Rattle.program_tables.specs.declared.rows.TypeRow.{TypeRow}
 use Rattle.program_tables.specs.declared.rows.ExpressionRow.{ExpressionRow}
 use Rattle.program_tables.specs.declared.rows.ExpressionRow.TheVariants.{
   Constant,
+  Text,
   Sign,
   Not,
   Arithmetic,
   Logic,
+  Sets,
   Compare,
+  CompareTexts,
+  CompareSets,
+  In,
+  Set,
   Apply,
   ApplyFormal,
   Function,
 }
-use Rattle.program_tables.specs.ProgramRows.{ProgramRows, type_at, routine_at}
-use Rattle.program_meaning.specs.Tree.{Out, Scalar, Cells, Jump, Here, Eval, Pass, Tree, Ret, Sub, Enter, doing}
+use Rattle.program_tables.specs.ProgramRows.{ProgramRows, type_at, routine_at, text_at}
+use Rattle.program_meaning.specs.Tree.{Out, Scalar, Cells, Jump, Here, Eval, Pass, Gather, Tree, Ret, Sub, Enter, doing}
 use Rattle.program_meaning.specs.Values.{
   or_fault,
   tested,
@@ -32,10 +38,27 @@ use Rattle.program_meaning.specs.Values.{
   logic_of,
   compared,
   function_of,
+  sets_of,
+  sets_compared,
+  is_in,
+  no_members,
+  members_added,
+  string_of,
+  texts_compared,
 }
 use Rattle.program_meaning.specs.Actions.{Action, Give, ◌>>=◌}
 use Rattle.program_meaning.specs.Cells.{frame_out, routine_out}
-use Rattle.program_meaning.specs.Accesses.{no_row, spend, on_cells, eval, locate, scalar, type_accessed, value_at}
+use Rattle.program_meaning.specs.Accesses.{
+  no_row,
+  spend,
+  on_cells,
+  eval,
+  eval_cells,
+  locate,
+  scalar,
+  type_accessed,
+  value_at,
+}
 
 -- the result of an operation as a value, or its fault
 abbrev pub result_of : Here → Result Value OpFault → Tree
@@ -70,6 +93,7 @@ call_formal p here place levels actuals go = Sub (Pass actuals [] here) (on_cell
 -- `or` always.
 abbrev pub of_expression : ProgramRows → Here → ExpressionRow → Tree
 of_expression p here (Constant n) = scalar (value.Number n)
+of_expression p here (Text token) = Ret (Cells (string_of (text_at p token)))
 of_expression p here (Sign minus operand) = eval operand here (λ v. result_of here (signed minus v))
 of_expression p here (Not operand) = eval operand here (λ v. scalar (truth (not (is_true v))))
 of_expression p here (Arithmetic operator left right) =
@@ -78,6 +102,15 @@ of_expression p here (Logic operator left right) =
     eval left here (λ x. eval right here (λ y. scalar (truth (logic_of operator (is_true x) (is_true y)))))
 of_expression p here (Compare order left right) =
     eval left here (λ x. eval right here (λ y. result_of here (compared order x y)))
+of_expression p here (Sets operator left right) =
+    eval left here (λ x. eval right here (λ y. result_of here (sets_of operator x y)))
+of_expression p here (CompareSets order left right) =
+    eval left here (λ x. eval right here (λ y. result_of here (sets_compared order x y)))
+of_expression p here (In left right) =
+    eval left here (λ x. eval right here (λ y. result_of here (is_in x y)))
+of_expression p here (CompareTexts order left right) =
+    eval_cells left here (λ xs. eval_cells right here (λ ys. result_of here (texts_compared order xs ys)))
+of_expression p here (Set members) = Sub (Gather members no_members here) Ret
 of_expression p here (Apply routine levels actuals) = call p here routine levels actuals Ret
 of_expression p here (ApplyFormal place levels actuals) = call_formal p here place levels actuals Ret
 of_expression p here (Function f operand least greatest) =
@@ -93,11 +126,11 @@ expression_in p row here r = no_row
 
 -- the cells of a value parameter of a type, from the value of its actual; the whole of an array or a record is copied
 -- as it is
-abbrev pub on_actual : Here → Option TypeRow → (List Value → Tree) → Out → Tree
-on_actual here t go (Scalar v) = doing here.line (or_fault (tested t v)) (λ w. go (w ∷ []))
-on_actual here t go (Cells vs) = go vs
-on_actual here t go (Jump label base) = Ret (Jump label base)
-on_actual here t go out = no_row
+abbrev pub on_actual : ProgramRows → Here → Option TypeRow → (List Value → Tree) → Out → Tree
+on_actual p here t go (Scalar v) = doing here.line (or_fault (tested p t v)) (λ w. go (w ∷ []))
+on_actual p here t go (Cells vs) = go vs
+on_actual p here t go (Jump label base) = Ret (Jump label base)
+on_actual p here t go out = no_row
 
 -- A routine as an actual parameter, whose name takes a step, is passed with the frame in which it was declared.
 abbrev pub pass_routine : Here → (next : ℕ) → List Value → Action (ℕ × ℕ) → Tree
@@ -107,7 +140,7 @@ pass_routine here next passed found = spend here (doing here.line found (λ (rou
 -- The actual parameters from an item on, from left to right (6.6.3.2 to 6.6.3.5). What is no actual ends them.
 abbrev pub of_actual : ProgramRows → List Value → Here → Row → Tree
 of_actual p passed here (rows.Item (item.Value e of' next)) =
-    Sub (Eval e here) (on_actual here (type_at p of') (λ vs. Sub (Pass next (passed ++ vs) here) Ret))
+    Sub (Eval e here) (on_actual p here (type_at p of') (λ vs. Sub (Pass next (passed ++ vs) here) Ret))
 of_actual p passed here (rows.Item (item.Place access next)) = locate access here (λ addr.
     Sub (Pass next (passed ++ value.Place addr ∷ []) here) Ret)
 of_actual p passed here (rows.Item (item.Routine routine levels next)) =
@@ -115,3 +148,16 @@ of_actual p passed here (rows.Item (item.Routine routine levels next)) =
 of_actual p passed here (rows.Item (item.RoutineFormal place levels next)) =
     pass_routine here next passed (routine_out levels here.base place)
 of_actual p passed here r = Ret (Cells passed)
+
+-- goes on with the members from an item on, unless one before it was none
+abbrev pub gather : Here → (next : ℕ) → Result Value OpFault → Tree
+gather here next r = doing here.line (or_fault r) (λ set. Sub (Gather next set here) Ret)
+
+-- The members of a set constructor from an item on, from left to right (6.7.1): each member, or both ends of a range,
+-- is tested directly after it is evaluated. What is no member ends them.
+abbrev pub of_members : Value → Here → Row → Tree
+of_members set here (rows.Item (item.Member e next)) =
+    eval e here (λ v. gather here next (members_added set v v))
+of_members set here (rows.Item (item.Members first last next)) =
+    eval first here (λ v. eval last here (λ w. gather here next (members_added set v w)))
+of_members set here r = scalar set

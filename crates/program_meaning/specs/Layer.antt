@@ -2,9 +2,23 @@
 use Rattle.std.specs.Prelude.{ℕ, Option, Some, None}
 use Rattle.program_tables.specs.declared.program.Routine.{Routine}
 use Rattle.program_tables.specs.ProgramRows.{ProgramRows, row_at, routine_at}
-use Rattle.program_meaning.specs.Tree.{Part, Eval, Locate, Pass, Exec, Sequence, Turn, Count, Body, Tree, Ret, Sub}
+use Rattle.program_meaning.specs.Tree.{
+  Part,
+  Eval,
+  Locate,
+  Pass,
+  Gather,
+  Exec,
+  Sequence,
+  Turn,
+  Count,
+  Body,
+  Tree,
+  Ret,
+  Sub,
+}
 use Rattle.program_meaning.specs.Accesses.{no_row, spend, access_in}
-use Rattle.program_meaning.specs.Expressions.{expression_in, of_actual}
+use Rattle.program_meaning.specs.Expressions.{expression_in, of_actual, of_members}
 use Rattle.program_meaning.specs.Statements.{statement_in, of_sequence, of_turn, of_count}
 
 -- the statement part of a routine, which is itself a statement and takes a step
@@ -19,6 +33,7 @@ abbrev pub layer : ProgramRows → Part → Tree
 layer p (Eval row here) = expression_in p row here (row_at p row)
 layer p (Locate row here) = access_in p row here (row_at p row)
 layer p (Pass at passed here) = of_actual p passed here (row_at p at)
+layer p (Gather at set here) = of_members set here (row_at p at)
 layer p (Exec row here) = statement_in p row here (row_at p row)
 layer p (Sequence first at here) = of_sequence p here first (row_at p at)
 layer p (Turn row here) = of_turn row here (row_at p row)

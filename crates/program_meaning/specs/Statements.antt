@@ -71,7 +71,7 @@ finally here a = doing here.line a (λ _. nothing)
 -- Puts the value of an assignment into its target, which is located after the value is known; a value of a scalar type
 -- is tested for the target's type then (6.8.2.2).
 abbrev pub on_value : ProgramRows → Here → (target of' : ℕ) → Out → Tree
-on_value p here target of' (Scalar v) = locate target here (λ addr. finally here (assign (type_at p of') addr v))
+on_value p here target of' (Scalar v) = locate target here (λ addr. finally here (assign p (type_at p of') addr v))
 on_value p here target of' (Cells vs) = locate target here (λ addr. finally here (writes addr vs))
 on_value p here target of' (Jump label base) = Ret (Jump label base)
 on_value p here target of' out = no_row
@@ -114,13 +114,13 @@ abbrev pub undefine : Here → (place : ℕ) → Tree
 undefine here place = finally here (write (moved here.base place) value.Undefined)
 
 -- both bounds of a for statement that has a turn are within the control variable's type
-abbrev pub bounds_tested : Option TypeRow → (i last : ℤ) → Action Value
-bounds_tested t i last = or_fault (tested t (value.Number i)) >>= λ _. or_fault (tested t (value.Number last))
+abbrev pub bounds_tested : ProgramRows → Option TypeRow → (i last : ℤ) → Action Value
+bounds_tested p t i last = or_fault (tested p t (value.Number i)) >>= λ _. or_fault (tested p t (value.Number last))
 
 -- a for statement, once its bounds are known
 abbrev pub first_turn : ProgramRows → Here → (turns : ℕ) → Row → Value → Value → Tree
 first_turn p here turns (rows.Statement (Turns direction last' place of' body)) (value.Number i) (value.Number last) =
-    if has_turn direction i last then doing here.line (bounds_tested (type_at p of') i last) (λ _.
+    if has_turn direction i last then doing here.line (bounds_tested p (type_at p of') i last) (λ _.
     Sub (Count turns i last here) Ret) else undefine here place
 first_turn p here turns r _ _ = no_row
 

@@ -34,6 +34,8 @@ pub data Part : Type 0 where
   Locate : (row : ℕ) (here : Here) → Part
   -- the actual parameters from a position of a list on, where those before it gave these cells
   Pass : (at : ℕ) (passed : List Value) (here : Here) → Part
+  -- the members of a set constructor from an item on, where those before it made this set
+  Gather : (at : ℕ) (set : Value) (here : Here) → Part
   -- a statement
   Exec : (row : ℕ) (here : Here) → Part
   -- the statements from an item on, of the sequence that begins with the first item

@@ -214,24 +214,29 @@ impl Runner {
         }
     }
 
-    /// Goes on with the body of the innermost open call to its next stop.
-    fn go_on(&mut self, alloc: Global, program: &Program, mut body: Body) -> Result<(), Memory>
+    /// Goes on with the body of the innermost open call to its next stop. Where no call is open, it does nothing.
+    fn go_on(&mut self, alloc: Global, program: &Program) -> Result<(), Memory>
         requires well { IsWell self.old }
-        requires chain { Chain (Some body) (opens_in self.old) }
-        requires rests { (first : State) × At program.now first (Rests (rest_of program.now body)) self.old }
-        ensures rests { (first : State) → At program.now first (Rests (rest_of program.now body)) self.old
+        requires chain { Chain self.old.body (opens_in self.old) }
+        requires rests { (first : State) × AtRest program.now first self.old.body self.old }
+        ensures rests { (first : State) → AtRest program.now first self.old.body self.old
             → OnOk result (AtRest program.now first self.new.body self.new) }
-        ensures less { OnOk result (work_left self.new < work_left self.old) }
+        ensures less { (body : bodies.Body) → self.old.body ≡ Some body
+            → OnOk result (work_left self.new < work_left self.old) }
         ensures chain { OnOk result (Chain self.new.body (opens_in self.new)) }
         ensures well { OnOk result (IsWell self.new) }
     {
-        match body.go_on(alloc, program, &mut self.machine)? {
-            Stop::Line(_) => {
-                self.body = Some(body);
-                Ok(())
-            }
-            Stop::Enter(routine, args) => self.enter(alloc, program, Some(body), routine, args),
-            Stop::Ended(way, answer) => self.end(alloc, way, answer),
+        match &mut self.body {
+            None => Ok(()),
+            // The body stays where it is from line to line: it is large.
+            Some(body) => match body.go_on(alloc, program, &mut self.machine)? {
+                Stop::Line(_) => Ok(()),
+                Stop::Enter(routine, args) => {
+                    let caller = self.body.take();
+                    self.enter(alloc, program, caller, routine, args)
+                }
+                Stop::Ended(way, answer) => self.end(alloc, way, answer),
+            },
         }
     }
 
@@ -244,9 +249,9 @@ impl Runner {
             → OnOk result (IsOver program.now first (moment_of self.new.machine) self.new.calls) }
     {
         'stops: loop {
-            match self.body.take() {
+            match &self.body {
                 None => return Ok(()),
-                Some(body) => self.go_on(alloc, program, body)?,
+                Some(_) => self.go_on(alloc, program)?,
             }
         }
     }

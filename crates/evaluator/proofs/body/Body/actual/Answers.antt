@@ -14,7 +14,7 @@ returns-in-Ok-clause-turns c m =
     let K = resume p a.home (tasks_of a) (values_of a) (below (lists_of a)) in
     turns_after p _ _ _ _ _ c.add_cell.result c.add_cell.new.self
     (comes_then (comes_same (ap (λ r. bind (doing c.args.line (or_fault r) (λ w. pass a.home c.args.next c.args.line (top_list (lists_of a) ++ w ∷ []))) K)
-    (sym (c.test.ensures ∙ ap (λ t. tested t c.args.value) c.type_row.ensures))))
+    (sym (c.test.ensures ∙ ap (λ t. tested c.args.program.now t c.args.value) c.type_row.ensures))))
     (did {X = Value} p c.args.line (or_fault c.test.result) (λ w. pass a.home c.args.next c.args.line (top_list (lists_of a) ++ w ∷ [])) K (λ v. v)
     c.in-Ok.tested m m
     (given {X = Value} (λ v. v) (or_fault c.test.result) (Ok c.in-Ok.tested) m c.in-Ok.ensures)))
@@ -28,7 +28,7 @@ returns-in-Err-clause-turns c m =
     turns_failed p _ _ _ c.args.line c.in-Err.halt c.fail.new.self c.fail.result c.fail.ensures.line c.fail.ensures.fails
     (fails_after p _ _ _ _ _ c.args.line c.in-Err.halt
     (comes_same (ap (λ r. bind (doing c.args.line (or_fault r) (λ w. pass a.home c.args.next c.args.line (top_list (lists_of a) ++ w ∷ []))) K)
-    (sym (c.test.ensures ∙ ap (λ t. tested t c.args.value) c.type_row.ensures))))
+    (sym (c.test.ensures ∙ ap (λ t. tested c.args.program.now t c.args.value) c.type_row.ensures))))
     (fails {X = Value} p c.args.line (or_fault c.test.result) (λ w. pass a.home c.args.next c.args.line (top_list (lists_of a) ++ w ∷ [])) K (λ v. v)
     c.in-Err.halt m m
     (given {X = Value} (λ v. v) (or_fault c.test.result) (Err c.in-Err.halt) m c.in-Err.ensures)))

@@ -36,3 +36,11 @@ returns-in-Next-clause-falls c =
     let k = ap (sum_by task_weight) c.drop_list.ensures.tasks in
     let e = ap task_weight c.in-Next.is in
     falls_so c.next.result _ _ _ _ (λ h. omega (arith, h, k, e)) c.next.ensures.falls
+
+pub returns-in-TextRight-clause-turns : goal.returns-in-TextRight-clause-turns
+returns-in-TextRight-clause-turns c = turns_same c.args.program.now _ _ _ _ c.text_right.result c.text_right.new.self
+    (ap (from_under c.args.program.now c.args.self.now (Came way.Cells)) c.in-TextRight.is) (c.text_right.ensures.turns c.args.program.now _)
+
+pub returns-in-Texts-clause-turns : goal.returns-in-Texts-clause-turns
+returns-in-Texts-clause-turns c = turns_same c.args.program.now _ _ _ _ c.texts.result c.texts.new.self
+    (ap (from_under c.args.program.now c.args.self.now (Came way.Cells)) c.in-Texts.is) (c.texts.ensures.turns c.args.program.now _)

@@ -29,3 +29,7 @@ pub returns-in-Next-clause-falls : goal.returns-in-Next-clause-falls
 returns-in-Next-clause-falls c =
     let e = ap task_weight c.in-Next.is in
     falls_so c.next.result _ _ _ _ (λ h. omega (arith, h, e)) c.next.ensures.falls
+
+pub returns-in-Range-clause-turns : goal.returns-in-Range-clause-turns
+returns-in-Range-clause-turns c = turns_same c.args.program.now _ _ _ _ c.range.result c.range.new.self
+    (ap (from_under c.args.program.now c.args.self.now (Came (way.Scalar c.args.value))) c.in-Range.is) (c.range.ensures.turns c.args.program.now _)

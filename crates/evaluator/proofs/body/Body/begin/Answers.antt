@@ -15,3 +15,7 @@ returns-in-Sequence-clause-turns c = turns_same c.args.program.now _ _ _ _ c.seq
 pub returns-in-Turn-clause-turns : goal.returns-in-Turn-clause-turns
 returns-in-Turn-clause-turns c = turns_same c.args.program.now _ _ _ _ c.turn_again.result c.turn_again.new.self
     (ap (λ q. from c.args.program.now c.args.self.now (Begin q)) c.in-Turn.is) (c.turn_again.ensures.turns _)
+
+pub returns-in-Gather-clause-turns : goal.returns-in-Gather-clause-turns
+returns-in-Gather-clause-turns c = turns_same c.args.program.now _ _ _ _ c.gather.result c.gather.new.self
+    (ap (λ q. from c.args.program.now c.args.self.now (Begin q)) c.in-Gather.is) (c.gather.ensures.turns _)

@@ -15,7 +15,7 @@ returns-then-not-has_turn-clause-turns c =
     let rest = waiting p c.args.self.now in
     let e : meaning.has_turn c.args.counting.direction c.args.span.value c.args.span.last ≡ false = sym c.has_turn.ensures ∙ c.if-not-has_turn.true in
     turns_same p _ _ (moment_of c.args.machine.now) _ c.undefine.result c.undefine.new.self
-    (ap (λ b. bind (if b then doing c.args.line (meaning.bounds_tested (type_at p c.args.counting.of) c.args.span.value c.args.span.last)
+    (ap (λ b. bind (if b then doing c.args.line (meaning.bounds_tested p (type_at p c.args.counting.of) c.args.span.value c.args.span.last)
     (λ _. Sub (Count c.args.turns c.args.span.value c.args.span.last h) Ret) else meaning.undefine h c.args.counting.place) rest) e)
     (c.undefine.ensures.turns p)
 
@@ -30,13 +30,13 @@ returns-in-Ok-clause-turns c =
     let rest = waiting p c.args.self.now in
     let e : meaning.has_turn c.args.counting.direction c.args.span.value c.args.span.last ≡ true = sym c.has_turn.ensures ∙ c.if-not-has_turn.false in
     turns_same p _ _ (moment_of c.args.machine.now) _ c.count.result c.count.new.self
-    (ap (λ b. bind (if b then doing c.args.line (meaning.bounds_tested (type_at p c.args.counting.of) c.args.span.value c.args.span.last)
+    (ap (λ b. bind (if b then doing c.args.line (meaning.bounds_tested p (type_at p c.args.counting.of) c.args.span.value c.args.span.last)
     (λ _. Sub (Count c.args.turns c.args.span.value c.args.span.last h) Ret) else meaning.undefine h c.args.counting.place) rest) e)
     (turns_after p _ _ (moment_of c.args.machine.now) (moment_of c.args.machine.now) _ c.count.result c.count.new.self
-    (did p c.args.line (meaning.bounds_tested (type_at p c.args.counting.of) c.args.span.value c.args.span.last)
+    (did p c.args.line (meaning.bounds_tested p (type_at p c.args.counting.of) c.args.span.value c.args.span.last)
     (λ _. Sub (Count c.args.turns c.args.span.value c.args.span.last h) Ret) rest (λ v. v) c.in-Ok.field-0 (moment_of c.args.machine.now)
     (moment_of c.args.machine.now)
-    (given (λ v. v) (meaning.bounds_tested (type_at p c.args.counting.of) c.args.span.value c.args.span.last) (Ok c.in-Ok.field-0)
+    (given (λ v. v) (meaning.bounds_tested p (type_at p c.args.counting.of) c.args.span.value c.args.span.last) (Ok c.in-Ok.field-0)
     (moment_of c.args.machine.now) (rw c.type_row.ensures at c.in-Ok.ensures)))
     (c.count.ensures.turns p c.requires.row))
 
@@ -51,15 +51,15 @@ returns-in-Err-clause-turns c =
     let rest = waiting p c.args.self.now in
     let e : meaning.has_turn c.args.counting.direction c.args.span.value c.args.span.last ≡ true = sym c.has_turn.ensures ∙ c.if-not-has_turn.false in
     turns_same p _ _ (moment_of c.args.machine.now) (moment_of c.args.machine.now) c.fail.result c.fail.new.self
-    (ap (λ b. bind (if b then doing c.args.line (meaning.bounds_tested (type_at p c.args.counting.of) c.args.span.value c.args.span.last)
+    (ap (λ b. bind (if b then doing c.args.line (meaning.bounds_tested p (type_at p c.args.counting.of) c.args.span.value c.args.span.last)
     (λ _. Sub (Count c.args.turns c.args.span.value c.args.span.last h) Ret) else meaning.undefine h c.args.counting.place) rest) e)
     (turns_failed p _ (moment_of c.args.machine.now) (moment_of c.args.machine.now) c.args.line c.in-Err.halt c.fail.new.self c.fail.result c.fail.ensures.line
     c.fail.ensures.fails
-    (fails p c.args.line (meaning.bounds_tested (type_at p c.args.counting.of) c.args.span.value c.args.span.last)
+    (fails p c.args.line (meaning.bounds_tested p (type_at p c.args.counting.of) c.args.span.value c.args.span.last)
     (λ _. Sub (Count c.args.turns c.args.span.value c.args.span.last h) Ret) rest (λ v. v) c.in-Err.halt (moment_of c.args.machine.now)
     (moment_of c.args.machine.now)
-    (given (λ v. v) (meaning.bounds_tested (type_at p c.args.counting.of) c.args.span.value c.args.span.last) (Err c.in-Err.halt)
-    (moment_of c.args.machine.now) (subst (λ k. Gives (λ v. v) (meaning.bounds_tested k c.args.span.value c.args.span.last) (Err c.in-Err.halt))
+    (given (λ v. v) (meaning.bounds_tested p (type_at p c.args.counting.of) c.args.span.value c.args.span.last) (Err c.in-Err.halt)
+    (moment_of c.args.machine.now) (subst (λ k. Gives (λ v. v) (meaning.bounds_tested p k c.args.span.value c.args.span.last) (Err c.in-Err.halt))
     c.type_row.ensures c.in-Err.ensures))))
 
 pub returns-in-Err-clause-falls : goal.returns-in-Err-clause-falls

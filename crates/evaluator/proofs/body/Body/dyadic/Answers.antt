@@ -8,3 +8,12 @@ returns-in-Logic-clause-turns c p m = rw c.in-Logic.is (c.wait-in-Logic.ensures.
 
 pub returns-in-Compare-clause-turns : goal.returns-in-Compare-clause-turns
 returns-in-Compare-clause-turns c p m = rw c.in-Compare.is (c.wait-in-Compare.ensures.turns p m)
+
+pub returns-in-Sets-clause-turns : goal.returns-in-Sets-clause-turns
+returns-in-Sets-clause-turns c p m = rw c.in-Sets.is (c.wait-in-Sets.ensures.turns p m)
+
+pub returns-in-CompareSets-clause-turns : goal.returns-in-CompareSets-clause-turns
+returns-in-CompareSets-clause-turns c p m = rw c.in-CompareSets.is (c.wait-in-CompareSets.ensures.turns p m)
+
+pub returns-in-In-clause-turns : goal.returns-in-In-clause-turns
+returns-in-In-clause-turns c p m = rw c.in-In.is (c.wait-in-In.ensures.turns p m)

@@ -51,3 +51,21 @@ returns-in-Function-clause-turns c m =
     ∙ ap (λ n. bind (of_expression p (here a.home c.args.line) (expressions.Function c.in-Function.function c.in-Function.operand
     (to_z w32 (of_z w32 c.in-Function.least)) n)) (waiting p a)) (sym g))
     (c.wait-in-Function.ensures.turns p m)
+
+pub returns-in-Sets-clause-turns : goal.returns-in-Sets-clause-turns
+returns-in-Sets-clause-turns c m = rw c.in-Sets.is (rw c.in-Sets.is at c.dyadic-in-Sets.ensures.turns c.args.program.now m)
+
+pub returns-in-CompareSets-clause-turns : goal.returns-in-CompareSets-clause-turns
+returns-in-CompareSets-clause-turns c m = rw c.in-CompareSets.is (rw c.in-CompareSets.is at c.dyadic-in-CompareSets.ensures.turns c.args.program.now m)
+
+pub returns-in-In-clause-turns : goal.returns-in-In-clause-turns
+returns-in-In-clause-turns c m = rw c.in-In.is (rw c.in-In.is at c.dyadic-in-In.ensures.turns c.args.program.now m)
+
+pub returns-in-CompareTexts-clause-turns : goal.returns-in-CompareTexts-clause-turns
+returns-in-CompareTexts-clause-turns c m = rw c.in-CompareTexts.is (c.wait-in-CompareTexts.ensures.turns c.args.program.now m)
+
+pub returns-in-Text-clause-turns : goal.returns-in-Text-clause-turns
+returns-in-Text-clause-turns c m = rw c.in-Text.is (c.string.ensures.turns c.args.program.now m)
+
+pub returns-in-Set-clause-turns : goal.returns-in-Set-clause-turns
+returns-in-Set-clause-turns c m = rw (c.in-Set.is, sym c.no_members.ensures) (c.gather_from.ensures.turns c.args.program.now m)

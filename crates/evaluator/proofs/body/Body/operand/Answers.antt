@@ -3,8 +3,8 @@ use Rattle.std.proofs.Common.{◌≡◌, ◌∷◌, sym, ap, ◌∙◌}
 use Rattle.cell_value.specs.declared.values.Value.{Value}
 use Rattle.program_meaning.specs.Tree.{Scalar, bind, doing}
 use Rattle.program_meaning.specs.Accesses.{address, with_components}
-use Rattle.program_meaning.specs.Expressions.{result_of}
-use Rattle.program_meaning.specs.Values.{or_fault, signed, compared, function_of, truth, is_true, logic_of}
+use Rattle.program_meaning.specs.Expressions.{result_of, gather}
+use Rattle.program_meaning.specs.Values.{or_fault, signed, compared, function_of, members_added, truth, is_true, logic_of}
 use Rattle.program_meaning.specs.Cells as action
 use Rattle.cell_value.specs.Arithmetic.{arith_of}
 use Rattle.evaluator.specs.Rest.{here, waiting, resume, top, below, tasks_of, values_of, lists_of}
@@ -102,3 +102,43 @@ returns-in-Component-clause-turns c m =
     (λ k. bind (with_components c.args.program.now k (λ a. doing c.in-Component.line (action.component a c.in-Component.addr c.args.value)
     address)) (waiting c.args.program.now c.args.self.now)) (sym c.type_row.ensures))
     (c.component.ensures.turns m)
+
+pub returns-in-SetsRight-clause-turns : goal.returns-in-SetsRight-clause-turns
+returns-in-SetsRight-clause-turns c m = rw c.in-SetsRight.is (rw c.in-SetsRight.is at c.left_operand-in-SetsRight.ensures.turns c.args.program.now m)
+
+pub returns-in-CompareSetsRight-clause-turns : goal.returns-in-CompareSetsRight-clause-turns
+returns-in-CompareSetsRight-clause-turns c m =
+    rw c.in-CompareSetsRight.is (rw c.in-CompareSetsRight.is at c.left_operand-in-CompareSetsRight.ensures.turns c.args.program.now m)
+
+pub returns-in-InRight-clause-turns : goal.returns-in-InRight-clause-turns
+returns-in-InRight-clause-turns c m = rw c.in-InRight.is (rw c.in-InRight.is at c.left_operand-in-InRight.ensures.turns c.args.program.now m)
+
+pub returns-in-Sets-clause-turns : goal.returns-in-Sets-clause-turns
+returns-in-Sets-clause-turns c m = rw c.in-Sets.is (rw c.in-Sets.is at c.set_operand.ensures.turns c.args.program.now m)
+
+pub returns-in-CompareSets-clause-turns : goal.returns-in-CompareSets-clause-turns
+returns-in-CompareSets-clause-turns c m = rw c.in-CompareSets.is (rw c.in-CompareSets.is at c.set_operand-in-CompareSets.ensures.turns c.args.program.now m)
+
+pub returns-in-In-clause-turns : goal.returns-in-In-clause-turns
+returns-in-In-clause-turns c m = rw c.in-In.is (rw c.in-In.is at c.set_operand-in-In.ensures.turns c.args.program.now m)
+
+pub returns-in-First-clause-turns : goal.returns-in-First-clause-turns
+returns-in-First-clause-turns c m = rw c.in-First.is (c.hold.ensures.turns c.args.program.now m)
+
+pub returns-in-Member-clause-turns : goal.returns-in-Member-clause-turns
+returns-in-Member-clause-turns c m =
+    let p = c.args.program.now in
+    let a = c.args.self.now in
+    let n = c.in-Member in
+    let h = here a.home n.line in
+    let K = resume p a.home (tasks_of a) (below (values_of a)) (lists_of a) in
+    let x = c.take_value-set.result in
+    let r : members_added x c.args.value c.args.value ≡ c.add_members.result = cc in
+    turns_same p _ _ m m c.gathered.result c.gathered.new.self
+    (ap (λ t. resume p a.home (tasks.Operand t ∷ tasks_of a) (values_of a) (lists_of a) (Scalar c.args.value)) n.is
+    ∙ ap (λ x. bind (gather h n.next (members_added x c.args.value c.args.value)) K) (sym c.take_value-set.ensures.result)
+    ∙ ap (λ r. bind (gather h n.next r) K) r
+    ∙ ap (bind (gather h n.next c.add_members.result)) (sym (c.take_value-set.ensures.waits p))
+    ∙ ap (λ o. bind (gather (here o n.line) n.next c.add_members.result) (waiting p c.take_value-set.new.self))
+    (sym c.take_value-set.ensures.home))
+    (c.gathered.ensures.turns p m)

@@ -14,9 +14,9 @@ pub returns-clause-turns : goal.returns-clause-turns
 returns-clause-turns c =
     let p = c.args.program.now in
     turns_same p _ _ (moment_of c.args.machine.now) (moment_of c.assign-done.new.machine) c.finally.result c.finally.new.self
-    (ap (λ k. bind (doing c.args.line (assign (type_at p c.args.of) c.args.addr (top (values_of c.args.self.now))) (λ _. meaning.nothing)) k)
+    (ap (λ k. bind (doing c.args.line (assign p (type_at p c.args.of) c.args.addr (top (values_of c.args.self.now))) (λ _. meaning.nothing)) k)
     (sym (c.take_value-value.ensures.waits p)))
-    (c.finally.ensures.turns p (assign (type_at p c.args.of) c.args.addr (top (values_of c.args.self.now))) (moment_of c.args.machine.now)
+    (c.finally.ensures.turns p (assign p (type_at p c.args.of) c.args.addr (top (values_of c.args.self.now))) (moment_of c.args.machine.now)
     (moment_of c.assign-done.new.machine) (rw (c.type_row.ensures, c.take_value-value.ensures.result) at c.assign-done.ensures.action))
 
 pub returns-clause-falls : goal.returns-clause-falls
@@ -24,5 +24,5 @@ returns-clause-falls c =
     let p = c.args.program.now in
     let e = ap (sum_by task_weight) c.take_value-value.ensures.tasks in
     falls_so c.finally.result _ _ _ _ (λ h. omega (arith, h, e))
-    (c.finally.ensures.less (assign (type_at p c.args.of) c.args.addr (top (values_of c.args.self.now))) (moment_of c.args.machine.now)
+    (c.finally.ensures.less (assign p (type_at p c.args.of) c.args.addr (top (values_of c.args.self.now))) (moment_of c.args.machine.now)
     (moment_of c.assign-done.new.machine) (rw (c.type_row.ensures, c.take_value-value.ensures.result) at c.assign-done.ensures.action))

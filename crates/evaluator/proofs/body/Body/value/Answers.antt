@@ -48,3 +48,18 @@ returns-in-Some-Subrange-clause-falls c = falls_so c.scalar-in-Some-Subrange.res
     (c.scalar-in-Some-Subrange.ensures.less (action.ordinal_at (to_z w32 (of_z w32 c.in-Some-Subrange.least))
     (to_z w32 (of_z w32 c.in-Some-Subrange.greatest)) c.args.addr) (moment_of c.args.machine.now)
     (moment_of c.ordinal_at-in-Some-Subrange.new.machine) c.ordinal_at-in-Some-Subrange.ensures.action)
+
+pub returns-in-Some-Set-clause-turns : goal.returns-in-Some-Set-clause-turns
+returns-in-Some-Set-clause-turns c =
+    let p = c.args.program.now in
+    let n = c.in-Some-Set in
+    let e : c.args.kind ≡ Some (kinds.Set n.field-0-0 n.field-0-1) = n.is ∙ ap Some (rw n.is at n.field-0-is) in
+    turns_same p _ _ _ _ c.scalar-in-Some-Set.result c.scalar-in-Some-Set.new.self
+    (ap (λ k. bind (value_at c.args.line c.args.addr k) (waiting p c.args.self.now)) e)
+    (c.scalar-in-Some-Set.ensures.turns p (action.set_at c.args.addr) (moment_of c.args.machine.now)
+    (moment_of c.set_at.new.machine) c.set_at.ensures.action)
+
+pub returns-in-Some-Set-clause-falls : goal.returns-in-Some-Set-clause-falls
+returns-in-Some-Set-clause-falls c = falls_so c.scalar-in-Some-Set.result _ _ _ _ (λ k. omega arith)
+    (c.scalar-in-Some-Set.ensures.less (action.set_at c.args.addr) (moment_of c.args.machine.now) (moment_of c.set_at.new.machine)
+    c.set_at.ensures.action)
