@@ -99,8 +99,8 @@ with_components p (Some (Array packed index component cells)) go = with_bounds (
 with_components p t go = no_row
 
 -- a field of the record variable at an address (6.5.3.3)
-abbrev pub field_in : ProgramRows → (target : Bool) → (line addr field : ℕ) → Tree
-field_in p target line addr field = doing line (field_at p target addr (row_at p field)) address
+abbrev pub locate_field : ProgramRows → (target : Bool) → (line addr field : ℕ) → Tree
+locate_field p target line addr field = doing line (field_at p target addr (row_at p field)) address
 
 -- goes on with a record that a with statement around has established
 abbrev pub with_record : Option ℕ → (ℕ → Tree) → Tree
@@ -117,9 +117,9 @@ of_access p row target here (Reference place levels of') =
 of_access p row target here (Index access index array of') = locate_before row access target here (λ addr. spend here
     (eval index here (λ v. with_components p (type_at p array) (λ a. doing here.line (component a addr v) address))))
 of_access p row target here (Field access field of') = locate_before row access target here (λ addr. spend here
-    (field_in p target here.line addr field))
+    (locate_field p target here.line addr field))
 of_access p row target here (Within record' field of') = spend here (with_record (slice_get here.records record')
-    (λ addr. field_in p target here.line addr field))
+    (λ addr. locate_field p target here.line addr field))
 of_access p row target here (Dereference access of') = no_row
 
 abbrev pub access_in : ProgramRows → (row : ℕ) → (target : Bool) → Here → Row → Tree

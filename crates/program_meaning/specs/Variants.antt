@@ -35,10 +35,13 @@ abbrev pub at_position : Option VariantPart → ℕ → Option (VariantPart × �
 at_position None position = None
 at_position (Some part) position = Some (part, position)
 
--- the variant of a row that holds fields; the fixed part of a record is none
 abbrev pub variant_in : ProgramRows → Row → Option (VariantPart × ℕ)
 variant_in p (rows.Part (parts.Variant variants position)) = at_position (part_in (row_at p variants)) position
 variant_in p r = None
+
+-- the variant that a holder of fields is; the fixed part of a record is none
+abbrev pub variant_at : ProgramRows → (holder : ℕ) → Option (VariantPart × ℕ)
+variant_at p holder = variant_in p (row_at p holder)
 
 -- ---- the chosen variant
 
@@ -104,16 +107,23 @@ entered p target addr part position = read (moved addr part.offset) >>= λ tag.
 -- before what it holds; `n` is how many are looked at.
 abbrev pub all_entered : ProgramRows → (target : Bool) → (addr n holder : ℕ) → Action (Unit {0})
 all_entered p target addr zero holder = Give tt
-all_entered p target addr (suc n) holder = on_variant (variant_in p (row_at p holder)) (λ part position.
+all_entered p target addr (suc n) holder = on_variant (variant_at p holder) (λ part position.
     all_entered p target addr n part.holder >>= λ _. entered p target addr part position)
 
--- the field of a record variable at an address
+-- the place of a field in its record, and what holds it
+abbrev pub field_in : Row → Option (ℕ × ℕ)
+field_in (rows.Name (named.Field of' offset holder)) = Some (offset, holder)
+field_in (rows.Name (named.Tag of' offset holder variants)) = Some (offset, holder)
+field_in r = None
+
+abbrev pub field_held : ProgramRows → (target : Bool) → (addr : ℕ) → Option (ℕ × ℕ) → Action ℕ
+field_held p target addr None = Fail (Fault kind.Undefined)
+field_held p target addr (Some (offset, holder)) =
+    all_entered p target addr holder holder >>= λ _. Give (moved addr offset)
+
+-- the field of a row, of the record variable at an address
 abbrev pub field_at : ProgramRows → (target : Bool) → (addr : ℕ) → Row → Action ℕ
-field_at p target addr (rows.Name (named.Field of' offset holder)) =
-    all_entered p target addr holder holder >>= λ _. Give (moved addr offset)
-field_at p target addr (rows.Name (named.Tag of' offset holder variants)) =
-    all_entered p target addr holder holder >>= λ _. Give (moved addr offset)
-field_at p target addr r = Fail (Fault kind.Undefined)
+field_at p target addr r = field_held p target addr (field_in r)
 
 -- ---- assignments
 
@@ -128,9 +138,12 @@ tag_accessed p (rows.Access (access.Within record' field of')) = tag_of p (row_a
 tag_accessed p (rows.Access (access.Field inner field of')) = tag_of p (row_at p field)
 tag_accessed p r = None
 
+abbrev pub assign_tag : ProgramRows → VariantPart → Option TypeRow → (addr : ℕ) → Value → Action (Unit {0})
+assign_tag p part t addr v = or_fault (tested p t v) >>= activate p part addr
+
 -- The variable that an access denotes gets a value, after the test for its type (6.8.2.2). The value of a tag field
 -- chooses a variant.
 abbrev pub assign_to : ProgramRows → (tag : Option VariantPart) → Option TypeRow → (addr : ℕ) → Value
     → Action (Unit {0})
 assign_to p None t addr v = assign p t addr v
-assign_to p (Some part) t addr v = or_fault (tested p t v) >>= activate p part addr
+assign_to p (Some part) t addr v = assign_tag p part t addr v
