@@ -3,12 +3,16 @@ pub mod Acts
 pub mod Actions
 pub mod Tree
 pub mod Values
+pub mod Input
+pub mod Output
 pub mod Cells
 pub mod Choices
 pub mod Variants
 pub mod Accesses
+pub mod Packing
 pub mod Expressions
 pub mod Statements
+pub mod Transfers
 pub mod Layer
 pub mod Run
 pub mod Numbering
