@@ -182,7 +182,7 @@ module _ (p : ProgramRows) where
   access_fits row target here (access.Within record' field of') h = inl one
   access_fits row target here (access.Index inner index array of') h = locates row inner target here _ h
   access_fits row target here (access.Field inner field of') h = locates row inner target here _ h
-  access_fits row target here (access.Dereference inner of') h = tt
+  access_fits row target here (access.Dereference inner of') h = locates row inner target here _ h
 
   there : (row : ℕ) (target : Bool) (here : Here) (r : Row) → row < R → Fits (Locate row target here) (access_in p row target here r)
   there row target here (rows.Access a) h = access_fits row target here a h
