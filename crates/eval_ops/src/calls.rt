@@ -66,7 +66,12 @@ fn put_cells(
 }
 
 /// Removes so many cells from an address on.
-fn remove_cells(alloc: Global, store: &mut Store, base: u32, cells: u32) -> Result<(), Memory>
+pub(crate) fn remove_cells(
+    alloc: Global,
+    store: &mut Store,
+    base: u32,
+    cells: u32,
+) -> Result<(), Memory>
     requires fits { base + cells ≤ heap_end }
     ensures removed { OnOk result (store.new ≡ cleared base cells store.old) }
 {
