@@ -28,8 +28,14 @@ use Rattle.program_tables.specs.declared.rows.StatementRow.TheVariants.{
   For,
   Turns,
   With,
+  Read,
+  Write,
+  Page,
+  Pack,
+  New,
+  Dispose,
 }
-use Rattle.program_tables.specs.ProgramRows.{ProgramRows, row_at, type_at}
+use Rattle.program_tables.specs.ProgramRows.{ProgramRows, row_at, type_at, size_of}
 use Rattle.program_meaning.specs.State.{moved}
 use Rattle.program_meaning.specs.Acts.{Fault}
 use Rattle.program_meaning.specs.Actions.{Action, ◌>>=◌}
@@ -46,6 +52,9 @@ use Rattle.program_meaning.specs.Tree.{
   Sequence,
   Turn,
   Count,
+  Receive,
+  RestOfLine,
+  Print,
   Tree,
   Ret,
   Halt,
@@ -57,8 +66,11 @@ use Rattle.program_meaning.specs.Values.{or_fault, tested, is_true}
 use Rattle.program_meaning.specs.Cells.{write, writes, frame_out}
 pub use Rattle.program_meaning.specs.Choices.{along, choose_at, choice_of}
 use Rattle.program_meaning.specs.Variants.{tag_accessed, assign_to}
+use Rattle.program_meaning.specs.Heap.{made_variable, dispose}
 use Rattle.program_meaning.specs.Accesses.{no_row, spend, eval, locate, locate_target}
 use Rattle.program_meaning.specs.Expressions.{call, call_formal}
+use Rattle.program_meaning.specs.Output.{end_line, end_page}
+use Rattle.program_meaning.specs.Packing.{pack}
 
 -- goes on after a statement that ended normally; a jump goes on outward
 abbrev pub on_normal : Tree → Out → Tree
@@ -123,6 +135,10 @@ bounds p here initial turns (rows.Statement (Turns direction last place of' body
     eval initial here (λ i. eval last here (λ j. first_turn p here turns (row_at p turns) i j))
 bounds p here initial turns r = no_row
 
+-- A pointer gets a value that needs no test; it is a target, and is located after the value is known.
+abbrev pub point : Here → (target : ℕ) → Value → Tree
+point here target v = locate_target target here (λ addr. finally here (write addr v))
+
 -- a statement, once its step is taken and its line is told
 abbrev pub of_statement : ProgramRows → (row : ℕ) → Here → StatementRow → Tree
 of_statement p row here (Assign line target e of') = Sub (Eval e here) (on_value p here target of')
@@ -140,6 +156,16 @@ of_statement p row here (CallFormal line place levels actuals) =
 of_statement p row here (Goto line label levels) = doing here.line (frame_out levels here.base) (λ base.
     Ret (Jump label base))
 of_statement p row here (With line records body) = Sub (Establish records body here) Ret
+of_statement p row here (Read ends_line line actuals) =
+    Sub (Receive actuals here) (on_normal (if ends_line then Sub (RestOfLine here) Ret else nothing))
+of_statement p row here (Write ends_line line actuals) =
+    Sub (Print actuals here) (on_normal (if ends_line then finally here end_line else nothing))
+of_statement p row here (Page line) = finally here end_page
+of_statement p row here (Pack packing line unpacked index packed) =
+    pack p here packing unpacked index packed (finally here)
+of_statement p row here (New line access of') =
+    doing here.line (made_variable (size_of p of') of') (point here access)
+of_statement p row here (Dispose line e of') = eval e here (λ v. finally here (dispose (size_of p of') v))
 of_statement p row here s = no_row
 
 -- the line of a statement that is neither compound nor empty
@@ -155,6 +181,12 @@ line_of (For line initial turns) = Some line
 line_of (CallFormal line place levels actuals) = Some line
 line_of (Goto line label levels) = Some line
 line_of (With line records body) = Some line
+line_of (Read ends_line line actuals) = Some line
+line_of (Write ends_line line actuals) = Some line
+line_of (Page line) = Some line
+line_of (Pack packing line unpacked index packed) = Some line
+line_of (New line access of') = Some line
+line_of (Dispose line e of') = Some line
 line_of s = None
 
 -- A statement begins: it takes a step, and then its line is told.

@@ -5,6 +5,7 @@
 mod components;
 mod laws;
 mod variants;
+mod scan;
 
 pub use components::Components;
 pub use laws::{
@@ -12,3 +13,4 @@ pub use laws::{
     numbers_tell_the_tree,
 };
 pub use variants::VariantPart;
+pub use scan::{Scan, Scanned};
