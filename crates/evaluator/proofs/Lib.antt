@@ -1,4 +1,1 @@
-pub mod Moves
-pub mod StatementsByRow
-pub mod StepsFall
-pub mod Turning
+mod AfterStatements

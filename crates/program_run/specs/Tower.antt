@@ -13,7 +13,6 @@ use Rattle.std.specs.Prelude.{
   None,
   length,
   slice_get,
-  false,
 }
 use Rattle.cell_value.specs.declared.values.Value.{Value}
 use Rattle.cell_value.specs.declared.entries.Touch.{Touch}
@@ -46,7 +45,7 @@ use Rattle.program_meaning.specs.Run.{
 }
 use Rattle.program_meaning.specs.Numbering.{belows, parent_of, depth_of, last_of, each_from, Inside}
 use Rattle.eval_ops.specs.Machines.{Moment}
-use Rattle.evaluator.specs.Stops.{Stop, AtLine, AtCall, AtEnd}
+use Rattle.eval_tasks.specs.Stops.{Stop, AtLine, AtCall, AtEnd}
 use Rattle.program_run.specs.Table.{side_of, row_with}
 use Rattle.program_run.specs.History.{recording_of}
 
