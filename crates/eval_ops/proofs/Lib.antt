@@ -4,4 +4,5 @@ pub mod CallsInFrames
 pub mod FramesByCell
 pub mod Lists
 pub mod Texts
+pub mod VariantsEntered
 pub mod WritesAsk

@@ -1,29 +1,13 @@
 -- A write of a cell of the heap asks first whether the cell is there.
-use Rattle.std.proofs.Common.{◌≡◌, ℕ, ◌-◌, ◌<◌, ◌≤◌, Bool, true, false, List, [], ◌∷◌, refl, sym, ap, ◌∙◌, nat_lt, is_some, if◌then◌else◌}
+use Rattle.std.proofs.Common.{◌≡◌, ℕ, ◌-◌, ◌<◌, ◌≤◌, Bool, true, false, [], ◌∷◌, refl, sym, ap, ◌∙◌, nat_lt, is_some, if◌then◌else◌}
 use Rattle.std.proofs.lemmas.Bool.{lt-ltb, le-ltb}
 use Rattle.std.specs.FinMap.{get}
 use Rattle.cell_value.specs.declared.values.Value.{Value}
-use Rattle.cell_value.specs.declared.entries.Touch.{Touch}
 use Rattle.cell_value.specs.declared.entries.Touch.TheVariants as touch
 use Rattle.cell_value.specs.declared.ways_out.Kind.TheVariants as kind
 use Rattle.program_meaning.specs.State.{State, stack_end, is_in_reach}
-use Rattle.program_meaning.specs.Acts.{
-  Trouble,
-  Fault,
-  OutOfSteps,
-  Done,
-  Went,
-  Stops,
-  HasCell,
-  WriteCell,
-  spent,
-  with_steps,
-  on_cell,
-  put,
-  put_asked,
-  after_touches,
-  perform,
-}
+use Rattle.program_meaning.specs.Acts.{Fault, OutOfSteps, Done, Went, Stops, HasCell, WriteCell, spent, with_steps, on_cell, perform}
+use Rattle.program_meaning.specs.Acts.{put, put_asked, after_touches}
 
 -- in the stack it does not ask
 pub in_stack : (addr : ℕ) (v : Value) (σ : State) → addr < stack_end → perform (WriteCell addr v) σ ≡ on_cell addr σ (put addr v)

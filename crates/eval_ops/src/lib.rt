@@ -6,6 +6,7 @@ mod calls;
 mod cells;
 mod frames;
 mod halt;
+mod heap;
 mod input;
 mod machine;
 mod output;
@@ -13,11 +14,16 @@ mod packing;
 mod sets;
 mod strings;
 mod values;
+mod variants;
 
 pub use calls::{close_call, make_frame, open_call, remove_frame, result_at};
 pub use cells::{assign, ordinal_at, read_cells, set_at, write_cells};
 pub use frames::{cell_out, component, frame_out, moved, reference_out, routine_out};
 pub use halt::Halt;
+pub use heap::{
+    compare_pointers, defined_pointer, dispose, drop_block, make_block, make_variable, pointed_at,
+    pointed_by, pointer_at, pointer_result_at,
+};
 pub use input::{at_end, at_line_end, next_char, past_item, scan_on};
 pub use machine::{
     HEAP_END, MOST_CALLS, MOST_DEPTH, Machine, STACK_END, limit_passed, read_cell, spend,
@@ -31,3 +37,4 @@ pub use values::{
     compare_ordinals, defined, defined_set, fault_kind, is_true, ordinal_function, passed, sign,
     test, truth,
 };
+pub use variants::{activate, assign_to, field_at, tag_accessed};

@@ -1,50 +1,10 @@
 -- A depth that is always enough. A tree is told by its rank: before a step is taken it has parts of lower rank alone.
-use Rattle.std.proofs.Common.{
-  ◌≡◌,
-  ◌⊎◌,
-  inl,
-  inr,
-  ℕ,
-  zero,
-  suc,
-  ◌+◌,
-  ◌-◌,
-  ◌*◌,
-  ◌<◌,
-  ◌≤◌,
-  ◌==◌,
-  ℤ,
-  Bool,
-  true,
-  false,
-  List,
-  [],
-  ◌∷◌,
-  Option,
-  Some,
-  None,
-  refl,
-  sym,
-  ap,
-  subst,
-  ◌∙◌,
-  length,
-  nat_lt,
-  is_some,
-  if◌then◌else◌,
-  slice_get,
-  unwrap_or,
-  arith,
-}
+use Rattle.std.proofs.Common.{◌≡◌, ◌⊎◌, inl, inr, ℕ, zero, suc, ◌+◌, ◌-◌, ◌*◌, ◌<◌, ◌≤◌, ◌==◌, ℤ, Bool, true, false, List, [], ◌∷◌, Option, Some, None, refl, sym, ap, subst, ◌∙◌, length, nat_lt, if◌then◌else◌, slice_get, unwrap_or, arith}
 use Rattle.std.proofs.Math.Nat.{mul-le-mul_left}
-use Rattle.std.proofs.lemmas.Bool.{ltb-false}
 use Rattle.std.proofs.lemmas.Bool.Decides.{nat_tests}
-use Rattle.std.specs.FinMap.{get}
 use Rattle.cell_value.specs.declared.values.Value.{Value}
 use Rattle.cell_value.specs.declared.entries.Touch.{Touch}
-use Rattle.cell_value.specs.declared.entries.Touch.TheVariants as touch
 use Rattle.cell_value.specs.declared.ways_out.WayOut.{WayOut}
-use Rattle.cell_value.specs.declared.ways_out.Kind.TheVariants as kind
 use Rattle.cell_value.specs.declared.ways_out.Which.{Which}
 use Rattle.cell_value.specs.declared.ways_out.Which.TheVariants.{Stack}
 use Rattle.program_tables.specs.declared.program.Routine.{Routine}
@@ -57,30 +17,8 @@ use Rattle.program_tables.specs.declared.rows.AccessRow.TheVariants as access
 use Rattle.program_tables.specs.declared.rows.StatementRow.{StatementRow}
 use Rattle.program_tables.specs.declared.rows.StatementRow.TheVariants as statement
 use Rattle.program_tables.specs.ProgramRows.{ProgramRows, row_at, routine_at}
-use Rattle.program_meaning.specs.State.{State, stack_end, is_in_reach}
-use Rattle.program_meaning.specs.Acts.{
-  Fault,
-  OutOfSteps,
-  Limited,
-  Act,
-  Answer,
-  Done,
-  Went,
-  Stops,
-  Spend,
-  ReadCell,
-  HasCell,
-  WriteCell,
-  perform,
-  with_steps,
-  on_cell,
-  read_as,
-  put,
-  put_asked,
-  after_touches,
-  limit_passed,
-  spent,
-}
+use Rattle.program_meaning.specs.State.{State, stack_end}
+use Rattle.program_meaning.specs.Acts.{OutOfSteps, Limited, Act, Answer, Done, Went, Stops, Spend, perform, limit_passed, spent}
 use Rattle.program_meaning.specs.Tree.{
   Out,
   Jump,
@@ -90,6 +28,7 @@ use Rattle.program_meaning.specs.Tree.{
   Locate,
   Pass,
   Gather,
+  Establish,
   Exec,
   Sequence,
   Turn,
@@ -111,9 +50,9 @@ use Rattle.program_meaning.specs.Tree.{
 }
 use Rattle.program_meaning.specs.declared.scan.Scan.{Scan}
 use Rattle.program_meaning.specs.declared.scan.Scan.TheVariants.{Blanks, Digits}
-use Rattle.program_meaning.specs.Accesses.{no_row, on_scalar, eval, locate, locate_before, of_access, access_in, type_accessed}
+use Rattle.program_meaning.specs.Accesses.{no_row, on_scalar, on_address, eval, locate_before, of_access, access_in, type_accessed}
 use Rattle.program_meaning.specs.Expressions.{expression_in, of_actual, of_members}
-use Rattle.program_meaning.specs.Statements.{on_normal, on_labelled, begins, line_of, statement_in, of_sequence, of_turn, of_count}
+use Rattle.program_meaning.specs.Statements.{on_normal, on_labelled, begins, line_of, statement_in, of_sequence, of_turn, of_count, of_records}
 use Rattle.program_meaning.specs.Input.{next_char}
 use Rattle.program_meaning.specs.Output.{char_type, host_at}
 use Rattle.program_meaning.specs.Transfers.{read_for, received, of_received, of_scan, of_printed}
@@ -156,10 +95,11 @@ rank R (Body routine base) = 0
 rank R (Count row i last here) = 0
 rank R (Sequence first at here) = R + 1
 -- the lesser of R and the row
-rank R (Locate row here) = R - (R - row)
+rank R (Locate row target here) = R - (R - row)
 rank R (Eval row here) = R + 1
 rank R (Pass at passed here) = R + 2
 rank R (Gather at set here) = R + 2
+rank R (Establish at body here) = R + 1
 rank R (Turn row here) = R + 2
 rank R (Receive at here) = R + 2
 rank R (Scanning scan here) = 0
@@ -169,7 +109,7 @@ rank R (Print at here) = R + 2
 -- whether a part takes a step before it ends, if nothing stops the run
 abbrev pays : Part → Bool
 pays (Eval row here) = true
-pays (Locate row here) = true
+pays (Locate row target here) = true
 pays (Exec row here) = true
 pays (Body routine base) = true
 pays (Scanning scan here) = true
@@ -190,10 +130,11 @@ below_all R (Exec row here) = omega arith
 below_all R (Body routine base) = omega arith
 below_all R (Count row i last here) = omega arith
 below_all R (Sequence first at here) = omega arith
-below_all R (Locate row here) = omega arith
+below_all R (Locate row target here) = omega arith
 below_all R (Eval row here) = omega arith
 below_all R (Pass at passed here) = omega arith
 below_all R (Gather at set here) = omega arith
+below_all R (Establish at body here) = omega arith
 below_all R (Turn row here) = omega arith
 below_all R (Receive at here) = omega arith
 below_all R (Scanning scan here) = omega arith
@@ -226,35 +167,37 @@ module _ (p : ProgramRows) where
   one : 1 ≤ 1
   one = omega arith
 
-  locates : (row access : ℕ) (here : Here) (go : ℕ → Tree) → row < R → Fits (Locate row here) (locate_before row access here go)
-  locates row access here go h = by (nat_lt access row) refl
+  locates : (row access : ℕ) (target : Bool) (here : Here) (go : ℕ → Tree) → row < R
+      → Fits (Locate row target here) (locate_before row access target here go)
+  locates row access target here go h = by (nat_lt access row) refl
     where
-      by : (b : Bool) → nat_lt access row ≡ b → Fits (Locate row here) (if b then locate access here go else no_row)
+      by : (b : Bool) → nat_lt access row ≡ b
+          → Fits (Locate row target here) (if b then Sub (Locate access target here) (on_address go) else no_row)
       by true e = (grind (arith, nat_tests), inl refl)
       by false e = tt
 
-  access_fits : (row : ℕ) (here : Here) (a : AccessRow) → row < R → Fits (Locate row here) (of_access p row here a)
-  access_fits row here (access.Variable place levels of') h = inl one
-  access_fits row here (access.Reference place levels of') h = inl one
-  access_fits row here (access.Within record' field of') h = tt
-  access_fits row here (access.Index inner index array of') h = locates row inner here _ h
-  access_fits row here (access.Field inner field of') h = locates row inner here _ h
-  access_fits row here (access.Dereference inner of') h = tt
+  access_fits : (row : ℕ) (target : Bool) (here : Here) (a : AccessRow) → row < R → Fits (Locate row target here) (of_access p row target here a)
+  access_fits row target here (access.Variable place levels of') h = inl one
+  access_fits row target here (access.Reference place levels of') h = inl one
+  access_fits row target here (access.Within record' field of') h = inl one
+  access_fits row target here (access.Index inner index array of') h = locates row inner target here _ h
+  access_fits row target here (access.Field inner field of') h = locates row inner target here _ h
+  access_fits row target here (access.Dereference inner of') h = locates row inner target here _ h
 
-  there : (row : ℕ) (here : Here) (r : Row) → row < R → Fits (Locate row here) (access_in p row here r)
-  there row here (rows.Access a) h = access_fits row here a h
-  there row here rows.Nothing h = tt
-  there row here (rows.Type t) h = tt
-  there row here (rows.Name n) h = tt
-  there row here (rows.Part q) h = tt
-  there row here (rows.Statement s) h = tt
-  there row here (rows.Expression e) h = tt
-  there row here (rows.Item i) h = tt
+  there : (row : ℕ) (target : Bool) (here : Here) (r : Row) → row < R → Fits (Locate row target here) (access_in p row target here r)
+  there row target here (rows.Access a) h = access_fits row target here a h
+  there row target here rows.Nothing h = tt
+  there row target here (rows.Type t) h = tt
+  there row target here (rows.Name n) h = tt
+  there row target here (rows.Part q) h = tt
+  there row target here (rows.Statement s) h = tt
+  there row target here (rows.Expression e) h = tt
+  there row target here (rows.Item i) h = tt
 
-  located : (row : ℕ) (here : Here) → Fits (Locate row here) (access_in p row here (row_at p row))
-  located row here = elim (below_length p.rows row) [
-    | inl e ↦ subst (λ r. Fits (Locate row here) (access_in p row here r)) (sym e) tt
-    | inr h ↦ there row here (row_at p row) h
+  located : (row : ℕ) (target : Bool) (here : Here) → Fits (Locate row target here) (access_in p row target here (row_at p row))
+  located row target here = elim (below_length p.rows row) [
+    | inl e ↦ subst (λ r. Fits (Locate row target here) (access_in p row target here r)) (sym e) tt
+    | inr h ↦ there row target here (row_at p row) h
   ]
 
   evaluated : (row : ℕ) (here : Here) (r : Row) → Fits (Eval row here) (expression_in p row here r)
@@ -282,6 +225,10 @@ module _ (p : ProgramRows) where
   gathered at set here (rows.Item (item.Member e next)) = (omega arith, inl refl)
   gathered at set here (rows.Item (item.Members first last next)) = (omega arith, inl refl)
   gathered at set here r = refl
+
+  established : (at body : ℕ) (here : Here) (r : Row) → Fits (Establish at body here) (of_records here body r)
+  established at body here (rows.Item (item.Element a next)) = (omega arith, inl refl)
+  established at body here r = (omega arith, inl refl)
 
   begun : (row : ℕ) (here : Here) (s : StatementRow) (o : Option ℕ) → Fits (Exec row here) (begins p row here s o)
   begun row here s (Some line) = tt
@@ -354,9 +301,10 @@ module _ (p : ProgramRows) where
 
   part_fits : (part : Part) → Fits part (layer p part)
   part_fits (Eval row here) = evaluated row here (row_at p row)
-  part_fits (Locate row here) = located row here
+  part_fits (Locate row target here) = located row target here
   part_fits (Pass at passed here) = passed_row at passed here (row_at p at)
   part_fits (Gather at set here) = gathered at set here (row_at p at)
+  part_fits (Establish at body here) = established at body here (row_at p at)
   part_fits (Exec row here) = done row here
   part_fits (Sequence first at here) = in_sequence first at here (row_at p at)
   part_fits (Turn row here) = turned row here (row_at p row)

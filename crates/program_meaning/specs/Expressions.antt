@@ -13,6 +13,7 @@ use Rattle.program_tables.specs.declared.rows.ExpressionRow.{ExpressionRow}
 use Rattle.program_tables.specs.declared.rows.ExpressionRow.TheVariants.{
   Constant,
   Text,
+  Nil,
   Sign,
   Not,
   Arithmetic,
@@ -21,6 +22,7 @@ use Rattle.program_tables.specs.declared.rows.ExpressionRow.TheVariants.{
   Compare,
   CompareTexts,
   CompareSets,
+  ComparePointers,
   In,
   Set,
   Apply,
@@ -51,6 +53,7 @@ use Rattle.program_meaning.specs.Values.{
 use Rattle.program_meaning.specs.Actions.{Action, Give, ◌>>=◌}
 use Rattle.program_meaning.specs.Input.{at_end, at_line_end}
 use Rattle.program_meaning.specs.Cells.{frame_out, routine_out}
+use Rattle.program_meaning.specs.Heap.{pointers_compared}
 use Rattle.program_meaning.specs.Accesses.{
   no_row,
   spend,
@@ -97,6 +100,7 @@ call_formal p here place levels actuals go = Sub (Pass actuals [] here) (on_cell
 abbrev pub of_expression : ProgramRows → Here → ExpressionRow → Tree
 of_expression p here (Constant n) = scalar (value.Number n)
 of_expression p here (Text token) = Ret (Cells (string_of (text_at p token)))
+of_expression p here Nil = scalar value.Nil
 of_expression p here (Sign minus operand) = eval operand here (λ v. result_of here (signed minus v))
 of_expression p here (Not operand) = eval operand here (λ v. scalar (truth (not (is_true v))))
 of_expression p here (Arithmetic operator left right) =
@@ -109,6 +113,8 @@ of_expression p here (Sets operator left right) =
     eval left here (λ x. eval right here (λ y. result_of here (sets_of operator x y)))
 of_expression p here (CompareSets order left right) =
     eval left here (λ x. eval right here (λ y. result_of here (sets_compared order x y)))
+of_expression p here (ComparePointers equal left right) =
+    eval left here (λ x. eval right here (λ y. result_of here (pointers_compared equal x y)))
 of_expression p here (In left right) =
     eval left here (λ x. eval right here (λ y. result_of here (is_in x y)))
 of_expression p here (CompareTexts order left right) =
@@ -120,7 +126,6 @@ of_expression p here (Function f operand least greatest) =
     eval operand here (λ v. result_of here (function_of f least greatest v))
 of_expression p here Eof = doing here.line at_end scalar
 of_expression p here Eoln = doing here.line at_line_end scalar
-of_expression p here e = no_row
 
 -- An access that is used for its value takes no step beside its own.
 abbrev pub expression_in : ProgramRows → (row : ℕ) → Here → Row → Tree
@@ -154,7 +159,7 @@ of_actual p passed here (rows.Item (item.RoutineFormal place levels next)) =
     pass_routine here next passed (routine_out levels here.base place)
 of_actual p passed here r = Ret (Cells passed)
 
--- goes on with the members from an item on, unless one before it was none
+-- goes on with the members from an item on, where those before it passed their tests
 abbrev pub gather : Here → (next : ℕ) → Result Value OpFault → Tree
 gather here next r = doing here.line (or_fault r) (λ set. Sub (Gather next set here) Ret)
 

@@ -1,4 +1,5 @@
 pub mod State
+pub mod Blocks
 pub mod Acts
 pub mod Actions
 pub mod Tree
@@ -6,6 +7,9 @@ pub mod Values
 pub mod Input
 pub mod Output
 pub mod Cells
+pub mod Choices
+pub mod Variants
+pub mod Heap
 pub mod Accesses
 pub mod Packing
 pub mod Expressions

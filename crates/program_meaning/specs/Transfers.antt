@@ -27,8 +27,8 @@ use Rattle.program_meaning.specs.Tree.{
 }
 use Rattle.program_meaning.specs.Input.{next_char, past_item, scan_on}
 use Rattle.program_meaning.specs.Output.{Text, char_type, host_at, scalar_text, string_text, written}
-use Rattle.program_meaning.specs.Cells.{assign}
-use Rattle.program_meaning.specs.Accesses.{no_row, on_scalar, eval, locate, scalar, type_accessed}
+use Rattle.program_meaning.specs.Variants.{tag_accessed, assign_to}
+use Rattle.program_meaning.specs.Accesses.{no_row, on_scalar, eval, locate_target, scalar, type_accessed}
 use Rattle.program_meaning.specs.Statements.{nothing}
 
 -- ---- reading
@@ -36,8 +36,9 @@ use Rattle.program_meaning.specs.Statements.{nothing}
 -- A value that was read goes into a variable as in an assignment, and then comes the next actual. The variable is
 -- located after the value is known.
 abbrev pub into : ProgramRows → Here → (access of' next : ℕ) → Value → Tree
-into p here access of' next v = locate access here (λ addr.
-    doing here.line (assign p (type_at p of') addr v) (λ _. Sub (Receive next here) Ret))
+into p here access of' next v = locate_target access here (λ addr.
+    doing here.line (assign_to p (tag_accessed p (row_at p access)) (type_at p of') addr v) (λ _.
+    Sub (Receive next here) Ret))
 
 -- goes on with a char or an integer that is read, by the host type of the variable that is to get it (6.9.1)
 abbrev pub read_for : Here → (host : ℕ) → (Value → Tree) → Tree

@@ -5,6 +5,7 @@
 mod components;
 mod laws;
 mod scan;
+mod variants;
 
 pub use components::Components;
 pub use laws::{
@@ -12,3 +13,4 @@ pub use laws::{
     numbers_tell_the_tree,
 };
 pub use scan::{Scan, Scanned};
+pub use variants::VariantPart;
