@@ -1,4 +1,2 @@
 pub mod Frames
-pub mod Input
 pub mod Machines
-pub mod Output

@@ -7,9 +7,7 @@ mod cells;
 mod frames;
 mod halt;
 mod heap;
-mod input;
 mod machine;
-mod output;
 mod packing;
 mod sets;
 mod strings;
@@ -24,12 +22,10 @@ pub use heap::{
     compare_pointers, defined_pointer, dispose, drop_block, make_block, make_variable, pointed_at,
     pointed_by, pointer_at, pointer_result_at,
 };
-pub use input::{at_end, at_line_end, next_char, past_item, scan_on};
 pub use machine::{
-    HEAP_END, MOST_CALLS, MOST_DEPTH, Machine, STACK_END, limit_passed, read_cell, spend,
+    HEAP_END, MOST_CALLS, MOST_DEPTH, Machine, STACK_END, limit_passed, note, read_cell, spend,
     write_cell,
 };
-pub use output::{end_line, end_page, write_scalar, write_string};
 pub use packing::{copy_cells, first_moved};
 pub use sets::{add_members, combine_sets, compare_sets, is_in, no_members};
 pub use strings::{compare_texts, string_of};

@@ -15,11 +15,11 @@ pub returns-in_err-write_cells-clause-action : goal.returns-in_err-write_cells-c
 returns-in_err-write_cells-clause-action c =
     let p = err_from_is_err_and c.from_residual-in_err-write_cells.result c.from_residual-in_err-write_cells.ensures.1 in
     rw (p.1, p.2) (does_bind {Y = Unit {0}} (λ _. tt) (reads [] c.args.from c.args.cells) (writes c.args.to) c.in_ok-values.values
-        (moment_of c.args.machine.now)
+    (moment_of c.args.machine.now)
     (moment_of c.read_cells.new.machine) (moment_of c.write_cells.new.machine) (Err _) c.in_ok-values.ensures.action c.in_err-write_cells.ensures.action)
 
 pub returns-clause-action : goal.returns-clause-action
 returns-clause-action c = does_bind {Y = Unit {0}} (λ _. tt) (reads [] c.args.from c.args.cells) (writes c.args.to) c.in_ok-values.values
     (moment_of c.args.machine.now)
     (moment_of c.read_cells.new.machine) (moment_of c.write_cells.new.machine) (Ok c.in_ok-write_cells.field-0) c.in_ok-values.ensures.action
-        c.in_ok-write_cells.ensures.action
+    c.in_ok-write_cells.ensures.action

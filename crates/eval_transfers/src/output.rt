@@ -4,13 +4,11 @@ ghost use Rattle.std.specs.Prelude.{◌≡◌, ℕ, Option, Some, List, map, cod
 ghost use Rattle.program_meaning.specs.Acts.{GiveByte, perform};
 ghost use Rattle.program_meaning.specs.Actions.{performs};
 ghost use Rattle.program_meaning.specs.Output as output;
-ghost use Rattle.eval_ops.specs.Output.{give_one, text_by};
+ghost use Rattle.eval_transfers.specs.Output.{give_one, text_by};
 ghost use Rattle.eval_ops.specs.Machines.{Does, DoesAll, Gives, IsReady, machine_state, moment_of};
 
-use crate::halt::Halt;
-use crate::machine::{Machine, note};
-use crate::values::is_true;
 use cell_value::{Cells, Kind, Touch, Value};
+use eval_ops::{Halt, Machine, is_true, note};
 use itoa::Buffer;
 use program_tables::rows::{BOOLEAN, CHAR};
 

@@ -5,13 +5,11 @@ ghost use Rattle.program_meaning.specs.Acts.{TakeIf, take_item};
 ghost use Rattle.program_meaning.specs.Actions.{act, performs};
 ghost use Rattle.program_meaning.specs.declared.scan.Scan.TheVariants.{Blanks, Digits};
 ghost use Rattle.program_meaning.specs.Input as input;
-ghost use Rattle.eval_ops.specs.Input.{after_sign, looked_at, wants};
+ghost use Rattle.eval_transfers.specs.Input.{after_sign, looked_at, wants};
 ghost use Rattle.eval_ops.specs.Machines.{Does, DoesAll, Gives, IsReady, machine_state, moment_of};
 
-use crate::halt::Halt;
-use crate::machine::{Machine, note};
-use crate::values::truth;
 use cell_value::{Kind, Touch, Value};
+use eval_ops::{Halt, Machine, note, truth};
 use program_meaning::{Scan, Scanned};
 
 /// Which item is taken once it was looked at.
