@@ -8,6 +8,7 @@ mod frames;
 mod halt;
 mod heap;
 mod machine;
+mod packing;
 mod sets;
 mod strings;
 mod values;
@@ -22,9 +23,10 @@ pub use heap::{
     pointed_by, pointer_at, pointer_result_at,
 };
 pub use machine::{
-    HEAP_END, MOST_CALLS, MOST_DEPTH, Machine, STACK_END, limit_passed, read_cell, spend,
+    HEAP_END, MOST_CALLS, MOST_DEPTH, Machine, STACK_END, limit_passed, note, read_cell, spend,
     write_cell,
 };
+pub use packing::{copy_cells, first_moved};
 pub use sets::{add_members, combine_sets, compare_sets, is_in, no_members};
 pub use strings::{compare_texts, string_of};
 pub use values::{

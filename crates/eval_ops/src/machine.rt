@@ -80,9 +80,9 @@ pub fn spend(machine: &mut Machine, steps: u32) -> Result<(), Halt>
     Ok(())
 }
 
-/// Takes a step and puts an entry into the log.
+/// Takes a step and puts an entry into the log. A step is left before.
 #[inline(always)]
-fn note(machine: &mut Machine, touch: Touch) -> Result<(), Halt>
+pub fn note(machine: &mut Machine, touch: Touch) -> Result<(), Halt>
     requires ready { IsReady machine.old }
     requires left { 0 < machine.old.steps }
     ensures noted { OnOk result (moment_of machine.new ≡ record {

@@ -57,12 +57,21 @@ abbrev pub boolean_word : Bool → List ℕ
 boolean_word true = codes "true"
 boolean_word false = codes "false"
 
+abbrev pub boolean_text : Bool → Text
+boolean_text holds = record { chars = all_of (boolean_word holds); is_cut = true }
+
+abbrev pub char_text : Value → Text
+char_text v = record { chars = byte_of v ∷ []; is_cut = false }
+
+abbrev pub integer_text : Value → Text
+integer_text v = record { chars = integer_chars v; is_cut = false }
+
 -- the text of a value of a required type, by the number of the type
 abbrev pub scalar_text : (host : ℕ) → Value → Text
 scalar_text host v =
-    if host == boolean_type then record { chars = all_of (boolean_word (is_true v)); is_cut = true }
-    else if host == char_type then record { chars = byte_of v ∷ []; is_cut = false }
-    else record { chars = integer_chars v; is_cut = false }
+    if host == boolean_type then boolean_text (is_true v)
+    else if host == char_type then char_text v
+    else integer_text v
 
 -- the text of a string, by the values of its components (6.9.3.6)
 abbrev pub string_text : List Value → Text

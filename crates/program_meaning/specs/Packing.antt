@@ -1,22 +1,33 @@
 -- Packing and unpacking of arrays (6.6.5.4).
-use Rattle.std.specs.Prelude.{ℕ, ◌*◌, ◌-ℤ◌, Bool, true, false, [], if◌then◌else◌}
+use Rattle.std.specs.Prelude.{ℕ, ◌+◌, ◌*◌, ◌-ℤ◌, Bool, true, false, [], nat_lt, unsigned_abs, if◌then◌else◌}
 use Rattle.cell_value.specs.declared.values.Value.{Value}
+use Rattle.cell_value.specs.declared.ways_out.Kind.TheVariants as kind
 use Rattle.program_tables.specs.declared.rows.Row.{Row}
 use Rattle.program_tables.specs.declared.rows.Row.TheVariants as rows
 use Rattle.program_tables.specs.ProgramRows.{ProgramRows, row_at, type_at, size_of}
 use Rattle.program_meaning.specs.declared.components.Components.{Components}
 use Rattle.program_meaning.specs.State.{moved}
-use Rattle.program_meaning.specs.Actions.{Action, Give, ◌>>=◌}
+use Rattle.program_meaning.specs.Acts.{Fault}
+use Rattle.program_meaning.specs.Actions.{Action, Give, Fail, ◌>>=◌}
 use Rattle.program_meaning.specs.Tree.{Here, Tree, doing}
 use Rattle.program_meaning.specs.Cells.{reads, writes, position_between}
 use Rattle.program_meaning.specs.Accesses.{no_row, eval, locate, type_accessed, with_components}
 
--- The component of an unpacked array variable at an address from which on it has as many as a packed one, by the value
--- of its index. A value below the index type, or after which there are too few, is out of range.
+-- how many components an array has
+abbrev pub count_of : Components → ℕ
+count_of array = unsigned_abs (array.greatest -ℤ array.least) + 1
+
+-- The component at a position of an unpacked array variable at an address, if the array has as many from there on as
+-- a packed one.
+abbrev pub start_at : (unpacked packed : Components) → (addr n : ℕ) → Action ℕ
+start_at unpacked packed addr n =
+    if nat_lt (count_of unpacked) (n + count_of packed) then Fail (Fault kind.OutOfRange)
+    else Give (moved addr (n * unpacked.size))
+
+-- the same by the value of an index
 abbrev pub first_moved : (unpacked packed : Components) → (addr : ℕ) → Value → Action ℕ
 first_moved unpacked packed addr v =
-    position_between unpacked.least (unpacked.greatest -ℤ (packed.greatest -ℤ packed.least)) v >>= λ n.
-    Give (moved addr (n * unpacked.size))
+    position_between unpacked.least unpacked.greatest v >>= start_at unpacked packed addr
 
 -- so many cells are copied, all read before the first is written
 abbrev pub copies : (from to cells : ℕ) → Action (Unit {0})
