@@ -1,3 +1,4 @@
 pub mod Choices
 pub mod Counting
 pub mod Items
+pub mod Operators

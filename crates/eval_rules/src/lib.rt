@@ -1,12 +1,13 @@
 //! What the rows of a program and the values of its expressions say of how an expression or a statement goes on: the
 //! statement that a case statement chooses, the turns of a for statement, the items of a sequence, the operators of
-//! truth values. Nothing here reads or changes the state of a run.
+//! expressions. Nothing here reads or changes the state of a run.
 #![tactic(auto)]
 
 mod choices;
 mod counting;
 mod expressions;
 mod labels;
+mod operators;
 mod statements;
 
 pub use choices::{Case, case_of};
@@ -15,4 +16,5 @@ pub use counting::{
 };
 pub use expressions::{combine, constant, type_accessed};
 pub use labels::labelled_in;
+pub use operators::{Dyadic, dyadic_in};
 pub use statements::{element_of, line_of};

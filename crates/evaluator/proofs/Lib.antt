@@ -1,3 +1,4 @@
+pub mod ExpressionsByRow
 pub mod Moves
 pub mod StatementsByRow
 pub mod StepsFall

@@ -1,7 +1,5 @@
--- Families of expressions, operands and statements: what each of a family does. What is of no family has no row.
+-- Families of expressions and of statements: what each of a family does. What is of no family has no row.
 use Rattle.std.specs.Prelude.{ℕ}
-use Rattle.cell_value.specs.declared.values.Value.{Value}
-use Rattle.cell_value.specs.declared.values.Value.TheVariants as value
 use Rattle.program_tables.specs.declared.rows.ExpressionRow.{ExpressionRow}
 use Rattle.program_tables.specs.declared.rows.ExpressionRow.TheVariants as expressions
 use Rattle.program_tables.specs.declared.rows.StatementRow.{StatementRow}
@@ -11,47 +9,48 @@ use Rattle.program_meaning.specs.Tree.{Here, Tree}
 use Rattle.program_meaning.specs.Accesses.{no_row}
 use Rattle.program_meaning.specs.Expressions.{of_expression}
 use Rattle.program_meaning.specs.Statements.{of_statement}
-use Rattle.evaluator.specs.Rest.{here, operand}
+use Rattle.evaluator.specs.Rest.{here}
 use Rattle.evaluator.specs.declared.tasks.Home.{Home}
-use Rattle.evaluator.specs.declared.tasks.Operand.{Operand}
-use Rattle.evaluator.specs.declared.tasks.Operand.TheVariants as operands
 
--- an expression with a dyadic operator (6.7.2)
-abbrev pub of_dyadic : ProgramRows → Here → ExpressionRow → Tree
-of_dyadic p h (expressions.Arithmetic operator left right) =
-    of_expression p h (expressions.Arithmetic operator left right)
-of_dyadic p h (expressions.Logic operator left right) =
-    of_expression p h (expressions.Logic operator left right)
-of_dyadic p h (expressions.Compare order left right) =
-    of_expression p h (expressions.Compare order left right)
-of_dyadic p h (expressions.Sets operator left right) =
-    of_expression p h (expressions.Sets operator left right)
-of_dyadic p h (expressions.CompareSets order left right) =
-    of_expression p h (expressions.CompareSets order left right)
-of_dyadic p h (expressions.In left right) = of_expression p h (expressions.In left right)
-of_dyadic p h e = no_row
+-- a sign, `not`, or a required function of an ordinal (6.7.2.2, 6.7.2.3, 6.6.6)
+abbrev pub of_monadic : ProgramRows → Here → ExpressionRow → Tree
+of_monadic p h (expressions.Sign minus operand) = of_expression p h (expressions.Sign minus operand)
+of_monadic p h (expressions.Not operand) = of_expression p h (expressions.Not operand)
+of_monadic p h (expressions.Function f operand least greatest) =
+    of_expression p h (expressions.Function f operand least greatest)
+of_monadic p h e = no_row
 
--- a dyadic operator goes on with the value of its left operand
-abbrev pub of_left : ProgramRows → Home → Operand → (v : Value) → Tree
-of_left p home (operands.ArithmeticRight operator right line) v =
-    operand p home (operands.ArithmeticRight operator right line) value.Undefined v
-of_left p home (operands.LogicRight operator right line) v =
-    operand p home (operands.LogicRight operator right line) value.Undefined v
-of_left p home (operands.CompareRight order right line) v =
-    operand p home (operands.CompareRight order right line) value.Undefined v
-of_left p home (operands.SetsRight operator right line) v =
-    operand p home (operands.SetsRight operator right line) value.Undefined v
-of_left p home (operands.CompareSetsRight order right line) v =
-    operand p home (operands.CompareSetsRight order right line) value.Undefined v
-of_left p home (operands.InRight right line) v = operand p home (operands.InRight right line) value.Undefined v
-of_left p home o v = no_row
+-- a function designator (6.7.3)
+abbrev pub of_designator : ProgramRows → Here → ExpressionRow → Tree
+of_designator p h (expressions.Apply routine levels actuals) =
+    of_expression p h (expressions.Apply routine levels actuals)
+of_designator p h (expressions.ApplyFormal place levels actuals) =
+    of_expression p h (expressions.ApplyFormal place levels actuals)
+of_designator p h e = no_row
 
--- an operator or a relation on sets goes on with the value of its right operand, where the left one waited
-abbrev pub of_set_operand : ProgramRows → Home → Operand → (x v : Value) → Tree
-of_set_operand p home (operands.Sets operator line) x v = operand p home (operands.Sets operator line) x v
-of_set_operand p home (operands.CompareSets order line) x v = operand p home (operands.CompareSets order line) x v
-of_set_operand p home (operands.In line) x v = operand p home (operands.In line) x v
-of_set_operand p home o x v = no_row
+-- an expression without a dyadic operator on values of one cell
+abbrev pub of_other : ProgramRows → Here → ExpressionRow → Tree
+of_other p h (expressions.Constant n) = of_expression p h (expressions.Constant n)
+of_other p h (expressions.Text token) = of_expression p h (expressions.Text token)
+of_other p h (expressions.CompareTexts order left right) =
+    of_expression p h (expressions.CompareTexts order left right)
+of_other p h (expressions.Set members) = of_expression p h (expressions.Set members)
+of_other p h (expressions.Sign minus operand) = of_expression p h (expressions.Sign minus operand)
+of_other p h (expressions.Not operand) = of_expression p h (expressions.Not operand)
+of_other p h (expressions.Function f operand least greatest) =
+    of_expression p h (expressions.Function f operand least greatest)
+of_other p h (expressions.Apply routine levels actuals) = of_expression p h (expressions.Apply routine levels actuals)
+of_other p h (expressions.ApplyFormal place levels actuals) =
+    of_expression p h (expressions.ApplyFormal place levels actuals)
+of_other p h e = no_row
+
+-- a procedure statement (6.8.2.3) whose line is told
+abbrev pub of_procedure : ProgramRows → Home → (row : ℕ) → StatementRow → Tree
+of_procedure p home row (statements.Call line routine levels actuals) =
+    of_statement p row (here home line) (statements.Call line routine levels actuals)
+of_procedure p home row (statements.CallFormal line place levels actuals) =
+    of_statement p row (here home line) (statements.CallFormal line place levels actuals)
+of_procedure p home row s = no_row
 
 -- a conditional statement (6.8.3.3) whose line is told
 abbrev pub of_conditional : ProgramRows → Home → (row : ℕ) → StatementRow → Tree

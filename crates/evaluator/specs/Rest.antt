@@ -1,7 +1,6 @@
 -- What a body has still to do, by its tasks.
 use Rattle.std.specs.Prelude.{ℕ, ℤ, List, [], ◌∷◌, ◌++◌, Bool, true, false, not, Option, Some, None, reverse}
 use Rattle.std.specs.Prelude.{if◌then◌else◌}
-use Rattle.cell_value.specs.Arithmetic.{arith_of}
 use Rattle.cell_value.specs.declared.values.Value.{Value}
 use Rattle.cell_value.specs.declared.values.Value.TheVariants as value
 use Rattle.program_tables.specs.declared.program.Routine.{Routine}
@@ -14,8 +13,7 @@ use Rattle.program_meaning.specs.Actions.{Action, Give, ◌>>=◌}
 use Rattle.program_meaning.specs.Tree.{Out, Nothing, Scalar, Cells, Address, Jump, Here}
 use Rattle.program_meaning.specs.Tree.{Tree, Ret, Sub, Enter, doing, bind}
 use Rattle.program_meaning.specs.Tree as parts
-use Rattle.program_meaning.specs.Values.{truth, is_true, signed, logic_of, compared, function_of, sets_of}
-use Rattle.program_meaning.specs.Values.{sets_compared, is_in, members_added, texts_compared}
+use Rattle.program_meaning.specs.Values.{truth, is_true, signed, function_of, members_added, texts_compared}
 use Rattle.program_meaning.specs.Cells.{writes, assign, component, frame_out, routine_out}
 use Rattle.program_meaning.specs.Accesses.{
   no_row,
@@ -47,6 +45,7 @@ use Rattle.program_meaning.specs.Statements.{
   line_of,
 }
 use Rattle.program_meaning.specs.Run.{return_of}
+use Rattle.eval_rules.specs.Operators.{dyadic_of}
 use Rattle.evaluator.specs.declared.body.Body.{Body}
 use Rattle.evaluator.specs.declared.tasks.Home.{Home}
 use Rattle.evaluator.specs.declared.tasks.Part.{Part}
@@ -87,24 +86,9 @@ below (x ∷ xs) = xs
 abbrev pub operand : ProgramRows → Home → Operand → (x : Value) → Value → Tree
 operand p home (operands.Sign minus line) x v = result_of (here home line) (signed minus v)
 operand p home operands.Not x v = scalar (truth (not (is_true v)))
-operand p home (operands.ArithmeticRight operator right line) x v =
-    eval right (here home line) (λ y. result_of (here home line) (arith_of operator v y))
-operand p home (operands.Arithmetic operator line) x v = result_of (here home line) (arith_of operator x v)
-operand p home (operands.LogicRight operator right line) x v =
-    eval right (here home line) (λ y. scalar (truth (logic_of operator (is_true v) (is_true y))))
-operand p home (operands.Logic operator) x v = scalar (truth (logic_of operator (is_true x) (is_true v)))
-operand p home (operands.CompareRight order right line) x v =
-    eval right (here home line) (λ y. result_of (here home line) (compared order v y))
-operand p home (operands.Compare order line) x v = result_of (here home line) (compared order x v)
-operand p home (operands.SetsRight operator right line) x v =
-    eval right (here home line) (λ y. result_of (here home line) (sets_of operator v y))
-operand p home (operands.Sets operator line) x v = result_of (here home line) (sets_of operator x v)
-operand p home (operands.CompareSetsRight order right line) x v =
-    eval right (here home line) (λ y. result_of (here home line) (sets_compared order v y))
-operand p home (operands.CompareSets order line) x v = result_of (here home line) (sets_compared order x v)
-operand p home (operands.InRight right line) x v =
-    eval right (here home line) (λ y. result_of (here home line) (is_in v y))
-operand p home (operands.In line) x v = result_of (here home line) (is_in x v)
+operand p home (operands.Right dyadic right line) x v =
+    eval right (here home line) (λ y. result_of (here home line) (dyadic_of dyadic v y))
+operand p home (operands.Both dyadic line) x v = result_of (here home line) (dyadic_of dyadic x v)
 operand p home (operands.Member next line) x v = gather (here home line) next (members_added x v v)
 operand p home (operands.First last next line) x v =
     eval last (here home line) (λ w. gather (here home line) next (members_added x v w))
@@ -218,12 +202,7 @@ after p home (tasks.Next t) vs ls = after_statement p home t vs
 
 -- the values that wait below those that a task holds
 abbrev pub values_below : Task → List Value → List Value
-values_below (tasks.Operand (operands.Arithmetic operator line)) vs = below vs
-values_below (tasks.Operand (operands.Logic operator)) vs = below vs
-values_below (tasks.Operand (operands.Compare order line)) vs = below vs
-values_below (tasks.Operand (operands.Sets operator line)) vs = below vs
-values_below (tasks.Operand (operands.CompareSets order line)) vs = below vs
-values_below (tasks.Operand (operands.In line)) vs = below vs
+values_below (tasks.Operand (operands.Both dyadic line)) vs = below vs
 values_below (tasks.Operand (operands.Member next line)) vs = below vs
 values_below (tasks.Operand (operands.First last next line)) vs = below vs
 values_below (tasks.Range next line) vs = below (below vs)

@@ -592,12 +592,7 @@ impl Body {
         ensures home { self.new.home ≡ self.old.home }
     {
         match task {
-            Task::Operand(Operand::Arithmetic { .. }) => self.drop_value(),
-            Task::Operand(Operand::Logic { .. }) => self.drop_value(),
-            Task::Operand(Operand::Compare { .. }) => self.drop_value(),
-            Task::Operand(Operand::Sets { .. }) => self.drop_value(),
-            Task::Operand(Operand::CompareSets { .. }) => self.drop_value(),
-            Task::Operand(Operand::In { .. }) => self.drop_value(),
+            Task::Operand(Operand::Both { .. }) => self.drop_value(),
             Task::Operand(Operand::Member { .. }) => self.drop_value(),
             Task::Operand(Operand::First { .. }) => self.drop_value(),
             Task::Range { .. } => {

@@ -5,7 +5,8 @@ ghost use Rattle.program_tables.specs.ProgramRows.{ProgramRows};
 ghost use Rattle.eval_ops.specs.Machines.{IsReady, Moment, moment_of};
 ghost use Rattle.program_meaning.specs.Tree.{bind};
 ghost use Rattle.program_meaning.specs.Expressions.{of_expression};
-ghost use Rattle.evaluator.specs.Families.{of_dyadic, of_left};
+ghost use Rattle.eval_rules.specs.Operators.{dyadic_of};
+ghost use Rattle.evaluator.specs.Families.{of_designator, of_monadic, of_other};
 ghost use Rattle.evaluator.specs.Rest.{from, from_under, here, waiting};
 ghost use Rattle.evaluator.specs.Turns.{Turns};
 ghost use Rattle.evaluator.specs.Weight.{Falls, body_weight, come, left_of, left_with, task_weight};
@@ -13,15 +14,29 @@ ghost use Rattle.evaluator.specs.Weight.{now_weight, tasks_weight};
 
 use crate::body::{Body, Turned};
 use crate::tasks::{Located, Now, Operand, Part, Task, Way};
-use cell_value::{Value, arith};
+use cell_value::{OpFault, Value, arith};
 use eval_ops::{
-    Machine, add_members, compare_ordinals, is_true, no_members, ordinal_function, passed, sign,
-    spend, truth,
+    Machine, combine_sets, compare_ordinals, compare_sets, is_in, is_true, no_members,
+    ordinal_function, passed, sign, spend, truth,
 };
-use eval_rules::{combine, constant, type_accessed};
+use eval_rules::{Dyadic, combine, constant, dyadic_in, type_accessed};
 use program_tables::Program;
 use program_tables::rows::{ExpressionRow, Row};
 use std::alloc::Global;
+
+/// A dyadic operator on two values.
+fn apply(dyadic: Dyadic, left: Value, right: Value) -> Result<Value, OpFault>
+    ensures { result ≡ dyadic_of dyadic left right }
+{
+    match dyadic {
+        Dyadic::Arithmetic(operator) => arith(operator, left, right),
+        Dyadic::Logic(operator) => Ok(truth(combine(operator, is_true(left), is_true(right)))),
+        Dyadic::Compare(order) => compare_ordinals(order, left, right),
+        Dyadic::Sets(operator) => combine_sets(operator, left, right),
+        Dyadic::CompareSets(order) => compare_sets(order, left, right),
+        Dyadic::In => is_in(left, right),
+    }
+}
 
 impl Body {
     /// An expression begins.
@@ -70,8 +85,58 @@ impl Body {
         ensures falls { Falls result (body_weight self.new) (2 * come + tasks_weight self.old) }
         ensures home { self.new.home ≡ self.old.home }
     {
+        match dyadic_in(expression) {
+            Some((dyadic, left, right)) => self.wait(
+                Task::Operand(Operand::Right {
+                    dyadic,
+                    right,
+                    line,
+                }),
+                Now::Begin(Part::Eval { row: left, line }),
+            ),
+            None => self.other_expression(alloc, program, expression, line),
+        }
+    }
+
+    /// An expression whose step is taken, without a dyadic operator on values of one cell.
+    fn other_expression(
+        &mut self,
+        alloc: Global,
+        program: &Program,
+        expression: ExpressionRow,
+        line: u32,
+    ) -> Turned
+        ensures turns { (m : Moment) → Turns program.now (bind (of_other program.now (here self.old.home line)
+            expression) (waiting program.now self.old)) m result self.new m }
+        ensures falls { Falls result (body_weight self.new) (2 * come + tasks_weight self.old) }
+        ensures home { self.new.home ≡ self.old.home }
+    {
         match expression {
             ExpressionRow::Constant { value } => self.go(Now::Came(Way::Scalar(constant(value)))),
+            ExpressionRow::Text { token } => self.string(alloc, program, token),
+            ExpressionRow::CompareTexts { order, left, right } => self.wait(
+                Task::TextRight { order, right, line },
+                Now::Begin(Part::Eval { row: left, line }),
+            ),
+            ExpressionRow::Set { members } => self.gather_from(no_members(), members, line),
+            ExpressionRow::Sign { .. } => self.monadic(expression, line),
+            ExpressionRow::Not { .. } => self.monadic(expression, line),
+            ExpressionRow::Function { .. } => self.monadic(expression, line),
+            ExpressionRow::Apply { .. } => self.designator(alloc, expression, line),
+            ExpressionRow::ApplyFormal { .. } => self.designator(alloc, expression, line),
+            _ => self.no_row(),
+        }
+    }
+
+    /// An expression whose step is taken, with a sign, `not` or a required function of an ordinal (6.7.2.2, 6.7.2.3,
+    /// 6.6.6): its operand begins.
+    fn monadic(&mut self, expression: ExpressionRow, line: u32) -> Turned
+        ensures turns { (p : ProgramRows) (m : Moment) → Turns p (bind (of_monadic p (here self.old.home line)
+            expression) (waiting p self.old)) m result self.new m }
+        ensures falls { Falls result (body_weight self.new) (2 * come + tasks_weight self.old) }
+        ensures home { self.new.home ≡ self.old.home }
+    {
+        match expression {
             ExpressionRow::Sign { minus, operand } => self.wait(
                 Task::Operand(Operand::Sign { minus, line }),
                 Now::Begin(Part::Eval { row: operand, line }),
@@ -80,18 +145,32 @@ impl Body {
                 Task::Operand(Operand::Not),
                 Now::Begin(Part::Eval { row: operand, line }),
             ),
-            ExpressionRow::Arithmetic { .. } => self.dyadic(expression, line),
-            ExpressionRow::Logic { .. } => self.dyadic(expression, line),
-            ExpressionRow::Compare { .. } => self.dyadic(expression, line),
-            ExpressionRow::Sets { .. } => self.dyadic(expression, line),
-            ExpressionRow::CompareSets { .. } => self.dyadic(expression, line),
-            ExpressionRow::In { .. } => self.dyadic(expression, line),
-            ExpressionRow::Text { token } => self.string(alloc, program, token),
-            ExpressionRow::CompareTexts { order, left, right } => self.wait(
-                Task::TextRight { order, right, line },
-                Now::Begin(Part::Eval { row: left, line }),
+            ExpressionRow::Function {
+                function,
+                operand,
+                least,
+                greatest,
+            } => self.wait(
+                Task::Operand(Operand::Function {
+                    function,
+                    least,
+                    greatest,
+                    line,
+                }),
+                Now::Begin(Part::Eval { row: operand, line }),
             ),
-            ExpressionRow::Set { members } => self.gather_from(no_members(), members, line),
+            _ => self.no_row(),
+        }
+    }
+
+    /// A function designator (6.7.3) whose step is taken: its actual parameters begin.
+    fn designator(&mut self, alloc: Global, expression: ExpressionRow, line: u32) -> Turned
+        ensures turns { (p : ProgramRows) (m : Moment) → Turns p (bind (of_designator p (here self.old.home line)
+            expression) (waiting p self.old)) m result self.new m }
+        ensures falls { Falls result (body_weight self.new) (2 * come + tasks_weight self.old) }
+        ensures home { self.new.home ≡ self.old.home }
+    {
+        match expression {
             ExpressionRow::Apply {
                 routine,
                 levels,
@@ -122,80 +201,6 @@ impl Body {
                 actuals,
                 line,
             ),
-            ExpressionRow::Function {
-                function,
-                operand,
-                least,
-                greatest,
-            } => self.wait(
-                Task::Operand(Operand::Function {
-                    function,
-                    least,
-                    greatest,
-                    line,
-                }),
-                Now::Begin(Part::Eval { row: operand, line }),
-            ),
-            _ => self.no_row(),
-        }
-    }
-
-    /// An expression with a dyadic operator (6.7.2) whose step is taken: its left operand begins.
-    fn dyadic(&mut self, expression: ExpressionRow, line: u32) -> Turned
-        ensures turns { (p : ProgramRows) (m : Moment) → Turns p (bind (of_dyadic p (here self.old.home line)
-            expression) (waiting p self.old)) m result self.new m }
-        ensures falls { Falls result (body_weight self.new) (2 * come + tasks_weight self.old) }
-        ensures home { self.new.home ≡ self.old.home }
-    {
-        match expression {
-            ExpressionRow::Arithmetic {
-                operator,
-                left,
-                right,
-            } => self.wait(
-                Task::Operand(Operand::ArithmeticRight {
-                    operator,
-                    right,
-                    line,
-                }),
-                Now::Begin(Part::Eval { row: left, line }),
-            ),
-            ExpressionRow::Logic {
-                operator,
-                left,
-                right,
-            } => self.wait(
-                Task::Operand(Operand::LogicRight {
-                    operator,
-                    right,
-                    line,
-                }),
-                Now::Begin(Part::Eval { row: left, line }),
-            ),
-            ExpressionRow::Compare { order, left, right } => self.wait(
-                Task::Operand(Operand::CompareRight { order, right, line }),
-                Now::Begin(Part::Eval { row: left, line }),
-            ),
-            ExpressionRow::Sets {
-                operator,
-                left,
-                right,
-            } => self.wait(
-                Task::Operand(Operand::SetsRight {
-                    operator,
-                    right,
-                    line,
-                }),
-                Now::Begin(Part::Eval { row: left, line }),
-            ),
-            ExpressionRow::CompareSets { order, left, right } => self.wait(
-                Task::Operand(Operand::CompareSetsRight { order, right, line }),
-                Now::Begin(Part::Eval { row: left, line }),
-            ),
-            ExpressionRow::In { left, right } => self.wait(
-                Task::Operand(Operand::InRight { right, line }),
-                Now::Begin(Part::Eval { row: left, line }),
-            ),
             _ => self.no_row(),
         }
     }
@@ -212,32 +217,20 @@ impl Body {
         match operand {
             Operand::Sign { minus, line } => self.scalar(line, passed(sign(minus, value))),
             Operand::Not => self.go(Now::Came(Way::Scalar(truth(!is_true(value))))),
-            Operand::ArithmeticRight { .. } => self.left_operand(operand, value),
-            Operand::Arithmetic { operator, line } => {
+            Operand::Right {
+                dyadic,
+                right,
+                line,
+            } => self.hold(
+                value,
+                Task::Operand(Operand::Both { dyadic, line }),
+                Now::Begin(Part::Eval { row: right, line }),
+            ),
+            Operand::Both { dyadic, line } => {
                 let left = self.take_value();
-                self.scalar(line, passed(arith(operator, left, value)))
+                self.scalar(line, passed(apply(dyadic, left, value)))
             }
-            Operand::LogicRight { .. } => self.left_operand(operand, value),
-            Operand::Logic { operator } => {
-                let left = self.take_value();
-                let holds = combine(operator, is_true(left), is_true(value));
-                self.go(Now::Came(Way::Scalar(truth(holds))))
-            }
-            Operand::CompareRight { .. } => self.left_operand(operand, value),
-            Operand::Compare { order, line } => {
-                let left = self.take_value();
-                self.scalar(line, passed(compare_ordinals(order, left, value)))
-            }
-            Operand::SetsRight { .. } => self.left_operand(operand, value),
-            Operand::Sets { .. } => self.set_operand(operand, value),
-            Operand::CompareSetsRight { .. } => self.left_operand(operand, value),
-            Operand::CompareSets { .. } => self.set_operand(operand, value),
-            Operand::InRight { .. } => self.left_operand(operand, value),
-            Operand::In { .. } => self.set_operand(operand, value),
-            Operand::Member { next, line } => {
-                let set = self.take_value();
-                self.gathered(add_members(set, value, value), next, line)
-            }
+            Operand::Member { next, line } => self.member(next, line, value),
             Operand::First { last, next, line } => self.hold(
                 value,
                 Task::Range { next, line },
@@ -249,73 +242,13 @@ impl Body {
                 greatest,
                 line,
             } => {
-                self.scalar(
-                    line,
-                    passed(ordinal_function(function, least, greatest, value)),
-                )
+                let done = ordinal_function(function, least, greatest, value);
+                self.scalar(line, passed(done))
             }
-            Operand::Component { array, addr, line } => self.component(
-                program,
-                program.type_row(array),
-                addr,
-                line,
-                value,
-            ),
-        }
-    }
-
-    /// The left operand of a dyadic operator has a value, which waits: the right operand begins.
-    fn left_operand(&mut self, operand: Operand, value: Value) -> Turned
-        ensures turns { (p : ProgramRows) (m : Moment) → Turns p (bind (of_left p self.old.home operand value)
-            (waiting p self.old)) m result self.new m }
-        ensures falls { Falls result (body_weight self.new) (come + task_weight (Task.Operand operand)
-            + tasks_weight self.old) }
-        ensures home { self.new.home ≡ self.old.home }
-    {
-        match operand {
-            Operand::ArithmeticRight {
-                operator,
-                right,
-                line,
-            } => self.hold(
-                value,
-                Task::Operand(Operand::Arithmetic { operator, line }),
-                Now::Begin(Part::Eval { row: right, line }),
-            ),
-            Operand::LogicRight {
-                operator,
-                right,
-                line,
-            } => self.hold(
-                value,
-                Task::Operand(Operand::Logic { operator }),
-                Now::Begin(Part::Eval { row: right, line }),
-            ),
-            Operand::CompareRight { order, right, line } => self.hold(
-                value,
-                Task::Operand(Operand::Compare { order, line }),
-                Now::Begin(Part::Eval { row: right, line }),
-            ),
-            Operand::SetsRight {
-                operator,
-                right,
-                line,
-            } => self.hold(
-                value,
-                Task::Operand(Operand::Sets { operator, line }),
-                Now::Begin(Part::Eval { row: right, line }),
-            ),
-            Operand::CompareSetsRight { order, right, line } => self.hold(
-                value,
-                Task::Operand(Operand::CompareSets { order, line }),
-                Now::Begin(Part::Eval { row: right, line }),
-            ),
-            Operand::InRight { right, line } => self.hold(
-                value,
-                Task::Operand(Operand::In { line }),
-                Now::Begin(Part::Eval { row: right, line }),
-            ),
-            _ => self.no_row(),
+            Operand::Component { array, addr, line } => {
+                let found = program.type_row(array);
+                self.component(program, found, addr, line, value)
+            }
         }
     }
 }

@@ -7,7 +7,6 @@ ghost use Rattle.program_meaning.specs.Tree.{Cells as CellsOf, Ret, Scalar, Sub,
 ghost use Rattle.program_meaning.specs.Tree as parts;
 ghost use Rattle.program_meaning.specs.Values as values;
 ghost use Rattle.program_meaning.specs.Expressions as expressions;
-ghost use Rattle.evaluator.specs.Families.{of_set_operand};
 ghost use Rattle.evaluator.specs.Rest.{below, from, from_under, here, lists_of, resume, tasks_of, top};
 ghost use Rattle.evaluator.specs.Rest.{values_of, waiting};
 ghost use Rattle.evaluator.specs.Turns.{Turns};
@@ -16,7 +15,7 @@ ghost use Rattle.evaluator.specs.Weight.{Falls, body_weight, come, part_weight, 
 use crate::body::{Body, Turned};
 use crate::tasks::{Now, Operand, Part, Task, Way};
 use cell_value::{OpFault, Order, Value};
-use eval_ops::{add_members, combine_sets, compare_sets, compare_texts, is_in, passed, string_of};
+use eval_ops::{add_members, compare_texts, passed, string_of};
 use program_tables::Program;
 use program_tables::rows::{ItemRow, Row};
 use std::alloc::Global;
@@ -58,28 +57,6 @@ impl Body {
         let right = self.take_list(alloc);
         let left = self.take_list(alloc);
         self.scalar(line, passed(compare_texts(order, &left, &right)))
-    }
-
-    /// Both operands of an operator or a relation on sets are known.
-    pub(crate) fn set_operand(&mut self, operand: Operand, value: Value) -> Turned
-        ensures turns { (p : ProgramRows) (m : Moment) → Turns p (bind (of_set_operand p self.old.home operand
-            (top (values_of self.old)) value) (resume p self.old.home (tasks_of self.old) (below (values_of self.old))
-            (lists_of self.old))) m result self.new m }
-        ensures falls { Falls result (body_weight self.new) (come + task_weight (Task.Operand operand)
-            + tasks_weight self.old) }
-        ensures home { self.new.home ≡ self.old.home }
-    {
-        let left = self.take_value();
-        match operand {
-            Operand::Sets { operator, line } => {
-                self.scalar(line, passed(combine_sets(operator, left, value)))
-            }
-            Operand::CompareSets { order, line } => {
-                self.scalar(line, passed(compare_sets(order, left, value)))
-            }
-            Operand::In { line } => self.scalar(line, passed(is_in(left, value))),
-            _ => self.no_row(),
-        }
     }
 
     /// The members of a set constructor from an item on begin, where those before it made this set.
@@ -153,6 +130,18 @@ impl Body {
             Ok(set) => self.gather_from(set, next, line),
             Err(halt) => self.fail(line, halt),
         }
+    }
+
+    /// A member of a set constructor is known.
+    pub(crate) fn member(&mut self, next: u32, line: u32, value: Value) -> Turned
+        ensures turns { (p : ProgramRows) (m : Moment) → Turns p (from_under p self.old (Now.Came (Way.Scalar value))
+            (Task.Operand (Operand.Member next line))) m result self.new m }
+        ensures falls { Falls result (body_weight self.new)
+            (come + task_weight (Task.Operand (Operand.Member next line)) + tasks_weight self.old) }
+        ensures home { self.new.home ≡ self.old.home }
+    {
+        let set = self.take_value();
+        self.gathered(add_members(set, value, value), next, line)
     }
 
     /// Both ends of a range of members are known.

@@ -7,7 +7,7 @@ ghost use Rattle.program_meaning.specs.Tree.{Do, Jump, Line, Nothing, Ret, bind,
 ghost use Rattle.program_meaning.specs.Cells.{frame_out};
 ghost use Rattle.program_meaning.specs.Statements as statements;
 ghost use Rattle.eval_ops.specs.Machines.{IsReady, Moment, moment_of};
-ghost use Rattle.evaluator.specs.Families.{of_conditional};
+ghost use Rattle.evaluator.specs.Families.{of_conditional, of_procedure};
 ghost use Rattle.evaluator.specs.Rest.{carry_with, from, from_under, here, waiting};
 ghost use Rattle.evaluator.specs.Turns.{Turns};
 ghost use Rattle.evaluator.specs.Weight.{Falls, body_weight, come, left_of, left_with, now_weight, operand_most};
@@ -177,6 +177,35 @@ impl Body {
                 Task::Target { target, of, line },
                 Now::Begin(Part::Eval { row: value, line }),
             ),
+            StatementRow::Call { .. } => self.procedure_statement(alloc, statement),
+            StatementRow::CallFormal { .. } => self.procedure_statement(alloc, statement),
+            StatementRow::Goto {
+                line,
+                label,
+                levels,
+            } => self.jump(machine, label, levels, line),
+            StatementRow::If { .. } => self.conditional(statement),
+            StatementRow::IfElse { .. } => self.conditional(statement),
+            StatementRow::Case { .. } => self.conditional(statement),
+            StatementRow::Repeat { line, .. } => self.go(Now::Begin(Part::Turn { row, line })),
+            StatementRow::While { line, .. } => self.go(Now::Begin(Part::Turn { row, line })),
+            StatementRow::For {
+                line,
+                initial,
+                turns,
+            } => { self.begin_for(program, line, initial, turns) }
+            _ => self.no_row(),
+        }
+    }
+
+    /// A procedure statement (6.8.2.3) whose line is told: its actual parameters begin.
+    fn procedure_statement(&mut self, alloc: Global, statement: StatementRow) -> Turned
+        ensures turns { (p : ProgramRows) (row : ℕ) (m : Moment) → Turns p
+            (bind (of_procedure p self.old.home row statement) (waiting p self.old)) m result self.new m }
+        ensures falls { Falls result (body_weight self.new) (come + 10 + tasks_weight self.old) }
+        ensures home { self.new.home ≡ self.old.home }
+    {
+        match statement {
             StatementRow::Call {
                 line,
                 routine,
@@ -209,21 +238,6 @@ impl Body {
                 actuals,
                 line,
             ),
-            StatementRow::Goto {
-                line,
-                label,
-                levels,
-            } => self.jump(machine, label, levels, line),
-            StatementRow::If { .. } => self.conditional(statement),
-            StatementRow::IfElse { .. } => self.conditional(statement),
-            StatementRow::Case { .. } => self.conditional(statement),
-            StatementRow::Repeat { line, .. } => self.go(Now::Begin(Part::Turn { row, line })),
-            StatementRow::While { line, .. } => self.go(Now::Begin(Part::Turn { row, line })),
-            StatementRow::For {
-                line,
-                initial,
-                turns,
-            } => { self.begin_for(program, line, initial, turns) }
             _ => self.no_row(),
         }
     }

@@ -1,7 +1,8 @@
 //! What a body has to do, and how far it is with it.
 
-use cell_value::{ArithOp, Cells, Order, Value, WayOut};
-use program_tables::rows::{Logic, OrdinalFunction, SetOperator};
+use cell_value::{Cells, Order, Value, WayOut};
+use eval_rules::Dyadic;
+use program_tables::rows::OrdinalFunction;
 use std::mem::size_of;
 
 /// The routine that a body is of, and where its frame begins.
@@ -62,57 +63,15 @@ pub enum Operand {
         line: u32,
     },
     Not,
-    ArithmeticRight {
-        operator: ArithOp,
+    /// The left operand of a dyadic operator, before the right one.
+    Right {
+        dyadic: Dyadic,
         right: u32,
         line: u32,
     },
-    /// The left operand is the last value that waits, as in `Logic` and `Compare`.
-    Arithmetic {
-        operator: ArithOp,
-        line: u32,
-    },
-    LogicRight {
-        operator: Logic,
-        right: u32,
-        line: u32,
-    },
-    Logic {
-        operator: Logic,
-    },
-    CompareRight {
-        order: Order,
-        right: u32,
-        line: u32,
-    },
-    Compare {
-        order: Order,
-        line: u32,
-    },
-    SetsRight {
-        operator: SetOperator,
-        right: u32,
-        line: u32,
-    },
-    /// The left operand is the last value that waits, as in `CompareSets` and `In`.
-    Sets {
-        operator: SetOperator,
-        line: u32,
-    },
-    CompareSetsRight {
-        order: Order,
-        right: u32,
-        line: u32,
-    },
-    CompareSets {
-        order: Order,
-        line: u32,
-    },
-    InRight {
-        right: u32,
-        line: u32,
-    },
-    In {
+    /// The right operand of a dyadic operator. The left one is the last value that waits.
+    Both {
+        dyadic: Dyadic,
         line: u32,
     },
     /// A member of a set constructor. The set of those before it is the last value that waits, as in `First`.

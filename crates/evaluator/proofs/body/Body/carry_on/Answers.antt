@@ -13,12 +13,6 @@ returns-in-Assign-clause-turns c = rw c.in-Assign.is (c.wait.ensures.turns c.arg
 pub returns-in-Assign-clause-falls : goal.returns-in-Assign-clause-falls
 returns-in-Assign-clause-falls c = falls_so c.wait.result _ _ _ _ (λ h. omega (arith, h)) c.wait.ensures.falls
 
-pub returns-in-Call-clause-turns : goal.returns-in-Call-clause-turns
-returns-in-Call-clause-turns c = rw c.in-Call.is (c.begin_call.ensures.turns c.args.program.now (moment_of c.args.machine.now))
-
-pub returns-in-Call-clause-falls : goal.returns-in-Call-clause-falls
-returns-in-Call-clause-falls c = falls_so c.begin_call.result _ _ _ _ (λ h. omega (arith, h)) c.begin_call.ensures.falls
-
 pub returns-in-If-clause-turns : goal.returns-in-If-clause-turns
 returns-in-If-clause-turns c = rw c.in-If.is (rw c.in-If.is at c.conditional.ensures.turns c.args.program.now c.args.row (moment_of c.args.machine.now))
 
@@ -70,16 +64,16 @@ returns-in_default-clause-turns c =
 pub returns-in_default-clause-falls : goal.returns-in_default-clause-falls
 returns-in_default-clause-falls c = falls_so c.no_row.result _ _ _ _ (λ h. omega (arith, h)) c.no_row.ensures.falls
 
-pub returns-in-CallFormal-clause-turns : goal.returns-in-CallFormal-clause-turns
-returns-in-CallFormal-clause-turns c =
-    rw c.in-CallFormal.is (c.begin_call-in-CallFormal.ensures.turns c.args.program.now (moment_of c.args.machine.now))
-
-pub returns-in-CallFormal-clause-falls : goal.returns-in-CallFormal-clause-falls
-returns-in-CallFormal-clause-falls c =
-    falls_so c.begin_call-in-CallFormal.result _ _ _ _ (λ h. omega (arith, h)) c.begin_call-in-CallFormal.ensures.falls
-
 pub returns-in-Goto-clause-turns : goal.returns-in-Goto-clause-turns
 returns-in-Goto-clause-turns c = rw c.in-Goto.is (c.jump.ensures.turns c.args.program.now)
 
 pub returns-in-Goto-clause-falls : goal.returns-in-Goto-clause-falls
 returns-in-Goto-clause-falls c = falls_so c.jump.result _ _ _ _ (λ h. omega (arith, h)) c.jump.ensures.falls
+
+pub returns-in-Call-clause-turns : goal.returns-in-Call-clause-turns
+returns-in-Call-clause-turns c = rw c.in-Call.is (rw c.in-Call.is at c.procedure_statement.ensures.turns c.args.program.now c.args.row
+    (moment_of c.args.machine.now))
+
+pub returns-in-CallFormal-clause-turns : goal.returns-in-CallFormal-clause-turns
+returns-in-CallFormal-clause-turns c = rw c.in-CallFormal.is (rw c.in-CallFormal.is at c.procedure_statement-in-CallFormal.ensures.turns
+    c.args.program.now c.args.row (moment_of c.args.machine.now))

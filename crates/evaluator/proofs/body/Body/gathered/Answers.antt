@@ -1,4 +1,4 @@
-use Rattle.std.proofs.Common.{[], ◌∷◌, Ok, Err}
+use Rattle.std.proofs.Common.{Ok, Err}
 use Rattle.cell_value.specs.declared.values.Value.{Value}
 use Rattle.program_meaning.specs.Tree.{Gather, Ret, Sub}
 use Rattle.program_meaning.specs.Values.{or_fault}
