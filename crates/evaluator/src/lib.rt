@@ -1,15 +1,8 @@
-//! One activation of a routine: its parts that are at work stand in lists, so that an expression or a statement of the
-//! program in another is no call in the code.
+//! The run of one activation of a routine from stop to stop.
 #![tactic(auto)]
 
-mod accesses;
-mod actuals;
-mod body;
-mod counting;
-mod expressions;
-mod sets;
-mod statements;
-mod tasks;
+mod jumps;
+mod returns;
+mod turns;
 
-pub use body::Body;
-pub use tasks::{Choice, Home, Located, Next, Now, Operand, Part, Stop, Task, Way};
+pub use turns::go_on;

@@ -30,7 +30,7 @@ use Rattle.program_meaning.specs.Layer.{layer}
 use Rattle.program_meaning.specs.Run.{Halted}
 use Rattle.program_meaning.proofs.OutcomesCompose.{some_same, none_some}
 use Rattle.eval_ops.specs.Machines.{Moment}
-use Rattle.evaluator.specs.Stops.{Stop, AtEnd, on_act, next_stop}
+use Rattle.eval_tasks.specs.Stops.{Stop, AtEnd, on_act, next_stop}
 
 -- no call was entered and none was left, and nothing was given out
 pub record SameCalls (σ τ : State) : Type 0 where

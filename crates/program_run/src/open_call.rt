@@ -3,7 +3,7 @@
 ghost use Rattle.std.specs.Prelude.{◌+◌, ◌≤◌};
 ghost use Rattle.program_meaning.specs.State.{stack_end};
 
-use evaluator::Body;
+use eval_tasks::Body;
 
 /// A call that is open.
 #[derive(Drop)]

@@ -8,9 +8,9 @@ ghost use Rattle.program_meaning.specs.State.{State, stack_end};
 ghost use Rattle.program_meaning.specs.Run.{End, Ended, Halted};
 ghost use Rattle.program_meaning.specs.Tree.{Out};
 ghost use Rattle.eval_ops.specs.Machines.{HasRoom, IsReady, machine_state, moment_of};
-ghost use Rattle.evaluator.specs.declared.body.Body as bodies;
-ghost use Rattle.evaluator.specs.Rest.{rest_of};
-ghost use Rattle.evaluator.specs.Turns.{end_of};
+ghost use Rattle.eval_tasks.specs.declared.body.Body as bodies;
+ghost use Rattle.eval_tasks.specs.Rest.{rest_of};
+ghost use Rattle.eval_tasks.specs.Turns.{end_of};
 ghost use Rattle.program_run.specs.Table.{side_of};
 ghost use Rattle.program_run.specs.Tower.{Calls as Calling, Ends, IsOver, Rests, stage_after};
 ghost use Rattle.program_run.specs.Runners.{At, AtRest, Begun, Chain, Ending, IsWell, opens_in, rest_in, work_left};
@@ -19,7 +19,8 @@ use crate::open_call::OpenCall;
 use call_tree::{Calls, Side};
 use cell_value::{Cells, Memory, Value, WayOut};
 use eval_ops::{Halt, Machine, close_call, make_frame, open_call, remove_frame};
-use evaluator::{Body, Stop};
+use eval_tasks::{Body, Stop};
+use evaluator::go_on;
 use program_tables::Program;
 use std::alloc::{AllocError, Global};
 
@@ -229,7 +230,7 @@ impl Runner {
         match &mut self.body {
             None => Ok(()),
             // The body stays where it is from line to line: it is large.
-            Some(body) => match body.go_on(alloc, program, &mut self.machine)? {
+            Some(body) => match go_on(body, alloc, program, &mut self.machine)? {
                 Stop::Line(_) => Ok(()),
                 Stop::Enter(routine, args) => {
                     let caller = self.body.take();

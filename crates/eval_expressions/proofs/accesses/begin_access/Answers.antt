@@ -1,0 +1,41 @@
+use Rattle.std.proofs.Common.{ap, ◌∙◌}
+use Rattle.program_meaning.specs.Tree.{bind}
+use Rattle.program_meaning.specs.Accesses.{of_access}
+use Rattle.eval_tasks.specs.Rest.{here, waiting, located, top_list, lists_of}
+use Rattle.eval_tasks.specs.declared.tasks.Located.TheVariants as locateds
+use Rattle.eval_tasks.proofs.Turning.{turns_same, before_it}
+use Rattle.eval_expressions.proofs.accesses.begin_access.Goals as goal
+
+pub returns-in-Variable-clause-turns : goal.returns-in-Variable-clause-turns
+returns-in-Variable-clause-turns c =
+    turns_same c.args.program.now _ _ _ _ c.variable.result c.variable.new.body
+    (ap (λ e. bind (of_access c.args.program.now c.args.row (here c.args.body.now.home c.args.line) e) (waiting c.args.program.now c.args.body.now))
+    c.in-Variable.is)
+    c.variable.ensures.turns
+
+pub returns-in-Reference-clause-turns : goal.returns-in-Reference-clause-turns
+returns-in-Reference-clause-turns c =
+    turns_same c.args.program.now _ _ _ _ c.reference.result c.reference.new.body
+    (ap (λ e. bind (of_access c.args.program.now c.args.row (here c.args.body.now.home c.args.line) e) (waiting c.args.program.now c.args.body.now))
+    c.in-Reference.is)
+    c.reference.ensures.turns
+
+pub returns-then-access-row-clause-turns : goal.returns-then-access-row-clause-turns
+returns-then-access-row-clause-turns c =
+    let p = c.args.program.now in
+    let h = here c.args.body.now.home c.args.line in
+    turns_same p _ _ _ _ c.wait.result c.wait.new.self
+    (ap (λ e. bind (of_access p c.args.row h e) (waiting p c.args.body.now)) c.in-Index.is
+    ∙ before_it c.args.row c.in-Index.access h (located p c.args.body.now.home (locateds.Index c.in-Index.index c.in-Index.array c.args.line)
+    (top_list (lists_of c.args.body.now))) (waiting p c.args.body.now) c.if-access-row.true)
+    (c.wait.ensures.turns p _)
+
+pub returns-then-access-row-2-clause-turns : goal.returns-then-access-row-2-clause-turns
+returns-then-access-row-2-clause-turns c =
+    let p = c.args.program.now in
+    let h = here c.args.body.now.home c.args.line in
+    turns_same p _ _ _ _ c.wait-then-access-row-2.result c.wait-then-access-row-2.new.self
+    (ap (λ e. bind (of_access p c.args.row h e) (waiting p c.args.body.now)) c.in-Field.is
+    ∙ before_it c.args.row c.in-Field.access h (located p c.args.body.now.home (locateds.Field c.in-Field.field c.args.line)
+    (top_list (lists_of c.args.body.now))) (waiting p c.args.body.now) c.if-access-row-2.true)
+    (c.wait-then-access-row-2.ensures.turns p _)

@@ -1,0 +1,388 @@
+//! Accesses.
+
+ghost use Rattle.std.specs.Prelude.{◌≡◌, ◌+◌};
+ghost use Rattle.eval_ops.specs.Machines.{IsReady, Moment, moment_of};
+ghost use Rattle.program_meaning.specs.Tree.{bind, doing};
+ghost use Rattle.program_meaning.specs.Cells as action;
+ghost use Rattle.program_meaning.specs.Cells.{cell_out, reference_out};
+ghost use Rattle.program_meaning.specs.Accesses.{address, cells_at, field_in, field_of, of_access, value_at};
+ghost use Rattle.program_meaning.specs.Accesses.{with_bounds, with_components, spend as spend_in};
+ghost use Rattle.eval_tasks.specs.Rest.{from, from_under, here, waiting};
+ghost use Rattle.eval_tasks.specs.Turns.{Turns};
+ghost use Rattle.eval_tasks.specs.Weight.{Falls, body_weight, come, left_of, left_with, part_weight, task_weight};
+ghost use Rattle.eval_tasks.specs.Weight.{now_weight, tasks_weight};
+
+use cell_value::Value;
+use eval_calls::add_cell;
+use eval_ops::{
+    Machine, cell_out, component, moved, ordinal_at, read_cells, reference_out, set_at, spend,
+};
+use eval_tasks::{Body, Located, Now, Operand, Part, Task, Turned, Way};
+use program_meaning::Components;
+use program_tables::Program;
+use program_tables::rows::{AccessRow, NameRow, Row, TypeRow};
+use std::alloc::Global;
+
+/// An access begins.
+pub fn locate(
+    body: &mut Body,
+    program: &Program,
+    machine: &mut Machine,
+    row: u32,
+    line: u32,
+) -> Turned
+    requires ready { IsReady machine.old }
+    ensures turns { Turns program.now (from program.now body.old (Now.Begin (Part.Locate row line)))
+        (moment_of machine.old) result body.new
+        (moment_of machine.new) }
+    ensures falls { Falls result (left_of body.new machine.new)
+        (left_with machine.old.steps (now_weight (Now.Begin (Part.Locate row line)) + tasks_weight body.old)) }
+    ensures home { body.new.home ≡ body.old.home }
+    ensures ready { IsReady machine.new }
+{
+    match program.row(row) {
+        Row::Access(access) => begin_access(body, program, machine, access, row, line),
+        _ => body.no_row(),
+    }
+}
+
+/// An access begins, by what kind it is.
+fn begin_access(
+    body: &mut Body,
+    program: &Program,
+    machine: &mut Machine,
+    access: AccessRow,
+    row: u32,
+    line: u32,
+) -> Turned
+    requires ready { IsReady machine.old }
+    ensures turns { Turns program.now (bind (of_access program.now row (here body.old.home line) access)
+        (waiting program.now body.old)) (moment_of machine.old) result body.new (moment_of machine.new) }
+    ensures falls { Falls result (left_of body.new machine.new)
+        (left_with machine.old.steps (part_weight (Part.Locate row line) + tasks_weight body.old)) }
+    ensures home { body.new.home ≡ body.old.home }
+    ensures ready { IsReady machine.new }
+{
+    match access {
+        AccessRow::Variable { place, levels, .. } => variable(
+            body, program, machine, place, levels, line,
+        ),
+        AccessRow::Reference { place, levels, .. } => reference(
+            body, program, machine, place, levels, line,
+        ),
+        AccessRow::Index {
+            access,
+            index,
+            array,
+            ..
+        } => {
+            if access < row {
+                body.wait(
+                    Task::Located(Located::Index { index, array, line }),
+                    Now::Begin(Part::Locate { row: access, line }),
+                )
+            } else {
+                body.no_row()
+            }
+        }
+        AccessRow::Field { access, field, .. } => {
+            if access < row {
+                body.wait(
+                    Task::Located(Located::Field { field, line }),
+                    Now::Begin(Part::Locate { row: access, line }),
+                )
+            } else {
+                body.no_row()
+            }
+        }
+        _ => body.no_row(),
+    }
+}
+
+/// A variable, a value parameter or the result of a function, in the frame to which so many links lead.
+fn variable(
+    body: &mut Body,
+    program: &Program,
+    machine: &mut Machine,
+    place: u32,
+    levels: u32,
+    line: u32,
+) -> Turned
+    requires ready { IsReady machine.old }
+    ensures turns { Turns program.now (bind (spend_in (here body.old.home line) (doing line
+        (cell_out levels body.old.home.base place) address)) (waiting program.now body.old)) (moment_of machine.old)
+        result body.new (moment_of machine.new) }
+    ensures falls { Falls result (left_of body.new machine.new)
+        (left_with machine.old.steps (tasks_weight body.old)) }
+    ensures home { body.new.home ≡ body.old.home }
+    ensures ready { IsReady machine.new }
+{
+    match spend(machine, 1) {
+        Ok(()) => body.address(line, cell_out(machine, levels, body.home.base, place)),
+        Err(halt) => body.fail(line, halt),
+    }
+}
+
+/// The variable that a variable parameter stands for, in the frame to which so many links lead.
+fn reference(
+    body: &mut Body,
+    program: &Program,
+    machine: &mut Machine,
+    place: u32,
+    levels: u32,
+    line: u32,
+) -> Turned
+    requires ready { IsReady machine.old }
+    ensures turns { Turns program.now (bind (spend_in (here body.old.home line) (doing line
+        (reference_out levels body.old.home.base place) address)) (waiting program.now body.old))
+        (moment_of machine.old) result body.new (moment_of machine.new) }
+    ensures falls { Falls result (left_of body.new machine.new)
+        (left_with machine.old.steps (tasks_weight body.old)) }
+    ensures home { body.new.home ≡ body.old.home }
+    ensures ready { IsReady machine.new }
+{
+    match spend(machine, 1) {
+        Ok(()) => body.address(line, reference_out(machine, levels, body.home.base, place)),
+        Err(halt) => body.fail(line, halt),
+    }
+}
+
+/// What waited for a variable of an expression or of an access goes on with its address.
+pub fn continue_access(
+    body: &mut Body,
+    alloc: Global,
+    program: &Program,
+    machine: &mut Machine,
+    located: Located,
+    addr: u32,
+) -> Turned
+    requires ready { IsReady machine.old }
+    ensures turns { Turns program.now (from_under program.now body.old (Now.Came (Way.Address addr))
+        (Task.Located located))
+        (moment_of machine.old) result body.new (moment_of machine.new) }
+    ensures falls { Falls result (left_of body.new machine.new)
+        (left_with machine.old.steps (come + task_weight (Task.Located located) + tasks_weight body.old)) }
+    ensures home { body.new.home ≡ body.old.home }
+    ensures ready { IsReady machine.new }
+{
+    match located {
+        Located::Value { of, line } => variable_value(
+            body,
+            alloc,
+            program,
+            machine,
+            program.type_row(of),
+            line,
+            addr,
+        ),
+        Located::Index { index, array, line } => match spend(machine, 1) {
+            Ok(()) => body.wait(
+                Task::Operand(Operand::Component { array, addr, line }),
+                Now::Begin(Part::Eval { row: index, line }),
+            ),
+            Err(halt) => body.fail(line, halt),
+        },
+        Located::Field { field, line } => match spend(machine, 1) {
+            Ok(()) => locate_field(body, program, program.row(field), addr),
+            Err(halt) => body.fail(line, halt),
+        },
+        Located::Passed { next, line } => add_cell(
+            body,
+            alloc,
+            program,
+            Value::Place(addr),
+            next,
+            line,
+        ),
+    }
+}
+
+/// The value of a variable of a type.
+fn variable_value(
+    body: &mut Body,
+    alloc: Global,
+    program: &Program,
+    machine: &mut Machine,
+    kind: Option<TypeRow>,
+    line: u32,
+    addr: u32,
+) -> Turned
+    requires ready { IsReady machine.old }
+    ensures turns { Turns program.now (bind (value_at line addr kind)
+        (waiting program.now body.old)) (moment_of machine.old) result body.new (moment_of machine.new) }
+    ensures falls { Falls result (left_of body.new machine.new)
+        (left_with machine.old.steps (come + 1 + tasks_weight body.old)) }
+    ensures home { body.new.home ≡ body.old.home }
+    ensures ready { IsReady machine.new }
+{
+    match kind {
+        Some(TypeRow::Ordinal { least, greatest }) => {
+            body.scalar(line, ordinal_at(machine, least, greatest, addr))
+        }
+        Some(
+            TypeRow::Subrange {
+                least,
+                greatest,
+                ..
+            },
+        ) => { body.scalar(line, ordinal_at(machine, least, greatest, addr)) }
+        Some(TypeRow::Set { .. }) => body.scalar(line, set_at(machine, addr)),
+        Some(TypeRow::Array { cells, .. }) => variable_cells(
+            body, alloc, program, machine, cells, line, addr,
+        ),
+        Some(TypeRow::Record { cells, .. }) => variable_cells(
+            body, alloc, program, machine, cells, line, addr,
+        ),
+        _ => body.no_row(),
+    }
+}
+
+/// The values of so many cells.
+fn variable_cells(
+    body: &mut Body,
+    alloc: Global,
+    program: &Program,
+    machine: &mut Machine,
+    cells: u32,
+    line: u32,
+    addr: u32,
+) -> Turned
+    requires ready { IsReady machine.old }
+    ensures turns { Turns program.now (bind (cells_at line addr cells) (waiting program.now body.old))
+        (moment_of machine.old) result body.new (moment_of machine.new) }
+    ensures falls { Falls result (left_of body.new machine.new)
+        (left_with machine.old.steps (come + 1 + tasks_weight body.old)) }
+    ensures home { body.new.home ≡ body.old.home }
+    ensures ready { IsReady machine.new }
+{
+    match read_cells(alloc, machine, addr, cells) {
+        Ok(values) => body.give_cells(values),
+        Err(halt) => body.fail(line, halt),
+    }
+}
+
+/// A field of a record variable at an address.
+fn locate_field(body: &mut Body, program: &Program, found: Row, addr: u32) -> Turned
+    ensures turns { (m : Moment) → Turns program.now (bind (field_in program.now addr found)
+        (waiting program.now body.old)) m result body.new m }
+    ensures falls { Falls result (body_weight body.new) (come + 1 + tasks_weight body.old) }
+    ensures home { body.new.home ≡ body.old.home }
+{
+    match found {
+        Row::Name(NameRow::Field { offset, holder, .. }) => {
+            locate_field_of(body, program, program.type_row(holder), addr, offset)
+        }
+        _ => body.no_row(),
+    }
+}
+
+/// The same, by the type that holds it.
+fn locate_field_of(
+    body: &mut Body,
+    program: &Program,
+    holder: Option<TypeRow>,
+    addr: u32,
+    offset: u32,
+) -> Turned
+    ensures turns { (m : Moment) → Turns program.now (bind (field_of addr offset holder)
+        (waiting program.now body.old)) m result body.new m }
+    ensures falls { Falls result (body_weight body.new) (come + 1 + tasks_weight body.old) }
+    ensures home { body.new.home ≡ body.old.home }
+{
+    match holder {
+        Some(TypeRow::Record { .. }) => body.go(Now::Came(Way::Address(moved(addr, offset)))),
+        _ => body.no_row(),
+    }
+}
+
+/// The component of an array variable at an address, by the value of its index.
+pub(crate) fn locate_component(
+    body: &mut Body,
+    program: &Program,
+    array: Option<TypeRow>,
+    addr: u32,
+    line: u32,
+    value: Value,
+) -> Turned
+    ensures turns { (m : Moment) → Turns program.now (bind (with_components program.now array (λ a.
+        doing line (action.component a addr value) address))
+        (waiting program.now body.old)) m result body.new m }
+    ensures falls { Falls result (body_weight body.new) (come + 1 + tasks_weight body.old) }
+    ensures home { body.new.home ≡ body.old.home }
+{
+    match array {
+        Some(
+            TypeRow::Array {
+                index,
+                component: part,
+                ..
+            },
+        ) => {
+            locate_component_in(
+                body,
+                program,
+                program.type_row(index),
+                program.size_of(part),
+                addr,
+                line,
+                value,
+            )
+        }
+        _ => body.no_row(),
+    }
+}
+
+/// The same, by the index type and the cells of a component.
+fn locate_component_in(
+    body: &mut Body,
+    program: &Program,
+    index: Option<TypeRow>,
+    size: u32,
+    addr: u32,
+    line: u32,
+    value: Value,
+) -> Turned
+    ensures turns { (m : Moment) → Turns program.now (bind (with_bounds index (λ least greatest. doing line
+        (action.component (record { least = least; greatest = greatest; size = size }) addr value) address))
+        (waiting program.now body.old)) m result body.new m }
+    ensures falls { Falls result (body_weight body.new) (come + 1 + tasks_weight body.old) }
+    ensures home { body.new.home ≡ body.old.home }
+{
+    match index {
+        Some(TypeRow::Ordinal { least, greatest }) => {
+            body.address(
+                line,
+                component(
+                    Components {
+                        least,
+                        greatest,
+                        size,
+                    },
+                    addr,
+                    value,
+                ),
+            )
+        }
+        Some(
+            TypeRow::Subrange {
+                least,
+                greatest,
+                ..
+            },
+        ) => {
+            body.address(
+                line,
+                component(
+                    Components {
+                        least,
+                        greatest,
+                        size,
+                    },
+                    addr,
+                    value,
+                ),
+            )
+        }
+        _ => body.no_row(),
+    }
+}

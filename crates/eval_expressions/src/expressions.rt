@@ -1,0 +1,261 @@
+//! Expressions.
+
+ghost use Rattle.std.specs.Prelude.{◌≡◌, ◌+◌, ◌*◌};
+ghost use Rattle.program_tables.specs.ProgramRows.{ProgramRows};
+ghost use Rattle.eval_ops.specs.Machines.{IsReady, Moment, moment_of};
+ghost use Rattle.program_meaning.specs.Tree.{bind};
+ghost use Rattle.program_meaning.specs.Expressions.{of_expression};
+ghost use Rattle.eval_rules.specs.Operators.{dyadic_of};
+ghost use Rattle.eval_expressions.specs.Families.{of_designator, of_monadic, of_other};
+ghost use Rattle.eval_tasks.specs.Rest.{from, from_under, here, waiting};
+ghost use Rattle.eval_tasks.specs.Turns.{Turns};
+ghost use Rattle.eval_tasks.specs.Weight.{Falls, body_weight, come, left_of, left_with, task_weight, now_weight};
+ghost use Rattle.eval_tasks.specs.Weight.{tasks_weight};
+
+use crate::accesses::locate_component;
+use crate::sets::{gather_from, gather_member, give_string};
+use cell_value::{OpFault, Value, arith};
+use eval_calls::begin_call;
+use eval_ops::{
+    Machine, combine_sets, compare_ordinals, compare_sets, is_in, is_true, no_members,
+    ordinal_function, passed, sign, spend, truth,
+};
+use eval_rules::{Dyadic, combine, constant, dyadic_in, type_accessed};
+use eval_tasks::{Body, Located, Now, Operand, Part, Task, Turned, Way};
+use program_tables::Program;
+use program_tables::rows::{ExpressionRow, Row};
+use std::alloc::Global;
+
+/// A dyadic operator on two values.
+fn apply(dyadic: Dyadic, left: Value, right: Value) -> Result<Value, OpFault>
+    ensures { result ≡ dyadic_of dyadic left right }
+{
+    match dyadic {
+        Dyadic::Arithmetic(operator) => arith(operator, left, right),
+        Dyadic::Logic(operator) => Ok(truth(combine(operator, is_true(left), is_true(right)))),
+        Dyadic::Compare(order) => compare_ordinals(order, left, right),
+        Dyadic::Sets(operator) => combine_sets(operator, left, right),
+        Dyadic::CompareSets(order) => compare_sets(order, left, right),
+        Dyadic::In => is_in(left, right),
+    }
+}
+
+/// An expression begins.
+pub fn evaluate(
+    body: &mut Body,
+    alloc: Global,
+    program: &Program,
+    machine: &mut Machine,
+    row: u32,
+    line: u32,
+) -> Turned
+    requires ready { IsReady machine.old }
+    ensures turns { Turns program.now (from program.now body.old (Now.Begin (Part.Eval row line)))
+        (moment_of machine.old) result body.new (moment_of machine.new) }
+    ensures falls { Falls result (left_of body.new machine.new)
+        (left_with machine.old.steps (now_weight (Now.Begin (Part.Eval row line)) + tasks_weight body.old)) }
+    ensures home { body.new.home ≡ body.old.home }
+    ensures ready { IsReady machine.new }
+{
+    match program.row(row) {
+        Row::Expression(expression) => match spend(machine, 1) {
+            Ok(()) => begin_expression(body, alloc, program, expression, line),
+            Err(halt) => body.fail(line, halt),
+        },
+        Row::Access(access) => body.wait(
+            Task::Located(Located::Value {
+                of: type_accessed(access),
+                line,
+            }),
+            Now::Begin(Part::Locate { row, line }),
+        ),
+        _ => body.no_row(),
+    }
+}
+
+/// An expression whose step is taken.
+fn begin_expression(
+    body: &mut Body,
+    alloc: Global,
+    program: &Program,
+    expression: ExpressionRow,
+    line: u32,
+) -> Turned
+    ensures turns { (m : Moment) → Turns program.now (bind (of_expression program.now (here body.old.home line)
+        expression) (waiting program.now body.old)) m result body.new m }
+    ensures falls { Falls result (body_weight body.new) (2 * come + tasks_weight body.old) }
+    ensures home { body.new.home ≡ body.old.home }
+{
+    match dyadic_in(expression) {
+        Some((dyadic, left, right)) => body.wait(
+            Task::Operand(Operand::Right {
+                dyadic,
+                right,
+                line,
+            }),
+            Now::Begin(Part::Eval { row: left, line }),
+        ),
+        None => other_expression(body, alloc, program, expression, line),
+    }
+}
+
+/// An expression whose step is taken, without a dyadic operator on values of one cell.
+fn other_expression(
+    body: &mut Body,
+    alloc: Global,
+    program: &Program,
+    expression: ExpressionRow,
+    line: u32,
+) -> Turned
+    ensures turns { (m : Moment) → Turns program.now (bind (of_other program.now (here body.old.home line)
+        expression) (waiting program.now body.old)) m result body.new m }
+    ensures falls { Falls result (body_weight body.new) (2 * come + tasks_weight body.old) }
+    ensures home { body.new.home ≡ body.old.home }
+{
+    match expression {
+        ExpressionRow::Constant { value } => body.go(Now::Came(Way::Scalar(constant(value)))),
+        ExpressionRow::Text { token } => give_string(body, alloc, program, token),
+        ExpressionRow::CompareTexts { order, left, right } => body.wait(
+            Task::TextRight { order, right, line },
+            Now::Begin(Part::Eval { row: left, line }),
+        ),
+        ExpressionRow::Set { members } => gather_from(body, no_members(), members, line),
+        ExpressionRow::Sign { .. } => monadic(body, expression, line),
+        ExpressionRow::Not { .. } => monadic(body, expression, line),
+        ExpressionRow::Function { .. } => monadic(body, expression, line),
+        ExpressionRow::Apply { .. } => designator(body, alloc, expression, line),
+        ExpressionRow::ApplyFormal { .. } => designator(body, alloc, expression, line),
+        _ => body.no_row(),
+    }
+}
+
+/// An expression whose step is taken, with a sign, `not` or a required function of an ordinal (6.7.2.2, 6.7.2.3,
+/// 6.6.6): its operand begins.
+fn monadic(body: &mut Body, expression: ExpressionRow, line: u32) -> Turned
+    ensures turns { (p : ProgramRows) (m : Moment) → Turns p (bind (of_monadic p (here body.old.home line)
+        expression) (waiting p body.old)) m result body.new m }
+    ensures falls { Falls result (body_weight body.new) (2 * come + tasks_weight body.old) }
+    ensures home { body.new.home ≡ body.old.home }
+{
+    match expression {
+        ExpressionRow::Sign { minus, operand } => body.wait(
+            Task::Operand(Operand::Sign { minus, line }),
+            Now::Begin(Part::Eval { row: operand, line }),
+        ),
+        ExpressionRow::Not { operand } => body.wait(
+            Task::Operand(Operand::Not),
+            Now::Begin(Part::Eval { row: operand, line }),
+        ),
+        ExpressionRow::Function {
+            function,
+            operand,
+            least,
+            greatest,
+        } => body.wait(
+            Task::Operand(Operand::Function {
+                function,
+                least,
+                greatest,
+                line,
+            }),
+            Now::Begin(Part::Eval { row: operand, line }),
+        ),
+        _ => body.no_row(),
+    }
+}
+
+/// A function designator (6.7.3) whose step is taken: its actual parameters begin.
+fn designator(body: &mut Body, alloc: Global, expression: ExpressionRow, line: u32) -> Turned
+    ensures turns { (p : ProgramRows) (m : Moment) → Turns p (bind (of_designator p (here body.old.home line)
+        expression) (waiting p body.old)) m result body.new m }
+    ensures falls { Falls result (body_weight body.new) (2 * come + tasks_weight body.old) }
+    ensures home { body.new.home ≡ body.old.home }
+{
+    match expression {
+        ExpressionRow::Apply {
+            routine,
+            levels,
+            actuals,
+        } => begin_call(
+            body,
+            alloc,
+            Task::Call {
+                procedure: false,
+                routine,
+                levels,
+                line,
+            },
+            actuals,
+            line,
+        ),
+        ExpressionRow::ApplyFormal {
+            place,
+            levels,
+            actuals,
+        } => begin_call(
+            body,
+            alloc,
+            Task::CallFormal {
+                procedure: false,
+                place,
+                levels,
+                line,
+            },
+            actuals,
+            line,
+        ),
+        _ => body.no_row(),
+    }
+}
+
+/// An expression goes on by the value of an operand.
+pub fn continue_expression(
+    body: &mut Body,
+    program: &Program,
+    operand: Operand,
+    value: Value,
+) -> Turned
+    ensures turns { (m : Moment) → Turns program.now (from_under program.now body.old
+        (Now.Came (Way.Scalar value)) (Task.Operand operand)) m
+        result body.new m }
+    ensures falls { Falls result (body_weight body.new) (come + task_weight (Task.Operand operand)
+        + tasks_weight body.old) }
+    ensures home { body.new.home ≡ body.old.home }
+{
+    match operand {
+        Operand::Sign { minus, line } => body.scalar(line, passed(sign(minus, value))),
+        Operand::Not => body.go(Now::Came(Way::Scalar(truth(!is_true(value))))),
+        Operand::Right {
+            dyadic,
+            right,
+            line,
+        } => body.hold(
+            value,
+            Task::Operand(Operand::Both { dyadic, line }),
+            Now::Begin(Part::Eval { row: right, line }),
+        ),
+        Operand::Both { dyadic, line } => {
+            let left = body.take_value();
+            body.scalar(line, passed(apply(dyadic, left, value)))
+        }
+        Operand::Member { next, line } => gather_member(body, next, line, value),
+        Operand::First { last, next, line } => body.hold(
+            value,
+            Task::Range { next, line },
+            Now::Begin(Part::Eval { row: last, line }),
+        ),
+        Operand::Function {
+            function,
+            least,
+            greatest,
+            line,
+        } => {
+            let done = ordinal_function(function, least, greatest, value);
+            body.scalar(line, passed(done))
+        }
+        Operand::Component { array, addr, line } => {
+            let found = program.type_row(array);
+            locate_component(body, program, found, addr, line, value)
+        }
+    }
+}

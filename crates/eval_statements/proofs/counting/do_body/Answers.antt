@@ -1,0 +1,27 @@
+use Rattle.std.proofs.Common.{[], ◌∷◌, ◌++◌, sym, ap, ◌∙◌, arith}
+use Rattle.cell_value.specs.declared.values.Value.TheVariants as value
+use Rattle.eval_tasks.specs.Rest.{tasks_of, values_of, lists_of}
+use Rattle.eval_tasks.specs.declared.tasks.Now.TheVariants.{Begin}
+use Rattle.eval_tasks.specs.declared.tasks.Part.TheVariants as part
+use Rattle.eval_tasks.specs.declared.tasks.Task.TheVariants as tasks
+use Rattle.eval_tasks.specs.declared.tasks.Next.TheVariants as nexts
+use Rattle.eval_tasks.specs.Rest.{at_work}
+use Rattle.eval_tasks.proofs.StepsFall.{falls_so}
+use Rattle.eval_tasks.proofs.Turning.{turns_same, reverse_pushed}
+use Rattle.eval_statements.proofs.counting.do_body.Goals as goal
+
+pub returns-clause-turns : goal.returns-clause-turns
+returns-clause-turns c p m =
+    turns_same p _ _ m m c.hold.result c.hold.new.self
+    (ap (λ v. at_work p c.args.body.now.home (Begin (part.Exec c.args.inner c.args.line))
+    (tasks.Next (nexts.Counted c.args.row c.args.line) ∷ tasks_of c.args.body.now) (v ∷ value.Number c.args.span.value ∷ values_of c.args.body.now)
+    (lists_of c.args.body.now)) (sym c.last_value.ensures)
+    ∙ ap (λ vs. at_work p c.args.body.now.home (Begin (part.Exec c.args.inner c.args.line))
+    (tasks.Next (nexts.Counted c.args.row c.args.line) ∷ tasks_of c.args.body.now) (c.last_value.result ∷ vs) (lists_of c.args.body.now))
+    (sym (reverse_pushed c.args.body.now.values.items _ (value.Number c.args.span.value)
+    (c.in_ok-push.ensures.items ∙ ap (λ v. c.args.body.now.values.items ++ v ∷ []) c.turn_value.ensures))))
+    (c.hold.ensures.turns p m)
+
+pub returns-clause-falls : goal.returns-clause-falls
+returns-clause-falls c =
+    falls_so c.hold.result _ _ _ _ (λ h. omega (arith, h)) c.hold.ensures.falls

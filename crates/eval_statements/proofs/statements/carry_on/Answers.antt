@@ -1,0 +1,79 @@
+use Rattle.std.proofs.Common.{ap, arith}
+use Rattle.program_meaning.specs.Tree.{bind}
+use Rattle.eval_ops.specs.Machines.{moment_of}
+use Rattle.eval_tasks.specs.Rest.{waiting}
+use Rattle.eval_statements.proofs.StatementsByRow.{other_carried}
+use Rattle.eval_tasks.proofs.StepsFall.{falls_so}
+use Rattle.eval_tasks.proofs.Turning.{turns_same}
+use Rattle.eval_statements.proofs.statements.carry_on.Goals as goal
+
+pub returns-in-Assign-clause-turns : goal.returns-in-Assign-clause-turns
+returns-in-Assign-clause-turns c = rw c.in-Assign.is (c.wait.ensures.turns c.args.program.now (moment_of c.args.machine.now))
+
+pub returns-in-Assign-clause-falls : goal.returns-in-Assign-clause-falls
+returns-in-Assign-clause-falls c = falls_so c.wait.result _ _ _ _ (λ h. omega (arith, h)) c.wait.ensures.falls
+
+pub returns-in-If-clause-turns : goal.returns-in-If-clause-turns
+returns-in-If-clause-turns c = rw c.in-If.is (rw c.in-If.is at c.conditional.ensures.turns c.args.program.now c.args.row (moment_of c.args.machine.now))
+
+pub returns-in-IfElse-clause-turns : goal.returns-in-IfElse-clause-turns
+returns-in-IfElse-clause-turns c = rw c.in-IfElse.is (rw c.in-IfElse.is at c.conditional-in-IfElse.ensures.turns c.args.program.now c.args.row
+    (moment_of c.args.machine.now))
+
+pub returns-in-Case-clause-turns : goal.returns-in-Case-clause-turns
+returns-in-Case-clause-turns c = rw c.in-Case.is (rw c.in-Case.is at c.conditional-in-Case.ensures.turns c.args.program.now c.args.row
+    (moment_of c.args.machine.now))
+
+pub returns-in-Repeat-clause-turns : goal.returns-in-Repeat-clause-turns
+returns-in-Repeat-clause-turns c = rw c.in-Repeat.is (c.go.ensures.turns c.args.program.now (moment_of c.args.machine.now))
+
+pub returns-in-Repeat-clause-falls : goal.returns-in-Repeat-clause-falls
+returns-in-Repeat-clause-falls c = falls_so c.go.result _ _ _ _ (λ h. omega (arith, h)) c.go.ensures.falls
+
+pub returns-in-While-clause-turns : goal.returns-in-While-clause-turns
+returns-in-While-clause-turns c = rw c.in-While.is (c.go-in-While.ensures.turns c.args.program.now (moment_of c.args.machine.now))
+
+pub returns-in-While-clause-falls : goal.returns-in-While-clause-falls
+returns-in-While-clause-falls c = falls_so c.go-in-While.result _ _ _ _ (λ h. omega (arith, h)) c.go-in-While.ensures.falls
+
+pub returns-in-For-clause-turns : goal.returns-in-For-clause-turns
+returns-in-For-clause-turns c = rw c.in-For.is (c.begin_for.ensures.turns (moment_of c.args.machine.now))
+
+pub returns-in-For-clause-falls : goal.returns-in-For-clause-falls
+returns-in-For-clause-falls c = falls_so c.begin_for.result _ _ _ _ (λ h. omega (arith, h)) c.begin_for.ensures.falls
+
+pub returns-in_default-clause-turns : goal.returns-in_default-clause-turns
+returns-in_default-clause-turns c =
+    let p = c.args.program.now in
+    let rest = waiting p c.args.body.now in
+    turns_same p _ _ (moment_of c.args.machine.now) (moment_of c.args.machine.now) c.no_row.result c.no_row.new.self
+    (ap (λ t. bind t rest) (other_carried p c.args.body.now.home c.args.row c.args.statement (record {
+      assign = c.in_default.not-Assign;
+      call = c.in_default.not-Call;
+      when = c.in_default.not-If;
+      when_else = c.in_default.not-IfElse;
+      case' = c.in_default.not-Case;
+      repeat = c.in_default.not-Repeat;
+      while = c.in_default.not-While;
+      for' = c.in_default.not-For;
+      call_formal = c.in_default.not-CallFormal;
+      goto = c.in_default.not-Goto;
+    })))
+    (c.no_row.ensures.turns p _)
+
+pub returns-in_default-clause-falls : goal.returns-in_default-clause-falls
+returns-in_default-clause-falls c = falls_so c.no_row.result _ _ _ _ (λ h. omega (arith, h)) c.no_row.ensures.falls
+
+pub returns-in-Goto-clause-turns : goal.returns-in-Goto-clause-turns
+returns-in-Goto-clause-turns c = rw c.in-Goto.is (c.jump.ensures.turns c.args.program.now)
+
+pub returns-in-Goto-clause-falls : goal.returns-in-Goto-clause-falls
+returns-in-Goto-clause-falls c = falls_so c.jump.result _ _ _ _ (λ h. omega (arith, h)) c.jump.ensures.falls
+
+pub returns-in-Call-clause-turns : goal.returns-in-Call-clause-turns
+returns-in-Call-clause-turns c = rw c.in-Call.is (rw c.in-Call.is at c.procedure_statement.ensures.turns c.args.program.now c.args.row
+    (moment_of c.args.machine.now))
+
+pub returns-in-CallFormal-clause-turns : goal.returns-in-CallFormal-clause-turns
+returns-in-CallFormal-clause-turns c = rw c.in-CallFormal.is (rw c.in-CallFormal.is at c.procedure_statement-in-CallFormal.ensures.turns
+    c.args.program.now c.args.row (moment_of c.args.machine.now))

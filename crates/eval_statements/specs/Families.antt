@@ -1,0 +1,28 @@
+-- Families of statements: what each of a family does. What is of no family has no row.
+use Rattle.std.specs.Prelude.{ℕ}
+use Rattle.program_tables.specs.declared.rows.StatementRow.{StatementRow}
+use Rattle.program_tables.specs.declared.rows.StatementRow.TheVariants as statements
+use Rattle.program_tables.specs.ProgramRows.{ProgramRows}
+use Rattle.program_meaning.specs.Tree.{Tree}
+use Rattle.program_meaning.specs.Accesses.{no_row}
+use Rattle.program_meaning.specs.Statements.{of_statement}
+use Rattle.eval_tasks.specs.Rest.{here}
+use Rattle.eval_tasks.specs.declared.tasks.Home.{Home}
+
+-- a procedure statement (6.8.2.3) whose line is told
+abbrev pub of_procedure : ProgramRows → Home → (row : ℕ) → StatementRow → Tree
+of_procedure p home row (statements.Call line routine levels actuals) =
+    of_statement p row (here home line) (statements.Call line routine levels actuals)
+of_procedure p home row (statements.CallFormal line place levels actuals) =
+    of_statement p row (here home line) (statements.CallFormal line place levels actuals)
+of_procedure p home row s = no_row
+
+-- a conditional statement (6.8.3.3) whose line is told
+abbrev pub of_conditional : ProgramRows → Home → (row : ℕ) → StatementRow → Tree
+of_conditional p home row (statements.If line condition then') =
+    of_statement p row (here home line) (statements.If line condition then')
+of_conditional p home row (statements.IfElse line condition then' otherwise) =
+    of_statement p row (here home line) (statements.IfElse line condition then' otherwise)
+of_conditional p home row (statements.Case line index choices) =
+    of_statement p row (here home line) (statements.Case line index choices)
+of_conditional p home row s = no_row

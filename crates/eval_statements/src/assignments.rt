@@ -1,0 +1,103 @@
+//! Assignments.
+
+ghost use Rattle.std.specs.Prelude.{◌≡◌, ◌+◌};
+ghost use Rattle.eval_ops.specs.Machines.{IsReady, Moment, moment_of};
+ghost use Rattle.eval_tasks.specs.Rest.{from_under};
+ghost use Rattle.eval_tasks.specs.Turns.{Turns};
+ghost use Rattle.eval_tasks.specs.Weight.{Falls, body_weight, come, left_of, left_with, task_weight, tasks_weight};
+
+use cell_value::Value;
+use eval_ops::{Machine, assign, write_cells};
+use eval_tasks::{Body, Now, Part, Task, Turned, Way};
+use program_tables::Program;
+use std::alloc::Global;
+
+/// An assignment goes on with a value of a type of one cell: its target is located.
+pub fn locate_target(
+    body: &mut Body,
+    program: &Program,
+    target: u32,
+    of: u32,
+    line: u32,
+    value: Value,
+) -> Turned
+    ensures turns { (m : Moment) → Turns program.now
+        (from_under program.now body.old (Now.Came (Way.Scalar value)) (Task.Target target of line)) m result
+        body.new m }
+    ensures falls { Falls result (body_weight body.new)
+        (come + task_weight (Task.Target target of line) + tasks_weight body.old) }
+    ensures home { body.new.home ≡ body.old.home }
+{
+    body.hold(
+        value,
+        Task::Put { of, line },
+        Now::Begin(Part::Locate { row: target, line }),
+    )
+}
+
+/// An assignment goes on with a value of several cells: its target is located.
+pub fn locate_target_cells(
+    body: &mut Body,
+    program: &Program,
+    target: u32,
+    of: u32,
+    line: u32,
+) -> Turned
+    ensures turns { (m : Moment) → Turns program.now
+        (from_under program.now body.old (Now.Came Way.Cells) (Task.Target target of line)) m result body.new m }
+    ensures falls { Falls result (body_weight body.new)
+        (come + task_weight (Task.Target target of line) + tasks_weight body.old) }
+    ensures home { body.new.home ≡ body.old.home }
+{
+    body.wait(
+        Task::PutCells { line },
+        Now::Begin(Part::Locate { row: target, line }),
+    )
+}
+
+/// An assignment ends: the value that waited goes to its target.
+pub fn put(
+    body: &mut Body,
+    alloc: Global,
+    program: &Program,
+    machine: &mut Machine,
+    of: u32,
+    line: u32,
+    addr: u32,
+) -> Turned
+    requires ready { IsReady machine.old }
+    ensures turns { Turns program.now
+        (from_under program.now body.old (Now.Came (Way.Address addr)) (Task.Put of line))
+        (moment_of machine.old) result body.new (moment_of machine.new) }
+    ensures falls { Falls result (left_of body.new machine.new)
+        (left_with machine.old.steps (come + task_weight (Task.Put of line) + tasks_weight body.old)) }
+    ensures home { body.new.home ≡ body.old.home }
+    ensures ready { IsReady machine.new }
+{
+    let value = body.take_value();
+    let done = assign(alloc, program, machine, program.type_row(of), addr, value);
+    body.finally(line, done)
+}
+
+/// An assignment ends: the list that waited goes to its target.
+pub fn put_cells(
+    body: &mut Body,
+    alloc: Global,
+    program: &Program,
+    machine: &mut Machine,
+    line: u32,
+    addr: u32,
+) -> Turned
+    requires ready { IsReady machine.old }
+    ensures turns { Turns program.now
+        (from_under program.now body.old (Now.Came (Way.Address addr)) (Task.PutCells line))
+        (moment_of machine.old) result body.new (moment_of machine.new) }
+    ensures falls { Falls result (left_of body.new machine.new)
+        (left_with machine.old.steps (come + task_weight (Task.PutCells line) + tasks_weight body.old)) }
+    ensures home { body.new.home ≡ body.old.home }
+    ensures ready { IsReady machine.new }
+{
+    let list = body.take_list(alloc);
+    let done = write_cells(alloc, machine, addr, &list);
+    body.finally(line, done)
+}

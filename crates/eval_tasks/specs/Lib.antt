@@ -1,0 +1,4 @@
+pub mod Rest
+pub mod Stops
+pub mod Turns
+pub mod Weight

@@ -1,0 +1,297 @@
+-- What a body has still to do, by its tasks.
+use Rattle.std.specs.Prelude.{ℕ, ℤ, List, [], ◌∷◌, ◌++◌, Bool, true, false, not, Option, Some, None, reverse}
+use Rattle.std.specs.Prelude.{if◌then◌else◌}
+use Rattle.cell_value.specs.declared.values.Value.{Value}
+use Rattle.cell_value.specs.declared.values.Value.TheVariants as value
+use Rattle.program_tables.specs.declared.program.Routine.{Routine}
+use Rattle.program_tables.specs.declared.rows.Row.{Row}
+use Rattle.program_tables.specs.declared.rows.Row.TheVariants as rows
+use Rattle.program_tables.specs.declared.rows.StatementRow.{StatementRow}
+use Rattle.program_tables.specs.declared.rows.StatementRow.TheVariants as statements
+use Rattle.program_tables.specs.ProgramRows.{ProgramRows, row_at, type_at, routine_at}
+use Rattle.program_meaning.specs.Actions.{Action, Give, ◌>>=◌}
+use Rattle.program_meaning.specs.Tree.{Out, Nothing, Scalar, Cells, Address, Jump, Here}
+use Rattle.program_meaning.specs.Tree.{Tree, Ret, Sub, Enter, doing, bind}
+use Rattle.program_meaning.specs.Tree as parts
+use Rattle.program_meaning.specs.Values.{truth, is_true, signed, function_of, members_added, texts_compared}
+use Rattle.program_meaning.specs.Cells.{writes, assign, component, frame_out, routine_out}
+use Rattle.program_meaning.specs.Accesses.{
+  no_row,
+  spend,
+  on_scalar,
+  on_cells,
+  on_address,
+  eval,
+  eval_cells,
+  scalar,
+  address,
+  with_components,
+  field_in,
+  value_at,
+}
+use Rattle.program_meaning.specs.Expressions.{result_of, with_frame_size, enter, on_actual, gather}
+use Rattle.program_meaning.specs.Statements.{
+  on_normal,
+  on_statement,
+  on_labelled,
+  nothing,
+  finally,
+  on_value,
+  chosen_by,
+  has_turn,
+  first_turn,
+  turn_after,
+  of_statement,
+  line_of,
+}
+use Rattle.program_meaning.specs.Run.{return_of}
+use Rattle.eval_rules.specs.Operators.{dyadic_of}
+use Rattle.eval_tasks.specs.declared.body.Body.{Body}
+use Rattle.eval_tasks.specs.declared.tasks.Home.{Home}
+use Rattle.eval_tasks.specs.declared.tasks.Part.{Part}
+use Rattle.eval_tasks.specs.declared.tasks.Part.TheVariants as part
+use Rattle.eval_tasks.specs.declared.tasks.Way.{Way}
+use Rattle.eval_tasks.specs.declared.tasks.Way.TheVariants as way
+use Rattle.eval_tasks.specs.declared.tasks.Now.{Now}
+use Rattle.eval_tasks.specs.declared.tasks.Now.TheVariants.{Begin, Carry, Came}
+use Rattle.eval_tasks.specs.declared.tasks.Operand.{Operand}
+use Rattle.eval_tasks.specs.declared.tasks.Operand.TheVariants as operands
+use Rattle.eval_tasks.specs.declared.tasks.Located.{Located}
+use Rattle.eval_tasks.specs.declared.tasks.Located.TheVariants as locateds
+use Rattle.eval_tasks.specs.declared.tasks.Choice.{Choice}
+use Rattle.eval_tasks.specs.declared.tasks.Choice.TheVariants as choices
+use Rattle.eval_tasks.specs.declared.tasks.Next.{Next}
+use Rattle.eval_tasks.specs.declared.tasks.Next.TheVariants as nexts
+use Rattle.eval_tasks.specs.declared.tasks.Task.{Task}
+use Rattle.eval_tasks.specs.declared.tasks.Task.TheVariants as tasks
+
+abbrev pub here : Home → (line : ℕ) → Here
+here home line = record { line = line; base = home.base }
+
+-- the value, or the list, that was the last to wait, and those below it
+abbrev pub top : List Value → Value
+top [] = value.Undefined
+top (v ∷ vs) = v
+
+abbrev pub top_list : List (List Value) → List Value
+top_list [] = []
+top_list (l ∷ ls) = l
+
+abbrev pub below : {A : Type 0} → List A → List A
+below [] = []
+below (x ∷ xs) = xs
+
+-- ---- what each task does with what came, where `x` is the value that waited
+
+abbrev pub operand : ProgramRows → Home → Operand → (x : Value) → Value → Tree
+operand p home (operands.Sign minus line) x v = result_of (here home line) (signed minus v)
+operand p home operands.Not x v = scalar (truth (not (is_true v)))
+operand p home (operands.Right dyadic right line) x v =
+    eval right (here home line) (λ y. result_of (here home line) (dyadic_of dyadic v y))
+operand p home (operands.Both dyadic line) x v = result_of (here home line) (dyadic_of dyadic x v)
+operand p home (operands.Member next line) x v = gather (here home line) next (members_added x v v)
+operand p home (operands.First last next line) x v =
+    eval last (here home line) (λ w. gather (here home line) next (members_added x v w))
+operand p home (operands.Function f least greatest line) x v =
+    result_of (here home line) (function_of f least greatest v)
+operand p home (operands.Component array addr line) x v = with_components p (type_at p array) (λ a.
+    doing line (component a addr v) address)
+
+-- the actual parameters from an item on
+abbrev pub pass : Home → (at line : ℕ) → List Value → Tree
+pass home at line passed = Sub (parts.Pass at passed (here home line)) Ret
+
+-- a routine that was declared so many blocks out, and the frame of that block
+abbrev pub declared : (routine levels base : ℕ) → Action (ℕ × ℕ)
+declared routine levels base = frame_out levels base >>= λ frame. Give (routine, frame)
+
+abbrev pub located : ProgramRows → Home → Located → List Value → (addr : ℕ) → Tree
+located p home (locateds.Value of' line) l addr = value_at line addr (type_at p of')
+located p home (locateds.Index index array line) l addr = spend (here home line) (eval index (here home line) (λ v.
+    with_components p (type_at p array) (λ a. doing line (component a addr v) address)))
+located p home (locateds.Field field line) l addr = spend (here home line) (field_in p addr (row_at p field))
+located p home (locateds.Passed next line) l addr = pass home next line (l ++ value.Place addr ∷ [])
+
+abbrev pub exec : Home → (row line : ℕ) → Tree
+exec home row line = Sub (parts.Exec row (here home line)) Ret
+
+abbrev pub turn : Home → (row line : ℕ) → Tree
+turn home row line = Sub (parts.Turn row (here home line)) Ret
+
+-- the end of a turn of a repeat statement
+abbrev pub until : Home → (row line : ℕ) → Value → Tree
+until home row line v = if is_true v then nothing else turn home row line
+
+abbrev pub choice : ProgramRows → Home → Choice → (x : Value) → Value → Tree
+choice p home (choices.If then' line) x v = if is_true v then exec home then' line else nothing
+choice p home (choices.IfElse then' otherwise line) x v =
+    if is_true v then exec home then' line else exec home otherwise line
+choice p home (choices.Case list line) x v = chosen_by p (here home line) list v
+choice p home (choices.While row body line) x v =
+    if is_true v then Sub (parts.Exec body (here home line)) (on_normal (turn home row line)) else nothing
+choice p home (choices.Until row line) x v = until home row line v
+choice p home (choices.First last turns line) x v =
+    eval last (here home line) (λ j. first_turn p (here home line) turns (row_at p turns) v j)
+choice p home (choices.Last turns line) x v = first_turn p (here home line) turns (row_at p turns) x v
+
+-- after the turn of a for statement with a value up to which it had come
+abbrev pub counted : Home → (row line : ℕ) → (i last : ℤ) → Row → Tree
+counted home row line i last (rows.Statement (statements.Turns direction last' place of' body)) =
+    if has_turn direction i last then turn_after row (here home line) direction place i last else no_row
+counted home row line i last r = no_row
+
+-- goes on with the two numbers that waited
+abbrev pub with_numbers : (i last : Value) → (ℤ → ℤ → Tree) → Tree
+with_numbers (value.Number i) (value.Number last) go = go i last
+with_numbers i last go = no_row
+
+-- after a statement that ended normally
+abbrev pub next : ProgramRows → Home → Next → List Value → Tree
+next p home (nexts.Sequence first at line) vs = Sub (parts.Sequence first at (here home line)) Ret
+next p home (nexts.Labelled row label line) vs = nothing
+next p home (nexts.Again row line) vs = turn home row line
+next p home (nexts.Condition row condition line) vs = eval condition (here home line) (until home row line)
+next p home (nexts.Counted row line) vs = with_numbers (top (below vs)) (top vs) (λ i last.
+    counted home row line i last (row_at p row))
+next p home nexts.Forget vs = nothing
+
+-- after a statement, which may have ended by a jump
+abbrev pub after_statement : ProgramRows → Home → Next → List Value → Out → Tree
+after_statement p home (nexts.Sequence first at line) vs = on_statement p (here home line) first at
+after_statement p home (nexts.Labelled row label line) vs = on_labelled row label (here home line)
+after_statement p home t vs = on_normal (next p home t vs)
+
+-- what comes after a call
+abbrev pub returned : (procedure : Bool) → Out → Tree
+returned true out = on_normal nothing out
+returned false out = Ret out
+
+-- a call, once its actual parameters are known
+abbrev pub called : ProgramRows → Home → (procedure : Bool) → (routine levels line : ℕ) → List Value → Tree
+called p home procedure routine levels line args = with_frame_size (routine_at p routine) (λ cells.
+    doing line (frame_out levels home.base) (λ frame.
+    Enter routine cells (value.Frame frame ∷ args) (returned procedure)))
+
+-- the call of a routine parameter, once its actual parameters are known
+abbrev pub called_formal : ProgramRows → Home → (procedure : Bool) → (place levels line : ℕ) → List Value → Tree
+called_formal p home procedure place levels line args =
+    doing line (routine_out levels home.base place) (λ (routine, frame).
+    enter p routine frame args (returned procedure))
+
+-- what a task does with how the part before it ended
+abbrev pub after : ProgramRows → Home → Task → List Value → List (List Value) → Out → Tree
+after p home (tasks.Operand t) vs ls = on_scalar (operand p home t (top vs))
+after p home (tasks.Located t) vs ls = on_address (located p home t (top_list ls))
+after p home (tasks.Actual of' next line) vs ls = on_actual p (here home line) (type_at p of') (λ ws.
+    pass home next line (top_list ls ++ ws))
+after p home (tasks.Call procedure routine levels line) vs ls = on_cells (called p home procedure routine levels line)
+after p home (tasks.CallFormal procedure place levels line) vs ls =
+    on_cells (called_formal p home procedure place levels line)
+after p home (tasks.Range next line) vs ls = on_scalar (λ w.
+    gather (here home line) next (members_added (top (below vs)) (top vs) w))
+after p home (tasks.TextRight order right line) vs ls = on_cells (λ xs.
+    eval_cells right (here home line) (λ ys. result_of (here home line) (texts_compared order xs ys)))
+after p home (tasks.Texts order line) vs ls = on_cells (λ ys.
+    result_of (here home line) (texts_compared order (top_list ls) ys))
+after p home (tasks.Choice t) vs ls = on_scalar (choice p home t (top vs))
+after p home (tasks.Target target of' line) vs ls = on_value p (here home line) target of'
+after p home (tasks.Put of' line) vs ls = on_address (λ addr.
+    finally (here home line) (assign p (type_at p of') addr (top vs)))
+after p home (tasks.PutCells line) vs ls = on_address (λ addr. finally (here home line) (writes addr (top_list ls)))
+after p home (tasks.Next t) vs ls = after_statement p home t vs
+
+-- the values that wait below those that a task holds
+abbrev pub values_below : Task → List Value → List Value
+values_below (tasks.Operand (operands.Both dyadic line)) vs = below vs
+values_below (tasks.Operand (operands.Member next line)) vs = below vs
+values_below (tasks.Operand (operands.First last next line)) vs = below vs
+values_below (tasks.Range next line) vs = below (below vs)
+values_below (tasks.Choice (choices.Last turns line)) vs = below vs
+values_below (tasks.Put of' line) vs = below vs
+values_below (tasks.Next (nexts.Counted row line)) vs = below (below vs)
+values_below t vs = vs
+
+-- the lists that wait below the one that a task holds
+abbrev pub lists_below : Task → List (List Value) → List (List Value)
+lists_below (tasks.Located (locateds.Passed next line)) ls = below ls
+lists_below (tasks.Actual of' next line) ls = below ls
+lists_below (tasks.PutCells line) ls = below ls
+lists_below (tasks.Texts order line) ls = below ls
+lists_below t ls = ls
+
+-- how the body's routine returns, once its statement part has ended
+abbrev pub returns : ProgramRows → Home → Option Routine → Tree
+returns p home None = no_row
+returns p home (Some r) = return_of p home.base r r.result
+
+-- how the tasks that wait, the last of them first, go on after a part
+abbrev pub resume : ProgramRows → Home → List Task → List Value → List (List Value) → Out → Tree
+resume p home [] vs ls out = on_normal (returns p home (routine_at p home.routine)) out
+resume p home (t ∷ ts) vs ls out =
+    bind (after p home t vs ls out) (resume p home ts (values_below t vs) (lists_below t ls))
+
+-- ---- what is at work
+
+abbrev pub carry_with : ProgramRows → Home → (row : ℕ) → StatementRow → Option ℕ → Tree
+carry_with p home row s (Some line) = of_statement p row (here home line) s
+carry_with p home row s None = no_row
+
+-- a statement whose line is told
+abbrev pub carried : ProgramRows → Home → (row : ℕ) → Row → Tree
+carried p home row (rows.Statement s) = carry_with p home row s (line_of s)
+carried p home row r = no_row
+
+-- a part has ended
+abbrev pub came : ProgramRows → Home → Way → List Task → List Value → List (List Value) → Tree
+came p home way.Nothing ts vs ls = resume p home ts vs ls Nothing
+came p home (way.Scalar v) ts vs ls = resume p home ts vs ls (Scalar v)
+came p home way.Cells ts vs ls = resume p home ts vs (below ls) (Cells (top_list ls))
+came p home (way.Address addr) ts vs ls = resume p home ts vs ls (Address addr)
+came p home (way.Jump label base) ts vs ls = resume p home ts vs ls (Jump label base)
+
+-- a part begins
+abbrev pub begun : ProgramRows → Home → Part → List Task → List Value → List (List Value) → Tree
+begun p home (part.Eval row line) ts vs ls = Sub (parts.Eval row (here home line)) (resume p home ts vs ls)
+begun p home (part.Locate row line) ts vs ls = Sub (parts.Locate row (here home line)) (resume p home ts vs ls)
+begun p home (part.Pass at line) ts vs ls =
+    Sub (parts.Pass at (top_list ls) (here home line)) (resume p home ts vs (below ls))
+begun p home (part.Gather at line) ts vs ls =
+    Sub (parts.Gather at (top vs) (here home line)) (resume p home ts (below vs) ls)
+begun p home (part.Exec row line) ts vs ls = Sub (parts.Exec row (here home line)) (resume p home ts vs ls)
+begun p home (part.Sequence first at line) ts vs ls =
+    Sub (parts.Sequence first at (here home line)) (resume p home ts vs ls)
+begun p home (part.Turn row line) ts vs ls = Sub (parts.Turn row (here home line)) (resume p home ts vs ls)
+begun p home part.Block ts vs ls = Sub (parts.Body home.routine home.base) (resume p home ts vs ls)
+
+abbrev pub at_work : ProgramRows → Home → Now → List Task → List Value → List (List Value) → Tree
+at_work p home (Begin part) ts vs ls = begun p home part ts vs ls
+at_work p home (Carry row) ts vs ls = bind (carried p home row (row_at p row)) (resume p home ts vs ls)
+at_work p home (Came way) ts vs ls = came p home way ts vs ls
+
+-- ---- bodies
+
+-- what waits in a body, the last first
+abbrev pub tasks_of : Body → List Task
+tasks_of a = reverse a.tasks.items
+
+abbrev pub values_of : Body → List Value
+values_of a = reverse a.values.items
+
+abbrev pub lists_of : Body → List (List Value)
+lists_of a = reverse a.lists.items
+
+-- what a body had to do with another state of work
+abbrev pub from : ProgramRows → Body → Now → Tree
+from p a now = at_work p a.home now (tasks_of a) (values_of a) (lists_of a)
+
+-- what a body has still to do
+abbrev pub rest_of : ProgramRows → Body → Tree
+rest_of p a = from p a a.now
+
+-- how a body goes on after a part, or after a call that it stopped at
+abbrev pub waiting : ProgramRows → Body → Out → Tree
+waiting p a = resume p a.home (tasks_of a) (values_of a) (lists_of a)
+
+-- what a body had to do with another state of work, and one task more that waits
+abbrev pub from_under : ProgramRows → Body → Now → Task → Tree
+from_under p a now t = at_work p a.home now (t ∷ tasks_of a) (values_of a) (lists_of a)

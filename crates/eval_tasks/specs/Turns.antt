@@ -1,0 +1,85 @@
+-- What a turn of a body does.
+use Rattle.std.specs.Prelude.{◌≡◌, Result, Ok, Err, Option, Some, None, ℕ}
+use Rattle.cell_value.specs.declared.values.Value.{Value}
+use Rattle.cell_value.specs.declared.ways_out.WayOut.{WayOut}
+use Rattle.cell_value.specs.declared.ways_out.WayOut.TheVariants as way
+use Rattle.program_tables.specs.ProgramRows.{ProgramRows, routine_at}
+use Rattle.program_tables.specs.declared.program.Routine.{Routine}
+use Rattle.program_meaning.specs.State.{State}
+use Rattle.program_meaning.specs.Acts.{limit_passed}
+use Rattle.program_meaning.specs.Tree.{Out, Nothing, Scalar, Jump, Tree}
+use Rattle.program_meaning.specs.Run.{End, Ended, Halted}
+use Rattle.eval_ops.specs.Machines.{Moment}
+use Rattle.eval_ops.specs.declared.halt.Halt.{Halt}
+use Rattle.eval_ops.specs.declared.halt.Halt.TheVariants as halts
+use Rattle.eval_tasks.specs.Stops.{Stop, AtLine, AtCall, AtEnd, Comes, StopsAt}
+use Rattle.eval_tasks.specs.Rest.{below, lists_of, rest_of, resume, tasks_of, top_list, values_of, waiting}
+use Rattle.eval_tasks.specs.declared.body.Body.{Body}
+use Rattle.eval_tasks.specs.declared.tasks.Now.{Now}
+use Rattle.eval_tasks.specs.declared.tasks.Now.TheVariants.{Came}
+use Rattle.eval_tasks.specs.declared.tasks.Way.TheVariants as came
+use Rattle.eval_tasks.specs.declared.tasks.Pause.{Pause}
+use Rattle.eval_tasks.specs.declared.tasks.Pause.TheVariants as pauses
+use Rattle.eval_tasks.specs.declared.tasks.Stop as stop
+use Rattle.eval_tasks.specs.declared.tasks.Stop.TheVariants as stops
+
+-- how a body ended
+abbrev pub end_of : WayOut → Option Value → End
+end_of way.Returned None = Ended Nothing
+end_of way.Returned (Some v) = Ended (Scalar v)
+end_of (way.Jumped label base) answer = Ended (Jump label base)
+end_of way answer = Halted way
+
+-- the stop of the definitions
+abbrev pub stop_of : ProgramRows → Body → stop.Stop → Stop
+stop_of p a (stops.Line line) = AtLine line (rest_of p a)
+stop_of p a (stops.Enter f args) = AtCall f args (waiting p a)
+stop_of p a (stops.Ended way answer) = AtEnd (end_of way answer)
+
+-- how a body ended whose tasks are done, by what came last
+abbrev pub ended_by : Now → Out
+ended_by (Came (came.Jump label base)) = Jump label base
+ended_by (Came (came.Scalar v)) = Scalar v
+ended_by now = Nothing
+
+-- the stop of the definitions at which a turn pauses: the cells of a call are the last list that waits, and what came
+-- tells how a body ended
+abbrev pub pause_of : ProgramRows → Body → Pause → Stop
+pause_of p a (pauses.Line line) = AtLine line (rest_of p a)
+pause_of p a (pauses.Enter f) =
+    AtCall f (top_list (lists_of a)) (resume p a.home (tasks_of a) (values_of a) (below (lists_of a)))
+pause_of p a pauses.Ended = AtEnd (Ended (ended_by a.now))
+
+-- from a tree it stops for good, unless memory ran out
+abbrev pub Fails : ProgramRows → Tree → Moment → (line : ℕ) → Halt → Moment → Type 0
+Fails p t m line (halts.Fault kind) m' = StopsAt p t m (AtEnd (Halted (way.Faulted kind line))) m'
+Fails p t m line halts.OutOfSteps m' = StopsAt p t m (AtEnd (Halted way.OutOfSteps)) m'
+Fails p t m line (halts.Limited which) m' = StopsAt p t m (AtEnd (Halted (way.Limited which))) m'
+Fails p t m line halts.Memory m' = Unit {0}
+
+-- the routine is one of the program, and no limit forbids a call of it
+abbrev pub MayEnter : ProgramRows → (routine : ℕ) → State → Type 0
+MayEnter p f σ = (r : Routine) × (routine_at p f ≡ Some r) × (limit_passed σ r.cells ≡ None)
+
+-- a call at which a body stops may be entered
+abbrev pub HasRoom : ProgramRows → stop.Stop → State → Type 0
+HasRoom p (stops.Enter f args) σ = MayEnter p f σ
+HasRoom p s σ = Unit {0}
+
+-- a call at which a turn pauses may be entered
+abbrev pub PausesInRoom : ProgramRows → Pause → State → Type 0
+PausesInRoom p (pauses.Enter f) σ = MayEnter p f σ
+PausesInRoom p pause σ = Unit {0}
+
+-- from a tree it comes to a stop, or to what the body has now to do
+abbrev pub Turns : ProgramRows → Tree → Moment → Result (Option Pause) Halt → Body → Moment → Type 0
+Turns p t m (Ok None) a m' = Comes p t m (rest_of p a) m'
+Turns p t m (Ok (Some pause)) a m' = StopsAt p t m (pause_of p a pause) m' × PausesInRoom p pause m'.state
+Turns p t m (Err e) a m' = Fails p t m a.line e m'
+
+-- a call of a routine is to be entered, unless memory ran out
+abbrev pub Entered : ProgramRows → Tree → Moment → (routine : ℕ) → Result (Option Pause) Halt → Body → Type 0
+Entered p t m routine (Ok (Some (pauses.Enter f))) a =
+    StopsAt p t m (pause_of p a (pauses.Enter f)) m × (f ≡ routine)
+Entered p t m routine (Err halts.Memory) a = Unit {0}
+Entered p t m routine r a = ⊥

@@ -1,0 +1,9 @@
+//! One activation of a routine: its parts that are at work stand in lists, so that an expression or a statement of the
+//! program in another is no call in the code. Here are these lists, what they mean, and the single steps on them.
+#![tactic(auto)]
+
+mod body;
+mod tasks;
+
+pub use body::{Body, Turned};
+pub use tasks::{Choice, Home, Located, Next, Now, Operand, Part, Pause, Stop, Task, Way};

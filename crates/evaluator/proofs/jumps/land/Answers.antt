@@ -1,0 +1,102 @@
+use Rattle.std.proofs.Common.{◌≡◌, true, false, None, sym, ap, ◌∙◌, length, ◌==◌, ◌&&◌, if◌then◌else◌, reverse, sum_by, arith}
+use Rattle.std.proofs.lemmas.Bool.Decides.{nat_tests}
+use Rattle.program_meaning.specs.Tree.{Exec, Sub, Ret, Jump, bind}
+use Rattle.program_meaning.specs.Statements.{jumped, labelled_in}
+use Rattle.eval_tasks.specs.declared.tasks.Now.TheVariants.{Begin, Came}
+use Rattle.eval_tasks.specs.declared.tasks.Part.TheVariants as part
+use Rattle.eval_tasks.specs.declared.tasks.Way.TheVariants as way
+use Rattle.eval_tasks.specs.declared.tasks.Task.TheVariants as tasks
+use Rattle.eval_tasks.specs.Rest.{at_work, from, from_under, here, waiting, resume, tasks_of, values_of, lists_of, values_below, lists_below}
+use Rattle.eval_tasks.specs.Weight.{task_weight}
+use Rattle.eval_tasks.proofs.Moves.{bind_if}
+use Rattle.evaluator.proofs.AfterStatements.{other_lands, each_weighs}
+use Rattle.eval_tasks.proofs.StepsFall.{falls_so}
+use Rattle.eval_tasks.proofs.Turning.{turns_same}
+use Rattle.evaluator.proofs.jumps.land.Goals as goal
+
+pub returns-in-Some-clause-turns : goal.returns-in-Some-clause-turns
+returns-in-Some-clause-turns c m =
+    let p = c.args.program.now in
+    let a = c.args.body.now in
+    let i = c.in-Sequence in
+    let own : (c.args.base == a.home.base) ≡ true = grind (arith, nat_tests, c.if-base-body.true) in
+    turns_same p _ _ m m c.go.result c.go.new.self
+    (ap (λ t. from_under p a (Came (way.Jump c.args.label c.args.base)) (tasks.Next t)) i.is
+    ∙ ap (λ b. bind (jumped (here a.home i.line) i.first c.args.label c.args.base
+    (if b then labelled_in p (length p.rows) i.first c.args.label else None)) (waiting p a)) own
+    ∙ ap (λ o. bind (jumped (here a.home i.line) i.first c.args.label c.args.base o) (waiting p a)) (sym c.labelled_in.ensures ∙ c.in-Some.is))
+    (c.go.ensures.turns p m)
+
+pub returns-in-Some-clause-falls : goal.returns-in-Some-clause-falls
+returns-in-Some-clause-falls c =
+    let e : task_weight (tasks.Next c.args.next) ≡ 2 = ap (λ t. task_weight (tasks.Next t)) c.in-Sequence.is in
+    falls_so c.go.result _ _ _ _ (λ h. omega (arith, h, e)) c.go.ensures.falls
+
+pub returns-in-None-clause-turns : goal.returns-in-None-clause-turns
+returns-in-None-clause-turns c m =
+    let p = c.args.program.now in
+    let a = c.args.body.now in
+    let i = c.in-Sequence in
+    let own : (c.args.base == a.home.base) ≡ true = grind (arith, nat_tests, c.if-base-body.true) in
+    turns_same p _ _ m m c.go-in-None.result c.go-in-None.new.self
+    (ap (λ t. from_under p a (Came (way.Jump c.args.label c.args.base)) (tasks.Next t)) i.is
+    ∙ ap (λ b. bind (jumped (here a.home i.line) i.first c.args.label c.args.base
+    (if b then labelled_in p (length p.rows) i.first c.args.label else None)) (waiting p a)) own
+    ∙ ap (λ o. bind (jumped (here a.home i.line) i.first c.args.label c.args.base o) (waiting p a)) (sym c.labelled_in.ensures ∙ c.in-None.is))
+    (c.go-in-None.ensures.turns p m)
+
+pub returns-in-None-clause-falls : goal.returns-in-None-clause-falls
+returns-in-None-clause-falls c =
+    let e : task_weight (tasks.Next c.args.next) ≡ 2 = ap (λ t. task_weight (tasks.Next t)) c.in-Sequence.is in
+    falls_so c.go-in-None.result _ _ _ _ (λ h. omega (arith, h, e)) c.go-in-None.ensures.falls
+
+pub returns-else-base-body-clause-turns : goal.returns-else-base-body-clause-turns
+returns-else-base-body-clause-turns c m =
+    let p = c.args.program.now in
+    let a = c.args.body.now in
+    let i = c.in-Sequence in
+    let other : (c.args.base == a.home.base) ≡ false = grind (arith, nat_tests, c.if-base-body.false) in
+    turns_same p _ _ m m c.go-else-base-body.result c.go-else-base-body.new.self
+    (ap (λ t. from_under p a (Came (way.Jump c.args.label c.args.base)) (tasks.Next t)) i.is
+    ∙ ap (λ b. bind (jumped (here a.home i.line) i.first c.args.label c.args.base
+    (if b then labelled_in p (length p.rows) i.first c.args.label else None)) (waiting p a)) other)
+    (c.go-else-base-body.ensures.turns p m)
+
+pub returns-else-base-body-clause-falls : goal.returns-else-base-body-clause-falls
+returns-else-base-body-clause-falls c =
+    let e : task_weight (tasks.Next c.args.next) ≡ 2 = ap (λ t. task_weight (tasks.Next t)) c.in-Sequence.is in
+    falls_so c.go-else-base-body.result _ _ _ _ (λ h. omega (arith, h, e)) c.go-else-base-body.ensures.falls
+
+pub returns-in-Labelled-clause-turns : goal.returns-in-Labelled-clause-turns
+returns-in-Labelled-clause-turns c m =
+    let p = c.args.program.now in
+    let a = c.args.body.now in
+    let i = c.in-Labelled in
+    turns_same p _ _ m m c.either.result c.either.new.self
+    (ap (λ t. from_under p a (Came (way.Jump c.args.label c.args.base)) (tasks.Next t)) i.is
+    ∙ bind_if ((c.args.label == i.own) && (c.args.base == a.home.base)) (Sub (Exec i.row (here a.home i.line)) Ret) (Ret (Jump c.args.label c.args.base))
+    (waiting p a)
+    ∙ ap (λ b. if b then from p a (Begin (part.Exec i.row i.line)) else from p a (Came (way.Jump c.args.label c.args.base))) (sym c.is_to-found.ensures))
+    (c.either.ensures.turns p m)
+
+pub returns-in-Labelled-clause-falls : goal.returns-in-Labelled-clause-falls
+returns-in-Labelled-clause-falls c =
+    let e : task_weight (tasks.Next c.args.next) ≡ 1 = ap (λ t. task_weight (tasks.Next t)) c.in-Labelled.is in
+    falls_so c.either.result _ _ _ _ (λ h. omega (arith, h, e)) c.either.ensures.falls
+
+pub returns-in_default : goal.returns-in_default
+returns-in_default c =
+    let p = c.args.program.now in
+    let a = c.args.body.now in
+    let t = tasks.Next c.args.next in
+    let g = c.let_go.ensures in
+    record {
+      turns = λ m. turns_same p _ _ m m c.go-in_default.result c.go-in_default.new.self
+          (ap (λ x. bind x (resume p a.home (tasks_of a) (values_below t (values_of a)) (lists_below t (lists_of a))))
+          (other_lands p a.home c.args.next (values_of a) c.args.label c.args.base c.in_default.not-Sequence c.in_default.not-Labelled)
+          ∙ sym (λ i. at_work p (g.home i) (Came (way.Jump c.args.label c.args.base)) (reverse (g.tasks i)) (g.values i) (g.lists i)))
+          (c.go-in_default.ensures.turns p m);
+      falls = let k = ap (sum_by task_weight) g.tasks in let e = each_weighs t in
+          falls_so c.go-in_default.result _ _ _ _ (λ h. omega (arith, h, k, e)) c.go-in_default.ensures.falls;
+      home = c.go-in_default.ensures.home ∙ g.home;
+    }

@@ -1,0 +1,46 @@
+use Rattle.eval_tasks.specs.declared.tasks.Way.TheVariants as way
+use Rattle.eval_tasks.specs.Rest.{from_under, at_work, resume, top_list, below, tasks_of, values_of, lists_of, values_below, lists_below}
+use Rattle.eval_tasks.specs.Weight.{task_weight}
+use Rattle.eval_tasks.specs.declared.tasks.Task.TheVariants as tasks
+use Rattle.evaluator.proofs.AfterStatements.{statement_ended}
+use Rattle.eval_tasks.proofs.StepsFall.{falls_so}
+use Rattle.std.proofs.Common.{◌∷◌, sym, ap, ◌∙◌, sum_by, reverse, arith}
+use Rattle.program_meaning.specs.Tree.{bind}
+use Rattle.eval_tasks.specs.declared.tasks.Now.TheVariants.{Came}
+use Rattle.eval_tasks.proofs.Turning.{turns_same}
+use Rattle.evaluator.proofs.turns.after_cells.Goals as goal
+
+pub returns-in-Actual-clause-turns : goal.returns-in-Actual-clause-turns
+returns-in-Actual-clause-turns c = turns_same c.args.program.now _ _ _ _ c.add_actual_cells.result c.add_actual_cells.new.body
+    (ap (from_under c.args.program.now c.args.body.now (Came way.Cells)) c.in-Actual.is) (c.add_actual_cells.ensures.turns _)
+
+pub returns-in-Target-clause-turns : goal.returns-in-Target-clause-turns
+returns-in-Target-clause-turns c = turns_same c.args.program.now _ _ _ _ c.locate_target_cells.result c.locate_target_cells.new.body
+    (ap (from_under c.args.program.now c.args.body.now (Came way.Cells)) c.in-Target.is) (c.locate_target_cells.ensures.turns _)
+
+pub returns-in-Next-clause-turns : goal.returns-in-Next-clause-turns
+returns-in-Next-clause-turns c =
+    let p = c.args.program.now in
+    let a = c.args.body.now in
+    let t = tasks.Next c.in-Next.next in
+    let b = c.drop_list.ensures in
+    turns_same p _ _ _ _ c.follow_statement.result c.follow_statement.new.body
+    (ap (from_under p a (Came way.Cells)) c.in-Next.is
+    ∙ ap (λ x. bind x (resume p a.home (tasks_of a) (values_below t (values_of a)) (lists_below t (below (lists_of a)))))
+    ((statement_ended p a.home c.in-Next.next (values_of a)).cells (top_list (lists_of a)))
+    ∙ sym (λ i. at_work p (b.home i) (Came way.Nothing) (t ∷ reverse (b.tasks i)) (reverse (b.values i)) (b.lists i)))
+    c.follow_statement.ensures.turns
+
+pub returns-in-Next-clause-falls : goal.returns-in-Next-clause-falls
+returns-in-Next-clause-falls c =
+    let k = ap (sum_by task_weight) c.drop_list.ensures.tasks in
+    let e = ap task_weight c.in-Next.is in
+    falls_so c.follow_statement.result _ _ _ _ (λ h. omega (arith, h, k, e)) c.follow_statement.ensures.falls
+
+pub returns-in-TextRight-clause-turns : goal.returns-in-TextRight-clause-turns
+returns-in-TextRight-clause-turns c = turns_same c.args.program.now _ _ _ _ c.begin_right_text.result c.begin_right_text.new.body
+    (ap (from_under c.args.program.now c.args.body.now (Came way.Cells)) c.in-TextRight.is) (c.begin_right_text.ensures.turns c.args.program.now _)
+
+pub returns-in-Texts-clause-turns : goal.returns-in-Texts-clause-turns
+returns-in-Texts-clause-turns c = turns_same c.args.program.now _ _ _ _ c.end_texts.result c.end_texts.new.body
+    (ap (from_under c.args.program.now c.args.body.now (Came way.Cells)) c.in-Texts.is) (c.end_texts.ensures.turns c.args.program.now _)

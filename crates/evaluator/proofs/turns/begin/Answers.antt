@@ -1,0 +1,21 @@
+use Rattle.eval_tasks.specs.Rest.{from}
+use Rattle.std.proofs.Common.{ap}
+use Rattle.eval_tasks.specs.declared.tasks.Now.TheVariants.{Begin}
+use Rattle.eval_tasks.proofs.Turning.{turns_same}
+use Rattle.evaluator.proofs.turns.begin.Goals as goal
+
+pub returns-in-Pass-clause-turns : goal.returns-in-Pass-clause-turns
+returns-in-Pass-clause-turns c = turns_same c.args.program.now _ _ _ _ c.pass_actuals.result c.pass_actuals.new.body
+    (ap (λ q. from c.args.program.now c.args.body.now (Begin q)) c.in-Pass.is) c.pass_actuals.ensures.turns
+
+pub returns-in-Sequence-clause-turns : goal.returns-in-Sequence-clause-turns
+returns-in-Sequence-clause-turns c = turns_same c.args.program.now _ _ _ _ c.sequence.result c.sequence.new.body
+    (ap (λ q. from c.args.program.now c.args.body.now (Begin q)) c.in-Sequence.is) (c.sequence.ensures.turns _)
+
+pub returns-in-Turn-clause-turns : goal.returns-in-Turn-clause-turns
+returns-in-Turn-clause-turns c = turns_same c.args.program.now _ _ _ _ c.turn_again.result c.turn_again.new.body
+    (ap (λ q. from c.args.program.now c.args.body.now (Begin q)) c.in-Turn.is) (c.turn_again.ensures.turns _)
+
+pub returns-in-Gather-clause-turns : goal.returns-in-Gather-clause-turns
+returns-in-Gather-clause-turns c = turns_same c.args.program.now _ _ _ _ c.gather.result c.gather.new.body
+    (ap (λ q. from c.args.program.now c.args.body.now (Begin q)) c.in-Gather.is) (c.gather.ensures.turns _)

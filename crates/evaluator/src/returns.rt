@@ -1,0 +1,159 @@
+//! How a routine returns.
+
+ghost use Rattle.std.specs.Prelude.{◌≡◌, [], Ok, Err, None, Some, IfOk};
+ghost use Rattle.cell_value.specs.declared.values.Value.{Value as CellValue};
+ghost use Rattle.program_tables.specs.ProgramRows.{ProgramRows, routine_at};
+ghost use Rattle.program_meaning.specs.Actions.{Action, performs};
+ghost use Rattle.program_meaning.specs.Tree.{doing};
+ghost use Rattle.program_meaning.specs.Accesses.{scalar, with_bounds};
+ghost use Rattle.program_meaning.specs.Run.{type_in_heading};
+ghost use Rattle.program_meaning.specs.Run as action;
+ghost use Rattle.program_meaning.specs.State as state;
+ghost use Rattle.eval_ops.specs.Machines.{DoesAll, IsReady, Moment, moment_of};
+ghost use Rattle.eval_tasks.specs.Rest.{from, returns};
+ghost use Rattle.eval_tasks.specs.Turns.{Turns};
+
+use cell_value::Value;
+use eval_ops::{Halt, Machine, moved, result_at};
+use eval_tasks::{Body, Now, Pause, Turned, Way};
+use program_tables::Program;
+use program_tables::rows::{PartRow, Row, TypeRow};
+
+/// The tasks are done, and the routine returns, a function by reading its result.
+pub(crate) fn end(body: &mut Body, program: &Program, machine: &mut Machine, way: Way) -> Turned
+    requires ready { IsReady machine.old }
+    requires done { body.old.tasks.items ≡ [] }
+    ensures turns { Turns program.now (from program.now body.old (Now.Came way)) (moment_of machine.old) result
+        body.new (moment_of machine.new) }
+    ensures stops { IfOk result (λ s. s ≡ None → ⊥) }
+    ensures home { body.new.home ≡ body.old.home }
+    ensures ready { IsReady machine.new }
+{
+    match way {
+        Way::Jump(label, base) => {
+            body.now = Now::Came(Way::Jump(label, base));
+            Ok(Some(Pause::Ended))
+        }
+        Way::Cells => returned(body, program, machine),
+        Way::Nothing => returned(body, program, machine),
+        Way::Scalar(_) => returned(body, program, machine),
+        Way::Address(_) => returned(body, program, machine),
+    }
+}
+
+/// The routine returns.
+fn returned(body: &mut Body, program: &Program, machine: &mut Machine) -> Turned
+    requires ready { IsReady machine.old }
+    ensures turns { Turns program.now (returns program.now body.old.home
+        (routine_at program.now body.old.home.routine)) (moment_of machine.old) result body.new
+        (moment_of machine.new) }
+    ensures stops { IfOk result (λ s. s ≡ None → ⊥) }
+    ensures home { body.new.home ≡ body.old.home }
+    ensures ready { IsReady machine.new }
+{
+    match program.routine(body.home.routine) {
+        None => body.no_row(),
+        Some(routine) => match routine.result {
+            None => {
+                body.now = Now::Came(Way::Nothing);
+                Ok(Some(Pause::Ended))
+            }
+            Some(place) => {
+                give_result(
+                    body,
+                    program,
+                    machine,
+                    program.row(routine.heading),
+                    routine.line,
+                    place,
+                )
+            }
+        },
+    }
+}
+
+/// A function returns, by reading its result at a place in the frame. Its heading has the result's type.
+fn give_result(
+    body: &mut Body,
+    program: &Program,
+    machine: &mut Machine,
+    heading: Row,
+    line: u32,
+    place: u32,
+) -> Turned
+    requires ready { IsReady machine.old }
+    ensures turns { Turns program.now (with_bounds (type_in_heading program.now heading) (λ least greatest.
+        doing line (action.result_at least greatest (state.moved body.old.home.base place)) scalar))
+        (moment_of machine.old) result body.new (moment_of machine.new) }
+    ensures stops { IfOk result (λ s. s ≡ None → ⊥) }
+    ensures home { body.new.home ≡ body.old.home }
+    ensures ready { IsReady machine.new }
+{
+    match heading {
+        Row::Part(
+            PartRow::Heading {
+                result: Some(of),
+                ..
+            },
+        ) => { give_result_of(body, program, machine, program.type_row(of), line, place) }
+        _ => body.no_row(),
+    }
+}
+
+/// The same, by the result's type.
+fn give_result_of(
+    body: &mut Body,
+    program: &Program,
+    machine: &mut Machine,
+    kind: Option<TypeRow>,
+    line: u32,
+    place: u32,
+) -> Turned
+    requires ready { IsReady machine.old }
+    ensures turns { Turns program.now (with_bounds kind (λ least greatest.
+        doing line (action.result_at least greatest (state.moved body.old.home.base place)) scalar))
+        (moment_of machine.old) result body.new (moment_of machine.new) }
+    ensures stops { IfOk result (λ s. s ≡ None → ⊥) }
+    ensures home { body.new.home ≡ body.old.home }
+    ensures ready { IsReady machine.new }
+{
+    match kind {
+        Some(TypeRow::Ordinal { least, greatest }) => {
+            give(
+                body,
+                line,
+                result_at(machine, least, greatest, moved(body.home.base, place)),
+            )
+        }
+        Some(
+            TypeRow::Subrange {
+                least,
+                greatest,
+                ..
+            },
+        ) => {
+            give(
+                body,
+                line,
+                result_at(machine, least, greatest, moved(body.home.base, place)),
+            )
+        }
+        _ => body.no_row(),
+    }
+}
+
+/// An action on a line gave the result of a function, or it was not done.
+fn give(body: &mut Body, line: u32, done: Result<Value, Halt>) -> Turned
+    ensures turns { (p : ProgramRows) (a : Action CellValue) (m m' : Moment)
+        → DoesAll (λ v. v) (performs a m.state) done m m' → Turns p (doing line a scalar) m result body.new m' }
+    ensures stops { IfOk result (λ s. s ≡ None → ⊥) }
+    ensures home { body.new.home ≡ body.old.home }
+{
+    match done {
+        Ok(value) => {
+            body.now = Now::Came(Way::Scalar(value));
+            Ok(Some(Pause::Ended))
+        }
+        Err(halt) => body.fail(line, halt),
+    }
+}

@@ -1,0 +1,321 @@
+//! The run of a body from stop to stop.
+
+ghost use Rattle.std.specs.Prelude.{◌≡◌, ◌+◌, Ok, Err, None, Some, IfOk};
+ghost use Rattle.program_tables.specs.ProgramRows.{ProgramRows};
+ghost use Rattle.program_meaning.specs.Run.{Ended};
+ghost use Rattle.program_meaning.specs.State.{State};
+ghost use Rattle.eval_ops.specs.Machines.{IsReady, machine_state, moment_of};
+ghost use Rattle.eval_tasks.specs.Stops.{StopsAt};
+ghost use Rattle.eval_tasks.specs.Rest.{from, from_under, rest_of};
+ghost use Rattle.eval_tasks.specs.Turns.{HasRoom, PausesInRoom, Turns, end_of, ended_by, pause_of, stop_of};
+ghost use Rattle.eval_tasks.specs.Weight.{Falls, come, left_of, left_with, part_weight, task_weight, tasks_weight};
+
+use crate::jumps::leap;
+use crate::returns::end;
+use cell_value::{Memory, Value, WayOut};
+use eval_calls::{add_actual, add_actual_cells, call, call_formal, pass_actuals};
+use eval_expressions::{
+    begin_right_text, continue_access, continue_expression, end_texts, evaluate, gather,
+    gather_range, locate,
+};
+use eval_ops::{Halt, Machine, spend};
+use eval_statements::{
+    carry, continue_statement, execute, follow_statement, locate_target, locate_target_cells, put,
+    put_cells, sequence, turn_again,
+};
+use eval_tasks::{Body, Now, Part, Pause, Stop, Task, Turned, Way};
+use program_tables::Program;
+use std::alloc::{AllocError, Global};
+
+/// Runs to the next stop. The machine is as the actions on it need it.
+pub fn go_on(
+    body: &mut Body,
+    alloc: Global,
+    program: &Program,
+    machine: &mut Machine,
+) -> Result<Stop, Memory>
+    requires ready { IsReady machine.old }
+    ensures stops { IfOk result (λ s. StopsAt program.now (rest_of program.now body.old) (moment_of machine.old)
+        (stop_of program.now body.new s) (moment_of machine.new)) }
+    ensures room { IfOk result (λ s. HasRoom program.now s (machine_state machine.new)) }
+    ensures home { body.new.home ≡ body.old.home }
+    ensures ready { IsReady machine.new }
+{
+    'turns: loop {
+        match turn(body, alloc, program, machine) {
+            Ok(None) => {}
+            Ok(Some(pause)) => return Ok(stop_at(body, alloc, pause)),
+            Err(Halt::Fault(kind)) => return Ok(Stop::Ended(
+                WayOut::Faulted(kind, body.line),
+                None,
+            )),
+            Err(Halt::OutOfSteps) => return Ok(Stop::Ended(WayOut::OutOfSteps, None)),
+            Err(Halt::Limited(which)) => return Ok(Stop::Ended(WayOut::Limited(which), None)),
+            Err(Halt::Memory) => return Err(AllocError),
+        }
+    }
+}
+
+/// The stop that a pause is.
+fn stop_at(body: &mut Body, alloc: Global, pause: Pause) -> Stop
+    ensures stop { (p : ProgramRows) → stop_of p body.new result ≡ pause_of p body.old pause }
+    ensures room { (p : ProgramRows) (σ : State) → PausesInRoom p pause σ → HasRoom p result σ }
+    ensures home { body.new.home ≡ body.old.home }
+{
+    match pause {
+        Pause::Line(line) => Stop::Line(line),
+        Pause::Enter(routine) => Stop::Enter(routine, body.take_list(alloc)),
+        Pause::Ended => {
+            let (way, answer) = way_ended(body.now);
+            Stop::Ended(way, answer)
+        }
+    }
+}
+
+/// How a body ended, by what came last.
+fn way_ended(now: Now) -> (WayOut, Option<Value>)
+    ensures { end_of result.0 result.1 ≡ Ended (ended_by now) }
+{
+    match now {
+        Now::Came(Way::Jump(label, base)) => (WayOut::Jumped(label, base), None),
+        Now::Came(Way::Scalar(value)) => (WayOut::Returned, Some(value)),
+        _ => (WayOut::Returned, None),
+    }
+}
+
+/// A turn: a part begins, or a task goes on after one.
+fn turn(body: &mut Body, alloc: Global, program: &Program, machine: &mut Machine) -> Turned
+    requires ready { IsReady machine.old }
+    ensures turns { Turns program.now (rest_of program.now body.old) (moment_of machine.old) result body.new
+        (moment_of machine.new) }
+    ensures falls { Falls result (left_of body.new machine.new) (left_of body.old machine.old) }
+    ensures home { body.new.home ≡ body.old.home }
+    ensures ready { IsReady machine.new }
+{
+    match body.now {
+        Now::Begin(part) => begin(body, alloc, program, machine, part),
+        Now::Carry(row) => carry(body, alloc, program, machine, row),
+        Now::Came(way) => came(body, alloc, program, machine, way),
+    }
+}
+
+/// A part begins.
+fn begin(
+    body: &mut Body,
+    alloc: Global,
+    program: &Program,
+    machine: &mut Machine,
+    part: Part,
+) -> Turned
+    requires ready { IsReady machine.old }
+    ensures turns { Turns program.now (from program.now body.old (Now.Begin part)) (moment_of machine.old) result
+        body.new (moment_of machine.new) }
+    ensures falls { Falls result (left_of body.new machine.new)
+        (left_with machine.old.steps (part_weight part + tasks_weight body.old)) }
+    ensures home { body.new.home ≡ body.old.home }
+    ensures ready { IsReady machine.new }
+{
+    match part {
+        Part::Eval { row, line } => evaluate(body, alloc, program, machine, row, line),
+        Part::Locate { row, line } => locate(body, program, machine, row, line),
+        Part::Pass { at, line } => pass_actuals(body, alloc, program, machine, at, line),
+        Part::Gather { at, line } => gather(body, program, at, line),
+        Part::Exec { row, line } => execute(body, program, machine, row, line),
+        Part::Sequence { first, at, line } => sequence(body, program, first, at, line),
+        Part::Turn { row, line } => turn_again(body, program, row, line),
+        Part::Block => block(body, program, machine),
+    }
+}
+
+/// The statement part of the body's routine begins.
+fn block(body: &mut Body, program: &Program, machine: &mut Machine) -> Turned
+    requires ready { IsReady machine.old }
+    ensures turns { Turns program.now (from program.now body.old (Now.Begin Part.Block)) (moment_of machine.old)
+        result body.new (moment_of machine.new) }
+    ensures falls { Falls result (left_of body.new machine.new)
+        (left_with machine.old.steps (part_weight Part.Block + tasks_weight body.old)) }
+    ensures home { body.new.home ≡ body.old.home }
+    ensures ready { IsReady machine.new }
+{
+    match program.routine(body.home.routine) {
+        None => body.no_row(),
+        Some(routine) => match spend(machine, 1) {
+            Ok(()) => body.go(Now::Begin(Part::Sequence {
+                first: routine.statements,
+                at: routine.statements,
+                line: routine.line,
+            })),
+            Err(halt) => body.fail(routine.line, halt),
+        },
+    }
+}
+
+/// A part has ended.
+fn came(
+    body: &mut Body,
+    alloc: Global,
+    program: &Program,
+    machine: &mut Machine,
+    way: Way,
+) -> Turned
+    requires ready { IsReady machine.old }
+    ensures turns { Turns program.now (from program.now body.old (Now.Came way)) (moment_of machine.old) result
+        body.new (moment_of machine.new) }
+    ensures falls { Falls result (left_of body.new machine.new)
+        (left_with machine.old.steps (come + tasks_weight body.old)) }
+    ensures home { body.new.home ≡ body.old.home }
+    ensures ready { IsReady machine.new }
+{
+    match body.tasks.pop() {
+        Some(task) => work(body, alloc, program, machine, task, way),
+        None => end(body, program, machine, way),
+    }
+}
+
+/// A task that waited goes on after a part.
+fn work(
+    body: &mut Body,
+    alloc: Global,
+    program: &Program,
+    machine: &mut Machine,
+    task: Task,
+    way: Way,
+) -> Turned
+    requires ready { IsReady machine.old }
+    ensures turns { Turns program.now (from_under program.now body.old (Now.Came way) task)
+        (moment_of machine.old) result body.new (moment_of machine.new) }
+    ensures falls { Falls result (left_of body.new machine.new)
+        (left_with machine.old.steps (come + task_weight task + tasks_weight body.old)) }
+    ensures home { body.new.home ≡ body.old.home }
+    ensures ready { IsReady machine.new }
+{
+    match way {
+        Way::Nothing => after_nothing(body, alloc, program, machine, task),
+        Way::Scalar(value) => after_scalar(body, alloc, program, machine, task, value),
+        Way::Cells => after_cells(body, alloc, program, machine, task),
+        Way::Address(addr) => after_address(body, alloc, program, machine, task, addr),
+        Way::Jump(label, base) => leap(body, alloc, program, task, label, base),
+    }
+}
+
+/// A task goes on after a statement.
+fn after_nothing(
+    body: &mut Body,
+    alloc: Global,
+    program: &Program,
+    machine: &mut Machine,
+    task: Task,
+) -> Turned
+    requires ready { IsReady machine.old }
+    ensures turns { Turns program.now (from_under program.now body.old (Now.Came Way.Nothing) task)
+        (moment_of machine.old) result body.new (moment_of machine.new) }
+    ensures falls { Falls result (left_of body.new machine.new)
+        (left_with machine.old.steps (come + task_weight task + tasks_weight body.old)) }
+    ensures home { body.new.home ≡ body.old.home }
+    ensures ready { IsReady machine.new }
+{
+    match task {
+        Task::Next(next) => follow_statement(body, alloc, program, machine, next),
+        _ => body.no_row(),
+    }
+}
+
+/// A task goes on after an expression of a type of one cell.
+fn after_scalar(
+    body: &mut Body,
+    alloc: Global,
+    program: &Program,
+    machine: &mut Machine,
+    task: Task,
+    value: Value,
+) -> Turned
+    requires ready { IsReady machine.old }
+    ensures turns { Turns program.now (from_under program.now body.old (Now.Came (Way.Scalar value)) task)
+        (moment_of machine.old) result body.new (moment_of machine.new) }
+    ensures falls { Falls result (left_of body.new machine.new)
+        (left_with machine.old.steps (come + task_weight task + tasks_weight body.old)) }
+    ensures home { body.new.home ≡ body.old.home }
+    ensures ready { IsReady machine.new }
+{
+    match task {
+        Task::Operand(operand) => continue_expression(body, program, operand, value),
+        Task::Actual { of, next, line } => add_actual(body, alloc, program, of, next, line, value),
+        Task::Range { next, line } => gather_range(body, next, line, value),
+        Task::Choice(choice) => continue_statement(body, alloc, program, machine, choice, value),
+        Task::Target { target, of, line } => locate_target(body, program, target, of, line, value),
+        Task::Next(next) => follow_statement(body, alloc, program, machine, next),
+        _ => body.no_row(),
+    }
+}
+
+/// A task goes on after an access.
+fn after_address(
+    body: &mut Body,
+    alloc: Global,
+    program: &Program,
+    machine: &mut Machine,
+    task: Task,
+    addr: u32,
+) -> Turned
+    requires ready { IsReady machine.old }
+    ensures turns { Turns program.now (from_under program.now body.old (Now.Came (Way.Address addr)) task)
+        (moment_of machine.old) result body.new (moment_of machine.new) }
+    ensures falls { Falls result (left_of body.new machine.new)
+        (left_with machine.old.steps (come + task_weight task + tasks_weight body.old)) }
+    ensures home { body.new.home ≡ body.old.home }
+    ensures ready { IsReady machine.new }
+{
+    match task {
+        Task::Located(located) => continue_access(body, alloc, program, machine, located, addr),
+        Task::Put { of, line } => put(body, alloc, program, machine, of, line, addr),
+        Task::PutCells { line } => put_cells(body, alloc, program, machine, line, addr),
+        Task::Next(next) => follow_statement(body, alloc, program, machine, next),
+        _ => body.no_row(),
+    }
+}
+
+/// A task goes on after an expression of a type of several cells, or after actual parameters.
+fn after_cells(
+    body: &mut Body,
+    alloc: Global,
+    program: &Program,
+    machine: &mut Machine,
+    task: Task,
+) -> Turned
+    requires ready { IsReady machine.old }
+    ensures turns { Turns program.now (from_under program.now body.old (Now.Came Way.Cells) task)
+        (moment_of machine.old) result body.new (moment_of machine.new) }
+    ensures falls { Falls result (left_of body.new machine.new)
+        (left_with machine.old.steps (come + task_weight task + tasks_weight body.old)) }
+    ensures home { body.new.home ≡ body.old.home }
+    ensures ready { IsReady machine.new }
+{
+    match task {
+        Task::Actual { of, next, line } => add_actual_cells(body, alloc, program, of, next, line),
+        Task::Call {
+            procedure,
+            routine,
+            levels,
+            line,
+        } => call(
+            body, alloc, program, machine, procedure, routine, levels, line,
+        ),
+        Task::CallFormal {
+            procedure,
+            place,
+            levels,
+            line,
+        } => call_formal(
+            body, alloc, program, machine, procedure, place, levels, line,
+        ),
+        Task::TextRight { order, right, line } => begin_right_text(body, order, right, line),
+        Task::Texts { order, line } => end_texts(body, alloc, order, line),
+        Task::Target { target, of, line } => locate_target_cells(body, program, target, of, line),
+        Task::Next(next) => {
+            // The cells are of no use to it.
+            body.drop_list(alloc);
+            follow_statement(body, alloc, program, machine, next)
+        }
+        _ => body.no_row(),
+    }
+}
