@@ -23,7 +23,6 @@ use Rattle.program_meaning.specs.Acts.{
   put,
   put_asked,
   after_touches,
-  limit_passed,
 }
 use Rattle.program_meaning.specs.Tree.{Tree, Ret, Halt, Do, Sub, Enter, Line, way_of, bind}
 use Rattle.program_meaning.specs.Layer.{layer}

@@ -1,7 +1,7 @@
 -- What the steps of a runner do with its open calls.
 use Rattle.std.proofs.Common.{◌≡◌, ℕ, ◌<◌, List, [], ◌∷◌, ◌++◌, Option, Some, None, length, map, sym, ap, subst, ◌∙◌, arith, length-append}
 use Rattle.std.specs.Prelude.{reverse, OnOk, Result, Ok, Err}
-use Rattle.std.proofs.Common.{◌+◌, false}
+use Rattle.std.proofs.Common.{◌+◌}
 use Rattle.std.proofs.lemmas.List.{reverse-append}
 use Rattle.cell_value.specs.declared.values.Value.{Value}
 use Rattle.cell_value.specs.declared.ways_out.WayOut.{WayOut}
@@ -14,7 +14,7 @@ use Rattle.eval_ops.specs.Machines.{Moment}
 use Rattle.eval_tasks.specs.Stops.{Stop, StopsAt}
 use Rattle.program_run.specs.declared.open_call.OpenCall.{OpenCall}
 use Rattle.program_run.specs.Table.{side_of}
-use Rattle.program_run.specs.Tower.{Rests, Stage, Calls, Open, View, TowerAt, Begins}
+use Rattle.program_run.specs.Tower.{Stage, Calls, Open, View, TowerAt, Begins}
 use Rattle.program_run.specs.Runners.{Begun, open_in}
 use Rattle.program_run.proofs.ActsKeepCalls.{onward}
 use Rattle.program_run.proofs.LinesTakeSteps.{LeftAt, left_at_stop}

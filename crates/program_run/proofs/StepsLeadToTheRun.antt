@@ -1,5 +1,5 @@
 -- How the open calls change, from stop to stop.
-use Rattle.std.proofs.Common.{◌≡◌, ℕ, suc, ◌-◌, List, [], ◌∷◌, ◌++◌, Some, None, length, refl, sym, ap, subst, ◌∙◌, false, append-nil, arith}
+use Rattle.std.proofs.Common.{◌≡◌, ℕ, suc, ◌-◌, List, [], ◌∷◌, ◌++◌, Some, None, length, refl, sym, ap, subst, ◌∙◌, append-nil, arith}
 use Rattle.cell_value.specs.declared.values.Value.{Value}
 use Rattle.cell_value.specs.declared.values.Value.TheVariants.{Nil}
 use Rattle.cell_value.specs.declared.entries.Touch.{Touch}
@@ -7,7 +7,6 @@ use Rattle.program_tables.specs.ProgramRows.{ProgramRows}
 use Rattle.program_meaning.specs.State.{State}
 use Rattle.program_meaning.specs.Acts.{limit_passed}
 use Rattle.program_meaning.specs.Tree.{Out, Tree, Ret}
-use Rattle.program_meaning.specs.Run.{Ended, Halted}
 use Rattle.program_meaning.specs.Run.{End, Result, Call, Outcome, in_front, ends, joined, if_allowed, recorded, after_all, closed, without_frame, call_of}
 use Rattle.program_meaning.specs.Run.{way_out, result_in}
 use Rattle.program_meaning.specs.Run.{plain, run_of}

@@ -13,7 +13,6 @@ use Rattle.std.specs.Prelude.{
   None,
   length,
   slice_get,
-  false,
 }
 use Rattle.cell_value.specs.declared.values.Value.{Value}
 use Rattle.cell_value.specs.declared.entries.Touch.{Touch}

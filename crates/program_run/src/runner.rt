@@ -9,10 +9,9 @@ ghost use Rattle.program_meaning.specs.Run.{End, Ended, Halted};
 ghost use Rattle.program_meaning.specs.Tree.{Out};
 ghost use Rattle.eval_ops.specs.Machines.{HasRoom, IsReady, machine_state, moment_of};
 ghost use Rattle.eval_tasks.specs.declared.body.Body as bodies;
-ghost use Rattle.eval_tasks.specs.Rest.{rest_of};
 ghost use Rattle.eval_tasks.specs.Turns.{end_of};
 ghost use Rattle.program_run.specs.Table.{side_of};
-ghost use Rattle.program_run.specs.Tower.{Calls as Calling, Ends, IsOver, Rests, stage_after};
+ghost use Rattle.program_run.specs.Tower.{Calls as Calling, Ends, IsOver, stage_after};
 ghost use Rattle.program_run.specs.Runners.{At, AtRest, Begun, Chain, Ending, IsWell, opens_in, rest_in, work_left};
 
 use crate::open_call::OpenCall;
