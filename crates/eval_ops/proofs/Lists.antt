@@ -2,9 +2,11 @@
 use Rattle.std.proofs.Common.{◌≡◌, ℕ, zero, suc, ◌+◌, ◌-◌, ◌<◌, List, [], ◌∷◌, ◌++◌, Some, drop, length, slice_get, ap, subst, ◌∙◌, arith}
 use Rattle.std.proofs.lemmas.List.{length-append}
 use Rattle.cell_value.specs.declared.values.Value.{Value}
+use Rattle.cell_value.specs.declared.values.Value.TheVariants.{Undefined}
 use Rattle.program_meaning.specs.State.{moved}
 use Rattle.program_meaning.specs.Actions.{Action, ◌>>=◌}
 use Rattle.program_meaning.specs.Cells.{read, reads, write, writes, linked, frame_out}
+use Rattle.program_meaning.specs.Variants.{undefine_cells}
 use Rattle.eval_ops.specs.Machines.{Moment}
 use Rattle.eval_ops.proofs.ActionsCompose.{CameTo}
 
@@ -30,6 +32,11 @@ pub at_write : {first : Action (Unit {0})} {m0 m : Moment} (vs : List Value) (ad
     → CameTo first m0 (writes addr (drop i vs)) m → CameTo first m0 (write addr v >>= λ _. writes (moved addr 1) (drop (i + 1) vs)) m
 at_write {first = first} {m0 = m0} {m = m} vs addr i v h = subst (λ l. CameTo first m0 (writes addr l) m)
     (drop_get vs i v h ∙ ap (λ n. v ∷ drop n vs) (let e : suc i ≡ i + 1 = omega arith in e))
+
+pub at_undefined : {first : Action (Unit {0})} {m0 m : Moment} (addr cells i : ℕ) → i < cells → CameTo first m0 (undefine_cells addr (cells - i)) m
+    → CameTo first m0 (write addr Undefined >>= λ _. undefine_cells (moved addr 1) (cells - (i + 1))) m
+at_undefined {first = first} {m0 = m0} {m = m} addr cells i h = subst (λ n. CameTo first m0 (undefine_cells addr n) m)
+    (let e : cells - i ≡ suc (cells - (i + 1)) = omega (arith, h) in e)
 
 pub length_pushed : {A : Type 0} (xs : List A) (x : A) (n : ℕ) → length xs ≡ n → length (xs ++ x ∷ []) ≡ n + 1
 length_pushed xs x n h = length-append xs (x ∷ []) ∙ ap (λ n. n + 1) h

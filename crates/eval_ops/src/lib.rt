@@ -10,6 +10,7 @@ mod machine;
 mod sets;
 mod strings;
 mod values;
+mod variants;
 
 pub use calls::{close_call, make_frame, open_call, remove_frame, result_at};
 pub use cells::{assign, ordinal_at, read_cells, set_at, write_cells};
@@ -25,3 +26,4 @@ pub use values::{
     compare_ordinals, defined, defined_set, fault_kind, is_true, ordinal_function, passed, sign,
     test, truth,
 };
+pub use variants::{activate, assign_to, field_at, tag_accessed};

@@ -1,4 +1,4 @@
-//! The statement that a case statement chooses.
+//! What a constant chooses: the statement of a case statement, or a variant.
 
 ghost use Rattle.std.specs.Prelude.{◌≡◌, ℕ, Option, length};
 ghost use Rattle.program_tables.specs.ProgramRows.{row_at};
@@ -46,14 +46,15 @@ fn look(program: &Program, at: u32, value: i64) -> Said
     }
 }
 
-/// The statement that a case constant of this value chooses, among those from an item on (6.8.3.5).
-fn chosen(program: &Program, choices: u32, value: i64) -> Option<u32>
+/// What a constant of this value chooses, among the items of constants from the row `choices` on: a statement of a case
+/// statement (6.8.3.5), or a variant of a variant part (6.4.3.3).
+pub fn chosen(program: &Program, choices: u32, value: i64) -> Option<u32>
     ensures { result ≡ choice_of program.now (length program.now.rows) choices value }
 {
     let mut at = choices;
     'choices: loop {
         match look(program, at, value) {
-            Said::Chosen(statement) => return Some(statement),
+            Said::Chosen(row) => return Some(row),
             Said::After(next) => at = next,
             Said::Nothing => return None,
         }

@@ -10,7 +10,7 @@ mod labels;
 mod operators;
 mod statements;
 
-pub use choices::{Case, case_of};
+pub use choices::{Case, case_of, chosen};
 pub use counting::{
     Counting, Span, counting_at, has_turn, is_last, last_value, turn_after, turn_value, turns_of,
 };

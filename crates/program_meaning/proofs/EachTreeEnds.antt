@@ -89,6 +89,7 @@ use Rattle.program_meaning.specs.Tree.{
   Locate,
   Pass,
   Gather,
+  Establish,
   Exec,
   Sequence,
   Turn,
@@ -103,9 +104,9 @@ use Rattle.program_meaning.specs.Tree.{
   Line,
   way_of,
 }
-use Rattle.program_meaning.specs.Accesses.{no_row, eval, locate, locate_before, of_access, access_in}
+use Rattle.program_meaning.specs.Accesses.{no_row, on_address, eval, locate_before, of_access, access_in}
 use Rattle.program_meaning.specs.Expressions.{expression_in, of_actual, of_members}
-use Rattle.program_meaning.specs.Statements.{on_normal, on_labelled, begins, line_of, statement_in, of_sequence, of_turn, of_count}
+use Rattle.program_meaning.specs.Statements.{on_normal, on_labelled, begins, line_of, statement_in, of_sequence, of_turn, of_count, of_records}
 use Rattle.program_meaning.specs.Layer.{layer, of_body}
 use Rattle.program_meaning.proofs.ActsTakeSteps.{cost, Acted, acted}
 use Rattle.program_meaning.specs.Run.{
@@ -145,16 +146,17 @@ rank R (Body routine base) = 0
 rank R (Count row i last here) = 0
 rank R (Sequence first at here) = R + 1
 -- the lesser of R and the row
-rank R (Locate row here) = R - (R - row)
+rank R (Locate row target here) = R - (R - row)
 rank R (Eval row here) = R + 1
 rank R (Pass at passed here) = R + 2
 rank R (Gather at set here) = R + 2
+rank R (Establish at body here) = R + 1
 rank R (Turn row here) = R + 2
 
 -- whether a part takes a step before it ends, if nothing stops the run
 abbrev pays : Part → Bool
 pays (Eval row here) = true
-pays (Locate row here) = true
+pays (Locate row target here) = true
 pays (Exec row here) = true
 pays (Body routine base) = true
 pays part = false
@@ -173,10 +175,11 @@ below_all R (Exec row here) = omega arith
 below_all R (Body routine base) = omega arith
 below_all R (Count row i last here) = omega arith
 below_all R (Sequence first at here) = omega arith
-below_all R (Locate row here) = omega arith
+below_all R (Locate row target here) = omega arith
 below_all R (Eval row here) = omega arith
 below_all R (Pass at passed here) = omega arith
 below_all R (Gather at set here) = omega arith
+below_all R (Establish at body here) = omega arith
 below_all R (Turn row here) = omega arith
 
 -- each tree has this rank
@@ -205,35 +208,37 @@ module _ (p : ProgramRows) where
   one : 1 ≤ 1
   one = omega arith
 
-  locates : (row access : ℕ) (here : Here) (go : ℕ → Tree) → row < R → Fits (Locate row here) (locate_before row access here go)
-  locates row access here go h = by (nat_lt access row) refl
+  locates : (row access : ℕ) (target : Bool) (here : Here) (go : ℕ → Tree) → row < R
+      → Fits (Locate row target here) (locate_before row access target here go)
+  locates row access target here go h = by (nat_lt access row) refl
     where
-      by : (b : Bool) → nat_lt access row ≡ b → Fits (Locate row here) (if b then locate access here go else no_row)
+      by : (b : Bool) → nat_lt access row ≡ b
+          → Fits (Locate row target here) (if b then Sub (Locate access target here) (on_address go) else no_row)
       by true e = (grind (arith, nat_tests), inl refl)
       by false e = tt
 
-  access_fits : (row : ℕ) (here : Here) (a : AccessRow) → row < R → Fits (Locate row here) (of_access p row here a)
-  access_fits row here (access.Variable place levels of') h = inl one
-  access_fits row here (access.Reference place levels of') h = inl one
-  access_fits row here (access.Within record' field of') h = tt
-  access_fits row here (access.Index inner index array of') h = locates row inner here _ h
-  access_fits row here (access.Field inner field of') h = locates row inner here _ h
-  access_fits row here (access.Dereference inner of') h = tt
+  access_fits : (row : ℕ) (target : Bool) (here : Here) (a : AccessRow) → row < R → Fits (Locate row target here) (of_access p row target here a)
+  access_fits row target here (access.Variable place levels of') h = inl one
+  access_fits row target here (access.Reference place levels of') h = inl one
+  access_fits row target here (access.Within record' field of') h = inl one
+  access_fits row target here (access.Index inner index array of') h = locates row inner target here _ h
+  access_fits row target here (access.Field inner field of') h = locates row inner target here _ h
+  access_fits row target here (access.Dereference inner of') h = tt
 
-  there : (row : ℕ) (here : Here) (r : Row) → row < R → Fits (Locate row here) (access_in p row here r)
-  there row here (rows.Access a) h = access_fits row here a h
-  there row here rows.Nothing h = tt
-  there row here (rows.Type t) h = tt
-  there row here (rows.Name n) h = tt
-  there row here (rows.Part q) h = tt
-  there row here (rows.Statement s) h = tt
-  there row here (rows.Expression e) h = tt
-  there row here (rows.Item i) h = tt
+  there : (row : ℕ) (target : Bool) (here : Here) (r : Row) → row < R → Fits (Locate row target here) (access_in p row target here r)
+  there row target here (rows.Access a) h = access_fits row target here a h
+  there row target here rows.Nothing h = tt
+  there row target here (rows.Type t) h = tt
+  there row target here (rows.Name n) h = tt
+  there row target here (rows.Part q) h = tt
+  there row target here (rows.Statement s) h = tt
+  there row target here (rows.Expression e) h = tt
+  there row target here (rows.Item i) h = tt
 
-  located : (row : ℕ) (here : Here) → Fits (Locate row here) (access_in p row here (row_at p row))
-  located row here = elim (below_length p.rows row) [
-    | inl e ↦ subst (λ r. Fits (Locate row here) (access_in p row here r)) (sym e) tt
-    | inr h ↦ there row here (row_at p row) h
+  located : (row : ℕ) (target : Bool) (here : Here) → Fits (Locate row target here) (access_in p row target here (row_at p row))
+  located row target here = elim (below_length p.rows row) [
+    | inl e ↦ subst (λ r. Fits (Locate row target here) (access_in p row target here r)) (sym e) tt
+    | inr h ↦ there row target here (row_at p row) h
   ]
 
   evaluated : (row : ℕ) (here : Here) (r : Row) → Fits (Eval row here) (expression_in p row here r)
@@ -261,6 +266,10 @@ module _ (p : ProgramRows) where
   gathered at set here (rows.Item (item.Member e next)) = (omega arith, inl refl)
   gathered at set here (rows.Item (item.Members first last next)) = (omega arith, inl refl)
   gathered at set here r = refl
+
+  established : (at body : ℕ) (here : Here) (r : Row) → Fits (Establish at body here) (of_records here body r)
+  established at body here (rows.Item (item.Element a next)) = (omega arith, inl refl)
+  established at body here r = (omega arith, inl refl)
 
   begun : (row : ℕ) (here : Here) (s : StatementRow) (o : Option ℕ) → Fits (Exec row here) (begins p row here s o)
   begun row here s (Some line) = tt
@@ -309,9 +318,10 @@ module _ (p : ProgramRows) where
 
   part_fits : (part : Part) → Fits part (layer p part)
   part_fits (Eval row here) = evaluated row here (row_at p row)
-  part_fits (Locate row here) = located row here
+  part_fits (Locate row target here) = located row target here
   part_fits (Pass at passed here) = passed_row at passed here (row_at p at)
   part_fits (Gather at set here) = gathered at set here (row_at p at)
+  part_fits (Establish at body here) = established at body here (row_at p at)
   part_fits (Exec row here) = done row here
   part_fits (Sequence first at here) = in_sequence first at here (row_at p at)
   part_fits (Turn row here) = turned row here (row_at p row)

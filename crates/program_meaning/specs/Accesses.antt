@@ -1,5 +1,5 @@
 -- What each access does (6.5), and the parts of constructs that evaluate and locate.
-use Rattle.std.specs.Prelude.{ℕ, ℤ, List, [], Option, Some, nat_lt, if◌then◌else◌}
+use Rattle.std.specs.Prelude.{ℕ, ℤ, Bool, true, false, List, [], Option, Some, None, nat_lt, slice_get, if◌then◌else◌}
 use Rattle.cell_value.specs.declared.values.Value.{Value}
 use Rattle.cell_value.specs.declared.ways_out.Kind.TheVariants as kind
 use Rattle.program_tables.specs.declared.rows.Row.{Row}
@@ -15,10 +15,8 @@ use Rattle.program_tables.specs.declared.rows.AccessRow.TheVariants.{
 }
 use Rattle.program_tables.specs.declared.rows.TypeRow.{TypeRow}
 use Rattle.program_tables.specs.declared.rows.TypeRow.TheVariants.{Ordinal, Subrange, Set, Array, Record}
-use Rattle.program_tables.specs.declared.rows.NameRow.TheVariants as named
 use Rattle.program_tables.specs.ProgramRows.{ProgramRows, row_at, type_at, size_of}
 use Rattle.program_meaning.specs.declared.components.Components.{Components}
-use Rattle.program_meaning.specs.State.{moved}
 use Rattle.program_meaning.specs.Acts.{Fault, Spend}
 use Rattle.program_meaning.specs.Tree.{
   Out,
@@ -37,6 +35,7 @@ use Rattle.program_meaning.specs.Tree.{
   doing,
 }
 use Rattle.program_meaning.specs.Cells.{reads, ordinal_at, set_at, cell_out, reference_out, component}
+use Rattle.program_meaning.specs.Variants.{field_at}
 
 -- The tables name a row that they do not have, or that is of another kind. Such tables are no program of a source, so
 -- that the fault has no line.
@@ -70,7 +69,11 @@ abbrev pub eval_cells : (row : ℕ) → Here → (List Value → Tree) → Tree
 eval_cells row here go = Sub (Eval row here) (on_cells go)
 
 abbrev pub locate : (row : ℕ) → Here → (ℕ → Tree) → Tree
-locate row here go = Sub (Locate row here) (on_address go)
+locate row here go = Sub (Locate row false here) (on_address go)
+
+-- the same of a target access, which is one left of `:=`, or an argument of read, readln or new
+abbrev pub locate_target : (row : ℕ) → Here → (ℕ → Tree) → Tree
+locate_target row here go = Sub (Locate row true here) (on_address go)
 
 abbrev pub scalar : Value → Tree
 scalar v = Ret (Scalar v)
@@ -78,9 +81,10 @@ scalar v = Ret (Scalar v)
 abbrev pub address : ℕ → Tree
 address addr = Ret (Address addr)
 
--- The access to which a selector is applied stands before the selector.
-abbrev pub locate_before : (row access : ℕ) → Here → (ℕ → Tree) → Tree
-locate_before row access here go = if nat_lt access row then locate access here go else no_row
+-- The access to which a selector is applied stands before the selector, and is a target as the whole is.
+abbrev pub locate_before : (row access : ℕ) → (target : Bool) → Here → (ℕ → Tree) → Tree
+locate_before row access target here go =
+    if nat_lt access row then Sub (Locate access target here) (on_address go) else no_row
 
 -- goes on with the bounds of an ordinal type
 abbrev pub with_bounds : Option TypeRow → (ℤ → ℤ → Tree) → Tree
@@ -94,32 +98,33 @@ with_components p (Some (Array packed index component cells)) go = with_bounds (
     go (record { least = least; greatest = greatest; size = size_of p component }))
 with_components p t go = no_row
 
--- a field of the fixed part of a record variable at an address (6.5.3.3)
-abbrev pub field_of : (addr offset : ℕ) → Option TypeRow → Tree
-field_of addr offset (Some (Record packed region cells variants)) = address (moved addr offset)
-field_of addr offset t = no_row
+-- a field of the record variable at an address (6.5.3.3)
+abbrev pub locate_field : ProgramRows → (target : Bool) → (line addr field : ℕ) → Tree
+locate_field p target line addr field = doing line (field_at p target addr (row_at p field)) address
 
-abbrev pub field_in : ProgramRows → (addr : ℕ) → Row → Tree
-field_in p addr (rows.Name (named.Field of' offset holder)) = field_of addr offset (type_at p holder)
-field_in p addr r = no_row
+-- goes on with a record that a with statement around has established
+abbrev pub with_record : Option ℕ → (ℕ → Tree) → Tree
+with_record None go = no_row
+with_record (Some addr) go = go addr
 
 -- An access, in order of its text: its name and each index and field take a step. An index is evaluated after the
--- variable before it is located.
-abbrev pub of_access : ProgramRows → (row : ℕ) → Here → AccessRow → Tree
-of_access p row here (Variable place levels of') =
+-- variable before it is located, and is no target. A field in a with statement is a name alone (6.8.3.10).
+abbrev pub of_access : ProgramRows → (row : ℕ) → (target : Bool) → Here → AccessRow → Tree
+of_access p row target here (Variable place levels of') =
     spend here (doing here.line (cell_out levels here.base place) address)
-of_access p row here (Reference place levels of') =
+of_access p row target here (Reference place levels of') =
     spend here (doing here.line (reference_out levels here.base place) address)
-of_access p row here (Index access index array of') = locate_before row access here (λ addr. spend here
+of_access p row target here (Index access index array of') = locate_before row access target here (λ addr. spend here
     (eval index here (λ v. with_components p (type_at p array) (λ a. doing here.line (component a addr v) address))))
-of_access p row here (Field access field of') = locate_before row access here (λ addr. spend here
-    (field_in p addr (row_at p field)))
-of_access p row here (Within record' field of') = no_row
-of_access p row here (Dereference access of') = no_row
+of_access p row target here (Field access field of') = locate_before row access target here (λ addr. spend here
+    (locate_field p target here.line addr field))
+of_access p row target here (Within record' field of') = spend here (with_record (slice_get here.records record')
+    (λ addr. locate_field p target here.line addr field))
+of_access p row target here (Dereference access of') = no_row
 
-abbrev pub access_in : ProgramRows → (row : ℕ) → Here → Row → Tree
-access_in p row here (rows.Access a) = of_access p row here a
-access_in p row here r = no_row
+abbrev pub access_in : ProgramRows → (row : ℕ) → (target : Bool) → Here → Row → Tree
+access_in p row target here (rows.Access a) = of_access p row target here a
+access_in p row target here r = no_row
 
 -- the type of what is accessed
 abbrev pub type_accessed : AccessRow → ℕ

@@ -1,13 +1,15 @@
 -- What a part does, by the program's tables: its own acts, and its parts by name.
-use Rattle.std.specs.Prelude.{ℕ, Option, Some, None}
+use Rattle.std.specs.Prelude.{ℕ, [], Option, Some, None}
 use Rattle.program_tables.specs.declared.program.Routine.{Routine}
 use Rattle.program_tables.specs.ProgramRows.{ProgramRows, row_at, routine_at}
 use Rattle.program_meaning.specs.Tree.{
+  Here,
   Part,
   Eval,
   Locate,
   Pass,
   Gather,
+  Establish,
   Exec,
   Sequence,
   Turn,
@@ -19,21 +21,24 @@ use Rattle.program_meaning.specs.Tree.{
 }
 use Rattle.program_meaning.specs.Accesses.{no_row, spend, access_in}
 use Rattle.program_meaning.specs.Expressions.{expression_in, of_actual, of_members}
-use Rattle.program_meaning.specs.Statements.{statement_in, of_sequence, of_turn, of_count}
+use Rattle.program_meaning.specs.Statements.{statement_in, of_sequence, of_turn, of_count, of_records}
+
+-- where the statement part of a routine is at work, whose frame is at a base: no with statement is around it
+abbrev pub outermost : Routine → (base : ℕ) → Here
+outermost r base = record { line = r.line; base = base; records = [] }
 
 -- the statement part of a routine, which is itself a statement and takes a step
 abbrev pub of_body : (base : ℕ) → Option Routine → Tree
 of_body base None = no_row
-of_body base (Some r) = spend (record { line = r.line; base = base }) (Sub (Sequence r.statements r.statements (record {
-  line = r.line;
-  base = base;
-})) Ret)
+of_body base (Some r) =
+    spend (outermost r base) (Sub (Sequence r.statements r.statements (outermost r base)) Ret)
 
 abbrev pub layer : ProgramRows → Part → Tree
 layer p (Eval row here) = expression_in p row here (row_at p row)
-layer p (Locate row here) = access_in p row here (row_at p row)
+layer p (Locate row target here) = access_in p row target here (row_at p row)
 layer p (Pass at passed here) = of_actual p passed here (row_at p at)
 layer p (Gather at set here) = of_members set here (row_at p at)
+layer p (Establish at body here) = of_records here body (row_at p at)
 layer p (Exec row here) = statement_in p row here (row_at p row)
 layer p (Sequence first at here) = of_sequence p here first (row_at p at)
 layer p (Turn row here) = of_turn row here (row_at p row)

@@ -4,6 +4,8 @@ pub mod Actions
 pub mod Tree
 pub mod Values
 pub mod Cells
+pub mod Choices
+pub mod Variants
 pub mod Accesses
 pub mod Expressions
 pub mod Statements

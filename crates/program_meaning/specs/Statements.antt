@@ -1,5 +1,5 @@
 -- What each statement does (6.8).
-use Rattle.std.specs.Prelude.{ℕ, zero, suc, ℤ, pos, ◌+ℤ◌, ◌-ℤ◌, Bool, false, Option, Some, None, length}
+use Rattle.std.specs.Prelude.{ℕ, ℤ, pos, ◌+ℤ◌, ◌-ℤ◌, Bool, false, [], ◌∷◌, ◌++◌, Option, Some, None, length}
 use Rattle.std.specs.Prelude.{nat_lt, int_le, ◌==◌, ◌&&◌, if◌then◌else◌}
 use Rattle.std.specs.Ordering.{int_eq}
 use Rattle.cell_value.specs.declared.values.Value.{Value}
@@ -27,6 +27,7 @@ use Rattle.program_tables.specs.declared.rows.StatementRow.TheVariants.{
   While,
   For,
   Turns,
+  With,
 }
 use Rattle.program_tables.specs.ProgramRows.{ProgramRows, row_at, type_at}
 use Rattle.program_meaning.specs.State.{moved}
@@ -40,6 +41,7 @@ use Rattle.program_meaning.specs.Tree.{
   Jump,
   Here,
   Eval,
+  Establish,
   Exec,
   Sequence,
   Turn,
@@ -52,8 +54,10 @@ use Rattle.program_meaning.specs.Tree.{
   doing,
 }
 use Rattle.program_meaning.specs.Values.{or_fault, tested, is_true}
-use Rattle.program_meaning.specs.Cells.{write, writes, assign, frame_out}
-use Rattle.program_meaning.specs.Accesses.{no_row, spend, eval, locate}
+use Rattle.program_meaning.specs.Cells.{write, writes, frame_out}
+pub use Rattle.program_meaning.specs.Choices.{along, choose_at, choice_of}
+use Rattle.program_meaning.specs.Variants.{tag_accessed, assign_to}
+use Rattle.program_meaning.specs.Accesses.{no_row, spend, eval, locate, locate_target}
 use Rattle.program_meaning.specs.Expressions.{call, call_formal}
 
 -- goes on after a statement that ended normally; a jump goes on outward
@@ -68,28 +72,17 @@ nothing = Ret Nothing
 abbrev pub finally : Here → Action (Unit {0}) → Tree
 finally here a = doing here.line a (λ _. nothing)
 
--- Puts the value of an assignment into its target, which is located after the value is known; a value of a scalar type
--- is tested for the target's type then (6.8.2.2).
+-- A target is located and gets a value of a scalar type, which is tested for the target's type then (6.8.2.2).
+abbrev pub put_into : ProgramRows → Here → (target of' : ℕ) → Value → Tree
+put_into p here target of' v = locate_target target here (λ addr.
+    finally here (assign_to p (tag_accessed p (row_at p target)) (type_at p of') addr v))
+
+-- Puts the value of an assignment into its target, which is located after the value is known.
 abbrev pub on_value : ProgramRows → Here → (target of' : ℕ) → Out → Tree
-on_value p here target of' (Scalar v) = locate target here (λ addr. finally here (assign p (type_at p of') addr v))
-on_value p here target of' (Cells vs) = locate target here (λ addr. finally here (writes addr vs))
+on_value p here target of' (Scalar v) = put_into p here target of' v
+on_value p here target of' (Cells vs) = locate_target target here (λ addr. finally here (writes addr vs))
 on_value p here target of' (Jump label base) = Ret (Jump label base)
 on_value p here target of' out = no_row
-
--- what is found among items, from one on, of which each next one stands after the one before it; `n` is how many are
--- looked at
-abbrev pub along : (look : ℕ → (ℕ → Option ℕ) → Option ℕ) → (n at : ℕ) → Option ℕ
-along look zero at = None
-along look (suc n) at = look at (along look n)
-
--- the statement that a case constant chooses, among those from an item on
-abbrev pub choose_at : Row → ℕ → ℤ → (ℕ → Option ℕ) → Option ℕ
-choose_at (rows.Item (item.Choice constant chosen next)) at i go =
-    if int_eq constant i then Some chosen else if nat_lt at next then go next else None
-choose_at r at i go = None
-
-abbrev pub choice_of : ProgramRows → (n at : ℕ) → ℤ → Option ℕ
-choice_of p n at i = along (λ at go. choose_at (row_at p at) at i go) n at
 
 abbrev pub choose : Here → Option ℕ → Tree
 choose here (Some s) = Sub (Exec s here) Ret
@@ -146,6 +139,7 @@ of_statement p row here (CallFormal line place levels actuals) =
     call_formal p here place levels actuals (on_normal nothing)
 of_statement p row here (Goto line label levels) = doing here.line (frame_out levels here.base) (λ base.
     Ret (Jump label base))
+of_statement p row here (With line records body) = Sub (Establish records body here) Ret
 of_statement p row here s = no_row
 
 -- the line of a statement that is neither compound nor empty
@@ -160,6 +154,7 @@ line_of (While line condition body) = Some line
 line_of (For line initial turns) = Some line
 line_of (CallFormal line place levels actuals) = Some line
 line_of (Goto line label levels) = Some line
+line_of (With line records body) = Some line
 line_of s = None
 
 -- A statement begins: it takes a step, and then its line is told.
@@ -236,3 +231,14 @@ of_count row here i last (rows.Statement (Turns direction last' place of' body))
     doing here.line (write (moved here.base place) (value.Number i)) (λ _.
     Sub (Exec body here) (on_normal (turn_after row here direction place i last)))
 of_count row here i last r = no_row
+
+-- inside of a with statement that has established the record at an address
+abbrev pub inside : Here → (addr : ℕ) → Here
+inside here addr = record here { records = here.records ++ addr ∷ [] }
+
+-- The records of a with statement from an item on, each established before the next one and inside of those before it,
+-- and then the body (6.8.3.10). What is no record ends them.
+abbrev pub of_records : Here → (body : ℕ) → Row → Tree
+of_records here body (rows.Item (item.Element access next)) =
+    locate access here (λ addr. Sub (Establish next body (inside here addr)) Ret)
+of_records here body r = Sub (Exec body here) Ret

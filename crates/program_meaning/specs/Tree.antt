@@ -1,5 +1,5 @@
 -- What a construct does, as a tree: acts, whose answers decide how it goes on, parts, and calls.
-use Rattle.std.specs.Prelude.{ℕ, ℤ, List}
+use Rattle.std.specs.Prelude.{ℕ, ℤ, Bool, List}
 use Rattle.cell_value.specs.declared.values.Value.{Value}
 use Rattle.cell_value.specs.declared.ways_out.WayOut.{WayOut}
 use Rattle.cell_value.specs.declared.ways_out.WayOut.TheVariants as way
@@ -25,19 +25,23 @@ pub record Here : Type 0 where
   pub line : ℕ
   -- where the frame of the block begins
   pub base : ℕ
+  -- the addresses of the records that the with statements around have established, the outermost first
+  pub records : List ℕ
 
 -- a part of a program at work, by the number of its row
 pub data Part : Type 0 where
   -- the value of an expression
   Eval : (row : ℕ) (here : Here) → Part
-  -- the variable that an access denotes
-  Locate : (row : ℕ) (here : Here) → Part
+  -- the variable that an access denotes; a target access activates variants that have no tag field
+  Locate : (row : ℕ) (target : Bool) (here : Here) → Part
   -- the actual parameters from a position of a list on, where those before it gave these cells
   Pass : (at : ℕ) (passed : List Value) (here : Here) → Part
   -- the members of a set constructor from an item on, where those before it made this set
   Gather : (at : ℕ) (set : Value) (here : Here) → Part
   -- a statement
   Exec : (row : ℕ) (here : Here) → Part
+  -- the records of a with statement from an item on, and then its body
+  Establish : (at body : ℕ) (here : Here) → Part
   -- the statements from an item on, of the sequence that begins with the first item
   Sequence : (first at : ℕ) (here : Here) → Part
   -- a further turn of a while or repeat statement
