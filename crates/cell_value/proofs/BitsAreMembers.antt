@@ -1,13 +1,11 @@
--- The empty set, one member more, a range, and what a set holds of a whole number.
-use Rattle.std.proofs.Common.{◌≡◌, ◌≢◌, ◌+◌, ◌*◌, ◌/◌, ◌%◌, ◌^◌, ◌<◌, ◌≤◌, refl, sym, ◌∙◌, arith, eq-eqb, inl, inr, w64}
-use Rattle.std.proofs.Common.{Bool, true, false, ℕ, zero, suc, length, slice_index_or, slice_set, bit_or, bit_and, lit<, ℤ, pos, negsuc}
+-- The empty set, inclusion, and what a set holds of a whole number.
+use Rattle.std.proofs.Common.{◌≡◌, ◌+◌, ◌*◌, ◌/◌, ◌%◌, ◌^◌, ◌<◌, ◌≤◌, refl, sym, ◌∙◌, arith, inl, inr}
+use Rattle.std.proofs.Common.{Bool, true, false, ℕ, zero, suc, length, slice_index_or, bit_or, bit_and, lit<, ℤ, pos, negsuc}
 use Rattle.std.specs.Prelude.{◌==◌, ◌||◌, ◌&&◌, ◌⊎◌, not}
 use Rattle.std.specs.Int.{FitsUnsignedBits}
-use Rattle.std.proofs.Math.Bool.{or-true, or-false}
 use Rattle.std.proofs.Math.IntN.{nat_abs}
-use Rattle.std.proofs.lemmas.Bool.{cases_lt, cases_eq}
-use Rattle.std.proofs.lemmas.List.{get_or-set_same, get_or-set_other, length-set}
-use Rattle.std.proofs.lemmas.Nat.Bits.{bit_at-lt, bit_at-zero, bit_at_set_same, bit_at_set_other, same_from_bits_below, shr_and_one}
+use Rattle.std.proofs.lemmas.Bool.{cases_lt}
+use Rattle.std.proofs.lemmas.Nat.Bits.{bit_at-lt, bit_at-zero, same_from_bits_below, shr_and_one}
 use Rattle.std.proofs.lemmas.Nat.{le_or_l, le_or_r}
 use Rattle.cell_value.specs.declared.values.SetBits.{SetBits}
 use Rattle.cell_value.specs.Sets.{has, has_number, holds_below, is_included, difference_of}
@@ -123,64 +121,6 @@ pub same_truth : (a b : Bool) → (a ≡ true → b ≡ true) → (b ≡ true �
 same_truth true b f g = sym (f refl)
 same_truth false true f g = g refl
 same_truth false false f g = refl
-
--- ---- one member more
-
--- the set with the bit of one ordinal more
-abbrev pub with_bit : SetBits → ℕ → SetBits
-with_bit set added = record {
-  words = slice_set set.words (added / 64) (bit_or (slice_index_or set.words (added / 64) 0) (1 * 2 ^ (added % 64) % 18446744073709551616));
-}
-
-with_bit_four : (set : SetBits) (added : ℕ) → length set.words ≡ 4 → length (with_bit set added).words ≡ 4
-with_bit_four set added four = rw length-set four
-
-with_bit_itself : (set : SetBits) (added : ℕ) → length set.words ≡ 4 → added < 256 → has (with_bit set added) added ≡ true
-with_bit_itself set added four low = has_at (with_bit set added) added (with_bit_four set added four) low ∙
-    rw (
-      get_or-set_same set.words (added / 64) (bit_or (slice_index_or set.words (added / 64) 0) (1 * 2 ^ (added % 64) % 18446744073709551616)) 0 (omega arith),
-      bit_at_set_same w64 (slice_index_or set.words (added / 64) 0) (added % 64) (omega arith),
-    ) refl
-
-with_bit_other : (set : SetBits) (added ordinal : ℕ) → length set.words ≡ 4 → added < 256 → ordinal < 256 → ordinal ≢ added
-    → (ordinal / 64 ≡ added / 64) ⊎ (ordinal / 64 ≢ added / 64) → has (with_bit set added) ordinal ≡ has set ordinal
-with_bit_other set added ordinal four small low differ (inl same) =
-    let apart : ordinal % 64 ≢ added % 64 = λ e. differ (omega arith) in
-    has_at (with_bit set added) ordinal (with_bit_four set added four) low
-    ∙ rw (
-      same,
-      get_or-set_same set.words (added / 64) (bit_or (slice_index_or set.words (added / 64) 0) (1 * 2 ^ (added % 64) % 18446744073709551616)) 0 (omega arith),
-      bit_at_set_other w64 (slice_index_or set.words (added / 64) 0) (added % 64) (omega arith) (ordinal % 64) apart,
-      ← same,
-    ) (sym (has_at set ordinal four low))
-with_bit_other set added ordinal four small low differ (inr other) =
-    has_at (with_bit set added) ordinal (with_bit_four set added four) low
-    ∙ rw (get_or-set_other set.words (added / 64) (ordinal / 64) (bit_or (slice_index_or set.words (added / 64) 0)
-    (1 * 2 ^ (added % 64) % 18446744073709551616)) 0 other)
-    (sym (has_at set ordinal four low))
-
-differ_test : (m n : ℕ) → m ≢ n → (m == n) ≡ false
-differ_test m n h = grind (arith, h)
-
-with_bit_low : (set : SetBits) (added ordinal : ℕ) → length set.words ≡ 4 → added < 256 → ordinal < 256 → (ordinal ≡ added) ⊎ (ordinal ≢ added)
-    → has (with_bit set added) ordinal ≡ (has set ordinal || ordinal == added)
-with_bit_low set added ordinal four small low (inl same) =
-    rw (same, eq-eqb added added refl, or-true (has set added)) (with_bit_itself set added four small)
-with_bit_low set added ordinal four small low (inr other) =
-    rw (differ_test ordinal added other, or-false (has set ordinal))
-    (with_bit_other set added ordinal four small low other (cases_eq (ordinal / 64) (added / 64)))
-
-with_bit_any : (set : SetBits) (added ordinal : ℕ) → length set.words ≡ 4 → added < 256 → (ordinal < 256) ⊎ (256 ≤ ordinal)
-    → has (with_bit set added) ordinal ≡ (has set ordinal || ordinal == added)
-with_bit_any set added ordinal four small (inl low) = with_bit_low set added ordinal four small low (cases_eq ordinal added)
-with_bit_any set added ordinal four small (inr above) =
-    let other : ordinal ≢ added = λ e. omega arith in
-    rw (differ_test ordinal added other, or-false (has set ordinal))
-    (has_above (with_bit set added) ordinal (with_bit_four set added four) above ∙ sym (has_above set ordinal four above))
-
-pub with_bit_holds : (set : SetBits) (added : ℕ) → length set.words ≡ 4 → added < 256 → (ordinal : ℕ)
-    → has (with_bit set added) ordinal ≡ (has set ordinal || ordinal == added)
-with_bit_holds set added four small ordinal = with_bit_any set added ordinal four small (cases_lt ordinal 256)
 
 -- ---- whole numbers
 

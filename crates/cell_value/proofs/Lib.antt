@@ -1,4 +1,5 @@
 pub mod BitsAreMembers
 pub mod Laws
 pub mod ListsRank
+pub mod Masks
 pub mod WordsMakeSets

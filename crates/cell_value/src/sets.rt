@@ -1,7 +1,7 @@
 //! The operators on sets.
-ghost use Rattle.std.specs.Prelude.{◌≡◌, ℕ, ◌==◌, ◌&&◌, ◌||◌, not, false, IsTrue, ◌↔◌};
+ghost use Rattle.std.specs.Prelude.{◌≡◌, ◌<◌, ◌≤◌, ℕ, pos, ◌&&◌, ◌||◌, not, false, int_le, nat_le, nat_lt, IsTrue, ◌↔◌};
 ghost use Rattle.cell_value.specs.Sets.{IsIncluded, difference_of, has, has_number, intersection_of, is_between};
-ghost use Rattle.cell_value.specs.Sets.{is_included, is_outside_or_between, lies_between, union_of, with_range_of};
+ghost use Rattle.cell_value.specs.Sets.{is_included, lies_between, set_of, union_of, with_range_of, word_of};
 
 use crate::values::SetBits;
 
@@ -75,24 +75,36 @@ pub fn holds(a: SetBits, ordinal: i64) -> bool
     }
 }
 
-/// The set with one ordinal more.
-fn with(a: SetBits, added: u8) -> SetBits
-    ensures { (ordinal : ℕ) → has result ordinal ≡ (has a ordinal || ordinal == added) }
+/// The word of which the first `count` bits are set, or all where it has no more.
+fn first_bits(count: u32) -> u64
+    ensures { result ≡ word_of (λ place. nat_lt place count) 64 }
 {
-    let mut words = a.words;
-    words[added as usize / 64] |= 1 << (added % 64);
-    SetBits { words }
+    if count < 64 {
+        (1 << count) - 1
+    } else {
+        u64::MAX
+    }
+}
+
+/// The set of the ordinals below a bound.
+fn below(bound: u32) -> SetBits
+    ensures { result ≡ set_of (λ ordinal. nat_lt ordinal bound) }
+{
+    SetBits {
+        words: [
+            first_bits(bound),
+            first_bits(bound.saturating_sub(64)),
+            first_bits(bound.saturating_sub(128)),
+            first_bits(bound.saturating_sub(192)),
+        ],
+    }
 }
 
 /// The set of the ordinals from one to another, both of which belong to the range.
 fn range(from: u8, to: u8) -> SetBits
     ensures { (ordinal : ℕ) → has result ordinal ≡ is_between from to ordinal }
 {
-    let mut set = SetBits { words: [0; 4] };
-    for ordinal in from..=to {
-        set = with(set, ordinal);
-    }
-    set
+    minus(below(u32::from(to) + 1), below(u32::from(from)))
 }
 
 /// The set with the ordinals from one to another, both of which belong to the range, as a set constructor has them
@@ -104,22 +116,43 @@ pub fn with_range(a: SetBits, from: u8, to: u8) -> SetBits
     union(a, range(from, to))
 }
 
-/// Whether an ordinal, if the set holds it, lies between two bounds.
-fn outside_or_between(a: SetBits, least: i64, greatest: i64, ordinal: u32) -> bool
-    ensures { result ≡ is_outside_or_between a least greatest ordinal }
+/// How many of the ordinals 0 to 255 lie below a number.
+fn ordinals_below(number: i64) -> u32
+    ensures few { result ≤ 256 }
+    ensures count { (ordinal : ℕ) → ordinal < 256 → nat_le result ordinal ≡ int_le number (pos ordinal) }
 {
-    let number = i64::from(ordinal);
-    !holds(a, number) || (least <= number && number <= greatest)
+    if number <= 0 {
+        0
+    } else if number < 256 {
+        number as u32
+    } else {
+        256
+    }
+}
+
+/// How many of the ordinals 0 to 255 are at most a number.
+fn ordinals_up_to(number: i64) -> u32
+    ensures few { result ≤ 256 }
+    ensures count { (ordinal : ℕ) → ordinal < 256 → nat_lt ordinal result ≡ int_le (pos ordinal) number }
+{
+    if number < 0 {
+        0
+    } else if number < 255 {
+        number as u32 + 1
+    } else {
+        256
+    }
 }
 
 /// Whether each member of a set lies between two bounds, which belong to the range (ISO 7185, clause 6.4.6).
 pub fn between(a: SetBits, least: i64, greatest: i64) -> bool
     ensures { result ≡ lies_between a least greatest }
 {
-    'ordinals: for ordinal in 0..256 {
-        if !outside_or_between(a, least, greatest, ordinal) {
-            return false;
-        }
-    }
-    true
+    within(
+        a,
+        minus(
+            below(ordinals_up_to(greatest)),
+            below(ordinals_below(least)),
+        ),
+    )
 }

@@ -149,7 +149,7 @@ of_actual p passed here (rows.Item (item.RoutineFormal place levels next)) =
     pass_routine here next passed (routine_out levels here.base place)
 of_actual p passed here r = Ret (Cells passed)
 
--- goes on with the members from an item on, unless one before it was none
+-- goes on with the members from an item on, where those before it passed their tests
 abbrev pub gather : Here → (next : ℕ) → Result Value OpFault → Tree
 gather here next r = doing here.line (or_fault r) (λ set. Sub (Gather next set here) Ret)
 

@@ -1,61 +1,25 @@
 //! The forms of the language that are not built yet.
 
 ghost use Rattle.std.specs.Prelude.{◌≡◌, ◌<◌, length};
-ghost use Rattle.unbuilt.specs.Forms.{IsFirstUnbuilt, begins_set, calls_required, is_member_row, is_set_row};
-ghost use Rattle.unbuilt.specs.Forms.{is_unbuilt, is_unbuilt_kind, is_unbuilt_row, is_unbuilt_symbol, is_unbuilt_word};
+ghost use Rattle.unbuilt.specs.Forms.{IsFirstUnbuilt, calls_required};
+ghost use Rattle.unbuilt.specs.Forms.{is_unbuilt, is_unbuilt_kind, is_unbuilt_row, is_unbuilt_word};
 
 use pas_lexer::{Kind, Symbol, Tokens, Word};
 use program_tables::Program;
-use program_tables::rows::{ExpressionRow, ItemRow, NameRow, PartRow, Row, StatementRow};
+use program_tables::rows::{ExpressionRow, NameRow, PartRow, Row, StatementRow};
 
 fn is_unbuilt_word(word: Word) -> bool
     ensures { result ≡ is_unbuilt_word word }
 {
-    matches!(word, Word::WIn | Word::WNil | Word::WSet | Word::WWith)
+    matches!(word, Word::WNil | Word::WWith)
 }
 
-fn is_member_row(row: Row) -> bool
-    ensures { result ≡ is_member_row row }
-{
-    matches!(
-        row,
-        Row::Item(ItemRow::Member { .. } | ItemRow::Members { .. })
-    )
-}
-
-fn is_set_row(row: Row) -> bool
-    ensures { result ≡ is_set_row row }
-{
-    matches!(row, Row::Expression(ExpressionRow::Set { .. }))
-}
-
-/// Whether a `[` begins a set constructor.
-fn begins_set(program: &Program, bracket: u32) -> bool
-    requires next { bracket < 4294967295 }
-    ensures { result ≡ begins_set program.now bracket }
-{
-    is_member_row(program.row(bracket)) || is_set_row(program.row(bracket + 1))
-}
-
-fn is_unbuilt_symbol(symbol: Symbol, program: &Program, number: u32) -> bool
-    requires next { number < 4294967295 }
-    ensures { result ≡ is_unbuilt_symbol program.now number symbol }
-{
-    match symbol {
-        Symbol::Caret => true,
-        Symbol::LeftBracket => begins_set(program, number),
-        _ => false,
-    }
-}
-
-fn is_unbuilt_kind(kind: Kind, program: &Program, number: u32) -> bool
-    requires next { number < 4294967295 }
-    ensures { result ≡ is_unbuilt_kind program.now number kind }
+fn is_unbuilt_kind(kind: Kind) -> bool
+    ensures { result ≡ is_unbuilt_kind kind }
 {
     match kind {
         Kind::Word(word) => is_unbuilt_word(word),
-        Kind::Symbol(symbol) => is_unbuilt_symbol(symbol, program, number),
-        Kind::Text => 1 < program.text(number).len(),
+        Kind::Symbol(Symbol::Caret) => true,
         _ => false,
     }
 }
@@ -80,7 +44,6 @@ fn is_unbuilt_row(row: Row) -> bool
     match row {
         Row::Part(PartRow::Variants { .. }) => true,
         Row::Statement(statement) => calls_required(statement),
-        Row::Expression(ExpressionRow::CompareTexts { .. }) => true,
         Row::Expression(ExpressionRow::Eof | ExpressionRow::Eoln) => true,
         Row::Name(NameRow::TextFile { .. }) => true,
         _ => false,
@@ -90,19 +53,15 @@ fn is_unbuilt_row(row: Row) -> bool
 /// Whether a token, or the construct that has its number, cannot be run yet.
 fn is_unbuilt(tokens: &Tokens, program: &Program, number: u32) -> bool
     requires inside { number < length tokens.now.tokens }
-    requires next { number < 4294967295 }
     ensures { result ≡ is_unbuilt tokens.now program.now number }
 {
-    is_unbuilt_kind(tokens.at(number).kind, program, number) || is_unbuilt_row(program.row(number))
+    is_unbuilt_kind(tokens.at(number).kind) || is_unbuilt_row(program.row(number))
 }
 
 /// The first token of a checked program that cannot be run yet, and none where all can be run. Those tokens are:
 ///
-/// - the words `set`, `in`, `with` and `nil`;
+/// - the words `with` and `nil`;
 /// - `^`, also written `@`;
-/// - a `[` that begins a set constructor;
-/// - a string of two or more characters;
-/// - `=`, `<>`, `<`, `>`, `<=` or `>=` between two strings;
 /// - the `case` of a variant part;
 /// - the name in a call of a required procedure;
 /// - the name of the required function eof or eoln, where it is called;
