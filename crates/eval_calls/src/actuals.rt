@@ -68,7 +68,11 @@ fn pass_actual(
         ),
         ItemRow::Place { access, next } => body.wait(
             Task::Located(Located::Passed { next, line }),
-            Now::Begin(Part::Locate { row: access, line }),
+            Now::Begin(Part::Locate {
+                row: access,
+                target: false,
+                line,
+            }),
         ),
         ItemRow::Routine {
             routine,

@@ -1,11 +1,12 @@
 //! Accesses.
 
-ghost use Rattle.std.specs.Prelude.{◌≡◌, ◌+◌};
+ghost use Rattle.std.specs.Prelude.{◌≡◌, ◌+◌, slice_get};
 ghost use Rattle.eval_ops.specs.Machines.{IsReady, Moment, moment_of};
 ghost use Rattle.program_meaning.specs.Tree.{bind, doing};
 ghost use Rattle.program_meaning.specs.Cells as action;
 ghost use Rattle.program_meaning.specs.Cells.{cell_out, reference_out};
-ghost use Rattle.program_meaning.specs.Accesses.{address, cells_at, field_in, field_of, of_access, value_at};
+ghost use Rattle.program_meaning.specs.Accesses.{address, cells_at, of_access, value_at};
+ghost use Rattle.program_meaning.specs.Accesses.{locate_field as field_in, with_record};
 ghost use Rattle.program_meaning.specs.Accesses.{with_bounds, with_components, spend as spend_in};
 ghost use Rattle.eval_tasks.specs.Rest.{from, from_under, here, waiting};
 ghost use Rattle.eval_tasks.specs.Turns.{Turns};
@@ -15,33 +16,37 @@ ghost use Rattle.eval_tasks.specs.Weight.{now_weight, tasks_weight};
 use cell_value::Value;
 use eval_calls::add_cell;
 use eval_ops::{
-    Machine, cell_out, component, moved, ordinal_at, read_cells, reference_out, set_at, spend,
+    Machine, cell_out, component, field_at, ordinal_at, read_cells, reference_out, set_at, spend,
 };
 use eval_tasks::{Body, Located, Now, Operand, Part, Task, Turned, Way};
 use program_meaning::Components;
 use program_tables::Program;
-use program_tables::rows::{AccessRow, NameRow, Row, TypeRow};
+use program_tables::rows::{AccessRow, Row, TypeRow};
 use std::alloc::Global;
 
 /// An access begins.
 pub fn locate(
     body: &mut Body,
+    alloc: Global,
     program: &Program,
     machine: &mut Machine,
     row: u32,
+    target: bool,
     line: u32,
 ) -> Turned
     requires ready { IsReady machine.old }
-    ensures turns { Turns program.now (from program.now body.old (Now.Begin (Part.Locate row line)))
+    ensures turns { Turns program.now (from program.now body.old (Now.Begin (Part.Locate row target line)))
         (moment_of machine.old) result body.new
         (moment_of machine.new) }
     ensures falls { Falls result (left_of body.new machine.new)
-        (left_with machine.old.steps (now_weight (Now.Begin (Part.Locate row line)) + tasks_weight body.old)) }
+        (left_with machine.old.steps (now_weight (Now.Begin (Part.Locate row target line)) + tasks_weight body.old)) }
     ensures home { body.new.home ≡ body.old.home }
     ensures ready { IsReady machine.new }
 {
     match program.row(row) {
-        Row::Access(access) => begin_access(body, program, machine, access, row, line),
+        Row::Access(access) => begin_access(
+            body, alloc, program, machine, access, row, target, line,
+        ),
         _ => body.no_row(),
     }
 }
@@ -49,17 +54,19 @@ pub fn locate(
 /// An access begins, by what kind it is.
 fn begin_access(
     body: &mut Body,
+    alloc: Global,
     program: &Program,
     machine: &mut Machine,
     access: AccessRow,
     row: u32,
+    target: bool,
     line: u32,
 ) -> Turned
     requires ready { IsReady machine.old }
-    ensures turns { Turns program.now (bind (of_access program.now row (here body.old.home line) access)
+    ensures turns { Turns program.now (bind (of_access program.now row target (here body.old.home line) access)
         (waiting program.now body.old)) (moment_of machine.old) result body.new (moment_of machine.new) }
     ensures falls { Falls result (left_of body.new machine.new)
-        (left_with machine.old.steps (part_weight (Part.Locate row line) + tasks_weight body.old)) }
+        (left_with machine.old.steps (part_weight (Part.Locate row target line) + tasks_weight body.old)) }
     ensures home { body.new.home ≡ body.old.home }
     ensures ready { IsReady machine.new }
 {
@@ -79,7 +86,11 @@ fn begin_access(
             if access < row {
                 body.wait(
                     Task::Located(Located::Index { index, array, line }),
-                    Now::Begin(Part::Locate { row: access, line }),
+                    Now::Begin(Part::Locate {
+                        row: access,
+                        target,
+                        line,
+                    }),
                 )
             } else {
                 body.no_row()
@@ -88,13 +99,28 @@ fn begin_access(
         AccessRow::Field { access, field, .. } => {
             if access < row {
                 body.wait(
-                    Task::Located(Located::Field { field, line }),
-                    Now::Begin(Part::Locate { row: access, line }),
+                    Task::Located(Located::Field {
+                        field,
+                        target,
+                        line,
+                    }),
+                    Now::Begin(Part::Locate {
+                        row: access,
+                        target,
+                        line,
+                    }),
                 )
             } else {
                 body.no_row()
             }
         }
+        AccessRow::Within {
+            record: place,
+            field,
+            ..
+        } => within(
+            body, alloc, program, machine, place, field, target, line,
+        ),
         _ => body.no_row(),
     }
 }
@@ -182,8 +208,14 @@ pub fn continue_access(
             ),
             Err(halt) => body.fail(line, halt),
         },
-        Located::Field { field, line } => match spend(machine, 1) {
-            Ok(()) => locate_field(body, program, program.row(field), addr),
+        Located::Field {
+            field,
+            target,
+            line,
+        } => match spend(machine, 1) {
+            Ok(()) => locate_field(
+                body, alloc, program, machine, target, line, addr, field,
+            ),
             Err(halt) => body.fail(line, halt),
         },
         Located::Passed { next, line } => add_cell(
@@ -262,36 +294,56 @@ fn variable_cells(
 }
 
 /// A field of a record variable at an address.
-fn locate_field(body: &mut Body, program: &Program, found: Row, addr: u32) -> Turned
-    ensures turns { (m : Moment) → Turns program.now (bind (field_in program.now addr found)
-        (waiting program.now body.old)) m result body.new m }
-    ensures falls { Falls result (body_weight body.new) (come + 1 + tasks_weight body.old) }
+fn locate_field(
+    body: &mut Body,
+    alloc: Global,
+    program: &Program,
+    machine: &mut Machine,
+    target: bool,
+    line: u32,
+    addr: u32,
+    field: u32,
+) -> Turned
+    requires ready { IsReady machine.old }
+    ensures turns { Turns program.now (bind (field_in program.now target line addr field)
+        (waiting program.now body.old)) (moment_of machine.old) result body.new (moment_of machine.new) }
+    ensures falls { Falls result (left_of body.new machine.new)
+        (left_with machine.old.steps (come + 1 + tasks_weight body.old)) }
     ensures home { body.new.home ≡ body.old.home }
+    ensures ready { IsReady machine.new }
 {
-    match found {
-        Row::Name(NameRow::Field { offset, holder, .. }) => {
-            locate_field_of(body, program, program.type_row(holder), addr, offset)
-        }
-        _ => body.no_row(),
-    }
+    let found = field_at(alloc, program, machine, target, addr, program.row(field));
+    body.address(line, found)
 }
 
-/// The same, by the type that holds it.
-fn locate_field_of(
+/// A field of a record that a with statement around has established.
+fn within(
     body: &mut Body,
+    alloc: Global,
     program: &Program,
-    holder: Option<TypeRow>,
-    addr: u32,
-    offset: u32,
+    machine: &mut Machine,
+    place: u32,
+    field: u32,
+    target: bool,
+    line: u32,
 ) -> Turned
-    ensures turns { (m : Moment) → Turns program.now (bind (field_of addr offset holder)
-        (waiting program.now body.old)) m result body.new m }
-    ensures falls { Falls result (body_weight body.new) (come + 1 + tasks_weight body.old) }
+    requires ready { IsReady machine.old }
+    ensures turns { Turns program.now (bind (spend_in (here body.old.home line) (with_record
+        (slice_get body.old.home.records place) (λ addr. field_in program.now target line addr field)))
+        (waiting program.now body.old)) (moment_of machine.old) result body.new (moment_of machine.new) }
+    ensures falls { Falls result (left_of body.new machine.new)
+        (left_with machine.old.steps (tasks_weight body.old)) }
     ensures home { body.new.home ≡ body.old.home }
+    ensures ready { IsReady machine.new }
 {
-    match holder {
-        Some(TypeRow::Record { .. }) => body.go(Now::Came(Way::Address(moved(addr, offset)))),
-        _ => body.no_row(),
+    match spend(machine, 1) {
+        Ok(()) => match body.home.records.at(place) {
+            Some(addr) => locate_field(
+                body, alloc, program, machine, target, line, addr, field,
+            ),
+            None => body.no_row(),
+        },
+        Err(halt) => body.fail(line, halt),
     }
 }
 

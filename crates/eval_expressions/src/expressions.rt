@@ -67,7 +67,11 @@ pub fn evaluate(
                 of: type_accessed(access),
                 line,
             }),
-            Now::Begin(Part::Locate { row, line }),
+            Now::Begin(Part::Locate {
+                row,
+                target: false,
+                line,
+            }),
         ),
         _ => body.no_row(),
     }

@@ -1,1 +1,2 @@
+mod RecordsLeft
 mod StatementsByRow

@@ -21,11 +21,12 @@ use Rattle.program_tables.specs.declared.rows.StatementRow.TheVariants.{
   While,
   For,
   Turns,
+  With,
 }
 use Rattle.program_tables.specs.ProgramRows.{ProgramRows, row_at}
-use Rattle.program_meaning.specs.Tree.{Here, Tree, Sub, Line}
+use Rattle.program_meaning.specs.Tree.{Here, Tree, Ret, Sub, Line}
 use Rattle.program_meaning.specs.Tree as parts
-use Rattle.program_meaning.specs.Accesses.{no_row, eval}
+use Rattle.program_meaning.specs.Accesses.{no_row, eval, locate}
 use Rattle.program_meaning.specs.Statements.{
   line_of,
   of_statement,
@@ -36,6 +37,8 @@ use Rattle.program_meaning.specs.Statements.{
   first_turn,
   of_sequence,
   of_turn,
+  of_records,
+  inside,
   on_statement,
   nothing,
 }
@@ -90,6 +93,7 @@ pub record IsOther (s : StatementRow) : Type 0 where
   pub for' : (a b c : ℕ) → s ≡ For a b c → ⊥
   pub call_formal : (a b c d : ℕ) → s ≡ CallFormal a b c d → ⊥
   pub goto : (a b c : ℕ) → s ≡ Goto a b c → ⊥
+  pub with' : (a b c : ℕ) → s ≡ With a b c → ⊥
 
 pub other_carried : (p : ProgramRows) (home : Home) (n : ℕ) (s : StatementRow) → IsOther s → carry_with p home n s (line_of s) ≡ no_row
 other_carried p home n (Assign a b c d) o = absurd (o.assign a b c d refl)
@@ -102,7 +106,18 @@ other_carried p home n (While a b c) o = absurd (o.while a b c refl)
 other_carried p home n (For a b c) o = absurd (o.for' a b c refl)
 other_carried p home n (CallFormal a b c d) o = absurd (o.call_formal a b c d refl)
 other_carried p home n (Goto a b c) o = absurd (o.goto a b c refl)
+other_carried p home n (With a b c) o = absurd (o.with' a b c refl)
 other_carried p home n s o = refl
+
+-- ---- records of with statements
+
+abbrev pub from_record : Here → (body : ℕ) → Option (ℕ × ℕ) → Tree
+from_record h body (Some (access, next)) = locate access h (λ addr. Sub (parts.Establish next body (inside h addr)) Ret)
+from_record h body None = Sub (parts.Exec body h) Ret
+
+pub records_by : (h : Here) (body : ℕ) (r : Row) → of_records h body r ≡ from_record h body (element_in r)
+records_by h body (rows.Item (item.Element access next)) = refl
+records_by h body r = refl
 
 -- ---- sequences and turns
 

@@ -7,7 +7,7 @@ ghost use Rattle.eval_tasks.specs.Turns.{Turns};
 ghost use Rattle.eval_tasks.specs.Weight.{Falls, body_weight, come, left_of, left_with, task_weight, tasks_weight};
 
 use cell_value::Value;
-use eval_ops::{Machine, assign, write_cells};
+use eval_ops::{Machine, assign_to, tag_accessed, write_cells};
 use eval_tasks::{Body, Now, Part, Task, Turned, Way};
 use program_tables::Program;
 use std::alloc::Global;
@@ -30,8 +30,12 @@ pub fn locate_target(
 {
     body.hold(
         value,
-        Task::Put { of, line },
-        Now::Begin(Part::Locate { row: target, line }),
+        Task::Put { target, of, line },
+        Now::Begin(Part::Locate {
+            row: target,
+            target: true,
+            line,
+        }),
     )
 }
 
@@ -51,7 +55,11 @@ pub fn locate_target_cells(
 {
     body.wait(
         Task::PutCells { line },
-        Now::Begin(Part::Locate { row: target, line }),
+        Now::Begin(Part::Locate {
+            row: target,
+            target: true,
+            line,
+        }),
     )
 }
 
@@ -61,21 +69,23 @@ pub fn put(
     alloc: Global,
     program: &Program,
     machine: &mut Machine,
+    target: u32,
     of: u32,
     line: u32,
     addr: u32,
 ) -> Turned
     requires ready { IsReady machine.old }
     ensures turns { Turns program.now
-        (from_under program.now body.old (Now.Came (Way.Address addr)) (Task.Put of line))
+        (from_under program.now body.old (Now.Came (Way.Address addr)) (Task.Put target of line))
         (moment_of machine.old) result body.new (moment_of machine.new) }
     ensures falls { Falls result (left_of body.new machine.new)
-        (left_with machine.old.steps (come + task_weight (Task.Put of line) + tasks_weight body.old)) }
+        (left_with machine.old.steps (come + task_weight (Task.Put target of line) + tasks_weight body.old)) }
     ensures home { body.new.home ≡ body.old.home }
     ensures ready { IsReady machine.new }
 {
     let value = body.take_value();
-    let done = assign(alloc, program, machine, program.type_row(of), addr, value);
+    let tag = tag_accessed(program, program.row(target));
+    let done = assign_to(alloc, program, machine, tag, program.type_row(of), addr, value);
     body.finally(line, done)
 }
 

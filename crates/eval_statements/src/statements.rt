@@ -192,6 +192,15 @@ fn carry_on(
             initial,
             turns,
         } => { begin_for(body, program, line, initial, turns) }
+        StatementRow::With {
+            line,
+            records,
+            body: inner,
+        } => body.go(Now::Begin(Part::Establish {
+            at: records,
+            body: inner,
+            line,
+        })),
         _ => body.no_row(),
     }
 }

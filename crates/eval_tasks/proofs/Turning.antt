@@ -1,5 +1,5 @@
 -- What the turns of a body are made of.
-use Rattle.std.proofs.Common.{◌≡◌, ℕ, ◌+◌, ◌<◌, ◌≤◌, List, [], ◌∷◌, ◌++◌}
+use Rattle.std.proofs.Common.{◌≡◌, Bool, ℕ, ◌+◌, ◌<◌, ◌≤◌, List, [], ◌∷◌, ◌++◌}
 use Rattle.std.proofs.Common.{Result, Ok, Err, Option, Some, None, reverse, sym, ap, subst, ◌∙◌}
 use Rattle.std.proofs.Common.{if◌then◌else◌, nat_lt}
 use Rattle.std.proofs.lemmas.Bool.{lt-ltb, le-ltb}
@@ -7,8 +7,8 @@ use Rattle.std.proofs.lemmas.List.{reverse-append, append-nil}
 use Rattle.program_tables.specs.ProgramRows.{ProgramRows, routine_at}
 use Rattle.program_meaning.specs.Acts.{Trouble, Spend, perform}
 use Rattle.program_meaning.specs.Actions.{Action, act, performs}
-use Rattle.program_meaning.specs.Tree.{Out, Part, Here, Tree, Sub, Enter, Line, way_of, bind, doing}
-use Rattle.program_meaning.specs.Accesses.{spend, locate, locate_before, no_row}
+use Rattle.program_meaning.specs.Tree.{Out, Part, Locate, Here, Tree, Sub, Enter, Line, way_of, bind, doing}
+use Rattle.program_meaning.specs.Accesses.{spend, on_address, locate_before, no_row}
 use Rattle.program_meaning.specs.Layer.{layer}
 use Rattle.program_meaning.proofs.ActsTakeSteps.{Acted, acted}
 use Rattle.program_meaning.specs.Run.{Halted}
@@ -111,12 +111,13 @@ pub falls_failed : (r : Result (Option Pause) Halt) (e : Halt) (a b : ℕ) → r
 falls_failed r e a b h = subst (λ r. Falls r a b) (sym h) tt
 
 -- an access before a selector
-pub before_it : (row access : ℕ) (h : Here) (go : ℕ → Tree) (K : Out → Tree) → access < row → bind (locate_before row access h go) K ≡ bind
-    (locate access h go) K
-before_it row access h go K l = ap (λ b. bind (if b then locate access h go else no_row) K) (lt-ltb access row l)
+pub before_it : (row access : ℕ) (target : Bool) (h : Here) (go : ℕ → Tree) (K : Out → Tree) → access < row
+    → bind (locate_before row access target h go) K ≡ bind (Sub (Locate access target h) (on_address go)) K
+before_it row access target h go K l = ap (λ b. bind (if b then Sub (Locate access target h) (on_address go) else no_row) K) (lt-ltb access row l)
 
-pub not_before_it : (row access : ℕ) (h : Here) (go : ℕ → Tree) (K : Out → Tree) → row ≤ access → bind (locate_before row access h go) K ≡ no_row
-not_before_it row access h go K l = ap (λ b. bind (if b then locate access h go else no_row) K) (le-ltb access row l)
+pub not_before_it : (row access : ℕ) (target : Bool) (h : Here) (go : ℕ → Tree) (K : Out → Tree) → row ≤ access
+    → bind (locate_before row access target h go) K ≡ no_row
+not_before_it row access target h go K l = ap (λ b. bind (if b then Sub (Locate access target h) (on_address go) else no_row) K) (le-ltb access row l)
 
 -- a row that is to stand after another one
 pub after_it : (a b : ℕ) (t : Tree) (K : Out → Tree) → a < b → bind (if nat_lt a b then t else no_row) K ≡ bind t K

@@ -1,3 +1,4 @@
+pub mod Records
 pub mod Rest
 pub mod Stops
 pub mod Turns

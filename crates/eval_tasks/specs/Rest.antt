@@ -14,7 +14,8 @@ use Rattle.program_meaning.specs.Tree.{Out, Nothing, Scalar, Cells, Address, Jum
 use Rattle.program_meaning.specs.Tree.{Tree, Ret, Sub, Enter, doing, bind}
 use Rattle.program_meaning.specs.Tree as parts
 use Rattle.program_meaning.specs.Values.{truth, is_true, signed, function_of, members_added, texts_compared}
-use Rattle.program_meaning.specs.Cells.{writes, assign, component, frame_out, routine_out}
+use Rattle.program_meaning.specs.Variants.{assign_to, tag_accessed}
+use Rattle.program_meaning.specs.Cells.{writes, component, frame_out, routine_out}
 use Rattle.program_meaning.specs.Accesses.{
   no_row,
   spend,
@@ -26,7 +27,7 @@ use Rattle.program_meaning.specs.Accesses.{
   scalar,
   address,
   with_components,
-  field_in,
+  locate_field,
   value_at,
 }
 use Rattle.program_meaning.specs.Expressions.{result_of, with_frame_size, enter, on_actual, gather}
@@ -43,8 +44,10 @@ use Rattle.program_meaning.specs.Statements.{
   turn_after,
   of_statement,
   line_of,
+  inside,
 }
 use Rattle.program_meaning.specs.Run.{return_of}
+use Rattle.eval_tasks.specs.Records.{without_last}
 use Rattle.eval_rules.specs.Operators.{dyadic_of}
 use Rattle.eval_tasks.specs.declared.body.Body.{Body}
 use Rattle.eval_tasks.specs.declared.tasks.Home.{Home}
@@ -66,7 +69,7 @@ use Rattle.eval_tasks.specs.declared.tasks.Task.{Task}
 use Rattle.eval_tasks.specs.declared.tasks.Task.TheVariants as tasks
 
 abbrev pub here : Home → (line : ℕ) → Here
-here home line = record { line = line; base = home.base }
+here home line = record { line = line; base = home.base; records = home.records }
 
 -- the value, or the list, that was the last to wait, and those below it
 abbrev pub top : List Value → Value
@@ -109,7 +112,8 @@ abbrev pub located : ProgramRows → Home → Located → List Value → (addr :
 located p home (locateds.Value of' line) l addr = value_at line addr (type_at p of')
 located p home (locateds.Index index array line) l addr = spend (here home line) (eval index (here home line) (λ v.
     with_components p (type_at p array) (λ a. doing line (component a addr v) address)))
-located p home (locateds.Field field line) l addr = spend (here home line) (field_in p addr (row_at p field))
+located p home (locateds.Field field target line) l addr =
+    spend (here home line) (locate_field p target line addr field)
 located p home (locateds.Passed next line) l addr = pass home next line (l ++ value.Place addr ∷ [])
 
 abbrev pub exec : Home → (row line : ℕ) → Tree
@@ -195,10 +199,13 @@ after p home (tasks.Texts order line) vs ls = on_cells (λ ys.
     result_of (here home line) (texts_compared order (top_list ls) ys))
 after p home (tasks.Choice t) vs ls = on_scalar (choice p home t (top vs))
 after p home (tasks.Target target of' line) vs ls = on_value p (here home line) target of'
-after p home (tasks.Put of' line) vs ls = on_address (λ addr.
-    finally (here home line) (assign p (type_at p of') addr (top vs)))
+after p home (tasks.Put target of' line) vs ls = on_address (λ addr.
+    finally (here home line) (assign_to p (tag_accessed p (row_at p target)) (type_at p of') addr (top vs)))
 after p home (tasks.PutCells line) vs ls = on_address (λ addr. finally (here home line) (writes addr (top_list ls)))
+after p home (tasks.Record next body line) vs ls = on_address (λ addr.
+    Sub (parts.Establish next body (inside (here home line) addr)) Ret)
 after p home (tasks.Next t) vs ls = after_statement p home t vs
+after p home tasks.Leave vs ls = Ret
 
 -- the values that wait below those that a task holds
 abbrev pub values_below : Task → List Value → List Value
@@ -207,7 +214,7 @@ values_below (tasks.Operand (operands.Member next line)) vs = below vs
 values_below (tasks.Operand (operands.First last next line)) vs = below vs
 values_below (tasks.Range next line) vs = below (below vs)
 values_below (tasks.Choice (choices.Last turns line)) vs = below vs
-values_below (tasks.Put of' line) vs = below vs
+values_below (tasks.Put target of' line) vs = below vs
 values_below (tasks.Next (nexts.Counted row line)) vs = below (below vs)
 values_below t vs = vs
 
@@ -219,6 +226,18 @@ lists_below (tasks.PutCells line) ls = below ls
 lists_below (tasks.Texts order line) ls = below ls
 lists_below t ls = ls
 
+-- without the innermost record that a with statement has established, and without any
+abbrev pub left : Home → Home
+left home = record home { records = without_last home.records }
+
+abbrev pub bare : Home → Home
+bare home = record home { records = [] }
+
+-- where what is below a task is at work
+abbrev pub home_below : Task → Home → Home
+home_below tasks.Leave home = left home
+home_below t home = home
+
 -- how the body's routine returns, once its statement part has ended
 abbrev pub returns : ProgramRows → Home → Option Routine → Tree
 returns p home None = no_row
@@ -228,7 +247,7 @@ returns p home (Some r) = return_of p home.base r r.result
 abbrev pub resume : ProgramRows → Home → List Task → List Value → List (List Value) → Out → Tree
 resume p home [] vs ls out = on_normal (returns p home (routine_at p home.routine)) out
 resume p home (t ∷ ts) vs ls out =
-    bind (after p home t vs ls out) (resume p home ts (values_below t vs) (lists_below t ls))
+    bind (after p home t vs ls out) (resume p (home_below t home) ts (values_below t vs) (lists_below t ls))
 
 -- ---- what is at work
 
@@ -252,16 +271,19 @@ came p home (way.Jump label base) ts vs ls = resume p home ts vs ls (Jump label 
 -- a part begins
 abbrev pub begun : ProgramRows → Home → Part → List Task → List Value → List (List Value) → Tree
 begun p home (part.Eval row line) ts vs ls = Sub (parts.Eval row (here home line)) (resume p home ts vs ls)
-begun p home (part.Locate row line) ts vs ls = Sub (parts.Locate row (here home line)) (resume p home ts vs ls)
+begun p home (part.Locate row target line) ts vs ls =
+    Sub (parts.Locate row target (here home line)) (resume p home ts vs ls)
 begun p home (part.Pass at line) ts vs ls =
     Sub (parts.Pass at (top_list ls) (here home line)) (resume p home ts vs (below ls))
 begun p home (part.Gather at line) ts vs ls =
     Sub (parts.Gather at (top vs) (here home line)) (resume p home ts (below vs) ls)
+begun p home (part.Establish at body line) ts vs ls =
+    Sub (parts.Establish at body (here home line)) (resume p home ts vs ls)
 begun p home (part.Exec row line) ts vs ls = Sub (parts.Exec row (here home line)) (resume p home ts vs ls)
 begun p home (part.Sequence first at line) ts vs ls =
     Sub (parts.Sequence first at (here home line)) (resume p home ts vs ls)
 begun p home (part.Turn row line) ts vs ls = Sub (parts.Turn row (here home line)) (resume p home ts vs ls)
-begun p home part.Block ts vs ls = Sub (parts.Body home.routine home.base) (resume p home ts vs ls)
+begun p home part.Block ts vs ls = Sub (parts.Body home.routine home.base) (resume p (bare home) ts vs ls)
 
 abbrev pub at_work : ProgramRows → Home → Now → List Task → List Value → List (List Value) → Tree
 at_work p home (Begin part) ts vs ls = begun p home part ts vs ls

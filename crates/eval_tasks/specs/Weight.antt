@@ -27,10 +27,11 @@ operand_most = 17179869196
 -- without a step between.
 abbrev pub part_weight : Part → ℕ
 part_weight (part.Eval row line) = 4 * row + 8
-part_weight (part.Locate row line) = 4 * row + 4
+part_weight (part.Locate row target line) = 4 * row + 4
 part_weight (part.Pass at line) = come + 1
 part_weight (part.Gather at line) = come + 1
 part_weight (part.Exec row line) = 2 * (4294967296 - row)
+part_weight (part.Establish at body line) = come + 1
 part_weight (part.Sequence first at line) = come + 1
 part_weight (part.Turn row line) = come + 4
 part_weight part.Block = 0
@@ -45,6 +46,7 @@ task_weight (tasks.Located (locateds.Passed next line)) = 2
 task_weight (tasks.Actual of' next line) = 2
 task_weight (tasks.Operand (operands.Member next line)) = 2
 task_weight (tasks.Range next line) = 2
+task_weight (tasks.Record next body line) = 4
 task_weight (tasks.Choice (choices.Until row line)) = 5
 task_weight (tasks.Next (nexts.Sequence first at line)) = 2
 task_weight (tasks.Next (nexts.Again row line)) = 5

@@ -10,11 +10,13 @@ ghost use Rattle.program_meaning.specs.Accesses.{address, no_row, scalar};
 ghost use Rattle.program_meaning.specs.Statements.{nothing};
 ghost use Rattle.program_meaning.specs.Run.{Ended, whole};
 ghost use Rattle.eval_ops.specs.Machines.{DoesAll, Moment};
-ghost use Rattle.eval_tasks.specs.Rest.{at_work, below, from, from_under, lists_of, lists_below, rest_of, resume};
+ghost use Rattle.eval_tasks.specs.Rest.{at_work, below, from, from_under, home_below, lists_of, lists_below};
+ghost use Rattle.eval_tasks.specs.Rest.{rest_of, resume};
 ghost use Rattle.eval_tasks.specs.Rest.{tasks_of, top, top_list, values_below, values_of, waiting};
 ghost use Rattle.eval_tasks.specs.Turns.{Turns, end_of};
 ghost use Rattle.eval_tasks.specs.Weight.{Falls, body_weight, come, left_with, now_weight, task_weight, tasks_weight};
 
+use crate::records::Records;
 use crate::tasks::{Choice, Home, Located, Next, Now, Operand, Part, Pause, Task, Way};
 use cell_value::{Cells, Kind, Value, WayOut};
 use eval_ops::Halt;
@@ -50,7 +52,11 @@ impl Body {
             → rest_of p result ≡ whole p routine base r }
     {
         Body {
-            home: Home { routine, base },
+            home: Home {
+                routine,
+                base,
+                records: Records::new(alloc),
+            },
             tasks: Vec::new(alloc),
             values: Vec::new(alloc),
             lists: Vec::new(alloc),
@@ -252,7 +258,7 @@ impl Body {
         ensures values { values_of self.new ≡ values_below task (values_of self.old) }
         ensures lists { lists_of self.new ≡ lists_below task (lists_of self.old) }
         ensures tasks { self.new.tasks.items ≡ self.old.tasks.items }
-        ensures home { self.new.home ≡ self.old.home }
+        ensures home { self.new.home ≡ home_below task self.old.home }
     {
         match task {
             Task::Operand(Operand::Both { .. }) => self.drop_value(),
@@ -272,6 +278,7 @@ impl Body {
                 self.drop_value();
                 self.drop_value();
             }
+            Task::Leave => self.home.records.leave(),
             _ => {}
         }
     }

@@ -3,7 +3,9 @@
 #![tactic(auto)]
 
 mod body;
+mod records;
 mod tasks;
 
 pub use body::{Body, Turned};
+pub use records::Records;
 pub use tasks::{Choice, Home, Located, Next, Now, Operand, Part, Pause, Stop, Task, Way};

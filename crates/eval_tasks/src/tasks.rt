@@ -3,13 +3,15 @@
 use cell_value::{Cells, Order, Value, WayOut};
 use eval_rules::Dyadic;
 use program_tables::rows::OrdinalFunction;
+use crate::records::Records;
 use std::mem::size_of;
 
-/// The routine that a body is of, and where its frame begins.
-#[derive(Clone, Copy, Debug, PartialEq, Eq)]
+/// The routine that a body is of, where its frame begins, and the records of the with statements at work.
+#[derive(Drop)]
 pub struct Home {
     pub routine: u32,
     pub base: u32,
+    pub records: Records,
 }
 
 /// A part of the program that begins, by the number of its row. `line` is that of the innermost statement at work.
@@ -17,14 +19,16 @@ pub struct Home {
 pub enum Part {
     /// The value of an expression.
     Eval { row: u32, line: u32 },
-    /// The variable that an access denotes.
-    Locate { row: u32, line: u32 },
+    /// The variable that an access denotes, which may be a target.
+    Locate { row: u32, target: bool, line: u32 },
     /// The actual parameters from an item on. The cells of those before it are the last list that waits.
     Pass { at: u32, line: u32 },
     /// The members of a set constructor from an item on. The set of those before it is the last value that waits.
     Gather { at: u32, line: u32 },
     /// A statement.
     Exec { row: u32, line: u32 },
+    /// The records of a with statement from an item on, and then its body.
+    Establish { at: u32, body: u32, line: u32 },
     /// The statements from an item on, of the sequence that begins with the first item.
     Sequence { first: u32, at: u32, line: u32 },
     /// A further turn of a while or repeat statement.
@@ -105,7 +109,7 @@ pub enum Located {
     /// Its value is wanted.
     Value { of: u32, line: u32 },
     Index { index: u32, array: u32, line: u32 },
-    Field { field: u32, line: u32 },
+    Field { field: u32, target: bool, line: u32 },
     /// It is an actual variable parameter. The cells of the actuals before it are the last list that waits.
     Passed { next: u32, line: u32 },
 }
@@ -216,8 +220,9 @@ pub enum Task {
         of: u32,
         line: u32,
     },
-    /// The last value that waits goes to a variable of a type.
+    /// The last value that waits goes to the target of an assignment.
     Put {
+        target: u32,
         of: u32,
         line: u32,
     },
@@ -225,7 +230,15 @@ pub enum Task {
     PutCells {
         line: u32,
     },
+    /// The record of a with statement, before the further ones from an item on and its body.
+    Record {
+        next: u32,
+        body: u32,
+        line: u32,
+    },
     Next(Next),
+    /// The end of what is inside of the last record of a with statement.
+    Leave,
 }
 
 const _: () = prove!(size_of::<Task>() <= 24);

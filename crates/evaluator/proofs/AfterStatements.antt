@@ -4,7 +4,8 @@ use Rattle.cell_value.specs.declared.values.Value.{Value}
 use Rattle.program_tables.specs.ProgramRows.{ProgramRows}
 use Rattle.program_meaning.specs.Tree.{Out, Tree, Ret}
 use Rattle.program_meaning.specs.Tree as parts
-use Rattle.eval_tasks.specs.Rest.{after, after_statement}
+use Rattle.eval_tasks.specs.Rest.{after, after_statement, home_below}
+use Rattle.eval_tasks.specs.Records.{SameFrame}
 use Rattle.eval_tasks.specs.Weight.{task_weight}
 use Rattle.eval_tasks.specs.declared.tasks.Home.{Home}
 use Rattle.eval_tasks.specs.declared.tasks.Next.{Next}
@@ -51,7 +52,13 @@ each_weighs (tasks.Located (locateds.Passed next line)) = omega arith
 each_weighs (tasks.Actual of' next line) = omega arith
 each_weighs (tasks.Operand (operands.Member next line)) = omega arith
 each_weighs (tasks.Range next line) = omega arith
+each_weighs (tasks.Record next body line) = omega arith
 each_weighs (tasks.Choice (choices.Until row line)) = omega arith
 each_weighs (tasks.Next (nexts.Sequence first at line)) = omega arith
 each_weighs (tasks.Next (nexts.Again row line)) = omega arith
 each_weighs t = omega arith
+
+-- what is below a task is in the same frame
+pub same_below : (t : Task) (home : Home) → SameFrame (home_below t home) home
+same_below tasks.Leave home = record { routine = refl; base = refl }
+same_below t home = record { routine = refl; base = refl }

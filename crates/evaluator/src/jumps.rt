@@ -2,6 +2,7 @@
 
 ghost use Rattle.std.specs.Prelude.{◌≡◌, ◌==◌, ◌&&◌, ◌+◌, None, Some};
 ghost use Rattle.eval_ops.specs.Machines.{Moment};
+ghost use Rattle.eval_tasks.specs.Records.{SameFrame};
 ghost use Rattle.eval_tasks.specs.Rest.{from_under};
 ghost use Rattle.eval_tasks.specs.Turns.{Turns};
 ghost use Rattle.eval_tasks.specs.Weight.{Falls, body_weight, come, task_weight, tasks_weight};
@@ -30,7 +31,7 @@ pub(crate) fn leap(
     ensures turns { (m : Moment) → Turns program.now
         (from_under program.now body.old (Now.Came (Way.Jump label base)) task) m result body.new m }
     ensures falls { Falls result (body_weight body.new) (come + task_weight task + tasks_weight body.old) }
-    ensures home { body.new.home ≡ body.old.home }
+    ensures frame { SameFrame body.new.home body.old.home }
 {
     match task {
         Task::Next(next) => land(body, alloc, program, next, label, base),

@@ -5,6 +5,7 @@ ghost use Rattle.program_tables.specs.ProgramRows.{ProgramRows};
 ghost use Rattle.program_meaning.specs.Run.{Ended};
 ghost use Rattle.program_meaning.specs.State.{State};
 ghost use Rattle.eval_ops.specs.Machines.{IsReady, machine_state, moment_of};
+ghost use Rattle.eval_tasks.specs.Records.{SameFrame};
 ghost use Rattle.eval_tasks.specs.Stops.{StopsAt};
 ghost use Rattle.eval_tasks.specs.Rest.{from, from_under, rest_of};
 ghost use Rattle.eval_tasks.specs.Turns.{HasRoom, PausesInRoom, Turns, end_of, ended_by, pause_of, stop_of};
@@ -20,8 +21,8 @@ use eval_expressions::{
 };
 use eval_ops::{Halt, Machine, spend};
 use eval_statements::{
-    carry, continue_statement, execute, follow_statement, locate_target, locate_target_cells, put,
-    put_cells, sequence, turn_again,
+    begin_record, carry, continue_statement, establish, execute, follow_statement, leave,
+    locate_target, locate_target_cells, put, put_cells, sequence, turn_again,
 };
 use eval_tasks::{Body, Now, Part, Pause, Stop, Task, Turned, Way};
 use program_tables::Program;
@@ -38,7 +39,7 @@ pub fn go_on(
     ensures stops { IfOk result (λ s. StopsAt program.now (rest_of program.now body.old) (moment_of machine.old)
         (stop_of program.now body.new s) (moment_of machine.new)) }
     ensures room { IfOk result (λ s. HasRoom program.now s (machine_state machine.new)) }
-    ensures home { body.new.home ≡ body.old.home }
+    ensures frame { SameFrame body.new.home body.old.home }
     ensures ready { IsReady machine.new }
 {
     'turns: loop {
@@ -60,7 +61,7 @@ pub fn go_on(
 fn stop_at(body: &mut Body, alloc: Global, pause: Pause) -> Stop
     ensures stop { (p : ProgramRows) → stop_of p body.new result ≡ pause_of p body.old pause }
     ensures room { (p : ProgramRows) (σ : State) → PausesInRoom p pause σ → HasRoom p result σ }
-    ensures home { body.new.home ≡ body.old.home }
+    ensures frame { SameFrame body.new.home body.old.home }
 {
     match pause {
         Pause::Line(line) => Stop::Line(line),
@@ -89,7 +90,7 @@ fn turn(body: &mut Body, alloc: Global, program: &Program, machine: &mut Machine
     ensures turns { Turns program.now (rest_of program.now body.old) (moment_of machine.old) result body.new
         (moment_of machine.new) }
     ensures falls { Falls result (left_of body.new machine.new) (left_of body.old machine.old) }
-    ensures home { body.new.home ≡ body.old.home }
+    ensures frame { SameFrame body.new.home body.old.home }
     ensures ready { IsReady machine.new }
 {
     match body.now {
@@ -112,15 +113,22 @@ fn begin(
         body.new (moment_of machine.new) }
     ensures falls { Falls result (left_of body.new machine.new)
         (left_with machine.old.steps (part_weight part + tasks_weight body.old)) }
-    ensures home { body.new.home ≡ body.old.home }
+    ensures frame { SameFrame body.new.home body.old.home }
     ensures ready { IsReady machine.new }
 {
     match part {
         Part::Eval { row, line } => evaluate(body, alloc, program, machine, row, line),
-        Part::Locate { row, line } => locate(body, program, machine, row, line),
+        Part::Locate { row, target, line } => locate(
+            body, alloc, program, machine, row, target, line,
+        ),
         Part::Pass { at, line } => pass_actuals(body, alloc, program, machine, at, line),
         Part::Gather { at, line } => gather(body, program, at, line),
         Part::Exec { row, line } => execute(body, program, machine, row, line),
+        Part::Establish {
+            at,
+            body: inner,
+            line,
+        } => begin_record(body, program, at, inner, line),
         Part::Sequence { first, at, line } => sequence(body, program, first, at, line),
         Part::Turn { row, line } => turn_again(body, program, row, line),
         Part::Block => block(body, program, machine),
@@ -134,9 +142,10 @@ fn block(body: &mut Body, program: &Program, machine: &mut Machine) -> Turned
         result body.new (moment_of machine.new) }
     ensures falls { Falls result (left_of body.new machine.new)
         (left_with machine.old.steps (part_weight Part.Block + tasks_weight body.old)) }
-    ensures home { body.new.home ≡ body.old.home }
+    ensures frame { SameFrame body.new.home body.old.home }
     ensures ready { IsReady machine.new }
 {
+    body.home.records.leave_all();
     match program.routine(body.home.routine) {
         None => body.no_row(),
         Some(routine) => match spend(machine, 1) {
@@ -163,7 +172,7 @@ fn came(
         body.new (moment_of machine.new) }
     ensures falls { Falls result (left_of body.new machine.new)
         (left_with machine.old.steps (come + tasks_weight body.old)) }
-    ensures home { body.new.home ≡ body.old.home }
+    ensures frame { SameFrame body.new.home body.old.home }
     ensures ready { IsReady machine.new }
 {
     match body.tasks.pop() {
@@ -186,7 +195,7 @@ fn work(
         (moment_of machine.old) result body.new (moment_of machine.new) }
     ensures falls { Falls result (left_of body.new machine.new)
         (left_with machine.old.steps (come + task_weight task + tasks_weight body.old)) }
-    ensures home { body.new.home ≡ body.old.home }
+    ensures frame { SameFrame body.new.home body.old.home }
     ensures ready { IsReady machine.new }
 {
     match way {
@@ -211,11 +220,12 @@ fn after_nothing(
         (moment_of machine.old) result body.new (moment_of machine.new) }
     ensures falls { Falls result (left_of body.new machine.new)
         (left_with machine.old.steps (come + task_weight task + tasks_weight body.old)) }
-    ensures home { body.new.home ≡ body.old.home }
+    ensures frame { SameFrame body.new.home body.old.home }
     ensures ready { IsReady machine.new }
 {
     match task {
         Task::Next(next) => follow_statement(body, alloc, program, machine, next),
+        Task::Leave => leave(body, Way::Nothing),
         _ => body.no_row(),
     }
 }
@@ -234,7 +244,7 @@ fn after_scalar(
         (moment_of machine.old) result body.new (moment_of machine.new) }
     ensures falls { Falls result (left_of body.new machine.new)
         (left_with machine.old.steps (come + task_weight task + tasks_weight body.old)) }
-    ensures home { body.new.home ≡ body.old.home }
+    ensures frame { SameFrame body.new.home body.old.home }
     ensures ready { IsReady machine.new }
 {
     match task {
@@ -244,6 +254,7 @@ fn after_scalar(
         Task::Choice(choice) => continue_statement(body, alloc, program, machine, choice, value),
         Task::Target { target, of, line } => locate_target(body, program, target, of, line, value),
         Task::Next(next) => follow_statement(body, alloc, program, machine, next),
+        Task::Leave => leave(body, Way::Scalar(value)),
         _ => body.no_row(),
     }
 }
@@ -262,14 +273,22 @@ fn after_address(
         (moment_of machine.old) result body.new (moment_of machine.new) }
     ensures falls { Falls result (left_of body.new machine.new)
         (left_with machine.old.steps (come + task_weight task + tasks_weight body.old)) }
-    ensures home { body.new.home ≡ body.old.home }
+    ensures frame { SameFrame body.new.home body.old.home }
     ensures ready { IsReady machine.new }
 {
     match task {
         Task::Located(located) => continue_access(body, alloc, program, machine, located, addr),
-        Task::Put { of, line } => put(body, alloc, program, machine, of, line, addr),
+        Task::Put { target, of, line } => put(
+            body, alloc, program, machine, target, of, line, addr,
+        ),
+        Task::Record {
+            next,
+            body: inner,
+            line,
+        } => establish(body, next, inner, line, addr),
         Task::PutCells { line } => put_cells(body, alloc, program, machine, line, addr),
         Task::Next(next) => follow_statement(body, alloc, program, machine, next),
+        Task::Leave => leave(body, Way::Address(addr)),
         _ => body.no_row(),
     }
 }
@@ -287,7 +306,7 @@ fn after_cells(
         (moment_of machine.old) result body.new (moment_of machine.new) }
     ensures falls { Falls result (left_of body.new machine.new)
         (left_with machine.old.steps (come + task_weight task + tasks_weight body.old)) }
-    ensures home { body.new.home ≡ body.old.home }
+    ensures frame { SameFrame body.new.home body.old.home }
     ensures ready { IsReady machine.new }
 {
     match task {
@@ -316,6 +335,7 @@ fn after_cells(
             body.drop_list(alloc);
             follow_statement(body, alloc, program, machine, next)
         }
+        Task::Leave => leave(body, Way::Cells),
         _ => body.no_row(),
     }
 }

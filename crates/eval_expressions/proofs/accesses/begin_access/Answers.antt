@@ -9,14 +9,14 @@ use Rattle.eval_expressions.proofs.accesses.begin_access.Goals as goal
 pub returns-in-Variable-clause-turns : goal.returns-in-Variable-clause-turns
 returns-in-Variable-clause-turns c =
     turns_same c.args.program.now _ _ _ _ c.variable.result c.variable.new.body
-    (ap (λ e. bind (of_access c.args.program.now c.args.row (here c.args.body.now.home c.args.line) e) (waiting c.args.program.now c.args.body.now))
+    (ap (λ e. bind (of_access c.args.program.now c.args.row c.args.target (here c.args.body.now.home c.args.line) e) (waiting c.args.program.now c.args.body.now))
     c.in-Variable.is)
     c.variable.ensures.turns
 
 pub returns-in-Reference-clause-turns : goal.returns-in-Reference-clause-turns
 returns-in-Reference-clause-turns c =
     turns_same c.args.program.now _ _ _ _ c.reference.result c.reference.new.body
-    (ap (λ e. bind (of_access c.args.program.now c.args.row (here c.args.body.now.home c.args.line) e) (waiting c.args.program.now c.args.body.now))
+    (ap (λ e. bind (of_access c.args.program.now c.args.row c.args.target (here c.args.body.now.home c.args.line) e) (waiting c.args.program.now c.args.body.now))
     c.in-Reference.is)
     c.reference.ensures.turns
 
@@ -25,8 +25,8 @@ returns-then-access-row-clause-turns c =
     let p = c.args.program.now in
     let h = here c.args.body.now.home c.args.line in
     turns_same p _ _ _ _ c.wait.result c.wait.new.self
-    (ap (λ e. bind (of_access p c.args.row h e) (waiting p c.args.body.now)) c.in-Index.is
-    ∙ before_it c.args.row c.in-Index.access h (located p c.args.body.now.home (locateds.Index c.in-Index.index c.in-Index.array c.args.line)
+    (ap (λ e. bind (of_access p c.args.row c.args.target h e) (waiting p c.args.body.now)) c.in-Index.is
+    ∙ before_it c.args.row c.in-Index.access c.args.target h (located p c.args.body.now.home (locateds.Index c.in-Index.index c.in-Index.array c.args.line)
     (top_list (lists_of c.args.body.now))) (waiting p c.args.body.now) c.if-access-row.true)
     (c.wait.ensures.turns p _)
 
@@ -35,7 +35,14 @@ returns-then-access-row-2-clause-turns c =
     let p = c.args.program.now in
     let h = here c.args.body.now.home c.args.line in
     turns_same p _ _ _ _ c.wait-then-access-row-2.result c.wait-then-access-row-2.new.self
-    (ap (λ e. bind (of_access p c.args.row h e) (waiting p c.args.body.now)) c.in-Field.is
-    ∙ before_it c.args.row c.in-Field.access h (located p c.args.body.now.home (locateds.Field c.in-Field.field c.args.line)
+    (ap (λ e. bind (of_access p c.args.row c.args.target h e) (waiting p c.args.body.now)) c.in-Field.is
+    ∙ before_it c.args.row c.in-Field.access c.args.target h (located p c.args.body.now.home (locateds.Field c.in-Field.field c.args.target c.args.line)
     (top_list (lists_of c.args.body.now))) (waiting p c.args.body.now) c.if-access-row-2.true)
     (c.wait-then-access-row-2.ensures.turns p _)
+
+pub returns-in-Within-clause-turns : goal.returns-in-Within-clause-turns
+returns-in-Within-clause-turns c =
+    turns_same c.args.program.now _ _ _ _ c.within.result c.within.new.body
+    (ap (λ e. bind (of_access c.args.program.now c.args.row c.args.target (here c.args.body.now.home c.args.line) e)
+    (waiting c.args.program.now c.args.body.now)) c.in-Within.is)
+    c.within.ensures.turns

@@ -1,8 +1,8 @@
 use Rattle.program_meaning.specs.Tree.{Address}
 use Rattle.std.proofs.Common.{◌∷◌, sym, ap, ◌∙◌}
-use Rattle.program_tables.specs.ProgramRows.{row_at, type_at}
+use Rattle.program_tables.specs.ProgramRows.{type_at}
 use Rattle.program_meaning.specs.Tree.{bind, doing}
-use Rattle.program_meaning.specs.Accesses.{eval, address, value_at, field_in, with_components}
+use Rattle.program_meaning.specs.Accesses.{eval, address, value_at, locate_field, with_components}
 use Rattle.program_meaning.specs.Cells as action
 use Rattle.eval_ops.specs.Machines.{moment_of}
 use Rattle.eval_tasks.specs.Rest.{here, waiting, resume, tasks_of, values_of, lists_of}
@@ -43,7 +43,6 @@ returns-in-Ok-spend-clause-turns c =
     turns_after p _ _ _ _ _ c.locate_field.result c.locate_field.new.body
     (comes_then (comes_same (ap (λ t. resume c.args.program.now c.args.body.now.home (tasks.Located t ∷ tasks_of c.args.body.now)
     (values_of c.args.body.now) (lists_of c.args.body.now) (Address c.args.addr)) c.in-Field.is))
-    (comes_then (spent p h (field_in p c.args.addr (row_at p c.in-Field.field)) (waiting p c.args.body.now) (moment_of c.args.machine.now)
-    (moment_of c.spend-in-Field.new.machine) c.in-Ok-spend.ensures.act)
-    (comes_same (ap (λ r. bind (field_in p c.args.addr r) (waiting p c.args.body.now)) (sym c.row.ensures)))))
-    (c.locate_field.ensures.turns _)
+    (spent p h (locate_field p c.in-Field.target c.in-Field.line c.args.addr c.in-Field.field) (waiting p c.args.body.now)
+    (moment_of c.args.machine.now) (moment_of c.spend-in-Field.new.machine) c.in-Ok-spend.ensures.act))
+    c.locate_field.ensures.turns

@@ -42,6 +42,12 @@ returns-in-For-clause-turns c = rw c.in-For.is (c.begin_for.ensures.turns (momen
 pub returns-in-For-clause-falls : goal.returns-in-For-clause-falls
 returns-in-For-clause-falls c = falls_so c.begin_for.result _ _ _ _ (λ h. omega (arith, h)) c.begin_for.ensures.falls
 
+pub returns-in-With-clause-turns : goal.returns-in-With-clause-turns
+returns-in-With-clause-turns c = rw c.in-With.is (c.go-in-With.ensures.turns c.args.program.now (moment_of c.args.machine.now))
+
+pub returns-in-With-clause-falls : goal.returns-in-With-clause-falls
+returns-in-With-clause-falls c = falls_so c.go-in-With.result _ _ _ _ (λ h. omega (arith, h)) c.go-in-With.ensures.falls
+
 pub returns-in_default-clause-turns : goal.returns-in_default-clause-turns
 returns-in_default-clause-turns c =
     let p = c.args.program.now in
@@ -58,6 +64,7 @@ returns-in_default-clause-turns c =
       for' = c.in_default.not-For;
       call_formal = c.in_default.not-CallFormal;
       goto = c.in_default.not-Goto;
+      with' = c.in_default.not-With;
     })))
     (c.no_row.ensures.turns p _)
 

@@ -1,4 +1,4 @@
-use Rattle.std.proofs.Common.{arith}
+use Rattle.std.proofs.Common.{arith, []}
 use Rattle.program_meaning.specs.Statements as meaning
 use Rattle.eval_ops.specs.Machines.{moment_of}
 use Rattle.eval_tasks.specs.Rest.{from}
@@ -9,7 +9,7 @@ use Rattle.eval_statements.proofs.statements.step.Goals as goal
 pub returns-in-Ok-clause-turns : goal.returns-in-Ok-clause-turns
 returns-in-Ok-clause-turns c p =
     turns_after p _ _ (moment_of c.args.machine.now) (moment_of c.spend.new.machine) _ c.go.result c.go.new.self
-    (spent p (record { line = c.args.line; base = 0 }) meaning.nothing (λ _. from p c.args.body.now c.args.now) _ _ c.in-Ok.ensures.act)
+    (spent p (record { line = c.args.line; base = 0; records = [] }) meaning.nothing (λ _. from p c.args.body.now c.args.now) _ _ c.in-Ok.ensures.act)
     (c.go.ensures.turns p (moment_of c.spend.new.machine))
 
 pub returns-in-Ok-clause-falls : goal.returns-in-Ok-clause-falls
@@ -21,7 +21,7 @@ pub returns-in-Err-clause-turns : goal.returns-in-Err-clause-turns
 returns-in-Err-clause-turns c p =
     turns_failed p _ (moment_of c.args.machine.now) (moment_of c.spend.new.machine) c.args.line c.in-Err.halt c.fail.new.self c.fail.result
     c.fail.ensures.line c.fail.ensures.fails
-    (not_spent p (record { line = c.args.line; base = 0 }) meaning.nothing (λ _. from p c.args.body.now c.args.now) c.in-Err.halt _ _ c.in-Err.ensures.act)
+    (not_spent p (record { line = c.args.line; base = 0; records = [] }) meaning.nothing (λ _. from p c.args.body.now c.args.now) c.in-Err.halt _ _ c.in-Err.ensures.act)
 
 pub returns-in-Err-clause-falls : goal.returns-in-Err-clause-falls
 returns-in-Err-clause-falls c =

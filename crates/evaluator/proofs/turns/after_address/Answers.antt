@@ -25,3 +25,8 @@ pub returns-in-Next-clause-falls : goal.returns-in-Next-clause-falls
 returns-in-Next-clause-falls c =
     let e = ap task_weight c.in-Next.is in
     falls_so c.follow_statement.result _ _ _ _ (λ h. omega (arith, h, e)) c.follow_statement.ensures.falls
+
+pub returns-in-Record-clause-turns : goal.returns-in-Record-clause-turns
+returns-in-Record-clause-turns c = turns_same c.args.program.now _ _ _ _ c.establish.result c.establish.new.body
+    (ap (from_under c.args.program.now c.args.body.now (Came (way.Address c.args.addr))) c.in-Record.is)
+    (c.establish.ensures.turns c.args.program.now _)

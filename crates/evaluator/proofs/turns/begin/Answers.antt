@@ -19,3 +19,7 @@ returns-in-Turn-clause-turns c = turns_same c.args.program.now _ _ _ _ c.turn_ag
 pub returns-in-Gather-clause-turns : goal.returns-in-Gather-clause-turns
 returns-in-Gather-clause-turns c = turns_same c.args.program.now _ _ _ _ c.gather.result c.gather.new.body
     (ap (λ q. from c.args.program.now c.args.body.now (Begin q)) c.in-Gather.is) (c.gather.ensures.turns _)
+
+pub returns-in-Establish-clause-turns : goal.returns-in-Establish-clause-turns
+returns-in-Establish-clause-turns c = turns_same c.args.program.now _ _ _ _ c.begin_record.result c.begin_record.new.body
+    (ap (λ q. from c.args.program.now c.args.body.now (Begin q)) c.in-Establish.is) (c.begin_record.ensures.turns _)

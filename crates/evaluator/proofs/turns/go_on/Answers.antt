@@ -6,12 +6,15 @@ use Rattle.eval_tasks.proofs.Moves.{comes_same, comes_then, stops_then}
 use Rattle.evaluator.proofs.turns.go_on.Goals as goal
 
 pub turns-init : goal.turns-init
-turns-init c = record { came = comes_same refl; home = refl; ready = c.requires.ready }
+turns-init c = record { came = comes_same refl; frame = record { routine = refl; base = refl }; ready = c.requires.ready }
 
 pub turns-preserved : goal.turns-preserved
 turns-preserved c = record {
   came = comes_then c.turns.invariant.came (rw c.in-Ok-None.field-0-is at c.in-Ok-None.ensures.turns);
-  home = c.in-Ok-None.ensures.home ∙ c.turns.invariant.home;
+  frame = record {
+    routine = c.in-Ok-None.ensures.frame.routine ∙ c.turns.invariant.frame.routine;
+    base = c.in-Ok-None.ensures.frame.base ∙ c.turns.invariant.frame.base;
+  };
   ready = c.in-Ok-None.ensures.ready;
 }
 

@@ -1,4 +1,4 @@
-use Rattle.std.proofs.Common.{◌≡◌}
+use Rattle.eval_tasks.specs.Records.{SameFrame}
 use Rattle.eval_ops.specs.Machines.{IsReady, moment_of}
 use Rattle.eval_tasks.specs.Rest.{rest_of}
 use Rattle.eval_tasks.specs.Stops.{Comes}
@@ -8,7 +8,7 @@ use Rattle.evaluator.proofs.turns.go_on.Given as goal
 abbrev pub invariant-turns : goal.invariant-turns
 invariant-turns l = record {
   came : Comes l.program (rest_of l.program l.fn.body) (moment_of l.fn.machine) (rest_of l.program l.body) (moment_of l.machine);
-  home : l.body.home ≡ l.fn.body.home;
+  frame : SameFrame l.body.home l.fn.body.home;
   ready : IsReady l.machine;
 }
 
