@@ -2,6 +2,7 @@
 
 ghost use Rattle.std.specs.Prelude.{◌≡◌, ℕ, ◌≤◌, ◌<◌, ◌+◌, OnOk, Some, slice_get};
 ghost use Rattle.program_meaning.specs.State.{heap_end, stack_end};
+ghost use Rattle.program_meaning.specs.Blocks.{cleared, filled};
 ghost use Rattle.program_meaning.specs.Actions.{performs};
 ghost use Rattle.program_meaning.specs.Run as calls;
 ghost use Rattle.eval_ops.specs.Machines.{Does, DoesAll, Gives, HasRoom, IsReady, changed, machine_state, moment_of};
@@ -55,7 +56,7 @@ fn put_cells(
     cells: u32,
 ) -> Result<(), Memory>
     requires fits { base + cells ≤ heap_end }
-    ensures put { OnOk result (store.new ≡ calls.framed base (calls.frame_cells cells args.now) store.old) }
+    ensures put { OnOk result (store.new ≡ filled base (calls.frame_cells cells args.now) store.old) }
 {
     let mut made = Steps::<Uncounted>::new();
     'cells: for i in 0..cells {
@@ -65,9 +66,14 @@ fn put_cells(
 }
 
 /// Removes so many cells from an address on.
-fn remove_cells(alloc: Global, store: &mut Store, base: u32, cells: u32) -> Result<(), Memory>
+pub(crate) fn remove_cells(
+    alloc: Global,
+    store: &mut Store,
+    base: u32,
+    cells: u32,
+) -> Result<(), Memory>
     requires fits { base + cells ≤ heap_end }
-    ensures removed { OnOk result (store.new ≡ calls.unframed base cells store.old) }
+    ensures removed { OnOk result (store.new ≡ cleared base cells store.old) }
 {
     let mut made = Steps::<Uncounted>::new();
     'cells: for i in 0..cells {

@@ -6,6 +6,7 @@ mod calls;
 mod cells;
 mod frames;
 mod halt;
+mod heap;
 mod machine;
 mod sets;
 mod strings;
@@ -15,6 +16,10 @@ pub use calls::{close_call, make_frame, open_call, remove_frame, result_at};
 pub use cells::{assign, ordinal_at, read_cells, set_at, write_cells};
 pub use frames::{cell_out, component, frame_out, moved, reference_out, routine_out};
 pub use halt::Halt;
+pub use heap::{
+    compare_pointers, defined_pointer, dispose, drop_block, make_block, make_variable, pointed_at,
+    pointed_by, pointer_at, pointer_result_at,
+};
 pub use machine::{
     HEAP_END, MOST_CALLS, MOST_DEPTH, Machine, STACK_END, limit_passed, read_cell, spend,
     write_cell,

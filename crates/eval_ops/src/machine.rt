@@ -127,7 +127,7 @@ pub fn read_cell(machine: &mut Machine, addr: u32) -> Result<Value, Halt>
 }
 
 /// Whether there is a cell at an address, which takes a step.
-fn has_cell(machine: &mut Machine, addr: u32) -> Result<bool, Halt>
+pub(crate) fn has_cell(machine: &mut Machine, addr: u32) -> Result<bool, Halt>
     requires ready { IsReady machine.old }
     ensures act { Does (λ there. there) (perform (HasCell addr) (machine_state machine.old)) result
         (moment_of machine.old) (moment_of machine.new) }

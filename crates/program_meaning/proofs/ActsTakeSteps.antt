@@ -5,10 +5,13 @@ use Rattle.std.specs.FinMap.{get}
 use Rattle.cell_value.specs.declared.values.Value.{Value}
 use Rattle.cell_value.specs.declared.entries.Touch.TheVariants as touch
 use Rattle.cell_value.specs.declared.ways_out.Kind.TheVariants as kind
-use Rattle.program_meaning.specs.State.{State, stack_end, is_in_reach}
+use Rattle.cell_value.specs.declared.ways_out.Which.TheVariants.{Heap}
+use Rattle.program_meaning.specs.State.{State, stack_end, heap_end, is_in_reach}
+use Rattle.program_meaning.specs.Blocks.{block_cells, lies_in_heap}
 use Rattle.program_meaning.specs.Acts.{
   Fault,
   OutOfSteps,
+  Limited,
   Act,
   Done,
   Went,
@@ -17,6 +20,8 @@ use Rattle.program_meaning.specs.Acts.{
   ReadCell,
   HasCell,
   WriteCell,
+  MakeBlock,
+  DropBlock,
   perform,
   with_steps,
   on_cell,
@@ -24,6 +29,10 @@ use Rattle.program_meaning.specs.Acts.{
   put,
   put_asked,
   after_touches,
+  make_block,
+  made_block,
+  drop_block,
+  dropped_block,
   spent,
 }
 
@@ -33,6 +42,8 @@ cost (Spend steps) = steps
 cost (ReadCell addr) = 1
 cost (HasCell addr) = 1
 cost (WriteCell addr value) = 1
+cost (MakeBlock cells of') = block_cells cells
+cost (DropBlock addr cells) = block_cells cells
 
 -- where an act is done this many steps fewer are left, and else no more than there were
 abbrev pub Acted : {A : Type 0} → ℕ → State → Done A → Type 0
@@ -75,9 +86,25 @@ written addr value σ τ h = by (nat_lt addr stack_end)
     by true = h
     by false = asked (is_some (get τ.cells addr)) addr value σ τ h
 
+made : (n of' : ℕ) (σ : State) → Acted n σ (make_block n of' σ)
+made n of' σ = by (nat_lt heap_end (σ.fresh + n))
+  where
+    by : (b : Bool) → Acted n σ (if b then Stops (Limited Heap) [] σ else with_steps n σ (made_block n of'))
+    by true = omega arith
+    by false = stepped n σ (made_block n of') (λ τ h. h)
+
+dropped : (addr n : ℕ) (σ : State) → Acted n σ (drop_block addr n σ)
+dropped addr n σ = by (lies_in_heap addr n)
+  where
+    by : (b : Bool) → Acted n σ (if b then with_steps n σ (dropped_block addr n) else Stops (Fault kind.Undefined) [] σ)
+    by true = stepped n σ (dropped_block addr n) (λ τ h. h)
+    by false = omega arith
+
 pub acted : (act : Act) (σ : State) → Acted (cost act) σ (perform act σ)
 acted (Spend steps) σ = stepped steps σ (λ τ. Went tt [] τ) (λ τ h. h)
 acted (ReadCell addr) σ = celled addr σ (λ τ. read_as addr (get σ.cells addr) τ) (λ τ h. found addr (get σ.cells addr) σ τ h)
 acted (HasCell addr) σ = celled addr σ (λ τ. Went (is_some (get σ.cells addr)) (touch.Has addr (is_some (get σ.cells addr)) ∷ []) τ) (λ τ h. h)
 acted (WriteCell addr value) σ = celled addr σ
     (λ τ. if nat_lt addr stack_end then put addr value τ else put_asked (is_some (get τ.cells addr)) addr value τ) (written addr value σ)
+acted (MakeBlock cells of') σ = made (block_cells cells) of' σ
+acted (DropBlock addr cells) σ = dropped addr (block_cells cells) σ

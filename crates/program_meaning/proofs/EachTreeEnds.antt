@@ -218,7 +218,7 @@ module _ (p : ProgramRows) where
   access_fits row here (access.Within record' field of') h = tt
   access_fits row here (access.Index inner index array of') h = locates row inner here _ h
   access_fits row here (access.Field inner field of') h = locates row inner here _ h
-  access_fits row here (access.Dereference inner of') h = tt
+  access_fits row here (access.Dereference inner of') h = locates row inner here _ h
 
   there : (row : ℕ) (here : Here) (r : Row) → row < R → Fits (Locate row here) (access_in p row here r)
   there row here (rows.Access a) h = access_fits row here a h

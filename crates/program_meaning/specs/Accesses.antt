@@ -14,7 +14,7 @@ use Rattle.program_tables.specs.declared.rows.AccessRow.TheVariants.{
   Dereference,
 }
 use Rattle.program_tables.specs.declared.rows.TypeRow.{TypeRow}
-use Rattle.program_tables.specs.declared.rows.TypeRow.TheVariants.{Ordinal, Subrange, Set, Array, Record}
+use Rattle.program_tables.specs.declared.rows.TypeRow.TheVariants.{Ordinal, Subrange, Set, Pointer, Array, Record}
 use Rattle.program_tables.specs.declared.rows.NameRow.TheVariants as named
 use Rattle.program_tables.specs.ProgramRows.{ProgramRows, row_at, type_at, size_of}
 use Rattle.program_meaning.specs.declared.components.Components.{Components}
@@ -37,6 +37,7 @@ use Rattle.program_meaning.specs.Tree.{
   doing,
 }
 use Rattle.program_meaning.specs.Cells.{reads, ordinal_at, set_at, cell_out, reference_out, component}
+use Rattle.program_meaning.specs.Heap.{pointer_at, pointed_at}
 
 -- The tables name a row that they do not have, or that is of another kind. Such tables are no program of a source, so
 -- that the fault has no line.
@@ -103,8 +104,8 @@ abbrev pub field_in : ProgramRows → (addr : ℕ) → Row → Tree
 field_in p addr (rows.Name (named.Field of' offset holder)) = field_of addr offset (type_at p holder)
 field_in p addr r = no_row
 
--- An access, in order of its text: its name and each index and field take a step. An index is evaluated after the
--- variable before it is located.
+-- An access, in order of its text: its name and each index, field and `^` take a step. An index is evaluated after the
+-- variable before it is located, and there a pointer is read.
 abbrev pub of_access : ProgramRows → (row : ℕ) → Here → AccessRow → Tree
 of_access p row here (Variable place levels of') =
     spend here (doing here.line (cell_out levels here.base place) address)
@@ -115,7 +116,8 @@ of_access p row here (Index access index array of') = locate_before row access h
 of_access p row here (Field access field of') = locate_before row access here (λ addr. spend here
     (field_in p addr (row_at p field)))
 of_access p row here (Within record' field of') = no_row
-of_access p row here (Dereference access of') = no_row
+of_access p row here (Dereference access of') = locate_before row access here (λ addr. spend here
+    (doing here.line (pointed_at addr) address))
 
 abbrev pub access_in : ProgramRows → (row : ℕ) → Here → Row → Tree
 access_in p row here (rows.Access a) = of_access p row here a
@@ -134,11 +136,12 @@ type_accessed (Dereference access of') = of'
 abbrev pub cells_at : (line addr cells : ℕ) → Tree
 cells_at line addr cells = doing line (reads [] addr cells) (λ vs. Ret (Cells vs))
 
--- the value of an ordinal variable or of a set (6.5.1), or the values of the cells of an array or a record
+-- the value of an ordinal variable, a set or a pointer (6.5.1), or the values of the cells of an array or a record
 abbrev pub value_at : (line addr : ℕ) → Option TypeRow → Tree
 value_at line addr (Some (Ordinal least greatest)) = doing line (ordinal_at least greatest addr) scalar
 value_at line addr (Some (Subrange host least greatest)) = doing line (ordinal_at least greatest addr) scalar
 value_at line addr (Some (Set packed base)) = doing line (set_at addr) scalar
+value_at line addr (Some (Pointer domain)) = doing line (pointer_at addr) scalar
 value_at line addr (Some (Array packed index component cells)) = cells_at line addr cells
 value_at line addr (Some (Record packed region cells variants)) = cells_at line addr cells
 value_at line addr t = no_row

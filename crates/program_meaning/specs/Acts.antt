@@ -16,17 +16,20 @@ use Rattle.std.specs.Prelude.{
   None,
   is_some,
   nat_lt,
+  replicate,
   if◌then◌else◌,
 }
 use Rattle.std.specs.FinMap.{get, insert}
 use Rattle.cell_value.specs.declared.values.Value.{Value}
+use Rattle.cell_value.specs.declared.values.Value.TheVariants.{Undefined}
 use Rattle.cell_value.specs.declared.entries.Touch.{Touch}
 use Rattle.cell_value.specs.declared.entries.Touch.TheVariants as touch
 use Rattle.cell_value.specs.declared.ways_out.Kind.{Kind}
 use Rattle.cell_value.specs.declared.ways_out.Kind.TheVariants as kind
 use Rattle.cell_value.specs.declared.ways_out.Which.{Which}
-use Rattle.cell_value.specs.declared.ways_out.Which.TheVariants.{Calls, Depth, Stack}
-use Rattle.program_meaning.specs.State.{State, stack_end, most_calls, most_depth, is_in_reach}
+use Rattle.cell_value.specs.declared.ways_out.Which.TheVariants.{Calls, Depth, Stack, Heap}
+use Rattle.program_meaning.specs.State.{State, stack_end, heap_end, most_calls, most_depth, is_in_reach}
+use Rattle.program_meaning.specs.Blocks.{filled, cleared, block_cells, lies_in_heap}
 
 -- why an act or an action is not done, and the run stops for good
 pub data Trouble : Type 0 where
@@ -41,13 +44,20 @@ pub data Act : Type 0 where
   HasCell : (addr : ℕ) → Act
   -- puts a value into a cell; of a cell of the heap it first asks whether it is there
   WriteCell : (addr : ℕ) (value : Value) → Act
+  -- makes a block of the heap for a variable of a type with so many cells, by the number of the type
+  MakeBlock : (cells of' : ℕ) → Act
+  -- drops the block of such a variable, which begins at an address
+  DropBlock : (addr cells : ℕ) → Act
 
--- What an act answers. A cell of the heap that is to be read or written may not be there.
+-- What an act answers. A cell of the heap that is to be read or written may not be there. The answer to the making of a
+-- block is where it begins.
 abbrev pub Answer : Act → Type 0
 Answer (Spend steps) = Unit {0}
 Answer (ReadCell addr) = Option Value
 Answer (HasCell addr) = Bool
 Answer (WriteCell addr value) = Bool
+Answer (MakeBlock cells of') = ℕ
+Answer (DropBlock addr cells) = Unit {0}
 
 -- An act was done, with its answer, what it shows in the log and the state after it; or it was not done, or not
 -- whole, and the run stops.
@@ -98,6 +108,30 @@ put_if false addr value σ = Went false [] σ
 abbrev pub put_asked : Bool → (addr : ℕ) → Value → State → Done Bool
 put_asked there addr value σ = after_touches (touch.Has addr there ∷ []) (put_if there addr value σ)
 
+-- ---- blocks of the heap
+
+-- a block of so many cells is made where the heap is free, none of them with a value
+abbrev pub made_block : (cells of' : ℕ) → State → Done ℕ
+made_block n of' σ = Went σ.fresh (touch.Make σ.fresh n of' ∷ []) (record σ {
+  cells = filled σ.fresh (replicate n Undefined) σ.cells;
+  fresh = σ.fresh + n;
+})
+
+-- A block with a step for each cell. Where it does not fit into the heap it is not made, and takes no step.
+abbrev pub make_block : (cells of' : ℕ) → State → Done ℕ
+make_block n of' σ =
+    if nat_lt heap_end (σ.fresh + n) then Stops (Limited Heap) [] σ
+    else with_steps n σ (made_block n of')
+
+-- the block of so many cells at an address is dropped
+abbrev pub dropped_block : (addr cells : ℕ) → State → Done (Unit {0})
+dropped_block addr n σ = Went tt (touch.Drop addr n ∷ []) (record σ { cells = cleared addr n σ.cells })
+
+-- The same with a step for each cell. Where they do not all lie in the heap it is not done, and takes no step.
+abbrev pub drop_block : (addr cells : ℕ) → State → Done (Unit {0})
+drop_block addr n σ =
+    if lies_in_heap addr n then with_steps n σ (dropped_block addr n) else Stops (Fault kind.Undefined) [] σ
+
 -- what an act does
 abbrev pub perform : (act : Act) → State → Done (Answer act)
 perform (Spend steps) σ = with_steps steps σ (λ τ. Went tt [] τ)
@@ -106,3 +140,5 @@ perform (HasCell addr) σ = on_cell addr σ (λ τ.
     Went (is_some (get σ.cells addr)) (touch.Has addr (is_some (get σ.cells addr)) ∷ []) τ)
 perform (WriteCell addr value) σ = on_cell addr σ (λ τ.
     if nat_lt addr stack_end then put addr value τ else put_asked (is_some (get τ.cells addr)) addr value τ)
+perform (MakeBlock cells of') σ = make_block (block_cells cells) of' σ
+perform (DropBlock addr cells) σ = drop_block addr (block_cells cells) σ

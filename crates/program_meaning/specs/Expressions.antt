@@ -13,6 +13,7 @@ use Rattle.program_tables.specs.declared.rows.ExpressionRow.{ExpressionRow}
 use Rattle.program_tables.specs.declared.rows.ExpressionRow.TheVariants.{
   Constant,
   Text,
+  Nil,
   Sign,
   Not,
   Arithmetic,
@@ -21,6 +22,7 @@ use Rattle.program_tables.specs.declared.rows.ExpressionRow.TheVariants.{
   Compare,
   CompareTexts,
   CompareSets,
+  ComparePointers,
   In,
   Set,
   Apply,
@@ -48,6 +50,7 @@ use Rattle.program_meaning.specs.Values.{
 }
 use Rattle.program_meaning.specs.Actions.{Action, Give, ◌>>=◌}
 use Rattle.program_meaning.specs.Cells.{frame_out, routine_out}
+use Rattle.program_meaning.specs.Heap.{pointers_compared}
 use Rattle.program_meaning.specs.Accesses.{
   no_row,
   spend,
@@ -94,6 +97,7 @@ call_formal p here place levels actuals go = Sub (Pass actuals [] here) (on_cell
 abbrev pub of_expression : ProgramRows → Here → ExpressionRow → Tree
 of_expression p here (Constant n) = scalar (value.Number n)
 of_expression p here (Text token) = Ret (Cells (string_of (text_at p token)))
+of_expression p here Nil = scalar value.Nil
 of_expression p here (Sign minus operand) = eval operand here (λ v. result_of here (signed minus v))
 of_expression p here (Not operand) = eval operand here (λ v. scalar (truth (not (is_true v))))
 of_expression p here (Arithmetic operator left right) =
@@ -106,6 +110,8 @@ of_expression p here (Sets operator left right) =
     eval left here (λ x. eval right here (λ y. result_of here (sets_of operator x y)))
 of_expression p here (CompareSets order left right) =
     eval left here (λ x. eval right here (λ y. result_of here (sets_compared order x y)))
+of_expression p here (ComparePointers equal left right) =
+    eval left here (λ x. eval right here (λ y. result_of here (pointers_compared equal x y)))
 of_expression p here (In left right) =
     eval left here (λ x. eval right here (λ y. result_of here (is_in x y)))
 of_expression p here (CompareTexts order left right) =

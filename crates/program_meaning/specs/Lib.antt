@@ -1,9 +1,11 @@
 pub mod State
+pub mod Blocks
 pub mod Acts
 pub mod Actions
 pub mod Tree
 pub mod Values
 pub mod Cells
+pub mod Heap
 pub mod Accesses
 pub mod Expressions
 pub mod Statements

@@ -26,8 +26,7 @@ use Rattle.std.specs.Prelude.{
   nat_lt,
   if◌then◌else◌,
 }
-use Rattle.std.specs.Ordering.{nat_cmp}
-use Rattle.std.specs.FinMap.{FinMap, insert, remove, empty}
+use Rattle.std.specs.FinMap.{empty}
 use Rattle.cell_value.specs.Arithmetic.{in_range_of}
 use Rattle.cell_value.specs.declared.values.Value.{Value}
 use Rattle.cell_value.specs.declared.values.Value.TheVariants.{Undefined, Nil}
@@ -43,8 +42,10 @@ use Rattle.program_tables.specs.declared.rows.Row.{Row}
 use Rattle.program_tables.specs.declared.rows.Row.TheVariants as rows
 use Rattle.program_tables.specs.declared.rows.PartRow.TheVariants as part
 use Rattle.program_tables.specs.declared.rows.TypeRow.{TypeRow}
+use Rattle.program_tables.specs.declared.rows.TypeRow.TheVariants.{Pointer}
 use Rattle.program_tables.specs.ProgramRows.{ProgramRows, row_at, type_at, routine_at}
 use Rattle.program_meaning.specs.State.{State, stack_end, moved}
+use Rattle.program_meaning.specs.Blocks.{filled, cleared}
 use Rattle.program_meaning.specs.Acts.{
   Fault,
   OutOfSteps,
@@ -75,6 +76,7 @@ use Rattle.program_meaning.specs.Tree.{
   doing,
 }
 use Rattle.program_meaning.specs.Cells.{read}
+use Rattle.program_meaning.specs.Heap.{pointer_result_at}
 use Rattle.program_meaning.specs.Accesses.{scalar, with_bounds}
 use Rattle.program_meaning.specs.Statements.{on_normal, nothing}
 use Rattle.program_meaning.specs.Layer.{layer}
@@ -176,16 +178,6 @@ abbrev pub result_in : End → Option Value
 result_in (Ended (Scalar v)) = Some v
 result_in e = None
 
--- values in the cells from an address on
-abbrev pub framed : ℕ → List Value → FinMap nat_cmp Value → FinMap nat_cmp Value
-framed base [] m = m
-framed base (v ∷ vs) m = framed (base + 1) vs (insert m base v)
-
--- no cells at this many addresses, from an address on
-abbrev pub unframed : ℕ → ℕ → FinMap nat_cmp Value → FinMap nat_cmp Value
-unframed base zero m = m
-unframed base (suc n) m = unframed (base + 1) n (remove m base)
-
 -- the n cells of a frame: the link and the parameters, and then cells of which none has a value
 abbrev pub frame_cells : ℕ → List Value → List Value
 frame_cells n args = take n (args ++ replicate n Undefined)
@@ -201,14 +193,14 @@ closed depth σ = record σ { depth = depth }
 -- a frame of n cells is made at the top, with a step for each cell
 abbrev pub with_frame : ℕ → List Value → State → State
 with_frame n args σ = record σ {
-  cells = framed σ.top (frame_cells n args) σ.cells;
+  cells = filled σ.top (frame_cells n args) σ.cells;
   top = σ.top + n;
   steps = σ.steps - n;
 }
 
 -- the frame of n cells at a base is removed
 abbrev pub without_frame : ℕ → ℕ → State → State
-without_frame base n σ = record σ { cells = unframed base n σ.cells; top = base }
+without_frame base n σ = record σ { cells = cleared base n σ.cells; top = base }
 
 -- a call; the calls below it come after it, in order of entry
 pub record Call : Type 0 where
@@ -272,11 +264,15 @@ or_no_result (Err e) = Fail (Fault kind.UndefinedResult)
 abbrev pub result_at : (least greatest : ℤ) → (addr : ℕ) → Action Value
 result_at least greatest addr = read addr >>= λ v. or_no_result (in_range_of v least greatest)
 
+-- the result of a function of a type, which is the cell at an address
+abbrev pub result_of_type : (line addr : ℕ) → Option TypeRow → Tree
+result_of_type line addr (Some (Pointer domain)) = doing line (pointer_result_at addr) scalar
+result_of_type line addr t = with_bounds t (λ least greatest. doing line (result_at least greatest addr) scalar)
+
 -- how a routine returns: a function by reading its result
 abbrev pub return_of : ProgramRows → (base : ℕ) → Routine → Option ℕ → Tree
 return_of p base r None = nothing
-return_of p base r (Some place) = with_bounds (type_in_heading p (row_at p r.heading)) (λ least greatest.
-    doing r.line (result_at least greatest (moved base place)) scalar)
+return_of p base r (Some place) = result_of_type r.line (moved base place) (type_in_heading p (row_at p r.heading))
 
 -- a routine's statement part in the frame at a base, and its return
 abbrev pub whole : ProgramRows → (routine base : ℕ) → Routine → Tree

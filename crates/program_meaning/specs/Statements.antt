@@ -27,8 +27,10 @@ use Rattle.program_tables.specs.declared.rows.StatementRow.TheVariants.{
   While,
   For,
   Turns,
+  New,
+  Dispose,
 }
-use Rattle.program_tables.specs.ProgramRows.{ProgramRows, row_at, type_at}
+use Rattle.program_tables.specs.ProgramRows.{ProgramRows, row_at, type_at, size_of}
 use Rattle.program_meaning.specs.State.{moved}
 use Rattle.program_meaning.specs.Acts.{Fault}
 use Rattle.program_meaning.specs.Actions.{Action, ◌>>=◌}
@@ -53,6 +55,7 @@ use Rattle.program_meaning.specs.Tree.{
 }
 use Rattle.program_meaning.specs.Values.{or_fault, tested, is_true}
 use Rattle.program_meaning.specs.Cells.{write, writes, assign, frame_out}
+use Rattle.program_meaning.specs.Heap.{made_variable, dispose}
 use Rattle.program_meaning.specs.Accesses.{no_row, spend, eval, locate}
 use Rattle.program_meaning.specs.Expressions.{call, call_formal}
 
@@ -130,6 +133,10 @@ bounds p here initial turns (rows.Statement (Turns direction last place of' body
     eval initial here (λ i. eval last here (λ j. first_turn p here turns (row_at p turns) i j))
 bounds p here initial turns r = no_row
 
+-- A pointer gets a value that needs no test; it is a target, and is located after the value is known.
+abbrev pub point : Here → (target : ℕ) → Value → Tree
+point here target v = locate target here (λ addr. finally here (write addr v))
+
 -- a statement, once its step is taken and its line is told
 abbrev pub of_statement : ProgramRows → (row : ℕ) → Here → StatementRow → Tree
 of_statement p row here (Assign line target e of') = Sub (Eval e here) (on_value p here target of')
@@ -146,6 +153,9 @@ of_statement p row here (CallFormal line place levels actuals) =
     call_formal p here place levels actuals (on_normal nothing)
 of_statement p row here (Goto line label levels) = doing here.line (frame_out levels here.base) (λ base.
     Ret (Jump label base))
+of_statement p row here (New line access of') =
+    doing here.line (made_variable (size_of p of') of') (point here access)
+of_statement p row here (Dispose line e of') = eval e here (λ v. finally here (dispose (size_of p of') v))
 of_statement p row here s = no_row
 
 -- the line of a statement that is neither compound nor empty
@@ -160,6 +170,8 @@ line_of (While line condition body) = Some line
 line_of (For line initial turns) = Some line
 line_of (CallFormal line place levels actuals) = Some line
 line_of (Goto line label levels) = Some line
+line_of (New line access of') = Some line
+line_of (Dispose line e of') = Some line
 line_of s = None
 
 -- A statement begins: it takes a step, and then its line is told.

@@ -1,6 +1,6 @@
 -- What an act leaves of a sound state, and that the state after it is sound. Each act has a clause of `act_leaves`.
 use Rattle.std.proofs.Common.{◌≡◌, ◌⊎◌, inl, inr, ℕ, ◌+◌, ◌-◌, ◌<◌, ◌≤◌, Bool, true, false, List, [], ◌∷◌, ◌++◌, Option, Some, None, refl, sym, ap, subst}
-use Rattle.std.proofs.Common.{◌∙◌, append_assoc, append-nil, is_some, nat_lt, nat_le, if◌then◌else◌, arith}
+use Rattle.std.proofs.Common.{◌∙◌, append_assoc, append-nil, is_some, nat_lt, nat_le, replicate, if◌then◌else◌, arith}
 use Rattle.std.specs.Prelude.{◌&&◌, ◌||◌}
 use Rattle.std.specs.Option.{IsSome}
 use Rattle.std.proofs.lemmas.Bool.Decides.{eqb_tells, nat_tests}
@@ -8,17 +8,20 @@ use Rattle.std.proofs.lemmas.List.Sums.{sum_by-append}
 use Rattle.std.proofs.lemmas.List.Elements.{filter_map-append}
 use Rattle.std.specs.FinMap.{get, insert}
 use Rattle.cell_value.specs.declared.values.Value.{Value}
+use Rattle.cell_value.specs.declared.values.Value.TheVariants.{Undefined}
 use Rattle.cell_value.specs.declared.entries.Touch.{Touch}
 use Rattle.cell_value.specs.declared.entries.Touch.TheVariants as touch
 use Rattle.cell_value.specs.declared.entries.Change.TheVariants.{Set}
 use Rattle.cell_value.specs.declared.ways_out.Kind.TheVariants as kind
-use Rattle.cell_value.specs.declared.ways_out.Which.TheVariants.{Calls, Depth, Stack}
+use Rattle.cell_value.specs.declared.ways_out.Which.TheVariants.{Calls, Depth, Stack, Heap}
 use Rattle.cell_value.specs.Effects.{is_shared, made_by, made_of, taken_by, taken_of, byte_by, given_of}
 use Rattle.program_meaning.specs.State.{State, IsSound, stack_end, heap_end, most_calls, most_depth, is_in_reach}
 use Rattle.program_meaning.specs.Acts.{Fault, OutOfSteps, Act, Spend, ReadCell, HasCell, WriteCell, Done, Went, Stops, perform, spent, with_steps, on_cell}
 use Rattle.program_meaning.specs.Acts.{read_as, put, put_asked, after_touches, limit_passed}
+use Rattle.program_meaning.specs.Acts.{Limited, MakeBlock, DropBlock, make_block, made_block, drop_block, dropped_block}
+use Rattle.program_meaning.specs.Blocks.{filled, cleared, block_cells}
 use Rattle.run_laws.proofs.Touches.{written, written-append, left_with, left_same, Serves, serves_append, none_some}
-use Rattle.run_laws.proofs.Cells.{got_same, got_other}
+use Rattle.run_laws.proofs.Cells.{got_same, got_other, filled_below, above_block, cleared_below, cleared_none, block_made, block_dropped}
 
 -- what a part of a run with these touches and so many calls leaves of a state: what it does to the cells that it shares
 -- with its caller, and to all else
@@ -68,7 +71,7 @@ leaves_steps σ k h s = record {
 pub leaves_same : (σ : State) → IsSound σ → Leaves σ [] 0 σ
 leaves_same σ s = leaves_steps σ σ.steps (omega arith) s
 
-made_append : (v w : List Touch) → made_of (v ++ w) ≡ made_of v + made_of w
+pub made_append : (v w : List Touch) → made_of (v ++ w) ≡ made_of v + made_of w
 made_append v w = sum_by-append made_by v w
 
 taken_append : (v w : List Touch) → taken_of (v ++ w) ≡ taken_of v + taken_of w
@@ -230,6 +233,88 @@ write_done σ addr k v s r h = by (nat_lt addr stack_end) refl
     by true e = write_leaves σ addr k v h s (in_stack (grind (arith, nat_tests)) (reaches σ addr r))
     by false e = asked (is_some (get σ.cells addr)) refl
 
+-- ---- blocks
+
+-- a block that fits into the heap is made
+sound_made : (σ : State) (n : ℕ) → IsSound σ → σ.fresh + n ≤ heap_end
+    → IsSound (record σ { cells = filled σ.fresh (replicate n Undefined) σ.cells; fresh = σ.fresh + n })
+sound_made σ n s fits = record {
+  stack = λ a h. ap is_some (below a (omega (arith, h, s.stack_fits))) ∙ s.stack a h;
+  above_stack = λ a h k. below a k ∙ s.above_stack a h k;
+  above_heap = λ a h. above_block σ.fresh n Undefined σ.cells a h ∙ s.above_heap a (omega (arith, h));
+  stack_fits = s.stack_fits;
+  heap_begins = omega (arith, s.heap_begins);
+  heap_fits = fits;
+  input = s.input;
+  calls = s.calls;
+  depth = s.depth;
+}
+  where
+    below : (a : ℕ) → a < stack_end → get (filled σ.fresh (replicate n Undefined) σ.cells) a ≡ get σ.cells a
+    below a h = filled_below σ.fresh (replicate n Undefined) σ.cells a (omega (arith, h, s.heap_begins))
+
+made_leaves : (σ : State) (n of' k : ℕ) → k ≤ σ.steps → IsSound σ → σ.fresh + n ≤ heap_end
+    → Leaves σ (touch.Make σ.fresh n of' ∷ []) 0 (record σ { cells = filled σ.fresh (replicate n Undefined) σ.cells; fresh = σ.fresh + n; steps = k })
+made_leaves σ n of' k h s fits = record {
+  top = refl;
+  cells = λ a q. block_made σ.fresh n σ.cells a;
+  shows = λ a q. (tt, λ c. tt);
+  fresh = omega arith;
+  items = refl;
+  place = omega arith;
+  output = sym (append-nil σ.output);
+  steps = h;
+  calls = omega arith;
+  depth = refl;
+  sound = sound_steps k (sound_made σ n s fits);
+}
+
+make_done : (σ : State) (n of' : ℕ) → IsSound σ → DoneLeaves σ (make_block n of' σ)
+make_done σ n of' s = by (nat_lt heap_end (σ.fresh + n)) refl
+  where
+    by : (b : Bool) → nat_lt heap_end (σ.fresh + n) ≡ b → DoneLeaves σ (if b then Stops (Limited Heap) [] σ else with_steps n σ (made_block n of'))
+    by true e = leaves_same σ s
+    by false e = stepped σ n (made_block n of') s (λ k h. made_leaves σ n of' k h s (grind (arith, nat_tests)))
+
+-- cells of the heap are dropped
+sound_dropped : (σ : State) (addr n : ℕ) → IsSound σ → stack_end ≤ addr → IsSound (record σ { cells = cleared addr n σ.cells })
+sound_dropped σ addr n s h = record {
+  stack = λ a l. ap is_some (cleared_below addr n σ.cells a (omega (arith, h, l, s.stack_fits))) ∙ s.stack a l;
+  above_stack = λ a l k. cleared_below addr n σ.cells a (omega (arith, h, k)) ∙ s.above_stack a l k;
+  above_heap = λ a l. cleared_none addr n σ.cells a (s.above_heap a l);
+  stack_fits = s.stack_fits;
+  heap_begins = s.heap_begins;
+  heap_fits = s.heap_fits;
+  input = s.input;
+  calls = s.calls;
+  depth = s.depth;
+}
+
+dropped_leaves : (σ : State) (addr n k : ℕ) → k ≤ σ.steps → IsSound σ → stack_end ≤ addr
+    → Leaves σ (touch.Drop addr n ∷ []) 0 (record σ { cells = cleared addr n σ.cells; steps = k })
+dropped_leaves σ addr n k h s l = record {
+  top = refl;
+  cells = λ a q. block_dropped addr n σ.cells a;
+  shows = λ a q. (tt, λ c. tt);
+  fresh = omega arith;
+  items = refl;
+  place = omega arith;
+  output = sym (append-nil σ.output);
+  steps = h;
+  calls = omega arith;
+  depth = refl;
+  sound = sound_steps k (sound_dropped σ addr n s l);
+}
+
+drop_done : (σ : State) (addr n : ℕ) → IsSound σ → DoneLeaves σ (drop_block addr n σ)
+drop_done σ addr n s = by (nat_le stack_end addr) (nat_le (addr + n) heap_end) refl
+  where
+    by : (a b : Bool) → nat_le stack_end addr ≡ a
+        → DoneLeaves σ (if a && b then with_steps n σ (dropped_block addr n) else Stops (Fault kind.Undefined) [] σ)
+    by true true e = stepped σ n (dropped_block addr n) s (λ k h. dropped_leaves σ addr n k h s (grind (arith, nat_tests)))
+    by true false e = leaves_same σ s
+    by false b e = leaves_same σ s
+
 pub act_leaves : (act : Act) (σ : State) → IsSound σ → DoneLeaves σ (perform act σ)
 act_leaves (Spend n) σ s = stepped σ n (λ τ. Went tt [] τ) s (λ k h. leaves_steps σ k h s)
 act_leaves (ReadCell addr) σ s = celled σ addr (λ τ. read_as addr (get σ.cells addr) τ) s (λ r k h. by k h (get σ.cells addr) refl)
@@ -241,6 +326,8 @@ act_leaves (HasCell addr) σ s = celled σ addr (λ τ. Went (is_some (get σ.ce
     (λ r k h. asked_shown σ addr k (is_some (get σ.cells addr)) h s refl)
 act_leaves (WriteCell addr v) σ s = celled σ addr
     (λ τ. if nat_lt addr stack_end then put addr v τ else put_asked (is_some (get τ.cells addr)) addr v τ) s (λ r k h. write_done σ addr k v s r h)
+act_leaves (MakeBlock cells of') σ s = make_done σ (block_cells cells) of' s
+act_leaves (DropBlock addr cells) σ s = drop_done σ addr (block_cells cells) s
 
 -- ---- limits
 

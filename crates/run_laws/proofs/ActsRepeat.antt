@@ -1,24 +1,28 @@
 -- Two states that agree on what touches still show: each act gives both the same answer, and keeps them in agreement.
 -- Each act has a clause of `act_again`.
 use Rattle.std.proofs.Common.{◌≡◌, ◌⊎◌, inl, inr, ℕ, ◌+◌, ◌-◌, ◌<◌, ◌≤◌, Bool, true, false, List, [], ◌∷◌, ◌++◌, Option, Some, None, refl, sym, ap, subst}
-use Rattle.std.proofs.Common.{◌∙◌, is_some, nat_lt, nat_le, if◌then◌else◌, arith}
+use Rattle.std.proofs.Common.{◌∙◌, is_some, nat_lt, nat_le, replicate, if◌then◌else◌, arith}
 use Rattle.std.specs.Prelude.{◌&&◌, ◌||◌, map}
 use Rattle.std.specs.List.{slice_get}
 use Rattle.std.proofs.lemmas.Bool.Decides.{eqb_tells, nat_tests}
 use Rattle.std.specs.FinMap.{get, insert}
 use Rattle.cell_value.specs.declared.values.Value.{Value}
+use Rattle.cell_value.specs.declared.values.Value.TheVariants.{Undefined}
 use Rattle.cell_value.specs.declared.entries.Touch.{Touch}
 use Rattle.cell_value.specs.declared.entries.Touch.TheVariants as touch
-use Rattle.cell_value.specs.declared.entries.Change.TheVariants.{Set}
+use Rattle.cell_value.specs.declared.entries.Change.{Change}
+use Rattle.cell_value.specs.declared.entries.Change.TheVariants.{Set, Gone}
 use Rattle.cell_value.specs.declared.ways_out.Kind.TheVariants as kind
-use Rattle.cell_value.specs.declared.ways_out.Which.TheVariants.{Calls, Depth, Stack}
-use Rattle.cell_value.specs.Effects.{made_of, looked_of}
+use Rattle.cell_value.specs.declared.ways_out.Which.TheVariants.{Calls, Depth, Stack, Heap}
+use Rattle.cell_value.specs.Effects.{change_by, made_of, looked_of}
 use Rattle.program_meaning.specs.State.{State, stack_end, heap_end, most_calls, most_depth, is_in_reach}
 use Rattle.program_meaning.specs.Acts.{Trouble, Fault, OutOfSteps, Act, Spend, ReadCell, HasCell, WriteCell, Done, Went, Stops, perform, spent, with_steps}
 use Rattle.program_meaning.specs.Acts.{on_cell, read_as, put, put_if, put_asked, after_touches, limit_passed}
-use Rattle.run_laws.proofs.Touches.{Serves, none_some}
-use Rattle.run_laws.proofs.Cells.{Map, got_same, got_other}
-use Rattle.run_laws.proofs.ActsLeave.{MayEnter}
+use Rattle.program_meaning.specs.Acts.{Limited, MakeBlock, DropBlock, make_block, made_block, drop_block, dropped_block}
+use Rattle.program_meaning.specs.Blocks.{filled, cleared, block_cells, lies_in_heap}
+use Rattle.run_laws.proofs.Touches.{Serves, left_with, none_some}
+use Rattle.run_laws.proofs.Cells.{Map, got_same, got_other, block_made, block_dropped}
+use Rattle.run_laws.proofs.ActsLeave.{MayEnter, made_append}
 use Rattle.run_laws.proofs.Effects.{SameLog, relative}
 
 -- the cells of the second serve the touches as those of the first do
@@ -296,6 +300,103 @@ module _ (from to : ℕ) where
     },
   )
 
+  -- ---- blocks
+
+  -- the second map is what a touch leaves of the first
+  record Changed (t : Touch) (m m' : Map) : Type 0 where
+    pub at : (a : ℕ) → get m' a ≡ left_with (change_by a t) (get m a)
+
+  -- where both maps changed as a touch says, they serve the touches after it alike
+  after_change : {m k m' k' : Map} (t : Touch) (u : List Touch) → Changed t m m' → Changed t k k' → SameCells (t ∷ u) m k → SameCells u m' k'
+  after_change {m = m} {k = k} {m' = m'} {k' = k'} t u e f h = λ a. by a (change_by a t) refl (h a)
+    where
+      first : (a : ℕ) (c : Option Change) → change_by a t ≡ c → get m' a ≡ left_with c (get m a)
+      first a c q = e.at a ∙ ap (λ c. left_with c (get m a)) q
+
+      second : (a : ℕ) (c : Option Change) → change_by a t ≡ c → get k' a ≡ left_with c (get k a)
+      second a c q = f.at a ∙ ap (λ c. left_with c (get k a)) q
+
+      by : (a : ℕ) (c : Option Change) → change_by a t ≡ c → (get m a ≡ get k a) ⊎ Serves (get k a) a (t ∷ u)
+          → (get m' a ≡ get k' a) ⊎ Serves (get k' a) a u
+      by a None q (inl s) = inl (first a None q ∙ s ∙ sym (second a None q))
+      by a None q (inr s) = inr (subst (λ o. Serves o a u) (sym (second a None q)) (s.1 q))
+      by a (Some (Set v)) q s = inl (first a (Some (Set v)) q ∙ sym (second a (Some (Set v)) q))
+      by a (Some Gone) q s = inl (first a (Some Gone) q ∙ sym (second a (Some Gone) q))
+
+  -- where a block is made the heap is free from the same address on
+  same_fresh : (n of' : ℕ) (σ τ : State) (u : List Touch) → 1 ≤ n → Agree from to (touch.Make σ.fresh n of' ∷ u) σ τ → σ.fresh ≡ τ.fresh
+  same_fresh n of' σ τ u l g = g.fresh (omega (arith, l, made_append (touch.Make σ.fresh n of' ∷ []) u))
+
+  made_again : (n of' : ℕ) (σ τ : State) (u : List Touch) → 1 ≤ n → DoneAgain (made_block n of' σ) (made_block n of' τ) σ τ u
+  made_again n of' σ τ u l = λ g s i.
+      let f = same_fresh n of' σ τ u l g in
+      let after : State = record τ { cells = filled τ.fresh (replicate n Undefined) τ.cells; fresh = τ.fresh + n } in
+      record {
+        log = touch.Make τ.fresh n of' ∷ [];
+        after = after;
+        is = ap (λ a. Went a (touch.Make τ.fresh n of' ∷ []) after) (sym f);
+        same = ap (λ a. touch.Make a n of' ∷ []) f;
+        agree = record {
+          top = g.top;
+          fresh = λ m. ap (λ a. a + n) f;
+          cells = after_change (touch.Make σ.fresh n of') u (record { at = block_made σ.fresh n σ.cells })
+              (subst (λ a. Changed (touch.Make σ.fresh n of') τ.cells (filled a (replicate n Undefined) τ.cells)) f
+              (record { at = block_made σ.fresh n τ.cells })) g.cells;
+          place = g.place;
+          items = g.items;
+        };
+        step = record { steps = omega arith; calls = omega arith; depth = omega arith };
+      }
+
+  make_again : (n of' : ℕ) (σ τ : State) (u : List Touch) → 1 ≤ n → DoneAgain (make_block n of' σ) (make_block n of' τ) σ τ u
+  make_again n of' σ τ u l = by (nat_lt heap_end (σ.fresh + n)) refl
+    where
+      fits : (b : Bool) → Agree from to (log_of (if b then Stops OutOfSteps [] (spent σ) else made_block n of' (record σ { steps = σ.steps - n })) ++ u) σ τ
+          → ByItself (if b then Stops OutOfSteps [] (spent σ) else made_block n of' (record σ { steps = σ.steps - n })) → σ.fresh ≡ τ.fresh
+      fits true g i = absurd i
+      fits false g i = same_fresh n of' σ τ u l g
+
+      limited : Bool → Done ℕ
+      limited b = if b then Stops (Limited Heap) [] τ else with_steps n τ (made_block n of')
+
+      by : (b : Bool) → nat_lt heap_end (σ.fresh + n) ≡ b
+          → DoneAgain (if b then Stops (Limited Heap) [] σ else with_steps n σ (made_block n of')) (make_block n of' τ) σ τ u
+      by true e = λ g s i. absurd i
+      by false e = λ g s i.
+          let r = stepped n σ τ u (made_block n of') (λ k m. (omega arith, made_again n of' (record σ { steps = k }) (record τ { steps = m }) u l)) g s i in
+          record {
+            log = r.log;
+            after = r.after;
+            is = ap limited (ap (λ f. nat_lt heap_end (f + n)) (sym (fits (nat_lt σ.steps n) g i)) ∙ e) ∙ r.is;
+            same = r.same;
+            agree = r.agree;
+            step = r.step;
+          }
+
+  dropped_again : (addr n : ℕ) (σ τ : State) (u : List Touch) → DoneAgain (dropped_block addr n σ) (dropped_block addr n τ) σ τ u
+  dropped_again addr n σ τ u = λ g s i. record {
+    log = touch.Drop addr n ∷ [];
+    after = record τ { cells = cleared addr n τ.cells };
+    is = refl;
+    same = refl;
+    agree = record {
+      top = g.top;
+      fresh = g.fresh;
+      cells = after_change (touch.Drop addr n) u (record { at = block_dropped addr n σ.cells }) (record { at = block_dropped addr n τ.cells }) g.cells;
+      place = g.place;
+      items = g.items;
+    };
+    step = record { steps = omega arith; calls = omega arith; depth = omega arith };
+  }
+
+  drop_again : (addr n : ℕ) (σ τ : State) (u : List Touch) → DoneAgain (drop_block addr n σ) (drop_block addr n τ) σ τ u
+  drop_again addr n σ τ u = by (lies_in_heap addr n)
+    where
+      by : (b : Bool) → DoneAgain (if b then with_steps n σ (dropped_block addr n) else Stops (Fault kind.Undefined) [] σ)
+          (if b then with_steps n τ (dropped_block addr n) else Stops (Fault kind.Undefined) [] τ) σ τ u
+      by true = stepped n σ τ u (dropped_block addr n) (λ k m. (omega arith, dropped_again addr n (record σ { steps = k }) (record τ { steps = m }) u))
+      by false = λ g s i. record { log = []; after = τ; is = refl; same = refl; agree = g; step = step_same σ τ }
+
   pub act_again : (act : Act) (σ τ : State) (u : List Touch) → DoneAgain (perform act σ) (perform act τ) σ τ u
   act_again (Spend n) σ τ u = stepped n σ τ u (λ τ. Went tt [] τ) (λ k l. (
     omega arith,
@@ -325,6 +426,8 @@ module _ (from to : ℕ) where
       ))
   act_again (WriteCell addr v) σ τ u = celled addr σ τ u (writing addr v)
       (λ k l. write_again addr v (record σ { steps = k }) (record τ { steps = l }) u)
+  act_again (MakeBlock cells of') σ τ u = make_again (block_cells cells) of' σ τ u (omega arith)
+  act_again (DropBlock addr cells) σ τ u = drop_again addr (block_cells cells) σ τ u
 
 -- ---- limits
 

@@ -24,11 +24,12 @@ use Rattle.program_meaning.specs.Acts.{OutOfSteps, Limited, Answer, spent, limit
 use Rattle.program_meaning.specs.Actions.{Action, Give, Fail, Perform}
 use Rattle.program_meaning.specs.Tree.{Out, Nothing, Scalar, Cells, Address, Jump, Tree, Ret, Halt, Do, Sub, Enter, Line, way_of, doing}
 use Rattle.program_meaning.specs.Layer.{layer}
-use Rattle.program_meaning.specs.Accesses.{scalar, with_bounds}
+use Rattle.program_meaning.specs.Heap.{pointer_result_at}
+use Rattle.program_meaning.specs.Accesses.{scalar}
 use Rattle.program_meaning.specs.Statements.{on_normal}
 use Rattle.program_meaning.specs.Run.{End, Ended, Halted, Marked, Result, later_by, in_front, ends, on_end, joined, on_done, if_allowed, Call, way_out}
-use Rattle.program_meaning.specs.Run.{result_in, record_of, after_all, framed_run, at_work, whole, return_of, result_at, type_in_heading, with_frame}
-use Rattle.program_meaning.specs.Run.{without_frame, opened, closed}
+use Rattle.program_meaning.specs.Run.{result_in, record_of, after_all, framed_run, at_work, whole, return_of, result_of_type, result_at, type_in_heading}
+use Rattle.program_meaning.specs.Run.{with_frame, without_frame, opened, closed}
 use Rattle.program_meaning.specs.Apply.{apply}
 use Rattle.program_meaning.specs.Replay.{Event, LineOf, ChildOf, Replaying, Replayed, same_numbers, same_value, same_args, end_of, next_call, on_state}
 use Rattle.program_meaning.specs.Replay.{in_replaying, replaying, replay_of}
@@ -65,9 +66,10 @@ doing_returns line (Perform act next) k h = λ x. doing_returns line (next x) k 
 whole_returns : (p : ProgramRows) (f base : ℕ) (q : Routine) → Returns (whole p f base q)
 whole_returns p f base q = λ out. by q.result out
   where
-    bounds : (place : ℕ) (t : Option TypeRow) → Returns (with_bounds t (λ i j. doing q.line (result_at i j (moved base place)) scalar))
+    bounds : (place : ℕ) (t : Option TypeRow) → Returns (result_of_type q.line (moved base place) t)
     bounds place (Some (type.Ordinal i j)) = doing_returns q.line (result_at i j (moved base place)) scalar (λ v. tt)
     bounds place (Some (type.Subrange host i j)) = doing_returns q.line (result_at i j (moved base place)) scalar (λ v. tt)
+    bounds place (Some (type.Pointer domain)) = doing_returns q.line (pointer_result_at (moved base place)) scalar (λ v. tt)
     bounds place t = tt
 
     normal : (o : Option ℕ) → Returns (return_of p base q o)

@@ -15,8 +15,9 @@ use Rattle.cell_value.specs.declared.values.Value.TheVariants.{Undefined}
 use Rattle.cell_value.specs.declared.entries.Touch.{Touch}
 use Rattle.cell_value.specs.declared.entries.Change.{Change}
 use Rattle.cell_value.specs.declared.entries.Change.TheVariants.{Set, Gone}
-use Rattle.cell_value.specs.Effects.{heap_start, heap_end, is_shared, shared, listed, changes_of, change_at}
-use Rattle.program_meaning.specs.Run.{framed, unframed, frame_cells}
+use Rattle.cell_value.specs.Effects.{heap_start, heap_end, is_shared, shared, listed, changed_block, changes_of, change_at}
+use Rattle.program_meaning.specs.Blocks.{filled, cleared}
+use Rattle.program_meaning.specs.Run.{frame_cells}
 use Rattle.program_meaning.specs.Apply.{changed_cells}
 use Rattle.run_laws.proofs.Touches.{left_with}
 
@@ -43,38 +44,78 @@ removed_other m k q e = get-remove nat_cmp_total m k q ∙ ap (λ b. cond b None
 
 -- ---- frames
 
-pub framed_below : (base : ℕ) (vs : List Value) (m : Map) (a : ℕ) → a < base → get (framed base vs m) a ≡ get m a
-framed_below base [] m a h = refl
-framed_below base (v ∷ vs) m a h = framed_below (base + 1) vs (insert m base v) a (omega arith) ∙ got_other m base v a (λ e. absurd (omega arith))
+pub filled_below : (base : ℕ) (vs : List Value) (m : Map) (a : ℕ) → a < base → get (filled base vs m) a ≡ get m a
+filled_below base [] m a h = refl
+filled_below base (v ∷ vs) m a h = filled_below (base + 1) vs (insert m base v) a (omega arith) ∙ got_other m base v a (λ e. absurd (omega arith))
 
-pub framed_above : (base : ℕ) (vs : List Value) (m : Map) (a : ℕ) → base + length vs ≤ a → get (framed base vs m) a ≡ get m a
-framed_above base [] m a h = refl
-framed_above base (v ∷ vs) m a h = framed_above (base + 1) vs (insert m base v) a (omega arith) ∙ got_other m base v a (λ e. absurd (omega arith))
+pub filled_above : (base : ℕ) (vs : List Value) (m : Map) (a : ℕ) → base + length vs ≤ a → get (filled base vs m) a ≡ get m a
+filled_above base [] m a h = refl
+filled_above base (v ∷ vs) m a h = filled_above (base + 1) vs (insert m base v) a (omega arith) ∙ got_other m base v a (λ e. absurd (omega arith))
 
-pub framed_there : (base : ℕ) (vs : List Value) (m : Map) (a : ℕ) → base ≤ a → a < base + length vs → IsSome (get (framed base vs m) a)
-framed_there base [] m a h k = absurd (omega arith)
-framed_there base (v ∷ vs) m a h k = elim (eqb_tells a base) [
-  | inl q ↦ ap is_some (framed_below (base + 1) vs (insert m base v) a (let e = q.1 in omega arith) ∙ got_same m base v a q.1)
-  | inr q ↦ framed_there (base + 1) vs (insert m base v) a (let n = q.1 in omega arith) (omega arith)
+pub filled_there : (base : ℕ) (vs : List Value) (m : Map) (a : ℕ) → base ≤ a → a < base + length vs → IsSome (get (filled base vs m) a)
+filled_there base [] m a h k = absurd (omega arith)
+filled_there base (v ∷ vs) m a h k = elim (eqb_tells a base) [
+  | inl q ↦ ap is_some (filled_below (base + 1) vs (insert m base v) a (let e = q.1 in omega arith) ∙ got_same m base v a q.1)
+  | inr q ↦ filled_there (base + 1) vs (insert m base v) a (let n = q.1 in omega arith) (omega arith)
 ]
 
 pub frame_length : (n : ℕ) (args : List Value) → length (frame_cells n args) ≡ n
 frame_length n args = omega (arith, length-take n (args ++ replicate n Undefined), length-append args (replicate n Undefined), length-replicate n Undefined)
 
-pub unframed_below : (base n : ℕ) (m : Map) (a : ℕ) → a < base → get (unframed base n m) a ≡ get m a
-unframed_below base zero m a h = refl
-unframed_below base (suc n) m a h = unframed_below (base + 1) n (remove m base) a (omega arith) ∙ removed_other m base a (λ e. absurd (omega arith))
+pub cleared_below : (base n : ℕ) (m : Map) (a : ℕ) → a < base → get (cleared base n m) a ≡ get m a
+cleared_below base zero m a h = refl
+cleared_below base (suc n) m a h = cleared_below (base + 1) n (remove m base) a (omega arith) ∙ removed_other m base a (λ e. absurd (omega arith))
 
-pub unframed_above : (base n : ℕ) (m : Map) (a : ℕ) → base + n ≤ a → get (unframed base n m) a ≡ get m a
-unframed_above base zero m a h = refl
-unframed_above base (suc n) m a h = unframed_above (base + 1) n (remove m base) a (omega arith) ∙ removed_other m base a (λ e. absurd (omega arith))
+pub cleared_above : (base n : ℕ) (m : Map) (a : ℕ) → base + n ≤ a → get (cleared base n m) a ≡ get m a
+cleared_above base zero m a h = refl
+cleared_above base (suc n) m a h = cleared_above (base + 1) n (remove m base) a (omega arith) ∙ removed_other m base a (λ e. absurd (omega arith))
 
-pub unframed_gone : (base n : ℕ) (m : Map) (a : ℕ) → base ≤ a → a < base + n → get (unframed base n m) a ≡ None
-unframed_gone base zero m a h k = absurd (omega arith)
-unframed_gone base (suc n) m a h k = elim (eqb_tells a base) [
-  | inl q ↦ unframed_below (base + 1) n (remove m base) a (let e = q.1 in omega arith) ∙ removed_same m base a q.1
-  | inr q ↦ unframed_gone (base + 1) n (remove m base) a (let ne = q.1 in omega arith) (omega arith)
+pub cleared_gone : (base n : ℕ) (m : Map) (a : ℕ) → base ≤ a → a < base + n → get (cleared base n m) a ≡ None
+cleared_gone base zero m a h k = absurd (omega arith)
+cleared_gone base (suc n) m a h k = elim (eqb_tells a base) [
+  | inl q ↦ cleared_below (base + 1) n (remove m base) a (let e = q.1 in omega arith) ∙ removed_same m base a q.1
+  | inr q ↦ cleared_gone (base + 1) n (remove m base) a (let ne = q.1 in omega arith) (omega arith)
 ]
+
+pub cleared_none : (base n : ℕ) (m : Map) (a : ℕ) → get m a ≡ None → get (cleared base n m) a ≡ None
+cleared_none base zero m a h = h
+cleared_none base (suc n) m a h = cleared_none (base + 1) n (remove m base) a (elim (eqb_tells a base) [
+  | inl q ↦ removed_same m base a q.1
+  | inr q ↦ removed_other m base a q.1 ∙ h
+])
+
+-- ---- blocks
+
+pub filled_block : (first n : ℕ) (v : Value) (m : Map) (a : ℕ) → first ≤ a → a < first + n → get (filled first (replicate n v) m) a ≡ Some v
+filled_block first zero v m a h k = absurd (omega arith)
+filled_block first (suc n) v m a h k = elim (eqb_tells a first) [
+  | inl q ↦ filled_below (first + 1) (replicate n v) (insert m first v) a (let e = q.1 in omega arith) ∙ got_same m first v a q.1
+  | inr q ↦ filled_block (first + 1) n v (insert m first v) a (let ne = q.1 in omega arith) (omega arith)
+]
+
+pub above_block : (first n : ℕ) (v : Value) (m : Map) (a : ℕ) → first + n ≤ a → get (filled first (replicate n v) m) a ≡ get m a
+above_block first n v m a h = filled_above first (replicate n v) m a (omega (arith, h, length-replicate n v))
+
+-- what the touch of a block that is made says of each cell
+pub block_made : (first n : ℕ) (m : Map) (a : ℕ)
+    → get (filled first (replicate n Undefined) m) a ≡ left_with (changed_block first (first + n) (Set Undefined) a) (get m a)
+block_made first n m a = by (nat_le first a) (nat_lt a (first + n)) refl refl
+  where
+    by : (x y : Bool) → nat_le first a ≡ x → nat_lt a (first + n) ≡ y
+        → get (filled first (replicate n Undefined) m) a ≡ left_with (if x && y then Some (Set Undefined) else None) (get m a)
+    by true true e g = filled_block first n Undefined m a (grind (arith, nat_tests)) (grind (arith, nat_tests))
+    by true false e g = above_block first n Undefined m a (grind (arith, nat_tests))
+    by false y e g = filled_below first (replicate n Undefined) m a (grind (arith, nat_tests))
+
+-- and that of one that is dropped
+pub block_dropped : (first n : ℕ) (m : Map) (a : ℕ) → get (cleared first n m) a ≡ left_with (changed_block first (first + n) Gone a) (get m a)
+block_dropped first n m a = by (nat_le first a) (nat_lt a (first + n)) refl refl
+  where
+    by : (x y : Bool) → nat_le first a ≡ x → nat_lt a (first + n) ≡ y
+        → get (cleared first n m) a ≡ left_with (if x && y then Some Gone else None) (get m a)
+    by true true e g = cleared_gone first n m a (grind (arith, nat_tests)) (grind (arith, nat_tests))
+    by true false e g = cleared_above first n m a (grind (arith, nat_tests))
+    by false y e g = cleared_below first n m a (grind (arith, nat_tests))
 
 -- ---- the changes of an effect
 

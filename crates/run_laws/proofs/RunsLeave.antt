@@ -12,9 +12,10 @@ use Rattle.program_tables.specs.ProgramRows.{ProgramRows}
 use Rattle.program_meaning.specs.State.{State, IsSound, stack_end}
 use Rattle.program_meaning.specs.Acts.{Trouble, Fault, OutOfSteps, Limited, Act, Answer, Done, perform, Spend}
 use Rattle.program_meaning.specs.Tree.{Tree, way_of}
-use Rattle.program_meaning.specs.Run.{End, Ended, Halted, Marked, Result, Call, with_frame, without_frame, frame_cells, framed, unframed, opened, closed}
+use Rattle.program_meaning.specs.Run.{End, Ended, Halted, Marked, Result, Call, with_frame, without_frame, frame_cells, opened, closed}
+use Rattle.program_meaning.specs.Blocks.{filled, cleared}
 use Rattle.run_laws.proofs.Touches.{written, Serves}
-use Rattle.run_laws.proofs.Cells.{framed_below, framed_above, framed_there, frame_length, unframed_below, unframed_above, unframed_gone}
+use Rattle.run_laws.proofs.Cells.{filled_below, filled_above, filled_there, frame_length, cleared_below, cleared_above, cleared_gone}
 use Rattle.run_laws.proofs.Events.{events_length}
 use Rattle.run_laws.proofs.ActsLeave.{Leaves, leaves_same, leaves_steps, leaves_then, DoneLeaves, act_leaves, MayEnter, limits_hold}
 use Rattle.run_laws.proofs.Ways as ways
@@ -75,17 +76,17 @@ shared_above base n a h = by (nat_lt a heap_end) (nat_lt a base) (nat_lt a (base
 
 -- a cell that is shared is none of a frame at the base, before and after
 pub framed_shared : (σ : State) (n : ℕ) (args : List Value) (a : ℕ) → σ.top + n ≤ stack_end → is_shared σ.top a ≡ true
-    → get (framed σ.top (frame_cells n args) σ.cells) a ≡ get σ.cells a
+    → get (filled σ.top (frame_cells n args) σ.cells) a ≡ get σ.cells a
 framed_shared σ n args a k h = elim (shared_so σ.top a h) [
-  | inl l ↦ framed_below σ.top (frame_cells n args) σ.cells a l
-  | inr l ↦ framed_above σ.top (frame_cells n args) σ.cells a (omega (arith, frame_length n args))
+  | inl l ↦ filled_below σ.top (frame_cells n args) σ.cells a l
+  | inr l ↦ filled_above σ.top (frame_cells n args) σ.cells a (omega (arith, frame_length n args))
 ]
 
 pub sound_framed : (n : ℕ) (args : List Value) (σ : State) → IsSound σ → σ.top + n ≤ stack_end → IsSound (with_frame n args σ)
 sound_framed n args σ s k = record {
   stack = λ a h. stack a h (nat_lt a σ.top) refl;
-  above_stack = λ a h l. framed_above σ.top (frame_cells n args) σ.cells a (omega (arith, frame_length n args)) ∙ s.above_stack a (omega arith) l;
-  above_heap = λ a h. framed_above σ.top (frame_cells n args) σ.cells a (omega (arith, frame_length n args, s.heap_begins)) ∙ s.above_heap a h;
+  above_stack = λ a h l. filled_above σ.top (frame_cells n args) σ.cells a (omega (arith, frame_length n args)) ∙ s.above_stack a (omega arith) l;
+  above_heap = λ a h. filled_above σ.top (frame_cells n args) σ.cells a (omega (arith, frame_length n args, s.heap_begins)) ∙ s.above_heap a h;
   stack_fits = k;
   heap_begins = s.heap_begins;
   heap_fits = s.heap_fits;
@@ -94,13 +95,13 @@ sound_framed n args σ s k = record {
   depth = s.depth;
 }
   where
-    stack : (a : ℕ) → a < σ.top + n → (b : Bool) → nat_lt a σ.top ≡ b → is_some (get (framed σ.top (frame_cells n args) σ.cells) a) ≡ true
+    stack : (a : ℕ) → a < σ.top + n → (b : Bool) → nat_lt a σ.top ≡ b → is_some (get (filled σ.top (frame_cells n args) σ.cells) a) ≡ true
     stack a h true e =
         let l : a < σ.top = grind (arith, nat_tests) in
-        ap is_some (framed_below σ.top (frame_cells n args) σ.cells a l) ∙ s.stack a l
+        ap is_some (filled_below σ.top (frame_cells n args) σ.cells a l) ∙ s.stack a l
     stack a h false e =
         let l : σ.top ≤ a = grind (arith, nat_tests) in
-        framed_there σ.top (frame_cells n args) σ.cells a l (omega (arith, frame_length n args))
+        filled_there σ.top (frame_cells n args) σ.cells a l (omega (arith, frame_length n args))
 
 -- a frame was made, something was done, and the frame is removed
 pub unframed_leaves : {τ : State} {w : List Touch} {k : ℕ} (n : ℕ) (args : List Value) (σ : State) → IsSound σ → σ.top + n ≤ stack_end
@@ -117,9 +118,9 @@ unframed_leaves {τ = τ} {w = w} n args σ s fits h = record {
   calls = h.calls;
   depth = h.depth;
   sound = record {
-    stack = λ a l. ap is_some (unframed_below σ.top n τ.cells a l) ∙ h.sound.stack a (omega (arith, h.top));
+    stack = λ a l. ap is_some (cleared_below σ.top n τ.cells a l) ∙ h.sound.stack a (omega (arith, h.top));
     above_stack = λ a l m. above a l m (nat_lt a (σ.top + n)) refl;
-    above_heap = λ a l. unframed_above σ.top n τ.cells a (omega (arith, h.sound.heap_begins)) ∙ h.sound.above_heap a l;
+    above_heap = λ a l. cleared_above σ.top n τ.cells a (omega (arith, h.sound.heap_begins)) ∙ h.sound.above_heap a l;
     stack_fits = s.stack_fits;
     heap_begins = h.sound.heap_begins;
     heap_fits = h.sound.heap_fits;
@@ -129,15 +130,15 @@ unframed_leaves {τ = τ} {w = w} n args σ s fits h = record {
   };
 }
   where
-    after : (a : ℕ) → (a < σ.top) ⊎ (heap_start ≤ a) → get (unframed σ.top n τ.cells) a ≡ get τ.cells a
-    after a (inl l) = unframed_below σ.top n τ.cells a l
-    after a (inr l) = unframed_above σ.top n τ.cells a (omega arith)
+    after : (a : ℕ) → (a < σ.top) ⊎ (heap_start ≤ a) → get (cleared σ.top n τ.cells) a ≡ get τ.cells a
+    after a (inl l) = cleared_below σ.top n τ.cells a l
+    after a (inr l) = cleared_above σ.top n τ.cells a (omega arith)
 
-    above : (a : ℕ) → σ.top ≤ a → a < stack_end → (b : Bool) → nat_lt a (σ.top + n) ≡ b → get (unframed σ.top n τ.cells) a ≡ None
-    above a l m true e = unframed_gone σ.top n τ.cells a l (grind (arith, nat_tests))
+    above : (a : ℕ) → σ.top ≤ a → a < stack_end → (b : Bool) → nat_lt a (σ.top + n) ≡ b → get (cleared σ.top n τ.cells) a ≡ None
+    above a l m true e = cleared_gone σ.top n τ.cells a l (grind (arith, nat_tests))
     above a l m false e =
         let q : σ.top + n ≤ a = grind (arith, nat_tests) in
-        unframed_above σ.top n τ.cells a q ∙ h.sound.above_stack a (omega (arith, h.top)) m
+        cleared_above σ.top n τ.cells a q ∙ h.sound.above_stack a (omega (arith, h.top)) m
 
 pub sound_opened : (σ : State) → IsSound σ → MayEnter σ → IsSound (opened σ)
 sound_opened σ s m = record {

@@ -17,7 +17,8 @@ use Rattle.program_meaning.specs.Acts.{Trouble, Fault, OutOfSteps, Limited, perf
 use Rattle.program_meaning.specs.Tree.{Out, Tree, way_of}
 use Rattle.program_meaning.specs.Agree.{EndedByItself}
 use Rattle.program_meaning.specs.Run.{End, Ended, Halted, Marked, Result, in_front, ends, on_end, joined, on_done, if_allowed, Call, Outcome, recorded}
-use Rattle.program_meaning.specs.Run.{after_all, in_frame, at_work, call_of, plain, run_of, whole, with_frame, without_frame, frame_cells, framed, unframed}
+use Rattle.program_meaning.specs.Run.{after_all, in_frame, at_work, call_of, plain, run_of, whole, with_frame, without_frame, frame_cells}
+use Rattle.program_meaning.specs.Blocks.{filled, cleared}
 use Rattle.program_meaning.specs.Run.{opened}
 use Rattle.program_meaning.specs.Run.{closed}
 use Rattle.run_laws.proofs.Touches.{Serves}
@@ -180,21 +181,21 @@ same_remove w m k a h = λ b. elim (eqb_tells b a) [
   ]
 ]
 
-same_framed : (w : List Touch) (base : ℕ) (vs : List Value) (m k : Map) → SameCells w m k → SameCells w (framed base vs m) (framed base vs k)
-same_framed w base [] m k h = h
-same_framed w base (v ∷ vs) m k h = same_framed w (base + 1) vs (insert m base v) (insert k base v) (same_insert w m k base v h)
+same_filled : (w : List Touch) (base : ℕ) (vs : List Value) (m k : Map) → SameCells w m k → SameCells w (filled base vs m) (filled base vs k)
+same_filled w base [] m k h = h
+same_filled w base (v ∷ vs) m k h = same_filled w (base + 1) vs (insert m base v) (insert k base v) (same_insert w m k base v h)
 
-same_unframed : (w : List Touch) (base n : ℕ) (m k : Map) → SameCells w m k → SameCells w (unframed base n m) (unframed base n k)
-same_unframed w base zero m k h = h
-same_unframed w base (suc n) m k h = same_unframed w (base + 1) n (remove m base) (remove k base) (same_remove w m k base h)
+same_cleared : (w : List Touch) (base n : ℕ) (m k : Map) → SameCells w m k → SameCells w (cleared base n m) (cleared base n k)
+same_cleared w base zero m k h = h
+same_cleared w base (suc n) m k h = same_cleared w (base + 1) n (remove m base) (remove k base) (same_remove w m k base h)
 
 agree_framed : {from to : ℕ} {w : List Touch} {σ τ : State} (n : ℕ) (args : List Value) → Agree from to w σ τ
     → Agree from to w (with_frame n args σ) (with_frame n args τ)
 agree_framed {w = w} {σ = σ} {τ = τ} n args h = record {
   top = ap (λ b. b + n) h.top;
   fresh = h.fresh;
-  cells = subst (λ b. SameCells w (framed σ.top (frame_cells n args) σ.cells) (framed b (frame_cells n args) τ.cells)) h.top
-      (same_framed w σ.top (frame_cells n args) σ.cells τ.cells h.cells);
+  cells = subst (λ b. SameCells w (filled σ.top (frame_cells n args) σ.cells) (filled b (frame_cells n args) τ.cells)) h.top
+      (same_filled w σ.top (frame_cells n args) σ.cells τ.cells h.cells);
   place = h.place;
   items = h.items;
 }
@@ -204,7 +205,7 @@ agree_unframed : {from to : ℕ} {w : List Touch} {σ τ : State} (n base base' 
 agree_unframed {w = w} {σ = σ} {τ = τ} n base base' e h = record {
   top = e;
   fresh = h.fresh;
-  cells = subst (λ b. SameCells w (unframed base n σ.cells) (unframed b n τ.cells)) e (same_unframed w base n σ.cells τ.cells h.cells);
+  cells = subst (λ b. SameCells w (cleared base n σ.cells) (cleared b n τ.cells)) e (same_cleared w base n σ.cells τ.cells h.cells);
   place = h.place;
   items = h.items;
 }
