@@ -21,6 +21,8 @@ pub fn line_of(statement: StatementRow) -> Option<u32>
         StatementRow::For { line, .. } => Some(line),
         StatementRow::CallFormal { line, .. } => Some(line),
         StatementRow::Goto { line, .. } => Some(line),
+        StatementRow::New { line, .. } => Some(line),
+        StatementRow::Dispose { line, .. } => Some(line),
         _ => None,
     }
 }
