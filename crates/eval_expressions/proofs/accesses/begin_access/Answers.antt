@@ -1,6 +1,7 @@
 use Rattle.std.proofs.Common.{ap, ◌∙◌}
 use Rattle.program_meaning.specs.Tree.{bind}
 use Rattle.program_meaning.specs.Accesses.{of_access}
+use Rattle.eval_ops.specs.Machines.{moment_of}
 use Rattle.eval_tasks.specs.Rest.{here, waiting, located, top_list, lists_of}
 use Rattle.eval_tasks.specs.declared.tasks.Located.TheVariants as locateds
 use Rattle.eval_tasks.proofs.Turning.{turns_same, before_it}
@@ -39,3 +40,7 @@ returns-then-access-row-2-clause-turns c =
     ∙ before_it c.args.row c.in-Field.access h (located p c.args.body.now.home (locateds.Field c.in-Field.field c.args.line)
     (top_list (lists_of c.args.body.now))) (waiting p c.args.body.now) c.if-access-row-2.true)
     (c.wait-then-access-row-2.ensures.turns p _)
+
+pub returns-in-Dereference-clause-turns : goal.returns-in-Dereference-clause-turns
+returns-in-Dereference-clause-turns c = rw c.in-Dereference.is (c.dereference.ensures.turns c.args.program.now
+    (moment_of c.args.machine.now))

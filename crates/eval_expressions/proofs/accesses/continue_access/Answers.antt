@@ -47,3 +47,9 @@ returns-in-Ok-spend-clause-turns c =
     (moment_of c.spend-in-Field.new.machine) c.in-Ok-spend.ensures.act)
     (comes_same (ap (λ r. bind (field_in p c.args.addr r) (waiting p c.args.body.now)) (sym c.row.ensures)))))
     (c.locate_field.ensures.turns _)
+
+pub returns-in-Pointed-clause-turns : goal.returns-in-Pointed-clause-turns
+returns-in-Pointed-clause-turns c = turns_same c.args.program.now _ _ _ _ c.follow_pointer.result c.follow_pointer.new.body
+    (ap (λ t. resume c.args.program.now c.args.body.now.home (tasks.Located t ∷ tasks_of c.args.body.now) (values_of c.args.body.now)
+    (lists_of c.args.body.now) (Address c.args.addr)) c.in-Pointed.is)
+    (c.follow_pointer.ensures.turns c.args.program.now)
