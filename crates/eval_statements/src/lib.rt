@@ -4,8 +4,10 @@
 mod after_parts;
 mod assignments;
 mod counting;
+mod heap;
 mod statements;
 
 pub use after_parts::{continue_statement, follow_statement};
 pub use assignments::{locate_target, locate_target_cells, put, put_cells};
+pub use heap::{dispose_of, put_pointer};
 pub use statements::{carry, execute, sequence, turn_again};
