@@ -20,8 +20,8 @@ use eval_expressions::{
 };
 use eval_ops::{Halt, Machine, spend};
 use eval_statements::{
-    carry, continue_statement, execute, follow_statement, locate_target, locate_target_cells, put,
-    put_cells, sequence, turn_again,
+    carry, continue_statement, dispose_of, execute, follow_statement, locate_target,
+    locate_target_cells, put, put_cells, put_pointer, sequence, turn_again,
 };
 use eval_tasks::{Body, Now, Part, Pause, Stop, Task, Turned, Way};
 use program_tables::Program;
@@ -243,6 +243,7 @@ fn after_scalar(
         Task::Range { next, line } => gather_range(body, next, line, value),
         Task::Choice(choice) => continue_statement(body, alloc, program, machine, choice, value),
         Task::Target { target, of, line } => locate_target(body, program, target, of, line, value),
+        Task::Dispose { of, line } => dispose_of(body, alloc, program, machine, of, line, value),
         Task::Next(next) => follow_statement(body, alloc, program, machine, next),
         _ => body.no_row(),
     }
@@ -269,6 +270,7 @@ fn after_address(
         Task::Located(located) => continue_access(body, alloc, program, machine, located, addr),
         Task::Put { of, line } => put(body, alloc, program, machine, of, line, addr),
         Task::PutCells { line } => put_cells(body, alloc, program, machine, line, addr),
+        Task::Point { line } => put_pointer(body, alloc, program, machine, line, addr),
         Task::Next(next) => follow_statement(body, alloc, program, machine, next),
         _ => body.no_row(),
     }

@@ -25,3 +25,7 @@ pub returns-in-Next-clause-falls : goal.returns-in-Next-clause-falls
 returns-in-Next-clause-falls c =
     let e = ap task_weight c.in-Next.is in
     falls_so c.follow_statement.result _ _ _ _ (λ h. omega (arith, h, e)) c.follow_statement.ensures.falls
+
+pub returns-in-Point-clause-turns : goal.returns-in-Point-clause-turns
+returns-in-Point-clause-turns c = turns_same c.args.program.now _ _ _ _ c.put_pointer.result c.put_pointer.new.body
+    (ap (from_under c.args.program.now c.args.body.now (Came (way.Address c.args.addr))) c.in-Point.is) c.put_pointer.ensures.turns
