@@ -22,4 +22,5 @@ expression_by p h (expressions.Compare order left right) = refl
 expression_by p h (expressions.Sets operator left right) = refl
 expression_by p h (expressions.CompareSets order left right) = refl
 expression_by p h (expressions.In left right) = refl
+expression_by p h (expressions.ComparePointers equal left right) = refl
 expression_by p h e = refl

@@ -25,6 +25,7 @@ of_designator p h e = no_row
 -- an expression without a dyadic operator on values of one cell
 abbrev pub of_other : ProgramRows → Here → ExpressionRow → Tree
 of_other p h (expressions.Constant n) = of_expression p h (expressions.Constant n)
+of_other p h expressions.Nil = of_expression p h expressions.Nil
 of_other p h (expressions.Text token) = of_expression p h (expressions.Text token)
 of_other p h (expressions.CompareTexts order left right) =
     of_expression p h (expressions.CompareTexts order left right)

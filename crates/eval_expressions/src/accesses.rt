@@ -1,13 +1,15 @@
 //! Accesses.
 
 ghost use Rattle.std.specs.Prelude.{◌≡◌, ◌+◌, slice_get};
+ghost use Rattle.program_tables.specs.ProgramRows.{ProgramRows};
 ghost use Rattle.eval_ops.specs.Machines.{IsReady, Moment, moment_of};
 ghost use Rattle.program_meaning.specs.Tree.{bind, doing};
 ghost use Rattle.program_meaning.specs.Cells as action;
 ghost use Rattle.program_meaning.specs.Cells.{cell_out, reference_out};
+ghost use Rattle.program_meaning.specs.Heap.{pointed_at as pointed_at_in};
 ghost use Rattle.program_meaning.specs.Accesses.{address, cells_at, of_access, value_at};
 ghost use Rattle.program_meaning.specs.Accesses.{locate_field as field_in, with_record};
-ghost use Rattle.program_meaning.specs.Accesses.{with_bounds, with_components, spend as spend_in};
+ghost use Rattle.program_meaning.specs.Accesses.{locate_before, with_bounds, with_components, spend as spend_in};
 ghost use Rattle.eval_tasks.specs.Rest.{from, from_under, here, waiting};
 ghost use Rattle.eval_tasks.specs.Turns.{Turns};
 ghost use Rattle.eval_tasks.specs.Weight.{Falls, body_weight, come, left_of, left_with, part_weight, task_weight};
@@ -16,7 +18,8 @@ ghost use Rattle.eval_tasks.specs.Weight.{now_weight, tasks_weight};
 use cell_value::Value;
 use eval_calls::add_cell;
 use eval_ops::{
-    Machine, cell_out, component, field_at, ordinal_at, read_cells, reference_out, set_at, spend,
+    Machine, cell_out, component, field_at, ordinal_at, pointed_at, pointer_at, read_cells,
+    reference_out, set_at, spend,
 };
 use eval_tasks::{Body, Located, Now, Operand, Part, Task, Turned, Way};
 use program_meaning::Components;
@@ -121,6 +124,7 @@ fn begin_access(
         } => within(
             body, alloc, program, machine, place, field, target, line,
         ),
+        AccessRow::Dereference { access, .. } => dereference(body, access, row, target, line),
         _ => body.no_row(),
     }
 }
@@ -218,6 +222,7 @@ pub fn continue_access(
             ),
             Err(halt) => body.fail(line, halt),
         },
+        Located::Pointed { line } => follow_pointer(body, machine, line, addr),
         Located::Passed { next, line } => add_cell(
             body,
             alloc,
@@ -226,6 +231,46 @@ pub fn continue_access(
             next,
             line,
         ),
+    }
+}
+
+/// The variable to which a pointer points (6.5.4): the access to the pointer begins, if its row stands before.
+fn dereference(body: &mut Body, access: u32, row: u32, target: bool, line: u32) -> Turned
+    ensures turns { (p : ProgramRows) (m : Moment) → Turns p (bind (locate_before row access target
+        (here body.old.home line) (λ addr. spend_in (here body.old.home line)
+        (doing line (pointed_at_in addr) address))) (waiting p body.old)) m result body.new m }
+    ensures falls { Falls result (body_weight body.new)
+        (part_weight (Part.Locate row target line) + tasks_weight body.old) }
+    ensures home { body.new.home ≡ body.old.home }
+{
+    if access < row {
+        body.wait(
+            Task::Located(Located::Pointed { line }),
+            Now::Begin(Part::Locate {
+                row: access,
+                target,
+                line,
+            }),
+        )
+    } else {
+        body.no_row()
+    }
+}
+
+/// The variable to which the pointer at an address points (6.5.4).
+fn follow_pointer(body: &mut Body, machine: &mut Machine, line: u32, addr: u32) -> Turned
+    requires ready { IsReady machine.old }
+    ensures turns { (p : ProgramRows) → Turns p (bind (spend_in (here body.old.home line)
+        (doing line (pointed_at_in addr) address)) (waiting p body.old)) (moment_of machine.old)
+        result body.new (moment_of machine.new) }
+    ensures falls { Falls result (left_of body.new machine.new)
+        (left_with machine.old.steps (tasks_weight body.old)) }
+    ensures home { body.new.home ≡ body.old.home }
+    ensures ready { IsReady machine.new }
+{
+    match spend(machine, 1) {
+        Ok(()) => body.address(line, pointed_at(machine, addr)),
+        Err(halt) => body.fail(line, halt),
     }
 }
 
@@ -259,6 +304,7 @@ fn variable_value(
             },
         ) => { body.scalar(line, ordinal_at(machine, least, greatest, addr)) }
         Some(TypeRow::Set { .. }) => body.scalar(line, set_at(machine, addr)),
+        Some(TypeRow::Pointer { .. }) => body.scalar(line, pointer_at(machine, addr)),
         Some(TypeRow::Array { cells, .. }) => variable_cells(
             body, alloc, program, machine, cells, line, addr,
         ),

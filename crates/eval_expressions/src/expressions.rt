@@ -17,8 +17,8 @@ use crate::sets::{gather_from, gather_member, give_string};
 use cell_value::{OpFault, Value, arith};
 use eval_calls::begin_call;
 use eval_ops::{
-    Machine, combine_sets, compare_ordinals, compare_sets, is_in, is_true, no_members,
-    ordinal_function, passed, sign, spend, truth,
+    Machine, combine_sets, compare_ordinals, compare_pointers, compare_sets, is_in, is_true,
+    no_members, ordinal_function, passed, sign, spend, truth,
 };
 use eval_rules::{Dyadic, combine, constant, dyadic_in, type_accessed};
 use eval_tasks::{Body, Located, Now, Operand, Part, Task, Turned, Way};
@@ -37,6 +37,7 @@ fn apply(dyadic: Dyadic, left: Value, right: Value) -> Result<Value, OpFault>
         Dyadic::Sets(operator) => combine_sets(operator, left, right),
         Dyadic::CompareSets(order) => compare_sets(order, left, right),
         Dyadic::In => is_in(left, right),
+        Dyadic::ComparePointers { equal } => compare_pointers(equal, left, right),
     }
 }
 
@@ -118,6 +119,7 @@ fn other_expression(
 {
     match expression {
         ExpressionRow::Constant { value } => body.go(Now::Came(Way::Scalar(constant(value)))),
+        ExpressionRow::Nil => body.go(Now::Came(Way::Scalar(Value::Nil))),
         ExpressionRow::Text { token } => give_string(body, alloc, program, token),
         ExpressionRow::CompareTexts { order, left, right } => body.wait(
             Task::TextRight { order, right, line },

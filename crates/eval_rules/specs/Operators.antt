@@ -5,9 +5,18 @@ use Rattle.cell_value.specs.declared.faults.OpFault.{OpFault}
 use Rattle.cell_value.specs.declared.values.Value.{Value}
 use Rattle.program_tables.specs.declared.rows.ExpressionRow.{ExpressionRow}
 use Rattle.program_tables.specs.declared.rows.ExpressionRow.TheVariants as expressions
+use Rattle.program_meaning.specs.Heap.{pointers_compared}
 use Rattle.program_meaning.specs.Values.{truth, is_true, logic_of, compared, sets_of, sets_compared, is_in}
 use Rattle.eval_rules.specs.declared.operators.Dyadic.{Dyadic}
-use Rattle.eval_rules.specs.declared.operators.Dyadic.TheVariants.{Arithmetic, Logic, Compare, Sets, CompareSets, In}
+use Rattle.eval_rules.specs.declared.operators.Dyadic.TheVariants.{
+  Arithmetic,
+  Logic,
+  Compare,
+  Sets,
+  CompareSets,
+  In,
+  ComparePointers,
+}
 
 -- what a dyadic operator gives of two values (6.7.2)
 abbrev pub dyadic_of : Dyadic → (x y : Value) → Result Value OpFault
@@ -17,6 +26,7 @@ dyadic_of (Compare order) x y = compared order x y
 dyadic_of (Sets operator) x y = sets_of operator x y
 dyadic_of (CompareSets order) x y = sets_compared order x y
 dyadic_of In x y = is_in x y
+dyadic_of (ComparePointers equal) x y = pointers_compared equal x y
 
 -- the operator of an expression, and the rows of its left and of its right operand
 abbrev pub dyadic_in : ExpressionRow → Option (Dyadic × ℕ × ℕ)
@@ -26,4 +36,5 @@ dyadic_in (expressions.Compare order left right) = Some (Compare order, left, ri
 dyadic_in (expressions.Sets operator left right) = Some (Sets operator, left, right)
 dyadic_in (expressions.CompareSets order left right) = Some (CompareSets order, left, right)
 dyadic_in (expressions.In left right) = Some (In, left, right)
+dyadic_in (expressions.ComparePointers equal left right) = Some (ComparePointers equal, left, right)
 dyadic_in e = None

@@ -19,6 +19,8 @@ pub enum Dyadic {
     CompareSets(Order),
     /// Whether an ordinal is a member of a set.
     In,
+    /// Whether two pointers are equal, or else whether they are not.
+    ComparePointers { equal: bool },
 }
 
 /// The operator of an expression, and the rows of its left and of its right operand, if it has a dyadic one whose
@@ -50,6 +52,9 @@ pub fn dyadic_in(expression: ExpressionRow) -> Option<(Dyadic, u32, u32)>
             Some((Dyadic::CompareSets(order), left, right))
         }
         ExpressionRow::In { left, right } => Some((Dyadic::In, left, right)),
+        ExpressionRow::ComparePointers { equal, left, right } => {
+            Some((Dyadic::ComparePointers { equal }, left, right))
+        }
         _ => None,
     }
 }

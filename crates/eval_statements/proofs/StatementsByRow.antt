@@ -22,6 +22,8 @@ use Rattle.program_tables.specs.declared.rows.StatementRow.TheVariants.{
   For,
   Turns,
   With,
+  New,
+  Dispose,
 }
 use Rattle.program_tables.specs.ProgramRows.{ProgramRows, row_at}
 use Rattle.program_meaning.specs.Tree.{Here, Tree, Ret, Sub, Line}
@@ -94,6 +96,8 @@ pub record IsOther (s : StatementRow) : Type 0 where
   pub call_formal : (a b c d : ℕ) → s ≡ CallFormal a b c d → ⊥
   pub goto : (a b c : ℕ) → s ≡ Goto a b c → ⊥
   pub with' : (a b c : ℕ) → s ≡ With a b c → ⊥
+  pub new : (a b c : ℕ) → s ≡ New a b c → ⊥
+  pub dispose : (a b c : ℕ) → s ≡ Dispose a b c → ⊥
 
 pub other_carried : (p : ProgramRows) (home : Home) (n : ℕ) (s : StatementRow) → IsOther s → carry_with p home n s (line_of s) ≡ no_row
 other_carried p home n (Assign a b c d) o = absurd (o.assign a b c d refl)
@@ -107,6 +111,8 @@ other_carried p home n (For a b c) o = absurd (o.for' a b c refl)
 other_carried p home n (CallFormal a b c d) o = absurd (o.call_formal a b c d refl)
 other_carried p home n (Goto a b c) o = absurd (o.goto a b c refl)
 other_carried p home n (With a b c) o = absurd (o.with' a b c refl)
+other_carried p home n (New a b c) o = absurd (o.new a b c refl)
+other_carried p home n (Dispose a b c) o = absurd (o.dispose a b c refl)
 other_carried p home n s o = refl
 
 -- ---- records of with statements

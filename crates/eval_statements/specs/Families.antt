@@ -26,3 +26,11 @@ of_conditional p home row (statements.IfElse line condition then' otherwise) =
 of_conditional p home row (statements.Case line index choices) =
     of_statement p row (here home line) (statements.Case line index choices)
 of_conditional p home row s = no_row
+
+-- a statement on a variable of the heap (6.6.5.3) whose line is told
+abbrev pub of_heap : ProgramRows → Home → (row : ℕ) → StatementRow → Tree
+of_heap p home row (statements.New line access of') =
+    of_statement p row (here home line) (statements.New line access of')
+of_heap p home row (statements.Dispose line value of') =
+    of_statement p row (here home line) (statements.Dispose line value of')
+of_heap p home row s = no_row

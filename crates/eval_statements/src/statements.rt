@@ -13,6 +13,7 @@ ghost use Rattle.eval_tasks.specs.Turns.{Turns};
 ghost use Rattle.eval_tasks.specs.Weight.{Falls, body_weight, come, left_of, left_with, now_weight, operand_most};
 ghost use Rattle.eval_tasks.specs.Weight.{part_weight, task_weight, tasks_weight};
 
+use crate::heap::heap_statement;
 use eval_calls::begin_call;
 use eval_ops::{Machine, frame_out, spend};
 use eval_rules::{element_of, line_of, turns_of};
@@ -182,6 +183,8 @@ fn carry_on(
             label,
             levels,
         } => jump(body, machine, label, levels, line),
+        StatementRow::New { .. } => heap_statement(body, alloc, program, machine, statement),
+        StatementRow::Dispose { .. } => heap_statement(body, alloc, program, machine, statement),
         StatementRow::If { .. } => conditional(body, statement),
         StatementRow::IfElse { .. } => conditional(body, statement),
         StatementRow::Case { .. } => conditional(body, statement),

@@ -8,14 +8,15 @@ use Rattle.program_tables.specs.declared.rows.Row.{Row}
 use Rattle.program_tables.specs.declared.rows.Row.TheVariants as rows
 use Rattle.program_tables.specs.declared.rows.StatementRow.{StatementRow}
 use Rattle.program_tables.specs.declared.rows.StatementRow.TheVariants as statements
-use Rattle.program_tables.specs.ProgramRows.{ProgramRows, row_at, type_at, routine_at}
+use Rattle.program_tables.specs.ProgramRows.{ProgramRows, row_at, type_at, size_of, routine_at}
 use Rattle.program_meaning.specs.Actions.{Action, Give, ◌>>=◌}
 use Rattle.program_meaning.specs.Tree.{Out, Nothing, Scalar, Cells, Address, Jump, Here}
 use Rattle.program_meaning.specs.Tree.{Tree, Ret, Sub, Enter, doing, bind}
 use Rattle.program_meaning.specs.Tree as parts
 use Rattle.program_meaning.specs.Values.{truth, is_true, signed, function_of, members_added, texts_compared}
 use Rattle.program_meaning.specs.Variants.{assign_to, tag_accessed}
-use Rattle.program_meaning.specs.Cells.{writes, component, frame_out, routine_out}
+use Rattle.program_meaning.specs.Cells.{write, writes, component, frame_out, routine_out}
+use Rattle.program_meaning.specs.Heap.{pointed_at, dispose}
 use Rattle.program_meaning.specs.Accesses.{
   no_row,
   spend,
@@ -114,6 +115,7 @@ located p home (locateds.Index index array line) l addr = spend (here home line)
     with_components p (type_at p array) (λ a. doing line (component a addr v) address)))
 located p home (locateds.Field field target line) l addr =
     spend (here home line) (locate_field p target line addr field)
+located p home (locateds.Pointed line) l addr = spend (here home line) (doing line (pointed_at addr) address)
 located p home (locateds.Passed next line) l addr = pass home next line (l ++ value.Place addr ∷ [])
 
 abbrev pub exec : Home → (row line : ℕ) → Tree
@@ -204,6 +206,8 @@ after p home (tasks.Put target of' line) vs ls = on_address (λ addr.
 after p home (tasks.PutCells line) vs ls = on_address (λ addr. finally (here home line) (writes addr (top_list ls)))
 after p home (tasks.Record next body line) vs ls = on_address (λ addr.
     Sub (parts.Establish next body (inside (here home line) addr)) Ret)
+after p home (tasks.Point line) vs ls = on_address (λ addr. finally (here home line) (write addr (top vs)))
+after p home (tasks.Dispose of' line) vs ls = on_scalar (λ v. finally (here home line) (dispose (size_of p of') v))
 after p home (tasks.Next t) vs ls = after_statement p home t vs
 after p home tasks.Leave vs ls = Ret
 
@@ -215,6 +219,7 @@ values_below (tasks.Operand (operands.First last next line)) vs = below vs
 values_below (tasks.Range next line) vs = below (below vs)
 values_below (tasks.Choice (choices.Last turns line)) vs = below vs
 values_below (tasks.Put target of' line) vs = below vs
+values_below (tasks.Point line) vs = below vs
 values_below (tasks.Next (nexts.Counted row line)) vs = below (below vs)
 values_below t vs = vs
 

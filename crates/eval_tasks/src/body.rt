@@ -274,6 +274,7 @@ impl Body {
             Task::Choice(Choice::Last { .. }) => self.drop_value(),
             Task::Put { .. } => self.drop_value(),
             Task::PutCells { .. } => self.drop_list(alloc),
+            Task::Point { .. } => self.drop_value(),
             Task::Next(Next::Counted { .. }) => {
                 self.drop_value();
                 self.drop_value();

@@ -110,6 +110,8 @@ pub enum Located {
     Value { of: u32, line: u32 },
     Index { index: u32, array: u32, line: u32 },
     Field { field: u32, target: bool, line: u32 },
+    /// The pointer in it is followed (6.5.4).
+    Pointed { line: u32 },
     /// It is an actual variable parameter. The cells of the actuals before it are the last list that waits.
     Passed { next: u32, line: u32 },
 }
@@ -234,6 +236,15 @@ pub enum Task {
     Record {
         next: u32,
         body: u32,
+        line: u32,
+    },
+    /// The last value that waits, a pointer to a new variable, goes to a variable (6.6.5.3).
+    Point {
+        line: u32,
+    },
+    /// A pointer, whose variable of a type is to be disposed of (6.6.5.3).
+    Dispose {
+        of: u32,
         line: u32,
     },
     Next(Next),

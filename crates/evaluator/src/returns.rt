@@ -5,7 +5,7 @@ ghost use Rattle.cell_value.specs.declared.values.Value.{Value as CellValue};
 ghost use Rattle.program_tables.specs.ProgramRows.{ProgramRows, routine_at};
 ghost use Rattle.program_meaning.specs.Actions.{Action, performs};
 ghost use Rattle.program_meaning.specs.Tree.{doing};
-ghost use Rattle.program_meaning.specs.Accesses.{scalar, with_bounds};
+ghost use Rattle.program_meaning.specs.Accesses.{scalar};
 ghost use Rattle.program_meaning.specs.Run.{type_in_heading};
 ghost use Rattle.program_meaning.specs.Run as action;
 ghost use Rattle.program_meaning.specs.State as state;
@@ -14,7 +14,7 @@ ghost use Rattle.eval_tasks.specs.Rest.{from, returns};
 ghost use Rattle.eval_tasks.specs.Turns.{Turns};
 
 use cell_value::Value;
-use eval_ops::{Halt, Machine, moved, result_at};
+use eval_ops::{Halt, Machine, moved, pointer_result_at, result_at};
 use eval_tasks::{Body, Now, Pause, Turned, Way};
 use program_tables::Program;
 use program_tables::rows::{PartRow, Row, TypeRow};
@@ -82,9 +82,8 @@ fn give_result(
     place: u32,
 ) -> Turned
     requires ready { IsReady machine.old }
-    ensures turns { Turns program.now (with_bounds (type_in_heading program.now heading) (λ least greatest.
-        doing line (action.result_at least greatest (state.moved body.old.home.base place)) scalar))
-        (moment_of machine.old) result body.new (moment_of machine.new) }
+    ensures turns { Turns program.now (action.result_of_type line (state.moved body.old.home.base place)
+        (type_in_heading program.now heading)) (moment_of machine.old) result body.new (moment_of machine.new) }
     ensures stops { IfOk result (λ s. s ≡ None → ⊥) }
     ensures home { body.new.home ≡ body.old.home }
     ensures ready { IsReady machine.new }
@@ -110,8 +109,7 @@ fn give_result_of(
     place: u32,
 ) -> Turned
     requires ready { IsReady machine.old }
-    ensures turns { Turns program.now (with_bounds kind (λ least greatest.
-        doing line (action.result_at least greatest (state.moved body.old.home.base place)) scalar))
+    ensures turns { Turns program.now (action.result_of_type line (state.moved body.old.home.base place) kind)
         (moment_of machine.old) result body.new (moment_of machine.new) }
     ensures stops { IfOk result (λ s. s ≡ None → ⊥) }
     ensures home { body.new.home ≡ body.old.home }
@@ -137,6 +135,10 @@ fn give_result_of(
                 line,
                 result_at(machine, least, greatest, moved(body.home.base, place)),
             )
+        }
+        Some(TypeRow::Pointer { .. }) => {
+            let done = pointer_result_at(machine, moved(body.home.base, place));
+            give(body, line, done)
         }
         _ => body.no_row(),
     }

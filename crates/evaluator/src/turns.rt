@@ -21,8 +21,8 @@ use eval_expressions::{
 };
 use eval_ops::{Halt, Machine, spend};
 use eval_statements::{
-    begin_record, carry, continue_statement, establish, execute, follow_statement, leave,
-    locate_target, locate_target_cells, put, put_cells, sequence, turn_again,
+    begin_record, carry, continue_statement, dispose_of, establish, execute, follow_statement,
+    leave, locate_target, locate_target_cells, put, put_cells, put_pointer, sequence, turn_again,
 };
 use eval_tasks::{Body, Now, Part, Pause, Stop, Task, Turned, Way};
 use program_tables::Program;
@@ -253,6 +253,7 @@ fn after_scalar(
         Task::Range { next, line } => gather_range(body, next, line, value),
         Task::Choice(choice) => continue_statement(body, alloc, program, machine, choice, value),
         Task::Target { target, of, line } => locate_target(body, program, target, of, line, value),
+        Task::Dispose { of, line } => dispose_of(body, alloc, program, machine, of, line, value),
         Task::Next(next) => follow_statement(body, alloc, program, machine, next),
         Task::Leave => leave(body, Way::Scalar(value)),
         _ => body.no_row(),
@@ -287,6 +288,7 @@ fn after_address(
             line,
         } => establish(body, next, inner, line, addr),
         Task::PutCells { line } => put_cells(body, alloc, program, machine, line, addr),
+        Task::Point { line } => put_pointer(body, alloc, program, machine, line, addr),
         Task::Next(next) => follow_statement(body, alloc, program, machine, next),
         Task::Leave => leave(body, Way::Address(addr)),
         _ => body.no_row(),

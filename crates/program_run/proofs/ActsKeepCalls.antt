@@ -1,12 +1,13 @@
 -- What a body does itself enters no call, leaves none and gives nothing out, and the log only grows.
-use Rattle.std.proofs.Common.{◌≡◌, ℕ, zero, suc, Bool, true, false, List, [], ◌∷◌, ◌++◌, Option, Some, None, refl, sym, ap, ◌∙◌, append_assoc, append-nil}
+use Rattle.std.proofs.Common.{◌≡◌, ℕ, zero, suc, ◌+◌, Bool, true, false, List, [], ◌∷◌, ◌++◌, Option, Some, None, refl, sym, ap, ◌∙◌, append_assoc, append-nil}
 use Rattle.std.specs.Prelude.{nat_lt, is_some, if◌then◌else◌}
 use Rattle.std.specs.FinMap.{get}
 use Rattle.cell_value.specs.declared.values.Value.{Value}
 use Rattle.cell_value.specs.declared.entries.Touch.{Touch}
 use Rattle.cell_value.specs.declared.entries.Touch.TheVariants as touch
 use Rattle.program_tables.specs.ProgramRows.{ProgramRows}
-use Rattle.program_meaning.specs.State.{State, stack_end, is_in_reach}
+use Rattle.program_meaning.specs.State.{State, stack_end, heap_end, is_in_reach}
+use Rattle.program_meaning.specs.Blocks.{block_cells, lies_in_heap}
 use Rattle.program_meaning.specs.Acts.{
   Act,
   Done,
@@ -16,6 +17,8 @@ use Rattle.program_meaning.specs.Acts.{
   ReadCell,
   HasCell,
   WriteCell,
+  MakeBlock,
+  DropBlock,
   perform,
   with_steps,
   on_cell,
@@ -23,6 +26,8 @@ use Rattle.program_meaning.specs.Acts.{
   put,
   put_asked,
   after_touches,
+  made_block,
+  dropped_block,
 }
 use Rattle.program_meaning.specs.Tree.{Tree, Ret, Halt, Do, Sub, Enter, Line, way_of, bind}
 use Rattle.program_meaning.specs.Layer.{layer}
@@ -83,6 +88,13 @@ kept_act (ReadCell addr) σ = kept_cell addr σ (λ τ. read_as addr (get σ.cel
     (λ m. kept_read addr (get σ.cells addr) σ (record σ { steps = m }) (record { calls = refl; depth = refl; output = refl; items = refl }))
 kept_act (HasCell addr) σ = kept_cell addr σ (λ τ. Went (is_some (get σ.cells addr)) (touch.Has addr (is_some (get σ.cells addr)) ∷ []) τ)
     (λ m. record { calls = refl; depth = refl; output = refl; items = refl })
+kept_act (MakeBlock cells of') σ = kept_if σ (nat_lt heap_end (σ.fresh + block_cells cells)) _ _ (same_calls σ)
+    (kept_steps (block_cells cells) σ (made_block (block_cells cells) of')
+    (λ m. record { calls = refl; depth = refl; output = refl; items = refl }))
+kept_act (DropBlock addr cells) σ = kept_if σ (lies_in_heap addr (block_cells cells)) _ _
+    (kept_steps (block_cells cells) σ (dropped_block addr (block_cells cells))
+    (λ m. record { calls = refl; depth = refl; output = refl; items = refl }))
+    (same_calls σ)
 kept_act (WriteCell addr value) σ = kept_cell addr σ
     (λ τ. if nat_lt addr stack_end then put addr value τ else put_asked (is_some (get τ.cells addr)) addr value τ)
     (kept_write (nat_lt addr stack_end) addr value σ)

@@ -1,6 +1,7 @@
 use Rattle.std.proofs.Common.{ap, ◌∙◌}
 use Rattle.program_meaning.specs.Tree.{bind}
 use Rattle.program_meaning.specs.Accesses.{of_access}
+use Rattle.eval_ops.specs.Machines.{moment_of}
 use Rattle.eval_tasks.specs.Rest.{here, waiting, located, top_list, lists_of}
 use Rattle.eval_tasks.specs.declared.tasks.Located.TheVariants as locateds
 use Rattle.eval_tasks.proofs.Turning.{turns_same, before_it}
@@ -46,3 +47,7 @@ returns-in-Within-clause-turns c =
     (ap (λ e. bind (of_access c.args.program.now c.args.row c.args.target (here c.args.body.now.home c.args.line) e)
     (waiting c.args.program.now c.args.body.now)) c.in-Within.is)
     c.within.ensures.turns
+
+pub returns-in-Dereference-clause-turns : goal.returns-in-Dereference-clause-turns
+returns-in-Dereference-clause-turns c = rw c.in-Dereference.is (c.dereference.ensures.turns c.args.program.now
+    (moment_of c.args.machine.now))

@@ -46,3 +46,9 @@ returns-in-Ok-spend-clause-turns c =
     (spent p h (locate_field p c.in-Field.target c.in-Field.line c.args.addr c.in-Field.field) (waiting p c.args.body.now)
     (moment_of c.args.machine.now) (moment_of c.spend-in-Field.new.machine) c.in-Ok-spend.ensures.act))
     c.locate_field.ensures.turns
+
+pub returns-in-Pointed-clause-turns : goal.returns-in-Pointed-clause-turns
+returns-in-Pointed-clause-turns c = turns_same c.args.program.now _ _ _ _ c.follow_pointer.result c.follow_pointer.new.body
+    (ap (λ t. resume c.args.program.now c.args.body.now.home (tasks.Located t ∷ tasks_of c.args.body.now) (values_of c.args.body.now)
+    (lists_of c.args.body.now) (Address c.args.addr)) c.in-Pointed.is)
+    (c.follow_pointer.ensures.turns c.args.program.now)

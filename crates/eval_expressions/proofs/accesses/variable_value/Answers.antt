@@ -6,6 +6,7 @@ use Rattle.std.proofs.Common.{◌≡◌, Some, ap, ◌∙◌, arith}
 use Rattle.program_meaning.specs.Tree.{bind}
 use Rattle.program_meaning.specs.Accesses.{value_at}
 use Rattle.program_meaning.specs.Cells as action
+use Rattle.program_meaning.specs.Heap.{pointer_at}
 use Rattle.eval_ops.specs.Machines.{moment_of}
 use Rattle.eval_tasks.specs.Rest.{waiting}
 use Rattle.eval_tasks.proofs.StepsFall.{falls_so}
@@ -63,3 +64,18 @@ pub returns-in-Some-Set-clause-falls : goal.returns-in-Some-Set-clause-falls
 returns-in-Some-Set-clause-falls c = falls_so c.scalar-in-Some-Set.result _ _ _ _ (λ k. omega arith)
     (c.scalar-in-Some-Set.ensures.less (action.set_at c.args.addr) (moment_of c.args.machine.now) (moment_of c.set_at.new.machine)
     c.set_at.ensures.action)
+
+pub returns-in-Some-Pointer-clause-turns : goal.returns-in-Some-Pointer-clause-turns
+returns-in-Some-Pointer-clause-turns c =
+    let p = c.args.program.now in
+    let n = c.in-Some-Pointer in
+    let e : c.args.kind ≡ Some (kinds.Pointer n.field-0-0) = n.is ∙ ap Some (rw n.is at n.field-0-is) in
+    turns_same p _ _ _ _ c.scalar-in-Some-Pointer.result c.scalar-in-Some-Pointer.new.self
+    (ap (λ k. bind (value_at c.args.line c.args.addr k) (waiting p c.args.body.now)) e)
+    (c.scalar-in-Some-Pointer.ensures.turns p (pointer_at c.args.addr) (moment_of c.args.machine.now)
+    (moment_of c.pointer_at.new.machine) c.pointer_at.ensures.action)
+
+pub returns-in-Some-Pointer-clause-falls : goal.returns-in-Some-Pointer-clause-falls
+returns-in-Some-Pointer-clause-falls c = falls_so c.scalar-in-Some-Pointer.result _ _ _ _ (λ k. omega arith)
+    (c.scalar-in-Some-Pointer.ensures.less (pointer_at c.args.addr) (moment_of c.args.machine.now) (moment_of c.pointer_at.new.machine)
+    c.pointer_at.ensures.action)

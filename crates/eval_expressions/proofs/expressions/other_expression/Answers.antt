@@ -37,3 +37,6 @@ returns-in-Apply-clause-turns c m = rw c.in-Apply.is (rw c.in-Apply.is at c.desi
 
 pub returns-in-ApplyFormal-clause-turns : goal.returns-in-ApplyFormal-clause-turns
 returns-in-ApplyFormal-clause-turns c m = rw c.in-ApplyFormal.is (rw c.in-ApplyFormal.is at c.designator-in-ApplyFormal.ensures.turns c.args.program.now m)
+
+pub returns-in-Nil-clause-turns : goal.returns-in-Nil-clause-turns
+returns-in-Nil-clause-turns c m = rw c.in-Nil.is (c.go-in-Nil.ensures.turns c.args.program.now m)

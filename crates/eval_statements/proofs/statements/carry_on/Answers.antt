@@ -65,6 +65,8 @@ returns-in_default-clause-turns c =
       call_formal = c.in_default.not-CallFormal;
       goto = c.in_default.not-Goto;
       with' = c.in_default.not-With;
+      new = c.in_default.not-New;
+      dispose = c.in_default.not-Dispose;
     })))
     (c.no_row.ensures.turns p _)
 
@@ -84,3 +86,9 @@ returns-in-Call-clause-turns c = rw c.in-Call.is (rw c.in-Call.is at c.procedure
 pub returns-in-CallFormal-clause-turns : goal.returns-in-CallFormal-clause-turns
 returns-in-CallFormal-clause-turns c = rw c.in-CallFormal.is (rw c.in-CallFormal.is at c.procedure_statement-in-CallFormal.ensures.turns
     c.args.program.now c.args.row (moment_of c.args.machine.now))
+
+pub returns-in-New-clause-turns : goal.returns-in-New-clause-turns
+returns-in-New-clause-turns c = rw c.in-New.is (rw c.in-New.is at c.heap_statement.ensures.turns c.args.row)
+
+pub returns-in-Dispose-clause-turns : goal.returns-in-Dispose-clause-turns
+returns-in-Dispose-clause-turns c = rw c.in-Dispose.is (rw c.in-Dispose.is at c.heap_statement-in-Dispose.ensures.turns c.args.row)

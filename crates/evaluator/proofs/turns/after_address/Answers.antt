@@ -30,3 +30,7 @@ pub returns-in-Record-clause-turns : goal.returns-in-Record-clause-turns
 returns-in-Record-clause-turns c = turns_same c.args.program.now _ _ _ _ c.establish.result c.establish.new.body
     (ap (from_under c.args.program.now c.args.body.now (Came (way.Address c.args.addr))) c.in-Record.is)
     (c.establish.ensures.turns c.args.program.now _)
+
+pub returns-in-Point-clause-turns : goal.returns-in-Point-clause-turns
+returns-in-Point-clause-turns c = turns_same c.args.program.now _ _ _ _ c.put_pointer.result c.put_pointer.new.body
+    (ap (from_under c.args.program.now c.args.body.now (Came (way.Address c.args.addr))) c.in-Point.is) c.put_pointer.ensures.turns
