@@ -7,7 +7,7 @@ use Rattle.program_meaning.specs.Input.{space}
 use Rattle.program_meaning.specs.Output.{give, gives, spaces, kept, in_width}
 use Rattle.eval_ops.specs.declared.halt.Halt.{Halt}
 use Rattle.eval_ops.specs.Machines.{Moment, ActionFinished, DoesAll}
-use Rattle.eval_transfers.specs.Output.{give_one, text_by}
+use Rattle.eval_textfiles.specs.Output.{give_one, text_by}
 use Rattle.eval_ops.proofs.ActionsCompose.{CameTo, does_bind, does_stop}
 use Rattle.eval_ops.proofs.Lists.{drop_get}
 

@@ -6,8 +6,8 @@ use Rattle.program_meaning.specs.State.{State}
 use Rattle.program_meaning.specs.Acts.{Done, Went, TakeIf, with_steps}
 use Rattle.program_meaning.specs.Actions.{Action, ◌>>=◌, act}
 use Rattle.program_meaning.specs.Input.{any_item, no_item, leads_on, is_digit, first_digit}
-use Rattle.eval_transfers.specs.declared.input.Wanted.{Wanted}
-use Rattle.eval_transfers.specs.declared.input.Wanted.TheVariants.{Nothing, Anything, Lead, Digit}
+use Rattle.eval_textfiles.specs.declared.input.Wanted.{Wanted}
+use Rattle.eval_textfiles.specs.declared.input.Wanted.TheVariants.{Nothing, Anything, Lead, Digit}
 
 -- whether an item is taken
 abbrev pub wants : Wanted → ℕ → Bool

@@ -4,7 +4,7 @@ ghost use Rattle.std.specs.Prelude.{◌≡◌, ℕ, Option, Some, List, map, cod
 ghost use Rattle.program_meaning.specs.Acts.{GiveByte, perform};
 ghost use Rattle.program_meaning.specs.Actions.{performs};
 ghost use Rattle.program_meaning.specs.Output as output;
-ghost use Rattle.eval_transfers.specs.Output.{give_one, text_by};
+ghost use Rattle.eval_textfiles.specs.Output.{give_one, text_by};
 ghost use Rattle.eval_ops.specs.Machines.{Does, DoesAll, Gives, IsReady, machine_state, moment_of};
 
 use cell_value::{Cells, Kind, Touch, Value};

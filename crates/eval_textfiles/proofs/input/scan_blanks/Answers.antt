@@ -4,7 +4,7 @@ use Rattle.program_meaning.specs.Actions.{act}
 use Rattle.program_meaning.specs.Input.{leads_on, leading}
 use Rattle.eval_ops.specs.Machines.{moment_of}
 use Rattle.eval_ops.proofs.ActionsCompose.{does_bind}
-use Rattle.eval_transfers.proofs.input.scan_blanks.Goals as goal
+use Rattle.eval_textfiles.proofs.input.scan_blanks.Goals as goal
 
 pub returns-in-Some-clause-action : goal.returns-in-Some-clause-action
 returns-in-Some-clause-action c = does_bind (λ s. s) (act (TakeIf leads_on)) leading (Some c.in-Some.item) (moment_of c.args.machine.now)

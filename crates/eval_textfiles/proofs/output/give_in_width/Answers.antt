@@ -1,8 +1,8 @@
 use Rattle.std.proofs.Common.{Ok, Err}
 use Rattle.std.proofs.lemmas.Result.{err_from_is_err_and}
 use Rattle.eval_ops.specs.Machines.{moment_of}
-use Rattle.eval_transfers.proofs.Texts.{wide_goes, wide_stops}
-use Rattle.eval_transfers.proofs.output.give_in_width.Goals as goal
+use Rattle.eval_textfiles.proofs.Texts.{wide_goes, wide_stops}
+use Rattle.eval_textfiles.proofs.output.give_in_width.Goals as goal
 
 pub returns-in_err-give_spaces-clause-action : goal.returns-in_err-give_spaces-clause-action
 returns-in_err-give_spaces-clause-action g c =

@@ -5,7 +5,7 @@ ghost use Rattle.program_meaning.specs.Acts.{TakeIf, take_item};
 ghost use Rattle.program_meaning.specs.Actions.{act, performs};
 ghost use Rattle.program_meaning.specs.declared.scan.Scan.TheVariants.{Blanks, Digits};
 ghost use Rattle.program_meaning.specs.Input as input;
-ghost use Rattle.eval_transfers.specs.Input.{after_sign, looked_at, wants};
+ghost use Rattle.eval_textfiles.specs.Input.{after_sign, looked_at, wants};
 ghost use Rattle.eval_ops.specs.Machines.{Does, DoesAll, Gives, IsReady, machine_state, moment_of};
 
 use cell_value::{Kind, Touch, Value};

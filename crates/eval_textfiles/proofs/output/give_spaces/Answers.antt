@@ -4,8 +4,8 @@ use Rattle.program_meaning.specs.Input.{space}
 use Rattle.program_meaning.specs.Output.{give, gives, spaces}
 use Rattle.eval_ops.specs.Machines.{moment_of}
 use Rattle.eval_ops.proofs.ActionsCompose.{came_next, came_stop}
-use Rattle.eval_transfers.proofs.Texts.{at_space}
-use Rattle.eval_transfers.proofs.output.give_spaces.Goals as goal
+use Rattle.eval_textfiles.proofs.Texts.{at_space}
+use Rattle.eval_textfiles.proofs.output.give_spaces.Goals as goal
 
 pub returns-in_err-give-clause-action : goal.returns-in_err-give-clause-action
 returns-in_err-give-clause-action c =

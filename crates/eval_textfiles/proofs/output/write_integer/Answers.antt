@@ -6,7 +6,7 @@ use Rattle.cell_value.specs.declared.values.Value.TheVariants.{Number}
 use Rattle.program_meaning.specs.Actions.{performs}
 use Rattle.program_meaning.specs.Output.{written, integer_text}
 use Rattle.eval_ops.specs.Machines.{DoesAll, machine_state, moment_of}
-use Rattle.eval_transfers.proofs.output.write_integer.Goals as goal
+use Rattle.eval_textfiles.proofs.output.write_integer.Goals as goal
 
 pub returns-in-Number-clause-action : goal.returns-in-Number-clause-action
 returns-in-Number-clause-action c = let f : SFits w64 c.in-Number.number = search rules in

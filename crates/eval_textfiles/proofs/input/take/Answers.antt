@@ -1,6 +1,6 @@
 use Rattle.std.proofs.Common.{arith}
 use Rattle.std.proofs.lemmas.Option.{slice_get_within}
-use Rattle.eval_transfers.proofs.input.take.Goals as goal
+use Rattle.eval_textfiles.proofs.input.take.Goals as goal
 
 pub overflow_add-next : goal.overflow_add-next
 overflow_add-next c = omega (
