@@ -1,2 +1,4 @@
 pub mod Frames
+pub mod Input
 pub mod Machines
+pub mod Output

@@ -82,7 +82,7 @@ pub fn spend(machine: &mut Machine, steps: u32) -> Result<(), Halt>
 
 /// Takes a step and puts an entry into the log.
 #[inline(always)]
-fn note(machine: &mut Machine, touch: Touch) -> Result<(), Halt>
+pub(crate) fn note(machine: &mut Machine, touch: Touch) -> Result<(), Halt>
     requires ready { IsReady machine.old }
     requires left { 0 < machine.old.steps }
     ensures noted { OnOk result (moment_of machine.new ≡ record {

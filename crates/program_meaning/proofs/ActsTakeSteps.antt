@@ -1,8 +1,31 @@
 -- The steps that acts take.
-use Rattle.std.proofs.Common.{ℕ, ◌+◌, ◌-◌, ◌≤◌, ◌≡◌, Bool, true, false, [], ◌∷◌, Option, Some, None, refl, nat_lt, is_some, if◌then◌else◌, arith}
+use Rattle.std.proofs.Common.{
+  ℕ,
+  ◌+◌,
+  ◌-◌,
+  ◌≤◌,
+  ◌≡◌,
+  Bool,
+  true,
+  false,
+  List,
+  [],
+  ◌∷◌,
+  ◌++◌,
+  Option,
+  Some,
+  None,
+  refl,
+  nat_lt,
+  is_some,
+  if◌then◌else◌,
+  slice_get,
+  arith,
+}
 use Rattle.std.proofs.lemmas.Bool.{ltb-false}
 use Rattle.std.specs.FinMap.{get}
 use Rattle.cell_value.specs.declared.values.Value.{Value}
+use Rattle.cell_value.specs.declared.entries.Touch.{Touch}
 use Rattle.cell_value.specs.declared.entries.Touch.TheVariants as touch
 use Rattle.cell_value.specs.declared.ways_out.Kind.TheVariants as kind
 use Rattle.program_meaning.specs.State.{State, stack_end, is_in_reach}
@@ -17,6 +40,8 @@ use Rattle.program_meaning.specs.Acts.{
   ReadCell,
   HasCell,
   WriteCell,
+  TakeIf,
+  GiveByte,
   perform,
   with_steps,
   on_cell,
@@ -24,6 +49,9 @@ use Rattle.program_meaning.specs.Acts.{
   put,
   put_asked,
   after_touches,
+  take_item,
+  take_looked,
+  look,
   spent,
 }
 
@@ -33,6 +61,8 @@ cost (Spend steps) = steps
 cost (ReadCell addr) = 1
 cost (HasCell addr) = 1
 cost (WriteCell addr value) = 1
+cost (TakeIf wanted) = 1
+cost (GiveByte byte) = 1
 
 -- where an act is done this many steps fewer are left, and else no more than there were
 abbrev pub Acted : {A : Type 0} → ℕ → State → Done A → Type 0
@@ -75,9 +105,29 @@ written addr value σ τ h = by (nat_lt addr stack_end)
     by true = h
     by false = asked (is_some (get τ.cells addr)) addr value σ τ h
 
+after : {A : Type 0} (w : List Touch) (n : ℕ) (σ : State) (d : Done A) → Acted n σ d → Acted n σ (after_touches w d)
+after w n σ (Went x v τ) h = h
+after w n σ (Stops why v τ) h = h
+
+looked : (wanted : ℕ → Bool) (o : Option ℕ) (σ τ : State) → τ.steps + 1 ≤ σ.steps → Acted 1 σ (take_looked wanted o τ)
+looked wanted None σ τ h = h
+looked wanted (Some item) σ τ h = by (wanted item)
+  where
+    left : (b : Bool) → Acted 1 σ (if b then Stops OutOfSteps [] (spent τ)
+        else Went (Some item) (touch.Take 1 ∷ []) (record τ { place = τ.place + 1; steps = τ.steps - 1 }))
+    left true = omega arith
+    left false = omega arith
+
+    by : (b : Bool) → Acted 1 σ (take_item b item τ)
+    by true = left (nat_lt τ.steps 1)
+    by false = h
+
 pub acted : (act : Act) (σ : State) → Acted (cost act) σ (perform act σ)
 acted (Spend steps) σ = stepped steps σ (λ τ. Went tt [] τ) (λ τ h. h)
 acted (ReadCell addr) σ = celled addr σ (λ τ. read_as addr (get σ.cells addr) τ) (λ τ h. found addr (get σ.cells addr) σ τ h)
 acted (HasCell addr) σ = celled addr σ (λ τ. Went (is_some (get σ.cells addr)) (touch.Has addr (is_some (get σ.cells addr)) ∷ []) τ) (λ τ h. h)
 acted (WriteCell addr value) σ = celled addr σ
     (λ τ. if nat_lt addr stack_end then put addr value τ else put_asked (is_some (get τ.cells addr)) addr value τ) (written addr value σ)
+acted (TakeIf wanted) σ = stepped 1 σ (look wanted) (λ τ h. after (touch.Look τ.place ∷ []) 1 σ (take_looked wanted (slice_get τ.items τ.place) τ)
+    (looked wanted (slice_get τ.items τ.place) σ τ h))
+acted (GiveByte byte) σ = stepped 1 σ (λ τ. Went tt (touch.Give byte ∷ []) (record τ { output = τ.output ++ byte ∷ [] })) (λ τ h. h)

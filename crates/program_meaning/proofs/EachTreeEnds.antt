@@ -12,6 +12,7 @@ use Rattle.std.proofs.Common.{
   ◌*◌,
   ◌<◌,
   ◌≤◌,
+  ◌==◌,
   ℤ,
   Bool,
   true,
@@ -93,6 +94,10 @@ use Rattle.program_meaning.specs.Tree.{
   Sequence,
   Turn,
   Count,
+  Receive,
+  Scanning,
+  RestOfLine,
+  Print,
   Body,
   Tree,
   Ret,
@@ -102,10 +107,16 @@ use Rattle.program_meaning.specs.Tree.{
   Enter,
   Line,
   way_of,
+  doing,
 }
-use Rattle.program_meaning.specs.Accesses.{no_row, eval, locate, locate_before, of_access, access_in}
+use Rattle.program_meaning.specs.declared.scan.Scan.{Scan}
+use Rattle.program_meaning.specs.declared.scan.Scan.TheVariants.{Blanks, Digits}
+use Rattle.program_meaning.specs.Accesses.{no_row, on_scalar, eval, locate, locate_before, of_access, access_in, type_accessed}
 use Rattle.program_meaning.specs.Expressions.{expression_in, of_actual, of_members}
 use Rattle.program_meaning.specs.Statements.{on_normal, on_labelled, begins, line_of, statement_in, of_sequence, of_turn, of_count}
+use Rattle.program_meaning.specs.Input.{next_char}
+use Rattle.program_meaning.specs.Output.{char_type, host_at}
+use Rattle.program_meaning.specs.Transfers.{read_for, received, of_received, of_scan, of_printed}
 use Rattle.program_meaning.specs.Layer.{layer, of_body}
 use Rattle.program_meaning.proofs.ActsTakeSteps.{cost, Acted, acted}
 use Rattle.program_meaning.specs.Run.{
@@ -150,6 +161,10 @@ rank R (Eval row here) = R + 1
 rank R (Pass at passed here) = R + 2
 rank R (Gather at set here) = R + 2
 rank R (Turn row here) = R + 2
+rank R (Receive at here) = R + 2
+rank R (Scanning scan here) = 0
+rank R (RestOfLine here) = 0
+rank R (Print at here) = R + 2
 
 -- whether a part takes a step before it ends, if nothing stops the run
 abbrev pays : Part → Bool
@@ -157,6 +172,8 @@ pays (Eval row here) = true
 pays (Locate row here) = true
 pays (Exec row here) = true
 pays (Body routine base) = true
+pays (Scanning scan here) = true
+pays (RestOfLine here) = true
 pays part = false
 
 -- A tree of a rank; and where it is said to pay, it does not end without a step.
@@ -178,6 +195,10 @@ below_all R (Eval row here) = omega arith
 below_all R (Pass at passed here) = omega arith
 below_all R (Gather at set here) = omega arith
 below_all R (Turn row here) = omega arith
+below_all R (Receive at here) = omega arith
+below_all R (Scanning scan here) = omega arith
+below_all R (RestOfLine here) = omega arith
+below_all R (Print at here) = omega arith
 
 -- each tree has this rank
 any_tree : (R : ℕ) (t : Tree) → Ranked R (R + 3) false t
@@ -303,6 +324,30 @@ module _ (p : ProgramRows) where
   counted row i last here (rows.Statement (statement.Turns direction last' place of' body)) = inl one
   counted row i last here r = tt
 
+  read_for_fits : (at host : ℕ) (here : Here) (go : Value → Tree) → Fits (Receive at here) (read_for here host go)
+  read_for_fits at host here go = by (host == char_type)
+    where
+      by : (b : Bool) → Fits (Receive at here) (if b then doing here.line next_char go else Sub (Scanning Blanks here) (on_scalar go))
+      by true = inl one
+      by false = (omega arith, inl refl)
+
+  received_row : (at access next : ℕ) (here : Here) (r : Row) → Fits (Receive at here) (received p here access next r)
+  received_row at access next here (rows.Access a) = read_for_fits at (host_at p (type_accessed a)) here _
+  received_row at access next here r = tt
+
+  receives : (at : ℕ) (here : Here) (r : Row) → Fits (Receive at here) (of_received p here r)
+  receives at here (rows.Item (item.Element access next)) = received_row at access next here (row_at p access)
+  receives at here r = refl
+
+  scans : (scan : Scan) (here : Here) → Fits (Scanning scan here) (of_scan scan here)
+  scans Blanks here = inl one
+  scans (Digits minus number) here = inl one
+
+  prints : (at : ℕ) (here : Here) (r : Row) → Fits (Print at here) (of_printed p here r)
+  prints at here (rows.Item (item.Written e of' next)) = (omega arith, inl refl)
+  prints at here (rows.Item (item.WrittenWide e of' width next)) = (omega arith, inl refl)
+  prints at here r = refl
+
   bodied : (routine base : ℕ) (o : Option Routine) → Fits (Body routine base) (of_body base o)
   bodied routine base None = tt
   bodied routine base (Some r) = inl one
@@ -316,6 +361,10 @@ module _ (p : ProgramRows) where
   part_fits (Sequence first at here) = in_sequence first at here (row_at p at)
   part_fits (Turn row here) = turned row here (row_at p row)
   part_fits (Count row i last here) = counted row i last here (row_at p row)
+  part_fits (Receive at here) = receives at here (row_at p at)
+  part_fits (Scanning scan here) = scans scan here
+  part_fits (RestOfLine here) = inl one
+  part_fits (Print at here) = prints at here (row_at p at)
   part_fits (Body routine base) = bodied routine base (routine_at p routine)
 
 -- ---- each tree ends

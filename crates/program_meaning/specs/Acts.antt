@@ -16,6 +16,7 @@ use Rattle.std.specs.Prelude.{
   None,
   is_some,
   nat_lt,
+  slice_get,
   if◌then◌else◌,
 }
 use Rattle.std.specs.FinMap.{get, insert}
@@ -41,6 +42,10 @@ pub data Act : Type 0 where
   HasCell : (addr : ℕ) → Act
   -- puts a value into a cell; of a cell of the heap it first asks whether it is there
   WriteCell : (addr : ℕ) (value : Value) → Act
+  -- looks at the item of the input at the place, or at the end there, and takes it if it is one that is wanted
+  TakeIf : (wanted : ℕ → Bool) → Act
+  -- gives a byte to the output
+  GiveByte : (byte : ℕ) → Act
 
 -- What an act answers. A cell of the heap that is to be read or written may not be there.
 abbrev pub Answer : Act → Type 0
@@ -48,6 +53,8 @@ Answer (Spend steps) = Unit {0}
 Answer (ReadCell addr) = Option Value
 Answer (HasCell addr) = Bool
 Answer (WriteCell addr value) = Bool
+Answer (TakeIf wanted) = Option ℕ
+Answer (GiveByte byte) = Unit {0}
 
 -- An act was done, with its answer, what it shows in the log and the state after it; or it was not done, or not
 -- whole, and the run stops.
@@ -98,6 +105,20 @@ put_if false addr value σ = Went false [] σ
 abbrev pub put_asked : Bool → (addr : ℕ) → Value → State → Done Bool
 put_asked there addr value σ = after_touches (touch.Has addr there ∷ []) (put_if there addr value σ)
 
+-- an item that was looked at is taken, if it is wanted, which takes a step more
+abbrev pub take_item : Bool → (item : ℕ) → State → Done (Option ℕ)
+take_item true item σ =
+    with_steps 1 σ (λ τ. Went (Some item) (touch.Take 1 ∷ []) (record τ { place = τ.place + 1 }))
+take_item false item σ = Went (Some item) [] σ
+
+abbrev pub take_looked : (wanted : ℕ → Bool) → Option ℕ → State → Done (Option ℕ)
+take_looked wanted None σ = Went None [] σ
+take_looked wanted (Some item) σ = take_item (wanted item) item σ
+
+-- the item at the place is looked at, once there is a step for it
+abbrev pub look : (wanted : ℕ → Bool) → State → Done (Option ℕ)
+look wanted σ = after_touches (touch.Look σ.place ∷ []) (take_looked wanted (slice_get σ.items σ.place) σ)
+
 -- what an act does
 abbrev pub perform : (act : Act) → State → Done (Answer act)
 perform (Spend steps) σ = with_steps steps σ (λ τ. Went tt [] τ)
@@ -106,3 +127,6 @@ perform (HasCell addr) σ = on_cell addr σ (λ τ.
     Went (is_some (get σ.cells addr)) (touch.Has addr (is_some (get σ.cells addr)) ∷ []) τ)
 perform (WriteCell addr value) σ = on_cell addr σ (λ τ.
     if nat_lt addr stack_end then put addr value τ else put_asked (is_some (get τ.cells addr)) addr value τ)
+perform (TakeIf wanted) σ = with_steps 1 σ (look wanted)
+perform (GiveByte byte) σ = with_steps 1 σ (λ τ.
+    Went tt (touch.Give byte ∷ []) (record τ { output = τ.output ++ byte ∷ [] }))

@@ -26,6 +26,8 @@ use Rattle.program_tables.specs.declared.rows.ExpressionRow.TheVariants.{
   Apply,
   ApplyFormal,
   Function,
+  Eof,
+  Eoln,
 }
 use Rattle.program_tables.specs.ProgramRows.{ProgramRows, type_at, routine_at, text_at}
 use Rattle.program_meaning.specs.Tree.{Out, Scalar, Cells, Jump, Here, Eval, Pass, Gather, Tree, Ret, Sub, Enter, doing}
@@ -47,6 +49,7 @@ use Rattle.program_meaning.specs.Values.{
   texts_compared,
 }
 use Rattle.program_meaning.specs.Actions.{Action, Give, ◌>>=◌}
+use Rattle.program_meaning.specs.Input.{at_end, at_line_end}
 use Rattle.program_meaning.specs.Cells.{frame_out, routine_out}
 use Rattle.program_meaning.specs.Accesses.{
   no_row,
@@ -115,6 +118,8 @@ of_expression p here (Apply routine levels actuals) = call p here routine levels
 of_expression p here (ApplyFormal place levels actuals) = call_formal p here place levels actuals Ret
 of_expression p here (Function f operand least greatest) =
     eval operand here (λ v. result_of here (function_of f least greatest v))
+of_expression p here Eof = doing here.line at_end scalar
+of_expression p here Eoln = doing here.line at_line_end scalar
 of_expression p here e = no_row
 
 -- An access that is used for its value takes no step beside its own.

@@ -12,6 +12,10 @@ use Rattle.program_meaning.specs.Tree.{
   Sequence,
   Turn,
   Count,
+  Receive,
+  Scanning,
+  RestOfLine,
+  Print,
   Body,
   Tree,
   Ret,
@@ -20,6 +24,7 @@ use Rattle.program_meaning.specs.Tree.{
 use Rattle.program_meaning.specs.Accesses.{no_row, spend, access_in}
 use Rattle.program_meaning.specs.Expressions.{expression_in, of_actual, of_members}
 use Rattle.program_meaning.specs.Statements.{statement_in, of_sequence, of_turn, of_count}
+use Rattle.program_meaning.specs.Transfers.{of_received, of_scan, of_rest_of_line, of_printed}
 
 -- the statement part of a routine, which is itself a statement and takes a step
 abbrev pub of_body : (base : ℕ) → Option Routine → Tree
@@ -38,4 +43,8 @@ layer p (Exec row here) = statement_in p row here (row_at p row)
 layer p (Sequence first at here) = of_sequence p here first (row_at p at)
 layer p (Turn row here) = of_turn row here (row_at p row)
 layer p (Count row i last here) = of_count row here i last (row_at p row)
+layer p (Receive at here) = of_received p here (row_at p at)
+layer p (Scanning scan here) = of_scan scan here
+layer p (RestOfLine here) = of_rest_of_line here
+layer p (Print at here) = of_printed p here (row_at p at)
 layer p (Body routine base) = of_body base (routine_at p routine)

@@ -3,10 +3,14 @@ pub mod Acts
 pub mod Actions
 pub mod Tree
 pub mod Values
+pub mod Input
+pub mod Output
 pub mod Cells
 pub mod Accesses
+pub mod Packing
 pub mod Expressions
 pub mod Statements
+pub mod Transfers
 pub mod Layer
 pub mod Run
 pub mod Numbering

@@ -27,6 +27,10 @@ use Rattle.program_tables.specs.declared.rows.StatementRow.TheVariants.{
   While,
   For,
   Turns,
+  Read,
+  Write,
+  Page,
+  Pack,
 }
 use Rattle.program_tables.specs.ProgramRows.{ProgramRows, row_at, type_at}
 use Rattle.program_meaning.specs.State.{moved}
@@ -44,6 +48,9 @@ use Rattle.program_meaning.specs.Tree.{
   Sequence,
   Turn,
   Count,
+  Receive,
+  RestOfLine,
+  Print,
   Tree,
   Ret,
   Halt,
@@ -55,6 +62,8 @@ use Rattle.program_meaning.specs.Values.{or_fault, tested, is_true}
 use Rattle.program_meaning.specs.Cells.{write, writes, assign, frame_out}
 use Rattle.program_meaning.specs.Accesses.{no_row, spend, eval, locate}
 use Rattle.program_meaning.specs.Expressions.{call, call_formal}
+use Rattle.program_meaning.specs.Output.{end_line, end_page}
+use Rattle.program_meaning.specs.Packing.{pack}
 
 -- goes on after a statement that ended normally; a jump goes on outward
 abbrev pub on_normal : Tree → Out → Tree
@@ -146,6 +155,13 @@ of_statement p row here (CallFormal line place levels actuals) =
     call_formal p here place levels actuals (on_normal nothing)
 of_statement p row here (Goto line label levels) = doing here.line (frame_out levels here.base) (λ base.
     Ret (Jump label base))
+of_statement p row here (Read ends_line line actuals) =
+    Sub (Receive actuals here) (on_normal (if ends_line then Sub (RestOfLine here) Ret else nothing))
+of_statement p row here (Write ends_line line actuals) =
+    Sub (Print actuals here) (on_normal (if ends_line then finally here end_line else nothing))
+of_statement p row here (Page line) = finally here end_page
+of_statement p row here (Pack packing line unpacked index packed) =
+    pack p here packing unpacked index packed (finally here)
 of_statement p row here s = no_row
 
 -- the line of a statement that is neither compound nor empty
@@ -160,6 +176,10 @@ line_of (While line condition body) = Some line
 line_of (For line initial turns) = Some line
 line_of (CallFormal line place levels actuals) = Some line
 line_of (Goto line label levels) = Some line
+line_of (Read ends_line line actuals) = Some line
+line_of (Write ends_line line actuals) = Some line
+line_of (Page line) = Some line
+line_of (Pack packing line unpacked index packed) = Some line
 line_of s = None
 
 -- A statement begins: it takes a step, and then its line is told.

@@ -3,6 +3,7 @@ use Rattle.std.specs.Prelude.{ℕ, ℤ, List}
 use Rattle.cell_value.specs.declared.values.Value.{Value}
 use Rattle.cell_value.specs.declared.ways_out.WayOut.{WayOut}
 use Rattle.cell_value.specs.declared.ways_out.WayOut.TheVariants as way
+use Rattle.program_meaning.specs.declared.scan.Scan.{Scan}
 use Rattle.program_meaning.specs.Acts.{Trouble, Fault, OutOfSteps, Limited, Act, Answer}
 use Rattle.program_meaning.specs.Actions.{Action, Give, Fail, Perform}
 
@@ -44,6 +45,14 @@ pub data Part : Type 0 where
   Turn : (row : ℕ) (here : Here) → Part
   -- the turns of a for statement from this value of its control variable on, up or down to the last
   Count : (row : ℕ) (value last : ℤ) (here : Here) → Part
+  -- the actuals of a read statement from an item on
+  Receive : (at : ℕ) (here : Here) → Part
+  -- the rest of an integer that is read, of which so much was met
+  Scanning : (scan : Scan) (here : Here) → Part
+  -- the rest of a line of the input, with its end
+  RestOfLine : (here : Here) → Part
+  -- the actuals of a write statement from an item on
+  Print : (at : ℕ) (here : Here) → Part
   -- the statement part of a routine whose frame is at a base
   Body : (routine base : ℕ) → Part
 

@@ -4,9 +4,11 @@
 
 mod components;
 mod laws;
+mod scan;
 
 pub use components::Components;
 pub use laws::{
     depth_is_enough, every_program_runs, every_run_has_a_call, marks_tell_the_log,
     numbers_tell_the_tree,
 };
+pub use scan::{Scan, Scanned};

@@ -1,9 +1,11 @@
 -- What an act leaves of a sound state, and that the state after it is sound. Each act has a clause of `act_leaves`.
 use Rattle.std.proofs.Common.{◌≡◌, ◌⊎◌, inl, inr, ℕ, ◌+◌, ◌-◌, ◌<◌, ◌≤◌, Bool, true, false, List, [], ◌∷◌, ◌++◌, Option, Some, None, refl, sym, ap, subst}
-use Rattle.std.proofs.Common.{◌∙◌, append_assoc, append-nil, is_some, nat_lt, nat_le, if◌then◌else◌, arith}
+use Rattle.std.proofs.Common.{◌∙◌, append_assoc, append-nil, length, is_some, nat_lt, nat_le, if◌then◌else◌, arith}
 use Rattle.std.specs.Prelude.{◌&&◌, ◌||◌}
 use Rattle.std.specs.Option.{IsSome}
 use Rattle.std.proofs.lemmas.Bool.Decides.{eqb_tells, nat_tests}
+use Rattle.std.specs.List.{slice_get}
+use Rattle.std.proofs.lemmas.Option.{slice_get_within}
 use Rattle.std.proofs.lemmas.List.Sums.{sum_by-append}
 use Rattle.std.proofs.lemmas.List.Elements.{filter_map-append}
 use Rattle.std.specs.FinMap.{get, insert}
@@ -15,8 +17,8 @@ use Rattle.cell_value.specs.declared.ways_out.Kind.TheVariants as kind
 use Rattle.cell_value.specs.declared.ways_out.Which.TheVariants.{Calls, Depth, Stack}
 use Rattle.cell_value.specs.Effects.{is_shared, made_by, made_of, taken_by, taken_of, byte_by, given_of}
 use Rattle.program_meaning.specs.State.{State, IsSound, stack_end, heap_end, most_calls, most_depth, is_in_reach}
-use Rattle.program_meaning.specs.Acts.{Fault, OutOfSteps, Act, Spend, ReadCell, HasCell, WriteCell, Done, Went, Stops, perform, spent, with_steps, on_cell}
-use Rattle.program_meaning.specs.Acts.{read_as, put, put_asked, after_touches, limit_passed}
+use Rattle.program_meaning.specs.Acts.{Fault, OutOfSteps, Act, Spend, ReadCell, HasCell, WriteCell, TakeIf, GiveByte, Done, Went, Stops, perform, spent}
+use Rattle.program_meaning.specs.Acts.{with_steps, on_cell, read_as, put, put_asked, after_touches, take_item, take_looked, look, limit_passed}
 use Rattle.run_laws.proofs.Touches.{written, written-append, left_with, left_same, Serves, serves_append, none_some}
 use Rattle.run_laws.proofs.Cells.{got_same, got_other}
 
@@ -230,6 +232,81 @@ write_done σ addr k v s r h = by (nat_lt addr stack_end) refl
     by true e = write_leaves σ addr k v h s (in_stack (grind (arith, nat_tests)) (reaches σ addr r))
     by false e = asked (is_some (get σ.cells addr)) refl
 
+-- an item is looked at
+look_shown : (σ : State) (k : ℕ) → k ≤ σ.steps → IsSound σ → Leaves σ (touch.Look σ.place ∷ []) 0 (record σ { steps = k })
+look_shown σ k h s = record {
+  top = refl;
+  cells = λ a q. refl;
+  shows = λ a q. (tt, λ c. tt);
+  fresh = omega arith;
+  items = refl;
+  place = omega arith;
+  output = sym (append-nil σ.output);
+  steps = h;
+  calls = omega arith;
+  depth = refl;
+  sound = sound_steps k s;
+}
+
+-- other items are left, and other bytes were given
+sound_transfer : (σ : State) (k place : ℕ) (output : List ℕ) → IsSound σ → place ≤ length σ.items
+    → IsSound (record σ { place = place; output = output; steps = k })
+sound_transfer σ k place output s h = record {
+  stack = s.stack;
+  above_stack = s.above_stack;
+  above_heap = s.above_heap;
+  stack_fits = s.stack_fits;
+  heap_begins = s.heap_begins;
+  heap_fits = s.heap_fits;
+  input = h;
+  calls = s.calls;
+  depth = s.depth;
+}
+
+-- the item at the place is taken
+take_leaves : (σ : State) (k : ℕ) → k ≤ σ.steps → IsSound σ → σ.place < length σ.items
+    → Leaves σ (touch.Take 1 ∷ []) 0 (record σ { place = σ.place + 1; steps = k })
+take_leaves σ k h s l = record {
+  top = refl;
+  cells = λ a q. refl;
+  shows = λ a q. (tt, λ c. tt);
+  fresh = omega arith;
+  items = refl;
+  place = omega arith;
+  output = sym (append-nil σ.output);
+  steps = h;
+  calls = omega arith;
+  depth = refl;
+  sound = sound_transfer σ k (σ.place + 1) σ.output s (omega (arith, l));
+}
+
+-- an item was looked at, and is taken if it is wanted
+took : (wanted : ℕ → Bool) (o : Option ℕ) (σ : State) → IsSound σ → slice_get σ.items σ.place ≡ o → DoneLeaves σ (take_looked wanted o σ)
+took wanted None σ s e = leaves_same σ s
+took wanted (Some item) σ s e = by (wanted item)
+  where
+    by : (b : Bool) → DoneLeaves σ (take_item b item σ)
+    by true = stepped σ 1 (λ τ. Went (Some item) (touch.Take 1 ∷ []) (record τ { place = τ.place + 1 })) s
+        (λ k h. take_leaves σ k h s (slice_get_within σ.items σ.place item e))
+    by false = leaves_same σ s
+
+-- a byte is given
+give_leaves : (σ : State) (byte k : ℕ) → k ≤ σ.steps → IsSound σ
+    → Leaves σ (touch.Give byte ∷ []) 0 (record σ { output = σ.output ++ byte ∷ []; steps = k })
+give_leaves σ byte k h s = record {
+  top = refl;
+  cells = λ a q. refl;
+  shows = λ a q. (tt, λ c. tt);
+  fresh = omega arith;
+  items = refl;
+  place = omega arith;
+  output = refl;
+  steps = h;
+  calls = omega arith;
+  depth = refl;
+  sound = sound_transfer σ k σ.place (σ.output ++ byte ∷ []) s s.input;
+}
+
 pub act_leaves : (act : Act) (σ : State) → IsSound σ → DoneLeaves σ (perform act σ)
 act_leaves (Spend n) σ s = stepped σ n (λ τ. Went tt [] τ) s (λ k h. leaves_steps σ k h s)
 act_leaves (ReadCell addr) σ s = celled σ addr (λ τ. read_as addr (get σ.cells addr) τ) s (λ r k h. by k h (get σ.cells addr) refl)
@@ -241,6 +318,11 @@ act_leaves (HasCell addr) σ s = celled σ addr (λ τ. Went (is_some (get σ.ce
     (λ r k h. asked_shown σ addr k (is_some (get σ.cells addr)) h s refl)
 act_leaves (WriteCell addr v) σ s = celled σ addr
     (λ τ. if nat_lt addr stack_end then put addr v τ else put_asked (is_some (get τ.cells addr)) addr v τ) s (λ r k h. write_done σ addr k v s r h)
+act_leaves (TakeIf wanted) σ s = stepped σ 1 (look wanted) s (λ k h. touches_leave σ (record σ { steps = k }) (touch.Look σ.place ∷ [])
+    (take_looked wanted (slice_get σ.items σ.place) (record σ { steps = k })) (look_shown σ k h s)
+    (took wanted (slice_get σ.items σ.place) (record σ { steps = k }) (sound_steps k s) refl))
+act_leaves (GiveByte byte) σ s = stepped σ 1 (λ τ. Went tt (touch.Give byte ∷ []) (record τ { output = τ.output ++ byte ∷ [] })) s
+    (λ k h. give_leaves σ byte k h s)
 
 -- ---- limits
 

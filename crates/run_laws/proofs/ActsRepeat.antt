@@ -2,7 +2,7 @@
 -- Each act has a clause of `act_again`.
 use Rattle.std.proofs.Common.{◌≡◌, ◌⊎◌, inl, inr, ℕ, ◌+◌, ◌-◌, ◌<◌, ◌≤◌, Bool, true, false, List, [], ◌∷◌, ◌++◌, Option, Some, None, refl, sym, ap, subst}
 use Rattle.std.proofs.Common.{◌∙◌, is_some, nat_lt, nat_le, if◌then◌else◌, arith}
-use Rattle.std.specs.Prelude.{◌&&◌, ◌||◌, map}
+use Rattle.std.specs.Prelude.{◌&&◌, ◌||◌, map, max, fold}
 use Rattle.std.specs.List.{slice_get}
 use Rattle.std.proofs.lemmas.Bool.Decides.{eqb_tells, nat_tests}
 use Rattle.std.specs.FinMap.{get, insert}
@@ -12,10 +12,11 @@ use Rattle.cell_value.specs.declared.entries.Touch.TheVariants as touch
 use Rattle.cell_value.specs.declared.entries.Change.TheVariants.{Set}
 use Rattle.cell_value.specs.declared.ways_out.Kind.TheVariants as kind
 use Rattle.cell_value.specs.declared.ways_out.Which.TheVariants.{Calls, Depth, Stack}
-use Rattle.cell_value.specs.Effects.{made_of, looked_of}
+use Rattle.cell_value.specs.Effects.{made_of, looked_by, looked_of}
 use Rattle.program_meaning.specs.State.{State, stack_end, heap_end, most_calls, most_depth, is_in_reach}
-use Rattle.program_meaning.specs.Acts.{Trouble, Fault, OutOfSteps, Act, Spend, ReadCell, HasCell, WriteCell, Done, Went, Stops, perform, spent, with_steps}
-use Rattle.program_meaning.specs.Acts.{on_cell, read_as, put, put_if, put_asked, after_touches, limit_passed}
+use Rattle.program_meaning.specs.Acts.{Trouble, Fault, OutOfSteps, Act, Spend, ReadCell, HasCell, WriteCell, TakeIf, GiveByte, Done, Went, Stops}
+use Rattle.program_meaning.specs.Acts.{perform, spent, with_steps, on_cell, read_as, put, put_if, put_asked, after_touches, take_item, take_looked, look}
+use Rattle.program_meaning.specs.Acts.{limit_passed}
 use Rattle.run_laws.proofs.Touches.{Serves, none_some}
 use Rattle.run_laws.proofs.Cells.{Map, got_same, got_other}
 use Rattle.run_laws.proofs.ActsLeave.{MayEnter}
@@ -25,13 +26,17 @@ use Rattle.run_laws.proofs.Effects.{SameLog, relative}
 abbrev pub SameCells : List Touch → Map → Map → Type 0
 SameCells w m k = (a : ℕ) → (get m a ≡ get k a) ⊎ Serves (get k a) a w
 
+-- In both states the input was taken as far, from the places where the runs began.
+abbrev pub SamePlace : (from to : ℕ) → (place place' : ℕ) → Type 0
+SamePlace from to a b = (from ≤ a) × (a + to ≡ b + from)
+
 -- The second state serves touches as the first does. The runs of which they are part began at the places `from` and `to`
 -- of the input.
 pub record Agree (from to : ℕ) (w : List Touch) (σ τ : State) : Type 0 where
   pub top : σ.top ≡ τ.top
   pub fresh : 0 < made_of w → σ.fresh ≡ τ.fresh
   pub cells : SameCells w σ.cells τ.cells
-  pub place : σ.place + to ≡ τ.place + from
+  pub place : SamePlace from to σ.place τ.place
   pub items : (n : ℕ) → n < looked_of from w → slice_get σ.items (from + n) ≡ slice_get τ.items (to + n)
 
 -- what both lost or won of these is the same
@@ -78,9 +83,25 @@ itself_after : {A : Type 0} (w : List Touch) (d : Done A) → ByItself (after_to
 itself_after w (Went x v σ) h = h
 itself_after w (Stops why v σ) h = h
 
-as_after : {A : Type 0} (w : List Touch) (d : Done A) (v : List Touch) (τ : State) → after_touches w (done_as d v τ) ≡ done_as (after_touches w d) (w ++ v) τ
-as_after w (Went x u σ) v τ = refl
-as_after w (Stops why u σ) v τ = refl
+done_after : {A : Type 0} (w x : List Touch) (d : Done A) (v : List Touch) (τ : State)
+    → after_touches x (done_as d v τ) ≡ done_as (after_touches w d) (x ++ v) τ
+done_after w x (Went y u σ) v τ = refl
+done_after w x (Stops why u σ) v τ = refl
+
+-- the furthest look is as far as each
+max_least : (m : ℕ) (ns : List ℕ) → m ≤ fold max m ns
+max_least m [] = omega arith
+max_least m (n ∷ ns) = omega (arith, max_least (max m n) ns)
+
+max_more : (m k : ℕ) (ns : List ℕ) → m ≤ k → fold max m ns ≤ fold max k ns
+max_more m k [] h = h
+max_more m k (n ∷ ns) h = max_more (max m n) (max k n) ns (omega (arith, h))
+
+looked_later : (from : ℕ) (t : Touch) (w : List Touch) → looked_of from w ≤ looked_of from (t ∷ w)
+looked_later from t w = max_more 0 (max 0 (looked_by from t)) (map (looked_by from) w) (omega arith)
+
+looked_first : (from : ℕ) (t : Touch) (w : List Touch) → looked_by from t ≤ looked_of from (t ∷ w)
+looked_first from t w = omega (arith, max_least (max 0 (looked_by from t)) (map (looked_by from) w))
 
 module _ (from to : ℕ) where
   -- `d` was done from the first state, and the second one does the same in `e`; `u` are the touches that are to come
@@ -198,6 +219,43 @@ module _ (from to : ℕ) where
     items = h.items;
   }
 
+  after_look : (u : List Touch) (σ τ : State) → Agree from to (touch.Look σ.place ∷ u) σ τ → Agree from to u σ τ
+  after_look u σ τ h = record {
+    top = h.top;
+    fresh = h.fresh;
+    cells = λ a. elim (h.cells a) [ inl s ↦ inl s | inr s ↦ inr (s.1 refl) ];
+    place = h.place;
+    items = λ n k. h.items n (omega (arith, k, looked_later from (touch.Look σ.place) u));
+  }
+
+  after_take : (u : List Touch) (σ τ : State) → Agree from to (touch.Take 1 ∷ u) σ τ
+      → Agree from to u (record σ { place = σ.place + 1 }) (record τ { place = τ.place + 1 })
+  after_take u σ τ h = record {
+    top = h.top;
+    fresh = h.fresh;
+    cells = λ a. elim (h.cells a) [ inl s ↦ inl s | inr s ↦ inr (s.1 refl) ];
+    place = (omega (arith, h.place.0), omega (arith, h.place.1));
+    items = h.items;
+  }
+
+  after_give : (byte : ℕ) (u : List Touch) (σ τ : State) → Agree from to (touch.Give byte ∷ u) σ τ
+      → Agree from to u (record σ { output = σ.output ++ byte ∷ [] }) (record τ { output = τ.output ++ byte ∷ [] })
+  after_give byte u σ τ h = record {
+    top = h.top;
+    fresh = h.fresh;
+    cells = λ a. elim (h.cells a) [ inl s ↦ inl s | inr s ↦ inr (s.1 refl) ];
+    place = h.place;
+    items = h.items;
+  }
+
+  -- the second has the item at which the first looks
+  same_item : (u : List Touch) (σ τ : State) → Agree from to (touch.Look σ.place ∷ u) σ τ → slice_get σ.items σ.place ≡ slice_get τ.items τ.place
+  same_item u σ τ h =
+      let p = h.place in
+      let n : σ.place - from < looked_of from (touch.Look σ.place ∷ u) = omega (arith, p.0, looked_first from (touch.Look σ.place) u) in
+      ap (slice_get σ.items) (let e : σ.place ≡ from + (σ.place - from) = omega (arith, p.0) in e) ∙ h.items (σ.place - from) n
+      ∙ ap (slice_get τ.items) (let e : to + (σ.place - from) ≡ τ.place = omega (arith, p.0, p.1) in e)
+
   -- what the second state holds where the first was read or asked
   held_too : (addr : ℕ) (v : Value) (u : List Touch) (σ τ : State) → get σ.cells addr ≡ Some v → Agree from to (touch.Read addr v ∷ u) σ τ
       → get τ.cells addr ≡ Some v
@@ -211,21 +269,32 @@ module _ (from to : ℕ) where
   none_of None e = refl
   none_of (Some v) e = absurd (let z : true ≡ false = e in cc)
 
+  -- a touch that is the same in both, after which they agree, and what was done after it
+  record SameTouch (s t : Touch) (σ τ : State) : Type 0 where
+    same : relative from s ≡ relative to t
+    agree : (w : List Touch) → Agree from to (s ∷ w) σ τ → Agree from to w σ τ
+
+  touched_first : {A : Type 0} (s t : Touch) (σ τ : State) (u : List Touch) (d e : Done A)
+      → (Agree from to (log_of (after_touches (s ∷ []) d) ++ u) σ τ → SameTouch s t σ τ) → DoneAgain d e σ τ u
+      → DoneAgain (after_touches (s ∷ []) d) (after_touches (t ∷ []) e) σ τ u
+  touched_first s t σ τ u d e same h = λ g n i.
+      let q = same g in
+      let a = h (q.agree (log_of d ++ u) (subst (λ l. Agree from to (l ++ u) σ τ) (touches_after (s ∷ []) d) g))
+      (subst (λ υ. σ.steps ≤ τ.steps + υ.steps) (state_after (s ∷ []) d) n) (itself_after (s ∷ []) d i) in
+      record {
+        log = t ∷ a.log;
+        after = a.after;
+        is = ap (after_touches (t ∷ [])) a.is ∙ done_after (s ∷ []) (t ∷ []) d a.log a.after;
+        same = ap (map (relative from)) (touches_after (s ∷ []) d) ∙ ap (λ x. x ∷ map (relative from) (log_of d)) q.same ∙ ap (λ l. relative to t ∷ l) a.same;
+        agree = subst (λ υ. Agree from to u υ a.after) (sym (state_after (s ∷ []) d)) a.agree;
+        step = subst (λ υ. InStep σ τ υ a.after) (sym (state_after (s ∷ []) d)) a.step;
+      }
+
   -- an answer, and what was done after it
   asked_first : {A : Type 0} (addr : ℕ) (b : Bool) (σ τ : State) (u : List Touch) (d e : Done A) → DoneAgain d e σ τ u
       → DoneAgain (after_touches (touch.Has addr b ∷ []) d) (after_touches (touch.Has addr b ∷ []) e) σ τ u
-  asked_first addr b σ τ u d e h = λ g s i.
-      let w : List Touch = touch.Has addr b ∷ [] in
-      let a = h (after_has addr b (log_of d ++ u) σ τ (subst (λ l. Agree from to (l ++ u) σ τ) (touches_after w d) g))
-      (subst (λ υ. σ.steps ≤ τ.steps + υ.steps) (state_after w d) s) (itself_after w d i) in
-      record {
-        log = touch.Has addr b ∷ a.log;
-        after = a.after;
-        is = ap (after_touches w) a.is ∙ as_after w d a.log a.after;
-        same = ap (map (relative from)) (touches_after w d) ∙ ap (λ l. touch.Has addr b ∷ l) a.same;
-        agree = subst (λ υ. Agree from to u υ a.after) (sym (state_after w d)) a.agree;
-        step = subst (λ υ. InStep σ τ υ a.after) (sym (state_after w d)) a.step;
-      }
+  asked_first addr b σ τ u d e h = touched_first (touch.Has addr b) (touch.Has addr b) σ τ u d e
+      (λ g. record { same = refl; agree = λ w k. after_has addr b w σ τ k }) h
 
   put_again : (addr : ℕ) (v : Value) (σ τ : State) (u : List Touch) → DoneAgain (put addr v σ) (put addr v τ) σ τ u
   put_again addr v σ τ u = λ g s i. record {
@@ -296,6 +365,71 @@ module _ (from to : ℕ) where
     },
   )
 
+  -- the second state takes the item too
+  took_again : (wanted : ℕ → Bool) (o : Option ℕ) (σ τ : State) (u : List Touch) → DoneAgain (take_looked wanted o σ) (take_looked wanted o τ) σ τ u
+  took_again wanted None σ τ u = λ g s i. record { log = []; after = τ; is = refl; same = refl; agree = g; step = step_same σ τ }
+  took_again wanted (Some item) σ τ u = by (wanted item)
+    where
+      taken : State → Done (Option ℕ)
+      taken τ = Went (Some item) (touch.Take 1 ∷ []) (record τ { place = τ.place + 1 })
+
+      once : (k l : ℕ) → DoneAgain (taken (record σ { steps = k })) (taken (record τ { steps = l })) (record σ { steps = k }) (record τ { steps = l }) u
+      once k l = λ g s i. record {
+        log = touch.Take 1 ∷ [];
+        after = record τ { place = τ.place + 1; steps = l };
+        is = refl;
+        same = refl;
+        agree = after_take u (record σ { steps = k }) (record τ { steps = l }) g;
+        step = record { steps = omega arith; calls = omega arith; depth = omega arith };
+      }
+
+      by : (b : Bool) → DoneAgain (take_item b item σ) (take_item b item τ) σ τ u
+      by true = stepped 1 σ τ u taken (λ k l. (omega arith, once k l))
+      by false = λ g s i. record { log = []; after = τ; is = refl; same = refl; agree = g; step = step_same σ τ }
+
+  took_no_more : (wanted : ℕ → Bool) (o : Option ℕ) (σ : State) → (state_of (take_looked wanted o σ)).steps ≤ σ.steps
+  took_no_more wanted None σ = omega arith
+  took_no_more wanted (Some item) σ = by (wanted item)
+    where
+      left : (b : Bool) → (state_of (if b then Stops OutOfSteps [] (spent σ)
+          else Went (Some item) (touch.Take 1 ∷ []) (record σ { place = σ.place + 1; steps = σ.steps - 1 }))).steps ≤ σ.steps
+      left true = omega arith
+      left false = omega arith
+
+      by : (b : Bool) → (state_of (take_item b item σ)).steps ≤ σ.steps
+      by true = left (nat_lt σ.steps 1)
+      by false = omega arith
+
+  -- it looks at the item that the first looks at
+  look_again : (wanted : ℕ → Bool) (σ τ : State) (u : List Touch)
+      → ((state_of (look wanted σ)).steps ≤ σ.steps) × DoneAgain (look wanted σ) (look wanted τ) σ τ u
+  look_again wanted σ τ u = (
+    subst (λ υ. υ.steps ≤ σ.steps) (sym (state_after (touch.Look σ.place ∷ []) looked)) (took_no_more wanted (slice_get σ.items σ.place) σ),
+    told (look wanted σ) (after_touches (touch.Look τ.place ∷ []) (take_looked wanted (slice_get σ.items σ.place) τ)) (look wanted τ) σ τ u
+        (λ g. ap (λ o. after_touches (touch.Look τ.place ∷ []) (take_looked wanted o τ)) (sym (same_item (log_of looked ++ u) σ τ (first g))))
+        (touched_first (touch.Look σ.place) (touch.Look τ.place) σ τ u looked (take_looked wanted (slice_get σ.items σ.place) τ)
+        (λ g. record { same = ap touch.Look (omega (arith, g.place.0, g.place.1)); agree = λ w k. after_look w σ τ k })
+        (took_again wanted (slice_get σ.items σ.place) σ τ u)),
+  )
+    where
+      looked : Done (Option ℕ)
+      looked = take_looked wanted (slice_get σ.items σ.place) σ
+
+      first : Agree from to (log_of (look wanted σ) ++ u) σ τ → Agree from to (touch.Look σ.place ∷ (log_of looked ++ u)) σ τ
+      first g = subst (λ l. Agree from to (l ++ u) σ τ) (touches_after (touch.Look σ.place ∷ []) looked) g
+
+  give_again : (byte : ℕ) (σ τ : State) (u : List Touch)
+      → DoneAgain {A = Unit {0}} (Went tt (touch.Give byte ∷ []) (record σ { output = σ.output ++ byte ∷ [] }))
+      (Went tt (touch.Give byte ∷ []) (record τ { output = τ.output ++ byte ∷ [] })) σ τ u
+  give_again byte σ τ u = λ g s i. record {
+    log = touch.Give byte ∷ [];
+    after = record τ { output = τ.output ++ byte ∷ [] };
+    is = refl;
+    same = refl;
+    agree = after_give byte u σ τ g;
+    step = record { steps = omega arith; calls = omega arith; depth = omega arith };
+  }
+
   pub act_again : (act : Act) (σ τ : State) (u : List Touch) → DoneAgain (perform act σ) (perform act τ) σ τ u
   act_again (Spend n) σ τ u = stepped n σ τ u (λ τ. Went tt [] τ) (λ k l. (
     omega arith,
@@ -325,6 +459,10 @@ module _ (from to : ℕ) where
       ))
   act_again (WriteCell addr v) σ τ u = celled addr σ τ u (writing addr v)
       (λ k l. write_again addr v (record σ { steps = k }) (record τ { steps = l }) u)
+  act_again (TakeIf wanted) σ τ u = stepped 1 σ τ u (look wanted)
+      (λ k l. look_again wanted (record σ { steps = k }) (record τ { steps = l }) u)
+  act_again (GiveByte byte) σ τ u = stepped 1 σ τ u (λ τ. Went tt (touch.Give byte ∷ []) (record τ { output = τ.output ++ byte ∷ [] }))
+      (λ k l. (omega arith, give_again byte (record σ { steps = k }) (record τ { steps = l }) u))
 
 -- ---- limits
 

@@ -92,7 +92,7 @@ module _ (p : ProgramRows) {n f : ℕ} {args : List Value} {σ0 : State} {y : Re
         top = sym ag.top;
         fresh = λ h. sym (ag.fresh h);
         cells = λ a. cell inner a (is_shared σ0.top a) refl;
-        place = omega arith;
+        place = (omega arith, omega arith);
         items = λ k h. sym (ag.items k h);
       } in
       let again = call_again p ran s0 m0 σ0.place σ.place σ []
