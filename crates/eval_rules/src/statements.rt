@@ -21,6 +21,10 @@ pub fn line_of(statement: StatementRow) -> Option<u32>
         StatementRow::For { line, .. } => Some(line),
         StatementRow::CallFormal { line, .. } => Some(line),
         StatementRow::Goto { line, .. } => Some(line),
+        StatementRow::Read { line, .. } => Some(line),
+        StatementRow::Write { line, .. } => Some(line),
+        StatementRow::Page { line } => Some(line),
+        StatementRow::Pack { line, .. } => Some(line),
         _ => None,
     }
 }
