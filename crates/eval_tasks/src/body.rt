@@ -15,7 +15,7 @@ ghost use Rattle.eval_tasks.specs.Rest.{tasks_of, top, top_list, values_below, v
 ghost use Rattle.eval_tasks.specs.Turns.{Turns, end_of};
 ghost use Rattle.eval_tasks.specs.Weight.{Falls, body_weight, come, left_with, now_weight, task_weight, tasks_weight};
 
-use crate::tasks::{Choice, Home, Located, Next, Now, Operand, Part, Pause, Task, Way};
+use crate::tasks::{Choice, Home, Located, Next, Now, Operand, Part, Pause, Task, Transfer, Way};
 use cell_value::{Cells, Kind, Value, WayOut};
 use eval_ops::Halt;
 use std::alloc::Global;
@@ -272,6 +272,9 @@ impl Body {
                 self.drop_value();
                 self.drop_value();
             }
+            Task::Transfer(Transfer::Into { .. }) => self.drop_value(),
+            Task::Transfer(Transfer::Width { .. }) => self.drop_value(),
+            Task::Transfer(Transfer::TextWidth { .. }) => self.drop_list(alloc),
             _ => {}
         }
     }

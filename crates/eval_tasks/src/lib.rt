@@ -6,4 +6,6 @@ mod body;
 mod tasks;
 
 pub use body::{Body, Turned};
-pub use tasks::{Choice, Home, Located, Next, Now, Operand, Part, Pause, Stop, Task, Way};
+pub use tasks::{
+    Choice, Home, Located, Next, Now, Operand, Part, Pause, Stop, Task, Transfer, Way,
+};
