@@ -12,7 +12,7 @@ ghost use Rattle.eval_tasks.specs.Weight.{Falls, body_weight, come, left_of, lef
 use crate::counting::{first_turn, turn_ended};
 use crate::statements::by_value;
 use cell_value::{Kind, Value};
-use eval_ops::{Halt, Machine, is_true};
+use eval_ops::{Halt, Machine, end_line, is_true};
 use eval_rules::{Case, case_of};
 use eval_tasks::{Body, Choice, Next, Now, Part, Task, Turned, Way};
 use program_tables::Program;
@@ -144,5 +144,10 @@ pub fn follow_statement(
             turn_ended(body, alloc, program, machine, row, line, value, last)
         }
         Next::Forget => body.go(Now::Came(Way::Nothing)),
+        Next::PassLine { line } => body.go(Now::Begin(Part::RestOfLine { line })),
+        Next::EndLine { line } => {
+            let done = end_line(machine);
+            body.finally(line, done)
+        }
     }
 }

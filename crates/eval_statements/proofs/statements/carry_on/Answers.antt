@@ -58,6 +58,10 @@ returns-in_default-clause-turns c =
       for' = c.in_default.not-For;
       call_formal = c.in_default.not-CallFormal;
       goto = c.in_default.not-Goto;
+      read = c.in_default.not-Read;
+      write = c.in_default.not-Write;
+      page = c.in_default.not-Page;
+      pack = c.in_default.not-Pack;
     })))
     (c.no_row.ensures.turns p _)
 
@@ -77,3 +81,15 @@ returns-in-Call-clause-turns c = rw c.in-Call.is (rw c.in-Call.is at c.procedure
 pub returns-in-CallFormal-clause-turns : goal.returns-in-CallFormal-clause-turns
 returns-in-CallFormal-clause-turns c = rw c.in-CallFormal.is (rw c.in-CallFormal.is at c.procedure_statement-in-CallFormal.ensures.turns
     c.args.program.now c.args.row (moment_of c.args.machine.now))
+
+pub returns-in-Read-clause-turns : goal.returns-in-Read-clause-turns
+returns-in-Read-clause-turns c = rw c.in-Read.is (rw c.in-Read.is at c.transfer_statement.ensures.turns c.args.program.now c.args.row)
+
+pub returns-in-Write-clause-turns : goal.returns-in-Write-clause-turns
+returns-in-Write-clause-turns c = rw c.in-Write.is (rw c.in-Write.is at c.transfer_statement-in-Write.ensures.turns c.args.program.now c.args.row)
+
+pub returns-in-Page-clause-turns : goal.returns-in-Page-clause-turns
+returns-in-Page-clause-turns c = rw c.in-Page.is (rw c.in-Page.is at c.transfer_statement-in-Page.ensures.turns c.args.program.now c.args.row)
+
+pub returns-in-Pack-clause-turns : goal.returns-in-Pack-clause-turns
+returns-in-Pack-clause-turns c = rw c.in-Pack.is (rw c.in-Pack.is at c.transfer_statement-in-Pack.ensures.turns c.args.program.now c.args.row)
