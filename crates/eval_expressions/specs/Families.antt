@@ -6,6 +6,12 @@ use Rattle.program_meaning.specs.Tree.{Here, Tree}
 use Rattle.program_meaning.specs.Accesses.{no_row}
 use Rattle.program_meaning.specs.Expressions.{of_expression}
 
+-- an expression that is neither `eof` nor `eoln`
+abbrev pub of_operation : ProgramRows → Here → ExpressionRow → Tree
+of_operation p h expressions.Eof = no_row
+of_operation p h expressions.Eoln = no_row
+of_operation p h e = of_expression p h e
+
 -- a sign, `not`, or a required function of an ordinal (6.7.2.2, 6.7.2.3, 6.6.6)
 abbrev pub of_monadic : ProgramRows → Here → ExpressionRow → Tree
 of_monadic p h (expressions.Sign minus operand) = of_expression p h (expressions.Sign minus operand)

@@ -6,7 +6,7 @@ ghost use Rattle.eval_ops.specs.Machines.{IsReady, Moment, moment_of};
 ghost use Rattle.program_meaning.specs.Tree.{bind};
 ghost use Rattle.program_meaning.specs.Expressions.{of_expression};
 ghost use Rattle.eval_rules.specs.Operators.{dyadic_of};
-ghost use Rattle.eval_expressions.specs.Families.{of_designator, of_monadic, of_other};
+ghost use Rattle.eval_expressions.specs.Families.{of_designator, of_monadic, of_operation, of_other};
 ghost use Rattle.eval_tasks.specs.Rest.{from, from_under, here, waiting};
 ghost use Rattle.eval_tasks.specs.Turns.{Turns};
 ghost use Rattle.eval_tasks.specs.Weight.{Falls, body_weight, come, left_of, left_with, task_weight, now_weight};
@@ -21,6 +21,7 @@ use eval_ops::{
     no_members, ordinal_function, passed, sign, spend, truth,
 };
 use eval_rules::{Dyadic, combine, constant, dyadic_in, type_accessed};
+use eval_textfiles::{at_end, at_line_end};
 use eval_tasks::{Body, Located, Now, Operand, Part, Task, Turned, Way};
 use program_tables::Program;
 use program_tables::rows::{ExpressionRow, Row};
@@ -60,7 +61,7 @@ pub fn evaluate(
 {
     match program.row(row) {
         Row::Expression(expression) => match spend(machine, 1) {
-            Ok(()) => begin_expression(body, alloc, program, expression, line),
+            Ok(()) => begin_stepped(body, alloc, program, machine, expression, line),
             Err(halt) => body.fail(line, halt),
         },
         Row::Access(access) => body.wait(
@@ -78,7 +79,37 @@ pub fn evaluate(
     }
 }
 
-/// An expression whose step is taken.
+/// An expression whose step is taken: `eof` and `eoln` look at the input (6.6.6.5), and no other needs the machine.
+fn begin_stepped(
+    body: &mut Body,
+    alloc: Global,
+    program: &Program,
+    machine: &mut Machine,
+    expression: ExpressionRow,
+    line: u32,
+) -> Turned
+    requires ready { IsReady machine.old }
+    ensures turns { Turns program.now (bind (of_expression program.now (here body.old.home line) expression)
+        (waiting program.now body.old)) (moment_of machine.old) result body.new (moment_of machine.new) }
+    ensures falls { Falls result (left_of body.new machine.new)
+        (left_with machine.old.steps (2 * come + tasks_weight body.old)) }
+    ensures home { body.new.home ≡ body.old.home }
+    ensures ready { IsReady machine.new }
+{
+    match expression {
+        ExpressionRow::Eof => {
+            let done = at_end(machine);
+            body.scalar(line, done)
+        }
+        ExpressionRow::Eoln => {
+            let done = at_line_end(machine);
+            body.scalar(line, done)
+        }
+        _ => begin_expression(body, alloc, program, expression, line),
+    }
+}
+
+/// An expression whose step is taken, other than `eof` and `eoln`.
 fn begin_expression(
     body: &mut Body,
     alloc: Global,
@@ -86,7 +117,7 @@ fn begin_expression(
     expression: ExpressionRow,
     line: u32,
 ) -> Turned
-    ensures turns { (m : Moment) → Turns program.now (bind (of_expression program.now (here body.old.home line)
+    ensures turns { (m : Moment) → Turns program.now (bind (of_operation program.now (here body.old.home line)
         expression) (waiting program.now body.old)) m result body.new m }
     ensures falls { Falls result (body_weight body.new) (2 * come + tasks_weight body.old) }
     ensures home { body.new.home ≡ body.old.home }

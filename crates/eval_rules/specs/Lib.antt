@@ -1,3 +1,4 @@
+pub mod Arrays
 pub mod Choices
 pub mod Counting
 pub mod Items

@@ -3,6 +3,7 @@
 //! expressions. Nothing here reads or changes the state of a run.
 #![tactic(auto)]
 
+mod arrays;
 mod choices;
 mod counting;
 mod expressions;
@@ -10,6 +11,7 @@ mod labels;
 mod operators;
 mod statements;
 
+pub use arrays::array_of;
 pub use choices::{Case, case_of, chosen};
 pub use counting::{
     Counting, Span, counting_at, has_turn, is_last, last_value, turn_after, turn_value, turns_of,

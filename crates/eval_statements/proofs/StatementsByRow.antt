@@ -1,5 +1,5 @@
 -- Statements by their rows.
-use Rattle.std.proofs.Common.{◌≡◌, ℕ, ℤ, Option, Some, None, option_map, refl, ap, ◌∙◌}
+use Rattle.std.proofs.Common.{◌≡◌, ℕ, ℤ, Bool, Option, Some, None, option_map, refl, ap, ◌∙◌}
 use Rattle.cell_value.specs.declared.values.Value.{Value}
 use Rattle.cell_value.specs.declared.values.Value.TheVariants as value
 use Rattle.program_tables.specs.declared.rows.Row.{Row}
@@ -24,6 +24,10 @@ use Rattle.program_tables.specs.declared.rows.StatementRow.TheVariants.{
   With,
   New,
   Dispose,
+  Read,
+  Write,
+  Page,
+  Pack,
 }
 use Rattle.program_tables.specs.ProgramRows.{ProgramRows, row_at}
 use Rattle.program_meaning.specs.Tree.{Here, Tree, Ret, Sub, Line}
@@ -98,6 +102,10 @@ pub record IsOther (s : StatementRow) : Type 0 where
   pub with' : (a b c : ℕ) → s ≡ With a b c → ⊥
   pub new : (a b c : ℕ) → s ≡ New a b c → ⊥
   pub dispose : (a b c : ℕ) → s ≡ Dispose a b c → ⊥
+  pub read : (e : Bool) (a b : ℕ) → s ≡ Read e a b → ⊥
+  pub write : (e : Bool) (a b : ℕ) → s ≡ Write e a b → ⊥
+  pub page : (a : ℕ) → s ≡ Page a → ⊥
+  pub pack : (e : Bool) (a b c d : ℕ) → s ≡ Pack e a b c d → ⊥
 
 pub other_carried : (p : ProgramRows) (home : Home) (n : ℕ) (s : StatementRow) → IsOther s → carry_with p home n s (line_of s) ≡ no_row
 other_carried p home n (Assign a b c d) o = absurd (o.assign a b c d refl)
@@ -113,6 +121,10 @@ other_carried p home n (Goto a b c) o = absurd (o.goto a b c refl)
 other_carried p home n (With a b c) o = absurd (o.with' a b c refl)
 other_carried p home n (New a b c) o = absurd (o.new a b c refl)
 other_carried p home n (Dispose a b c) o = absurd (o.dispose a b c refl)
+other_carried p home n (Read e a b) o = absurd (o.read e a b refl)
+other_carried p home n (Write e a b) o = absurd (o.write e a b refl)
+other_carried p home n (Page a) o = absurd (o.page a refl)
+other_carried p home n (Pack e a b c d) o = absurd (o.pack e a b c d refl)
 other_carried p home n s o = refl
 
 -- ---- records of with statements

@@ -15,6 +15,7 @@ use cell_value::{Kind, Value};
 use eval_ops::{Halt, Machine, is_true};
 use eval_rules::{Case, case_of};
 use eval_tasks::{Body, Choice, Next, Now, Part, Task, Turned, Way};
+use eval_textfiles::end_line;
 use program_tables::Program;
 use std::alloc::Global;
 
@@ -144,5 +145,10 @@ pub fn follow_statement(
             turn_ended(body, alloc, program, machine, row, line, value, last)
         }
         Next::Forget => body.go(Now::Came(Way::Nothing)),
+        Next::PassLine { line } => body.go(Now::Begin(Part::RestOfLine { line })),
+        Next::EndLine { line } => {
+            let done = end_line(machine);
+            body.finally(line, done)
+        }
     }
 }

@@ -18,6 +18,7 @@ use eval_calls::begin_call;
 use eval_ops::{Machine, frame_out, spend};
 use eval_rules::{element_of, line_of, turns_of};
 use eval_tasks::{Body, Choice, Next, Now, Part, Pause, Task, Turned, Way};
+use eval_transfers::transfer_statement;
 use program_tables::Program;
 use program_tables::rows::{Row, StatementRow};
 use std::alloc::Global;
@@ -204,6 +205,10 @@ fn carry_on(
             body: inner,
             line,
         })),
+        StatementRow::Read { .. } => transfer_statement(body, machine, statement),
+        StatementRow::Write { .. } => transfer_statement(body, machine, statement),
+        StatementRow::Page { .. } => transfer_statement(body, machine, statement),
+        StatementRow::Pack { .. } => transfer_statement(body, machine, statement),
         _ => body.no_row(),
     }
 }

@@ -25,6 +25,7 @@ use Rattle.program_meaning.specs.Accesses.{
   on_address,
   eval,
   eval_cells,
+  locate,
   scalar,
   address,
   with_components,
@@ -47,6 +48,9 @@ use Rattle.program_meaning.specs.Statements.{
   line_of,
   inside,
 }
+use Rattle.program_meaning.specs.Output.{end_line, host_at, scalar_text, string_text}
+use Rattle.program_meaning.specs.Packing.{moves}
+use Rattle.program_meaning.specs.Transfers.{into, on_text, print}
 use Rattle.program_meaning.specs.Run.{return_of}
 use Rattle.eval_tasks.specs.Records.{without_last}
 use Rattle.eval_rules.specs.Operators.{dyadic_of}
@@ -66,6 +70,8 @@ use Rattle.eval_tasks.specs.declared.tasks.Choice.{Choice}
 use Rattle.eval_tasks.specs.declared.tasks.Choice.TheVariants as choices
 use Rattle.eval_tasks.specs.declared.tasks.Next.{Next}
 use Rattle.eval_tasks.specs.declared.tasks.Next.TheVariants as nexts
+use Rattle.eval_tasks.specs.declared.tasks.Transfer.{Transfer}
+use Rattle.eval_tasks.specs.declared.tasks.Transfer.TheVariants as transfers
 use Rattle.eval_tasks.specs.declared.tasks.Task.{Task}
 use Rattle.eval_tasks.specs.declared.tasks.Task.TheVariants as tasks
 
@@ -160,12 +166,54 @@ next p home (nexts.Condition row condition line) vs = eval condition (here home 
 next p home (nexts.Counted row line) vs = with_numbers (top (below vs)) (top vs) (λ i last.
     counted home row line i last (row_at p row))
 next p home nexts.Forget vs = nothing
+next p home (nexts.PassLine line) vs = Sub (parts.RestOfLine (here home line)) Ret
+next p home (nexts.EndLine line) vs = finally (here home line) end_line
 
 -- after a statement, which may have ended by a jump
 abbrev pub after_statement : ProgramRows → Home → Next → List Value → Out → Tree
 after_statement p home (nexts.Sequence first at line) vs = on_statement p (here home line) first at
 after_statement p home (nexts.Labelled row label line) vs = on_labelled row label (here home line)
 after_statement p home t vs = on_normal (next p home t vs)
+
+-- a value that was read goes into a variable, and then comes the next actual
+abbrev pub stored : ProgramRows → Home → (access of' next line : ℕ) → Value → (addr : ℕ) → Tree
+stored p home access of' next line v addr =
+    doing line (assign_to p (tag_accessed p (row_at p access)) (type_at p of') addr v) (λ _.
+    Sub (parts.Receive next (here home line)) Ret)
+
+-- after a part of an actual of a read or a write statement
+abbrev pub transferred : ProgramRows → Home → Transfer → List Value → List (List Value) → Out → Tree
+transferred p home (transfers.Integer access of' next line) vs ls =
+    on_scalar (into p (here home line) access of' next)
+transferred p home (transfers.Into access of' next line) vs ls =
+    on_address (stored p home access of' next line (top vs))
+transferred p home (transfers.Written of' next line) vs ls = on_text p of' (λ text.
+    print (here home line) next text None)
+transferred p home (transfers.Wide of' width next line) vs ls = on_text p of' (λ text.
+    eval width (here home line) (λ w. print (here home line) next text (Some w)))
+transferred p home (transfers.Width of' next line) vs ls = on_scalar (λ w.
+    print (here home line) next (scalar_text (host_at p of') (top vs)) (Some w))
+transferred p home (transfers.TextWidth next line) vs ls = on_scalar (λ w.
+    print (here home line) next (string_text (top_list ls)) (Some w))
+
+-- the cells of arrays are moved, once both are located and the index is known
+abbrev pub arrays_moved : ProgramRows → Home → (packing : Bool) → (unpacked packed wide close line : ℕ) → Value → Tree
+arrays_moved p home packing unpacked packed wide close line v =
+    moves p (here home line) packing unpacked packed wide close v (finally (here home line))
+
+-- both arrays of a pack or an unpack statement are located
+abbrev pub both_located : ProgramRows → Home → (packing : Bool) → (unpacked index packed first line second : ℕ) → Tree
+both_located p home true unpacked index packed first line second =
+    eval index (here home line) (arrays_moved p home true unpacked packed first second line)
+both_located p home false unpacked index packed first line second =
+    eval index (here home line) (arrays_moved p home false unpacked packed second first line)
+
+-- the first of them is located
+abbrev pub first_located : ProgramRows → Home → (packing : Bool) → (unpacked index packed line first : ℕ) → Tree
+first_located p home true unpacked index packed line first =
+    locate packed (here home line) (both_located p home true unpacked index packed first line)
+first_located p home false unpacked index packed line first =
+    locate unpacked (here home line) (both_located p home false unpacked index packed first line)
 
 -- what comes after a call
 abbrev pub returned : (procedure : Bool) → Out → Tree
@@ -210,6 +258,13 @@ after p home (tasks.Point line) vs ls = on_address (λ addr. finally (here home 
 after p home (tasks.Dispose of' line) vs ls = on_scalar (λ v. finally (here home line) (dispose (size_of p of') v))
 after p home (tasks.Next t) vs ls = after_statement p home t vs
 after p home tasks.Leave vs ls = Ret
+after p home (tasks.Transfer t) vs ls = transferred p home t vs ls
+after p home (tasks.PackFirst packing unpacked index packed line) vs ls =
+    on_address (first_located p home packing unpacked index packed line)
+after p home (tasks.PackSecond packing unpacked index packed first line) vs ls =
+    on_address (both_located p home packing unpacked index packed first line)
+after p home (tasks.PackIndex packing unpacked packed wide close line) vs ls =
+    on_scalar (arrays_moved p home packing unpacked packed wide close line)
 
 -- the values that wait below those that a task holds
 abbrev pub values_below : Task → List Value → List Value
@@ -221,6 +276,8 @@ values_below (tasks.Choice (choices.Last turns line)) vs = below vs
 values_below (tasks.Put target of' line) vs = below vs
 values_below (tasks.Point line) vs = below vs
 values_below (tasks.Next (nexts.Counted row line)) vs = below (below vs)
+values_below (tasks.Transfer (transfers.Into access of' next line)) vs = below vs
+values_below (tasks.Transfer (transfers.Width of' next line)) vs = below vs
 values_below t vs = vs
 
 -- the lists that wait below the one that a task holds
@@ -229,6 +286,7 @@ lists_below (tasks.Located (locateds.Passed next line)) ls = below ls
 lists_below (tasks.Actual of' next line) ls = below ls
 lists_below (tasks.PutCells line) ls = below ls
 lists_below (tasks.Texts order line) ls = below ls
+lists_below (tasks.Transfer (transfers.TextWidth next line)) ls = below ls
 lists_below t ls = ls
 
 -- without the innermost record that a with statement has established, and without any
@@ -289,6 +347,10 @@ begun p home (part.Sequence first at line) ts vs ls =
     Sub (parts.Sequence first at (here home line)) (resume p home ts vs ls)
 begun p home (part.Turn row line) ts vs ls = Sub (parts.Turn row (here home line)) (resume p home ts vs ls)
 begun p home part.Block ts vs ls = Sub (parts.Body home.routine home.base) (resume p (bare home) ts vs ls)
+begun p home (part.Receive at line) ts vs ls = Sub (parts.Receive at (here home line)) (resume p home ts vs ls)
+begun p home (part.Scanning scan line) ts vs ls = Sub (parts.Scanning scan (here home line)) (resume p home ts vs ls)
+begun p home (part.RestOfLine line) ts vs ls = Sub (parts.RestOfLine (here home line)) (resume p home ts vs ls)
+begun p home (part.Print at line) ts vs ls = Sub (parts.Print at (here home line)) (resume p home ts vs ls)
 
 abbrev pub at_work : ProgramRows → Home → Now → List Task → List Value → List (List Value) → Tree
 at_work p home (Begin part) ts vs ls = begun p home part ts vs ls

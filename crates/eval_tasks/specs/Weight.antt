@@ -35,6 +35,10 @@ part_weight (part.Establish at body line) = come + 1
 part_weight (part.Sequence first at line) = come + 1
 part_weight (part.Turn row line) = come + 4
 part_weight part.Block = 0
+part_weight (part.Receive at line) = come + 1
+part_weight (part.Scanning scan line) = 1
+part_weight (part.RestOfLine line) = 1
+part_weight (part.Print at line) = come + 1
 
 abbrev pub now_weight : Now → ℕ
 now_weight (Begin part) = part_weight part
@@ -50,6 +54,7 @@ task_weight (tasks.Record next body line) = 4
 task_weight (tasks.Choice (choices.Until row line)) = 5
 task_weight (tasks.Next (nexts.Sequence first at line)) = 2
 task_weight (tasks.Next (nexts.Again row line)) = 5
+task_weight (tasks.Transfer t) = 2
 task_weight t = 1
 
 -- the tasks that wait

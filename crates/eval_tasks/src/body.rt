@@ -17,7 +17,7 @@ ghost use Rattle.eval_tasks.specs.Turns.{Turns, end_of};
 ghost use Rattle.eval_tasks.specs.Weight.{Falls, body_weight, come, left_with, now_weight, task_weight, tasks_weight};
 
 use crate::records::Records;
-use crate::tasks::{Choice, Home, Located, Next, Now, Operand, Part, Pause, Task, Way};
+use crate::tasks::{Choice, Home, Located, Next, Now, Operand, Part, Pause, Task, Transfer, Way};
 use cell_value::{Cells, Kind, Value, WayOut};
 use eval_ops::Halt;
 use std::alloc::Global;
@@ -279,6 +279,9 @@ impl Body {
                 self.drop_value();
                 self.drop_value();
             }
+            Task::Transfer(Transfer::Into { .. }) => self.drop_value(),
+            Task::Transfer(Transfer::Width { .. }) => self.drop_value(),
+            Task::Transfer(Transfer::TextWidth { .. }) => self.drop_list(alloc),
             Task::Leave => self.home.records.leave(),
             _ => {}
         }

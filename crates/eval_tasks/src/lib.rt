@@ -8,4 +8,6 @@ mod tasks;
 
 pub use body::{Body, Turned};
 pub use records::Records;
-pub use tasks::{Choice, Home, Located, Next, Now, Operand, Part, Pause, Stop, Task, Way};
+pub use tasks::{
+    Choice, Home, Located, Next, Now, Operand, Part, Pause, Stop, Task, Transfer, Way,
+};

@@ -1,9 +1,10 @@
 //! What a body has to do, and how far it is with it.
 
+use crate::records::Records;
 use cell_value::{Cells, Order, Value, WayOut};
 use eval_rules::Dyadic;
+use program_meaning::Scan;
 use program_tables::rows::OrdinalFunction;
-use crate::records::Records;
 use std::mem::size_of;
 
 /// The routine that a body is of, where its frame begins, and the records of the with statements at work.
@@ -35,6 +36,14 @@ pub enum Part {
     Turn { row: u32, line: u32 },
     /// The statement part of the body's routine.
     Block,
+    /// The actuals of a read statement from an item on.
+    Receive { at: u32, line: u32 },
+    /// The rest of an integer that is read, of which so much was met.
+    Scanning { scan: Scan, line: u32 },
+    /// The rest of a line of the input, with its end.
+    RestOfLine { line: u32 },
+    /// The actuals of a write statement from an item on.
+    Print { at: u32, line: u32 },
 }
 
 /// How the last part ended.
@@ -169,8 +178,44 @@ pub enum Next {
     /// What comes after a turn of a for statement. The last values that wait are the one of that turn, and above it the
     /// one of the last turn.
     Counted { row: u32, line: u32 },
-    /// After a procedure.
+    /// After a procedure, and after the actuals of a read or a write statement that ends no line.
     Forget,
+    /// The rest of the line, after the actuals of a read statement.
+    PassLine { line: u32 },
+    /// The end of the line, after the actuals of a write statement.
+    EndLine { line: u32 },
+}
+
+/// What waits for a part of an actual of a read or a write statement.
+#[derive(Clone, Copy)]
+pub enum Transfer {
+    /// An integer that is read for a variable, which is located once the integer is known.
+    Integer {
+        access: u32,
+        of: u32,
+        next: u32,
+        line: u32,
+    },
+    /// The variable that is to get what was read, which is the last value that waits.
+    Into {
+        access: u32,
+        of: u32,
+        next: u32,
+        line: u32,
+    },
+    /// What is written.
+    Written { of: u32, next: u32, line: u32 },
+    /// What is written in a width, which comes after it.
+    Wide {
+        of: u32,
+        width: u32,
+        next: u32,
+        line: u32,
+    },
+    /// The width of the last value that waits.
+    Width { of: u32, next: u32, line: u32 },
+    /// The width of the string that is the last list that waits.
+    TextWidth { next: u32, line: u32 },
 }
 
 /// What waits for a part that is at work.
@@ -248,6 +293,33 @@ pub enum Task {
         line: u32,
     },
     Next(Next),
+    Transfer(Transfer),
+    /// The first array of a pack or an unpack statement, before the second one.
+    PackFirst {
+        packing: bool,
+        unpacked: u32,
+        index: u32,
+        packed: u32,
+        line: u32,
+    },
+    /// The second array, where the first one is at an address.
+    PackSecond {
+        packing: bool,
+        unpacked: u32,
+        index: u32,
+        packed: u32,
+        first: u32,
+        line: u32,
+    },
+    /// The index, where the arrays are at these addresses.
+    PackIndex {
+        packing: bool,
+        unpacked: u32,
+        packed: u32,
+        wide: u32,
+        close: u32,
+        line: u32,
+    },
     /// The end of what is inside of the last record of a with statement.
     Leave,
 }

@@ -4,6 +4,7 @@ use Rattle.cell_value.specs.declared.values.Value.{Value}
 use Rattle.program_tables.specs.ProgramRows.{ProgramRows}
 use Rattle.program_meaning.specs.Tree.{Out, Tree, Ret}
 use Rattle.program_meaning.specs.Tree as parts
+use Rattle.program_meaning.specs.Accesses.{no_row}
 use Rattle.eval_tasks.specs.Rest.{after, after_statement, home_below}
 use Rattle.eval_tasks.specs.Records.{SameFrame}
 use Rattle.eval_tasks.specs.Weight.{task_weight}
@@ -13,6 +14,7 @@ use Rattle.eval_tasks.specs.declared.tasks.Next.TheVariants as nexts
 use Rattle.eval_tasks.specs.declared.tasks.Operand.TheVariants as operands
 use Rattle.eval_tasks.specs.declared.tasks.Choice.TheVariants as choices
 use Rattle.eval_tasks.specs.declared.tasks.Located.TheVariants as locateds
+use Rattle.eval_tasks.specs.declared.tasks.Transfer.TheVariants as transfers
 use Rattle.eval_tasks.specs.declared.tasks.Task.{Task}
 use Rattle.eval_tasks.specs.declared.tasks.Task.TheVariants as tasks
 
@@ -33,12 +35,32 @@ statement_ended p home (nexts.Again row line) vs = all_one (λ v. refl) (λ ws. 
 statement_ended p home (nexts.Condition row condition line) vs = all_one (λ v. refl) (λ ws. refl) (λ a. refl)
 statement_ended p home (nexts.Counted row line) vs = all_one (λ v. refl) (λ ws. refl) (λ a. refl)
 statement_ended p home nexts.Forget vs = all_one (λ v. refl) (λ ws. refl) (λ a. refl)
+statement_ended p home (nexts.PassLine line) vs = all_one (λ v. refl) (λ ws. refl) (λ a. refl)
+statement_ended p home (nexts.EndLine line) vs = all_one (λ v. refl) (λ ws. refl) (λ a. refl)
 
 -- a jump that a task does not stop goes on outward
 pub other_leaps : (p : ProgramRows) (home : Home) (t : Task) (vs : List Value) (ls : List (List Value)) (label base : ℕ)
     → ((n : Next) → t ≡ tasks.Next n → ⊥) → after p home t vs ls (parts.Jump label base) ≡ Ret (parts.Jump label base)
 other_leaps p home (tasks.Next n) vs ls label base f = absurd (f n refl)
+other_leaps p home (tasks.Transfer (transfers.Integer a b c d)) vs ls label base f = refl
+other_leaps p home (tasks.Transfer (transfers.Into a b c d)) vs ls label base f = refl
+other_leaps p home (tasks.Transfer (transfers.Written a b c)) vs ls label base f = refl
+other_leaps p home (tasks.Transfer (transfers.Wide a b c d)) vs ls label base f = refl
+other_leaps p home (tasks.Transfer (transfers.Width a b c)) vs ls label base f = refl
+other_leaps p home (tasks.Transfer (transfers.TextWidth a b)) vs ls label base f = refl
 other_leaps p home t vs ls label base f = refl
+
+-- a task that no statement ends has no row
+pub other_nothing : (p : ProgramRows) (home : Home) (t : Task) (vs : List Value) (ls : List (List Value))
+    → ((n : Next) → t ≡ tasks.Next n → ⊥) → after p home t vs ls parts.Nothing ≡ no_row
+other_nothing p home (tasks.Next n) vs ls f = absurd (f n refl)
+other_nothing p home (tasks.Transfer (transfers.Integer a b c d)) vs ls f = refl
+other_nothing p home (tasks.Transfer (transfers.Into a b c d)) vs ls f = refl
+other_nothing p home (tasks.Transfer (transfers.Written a b c)) vs ls f = refl
+other_nothing p home (tasks.Transfer (transfers.Wide a b c d)) vs ls f = refl
+other_nothing p home (tasks.Transfer (transfers.Width a b c)) vs ls f = refl
+other_nothing p home (tasks.Transfer (transfers.TextWidth a b)) vs ls f = refl
+other_nothing p home t vs ls f = refl
 
 pub other_lands : (p : ProgramRows) (home : Home) (n : Next) (vs : List Value) (label base : ℕ)
     → ((a b c : ℕ) → n ≡ nexts.Sequence a b c → ⊥) → ((a b c : ℕ) → n ≡ nexts.Labelled a b c → ⊥)
@@ -56,6 +78,7 @@ each_weighs (tasks.Record next body line) = omega arith
 each_weighs (tasks.Choice (choices.Until row line)) = omega arith
 each_weighs (tasks.Next (nexts.Sequence first at line)) = omega arith
 each_weighs (tasks.Next (nexts.Again row line)) = omega arith
+each_weighs (tasks.Transfer t) = omega arith
 each_weighs t = omega arith
 
 -- what is below a task is in the same frame

@@ -25,6 +25,10 @@ use eval_statements::{
     leave, locate_target, locate_target_cells, put, put_cells, put_pointer, sequence, turn_again,
 };
 use eval_tasks::{Body, Now, Part, Pause, Stop, Task, Turned, Way};
+use eval_transfers::{
+    continue_transfer, continue_with_text, locate_second, move_arrays, pack_by_index, pass_line,
+    print, receive, scan, store_read,
+};
 use program_tables::Program;
 use std::alloc::{AllocError, Global};
 
@@ -132,6 +136,10 @@ fn begin(
         Part::Sequence { first, at, line } => sequence(body, program, first, at, line),
         Part::Turn { row, line } => turn_again(body, program, row, line),
         Part::Block => block(body, program, machine),
+        Part::Receive { at, line } => receive(body, program, machine, at, line),
+        Part::Scanning { scan: so_far, line } => scan(body, machine, so_far, line),
+        Part::RestOfLine { line } => pass_line(body, machine, line),
+        Part::Print { at, line } => print(body, program, at, line),
     }
 }
 
@@ -255,6 +263,19 @@ fn after_scalar(
         Task::Target { target, of, line } => locate_target(body, program, target, of, line, value),
         Task::Dispose { of, line } => dispose_of(body, alloc, program, machine, of, line, value),
         Task::Next(next) => follow_statement(body, alloc, program, machine, next),
+        Task::Transfer(transfer) => {
+            continue_transfer(body, alloc, program, machine, transfer, value)
+        }
+        Task::PackIndex {
+            packing,
+            unpacked,
+            packed,
+            wide,
+            close,
+            line,
+        } => move_arrays(
+            body, alloc, program, machine, packing, unpacked, packed, wide, close, line, value,
+        ),
         Task::Leave => leave(body, Way::Scalar(value)),
         _ => body.no_row(),
     }
@@ -290,6 +311,24 @@ fn after_address(
         Task::PutCells { line } => put_cells(body, alloc, program, machine, line, addr),
         Task::Point { line } => put_pointer(body, alloc, program, machine, line, addr),
         Task::Next(next) => follow_statement(body, alloc, program, machine, next),
+        Task::Transfer(transfer) => store_read(body, alloc, program, machine, transfer, addr),
+        Task::PackFirst {
+            packing,
+            unpacked,
+            index,
+            packed,
+            line,
+        } => locate_second(body, packing, unpacked, index, packed, line, addr),
+        Task::PackSecond {
+            packing,
+            unpacked,
+            index,
+            packed,
+            first,
+            line,
+        } => pack_by_index(
+            body, packing, unpacked, index, packed, first, line, addr,
+        ),
         Task::Leave => leave(body, Way::Address(addr)),
         _ => body.no_row(),
     }
@@ -332,6 +371,7 @@ fn after_cells(
         Task::TextRight { order, right, line } => begin_right_text(body, order, right, line),
         Task::Texts { order, line } => end_texts(body, alloc, order, line),
         Task::Target { target, of, line } => locate_target_cells(body, program, target, of, line),
+        Task::Transfer(transfer) => continue_with_text(body, alloc, machine, transfer),
         Task::Next(next) => {
             // The cells are of no use to it.
             body.drop_list(alloc);

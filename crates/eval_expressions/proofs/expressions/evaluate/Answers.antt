@@ -24,11 +24,11 @@ returns-in-Ok-clause-turns c =
     let p = c.args.program.now in
     let h = here c.args.body.now.home c.args.line in
     let e : row_at p c.args.row ≡ rows.Expression c.in-Expression.expression = cc in
-    turns_after p _ _ _ _ _ c.begin_expression.result c.begin_expression.new.body
+    turns_after p _ _ _ _ _ c.begin_stepped.result c.begin_stepped.new.body
     (comes_then (part_comes p (Eval c.args.row h) (waiting p c.args.body.now) (moment_of c.args.machine.now) _ (ap (expression_in p c.args.row h) e))
     (spent p h (of_expression p h c.in-Expression.expression) (waiting p c.args.body.now) (moment_of c.args.machine.now) (moment_of c.spend.new.machine)
     c.in-Ok.ensures.act))
-    (c.begin_expression.ensures.turns _)
+    c.begin_stepped.ensures.turns
 
 pub returns-in-Err-clause-turns : goal.returns-in-Err-clause-turns
 returns-in-Err-clause-turns c =

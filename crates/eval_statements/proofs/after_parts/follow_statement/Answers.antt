@@ -1,5 +1,6 @@
 use Rattle.std.proofs.Common.{◌≡◌, sym, ap, ◌∙◌, sum_by, reverse, arith}
 use Rattle.program_tables.specs.ProgramRows.{row_at}
+use Rattle.program_meaning.specs.Output.{end_line}
 use Rattle.program_meaning.specs.Tree.{bind}
 use Rattle.eval_ops.specs.Machines.{moment_of}
 use Rattle.eval_tasks.specs.Rest.{waiting, resume, top, below, tasks_of, values_of, lists_of, counted, with_numbers}
@@ -84,3 +85,21 @@ pub returns-in-Labelled-clause-falls : goal.returns-in-Labelled-clause-falls
 returns-in-Labelled-clause-falls c =
     let e : task_weight (tasks.Next c.args.next) ≡ 1 = ap (λ t. task_weight (tasks.Next t)) c.in-Labelled.is in
     falls_so c.go-in-Labelled.result _ _ _ _ (λ h. omega (arith, h, e)) c.go-in-Labelled.ensures.falls
+
+pub returns-in-PassLine-clause-turns : goal.returns-in-PassLine-clause-turns
+returns-in-PassLine-clause-turns c = rw c.in-PassLine.is (c.go-in-PassLine.ensures.turns c.args.program.now (moment_of c.args.machine.now))
+
+pub returns-in-PassLine-clause-falls : goal.returns-in-PassLine-clause-falls
+returns-in-PassLine-clause-falls c =
+    let e : task_weight (tasks.Next c.args.next) ≡ 1 = ap (λ t. task_weight (tasks.Next t)) c.in-PassLine.is in
+    falls_so c.go-in-PassLine.result _ _ _ _ (λ h. omega (arith, h, e)) c.go-in-PassLine.ensures.falls
+
+pub returns-in-EndLine-clause-turns : goal.returns-in-EndLine-clause-turns
+returns-in-EndLine-clause-turns c = rw c.in-EndLine.is (c.finally.ensures.turns c.args.program.now end_line (moment_of c.args.machine.now)
+    (moment_of c.end_line-done.new.machine) c.end_line-done.ensures.action)
+
+pub returns-in-EndLine-clause-falls : goal.returns-in-EndLine-clause-falls
+returns-in-EndLine-clause-falls c =
+    let e : task_weight (tasks.Next c.args.next) ≡ 1 = ap (λ t. task_weight (tasks.Next t)) c.in-EndLine.is in
+    falls_so c.finally.result _ _ _ _ (λ h. omega (arith, h, e)) (c.finally.ensures.less end_line (moment_of c.args.machine.now)
+    (moment_of c.end_line-done.new.machine) c.end_line-done.ensures.action)

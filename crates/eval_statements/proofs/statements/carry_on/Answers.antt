@@ -67,6 +67,10 @@ returns-in_default-clause-turns c =
       with' = c.in_default.not-With;
       new = c.in_default.not-New;
       dispose = c.in_default.not-Dispose;
+      read = c.in_default.not-Read;
+      write = c.in_default.not-Write;
+      page = c.in_default.not-Page;
+      pack = c.in_default.not-Pack;
     })))
     (c.no_row.ensures.turns p _)
 
@@ -92,3 +96,15 @@ returns-in-New-clause-turns c = rw c.in-New.is (rw c.in-New.is at c.heap_stateme
 
 pub returns-in-Dispose-clause-turns : goal.returns-in-Dispose-clause-turns
 returns-in-Dispose-clause-turns c = rw c.in-Dispose.is (rw c.in-Dispose.is at c.heap_statement-in-Dispose.ensures.turns c.args.row)
+
+pub returns-in-Read-clause-turns : goal.returns-in-Read-clause-turns
+returns-in-Read-clause-turns c = rw c.in-Read.is (rw c.in-Read.is at c.transfer_statement.ensures.turns c.args.program.now c.args.row)
+
+pub returns-in-Write-clause-turns : goal.returns-in-Write-clause-turns
+returns-in-Write-clause-turns c = rw c.in-Write.is (rw c.in-Write.is at c.transfer_statement-in-Write.ensures.turns c.args.program.now c.args.row)
+
+pub returns-in-Page-clause-turns : goal.returns-in-Page-clause-turns
+returns-in-Page-clause-turns c = rw c.in-Page.is (rw c.in-Page.is at c.transfer_statement-in-Page.ensures.turns c.args.program.now c.args.row)
+
+pub returns-in-Pack-clause-turns : goal.returns-in-Pack-clause-turns
+returns-in-Pack-clause-turns c = rw c.in-Pack.is (rw c.in-Pack.is at c.transfer_statement-in-Pack.ensures.turns c.args.program.now c.args.row)

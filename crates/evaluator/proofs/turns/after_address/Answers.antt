@@ -34,3 +34,32 @@ returns-in-Record-clause-turns c = turns_same c.args.program.now _ _ _ _ c.estab
 pub returns-in-Point-clause-turns : goal.returns-in-Point-clause-turns
 returns-in-Point-clause-turns c = turns_same c.args.program.now _ _ _ _ c.put_pointer.result c.put_pointer.new.body
     (ap (from_under c.args.program.now c.args.body.now (Came (way.Address c.args.addr))) c.in-Point.is) c.put_pointer.ensures.turns
+
+pub returns-in-Transfer-clause-turns : goal.returns-in-Transfer-clause-turns
+returns-in-Transfer-clause-turns c = turns_same c.args.program.now _ _ _ _ c.store_read.result c.store_read.new.body
+    (ap (from_under c.args.program.now c.args.body.now (Came (way.Address c.args.addr))) c.in-Transfer.is) c.store_read.ensures.turns
+
+pub returns-in-Transfer-clause-falls : goal.returns-in-Transfer-clause-falls
+returns-in-Transfer-clause-falls c =
+    let e = ap task_weight c.in-Transfer.is in
+    falls_so c.store_read.result _ _ _ _ (λ h. omega (arith, h, e)) c.store_read.ensures.falls
+
+pub returns-in-PackFirst-clause-turns : goal.returns-in-PackFirst-clause-turns
+returns-in-PackFirst-clause-turns c = turns_same c.args.program.now _ _ _ _ c.locate_second.result c.locate_second.new.body
+    (ap (from_under c.args.program.now c.args.body.now (Came (way.Address c.args.addr))) c.in-PackFirst.is)
+        (c.locate_second.ensures.turns c.args.program.now _)
+
+pub returns-in-PackFirst-clause-falls : goal.returns-in-PackFirst-clause-falls
+returns-in-PackFirst-clause-falls c =
+    let e = ap task_weight c.in-PackFirst.is in
+    falls_so c.locate_second.result _ _ _ _ (λ h. omega (arith, h, e)) c.locate_second.ensures.falls
+
+pub returns-in-PackSecond-clause-turns : goal.returns-in-PackSecond-clause-turns
+returns-in-PackSecond-clause-turns c = turns_same c.args.program.now _ _ _ _ c.pack_by_index.result c.pack_by_index.new.body
+    (ap (from_under c.args.program.now c.args.body.now (Came (way.Address c.args.addr))) c.in-PackSecond.is)
+        (c.pack_by_index.ensures.turns c.args.program.now _)
+
+pub returns-in-PackSecond-clause-falls : goal.returns-in-PackSecond-clause-falls
+returns-in-PackSecond-clause-falls c =
+    let e = ap task_weight c.in-PackSecond.is in
+    falls_so c.pack_by_index.result _ _ _ _ (λ h. omega (arith, h, e)) c.pack_by_index.ensures.falls

@@ -44,3 +44,12 @@ returns-in-TextRight-clause-turns c = turns_same c.args.program.now _ _ _ _ c.be
 pub returns-in-Texts-clause-turns : goal.returns-in-Texts-clause-turns
 returns-in-Texts-clause-turns c = turns_same c.args.program.now _ _ _ _ c.end_texts.result c.end_texts.new.body
     (ap (from_under c.args.program.now c.args.body.now (Came way.Cells)) c.in-Texts.is) (c.end_texts.ensures.turns c.args.program.now _)
+
+pub returns-in-Transfer-clause-turns : goal.returns-in-Transfer-clause-turns
+returns-in-Transfer-clause-turns c = turns_same c.args.program.now _ _ _ _ c.continue_with_text.result c.continue_with_text.new.body
+    (ap (from_under c.args.program.now c.args.body.now (Came way.Cells)) c.in-Transfer.is) (c.continue_with_text.ensures.turns c.args.program.now)
+
+pub returns-in-Transfer-clause-falls : goal.returns-in-Transfer-clause-falls
+returns-in-Transfer-clause-falls c =
+    let e = ap task_weight c.in-Transfer.is in
+    falls_so c.continue_with_text.result _ _ _ _ (λ h. omega (arith, h, e)) c.continue_with_text.ensures.falls

@@ -33,3 +33,21 @@ returns-in-Next-clause-falls c =
 pub returns-in-Range-clause-turns : goal.returns-in-Range-clause-turns
 returns-in-Range-clause-turns c = turns_same c.args.program.now _ _ _ _ c.gather_range.result c.gather_range.new.body
     (ap (from_under c.args.program.now c.args.body.now (Came (way.Scalar c.args.value))) c.in-Range.is) (c.gather_range.ensures.turns c.args.program.now _)
+
+pub returns-in-Transfer-clause-turns : goal.returns-in-Transfer-clause-turns
+returns-in-Transfer-clause-turns c = turns_same c.args.program.now _ _ _ _ c.continue_transfer.result c.continue_transfer.new.body
+    (ap (from_under c.args.program.now c.args.body.now (Came (way.Scalar c.args.value))) c.in-Transfer.is) c.continue_transfer.ensures.turns
+
+pub returns-in-Transfer-clause-falls : goal.returns-in-Transfer-clause-falls
+returns-in-Transfer-clause-falls c =
+    let e = ap task_weight c.in-Transfer.is in
+    falls_so c.continue_transfer.result _ _ _ _ (λ h. omega (arith, h, e)) c.continue_transfer.ensures.falls
+
+pub returns-in-PackIndex-clause-turns : goal.returns-in-PackIndex-clause-turns
+returns-in-PackIndex-clause-turns c = turns_same c.args.program.now _ _ _ _ c.move_arrays.result c.move_arrays.new.body
+    (ap (from_under c.args.program.now c.args.body.now (Came (way.Scalar c.args.value))) c.in-PackIndex.is) c.move_arrays.ensures.turns
+
+pub returns-in-PackIndex-clause-falls : goal.returns-in-PackIndex-clause-falls
+returns-in-PackIndex-clause-falls c =
+    let e = ap task_weight c.in-PackIndex.is in
+    falls_so c.move_arrays.result _ _ _ _ (λ h. omega (arith, h, e)) c.move_arrays.ensures.falls

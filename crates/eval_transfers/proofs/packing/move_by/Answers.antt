@@ -1,0 +1,34 @@
+use Rattle.std.proofs.Common.{◌≡◌, ℕ, Some, None, ap, ◌∙◌, arith, if◌then◌else◌}
+use Rattle.program_tables.specs.ProgramRows.{row_at}
+use Rattle.program_meaning.specs.declared.components.Components.{Components}
+use Rattle.program_meaning.specs.Packing.{copies, first_moved, with_array}
+use Rattle.program_meaning.specs.Statements.{finally}
+use Rattle.program_meaning.specs.Tree.{Tree, bind, doing}
+use Rattle.eval_ops.specs.Machines.{moment_of}
+use Rattle.eval_rules.specs.Arrays.{array_in}
+use Rattle.eval_tasks.specs.Rest.{here, waiting}
+use Rattle.eval_tasks.proofs.Turning.{turns_same}
+use Rattle.eval_transfers.proofs.TransfersByRow.{array_by, with_found}
+use Rattle.eval_transfers.proofs.packing.move_by.Goals as goal
+
+pub returns-in-Some-clause-turns : goal.returns-in-Some-clause-turns
+returns-in-Some-clause-turns c =
+    let p = c.args.program.now in
+    let h = here c.args.body.now.home c.args.line in
+    let go : ℕ → Components → Tree = (λ cells close. doing c.args.line (first_moved c.args.unpacked close c.args.wide c.args.value) (λ at.
+    finally h (if c.args.packing then copies at c.args.close cells else copies c.args.close at cells))) in
+    turns_same p _ _ (moment_of c.args.machine.now) _ c.move_cells.result c.move_cells.new.body
+    (ap (λ t. bind t (waiting p c.args.body.now)) (array_by p (row_at p c.args.packed) go
+    ∙ ap (λ o. with_found o go) (let e : array_in p (row_at p c.args.packed) ≡ Some (c.in-Some.cells, c.in-Some.components) = cc in e)))
+    (c.move_cells.ensures.turns p)
+
+pub returns-in-None-clause-turns : goal.returns-in-None-clause-turns
+returns-in-None-clause-turns c =
+    let p = c.args.program.now in
+    let h = here c.args.body.now.home c.args.line in
+    let go : ℕ → Components → Tree = (λ cells close. doing c.args.line (first_moved c.args.unpacked close c.args.wide c.args.value) (λ at.
+    finally h (if c.args.packing then copies at c.args.close cells else copies c.args.close at cells))) in
+    turns_same p _ _ (moment_of c.args.machine.now) (moment_of c.args.machine.now) c.no_row.result c.no_row.new.self
+    (ap (λ t. bind t (waiting p c.args.body.now)) (array_by p (row_at p c.args.packed) go
+    ∙ ap (λ o. with_found o go) (let e : array_in p (row_at p c.args.packed) ≡ None = cc in e)))
+    (c.no_row.ensures.turns p (moment_of c.args.machine.now))
