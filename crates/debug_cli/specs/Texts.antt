@@ -148,7 +148,6 @@ refusal_name refusal.NotProgram = codes "NotProgram"
 refusal_name refusal.TooDeep = codes "TooDeep"
 refusal_name (refusal.Rule rule) = codes "Rule"
 refusal_name refusal.TooBig = codes "TooBig"
-refusal_name refusal.Unbuilt = codes "Unbuilt"
 
 -- why a source is refused: the reason's name, and after it the number of a rule
 abbrev pub refusal_text : Refusal → List ℕ

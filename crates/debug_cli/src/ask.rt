@@ -154,7 +154,7 @@ fn ask_file<K: Keeper, I: Source, O: Sink>(
 /// where the source is refused; 4 where it could not be fetched; 5 and 6 where the console and the
 /// screen failed; 7 where memory ran out; 9 where 16,777,216 bytes were taken of the console and no end
 /// was seen. For 2, 3 and 4 one line says so. A source is refused that is no program of the language,
-/// that breaks a static rule, or that cannot be run yet.
+/// or that breaks a static rule.
 pub fn ask_pascal<K: Keeper, I: Source, O: Sink>(
     alloc: Global,
     words: &[String],

@@ -286,7 +286,6 @@ fn refusal_name(why: Refusal) -> &'static str
         Refusal::TooDeep => "TooDeep",
         Refusal::Rule(_) => "Rule",
         Refusal::TooBig => "TooBig",
-        Refusal::Unbuilt => "Unbuilt",
     }
 }
 

@@ -1,5 +1,5 @@
 -- From the tokens and the program of a source to its run.
-use Rattle.std.proofs.Common.{◌≡◌, ◌⊎◌, ℕ, true, false, List, [], Option, Some, None, Ok, Err, refl, sym, ap, subst, ◌∙◌, inl, inr, arith}
+use Rattle.std.proofs.Common.{◌≡◌, ◌⊎◌, ℕ, List, [], Option, Some, None, Ok, Err, refl, sym, ap, subst, ◌∙◌, inl, inr, arith}
 use Rattle.std.specs.Prelude.{Contains}
 use Rattle.pas_lexer.specs.declared.kinds.Token.{Token}
 use Rattle.pas_lexer.specs.declared.kinds.LexFault.{LexFault}
@@ -19,9 +19,7 @@ use Rattle.source_checker.specs.declared.programs.ProgramFault.{ProgramFault}
 use Rattle.source_checker.specs.declared.programs.ProgramFault.TheVariants as refused
 use Rattle.source_checker.specs.Programs.{IsChecked}
 use Rattle.source_checker.specs.Programs as check
-use Rattle.source_checker.specs.Places.{StandsAt}
 use Rattle.same_programs.specs.Laws.{OneTextOneProgram}
-use Rattle.unbuilt.specs.Forms.{IsFirstUnbuilt}
 use Rattle.debuggee.specs.declared.refusal.Refusal.{Refusal}
 use Rattle.debuggee.specs.declared.refusal.Refusal.TheVariants as refusal
 use Rattle.debuggee.specs.declared.source.SourceFault.{SourceFault}
@@ -75,21 +73,11 @@ has_text t p c = (tree_node c.0, c.1.formed, c.1.spelled)
 
 -- what the check says of tokens, told as a fault of their source
 pub told_unchecked : OneTextOneProgram → (t : Lexed) (f : ProgramFault) → check.IsUnchecked t f → IsUnread t (fault_of_check f)
-told_unchecked law t (refused.NotProgram line byte) h = ((λ p c built. h.1.0 (has_text t p c)), inl (h.0, h.2, h.1.1))
-told_unchecked law t (refused.TooDeep line byte) h = ((λ p c built. h.1.0 (has_text t p c)), inl (h.0, h.2, h.1.1))
-told_unchecked law t (refused.Rule rule line byte) h = ((λ p c built. broken_not law t h.0 h.1 h.2.1.0 h.2.1.1.0 p c), inr h)
-told_unchecked law t (refused.TooBig line byte) h = ((λ p c built. broken_not law t h.0 h.1 h.2.1.0 h.2.1.1.0 p c), inr h)
+told_unchecked law t (refused.NotProgram line byte) h = ((λ p c. h.1.0 (has_text t p c)), inl (h.0, h.2, h.1.1))
+told_unchecked law t (refused.TooDeep line byte) h = ((λ p c. h.1.0 (has_text t p c)), inl (h.0, h.2, h.1.1))
+told_unchecked law t (refused.Rule rule line byte) h = ((λ p c. broken_not law t h.0 h.1 h.2.1.0 h.2.1.1.0 p c), inr h)
+told_unchecked law t (refused.TooBig line byte) h = ((λ p c. broken_not law t h.0 h.1 h.2.1.0 h.2.1.1.0 p c), inr h)
 told_unchecked law t refused.Memory h = tt
-
--- a token that cannot be run is told, and no program that is built is the text
-pub told_unbuilt : OneTextOneProgram → (t : Lexed) (q : ProgramRows) (number line byte : ℕ) → IsChecked t q → IsFirstUnbuilt t q (Some number)
-    → StandsAt t number line byte → IsUnread t (Refused refusal.Unbuilt line byte)
-told_unbuilt law t q number line byte c first at = (
-  (λ p d built. let e : true ≡ false = sym first.1 ∙ (subst (λ (r : ProgramRows). IsFirstUnbuilt t r None) (sym (same_checked law t p q d c)) built).built
-      number first.0 in
-      let x : ⊥ = cc in x),
-  inl (number, at, (q, c, first)),
-)
 
 -- the one list of tokens of a source
 pub record IsDivided (source : List ℕ) (tokens : Lexed) : Type 0 where
@@ -105,16 +93,13 @@ module _ {source : List ℕ} {tokens : Lexed} (the : IsDivided source tokens) wh
   checked_here : (t : Lexed) (p : ProgramRows) → IsProgram source t p → IsChecked tokens p
   checked_here t p is = subst (λ (u : Lexed). IsChecked u p) (sym (same_tokens t p is)) is.checked
 
-  built_here : (t : Lexed) (p : ProgramRows) → IsProgram source t p → IsFirstUnbuilt tokens p None
-  built_here t p is = subst (λ (u : Lexed). IsFirstUnbuilt u p None) (sym (same_tokens t p is)) is.built
-
   pub unread_only : (e : SourceFault) → IsUnread tokens e → (t : Lexed) (p : ProgramRows) → IsProgram source t p → Keeps (execution_of t p) (Err e)
-  unread_only (Refused why line byte) h t p is = h.0 p (checked_here t p is) (built_here t p is)
+  unread_only (Refused why line byte) h t p is = h.0 p (checked_here t p is)
   unread_only Memory h t p is = tt
 
   pub unread_refused : (e : SourceFault) → IsUnread tokens e → IsRefused source e
   unread_refused (Refused why line byte) h =
-      ((λ t p is. h.0 p (checked_here t p is) (built_here t p is)), inr (tokens, the.kept, the.lexed, h.1))
+      ((λ t p is. h.0 p (checked_here t p is)), inr (tokens, the.kept, the.lexed, h.1))
   unread_refused Memory h = tt
 
   -- ---- a program
@@ -124,14 +109,14 @@ module _ {source : List ℕ} {tokens : Lexed} (the : IsDivided source tokens) wh
       → (t : Lexed) (p : ProgramRows) → IsProgram source t p → r ≡ execution_of t p
   run_only program r read kept t p is =
       let same : tokens ≡ t = same_tokens t p is in
-      let q : program ≡ p = sym (read.2 p (checked_here t p is)) in
+      let q : program ≡ p = sym (read.1 p (checked_here t p is)) in
       kept ∙ (λ i. record { tokens = same i; program = q i; calls = calls_within (q i) default_budget })
 
   pub run_found : (program : ProgramRows) (r : Execution) → IsRead tokens program
       → r ≡ record { tokens = tokens; program = program; calls = calls_within program default_budget }
       → (t : Lexed) × (p : ProgramRows) × IsProgram source t p × (r ≡ execution_of t p)
   run_found program r read kept =
-      (tokens, program, record { kept = the.kept; lexed = the.lexed; checked = read.0; built = read.1 }, kept)
+      (tokens, program, record { kept = the.kept; lexed = the.lexed; checked = read.0 }, kept)
 
 -- ---- one program of a source
 

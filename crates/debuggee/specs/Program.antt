@@ -1,4 +1,4 @@
--- What a source is: a program that can be run, and its run; or why and where it is refused.
+-- What a source is: a program, and its run; or why and where it is refused.
 use Rattle.std.specs.Prelude.{◌≡◌, ◌⊎◌, ℕ, List, Option, Some, None, Result, Ok, Err}
 use Rattle.pas_lexer.specs.declared.kinds.Token.{Token}
 use Rattle.pas_lexer.specs.Lexed.{Lexed}
@@ -14,7 +14,6 @@ use Rattle.source_checker.specs.declared.programs.ProgramFault.TheVariants as re
 use Rattle.source_checker.specs.Declarations.{IsTextOf}
 use Rattle.source_checker.specs.Places.{StandsAt}
 use Rattle.source_checker.specs.Programs.{IsBrokenAt, IsChecked, IsUnchecked}
-use Rattle.unbuilt.specs.Forms.{IsFirstUnbuilt}
 use Rattle.debuggee.specs.declared.refusal.Refusal.{Refusal}
 use Rattle.debuggee.specs.declared.refusal.Refusal.TheVariants as refusal
 use Rattle.debuggee.specs.declared.source.SourceFault.{SourceFault}
@@ -22,13 +21,11 @@ use Rattle.debuggee.specs.declared.source.SourceFault.TheVariants.{Refused, Memo
 use Rattle.debuggee.specs.declared.source.Debuggee.{Debuggee}
 use Rattle.debuggee.specs.Execution.{Execution, execution}
 
--- The source has these tokens, which are the text of this program; it breaks no rule, nothing in it is too big, and all
--- of it can be run.
+-- The source has these tokens, which are the text of this program; it breaks no rule, and nothing in it is too big.
 pub record IsProgram (source : List ℕ) (t : Lexed) (p : ProgramRows) : Type 0 where
   pub kept : t.source ≡ source
   pub lexed : IsLexed source t.tokens
   pub checked : IsChecked t p
-  pub built : IsFirstUnbuilt t p None
 
 -- the answer keeps this execution, or memory ran out
 abbrev pub Keeps : Execution → Result Debuggee SourceFault → Type 0
@@ -36,7 +33,7 @@ Keeps h (Ok r) = execution r ≡ h
 Keeps h (Err (Refused why line byte)) = ⊥
 Keeps h (Err Memory) = Unit {0}
 
--- no program that can be run has this source
+-- no program has this source
 abbrev pub NoProgram : List ℕ → Type 0
 NoProgram source = (t : Lexed) (p : ProgramRows) → IsProgram source t p → ⊥
 
@@ -58,11 +55,10 @@ abbrev pub RefusesPiece : List ℕ → Refusal → (line byte : ℕ) → Type 0
 RefusesPiece source why line byte = FailsFor source why byte × (line ≡ line_at source byte)
 
 -- Tokens are refused at this one: it is the first that is too deep, or else the first with which no tree of the grammar
--- goes on; or, where they are the text of a program that breaks no rule, the first at which something cannot be run.
+-- goes on.
 abbrev pub RefusesAt : Lexed → Refusal → (number : ℕ) → Type 0
 RefusesAt t refusal.NotProgram number = IsExact t.tokens (Err (parser.NotProgram number))
 RefusesAt t refusal.TooDeep number = IsExact t.tokens (Err (parser.TooDeep number))
-RefusesAt t refusal.Unbuilt number = (p : ProgramRows) × IsChecked t p × IsFirstUnbuilt t p (Some number)
 RefusesAt t _ number = ⊥
 
 -- they are refused at a token that stands there
@@ -77,8 +73,8 @@ RefusesTree t (refusal.Rule rule) line byte =
 RefusesTree t refusal.TooBig line byte = (x : Tree) × IsTextOf t x × IsBrokenAt t x fault.TooBig line byte
 RefusesTree t _ line byte = ⊥
 
--- A source is refused at the first piece that does not fit; or, where all pieces fit, at a token: for the grammar, for
--- a rule, or for what is not built.
+-- A source is refused at the first piece that does not fit; or, where all pieces fit, at a token: for the grammar,
+-- or for a rule.
 abbrev pub Refuses : List ℕ → Refusal → (line byte : ℕ) → Type 0
 Refuses source why line byte =
     RefusesPiece source why line byte
@@ -117,13 +113,13 @@ TokensAre tokens (Ok t) = t.tokens ≡ tokens
 TokensAre tokens (Err (Refused why line byte)) = ⊥
 TokensAre tokens (Err Memory) = Unit {0}
 
--- tokens that are not the text of a program that can be run: why, and where
+-- tokens that are not the text of a program: why, and where
 abbrev pub IsUnread : Lexed → SourceFault → Type 0
 IsUnread t (Refused why line byte) =
-    ((p : ProgramRows) → IsChecked t p → IsFirstUnbuilt t p None → ⊥)
+    ((p : ProgramRows) → IsChecked t p → ⊥)
     × (RefusesToken t why line byte ⊎ RefusesTree t why line byte)
 IsUnread t Memory = Unit {0}
 
 -- the answer is the one program whose text they are
 abbrev pub IsRead : Lexed → ProgramRows → Type 0
-IsRead t p = IsChecked t p × IsFirstUnbuilt t p None × ((q : ProgramRows) → IsChecked t q → q ≡ p)
+IsRead t p = IsChecked t p × ((q : ProgramRows) → IsChecked t q → q ≡ p)

@@ -25,6 +25,4 @@ pub enum Refusal {
     Rule(u32),
     /// A variable or a parameter has too many cells, and no rule is broken.
     TooBig,
-    /// The first token of a construct of the program that cannot be run yet.
-    Unbuilt,
 }

@@ -2,10 +2,9 @@
 ghost use Rattle.std.specs.Prelude.{◌≡◌, ◌<◌, ◌≤◌, ℕ, List, IfOk, IfErr, OnOk, length};
 ghost use Rattle.pas_lexer.specs.declared.kinds.Token.{Token};
 ghost use Rattle.pas_lexer.specs.Limits.{source_bytes};
-ghost use Rattle.pas_lexer.specs.Lexed.{Lexed, EndsOnce};
+ghost use Rattle.pas_lexer.specs.Lexed.{Lexed};
 ghost use Rattle.pas_lexer.specs.Division.{line_at, IsLexed, IsFault};
 ghost use Rattle.program_tables.specs.ProgramRows.{ProgramRows};
-ghost use Rattle.source_checker.specs.Places.{StandsAt};
 ghost use Rattle.debuggee.specs.declared.source.SourceFault.TheVariants.{Refused, Memory};
 ghost use Rattle.debuggee.specs.Program.{IsProgram, Keeps, IsRefused, IsMisfit, IsUnlexed, IsUnread, IsRead};
 ghost use Rattle.debuggee.specs.Program.{fault_of_check, TokensAre};
@@ -18,10 +17,9 @@ use program_meaning::{every_program_runs, every_run_has_a_call};
 use program_run::{History, run};
 use program_tables::Program;
 use same_programs::one_text_one_program;
-use source_checker::{ProgramFault, check_tokens, place_of};
+use source_checker::{ProgramFault, check_tokens};
 use std::alloc::{AllocError, Global};
 use thiserror::Error;
-use unbuilt::unbuilt;
 
 /// The steps that a run may take.
 pub const BUDGET: u32 = 1_000_000;
@@ -40,8 +38,8 @@ pub struct Debuggee {
 /// Why a source opens no session.
 #[derive(Clone, Copy, Debug, PartialEq, Eq, Drop, Error)]
 pub enum SourceFault {
-    /// The source is no program of the language, it breaks a static rule, or it cannot be run yet. The line is
-    /// counted from 1, the byte from 0.
+    /// The source is no program of the language, or it breaks a static rule. The line is counted from 1, the byte from
+    /// 0.
     #[error("refused at line {line}, byte {byte}")]
     Refused { why: Refusal, line: u32, byte: u32 },
     /// Memory ran out.
@@ -57,16 +55,6 @@ impl From<AllocError> for SourceFault {
     fn from(_e: AllocError) -> SourceFault {
         SourceFault::Memory
     }
-}
-
-/// The refusal of a source at the token of this number.
-fn refused_token(tokens: &Tokens, why: Refusal, number: u32) -> SourceFault
-    ensures ended { EndsOnce tokens.now.tokens }
-    ensures place { number < length tokens.now.tokens
-        → (line : ℕ) × (byte : ℕ) × (result ≡ Refused why line byte) × StandsAt tokens.now number line byte }
-{
-    let (line, byte) = place_of(tokens, number);
-    SourceFault::Refused { why, line, byte }
 }
 
 /// The refusal of a source at a piece that does not fit.
@@ -127,17 +115,14 @@ fn fault_of_check(fault: ProgramFault) -> SourceFault
     SourceFault::Refused { why, line, byte }
 }
 
-/// The program that the tokens are the text of, which can be run.
+/// The program that the tokens are the text of.
 fn read_program(alloc: Global, tokens: &Tokens) -> Result<Program, SourceFault>
     ensures found { IfOk result (IsRead tokens.now) }
     ensures refused { IfErr result (IsUnread tokens.now) }
 {
     one_text_one_program();
     match check_tokens(alloc, tokens) {
-        Ok(program) => match unbuilt(tokens, &program) {
-            None => Ok(program),
-            Some(token) => Err(refused_token(tokens, Refusal::Unbuilt, token)),
-        },
+        Ok(program) => Ok(program),
         Err(fault) => Err(fault_of_check(fault)),
     }
 }
@@ -163,13 +148,13 @@ fn run_tokens(alloc: Global, tokens: Tokens, program: Program) -> Result<Debugge
 }
 
 /// The run of a source. It takes memory. A source is refused that is no program of the language, that breaks a static
-/// rule, in which something is too big, or that cannot be run yet.
+/// rule, or in which something is too big.
 pub fn run_source(alloc: Global, source: &[u8]) -> Result<Debuggee, SourceFault>
     requires { length source.now ≤ source_bytes }
     // Each program that the source is has this run.
     ensures only { (t : Lexed) (p : ProgramRows) → IsProgram source.now t p → Keeps (execution_of t p) result }
     // A refused source is no program; and it is told why and where: at the first piece that does not fit, at a token
-    // with which no tree of the grammar goes on, at the first broken rule, or at the first token that cannot be run.
+    // with which no tree of the grammar goes on, or at the first broken rule.
     ensures refused { IfErr result (IsRefused source.now) }
     // A source that is no program is refused, unless memory runs out.
     ensures found { IfOk result (λ debuggee. (t : Lexed) × (p : ProgramRows) × IsProgram source.now t p

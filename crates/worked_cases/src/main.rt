@@ -1,6 +1,6 @@
 //! Runs worked cases. A case is what is given to the command, and what has to come of it, and is held in files of
 //! a folder. The file `index` names the files of cases, each after the word for its kind: `command`, `sources`,
-//! `rules`, `forms`, `declarations`, `tables` or `runs`. The program prints a line for each case, or for a file of
+//! `rules`, `declarations`, `tables` or `runs`. The program prints a line for each case, or for a file of
 //! them, and each difference in full, and fails where there is one.
 //!
 //! Its one argument is the folder, `.` where there is none.
@@ -90,7 +90,6 @@ fn try_file<R: Files + AllocGlobal + Print>(
         "command" => return try_cases(rt, folder, name, tally),
         "sources" => try_sources(rt, folder, name, Judge::Grammar)?,
         "rules" => try_sources(rt, folder, name, Judge::Rules)?,
-        "forms" => try_sources(rt, folder, name, Judge::Forms)?,
         "declarations" => try_sources(rt, folder, name, Judge::Declarations)?,
         "tables" => try_tables(rt, folder, name)?,
         "runs" => try_runs(rt, folder, name)?,

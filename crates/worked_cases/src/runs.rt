@@ -11,11 +11,10 @@ use effect_log::Log;
 use pas_lexer::lex;
 use program_run::{History, run};
 use program_tables::Program;
-use source_checker::{check_tokens, place_of};
+use source_checker::check_tokens;
 use std::alloc::Global;
 use std::rt::Files;
 use std::str;
-use unbuilt::unbuilt;
 
 /// The budget of a run where a case does not say it.
 const BUDGET: u32 = 1_000_000;
@@ -139,10 +138,6 @@ fn program_of(alloc: Global, source: &[u8]) -> Result<Program> {
     ensure!(source.len() <= SOURCE_BYTES, "the source is too long");
     let tokens = lex(alloc, source)?;
     let program = check_tokens(alloc, &tokens)?;
-    if let Some(token) = unbuilt(&tokens, &program) {
-        let (line, byte) = place_of(&tokens, token);
-        bail!("what stands at line {line}, byte {byte} cannot be run yet");
-    }
     Ok(program)
 }
 

@@ -17,7 +17,7 @@ const REFUSED: u8 = 3;
 
 /// Why a source is refused that is not the text of a program, and then why one is that breaks a static rule or is too
 /// big.
-const REASONS: [&str; 12] = [
+const REASONS: [&str; 11] = [
     "BadByte",
     "OpenComment",
     "OpenString",
@@ -29,7 +29,6 @@ const REASONS: [&str; 12] = [
     "TooDeep",
     "Rule",
     "TooBig",
-    "Unbuilt",
 ];
 
 /// Who says whether a source is taken.
@@ -39,8 +38,6 @@ pub(crate) enum Judge {
     Grammar,
     /// The command, with the static rules.
     Rules,
-    /// The command, with the forms that can be run.
-    Forms,
     /// The check of its declarations alone.
     Declarations,
 }
@@ -148,7 +145,7 @@ fn difference(alloc: Global, judge: Judge, row: Row) -> Result<Vec<u8>> {
     match judge {
         Judge::Grammar if row.why.as_str() == "taken" => taken_difference(alloc, &row, false),
         Judge::Rules if row.why.as_str() == "taken" => taken_difference(alloc, &row, true),
-        Judge::Grammar | Judge::Rules | Judge::Forms => differences(
+        Judge::Grammar | Judge::Rules => differences(
             alloc,
             &command_case(alloc, row)?,
         ),
