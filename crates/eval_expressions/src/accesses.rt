@@ -125,7 +125,6 @@ fn begin_access(
             body, alloc, program, machine, place, field, target, line,
         ),
         AccessRow::Dereference { access, .. } => dereference(body, access, row, target, line),
-        _ => body.no_row(),
     }
 }
 

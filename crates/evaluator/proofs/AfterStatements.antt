@@ -52,15 +52,16 @@ other_leaps p home t vs ls label base f = refl
 
 -- a task that no statement ends has no row
 pub other_nothing : (p : ProgramRows) (home : Home) (t : Task) (vs : List Value) (ls : List (List Value))
-    → ((n : Next) → t ≡ tasks.Next n → ⊥) → after p home t vs ls parts.Nothing ≡ no_row
-other_nothing p home (tasks.Next n) vs ls f = absurd (f n refl)
-other_nothing p home (tasks.Transfer (transfers.Integer a b c d)) vs ls f = refl
-other_nothing p home (tasks.Transfer (transfers.Into a b c d)) vs ls f = refl
-other_nothing p home (tasks.Transfer (transfers.Written a b c)) vs ls f = refl
-other_nothing p home (tasks.Transfer (transfers.Wide a b c d)) vs ls f = refl
-other_nothing p home (tasks.Transfer (transfers.Width a b c)) vs ls f = refl
-other_nothing p home (tasks.Transfer (transfers.TextWidth a b)) vs ls f = refl
-other_nothing p home t vs ls f = refl
+    → ((n : Next) → t ≡ tasks.Next n → ⊥) → (t ≡ tasks.Leave → ⊥) → after p home t vs ls parts.Nothing ≡ no_row
+other_nothing p home (tasks.Next n) vs ls f g = absurd (f n refl)
+other_nothing p home tasks.Leave vs ls f g = absurd (g refl)
+other_nothing p home (tasks.Transfer (transfers.Integer a b c d)) vs ls f g = refl
+other_nothing p home (tasks.Transfer (transfers.Into a b c d)) vs ls f g = refl
+other_nothing p home (tasks.Transfer (transfers.Written a b c)) vs ls f g = refl
+other_nothing p home (tasks.Transfer (transfers.Wide a b c d)) vs ls f g = refl
+other_nothing p home (tasks.Transfer (transfers.Width a b c)) vs ls f g = refl
+other_nothing p home (tasks.Transfer (transfers.TextWidth a b)) vs ls f g = refl
+other_nothing p home t vs ls f g = refl
 
 pub other_lands : (p : ProgramRows) (home : Home) (n : Next) (vs : List Value) (label base : ℕ)
     → ((a b c : ℕ) → n ≡ nexts.Sequence a b c → ⊥) → ((a b c : ℕ) → n ≡ nexts.Labelled a b c → ⊥)
