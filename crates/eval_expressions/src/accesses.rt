@@ -121,9 +121,7 @@ fn begin_access(
             record: place,
             field,
             ..
-        } => within(
-            body, alloc, program, machine, place, field, target, line,
-        ),
+        } => within(body, alloc, program, machine, place, field, target, line),
         AccessRow::Dereference { access, .. } => dereference(body, access, row, target, line),
     }
 }
@@ -216,9 +214,7 @@ pub fn continue_access(
             target,
             line,
         } => match spend(machine, 1) {
-            Ok(()) => locate_field(
-                body, alloc, program, machine, target, line, addr, field,
-            ),
+            Ok(()) => locate_field(body, alloc, program, machine, target, line, addr, field),
             Err(halt) => body.fail(line, halt),
         },
         Located::Pointed { line } => follow_pointer(body, machine, line, addr),
@@ -383,9 +379,7 @@ fn within(
 {
     match spend(machine, 1) {
         Ok(()) => match body.home.records.at(place) {
-            Some(addr) => locate_field(
-                body, alloc, program, machine, target, line, addr, field,
-            ),
+            Some(addr) => locate_field(body, alloc, program, machine, target, line, addr, field),
             None => body.no_row(),
         },
         Err(halt) => body.fail(line, halt),

@@ -21,8 +21,8 @@ use eval_ops::{
     no_members, ordinal_function, passed, sign, spend, truth,
 };
 use eval_rules::{Dyadic, combine, constant, dyadic_in, type_accessed};
-use eval_textfiles::{at_end, at_line_end};
 use eval_tasks::{Body, Located, Now, Operand, Part, Task, Turned, Way};
+use eval_textfiles::{at_end, at_line_end};
 use program_tables::Program;
 use program_tables::rows::{ExpressionRow, Row};
 use std::alloc::Global;

@@ -39,9 +39,13 @@ fn components_in(program: &Program, array: Option<TypeRow>) -> Option<Components
     ensures { result ≡ arrays.components_in program.now array }
 {
     match array {
-        Some(TypeRow::Array { index, component, .. }) => {
-            components_of(program.type_row(index), program.size_of(component))
-        }
+        Some(
+            TypeRow::Array {
+                index,
+                component,
+                ..
+            },
+        ) => { components_of(program.type_row(index), program.size_of(component)) }
         _ => None,
     }
 }

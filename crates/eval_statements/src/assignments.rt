@@ -85,7 +85,15 @@ pub fn put(
 {
     let value = body.take_value();
     let tag = tag_accessed(program, program.row(target));
-    let done = assign_to(alloc, program, machine, tag, program.type_row(of), addr, value);
+    let done = assign_to(
+        alloc,
+        program,
+        machine,
+        tag,
+        program.type_row(of),
+        addr,
+        value,
+    );
     body.finally(line, done)
 }
 

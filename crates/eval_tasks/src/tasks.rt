@@ -204,7 +204,11 @@ pub enum Transfer {
         line: u32,
     },
     /// What is written.
-    Written { of: u32, next: u32, line: u32 },
+    Written {
+        of: u32,
+        next: u32,
+        line: u32,
+    },
     /// What is written in a width, which comes after it.
     Wide {
         of: u32,
@@ -213,9 +217,16 @@ pub enum Transfer {
         line: u32,
     },
     /// The width of the last value that waits.
-    Width { of: u32, next: u32, line: u32 },
+    Width {
+        of: u32,
+        next: u32,
+        line: u32,
+    },
     /// The width of the string that is the last list that waits.
-    TextWidth { next: u32, line: u32 },
+    TextWidth {
+        next: u32,
+        line: u32,
+    },
 }
 
 /// What waits for a part that is at work.

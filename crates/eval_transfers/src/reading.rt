@@ -225,9 +225,7 @@ pub fn store_read(
             of,
             next,
             line,
-        } => store(
-            body, alloc, program, machine, access, of, next, line, addr,
-        ),
+        } => store(body, alloc, program, machine, access, of, next, line, addr),
         Transfer::Integer { .. } => body.no_row(),
         Transfer::Written { .. } => body.no_row(),
         Transfer::Wide { .. } => body.no_row(),
@@ -259,6 +257,19 @@ fn store(
 {
     let value = body.take_value();
     let tag = tag_accessed(program, program.row(access));
-    let done = assign_to(alloc, program, machine, tag, program.type_row(of), addr, value);
-    go_after(body, line, done, Now::Begin(Part::Receive { at: next, line }))
+    let done = assign_to(
+        alloc,
+        program,
+        machine,
+        tag,
+        program.type_row(of),
+        addr,
+        value,
+    );
+    go_after(
+        body,
+        line,
+        done,
+        Now::Begin(Part::Receive { at: next, line }),
+    )
 }

@@ -14,16 +14,12 @@ ghost use Rattle.eval_tasks.specs.Weight.{Falls, body_weight, come, left_of, lef
 ghost use Rattle.eval_transfers.specs.Families.{of_transfer};
 
 use eval_ops::Machine;
-use eval_textfiles::end_page;
 use eval_tasks::{Body, Next, Now, Part, Task, Turned};
+use eval_textfiles::end_page;
 use program_tables::rows::StatementRow;
 
 /// A read, write, page, pack or unpack statement whose line is told.
-pub fn transfer_statement(
-    body: &mut Body,
-    machine: &mut Machine,
-    statement: StatementRow,
-) -> Turned
+pub fn transfer_statement(body: &mut Body, machine: &mut Machine, statement: StatementRow) -> Turned
     requires ready { IsReady machine.old }
     ensures turns { (p : ProgramRows) (row : ℕ) → Turns p
         (bind (of_transfer p body.old.home row statement) (waiting p body.old)) (moment_of machine.old) result

@@ -326,9 +326,7 @@ fn after_address(
             packed,
             first,
             line,
-        } => pack_by_index(
-            body, packing, unpacked, index, packed, first, line, addr,
-        ),
+        } => pack_by_index(body, packing, unpacked, index, packed, first, line, addr),
         Task::Leave => leave(body, Way::Address(addr)),
         _ => body.no_row(),
     }

@@ -1,6 +1,9 @@
 -- What a body does itself enters no call, leaves none and gives nothing out, and the log only grows.
-use Rattle.std.proofs.Common.{◌≡◌, ℕ, zero, suc, ◌+◌, Bool, true, false, List, [], ◌∷◌, ◌++◌, Option, Some, None, refl, sym, ap, ◌∙◌, append_assoc, append-nil}
+use Rattle.std.proofs.Common.{◌≡◌, ℕ, zero, suc, ◌+◌, ◌-◌, ◌≤◌, length, subst, arith, Bool, true, false, List, [], ◌∷◌, ◌++◌, Option, Some, None, refl, sym, ap, ◌∙◌, append_assoc, append-nil}
 use Rattle.std.specs.Prelude.{nat_lt, is_some, if◌then◌else◌}
+use Rattle.std.proofs.lemmas.Bool.{ltb-false}
+use Rattle.std.proofs.lemmas.List.{length-append}
+use Rattle.std.specs.Prelude.{slice_get}
 use Rattle.std.specs.FinMap.{get}
 use Rattle.cell_value.specs.declared.values.Value.{Value}
 use Rattle.cell_value.specs.declared.entries.Touch.{Touch}
@@ -17,6 +20,9 @@ use Rattle.program_meaning.specs.Acts.{
   ReadCell,
   HasCell,
   WriteCell,
+  TakeIf,
+  GiveByte,
+  OutOfSteps,
   MakeBlock,
   DropBlock,
   perform,
@@ -26,6 +32,10 @@ use Rattle.program_meaning.specs.Acts.{
   put,
   put_asked,
   after_touches,
+  take_item,
+  take_looked,
+  look,
+  spent,
   made_block,
   dropped_block,
 }
@@ -36,18 +46,18 @@ use Rattle.program_meaning.proofs.OutcomesCompose.{some_same, none_some}
 use Rattle.eval_ops.specs.Machines.{Moment}
 use Rattle.eval_tasks.specs.Stops.{Stop, AtEnd, on_act, next_stop}
 
--- no call was entered and none was left, and nothing was given out
+-- no call was entered and none was left, and each byte that was given out took a step
 pub record SameCalls (σ τ : State) : Type 0 where
   pub calls : τ.calls ≡ σ.calls
   pub depth : τ.depth ≡ σ.depth
-  pub output : τ.output ≡ σ.output
+  pub output : length τ.output + τ.steps ≤ length σ.output + σ.steps
   pub items : τ.items ≡ σ.items
 
 same_calls : (σ : State) → SameCalls σ σ
-same_calls σ = record { calls = refl; depth = refl; output = refl; items = refl }
+same_calls σ = record { calls = refl; depth = refl; output = omega arith; items = refl }
 
 calls_then : {σ τ υ : State} → SameCalls σ τ → SameCalls τ υ → SameCalls σ υ
-calls_then f g = record { calls = g.calls ∙ f.calls; depth = g.depth ∙ f.depth; output = g.output ∙ f.output; items = g.items ∙ f.items }
+calls_then f g = record { calls = g.calls ∙ f.calls; depth = g.depth ∙ f.depth; output = let a = f.output in let b = g.output in omega (arith, a, b); items = g.items ∙ f.items }
 
 abbrev Kept : {A : Type 0} → State → Done A → Type 0
 Kept σ (Went x w τ) = SameCalls σ τ
@@ -57,11 +67,21 @@ kept_if : {A : Type 0} (σ : State) (b : Bool) (d e : Done A) → Kept σ d → 
 kept_if σ true d e f g = f
 kept_if σ false d e f g = g
 
-kept_steps : {A : Type 0} (n : ℕ) (σ : State) (go : State → Done A) → ((m : ℕ) → Kept σ (go (record σ { steps = m }))) → Kept σ (with_steps n σ go)
-kept_steps n σ go h = kept_if σ (nat_lt σ.steps n) _ _ (record { calls = refl; depth = refl; output = refl; items = refl }) (h _)
+kept_steps : {A : Type 0} (n : ℕ) (σ : State) (go : State → Done A) → ((m : ℕ) → m + n ≤ σ.steps → Kept σ (go (record σ { steps = m })))
+    → Kept σ (with_steps n σ go)
+kept_steps {A} n σ go h = by (nat_lt σ.steps n) refl
+  where
+    by : (b : Bool) → nat_lt σ.steps n ≡ b → Kept σ (if b then Stops OutOfSteps [] (spent σ) else go (record σ { steps = σ.steps - n }))
+    by true e = record { calls = refl; depth = refl; output = omega arith; items = refl }
+    by false e = h (σ.steps - n) (let k = ltb-false σ.steps n e in omega arith)
 
-kept_cell : {A : Type 0} (addr : ℕ) (σ : State) (go : State → Done A) → ((m : ℕ) → Kept σ (go (record σ { steps = m }))) → Kept σ (on_cell addr σ go)
+kept_cell : {A : Type 0} (addr : ℕ) (σ : State) (go : State → Done A) → ((m : ℕ) → m + 1 ≤ σ.steps → Kept σ (go (record σ { steps = m })))
+    → Kept σ (on_cell addr σ go)
 kept_cell addr σ go h = kept_if σ (is_in_reach σ addr) _ _ (kept_steps 1 σ go h) (same_calls σ)
+
+-- fewer steps are left, and all else is as it was
+kept_left : (σ : State) (m n : ℕ) → m + n ≤ σ.steps → SameCalls σ (record σ { steps = m })
+kept_left σ m n l = record { calls = refl; depth = refl; output = omega (arith, l); items = refl }
 
 kept_read : (addr : ℕ) (o : Option Value) (σ τ : State) → SameCalls σ τ → Kept σ (read_as addr o τ)
 kept_read addr (Some v) σ τ h = h
@@ -71,30 +91,48 @@ kept_touched : {A : Type 0} (w : List Touch) (σ : State) (d : Done A) → Kept 
 kept_touched w σ (Went x v τ) h = h
 kept_touched w σ (Stops why v τ) h = h
 
-kept_put : (there : Bool) (addr : ℕ) (value : Value) (σ : State) (m : ℕ) → Kept σ (put_asked there addr value (record σ { steps = m }))
-kept_put true addr value σ m = kept_touched (touch.Has addr true ∷ []) σ (with_steps 1 (record σ { steps = m }) (put addr value))
-    (kept_if σ (nat_lt m 1) _ _ (record { calls = refl; depth = refl; output = refl; items = refl })
-    (record { calls = refl; depth = refl; output = refl; items = refl }))
-kept_put false addr value σ m = record { calls = refl; depth = refl; output = refl; items = refl }
+kept_put : (there : Bool) (addr : ℕ) (value : Value) (σ : State) (m : ℕ) → m + 1 ≤ σ.steps → Kept σ (put_asked there addr value (record σ { steps = m }))
+kept_put true addr value σ m l = kept_touched (touch.Has addr true ∷ []) σ (with_steps 1 (record σ { steps = m }) (put addr value))
+    (kept_if σ (nat_lt m 1) _ _ (record { calls = refl; depth = refl; output = omega (arith, l); items = refl })
+    (record { calls = refl; depth = refl; output = omega (arith, l); items = refl }))
+kept_put false addr value σ m l = kept_left σ m 1 l
 
-kept_write : (b : Bool) (addr : ℕ) (value : Value) (σ : State) (m : ℕ)
+-- an item that was looked at, and one that is taken too
+kept_take : (wanted : Bool) (item : ℕ) (σ : State) (m : ℕ) → m + 1 ≤ σ.steps → Kept σ (take_item wanted item (record σ { steps = m }))
+kept_take true item σ m l = kept_if σ (nat_lt m 1) _ _ (record { calls = refl; depth = refl; output = omega (arith, l); items = refl })
+    (record { calls = refl; depth = refl; output = omega (arith, l); items = refl })
+kept_take false item σ m l = kept_left σ m 1 l
+
+kept_looked : (wanted : ℕ → Bool) (o : Option ℕ) (σ : State) (m : ℕ) → m + 1 ≤ σ.steps → Kept σ (take_looked wanted o (record σ { steps = m }))
+kept_looked wanted None σ m l = kept_left σ m 1 l
+kept_looked wanted (Some item) σ m l = kept_take (wanted item) item σ m l
+
+-- a byte that is given takes a step
+kept_given : (byte : ℕ) (σ : State) (m : ℕ) → m + 1 ≤ σ.steps → SameCalls σ (record σ { output = σ.output ++ byte ∷ []; steps = m })
+kept_given byte σ m l =
+    record { calls = refl; depth = refl; output = let e = length-append σ.output (byte ∷ []) in omega (arith, l, e); items = refl }
+
+kept_write : (b : Bool) (addr : ℕ) (value : Value) (σ : State) (m : ℕ) → m + 1 ≤ σ.steps
     → Kept σ (if b then put addr value (record σ { steps = m }) else put_asked (is_some (get σ.cells addr)) addr value (record σ { steps = m }))
-kept_write true addr value σ m = record { calls = refl; depth = refl; output = refl; items = refl }
-kept_write false addr value σ m = kept_put (is_some (get σ.cells addr)) addr value σ m
+kept_write true addr value σ m l = record { calls = refl; depth = refl; output = omega (arith, l); items = refl }
+kept_write false addr value σ m l = kept_put (is_some (get σ.cells addr)) addr value σ m l
 
 kept_act : (act : Act) (σ : State) → Kept σ (perform act σ)
-kept_act (Spend n) σ = kept_steps n σ (λ τ. Went tt [] τ) (λ m. record { calls = refl; depth = refl; output = refl; items = refl })
+kept_act (Spend n) σ = kept_steps n σ (λ τ. Went tt [] τ) (λ m l. kept_left σ m n l)
 kept_act (ReadCell addr) σ = kept_cell addr σ (λ τ. read_as addr (get σ.cells addr) τ)
-    (λ m. kept_read addr (get σ.cells addr) σ (record σ { steps = m }) (record { calls = refl; depth = refl; output = refl; items = refl }))
+    (λ m l. kept_read addr (get σ.cells addr) σ (record σ { steps = m }) (kept_left σ m 1 l))
 kept_act (HasCell addr) σ = kept_cell addr σ (λ τ. Went (is_some (get σ.cells addr)) (touch.Has addr (is_some (get σ.cells addr)) ∷ []) τ)
-    (λ m. record { calls = refl; depth = refl; output = refl; items = refl })
+    (λ m l. kept_left σ m 1 l)
 kept_act (MakeBlock cells of') σ = kept_if σ (nat_lt heap_end (σ.fresh + block_cells cells)) _ _ (same_calls σ)
     (kept_steps (block_cells cells) σ (made_block (block_cells cells) of')
-    (λ m. record { calls = refl; depth = refl; output = refl; items = refl }))
+    (λ m l. record { calls = refl; depth = refl; output = omega (arith, l); items = refl }))
 kept_act (DropBlock addr cells) σ = kept_if σ (lies_in_heap addr (block_cells cells)) _ _
     (kept_steps (block_cells cells) σ (dropped_block addr (block_cells cells))
-    (λ m. record { calls = refl; depth = refl; output = refl; items = refl }))
+    (λ m l. record { calls = refl; depth = refl; output = omega (arith, l); items = refl }))
     (same_calls σ)
+kept_act (TakeIf wanted) σ = kept_steps 1 σ (look wanted) (λ m l. kept_touched (touch.Look σ.place ∷ []) σ _
+    (kept_looked wanted (slice_get σ.items σ.place) σ m l))
+kept_act (GiveByte byte) σ = kept_steps 1 σ (λ τ. Went tt (touch.Give byte ∷ []) (record τ { output = τ.output ++ byte ∷ [] })) (kept_given byte σ)
 kept_act (WriteCell addr value) σ = kept_cell addr σ
     (λ τ. if nat_lt addr stack_end then put addr value τ else put_asked (is_some (get τ.cells addr)) addr value τ)
     (kept_write (nat_lt addr stack_end) addr value σ)
@@ -123,7 +161,7 @@ onward_act line m (Stops why w σ) go stop m' ih h e = here h e
       same = record {
         calls = ap (λ (x : Moment). x.state.calls) (sym q) ∙ h.calls;
         depth = ap (λ (x : Moment). x.state.depth) (sym q) ∙ h.depth;
-        output = ap (λ (x : Moment). x.state.output) (sym q) ∙ h.output;
+        output = subst (λ (x : Moment). length x.state.output + x.state.steps ≤ length m.state.output + m.state.steps) q h.output;
         items = ap (λ (x : Moment). x.state.items) (sym q) ∙ h.items;
       };
     }
@@ -135,7 +173,7 @@ at_once first stop m m' e = let q = ap (λ (x : Stop × Moment). x.1) (some_same
   same = record {
     calls = ap (λ (x : Moment). x.state.calls) (sym q);
     depth = ap (λ (x : Moment). x.state.depth) (sym q);
-    output = ap (λ (x : Moment). x.state.output) (sym q);
+    output = subst (λ (x : Moment). length x.state.output + x.state.steps ≤ length m.state.output + m.state.steps) q (omega arith);
     items = ap (λ (x : Moment). x.state.items) (sym q);
   };
 }

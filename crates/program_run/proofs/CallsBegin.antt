@@ -1,5 +1,5 @@
 -- What is left of a call once its frame was made, or not.
-use Rattle.std.proofs.Common.{◌≡◌, ℕ, ◌+◌, Bool, true, false, List, [], ◌++◌, Some, sym, ap, ◌∙◌, append-nil, nat_lt, if◌then◌else◌}
+use Rattle.std.proofs.Common.{◌≡◌, ℕ, ◌+◌, Bool, true, false, List, [], ◌++◌, Some, sym, ap, subst, arith, ◌≤◌, ◌∙◌, append-nil, nat_lt, if◌then◌else◌}
 use Rattle.cell_value.specs.declared.values.Value.{Value}
 use Rattle.cell_value.specs.declared.entries.Touch.{Touch}
 use Rattle.cell_value.specs.declared.ways_out.Which.TheVariants.{Stack}
@@ -19,6 +19,7 @@ record Framed (σ : State) (w : List Touch) (τ : State) : Type 0 where
   log : w ≡ []
   calls : τ.calls ≡ σ.calls
   depth : τ.depth ≡ σ.depth
+  steps : τ.steps ≤ σ.steps
   output : τ.output ≡ σ.output
   items : τ.items ≡ σ.items
 
@@ -27,6 +28,7 @@ record Refused (σ : State) (w : List Touch) (τ : State) : Type 0 where
   top : τ.top ≡ σ.top
   calls : τ.calls ≡ σ.calls
   depth : τ.depth ≡ σ.depth
+  steps : τ.steps ≤ σ.steps
   output : τ.output ≡ σ.output
   items : τ.items ≡ σ.items
 
@@ -41,6 +43,7 @@ made_is n args σ τ w false false e =
       log = sym l;
       calls = ap (λ (υ : State). υ.calls) (sym s);
       depth = ap (λ (υ : State). υ.depth) (sym s);
+      steps = subst (λ (υ : State). υ.steps ≤ σ.steps) s (omega arith);
       output = ap (λ (υ : State). υ.output) (sym s);
       items = ap (λ (υ : State). υ.items) (sym s);
     }
@@ -56,6 +59,7 @@ refused_is n args σ τ why w true b e =
       top = ap (λ (υ : State). υ.top) (sym s);
       calls = ap (λ (υ : State). υ.calls) (sym s);
       depth = ap (λ (υ : State). υ.depth) (sym s);
+      steps = subst (λ (υ : State). υ.steps ≤ σ.steps) s (omega arith);
       output = ap (λ (υ : State). υ.output) (sym s);
       items = ap (λ (υ : State). υ.items) (sym s);
     }
@@ -67,6 +71,7 @@ refused_is n args σ τ why w false true e =
       top = ap (λ (υ : State). υ.top) (sym s);
       calls = ap (λ (υ : State). υ.calls) (sym s);
       depth = ap (λ (υ : State). υ.depth) (sym s);
+      steps = subst (λ (υ : State). υ.steps ≤ σ.steps) s (omega arith);
       output = ap (λ (υ : State). υ.output) (sym s);
       items = ap (λ (υ : State). υ.items) (sym s);
     }
@@ -81,6 +86,7 @@ module _ (p : ProgramRows) (f : ℕ) (args : List Value) (r : Routine) (m m' : M
         log = l ∙ ap (λ v. m.log ++ v) h.log ∙ append-nil m.log;
         calls = h.calls;
         depth = h.depth;
+        steps = h.steps;
         output = h.output;
         items = h.items;
         is = λ n. ap (in_frame (at_work p (run_of p n) f) args (opened m.state)) found
@@ -97,6 +103,7 @@ module _ (p : ProgramRows) (f : ℕ) (args : List Value) (r : Routine) (m m' : M
         log = l ∙ ap (λ v. m.log ++ v) h.log ∙ append-nil m.log;
         calls = h.calls;
         depth = h.depth;
+        steps = h.steps;
         output = h.output;
         items = h.items;
         is = λ n. ap (in_frame (at_work p (run_of p n) f) args (opened m.state)) found

@@ -41,19 +41,14 @@ entered_stands {p = p} {first = first} {f = f} {args = args} {stage = stage} o v
       recording = sym e.recording i;
     }) (climb_enter v v'.moment f args o.rest o.cells stage t e.begins)
 
-pub begun_output : (p : ProgramRows) (f : ℕ) (args : List Value) (r : Routine) (halted : Option WayOut) (m m' : Moment) → Begun p f args r halted m m'
-    → m'.state.output ≡ m.state.output
-begun_output p f args r None m m' b = b.output
-begun_output p f args r (Some way) m m' b = b.output
-
 pub few_begun : (p : ProgramRows) (f : ℕ) (args : List Value) (r : Routine) (halted : Option WayOut) (m m' : Moment) → Begun p f args r halted m m'
-    → length m.state.output < 4294967296 → length m'.state.output < 4294967296
-few_begun p f args r halted m m' b h = subst (λ w. length w < 4294967296) (sym (begun_output p f args r halted m m' b)) h
+    → length m.state.output + m.state.steps < 4294967296 → length m'.state.output + m'.state.steps < 4294967296
+few_begun p f args r None m m' b h = let e = ap length b.output in let l = b.steps in omega (arith, e, l, h)
+few_begun p f args r (Some way) m m' b h = let e = ap length b.output in let l = b.steps in omega (arith, e, l, h)
 
-pub few_onward : {p : ProgramRows} {t : Tree} {m : Moment} {stop : Stop} {m' : Moment} → StopsAt p t m stop m' → length m.state.output < 4294967296
-    → length m'.state.output < 4294967296
-few_onward {p = p} {t = t} {m = m} {stop = stop} {m' = m'} s h =
-    subst (λ w. length w < 4294967296) (sym (onward p s.moves t m stop m' s.is).same.output) h
+pub few_onward : {p : ProgramRows} {t : Tree} {m : Moment} {stop : Stop} {m' : Moment} → StopsAt p t m stop m'
+    → length m.state.output + m.state.steps < 4294967296 → length m'.state.output + m'.state.steps < 4294967296
+few_onward {p = p} {t = t} {m = m} {stop = stop} {m' = m'} s h = let l = (onward p s.moves t m stop m' s.is).same.output in omega (arith, l, h)
 
 -- the table of calls has the same open calls, once one is entered
 pub counted_entered : (r r' : Recording) (xs ys : List OpenCall) (o : OpenCall) (f : ℕ) (args : List Value) (side : _) → r' ≡ entered r f args side

@@ -51,8 +51,8 @@ AtRest p first None r = IsOver p first (moment_of r.machine) r.calls
 -- a runner whose steps can be taken
 pub record IsWell (r : Runner) : Type 0 where
   pub ready : IsReady r.machine
-  -- the bytes of the output can be counted
-  pub few : length r.machine.output < 4294967296
+  -- the bytes of the output can be counted, with those that the steps that are left can give
+  pub few : length r.machine.output + r.machine.steps < 4294967296
   -- the table of calls has the same open calls
   pub counted : length r.calls.open_calls ≡ length r.opens.items
 

@@ -221,6 +221,7 @@ pub record Begins (p : ProgramRows) (f : ℕ) (args : List Value) (cells : ℕ) 
     pub log : m'.log ≡ m.log
     pub calls : m'.state.calls ≡ m.state.calls + 1
     pub depth : m'.state.depth ≡ m.state.depth + 1
+    pub steps : m'.state.steps ≤ m.state.steps
     pub output : m'.state.output ≡ m.state.output
     pub items : m'.state.items ≡ m.state.items
     pub is : (n : ℕ) → in_frame (at_work p (run_of p n) f) args (opened m.state) (routine_at p f)

@@ -145,10 +145,7 @@ fn difference(alloc: Global, judge: Judge, row: Row) -> Result<Vec<u8>> {
     match judge {
         Judge::Grammar if row.why.as_str() == "taken" => taken_difference(alloc, &row, false),
         Judge::Rules if row.why.as_str() == "taken" => taken_difference(alloc, &row, true),
-        Judge::Grammar | Judge::Rules => differences(
-            alloc,
-            &command_case(alloc, row)?,
-        ),
+        Judge::Grammar | Judge::Rules => differences(alloc, &command_case(alloc, row)?),
         Judge::Declarations => declared_difference(alloc, &row),
     }
 }

@@ -11,7 +11,7 @@ returns-clause-turns c p m =
     let b = c.args.body.now in
     let h = here b.home c.args.line in
     let inner : List ℕ → List ℕ → Tree = λ inside outside. Sub (Establish c.args.next c.args.inner (record h { records = inside }))
-        (resume p (record b.home { records = outside }) (tasks_of b) (values_of b) (lists_of b)) in
+    (resume p (record b.home { records = outside }) (tasks_of b) (values_of b) (lists_of b)) in
     turns_same p _ _ m m c.wait.result c.wait.new.self
     (ap (inner (b.home.records ++ c.args.addr ∷ [])) (sym (added_left b.home.records c.args.addr))
     ∙ ap (λ rs. inner rs (without_last rs)) (sym c.in_ok-enter.ensures.added))

@@ -17,12 +17,12 @@ returns-then-packing-clause-turns c p =
     turns_same p _ _ (moment_of c.args.machine.now) _ c.finally.result c.finally.new.self
     (ap (λ b. bind (finally h (if b then copies c.args.at c.args.close c.args.cells else copies c.args.close c.args.at c.args.cells)) K) e)
     (c.finally.ensures.turns p (copies c.args.at c.args.close c.args.cells) (moment_of c.args.machine.now)
-        (moment_of c.copy_cells-done.new.machine) c.copy_cells-done.ensures.action)
+    (moment_of c.copy_cells-done.new.machine) c.copy_cells-done.ensures.action)
 
 pub returns-then-packing-clause-falls : goal.returns-then-packing-clause-falls
 returns-then-packing-clause-falls c = falls_so c.finally.result _ _ _ _ (λ h. omega (arith, h)) (c.finally.ensures.less
-        (copies c.args.at c.args.close c.args.cells) (moment_of c.args.machine.now)
-        (moment_of c.copy_cells-done.new.machine) c.copy_cells-done.ensures.action)
+    (copies c.args.at c.args.close c.args.cells) (moment_of c.args.machine.now)
+    (moment_of c.copy_cells-done.new.machine) c.copy_cells-done.ensures.action)
 
 pub returns-else-packing-clause-turns : goal.returns-else-packing-clause-turns
 returns-else-packing-clause-turns c p =
@@ -33,9 +33,9 @@ returns-else-packing-clause-turns c p =
     turns_same p _ _ (moment_of c.args.machine.now) _ c.finally-else-packing.result c.finally-else-packing.new.self
     (ap (λ b. bind (finally h (if b then copies c.args.at c.args.close c.args.cells else copies c.args.close c.args.at c.args.cells)) K) e)
     (c.finally-else-packing.ensures.turns p (copies c.args.close c.args.at c.args.cells) (moment_of c.args.machine.now)
-        (moment_of c.copy_cells-done-else-packing.new.machine) c.copy_cells-done-else-packing.ensures.action)
+    (moment_of c.copy_cells-done-else-packing.new.machine) c.copy_cells-done-else-packing.ensures.action)
 
 pub returns-else-packing-clause-falls : goal.returns-else-packing-clause-falls
 returns-else-packing-clause-falls c = falls_so c.finally-else-packing.result _ _ _ _ (λ h. omega (arith, h))
-        (c.finally-else-packing.ensures.less (copies c.args.close c.args.at c.args.cells) (moment_of c.args.machine.now)
-        (moment_of c.copy_cells-done-else-packing.new.machine) c.copy_cells-done-else-packing.ensures.action)
+    (c.finally-else-packing.ensures.less (copies c.args.close c.args.at c.args.cells) (moment_of c.args.machine.now)
+    (moment_of c.copy_cells-done-else-packing.new.machine) c.copy_cells-done-else-packing.ensures.action)

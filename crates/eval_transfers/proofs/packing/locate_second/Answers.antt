@@ -29,7 +29,7 @@ returns-else-packing-clause-turns c p m =
     turns_same p _ _ m m c.wait-else-packing.result c.wait-else-packing.new.self
     (ap (λ b. bind (first_located p a.home b c.args.unpacked c.args.index c.args.packed c.args.line c.args.addr) K) e
     ∙ ap (λ b. bind (locate c.args.unpacked h
-        (both_located p a.home b c.args.unpacked c.args.index c.args.packed c.args.addr c.args.line)) K) (sym e))
+    (both_located p a.home b c.args.unpacked c.args.index c.args.packed c.args.addr c.args.line)) K) (sym e))
     (c.wait-else-packing.ensures.turns p m)
 
 pub returns-else-packing-clause-falls : goal.returns-else-packing-clause-falls

@@ -16,7 +16,7 @@ returns-in-Some-clause-turns c =
     let p = c.args.program.now in
     let h = here c.args.body.now.home c.args.line in
     let go : ℕ → Components → Tree = (λ _ wide. with_array p (row_at p c.args.packed) (λ cells close. doing c.args.line
-        (first_moved wide close c.args.wide c.args.value) (λ at.
+    (first_moved wide close c.args.wide c.args.value) (λ at.
     finally h (if c.args.packing then copies at c.args.close cells else copies c.args.close at cells)))) in
     turns_same p _ _ (moment_of c.args.machine.now) _ c.move_by.result c.move_by.new.body
     (ap (λ t. bind t (waiting p c.args.body.now)) (array_by p (row_at p c.args.unpacked) go
@@ -28,7 +28,7 @@ returns-in-None-clause-turns c =
     let p = c.args.program.now in
     let h = here c.args.body.now.home c.args.line in
     let go : ℕ → Components → Tree = (λ _ wide. with_array p (row_at p c.args.packed) (λ cells close. doing c.args.line
-        (first_moved wide close c.args.wide c.args.value) (λ at.
+    (first_moved wide close c.args.wide c.args.value) (λ at.
     finally h (if c.args.packing then copies at c.args.close cells else copies c.args.close at cells)))) in
     turns_same p _ _ (moment_of c.args.machine.now) (moment_of c.args.machine.now) c.no_row.result c.no_row.new.self
     (ap (λ t. bind t (waiting p c.args.body.now)) (array_by p (row_at p c.args.unpacked) go

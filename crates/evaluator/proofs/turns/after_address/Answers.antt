@@ -47,7 +47,7 @@ returns-in-Transfer-clause-falls c =
 pub returns-in-PackFirst-clause-turns : goal.returns-in-PackFirst-clause-turns
 returns-in-PackFirst-clause-turns c = turns_same c.args.program.now _ _ _ _ c.locate_second.result c.locate_second.new.body
     (ap (from_under c.args.program.now c.args.body.now (Came (way.Address c.args.addr))) c.in-PackFirst.is)
-        (c.locate_second.ensures.turns c.args.program.now _)
+    (c.locate_second.ensures.turns c.args.program.now _)
 
 pub returns-in-PackFirst-clause-falls : goal.returns-in-PackFirst-clause-falls
 returns-in-PackFirst-clause-falls c =
@@ -57,7 +57,7 @@ returns-in-PackFirst-clause-falls c =
 pub returns-in-PackSecond-clause-turns : goal.returns-in-PackSecond-clause-turns
 returns-in-PackSecond-clause-turns c = turns_same c.args.program.now _ _ _ _ c.pack_by_index.result c.pack_by_index.new.body
     (ap (from_under c.args.program.now c.args.body.now (Came (way.Address c.args.addr))) c.in-PackSecond.is)
-        (c.pack_by_index.ensures.turns c.args.program.now _)
+    (c.pack_by_index.ensures.turns c.args.program.now _)
 
 pub returns-in-PackSecond-clause-falls : goal.returns-in-PackSecond-clause-falls
 returns-in-PackSecond-clause-falls c =

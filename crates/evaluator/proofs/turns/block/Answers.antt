@@ -28,7 +28,7 @@ returns-in-Ok-clause-turns c =
     let K = resume p (bare home) (tasks_of b) (values_of b) (lists_of b) in
     let h : routine_at p home.routine ≡ Some r = cc in
     let next : List ℕ → Tree = λ rs. Sub (Sequence r.statements r.statements (record (here home r.line) { records = rs }))
-        (resume p (record home { records = rs }) (tasks_of b) (values_of b) (lists_of b)) in
+    (resume p (record home { records = rs }) (tasks_of b) (values_of b) (lists_of b)) in
     turns_after p _ _ _ _ _ c.go.result c.go.new.self
     (comes_then (part_comes p (Body home.routine home.base) K (moment_of c.args.machine.now) (of_body home.base (Some r)) (ap (of_body home.base) h))
     (comes_then (spent p (here (bare home) r.line) (Sub (Sequence r.statements r.statements (here (bare home) r.line)) Ret) K
