@@ -1,6 +1,7 @@
 -- Open calls over one another, and the run that they are part of.
 use Rattle.std.specs.Prelude.{
   ◌≡◌,
+  ◌≤◌,
   ℕ,
   suc,
   ◌+◌,
