@@ -1,5 +1,6 @@
 -- What a body does itself enters no call, leaves none and gives nothing out, and the log only grows.
-use Rattle.std.proofs.Common.{◌≡◌, ℕ, zero, suc, ◌+◌, ◌-◌, ◌≤◌, length, subst, arith, Bool, true, false, List, [], ◌∷◌, ◌++◌, Option, Some, None, refl, sym, ap, ◌∙◌, append_assoc, append-nil}
+use Rattle.std.proofs.Common.{◌≡◌, ℕ, zero, suc, ◌+◌, ◌-◌, ◌≤◌, length, subst, arith, Bool, true, false, List, [], ◌∷◌, ◌++◌, Option, Some, None, refl, sym, ap}
+use Rattle.std.proofs.Common.{◌∙◌, append_assoc, append-nil}
 use Rattle.std.specs.Prelude.{nat_lt, is_some, if◌then◌else◌}
 use Rattle.std.proofs.lemmas.Bool.{ltb-false}
 use Rattle.std.proofs.lemmas.List.{length-append}
@@ -57,7 +58,8 @@ same_calls : (σ : State) → SameCalls σ σ
 same_calls σ = record { calls = refl; depth = refl; output = omega arith; items = refl }
 
 calls_then : {σ τ υ : State} → SameCalls σ τ → SameCalls τ υ → SameCalls σ υ
-calls_then f g = record { calls = g.calls ∙ f.calls; depth = g.depth ∙ f.depth; output = let a = f.output in let b = g.output in omega (arith, a, b); items = g.items ∙ f.items }
+calls_then f g = record { calls = g.calls ∙ f.calls; depth = g.depth ∙ f.depth; output = let a = f.output in let b = g.output in omega (arith, a, b);
+    items = g.items ∙ f.items }
 
 abbrev Kept : {A : Type 0} → State → Done A → Type 0
 Kept σ (Went x w τ) = SameCalls σ τ
