@@ -58,8 +58,12 @@ same_calls : (σ : State) → SameCalls σ σ
 same_calls σ = record { calls = refl; depth = refl; output = omega arith; items = refl }
 
 calls_then : {σ τ υ : State} → SameCalls σ τ → SameCalls τ υ → SameCalls σ υ
-calls_then f g = record { calls = g.calls ∙ f.calls; depth = g.depth ∙ f.depth; output = let a = f.output in let b = g.output in omega (arith, a, b);
-    items = g.items ∙ f.items }
+calls_then f g = record {
+  calls = g.calls ∙ f.calls;
+  depth = g.depth ∙ f.depth;
+  output = let a = f.output in let b = g.output in omega (arith, a, b);
+  items = g.items ∙ f.items;
+}
 
 abbrev Kept : {A : Type 0} → State → Done A → Type 0
 Kept σ (Went x w τ) = SameCalls σ τ

@@ -11,7 +11,7 @@ pub returns-in-Variable-clause-turns : goal.returns-in-Variable-clause-turns
 returns-in-Variable-clause-turns c =
     turns_same c.args.program.now _ _ _ _ c.variable.result c.variable.new.body
     (ap (λ e. bind (of_access c.args.program.now c.args.row c.args.target (here c.args.body.now.home c.args.line) e)
-        (waiting c.args.program.now c.args.body.now))
+    (waiting c.args.program.now c.args.body.now))
     c.in-Variable.is)
     c.variable.ensures.turns
 
@@ -19,7 +19,7 @@ pub returns-in-Reference-clause-turns : goal.returns-in-Reference-clause-turns
 returns-in-Reference-clause-turns c =
     turns_same c.args.program.now _ _ _ _ c.reference.result c.reference.new.body
     (ap (λ e. bind (of_access c.args.program.now c.args.row c.args.target (here c.args.body.now.home c.args.line) e)
-        (waiting c.args.program.now c.args.body.now))
+    (waiting c.args.program.now c.args.body.now))
     c.in-Reference.is)
     c.reference.ensures.turns
 

@@ -22,7 +22,7 @@ returns-in-Err-clause-turns c p =
     turns_failed p _ (moment_of c.args.machine.now) (moment_of c.spend.new.machine) c.args.line c.in-Err.halt c.fail.new.self c.fail.result
     c.fail.ensures.line c.fail.ensures.fails
     (not_spent p (record { line = c.args.line; base = 0; records = [] }) meaning.nothing (λ _. from p c.args.body.now c.args.now) c.in-Err.halt _ _
-        c.in-Err.ensures.act)
+    c.in-Err.ensures.act)
 
 pub returns-in-Err-clause-falls : goal.returns-in-Err-clause-falls
 returns-in-Err-clause-falls c =
