@@ -4,10 +4,10 @@ use Rattle.std.proofs.Common.{◌∙◌, append_assoc, append-nil, length, is_so
 use Rattle.std.specs.Prelude.{◌&&◌, ◌||◌}
 use Rattle.std.specs.Option.{IsSome}
 use Rattle.std.proofs.lemmas.Bool.Decides.{eqb_tells, nat_tests}
-use Rattle.std.specs.List.{slice_get}
+use Rattle.std.specs.List.{All, slice_get}
 use Rattle.std.proofs.lemmas.Option.{slice_get_within}
 use Rattle.std.proofs.lemmas.List.Sums.{sum_by-append}
-use Rattle.std.proofs.lemmas.List.Elements.{filter_map-append}
+use Rattle.std.proofs.lemmas.List.Elements.{All-append, All-cons, All-nil, filter_map-append}
 use Rattle.std.specs.FinMap.{get, insert}
 use Rattle.cell_value.specs.declared.values.Value.{Value}
 use Rattle.cell_value.specs.declared.values.Value.TheVariants.{Undefined}
@@ -16,12 +16,13 @@ use Rattle.cell_value.specs.declared.entries.Touch.TheVariants as touch
 use Rattle.cell_value.specs.declared.entries.Change.TheVariants.{Set}
 use Rattle.cell_value.specs.declared.ways_out.Kind.TheVariants as kind
 use Rattle.cell_value.specs.declared.ways_out.Which.TheVariants.{Calls, Depth, Stack, Heap}
-use Rattle.cell_value.specs.Effects.{is_shared, made_by, made_of, taken_by, taken_of, byte_by, given_of}
+use Rattle.cell_value.specs.Effects.{IsCountable, is_shared, made_by, made_of, taken_by, taken_of, byte_by, given_of}
 use Rattle.program_meaning.specs.State.{State, IsSound, stack_end, heap_end, most_calls, most_depth, is_in_reach}
 use Rattle.program_meaning.specs.Acts.{Fault, OutOfSteps, Act, Spend, ReadCell, HasCell, WriteCell, TakeIf, GiveByte, Done, Went, Stops, perform, spent}
 use Rattle.program_meaning.specs.Acts.{with_steps, on_cell, read_as, put, put_asked, after_touches, take_item, take_looked, look, limit_passed}
 use Rattle.program_meaning.specs.Acts.{Limited, MakeBlock, DropBlock, make_block, made_block, drop_block, dropped_block}
 use Rattle.program_meaning.specs.Blocks.{filled, cleared, block_cells}
+use Rattle.run_laws.specs.Laws.{HasFewItems}
 use Rattle.run_laws.proofs.Touches.{written, written-append, left_with, left_same, Serves, serves_append, none_some}
 use Rattle.run_laws.proofs.Cells.{got_same, got_other, filled_below, above_block, cleared_below, cleared_none, block_made, block_dropped}
 
@@ -39,6 +40,8 @@ pub record Leaves (σ : State) (w : List Touch) (n : ℕ) (τ : State) : Type 0 
   pub steps : τ.steps ≤ σ.steps
   pub calls : τ.calls ≡ σ.calls + n
   pub depth : τ.depth ≡ σ.depth
+  -- their effect can be counted
+  pub countable : HasFewItems σ → All IsCountable w
   pub sound : IsSound τ
 
 pub sound_steps : {σ : State} (k : ℕ) → IsSound σ → IsSound (record σ { steps = k })
@@ -54,6 +57,9 @@ sound_steps k s = record {
   depth = s.depth;
 }
 
+countable_one : (t : Touch) → IsCountable t → All IsCountable (t ∷ [])
+countable_one t h = All-cons IsCountable t [] h (All-nil IsCountable)
+
 -- nothing but steps
 pub leaves_steps : (σ : State) (k : ℕ) → k ≤ σ.steps → IsSound σ → Leaves σ [] 0 (record σ { steps = k })
 leaves_steps σ k h s = record {
@@ -67,6 +73,7 @@ leaves_steps σ k h s = record {
   steps = h;
   calls = omega arith;
   depth = refl;
+  countable = λ m. All-nil IsCountable;
   sound = sound_steps k s;
 }
 
@@ -95,6 +102,7 @@ leaves_then {σ = σ} {τ = τ} {υ = υ} {v = v} {w = w} {n = n} {k = k} f g = 
   steps = omega (arith, f.steps, g.steps);
   calls = omega (arith, f.calls, g.calls);
   depth = g.depth ∙ f.depth;
+  countable = λ m. All-append IsCountable v w (f.countable m) (g.countable (subst (λ xs. length xs < 4294967295) (sym f.items) m));
   sound = g.sound;
 }
   where
@@ -141,6 +149,7 @@ read_shown σ addr k v h s e = record {
   steps = h;
   calls = omega arith;
   depth = refl;
+  countable = λ m. countable_one (touch.Read addr v) tt;
   sound = sound_steps k s;
 }
 
@@ -157,6 +166,7 @@ asked_shown σ addr k b h s e = record {
   steps = h;
   calls = omega arith;
   depth = refl;
+  countable = λ m. countable_one (touch.Has addr b) tt;
   sound = sound_steps k s;
 }
 
@@ -213,6 +223,7 @@ write_leaves σ addr k v h s there = record {
   steps = h;
   calls = omega arith;
   depth = refl;
+  countable = λ m. countable_one (touch.Write addr v) tt;
   sound = sound_steps k (sound_write σ addr v s there);
 }
 
@@ -268,6 +279,7 @@ made_leaves σ n of' k h s fits = record {
   steps = h;
   calls = omega arith;
   depth = refl;
+  countable = λ m. countable_one (touch.Make σ.fresh n of') fits;
   sound = sound_steps k (sound_made σ n s fits);
 }
 
@@ -292,9 +304,9 @@ sound_dropped σ addr n s h = record {
   depth = s.depth;
 }
 
-dropped_leaves : (σ : State) (addr n k : ℕ) → k ≤ σ.steps → IsSound σ → stack_end ≤ addr
+dropped_leaves : (σ : State) (addr n k : ℕ) → k ≤ σ.steps → IsSound σ → stack_end ≤ addr → addr + n ≤ heap_end
     → Leaves σ (touch.Drop addr n ∷ []) 0 (record σ { cells = cleared addr n σ.cells; steps = k })
-dropped_leaves σ addr n k h s l = record {
+dropped_leaves σ addr n k h s l ends = record {
   top = refl;
   cells = λ a q. block_dropped addr n σ.cells a;
   shows = λ a q. (tt, λ c. tt);
@@ -305,17 +317,18 @@ dropped_leaves σ addr n k h s l = record {
   steps = h;
   calls = omega arith;
   depth = refl;
+  countable = λ m. countable_one (touch.Drop addr n) ends;
   sound = sound_steps k (sound_dropped σ addr n s l);
 }
 
 drop_done : (σ : State) (addr n : ℕ) → IsSound σ → DoneLeaves σ (drop_block addr n σ)
-drop_done σ addr n s = by (nat_le stack_end addr) (nat_le (addr + n) heap_end) refl
+drop_done σ addr n s = by (nat_le stack_end addr) (nat_le (addr + n) heap_end) refl refl
   where
-    by : (a b : Bool) → nat_le stack_end addr ≡ a
+    by : (a b : Bool) → nat_le stack_end addr ≡ a → nat_le (addr + n) heap_end ≡ b
         → DoneLeaves σ (if a && b then with_steps n σ (dropped_block addr n) else Stops (Fault kind.Undefined) [] σ)
-    by true true e = stepped σ n (dropped_block addr n) s (λ k h. dropped_leaves σ addr n k h s (grind (arith, nat_tests)))
-    by true false e = leaves_same σ s
-    by false b e = leaves_same σ s
+    by true true e f = stepped σ n (dropped_block addr n) s (λ k h. dropped_leaves σ addr n k h s (grind (arith, nat_tests)) (grind (arith, nat_tests)))
+    by true false e f = leaves_same σ s
+    by false b e f = leaves_same σ s
 
 -- ---- items and bytes
 
@@ -332,6 +345,7 @@ look_shown σ k h s = record {
   steps = h;
   calls = omega arith;
   depth = refl;
+  countable = λ m. countable_one (touch.Look σ.place) (let few : length σ.items < 4294967295 = m in omega (arith, s.input, few));
   sound = sound_steps k s;
 }
 
@@ -364,6 +378,7 @@ take_leaves σ k h s l = record {
   steps = h;
   calls = omega arith;
   depth = refl;
+  countable = λ m. countable_one (touch.Take 1) tt;
   sound = sound_transfer σ k (σ.place + 1) σ.output s (omega (arith, l));
 }
 
@@ -391,6 +406,7 @@ give_leaves σ byte k h s = record {
   steps = h;
   calls = omega arith;
   depth = refl;
+  countable = λ m. countable_one (touch.Give byte) tt;
   sound = sound_transfer σ k σ.place (σ.output ++ byte ∷ []) s s.input;
 }
 

@@ -1,19 +1,21 @@
 -- The laws, for every program, input and budget.
-use Rattle.std.proofs.Common.{◌≡◌, ℕ, zero, suc, ◌+◌, ◌<◌, ◌≤◌, List, [], ◌∷◌, ◌++◌, Some, ap, subst, ◌∙◌, append-nil, length, take, drop, arith}
+use Rattle.std.proofs.Common.{◌≡◌, ℕ, zero, suc, ◌+◌, ◌<◌, ◌≤◌, List, [], ◌∷◌, ◌++◌, Some, refl, sym, ap, subst, ◌∙◌, append-nil, length, take, drop, arith}
 use Rattle.std.specs.Prelude.{All}
 use Rattle.std.specs.List.{slice_get, slice_index_or}
 use Rattle.std.specs.Ordering.{nat_cmp}
 use Rattle.std.specs.FinMap.{get-empty}
+use Rattle.std.proofs.lemmas.List.Elements.{All-cons, All-nil}
 use Rattle.cell_value.specs.declared.values.Value.{Value}
+use Rattle.cell_value.specs.Effects.{IsCountable}
 use Rattle.program_tables.specs.ProgramRows.{ProgramRows, routine_at}
 use Rattle.program_meaning.specs.State.{State, IsSound, most_calls, most_depth}
 use Rattle.program_meaning.specs.Acts.{Act, Done, Went, Stops, perform}
 use Rattle.program_meaning.specs.Tree.{Part}
 use Rattle.program_meaning.specs.Layer.{layer}
 use Rattle.program_meaning.specs.Run.{Marked, Result, Call, way_out, result_in, call_of, run_of, run, block, start, depth_enough, after_all, closed}
-use Rattle.program_meaning.specs.Run.{framed_run, at_work, opened}
+use Rattle.program_meaning.specs.Run.{framed_run, at_work, items_of, opened}
 use Rattle.program_meaning.specs.Replay.{Event, body, on_state, in_replaying, replay_of}
-use Rattle.run_laws.specs.Laws.{calls_in, IsSoundAfter, IsMet, IsBody}
+use Rattle.run_laws.specs.Laws.{calls_in, HasFewItems, IsSoundAfter, IsMet, IsBody, MeetsItems, ShowsCountable}
 use Rattle.run_laws.proofs.Touches.{none_some, some_same}
 use Rattle.run_laws.proofs.Events.{unmarked}
 use Rattle.run_laws.proofs.ActsLeave.{DoneLeaves, act_leaves}
@@ -55,22 +57,60 @@ calls_sound p depth routine args σ r s m d e = gives_call p depth (run_gives p 
 
 -- ---- the records of a run
 
-all_recorded : (p : ProgramRows) (input : List ℕ) (budget : ℕ) (r : Result State Call) → run p input budget ≡ Some r → Recorded p (calls_in r)
-all_recorded p input budget r e = ran_records p (run_gives p (depth_enough p budget) block (start input budget) r e) (begins_sound input budget)
+all_recorded : (p : ProgramRows) (input : List ℕ) (budget : ℕ) (r : Result State Call) → run p input budget ≡ Some r
+    → Recorded p (items_of input) (calls_in r)
+all_recorded p input budget r e =
+    ran_records p (items_of input) (run_gives p (depth_enough p budget) block (start input budget) r e) (begins_sound input budget) refl
 
-one_recorded : (p : ProgramRows) (cs : List Call) (k : ℕ) (c : Call) → Recorded p cs → slice_get cs k ≡ Some c → MadeBy p c (drop (k + 1) cs)
-one_recorded p [] k c h e = absurd (none_some e)
-one_recorded p (d ∷ cs) zero c h e = subst (λ c. MadeBy p c cs) (some_same e) h.0
-one_recorded p (d ∷ cs) (suc k) c h e =
-    subst (λ n. MadeBy p c (drop n (d ∷ cs))) (let q : suc (k + 1) ≡ suc k + 1 = omega arith in q) (one_recorded p cs k c h.1 e)
+one_recorded : (p : ProgramRows) (xs : List ℕ) (cs : List Call) (k : ℕ) (c : Call) → Recorded p xs cs → slice_get cs k ≡ Some c
+    → MadeBy p c (drop (k + 1) cs)
+one_recorded p xs [] k c h e = absurd (none_some e)
+one_recorded p xs (d ∷ cs) zero c h e = subst (λ c. MadeBy p c cs) (some_same e) h.0
+one_recorded p xs (d ∷ cs) (suc k) c h e =
+    subst (λ n. MadeBy p c (drop n (d ∷ cs))) (let q : suc (k + 1) ≡ suc k + 1 = omega arith in q) (one_recorded p xs cs k c h.2 e)
 
 pub made : (p : ProgramRows) (input : List ℕ) (budget : ℕ) (r : Result State Call) → run p input budget ≡ Some r → (k : ℕ) (c : Call)
     → slice_get (calls_in r) k ≡ Some c
     → MadeBy p c (drop (k + 1) (calls_in r))
-made p input budget r e k c h = one_recorded p (calls_in r) k c (all_recorded p input budget r e) h
+made p input budget r e k c h = one_recorded p (items_of input) (calls_in r) k c (all_recorded p input budget r e) h
 
 pub made_sound : (p : ProgramRows) (c : Call) (cs : List Call) → MadeBy p c cs → IsSound c.entry × IsSound c.exit
 made_sound p c cs h = (h.sound, subst IsSound (ap (λ (c : Call). c.exit) h.record') (call_leaves p h.ran h.sound h.limits).leaves.sound)
+
+-- ---- the items of the input
+
+recorded_items : (p : ProgramRows) (xs : List ℕ) (cs : List Call) → Recorded p xs cs → All (MeetsItems xs) cs
+recorded_items p xs [] h = All-nil (MeetsItems xs)
+recorded_items p xs (c ∷ cs) h =
+    let l = (call_leaves p h.0.ran h.0.sound h.0.limits).leaves in
+    All-cons (MeetsItems xs) c cs (record { before = h.1; after = ap (λ (c : Call). c.exit.items) (sym h.0.record') ∙ l.items ∙ h.1 })
+    (recorded_items p xs cs h.2)
+
+pub runs_items : (p : ProgramRows) (input : List ℕ) (budget : ℕ) (r : Result State Call) → run p input budget ≡ Some r
+    → All (MeetsItems (items_of input)) (calls_in r)
+runs_items p input budget r e = recorded_items p (items_of input) (calls_in r) (all_recorded p input budget r e)
+
+-- ---- what can be counted
+
+countable_after : {A : Type 0} (σ : State) (d : Done A) → DoneLeaves σ d → HasFewItems σ → ShowsCountable d
+countable_after σ (Went x w τ) h m = h.countable m
+countable_after σ (Stops why w τ) h m = h.countable m
+
+pub acts_countable : (act : Act) (σ : State) → IsSound σ → HasFewItems σ → ShowsCountable (perform act σ)
+acts_countable act σ s m = countable_after σ (perform act σ) (act_leaves act σ s) m
+
+pub parts_countable : (p : ProgramRows) (depth : ℕ) (part : Part) (σ : State) (r : Result State Call) → IsSound σ → HasFewItems σ
+    → run_of p depth (layer p part) σ ≡ Some r → All IsCountable r.log
+parts_countable p depth part σ r s m e = (ran_leaves p (run_gives p depth (layer p part) σ r e) s).leaves.countable m
+
+pub calls_countable : (p : ProgramRows) (depth routine : ℕ) (args : List Value) (σ : State) (r : Result State Call) → IsSound σ → HasFewItems σ
+    → σ.calls < most_calls → σ.depth ≤ most_depth → call_of p (run_of p depth) routine args σ ≡ Some r → All IsCountable r.log
+calls_countable p depth routine args σ r s n m d e = gives_call p depth (run_gives p depth) (λ r. All IsCountable r.log) routine args σ
+    (λ y h. (call_leaves p h s (record { calls = m; depth = d })).leaves.countable n) r e
+
+pub made_countable : (p : ProgramRows) (c : Call) (cs : List Call) → MadeBy p c cs → HasFewItems c.entry → All IsCountable c.log
+made_countable p c cs h m =
+    subst (All IsCountable) (ap (λ (c : Call). c.log) h.record') ((call_leaves p h.ran h.sound h.limits).leaves.countable m)
 
 -- ---- bodies
 

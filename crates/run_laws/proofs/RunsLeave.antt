@@ -117,6 +117,7 @@ unframed_leaves {τ = τ} {w = w} n args σ s fits h = record {
   steps = omega (arith, h.steps);
   calls = h.calls;
   depth = h.depth;
+  countable = h.countable;
   sound = record {
     stack = λ a l. ap is_some (cleared_below σ.top n τ.cells a l) ∙ h.sound.stack a (omega (arith, h.top));
     above_stack = λ a l m. above a l m (nat_lt a (σ.top + n)) refl;
@@ -166,6 +167,7 @@ closed_leaves σ s h = record {
   steps = h.steps;
   calls = omega (arith, h.calls);
   depth = refl;
+  countable = h.countable;
   sound = record {
     stack = h.sound.stack;
     above_stack = h.sound.above_stack;

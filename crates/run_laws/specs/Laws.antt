@@ -1,15 +1,15 @@
 -- What holds of the states of every run, and of the records of its calls.
-use Rattle.std.specs.Prelude.{◌≡◌, ◌<◌, ◌≤◌, ℕ, ◌+◌, List, [], Some, map, take, drop}
+use Rattle.std.specs.Prelude.{◌≡◌, ◌<◌, ◌≤◌, ℕ, ◌+◌, List, [], Some, length, map, take, drop}
 use Rattle.std.specs.List.{All, slice_get}
 use Rattle.cell_value.specs.declared.values.Value.{Value}
-use Rattle.cell_value.specs.Effects.{reads_of, changes_of, made_of, looked_of, taken_of, given_of}
+use Rattle.cell_value.specs.Effects.{IsCountable, reads_of, changes_of, made_of, looked_of, taken_of, given_of}
 use Rattle.program_tables.specs.ProgramRows.{ProgramRows}
 use Rattle.program_meaning.specs.State.{State, IsSound, most_calls, most_depth}
 use Rattle.program_meaning.specs.Acts.{Act, Done, Went, Stops, perform}
 use Rattle.program_meaning.specs.Tree.{Part}
 use Rattle.program_meaning.specs.Layer.{layer}
 use Rattle.program_meaning.specs.Run.{Result, Call, Outcome, way_out, result_in, call_of, run_of, run, start}
-use Rattle.program_meaning.specs.Run.{depth_enough}
+use Rattle.program_meaning.specs.Run.{depth_enough, items_of}
 use Rattle.program_meaning.specs.Apply.{apply}
 use Rattle.program_meaning.specs.Agree.{Agrees}
 use Rattle.program_meaning.specs.Replay.{Event, LineOf, ChildOf, Replaying, Replayed, body}
@@ -52,6 +52,45 @@ CallsKeepSound = (p : ProgramRows) (depth routine : ℕ) (args : List Value) (σ
 -- each call of a run begins in a sound state and ends in one
 abbrev pub RunsKeepSound : Type 0
 RunsKeepSound = OfEachCall (λ p number c below. IsSound c.entry × IsSound c.exit)
+
+-- the items of the input are these before a call and after it
+pub record MeetsItems (items : List ℕ) (c : Call) : Type 0 where
+  pub before : c.entry.items ≡ items
+  pub after : c.exit.items ≡ items
+
+-- each call of a run meets the items of the run's input
+abbrev pub RunsKeepItems : Type 0
+RunsKeepItems = (p : ProgramRows) (input : List ℕ) (budget : ℕ) (r : Result State Call) → run p input budget ≡ Some r
+    → All (MeetsItems (items_of input)) (calls_in r)
+
+-- ---- touches whose effect can be counted
+
+-- each item of the input, and the end after them, has a number below the greatest one of 32 bits
+abbrev pub HasFewItems : State → Type 0
+HasFewItems σ = length σ.items < 4294967295
+
+abbrev pub ShowsCountable : {A : Type 0} → Done A → Type 0
+ShowsCountable (Went answer log after) = All IsCountable log
+ShowsCountable (Stops why log after) = All IsCountable log
+
+-- what each act shows from a sound state can be counted, whether it is done or not
+abbrev pub ActsAreCountable : Type 0
+ActsAreCountable = (act : Act) (σ : State) → IsSound σ → HasFewItems σ → ShowsCountable (perform act σ)
+
+-- so can what each part of a program shows, however deep parts and calls stand in one another
+abbrev pub PartsAreCountable : Type 0
+PartsAreCountable = (p : ProgramRows) (depth : ℕ) (part : Part) (σ : State) (r : Result State Call) → IsSound σ
+    → HasFewItems σ → run_of p depth (layer p part) σ ≡ Some r → All IsCountable r.log
+
+-- and what each call shows that passes no limit
+abbrev pub CallsAreCountable : Type 0
+CallsAreCountable = (p : ProgramRows) (depth routine : ℕ) (args : List Value) (σ : State) (r : Result State Call)
+    → IsSound σ → HasFewItems σ → σ.calls < most_calls → σ.depth ≤ most_depth
+    → call_of p (run_of p depth) routine args σ ≡ Some r → All IsCountable r.log
+
+-- and what each call of a run shows
+abbrev pub RunsAreCountable : Type 0
+RunsAreCountable = OfEachCall (λ p number c below. HasFewItems c.entry → All IsCountable c.log)
 
 -- ---- a call's own work
 

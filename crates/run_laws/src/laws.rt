@@ -1,22 +1,38 @@
 //! Laws of the definitions, each the contract of a call that does nothing.
 
 ghost use Rattle.run_laws.specs.Laws.{
+  ActsAreCountable,
   ActsKeepSound,
   BodiesRepeat,
+  CallsAreCountable,
   CallsKeepSound,
+  PartsAreCountable,
   PartsKeepSound,
   RecordsStand,
+  RunsAreCountable,
   RunsBeginSound,
+  RunsKeepItems,
   RunsKeepSound,
 };
 
-/// The states of runs are sound: the first one is, and acts, parts of a program and calls keep a sound state sound.
+/// The states of runs are sound: the first one is, and acts, parts of a program and calls keep a sound state sound. The
+/// items of the input stay the same.
 pub fn states_are_sound()
     ensures first { RunsBeginSound }
     ensures acts { ActsKeepSound }
     ensures parts { PartsKeepSound }
     ensures calls { CallsKeepSound }
     ensures runs { RunsKeepSound }
+    ensures items { RunsKeepItems }
+{}
+
+/// The effect of what is done in a run can be counted: what acts, parts of a program and calls show from a sound state
+/// is countable, where the items of the input can be counted.
+pub fn touches_are_countable()
+    ensures acts { ActsAreCountable }
+    ensures parts { PartsAreCountable }
+    ensures calls { CallsAreCountable }
+    ensures runs { RunsAreCountable }
 {}
 
 /// The own work of each call of a run, done again from its recorded entry with the recorded effects of the calls that

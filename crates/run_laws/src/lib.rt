@@ -5,4 +5,4 @@
 
 mod laws;
 
-pub use laws::{bodies_repeat, records_stand, states_are_sound};
+pub use laws::{bodies_repeat, records_stand, states_are_sound, touches_are_countable};

@@ -1,4 +1,4 @@
-use Rattle.run_laws.proofs.LawsOfRuns.{begins_sound, acts_sound, parts_sound, calls_sound, made, made_sound}
+use Rattle.run_laws.proofs.LawsOfRuns.{begins_sound, acts_sound, parts_sound, calls_sound, made, made_sound, runs_items}
 use Rattle.run_laws.proofs.laws.states_are_sound.Goals as goal
 
 pub returns-clause-first : goal.returns-clause-first
@@ -15,3 +15,6 @@ returns-clause-calls c = calls_sound
 
 pub returns-clause-runs : goal.returns-clause-runs
 returns-clause-runs c = λ p input budget r e k d h. made_sound p d _ (made p input budget r e k d h)
+
+pub returns-clause-items : goal.returns-clause-items
+returns-clause-items c = runs_items
