@@ -57,7 +57,7 @@ calls_sound p depth routine args σ r s m d e = gives_call p depth (run_gives p 
 
 -- ---- the records of a run
 
-all_recorded : (p : ProgramRows) (input : List ℕ) (budget : ℕ) (r : Result State Call) → run p input budget ≡ Some r
+pub all_recorded : (p : ProgramRows) (input : List ℕ) (budget : ℕ) (r : Result State Call) → run p input budget ≡ Some r
     → Recorded p (items_of input) (calls_in r)
 all_recorded p input budget r e =
     ran_records p (items_of input) (run_gives p (depth_enough p budget) block (start input budget) r e) (begins_sound input budget) refl

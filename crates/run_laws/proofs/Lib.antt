@@ -11,3 +11,4 @@ pub mod ActsRepeat
 pub mod RunsRepeat
 pub mod RecordsStand
 pub mod LawsOfRuns
+pub mod CallsCounted

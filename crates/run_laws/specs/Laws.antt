@@ -1,14 +1,15 @@
 -- What holds of the states of every run, and of the records of its calls.
-use Rattle.std.specs.Prelude.{◌≡◌, ◌<◌, ◌≤◌, ℕ, ◌+◌, List, [], Some, length, map, take, drop}
+use Rattle.std.specs.Prelude.{◌≡◌, ◌<◌, ◌≤◌, ℕ, ◌+◌, ◌^◌, List, [], Some, length, map, take, drop, slice_range}
 use Rattle.std.specs.List.{All, slice_get}
 use Rattle.cell_value.specs.declared.values.Value.{Value}
+use Rattle.cell_value.specs.declared.entries.Touch.{Touch}
 use Rattle.cell_value.specs.Effects.{IsCountable, reads_of, changes_of, made_of, looked_of, taken_of, given_of}
 use Rattle.program_tables.specs.ProgramRows.{ProgramRows}
 use Rattle.program_meaning.specs.State.{State, IsSound, most_calls, most_depth}
 use Rattle.program_meaning.specs.Acts.{Act, Done, Went, Stops, perform}
 use Rattle.program_meaning.specs.Tree.{Part}
 use Rattle.program_meaning.specs.Layer.{layer}
-use Rattle.program_meaning.specs.Run.{Result, Call, Outcome, way_out, result_in, call_of, run_of, run, start}
+use Rattle.program_meaning.specs.Run.{Marked, Result, Call, Outcome, way_out, result_in, call_of, run_of, run, start}
 use Rattle.program_meaning.specs.Run.{depth_enough, items_of}
 use Rattle.program_meaning.specs.Apply.{apply}
 use Rattle.program_meaning.specs.Agree.{Agrees}
@@ -91,6 +92,25 @@ CallsAreCountable = (p : ProgramRows) (depth routine : ℕ) (args : List Value) 
 -- and what each call of a run shows
 abbrev pub RunsAreCountable : Type 0
 RunsAreCountable = OfEachCall (λ p number c below. HasFewItems c.entry → All IsCountable c.log)
+
+-- the greatest length of an input, in bytes
+abbrev pub most_bytes : ℕ
+most_bytes = 4194304
+
+-- In a run with these items of the input and this log, the log has from the call's mark on what the call did, the
+-- effect of which can be counted, and the input has the items that the call took.
+pub record IsCounted (items : List ℕ) (log : List Touch) (c : Marked Call) : Type 0 where
+  pub in_log : c.mark + length c.event.log ≤ length log
+  pub part : slice_range log c.mark (c.mark + length c.event.log) ≡ c.event.log
+  pub countable : All IsCountable c.event.log
+  pub made_fits : made_of c.event.log < 2 ^ 32
+  pub taken_fits : taken_of c.event.log < 2 ^ 32
+  pub in_input : c.event.entry.place + taken_of c.event.log ≤ length items
+
+-- each call of a run is counted so
+abbrev pub CallsAreCounted : Type 0
+CallsAreCounted = (p : ProgramRows) (input : List ℕ) (budget : ℕ) (r : Result State Call) → length input ≤ most_bytes
+    → run p input budget ≡ Some r → All (IsCounted (items_of input) r.log) r.events
 
 -- ---- a call's own work
 

@@ -5,6 +5,7 @@ ghost use Rattle.run_laws.specs.Laws.{
   ActsKeepSound,
   BodiesRepeat,
   CallsAreCountable,
+  CallsAreCounted,
   CallsKeepSound,
   PartsAreCountable,
   PartsKeepSound,
@@ -33,6 +34,12 @@ pub fn touches_are_countable()
     ensures parts { PartsAreCountable }
     ensures calls { CallsAreCountable }
     ensures runs { RunsAreCountable }
+{}
+
+/// What each call of a run did stands in the log from the call's mark on, and can be counted, where the input has at
+/// most 4,194,304 bytes.
+pub fn calls_are_counted()
+    ensures { CallsAreCounted }
 {}
 
 /// The own work of each call of a run, done again from its recorded entry with the recorded effects of the calls that

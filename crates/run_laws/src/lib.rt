@@ -5,4 +5,6 @@
 
 mod laws;
 
-pub use laws::{bodies_repeat, records_stand, states_are_sound, touches_are_countable};
+pub use laws::{
+    bodies_repeat, calls_are_counted, records_stand, states_are_sound, touches_are_countable,
+};
