@@ -1,12 +1,13 @@
 -- What is kept of a run.
-use Rattle.std.specs.Prelude.{ℕ, List, [], ◌∷◌, ◌&&◌, ◌==◌, Option, Some, None, length, if◌then◌else◌}
+use Rattle.std.specs.Prelude.{◌≡◌, ℕ, List, [], ◌∷◌, ◌&&◌, ◌==◌, Option, Some, None, length, if◌then◌else◌}
 use Rattle.std.specs.FinMap.{empty}
 use Rattle.cell_value.specs.declared.entries.Touch.{Touch}
 use Rattle.call_tree.specs.Recording.{Recording}
 use Rattle.program_tables.specs.ProgramRows.{ProgramRows}
 use Rattle.program_meaning.specs.State.{State, stack_end}
-use Rattle.program_meaning.specs.Run.{Outcome}
+use Rattle.program_meaning.specs.Run.{Outcome, items_of, run}
 use Rattle.program_meaning.specs.Numbering.{calls_of}
+use Rattle.program_run.specs.declared.history.History.{History}
 use Rattle.program_run.specs.Table.{numbered}
 
 -- what is recorded of the calls of a run of a program, of which none is open
@@ -22,6 +23,14 @@ log_of (Some r) = r.log
 abbrev pub output_of : Outcome → List ℕ
 output_of None = []
 output_of (Some r) = r.after.output
+
+-- what is kept is all that of the run of this program, with this input and this budget of steps
+pub record IsOfRun (p : ProgramRows) (input : List ℕ) (budget : ℕ) (h : History) : Type 0 where
+  pub calls : h.calls ≡ recording_of p (run p input budget)
+  pub log : h.log ≡ log_of (run p input budget)
+  pub output : h.output ≡ output_of (run p input budget)
+  pub items : h.input ≡ items_of input
+  pub steps : h.budget ≡ budget
 
 -- the state before a run with these items of the input and a budget of steps
 abbrev pub first_state : (items : List ℕ) → (budget : ℕ) → State

@@ -2,3 +2,4 @@ pub mod Table
 pub mod History
 pub mod Tower
 pub mod Runners
+pub mod Told

@@ -3,9 +3,11 @@
 
 mod history;
 mod input;
+mod laws;
 mod open_call;
 mod runner;
 mod runs;
 
 pub use history::History;
+pub use laws::calls_are_told;
 pub use runs::run;
