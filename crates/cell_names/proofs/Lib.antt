@@ -1,0 +1,7 @@
+mod MembersInTurn
+mod NamesMade
+pub mod PartsInTurn
+mod PartsSplit
+mod RecordsInTurn
+mod WaysDown
+pub mod WrittenInTurn

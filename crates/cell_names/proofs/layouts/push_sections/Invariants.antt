@@ -1,0 +1,9 @@
+use Rattle.std.proofs.Common.{◌≡◌, ◌-◌, ◌++◌}
+use Rattle.cell_names.specs.Places.{finds}
+use Rattle.cell_names.specs.Layouts.{most_sections, sections_parts}
+use Rattle.cell_names.proofs.layouts.push_sections.Given as goal
+
+abbrev pub invariant-sections : goal.invariant-sections
+invariant-sections l =
+    finds (l.places ++ sections_parts l.program (most_sections - l.counter) l.slot)
+    ≡ finds (l.fn.places ++ sections_parts l.program most_sections l.sections)

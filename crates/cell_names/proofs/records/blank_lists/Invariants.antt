@@ -1,0 +1,6 @@
+use Rattle.std.proofs.Common.{◌≡◌, []}
+use Rattle.std.specs.Prelude.{replicate}
+use Rattle.cell_names.proofs.records.blank_lists.Given as goal
+
+abbrev pub invariant-lists : goal.invariant-lists
+invariant-lists l = l.lists.items ≡ replicate l.counter []

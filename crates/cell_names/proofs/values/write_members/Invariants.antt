@@ -1,0 +1,8 @@
+use Rattle.std.proofs.Common.{◌≡◌, ◌++◌, true}
+use Rattle.cell_names.specs.Values.{members_from, members_text}
+use Rattle.cell_names.proofs.values.write_members.Given as goal
+
+abbrev pub invariant-members : goal.invariant-members
+invariant-members l =
+    l.out ++ members_text l.program l.base l.first (members_from l.set l.ordinal)
+    ≡ l.fn.out ++ members_text l.program l.base true (members_from l.set 0)

@@ -1,0 +1,113 @@
+-- What frames are made of, from the tables of a program (ISO 7185, 6.2.1, 6.4.3.3, 6.6.3).
+use Rattle.std.specs.Prelude.{ℕ, zero, suc, ◌+◌, ◌-◌, ◌==◌, Bool, false, min, List, [], ◌++◌, filter}
+use Rattle.std.specs.Prelude.{filter_map}
+use Rattle.std.specs.Prelude.{Option, Some, None, option_to_list, if◌then◌else◌}
+use Rattle.std.specs.List.{range_with_len}
+use Rattle.cell_value.specs.Effects.{last_of}
+use Rattle.program_tables.specs.declared.program.Routine.{Routine}
+use Rattle.program_tables.specs.declared.rows.Row.{Row}
+use Rattle.program_tables.specs.declared.rows.Row.TheVariants as row
+use Rattle.program_tables.specs.declared.rows.NameRow.TheVariants as named
+use Rattle.program_tables.specs.declared.rows.PartRow.TheVariants as constituent
+use Rattle.program_tables.specs.declared.rows.ItemRow.TheVariants as item
+use Rattle.program_tables.specs.declared.rows.Mode.TheVariants as mode
+use Rattle.program_tables.specs.ProgramRows.{ProgramRows, row_at, routine_at}
+use Rattle.cell_names.specs.declared.places.Part.{Part}
+
+abbrev pub part : (place number : ℕ) → Part
+part place number = record { place = place; number = number }
+
+abbrev pub part_in : (number : ℕ) → Row → Option Part
+part_in number (row.Name (named.Variable mode' of' place level)) = Some (part place number)
+part_in number (row.Name (named.RoutineFormal place level heading)) = Some (part place number)
+part_in number r = None
+
+-- what the name at a token is in its frame
+abbrev pub part_of : ProgramRows → (token : ℕ) → List Part
+part_of p token = option_to_list (part_in token (row_at p token))
+
+-- the name after the next comma; numbers of tokens end with the last of 32 bits
+abbrev pub next_name : (token : ℕ) → ℕ
+next_name token = min (token + 2) 4294967295
+
+-- so many names of a section of parameters, from one on
+abbrev pub section_parts : ProgramRows → (count : ℕ) → (token : ℕ) → List Part
+section_parts p zero token = []
+section_parts p (suc count) token = part_of p token ++ section_parts p count (next_name token)
+
+-- a procedure or function as a parameter, by its heading
+abbrev pub heading_part : ProgramRows → Row → List Part
+heading_part p (row.Part (constituent.Heading name sections result)) = part_of p name
+heading_part p r = []
+
+-- the parameters of a section
+abbrev pub section_of : ProgramRows → Row → List Part
+section_of p (row.Item (item.Section mode' first count next)) = section_parts p count first
+section_of p (row.Item (item.RoutineSection heading next)) = heading_part p (row_at p heading)
+section_of p r = []
+
+-- where the section after one stands
+abbrev pub next_section : Row → Option ℕ
+next_section (row.Item (item.Section mode' first count next)) = Some next
+next_section (row.Item (item.RoutineSection heading next)) = Some next
+next_section r = None
+
+abbrev pub parts_after : (rest : ℕ → List Part) → Option ℕ → List Part
+parts_after rest None = []
+parts_after rest (Some next) = rest next
+
+-- the parameters in the sections from one on, of which at most so many are gone through
+abbrev pub sections_parts : ProgramRows → (most : ℕ) → (slot : ℕ) → List Part
+sections_parts p zero slot = []
+sections_parts p (suc most) slot =
+    section_of p (row_at p slot) ++ parts_after (sections_parts p most) (next_section (row_at p slot))
+
+-- more sections than a source of 1,048,576 bytes has
+unfoldable pub most_sections : ℕ
+most_sections = 1048576
+
+abbrev pub parameters_in : ProgramRows → Row → List Part
+parameters_in p (row.Part (constituent.Heading name sections result)) = sections_parts p most_sections sections
+parameters_in p r = []
+
+-- the parameters of a routine, in order
+abbrev pub parameters_of : ProgramRows → Routine → List Part
+parameters_of p r = parameters_in p (row_at p r.heading)
+
+abbrev pub is_name_of : Row → (number name : ℕ) → Bool
+is_name_of (row.Name (named.Routine assigned n region)) number name = n == number
+is_name_of (row.Part (constituent.Completing first)) number name = first == name
+is_name_of r number name = false
+
+abbrev pub start_at : Option ℕ → ℕ
+start_at None = 0
+start_at (Some token) = token
+
+-- where the block of a routine begins: at the name in the last heading of the routine before its statement part, and of
+-- the program with its first token
+unfoldable pub block_start : ProgramRows → (number : ℕ) → (name before : ℕ) → ℕ
+block_start p number name before =
+    start_at (last_of (filter (λ token. is_name_of (row_at p token) number name) (range_with_len 0 before)))
+
+abbrev pub own_in : (level number : ℕ) → Row → Option Part
+own_in level number (row.Name (named.Variable mode.Own of' place l)) =
+    if l == level then Some (part place number) else None
+own_in level number r = None
+
+-- the variables of a block with so many others around, which stand between two tokens
+unfoldable pub own_between : ProgramRows → (level from to : ℕ) → List Part
+own_between p level from to =
+    filter_map (λ token. own_in level token (row_at p token)) (range_with_len from (to - from))
+
+-- The variables of a routine's block, in order. They stand before its statement part; so do those of the blocks inside,
+-- which have more blocks around.
+abbrev pub variables_of : ProgramRows → (number : ℕ) → Routine → List Part
+variables_of p number r = own_between p r.level (block_start p number r.name r.statements) r.statements
+
+abbrev pub frame_parts_in : ProgramRows → (number : ℕ) → Option Routine → List Part
+frame_parts_in p number None = []
+frame_parts_in p number (Some r) = parameters_of p r ++ variables_of p number r
+
+-- what the frame of a routine has but for its link and its result: the parameters, and the variables of the block
+abbrev pub frame_parts : ProgramRows → (number : ℕ) → List Part
+frame_parts p number = frame_parts_in p number (routine_at p number)

@@ -1,0 +1,7 @@
+pub mod Finding
+pub mod Layouts
+pub mod Names
+pub mod Pieces
+pub mod Places
+pub mod Records
+pub mod Values

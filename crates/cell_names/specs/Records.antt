@@ -1,0 +1,76 @@
+-- Which record has a field or a tag, and where (ISO 7185, 6.4.3.3).
+use Rattle.std.specs.Prelude.{ℕ, zero, suc, ◌==◌, ◌&&◌, nat_lt, Bool, true, false, List, [], ◌∷◌, flat_map, Option}
+use Rattle.std.specs.Prelude.{Some, None}
+use Rattle.std.specs.Prelude.{if◌then◌else◌, ◌-◌}
+use Rattle.std.specs.List.{range_with_len}
+use Rattle.program_tables.specs.declared.rows.Row.{Row}
+use Rattle.program_tables.specs.declared.rows.Row.TheVariants as row
+use Rattle.program_tables.specs.declared.rows.NameRow.TheVariants as named
+use Rattle.program_tables.specs.declared.rows.PartRow.TheVariants as constituent
+use Rattle.program_tables.specs.declared.rows.TypeRow.TheVariants as kind
+use Rattle.program_tables.specs.ProgramRows.{ProgramRows, row_at}
+use Rattle.cell_names.specs.declared.places.Part.{Part}
+use Rattle.cell_names.specs.declared.records.Component.{Component}
+use Rattle.cell_names.specs.declared.records.Placed.{Placed}
+use Rattle.cell_names.specs.Layouts.{part}
+
+-- a field, a tag field or a hidden tag: where it begins, and the record or the variant that holds it
+abbrev pub component_in : Row → Option Component
+component_in (row.Name (named.Field of' offset holder)) = Some (record { offset = offset; holder = holder })
+component_in (row.Name (named.Tag of' offset holder variants)) = Some (record { offset = offset; holder = holder })
+component_in (row.Part (constituent.Variants true offset cells values holder)) =
+    Some (record { offset = offset; holder = holder })
+component_in r = None
+
+abbrev pub is_record : Row → Bool
+is_record (row.Type (kind.Record packed region cells variants)) = true
+is_record r = false
+
+abbrev pub holder_in : Row → Option ℕ
+holder_in (row.Part (constituent.Variants hidden offset cells values holder)) = Some holder
+holder_in r = None
+
+-- the record or the variant that holds the variant part of a variant
+abbrev pub holder_around : ProgramRows → Row → Option ℕ
+holder_around p (row.Part (constituent.Variant variants position)) = holder_in (row_at p variants)
+holder_around p r = None
+
+abbrev pub further : (go : ℕ → Option ℕ) → Option ℕ → Option ℕ
+further go None = None
+further go (Some holder) = go holder
+
+-- the record that a holder is, or that has it in its variants, of which at most so many are gone out of
+abbrev pub record_of : ProgramRows → (most : ℕ) → (holder : ℕ) → Option ℕ
+record_of p zero holder = None
+record_of p (suc most) holder =
+    if is_record (row_at p holder) then Some holder else further (record_of p most) (holder_around p (row_at p holder))
+
+-- no source has more variant parts in one another
+unfoldable pub most_nesting : ℕ
+most_nesting = 200
+
+abbrev pub placed_in : (token : ℕ) → Component → Option ℕ → Option Placed
+placed_in token c None = None
+placed_in token c (Some record') = Some (record { owner = record'; part = part c.offset token })
+
+abbrev pub placed_by : ProgramRows → (token : ℕ) → Option Component → Option Placed
+placed_by p token None = None
+placed_by p token (Some c) = placed_in token c (record_of p most_nesting c.holder)
+
+-- the record to which the name or the word at a token belongs, and where its cells begin there
+abbrev pub placed_at : ProgramRows → (token : ℕ) → Option Placed
+placed_at p token = placed_by p token (component_in (row_at p token))
+
+-- what of that is one record's, which is one of so many tokens
+abbrev pub within : (tokens owner : ℕ) → Option Placed → List Part
+within tokens owner None = []
+within tokens owner (Some x) = if (x.owner == owner) && nat_lt owner tokens then x.part ∷ [] else []
+
+-- the fields and tags of a record that stand at a token or after it, of so many tokens, in order
+unfoldable pub record_parts_from : ProgramRows → (tokens owner from : ℕ) → List Part
+record_parts_from p tokens owner from =
+    flat_map (λ token. within tokens owner (placed_at p token)) (range_with_len from (tokens - from))
+
+-- the fields and tags of a record, in order
+abbrev pub record_parts : ProgramRows → (tokens owner : ℕ) → List Part
+record_parts p tokens owner = record_parts_from p tokens owner 0

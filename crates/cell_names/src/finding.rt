@@ -1,0 +1,128 @@
+//! What is found in frames, in records and in the heap by its place: made once for a run.
+
+ghost use Rattle.std.specs.Prelude.{◌≡◌, ◌++◌, ℕ, IfOk, OnOk};
+ghost use Rattle.cell_names.specs.Places.{finds};
+ghost use Rattle.cell_names.specs.Layouts.{frame_parts};
+ghost use Rattle.cell_names.specs.Finding.{block_by, blocks_of, finding_of, found_in, list_at};
+
+use crate::layouts::frame_places;
+use crate::places::{Part, Places};
+use crate::records::record_places;
+use cell_value::Touch;
+use effect_log::Log;
+use program_tables::Program;
+use std::alloc::{AllocError, Global};
+use std::marker::Model;
+
+/// What is found by its place in the frames of a program's routines, in its records, and in the heap of its run.
+#[derive(Drop)]
+pub struct Names {
+    /// By the number of a routine.
+    frames: Vec<Places>,
+    /// By the number of a record.
+    records: Vec<Places>,
+    blocks: Places,
+}
+
+impl Model for Names {
+    ghost use Rattle.cell_names.specs.Finding.{NameLists};
+
+    ghost Value = { NameLists };
+
+    ghost view = { λ n. record {
+      frames = n.frames.items;
+      records = n.records.items;
+      blocks = n.blocks;
+    } };
+}
+
+/// What the frame of each routine has.
+fn frames_of(alloc: Global, program: &Program) -> Result<Vec<Places>, AllocError>
+    ensures { IfOk result (λ lists. (routine : ℕ)
+        → finds (list_at lists.items routine) ≡ finds (frame_parts program.now routine)) }
+{
+    let mut lists = Vec::new(alloc);
+    'routines: for routine in 0..program.routines() {
+        lists.push(frame_places(alloc, program, routine)?)?;
+    }
+    Ok(lists)
+}
+
+/// A block of the heap, if the touch makes one.
+fn push_block(blocks: &mut Places, touch: Touch) -> Result<(), AllocError>
+    ensures { OnOk result (finds blocks.new ≡ finds (blocks.old ++ block_by touch)) }
+{
+    match touch {
+        Touch::Make(first, _, kind) => blocks.push(Part {
+            place: first,
+            number: kind,
+        }),
+        _ => Ok(()),
+    }
+}
+
+/// The blocks of the heap that are made in a run.
+fn blocks_of(alloc: Global, log: &Log) -> Result<Places, AllocError>
+    ensures { IfOk result (λ blocks. finds blocks ≡ finds (blocks_of log.now)) }
+{
+    let mut blocks = Places::new(alloc);
+    'touches: for place in 0..log.len() {
+        push_block(&mut blocks, log.at(place))?;
+    }
+    Ok(blocks)
+}
+
+/// What has a place in the list of a number.
+#[tactic(auto, unfolding(crate::specs::Places::last_at))]
+fn find_in(lists: &[Places], number: u32, place: u32) -> Option<Part>
+    ensures { result ≡ finds (list_at lists.now number) place }
+{
+    let number = number as usize;
+    if number < lists.len() {
+        lists[number].find(place)
+    } else {
+        None
+    }
+}
+
+impl Names {
+    /// What is found by its place in a program of so many tokens, in whose run this was done. It takes memory.
+    pub fn new(
+        alloc: Global,
+        program: &Program,
+        tokens: u32,
+        log: &Log,
+    ) -> Result<Names, AllocError>
+        ensures { IfOk result (λ names. found_in names ≡ finding_of program.now tokens log.now) }
+    {
+        let frames = frames_of(alloc, program)?;
+        let records = record_places(alloc, program, tokens)?;
+        let blocks = blocks_of(alloc, log)?;
+        Ok(Names {
+            frames,
+            records,
+            blocks,
+        })
+    }
+
+    /// What has a place of the frame of a routine: a parameter or a variable, by the token that names it.
+    pub(crate) fn local(&self, routine: u32, place: u32) -> Option<Part>
+        ensures { result ≡ (found_in self.now).frame routine place }
+    {
+        find_in(&self.frames, routine, place)
+    }
+
+    /// What has a place of a record: a field or a tag, by its number.
+    pub(crate) fn component(&self, owner: u32, place: u32) -> Option<Part>
+        ensures { result ≡ (found_in self.now).component owner place }
+    {
+        find_in(&self.records, owner, place)
+    }
+
+    /// The variable of the heap that has an address, by its type.
+    pub(crate) fn block(&self, address: u32) -> Option<Part>
+        ensures { result ≡ (found_in self.now).block address }
+    {
+        self.blocks.find(address)
+    }
+}

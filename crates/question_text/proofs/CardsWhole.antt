@@ -1,0 +1,31 @@
+-- A card from its first line and its other lines.
+use Rattle.std.proofs.Common.{◌≡◌, ℕ, ◌≤◌, List, [], ◌++◌, length, Option, Some, slice_get, sym, ap, ◌∙◌, append_assoc}
+use Rattle.std.proofs.lemmas.Option.{slice_get_past}
+use Rattle.call_tree.specs.declared.records.Call.{Call}
+use Rattle.call_tree.specs.Recording.{routines_of}
+use Rattle.cell_names.specs.declared.places.Part.{Part}
+use Rattle.cell_names.specs.Places.{finds}
+use Rattle.cell_names.specs.Finding.{Finding, finding_of}
+use Rattle.cell_names.specs.Names.{Scene}
+use Rattle.question_text.specs.Cards.{Recorded, card, card_by, lines_of, scene_of}
+use Rattle.question_text.specs.Frames.{opened_from}
+use Rattle.question_text.specs.Lines.{call_line}
+
+-- what names stand on, by its parts
+abbrev pub scene_by : Recorded → Finding → List ℕ → (ℕ → Option Part) → Scene
+scene_by r finding routines opened = record { program = r.program; finding = finding; routines = routines; opened = opened }
+
+pub no_card : (r : Recorded) (k : ℕ) → length r.calls ≤ k → card r k ≡ []
+unfolding card
+no_card r k past = ap (card_by r k) (slice_get_past r.calls k past)
+
+pub card_is : (r : Recorded) (k : ℕ) (call : Call) (finding : Finding) (routines : List ℕ) (opened : ℕ → Option Part) (out mid new : List ℕ)
+    → slice_get r.calls k ≡ Some call → finding ≡ finding_of r.program r.tokens r.log → routines ≡ routines_of r.calls
+    → opened ≡ finds (opened_from r.calls (length r.calls) (Some k)) → mid ≡ out ++ call_line r.program k call
+    → new ≡ mid ++ lines_of r (scene_by r finding routines opened) call → new ≡ out ++ card r k
+unfolding card
+card_is r k call finding routines opened out mid new found f g h first others =
+    let s : scene_by r finding routines opened ≡ scene_of r k = λ i. record { program = r.program; finding = f i; routines = g i; opened = h i } in
+    let rest = lines_of r (scene_by r finding routines opened) call in
+    others ∙ ap (λ m. m ++ rest) first ∙ append_assoc out (call_line r.program k call) rest
+    ∙ ap (λ t. out ++ (call_line r.program k call ++ lines_of r t call)) s ∙ ap (λ o. out ++ card_by r k o) (sym found)

@@ -1,0 +1,3 @@
+mod CardsWhole
+mod FramesOutward
+mod LinesInTurn

@@ -1,0 +1,9 @@
+use Rattle.std.proofs.Common.{◌≡◌, ◌++◌, drop}
+use Rattle.cell_names.specs.Names.{scene_in}
+use Rattle.question_text.specs.Cells.{parameters_text}
+use Rattle.question_text.proofs.cells.write_parameters.Given as goal
+
+abbrev pub invariant-places : goal.invariant-places
+invariant-places l =
+    l.out ++ parameters_text (scene_in l.scene) l.routine l.place (drop l.place l.args)
+    ≡ l.fn.out ++ parameters_text (scene_in l.scene) l.routine 1 (drop 1 l.args)

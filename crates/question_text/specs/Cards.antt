@@ -1,0 +1,115 @@
+-- What is shown of a call that is to be judged: the lines of its card, in order.
+use Rattle.std.specs.Prelude.{ℕ, ◌+◌, ◌^◌, ◌<◌, ◌≤◌, ◌==◌, All, nat_lt, min, List, [], ◌∷◌, ◌++◌, codes, drop}
+use Rattle.std.specs.Prelude.{flat_map, length, Option, Some, None, slice_get, slice_range, if◌then◌else◌}
+use Rattle.cell_value.specs.declared.values.Value.{Value}
+use Rattle.cell_value.specs.declared.entries.Touch.{Touch}
+use Rattle.cell_value.specs.Effects.{IsCountable, changes_of, given_of, looked_of, made_of, reads_of, taken_of}
+use Rattle.call_tree.specs.declared.records.Call.{Call}
+use Rattle.call_tree.specs.Recording.{routines_of}
+use Rattle.program_tables.specs.declared.program.Routine.{Routine}
+use Rattle.program_tables.specs.ProgramRows.{ProgramRows, routine_at, row_at}
+use Rattle.cell_names.specs.Places.{finds}
+use Rattle.cell_names.specs.Finding.{finding_of}
+use Rattle.cell_names.specs.Pieces.{quoted}
+use Rattle.cell_names.specs.Values.{typed_text}
+use Rattle.cell_names.specs.Names.{Scene, result_of}
+use Rattle.question_text.specs.Lines.{inner_line, call_line}
+use Rattle.question_text.specs.Frames.{opened_from}
+use Rattle.question_text.specs.WaysOut.{way_text}
+use Rattle.question_text.specs.Cells.{parameters_text, seen_line, change_line}
+use Rattle.question_text.specs.declared.cards.Recorded as kept
+
+abbrev pub end_text : (items to : ℕ) → List ℕ
+end_text items to = if nat_lt items to then codes " end" else []
+
+-- the items that were looked at, so many from a place on; the end of the input counts as one
+abbrev pub looks_text : (items : List ℕ) → (place looked : ℕ) → List ℕ
+looks_text items place looked = if looked == 0 then [] else inner_line (codes "looks "
+    ++ quoted (slice_range items place (min (place + looked) (length items)))
+    ++ end_text (length items) (place + looked))
+
+-- the items that were taken, so many from a place on
+abbrev pub takes_text : (items : List ℕ) → (place taken : ℕ) → List ℕ
+takes_text items place taken =
+    if taken == 0 then [] else inner_line (codes "takes " ++ quoted (slice_range items place (place + taken)))
+
+-- the bytes that were given
+abbrev pub gives_text : List ℕ → List ℕ
+gives_text [] = []
+gives_text (byte ∷ bytes) = inner_line (codes "gives " ++ quoted (byte ∷ bytes))
+
+abbrev pub result_by : ProgramRows → (of' : Option ℕ) → Option Value → List ℕ
+result_by p (Some of') (Some v) = inner_line (codes "result " ++ typed_text p of' v)
+result_by p of' v = []
+
+abbrev pub result_type : ProgramRows → Option Routine → Option ℕ
+result_type p None = None
+result_type p (Some r) = result_of (row_at p r.heading)
+
+-- the result of a call of a function that returned
+abbrev pub result_text : ProgramRows → (routine : ℕ) → Option Value → List ℕ
+result_text p routine v = result_by p (result_type p (routine_at p routine)) v
+
+-- what a call did, by its part of the log: what it read and changed, looked at, took and gave
+abbrev pub effect_text : Scene → (items : List ℕ) → Call → List Touch → List ℕ
+effect_text s items call touches =
+    flat_map (seen_line s) (reads_of call.entry.top touches)
+    ++ flat_map (change_line s) (changes_of call.entry.top touches)
+    ++ looks_text items call.entry.place (looked_of call.entry.place touches)
+    ++ takes_text items call.entry.place (taken_of touches)
+    ++ gives_text (given_of touches)
+
+-- a run: its program, of so many tokens, its calls in order of entry, its log and the items of its input
+pub record Recorded : Type 0 where
+  pub program : ProgramRows
+  pub tokens : ℕ
+  pub calls : List Call
+  pub log : List Touch
+  pub items : List ℕ
+
+-- the same, where it is kept
+abbrev pub recorded_in : kept.Recorded → Recorded
+recorded_in r = record {
+  program = r.program.now;
+  tokens = r.tokens;
+  calls = r.calls.now.calls;
+  log = r.log.now;
+  items = r.items.now;
+}
+
+-- what names stand on while a call runs
+abbrev pub scene_of : Recorded → (k : ℕ) → Scene
+scene_of r k = record {
+  program = r.program;
+  finding = finding_of r.program r.tokens r.log;
+  routines = routines_of r.calls;
+  opened = finds (opened_from r.calls (length r.calls) (Some k));
+}
+
+abbrev pub touches_of : Recorded → Call → List Touch
+touches_of r call = slice_range r.log call.entry.mark call.exit.mark
+
+-- a call's part of the log is one whose effect can be counted, and the input has the items that the call took
+pub record IsTold (r : Recorded) (call : Call) : Type 0 where
+  pub in_order : call.entry.mark ≤ call.exit.mark
+  pub in_log : call.exit.mark ≤ length r.log
+  pub countable : All IsCountable (touches_of r call)
+  pub made_fits : made_of (touches_of r call) < 2 ^ 32
+  pub taken_fits : taken_of (touches_of r call) < 2 ^ 32
+  pub in_input : call.entry.place + taken_of (touches_of r call) ≤ length r.items
+
+-- the lines of a card after the first: parameters, reads, changes, looks, takes, gives, result, and the way out
+abbrev pub lines_of : Recorded → Scene → Call → List ℕ
+lines_of r s call =
+    parameters_text s call.routine 1 (drop 1 call.args)
+    ++ effect_text s r.items call (touches_of r call)
+    ++ result_text r.program call.routine call.result
+    ++ inner_line (way_text r.calls call.parent call.way)
+
+abbrev pub card_by : Recorded → (k : ℕ) → Option Call → List ℕ
+card_by r k None = []
+card_by r k (Some call) = call_line r.program k call ++ lines_of r (scene_of r k) call
+
+-- the card of call k of a run
+unfoldable pub card : Recorded → (k : ℕ) → List ℕ
+card r k = card_by r k (slice_get r.calls k)

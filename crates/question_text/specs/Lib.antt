@@ -1,0 +1,6 @@
+pub mod Cards
+pub mod Cells
+pub mod Frames
+pub mod Lines
+pub mod Trees
+pub mod WaysOut

@@ -1,0 +1,88 @@
+//! The calls that are open while one runs.
+
+ghost use Rattle.std.specs.Prelude.{◌≡◌, IfOk, Some, length, option_copied, reverse, slice_get};
+ghost use Rattle.cell_names.specs.Places.{finds};
+ghost use Rattle.question_text.specs.Frames.{frame_of, opened_from};
+
+use call_tree::{Call, Calls};
+use cell_names::{Part, Places};
+use std::alloc::{AllocError, Global};
+
+/// The frame of a call: where it begins, with the call's number, and the call that made that one.
+#[derive(Clone, Copy)]
+pub(crate) struct OpenFrame {
+    pub(crate) part: Part,
+    pub(crate) outer: Option<u32>,
+}
+
+/// The call of a number, and nothing where there is none.
+pub(crate) fn call_at(calls: &Calls, number: u32) -> Option<&Call>
+    ensures { option_copied result ≡ slice_get calls.now.calls number }
+{
+    if number < calls.len() {
+        Some(calls.call(number))
+    } else {
+        None
+    }
+}
+
+/// The frame of a call, if there is such a call.
+pub(crate) fn frame_of(calls: &Calls, call: Option<u32>) -> Option<OpenFrame>
+    ensures { result ≡ frame_of calls.now.calls call }
+{
+    match call {
+        None => None,
+        Some(number) => match call_at(calls, number) {
+            None => None,
+            Some(call) => Some(OpenFrame {
+                part: Part {
+                    place: call.entry.top,
+                    number,
+                },
+                outer: call.parent,
+            }),
+        },
+    }
+}
+
+/// Where the frames of a call and of those around it begin, from the innermost outward.
+fn frames_outward(alloc: Global, calls: &Calls, call: u32) -> Result<Vec<Part>, AllocError>
+    ensures { IfOk result (λ frames. reverse frames.items
+        ≡ opened_from calls.now.calls (length calls.now.calls) (Some call)) }
+{
+    let mut frames = Vec::new(alloc);
+    let mut at = Some(call);
+    'calls: for _ in 0..calls.len() {
+        match frame_of(calls, at) {
+            None => return Ok(frames),
+            Some(frame) => {
+                frames.push(frame.part)?;
+                at = frame.outer;
+            }
+        }
+    }
+    Ok(frames)
+}
+
+/// The same from the outermost inward.
+fn frames_inward(alloc: Global, frames: &[Part]) -> Result<Places, AllocError>
+    ensures { IfOk result (λ places. finds places ≡ finds (reverse frames.now)) }
+{
+    let mut places = Places::new(alloc);
+    let mut left = frames.len();
+    'frames: while left > 0 {
+        left -= 1;
+        places.push(frames[left])?;
+    }
+    Ok(places)
+}
+
+/// The calls that are open while one runs, by where their frames begin.
+pub(crate) fn opened_calls(alloc: Global, calls: &Calls, call: u32) -> Result<Places, AllocError>
+    ensures { IfOk result (λ places. finds places
+        ≡ finds (opened_from calls.now.calls (length calls.now.calls) (Some call))) }
+{
+    let frames = frames_outward(alloc, calls, call)?;
+    let places = frames_inward(alloc, &frames)?;
+    Ok(places)
+}

@@ -1,0 +1,125 @@
+//! How a call ended.
+
+ghost use Rattle.std.specs.Prelude.{◌≡◌, ◌++◌, OnOk, codes, decimal, length};
+ghost use Rattle.question_text.specs.Frames.{call_of_frame};
+ghost use Rattle.question_text.specs.Lines.{inner_line};
+ghost use Rattle.question_text.specs.WaysOut.{fault_text, limit_text, of_call, way_line, way_text};
+
+use crate::opened::{call_at, frame_of};
+use call_tree::{Call, Calls};
+use cell_names::write_number;
+use cell_value::{Kind, WayOut, Which};
+use edge_ports::Bytes;
+use std::alloc::AllocError;
+
+/// The name of a kind of fault.
+fn fault_name(kind: Kind) -> &'static str
+    ensures { result.now ≡ fault_text kind }
+{
+    match kind {
+        Kind::Overflow => "Overflow",
+        Kind::ZeroDivisor => "ZeroDivisor",
+        Kind::BadModulus => "BadModulus",
+        Kind::OutOfRange => "OutOfRange",
+        Kind::Undefined => "Undefined",
+        Kind::NilPointer => "NilPointer",
+        Kind::Disposed => "Disposed",
+        Kind::InactiveVariant => "InactiveVariant",
+        Kind::NoCase => "NoCase",
+        Kind::PastEnd => "PastEnd",
+        Kind::BadNumber => "BadNumber",
+        Kind::BadWidth => "BadWidth",
+        Kind::UndefinedResult => "UndefinedResult",
+    }
+}
+
+/// The name of a limit.
+fn limit_name(which: Which) -> &'static str
+    ensures { result.now ≡ limit_text which }
+{
+    match which {
+        Which::Calls => "calls",
+        Which::Depth => "depth",
+        Which::Stack => "stack",
+        Which::Heap => "heap",
+    }
+}
+
+/// The innermost open call whose frame begins at a base, from one on and then outward.
+fn call_of_frame(calls: &Calls, from: Option<u32>, base: u32) -> Option<u32>
+    ensures { result ≡ call_of_frame calls.now.calls (length calls.now.calls) from base }
+{
+    let mut at = from;
+    'calls: for _ in 0..calls.len() {
+        match frame_of(calls, at) {
+            None => return None,
+            Some(frame) => {
+                if frame.part.place == base {
+                    return Some(frame.part.number);
+                }
+                at = frame.outer;
+            }
+        }
+    }
+    None
+}
+
+/// Appends the label to which a call was left, and the call that went on there.
+fn write_jump(out: &mut Bytes, label: u32, holder: Option<u32>) -> Result<(), AllocError>
+    ensures { OnOk result (out.new ≡ out.old ++ codes "jumped to " ++ decimal label ++ of_call holder) }
+{
+    out.append(b"jumped to ")?;
+    write_number(out, label)?;
+    if let Some(call) = holder {
+        out.append(b" of call ")?;
+        write_number(out, call)?;
+    }
+    Ok(())
+}
+
+/// Appends how a call ended.
+fn write_way_out(out: &mut Bytes, calls: &Calls, call: &Call) -> Result<(), AllocError>
+    ensures { OnOk result (out.new ≡ out.old ++ way_text calls.now.calls call.now.parent call.now.way) }
+{
+    match call.way {
+        WayOut::Returned => out.append(b"returned")?,
+        WayOut::Jumped(label, base) => {
+            write_jump(out, label, call_of_frame(calls, call.parent, base))?
+        }
+        WayOut::Faulted(kind, line) => {
+            out.append(b"faulted ")?;
+            out.append(fault_name(kind).as_bytes())?;
+            out.append(b" line ")?;
+            write_number(out, line)?;
+        }
+        WayOut::OutOfSteps => out.append(b"out of steps")?,
+        WayOut::Limited(which) => {
+            out.append(b"limited ")?;
+            out.append(limit_name(which).as_bytes())?;
+        }
+    }
+    Ok(())
+}
+
+/// Appends how a call ended, as a line of its card.
+pub(crate) fn write_way_of(out: &mut Bytes, calls: &Calls, call: &Call) -> Result<(), AllocError>
+    ensures { OnOk result (out.new ≡ out.old
+        ++ inner_line (way_text calls.now.calls call.now.parent call.now.way)) }
+{
+    out.append(b"  ")?;
+    write_way_out(out, calls, call)?;
+    out.append(b"\n")?;
+    Ok(())
+}
+
+/// Appends how a call ended, as the last line of its card. Of a number that is no call's nothing is appended. When
+/// memory is short, a first part of it may stand there.
+#[tactic(auto, unfolding(crate::specs::WaysOut::way_line))]
+pub fn write_way_line(out: &mut Bytes, calls: &Calls, number: u32) -> Result<(), AllocError>
+    ensures { OnOk result (out.new ≡ out.old ++ way_line calls.now.calls number) }
+{
+    match call_at(calls, number) {
+        None => Ok(()),
+        Some(call) => write_way_of(out, calls, call),
+    }
+}
