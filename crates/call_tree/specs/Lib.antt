@@ -3,3 +3,4 @@ pub mod Numbering
 pub mod Nesting
 pub mod Kept
 pub mod Clear
+pub mod Told

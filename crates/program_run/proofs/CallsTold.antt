@@ -6,6 +6,7 @@ use Rattle.std.proofs.lemmas.Option.{get_or_from_slice_get, slice_get_within}
 use Rattle.cell_value.specs.declared.entries.Touch.{Touch}
 use Rattle.cell_value.specs.Effects.{IsCountable, made_of, taken_of}
 use Rattle.call_tree.specs.Recording.{Recording}
+use Rattle.call_tree.specs.Told.{IsTold}
 use Rattle.call_tree.specs.declared.records.Call as table
 use Rattle.program_tables.specs.ProgramRows.{ProgramRows}
 use Rattle.program_meaning.specs.Run.{Marked, Call, Outcome, items_of, run}
@@ -15,7 +16,6 @@ use Rattle.run_laws.proofs.CallsCounted.{calls_counted}
 use Rattle.program_run.specs.declared.history.History.{History}
 use Rattle.program_run.specs.History.{IsOfRun, log_of, recording_of}
 use Rattle.program_run.specs.Table.{row_of}
-use Rattle.program_run.specs.Told.{IsTold}
 
 module _ (log : List Touch) (items bs : List ℕ) where
   row_told : (k : ℕ) (c : Marked Call) → IsCounted items log c → IsTold log items (row_of bs k c)

@@ -1,11 +1,12 @@
 -- What is shown of a call that is to be judged: the lines of its card, in order.
-use Rattle.std.specs.Prelude.{ℕ, ◌+◌, ◌^◌, ◌<◌, ◌≤◌, ◌==◌, All, nat_lt, min, List, [], ◌∷◌, ◌++◌, codes, drop}
+use Rattle.std.specs.Prelude.{ℕ, ◌+◌, ◌==◌, nat_lt, min, List, [], ◌∷◌, ◌++◌, codes, drop}
 use Rattle.std.specs.Prelude.{flat_map, length, Option, Some, None, slice_get, slice_range, if◌then◌else◌}
 use Rattle.cell_value.specs.declared.values.Value.{Value}
 use Rattle.cell_value.specs.declared.entries.Touch.{Touch}
-use Rattle.cell_value.specs.Effects.{IsCountable, changes_of, given_of, looked_of, made_of, reads_of, taken_of}
+use Rattle.cell_value.specs.Effects.{changes_of, given_of, looked_of, reads_of, taken_of}
 use Rattle.call_tree.specs.declared.records.Call.{Call}
 use Rattle.call_tree.specs.Recording.{routines_of}
+use Rattle.call_tree.specs.Told.{part_of}
 use Rattle.program_tables.specs.declared.program.Routine.{Routine}
 use Rattle.program_tables.specs.ProgramRows.{ProgramRows, routine_at, row_at}
 use Rattle.cell_names.specs.Places.{finds}
@@ -86,23 +87,11 @@ scene_of r k = record {
   opened = finds (opened_from r.calls (length r.calls) (Some k));
 }
 
-abbrev pub touches_of : Recorded → Call → List Touch
-touches_of r call = slice_range r.log call.entry.mark call.exit.mark
-
--- a call's part of the log is one whose effect can be counted, and the input has the items that the call took
-pub record IsTold (r : Recorded) (call : Call) : Type 0 where
-  pub in_order : call.entry.mark ≤ call.exit.mark
-  pub in_log : call.exit.mark ≤ length r.log
-  pub countable : All IsCountable (touches_of r call)
-  pub made_fits : made_of (touches_of r call) < 2 ^ 32
-  pub taken_fits : taken_of (touches_of r call) < 2 ^ 32
-  pub in_input : call.entry.place + taken_of (touches_of r call) ≤ length r.items
-
 -- the lines of a card after the first: parameters, reads, changes, looks, takes, gives, result, and the way out
 abbrev pub lines_of : Recorded → Scene → Call → List ℕ
 lines_of r s call =
     parameters_text s call.routine 1 (drop 1 call.args)
-    ++ effect_text s r.items call (touches_of r call)
+    ++ effect_text s r.items call (part_of r.log call)
     ++ result_text r.program call.routine call.result
     ++ inner_line (way_text r.calls call.parent call.way)
 

@@ -7,8 +7,9 @@ ghost use Rattle.program_tables.specs.ProgramRows.{routine_at};
 ghost use Rattle.cell_names.specs.Finding.{finding_of, found_in};
 ghost use Rattle.cell_names.specs.Names.{scene_in};
 ghost use Rattle.cell_names.specs.Pieces.{quoted};
-ghost use Rattle.question_text.specs.Cards.{IsTold, card, effect_text, end_text, gives_text, lines_of, looks_text};
-ghost use Rattle.question_text.specs.Cards.{recorded_in, result_by, result_text, result_type, takes_text, touches_of};
+ghost use Rattle.call_tree.specs.Told.{IsTold, part_of};
+ghost use Rattle.question_text.specs.Cards.{card, effect_text, end_text, gives_text, lines_of, looks_text};
+ghost use Rattle.question_text.specs.Cards.{recorded_in, result_by, result_text, result_type, takes_text};
 ghost use Rattle.question_text.specs.Cells.{change_line, seen_line};
 
 use crate::cells::{write_changes, write_parameters, write_reads};
@@ -170,9 +171,9 @@ fn write_effect(
     scene: &Scene,
     call: &Call,
 ) -> Result<(), AllocError>
-    requires { IsTold (recorded_in from.now) call.now }
+    requires { IsTold from.now.log.now from.now.items.now call.now }
     ensures { OnOk result (out.new ≡ out.old ++ effect_text (scene_in scene.now) from.now.items.now call.now
-        (touches_of (recorded_in from.now) call.now)) }
+        (part_of from.now.log.now call.now)) }
 {
     let entry = &call.entry;
     let done = effect(
@@ -196,7 +197,7 @@ fn write_lines(
     scene: &Scene,
     call: &Call,
 ) -> Result<(), AllocError>
-    requires { IsTold (recorded_in from.now) call.now }
+    requires { IsTold from.now.log.now from.now.items.now call.now }
     ensures { OnOk result (out.new ≡ out.old ++ lines_of (recorded_in from.now) (scene_in scene.now) call.now) }
 {
     write_parameters(out, scene, call.routine, &call.args)?;
@@ -214,7 +215,7 @@ fn write_card(
 ) -> Result<(), AllocError>
     requires names { found_in from.now.names.now ≡ finding_of from.now.program.now from.now.tokens from.now.log.now }
     requires told { (call : TableCall) → slice_get from.now.calls.now.calls number ≡ Some call
-        → IsTold (recorded_in from.now) call }
+        → IsTold from.now.log.now from.now.items.now call }
     ensures { OnOk result (out.new ≡ out.old ++ card (recorded_in from.now) number) }
 {
     if number >= from.calls.len() {
@@ -247,7 +248,7 @@ pub fn write_call(
 ) -> Result<(), AllocError>
     requires names { found_in from.now.names.now ≡ finding_of from.now.program.now from.now.tokens from.now.log.now }
     requires told { (c : TableCall) → slice_get from.now.calls.now.calls call ≡ Some c
-        → IsTold (recorded_in from.now) c }
+        → IsTold from.now.log.now from.now.items.now c }
     ensures ok { OnOk result (out.new ≡ out.old ++ card (recorded_in from.now) call) }
     ensures err { OnErr result (out.new ≡ out.old) }
 {
