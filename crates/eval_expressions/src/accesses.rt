@@ -2,7 +2,7 @@
 
 ghost use Rattle.std.specs.Prelude.{◌≡◌, ◌+◌, slice_get};
 ghost use Rattle.program_tables.specs.ProgramRows.{ProgramRows};
-ghost use Rattle.eval_ops.specs.Machines.{IsReady, Moment, moment_of};
+ghost use Rattle.eval_machine.specs.Machines.{IsReady, Moment, moment_of};
 ghost use Rattle.program_meaning.specs.Tree.{bind, doing};
 ghost use Rattle.program_meaning.specs.Cells as action;
 ghost use Rattle.program_meaning.specs.Cells.{cell_out, reference_out};
@@ -17,11 +17,11 @@ ghost use Rattle.eval_tasks.specs.Weight.{now_weight, tasks_weight};
 
 use cell_value::Value;
 use eval_calls::add_cell;
-use eval_ops::{
-    Machine, cell_out, component, field_at, ordinal_at, pointed_at, pointer_at, read_cells,
-    reference_out, set_at, spend,
-};
+use eval_cells::{cell_out, component, ordinal_at, read_cells, reference_out, set_at};
+use eval_heap::{pointed_at, pointer_at};
+use eval_machine::{Machine, spend};
 use eval_tasks::{Body, Located, Now, Operand, Part, Task, Turned, Way};
+use eval_variants::field_at;
 use program_meaning::Components;
 use program_tables::Program;
 use program_tables::rows::{AccessRow, Row, TypeRow};

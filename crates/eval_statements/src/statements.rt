@@ -6,7 +6,7 @@ ghost use Rattle.program_meaning.specs.Acts.{Spend};
 ghost use Rattle.program_meaning.specs.Tree.{Do, Jump, Line, Ret, bind, doing};
 ghost use Rattle.program_meaning.specs.Cells.{frame_out};
 ghost use Rattle.program_meaning.specs.Statements as statements;
-ghost use Rattle.eval_ops.specs.Machines.{IsReady, Moment, moment_of};
+ghost use Rattle.eval_machine.specs.Machines.{IsReady, Moment, moment_of};
 ghost use Rattle.eval_statements.specs.Families.{of_conditional, of_procedure};
 ghost use Rattle.eval_tasks.specs.Rest.{carry_with, from, from_under, here, waiting};
 ghost use Rattle.eval_tasks.specs.Turns.{Turns};
@@ -15,7 +15,8 @@ ghost use Rattle.eval_tasks.specs.Weight.{part_weight, task_weight, tasks_weight
 
 use crate::heap::heap_statement;
 use eval_calls::begin_call;
-use eval_ops::{Machine, frame_out, spend};
+use eval_cells::frame_out;
+use eval_machine::{Machine, spend};
 use eval_rules::{element_of, line_of, turns_of};
 use eval_tasks::{Body, Choice, Next, Now, Part, Pause, Task, Turned, Way};
 use eval_transfers::transfer_statement;

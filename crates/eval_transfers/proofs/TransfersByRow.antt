@@ -20,7 +20,7 @@ use Rattle.program_meaning.specs.Packing.{with_array}
 use Rattle.program_meaning.specs.Statements.{nothing}
 use Rattle.program_meaning.specs.Transfers.{of_printed, of_received, received}
 use Rattle.program_meaning.specs.Tree.{Here, Tree}
-use Rattle.eval_ops.specs.Machines.{DoesAll, Moment}
+use Rattle.eval_machine.specs.Machines.{DoesAll, Moment}
 use Rattle.eval_rules.specs.Arrays.{array_in, components_in, components_of}
 use Rattle.eval_rules.specs.Items.{element_in}
 use Rattle.eval_tasks.proofs.StepsFall.{first_falls}

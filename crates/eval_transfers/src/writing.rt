@@ -6,7 +6,7 @@ ghost use Rattle.program_meaning.specs.Actions.{Action, performs};
 ghost use Rattle.program_meaning.specs.Output as output;
 ghost use Rattle.program_meaning.specs.Transfers as transfers;
 ghost use Rattle.program_meaning.specs.Tree.{Tree, bind, doing};
-ghost use Rattle.eval_ops.specs.Machines.{DoesAll, IsReady, Moment, moment_of};
+ghost use Rattle.eval_machine.specs.Machines.{DoesAll, IsReady, Moment, moment_of};
 ghost use Rattle.eval_tasks.specs.Rest.{below, from, from_under, here, lists_of, resume, tasks_of, top_list};
 ghost use Rattle.eval_tasks.specs.Rest.{values_of, waiting};
 ghost use Rattle.eval_tasks.specs.Turns.{Turns};
@@ -14,7 +14,7 @@ ghost use Rattle.eval_tasks.specs.Weight.{Falls, body_weight, come, left_of, lef
 ghost use Rattle.eval_tasks.specs.Weight.{task_weight, tasks_weight};
 
 use cell_value::Value;
-use eval_ops::{Halt, Machine};
+use eval_machine::{Halt, Machine};
 use eval_tasks::{Body, Now, Part, Task, Transfer, Turned, Way};
 use eval_textfiles::{write_scalar, write_string};
 use program_tables::Program;

@@ -1,7 +1,7 @@
 use Rattle.std.proofs.Common.{ap, ◌∙◌}
 use Rattle.program_meaning.specs.Tree.{bind}
 use Rattle.program_meaning.specs.Accesses.{of_access}
-use Rattle.eval_ops.specs.Machines.{moment_of}
+use Rattle.eval_machine.specs.Machines.{moment_of}
 use Rattle.eval_tasks.specs.Rest.{here, waiting, located, top_list, lists_of}
 use Rattle.eval_tasks.specs.declared.tasks.Located.TheVariants as locateds
 use Rattle.eval_tasks.proofs.Turning.{turns_same, before_it}

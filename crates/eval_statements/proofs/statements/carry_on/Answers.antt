@@ -1,6 +1,6 @@
 use Rattle.std.proofs.Common.{ap, arith}
 use Rattle.program_meaning.specs.Tree.{bind}
-use Rattle.eval_ops.specs.Machines.{moment_of}
+use Rattle.eval_machine.specs.Machines.{moment_of}
 use Rattle.eval_tasks.specs.Rest.{waiting}
 use Rattle.eval_statements.proofs.StatementsByRow.{other_carried}
 use Rattle.eval_tasks.proofs.StepsFall.{falls_so}

@@ -2,7 +2,7 @@ use Rattle.std.proofs.Common.{arith}
 use Rattle.cell_value.specs.declared.values.Value.{Value}
 use Rattle.program_meaning.specs.Input.{next_char}
 use Rattle.program_meaning.specs.Transfers.{into}
-use Rattle.eval_ops.specs.Machines.{moment_of}
+use Rattle.eval_machine.specs.Machines.{moment_of}
 use Rattle.eval_tasks.specs.Rest.{here, waiting}
 use Rattle.eval_tasks.proofs.StepsFall.{steps_fall, falls_so}
 use Rattle.eval_tasks.proofs.Turning.{did, fails, falls_failed, turns_after, turns_failed}

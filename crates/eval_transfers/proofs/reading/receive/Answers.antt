@@ -1,7 +1,7 @@
 use Rattle.std.proofs.Common.{◌≡◌, Some, None, sym, ap, ◌∙◌, arith}
 use Rattle.program_tables.specs.ProgramRows.{row_at}
 use Rattle.program_meaning.specs.Tree.{Receive}
-use Rattle.eval_ops.specs.Machines.{moment_of}
+use Rattle.eval_machine.specs.Machines.{moment_of}
 use Rattle.eval_rules.specs.Items.{element_in}
 use Rattle.eval_tasks.specs.Rest.{here, waiting}
 use Rattle.eval_tasks.proofs.StepsFall.{falls_so}

@@ -3,7 +3,7 @@ use Rattle.program_meaning.specs.declared.scan.Scanned.{Scanned}
 use Rattle.program_meaning.specs.Input.{scan_on}
 use Rattle.program_meaning.specs.Transfers.{on_scanned}
 use Rattle.program_meaning.specs.Tree.{Scanning}
-use Rattle.eval_ops.specs.Machines.{moment_of}
+use Rattle.eval_machine.specs.Machines.{moment_of}
 use Rattle.eval_tasks.specs.Rest.{here, waiting}
 use Rattle.eval_tasks.proofs.Moves.{begins, comes_then}
 use Rattle.eval_tasks.proofs.StepsFall.{falls_so}
