@@ -1,5 +1,5 @@
 -- What is read and written, by its rows.
-use Rattle.std.proofs.Common.{◌≡◌, ◌+◌, ◌≤◌, ℕ, Ok, Option, Some, None, option_map, refl, ap, ◌∙◌, arith}
+use Rattle.std.proofs.Common.{◌≡◌, ◌+◌, ◌≤◌, ℕ, Ok, Option, Some, None, option_map, refl, ◌∙◌}
 use Rattle.program_tables.specs.declared.rows.AccessRow.{AccessRow}
 use Rattle.program_tables.specs.declared.rows.ItemRow.{ItemRow}
 use Rattle.program_tables.specs.declared.rows.ItemRow.TheVariants as item

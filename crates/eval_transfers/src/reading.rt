@@ -13,6 +13,7 @@ ghost use Rattle.eval_tasks.specs.Weight.{Falls, body_weight, come, left_of, lef
 ghost use Rattle.eval_tasks.specs.Weight.{task_weight};
 
 use crate::writing::{go_after, host_of};
+use cell_value::Value;
 use eval_machine::Machine;
 use eval_rules::{element_of, type_accessed};
 use eval_tasks::{Body, Now, Part, Task, Transfer, Turned, Way};
@@ -135,22 +136,40 @@ fn read_char(
     ensures ready { IsReady machine.new }
 {
     match next_char(machine) {
-        Ok(value) => body.hold(
-            value,
-            Task::Transfer(Transfer::Into {
-                access,
-                of,
-                next,
-                line,
-            }),
-            Now::Begin(Part::Locate {
-                row: access,
-                target: true,
-                line,
-            }),
-        ),
+        Ok(value) => locate_read(body, access, of, next, line, value),
         Err(halt) => body.fail(line, halt),
     }
+}
+
+/// A value was read, and the variable is located that is to get it.
+pub(crate) fn locate_read(
+    body: &mut Body,
+    access: u32,
+    of: u32,
+    next: u32,
+    line: u32,
+    value: Value,
+) -> Turned
+    ensures turns { (p : ProgramRows) (m : Moment) → Turns p
+        (bind (transfers.into p (here body.old.home line) access of next value) (waiting p body.old)) m result
+        body.new m }
+    ensures falls { Falls result (body_weight body.new) (come + tasks_weight body.old) }
+    ensures home { body.new.home ≡ body.old.home }
+{
+    body.hold(
+        value,
+        Task::Transfer(Transfer::Into {
+            access,
+            of,
+            next,
+            line,
+        }),
+        Now::Begin(Part::Locate {
+            row: access,
+            target: true,
+            line,
+        }),
+    )
 }
 
 /// A turn of the reading of an integer.

@@ -1,4 +1,4 @@
-use Rattle.std.proofs.Common.{Bool, sym, arith, if◌then◌else◌}
+use Rattle.std.proofs.Common.{Bool, arith, if◌then◌else◌}
 use Rattle.program_meaning.specs.Acts.{TakeIf}
 use Rattle.program_meaning.specs.Input.{any_item, ends_line, past_item}
 use Rattle.program_meaning.specs.Statements.{nothing}

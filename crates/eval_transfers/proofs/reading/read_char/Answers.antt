@@ -12,16 +12,16 @@ pub returns-in-Ok-clause-turns : goal.returns-in-Ok-clause-turns
 returns-in-Ok-clause-turns c p =
     let m = moment_of c.args.machine.now in
     let m' = moment_of c.next_char.new.machine in
-    turns_after p _ _ m m' m' c.hold.result c.hold.new.self
+    turns_after p _ _ m m' m' c.locate_read.result c.locate_read.new.body
     (did {X = Value} p c.args.line next_char (into p (here c.args.body.now.home c.args.line) c.args.access c.args.of c.args.next)
     (waiting p c.args.body.now) (λ v. v) c.in-Ok.value m m' c.in-Ok.ensures.action)
-    (c.hold.ensures.turns p m')
+    (c.locate_read.ensures.turns p m')
 
 pub returns-in-Ok-clause-falls : goal.returns-in-Ok-clause-falls
 returns-in-Ok-clause-falls c =
     let l = steps_fall {X = Value} (λ v. v) next_char c.in-Ok.value (moment_of c.args.machine.now) (moment_of c.next_char.new.machine)
     c.in-Ok.ensures.action in
-    falls_so c.hold.result _ _ _ _ (λ h. omega (arith, h, l)) c.hold.ensures.falls
+    falls_so c.locate_read.result _ _ _ _ (λ h. omega (arith, h, l)) c.locate_read.ensures.falls
 
 pub returns-in-Err-clause-turns : goal.returns-in-Err-clause-turns
 returns-in-Err-clause-turns c p =

@@ -1,4 +1,4 @@
-use Rattle.std.proofs.Common.{ap, arith}
+use Rattle.std.proofs.Common.{arith}
 use Rattle.program_meaning.specs.declared.scan.Scanned.{Scanned}
 use Rattle.program_meaning.specs.Input.{scan_on}
 use Rattle.program_meaning.specs.Transfers.{on_scanned}
