@@ -2,7 +2,7 @@
 
 ghost use Rattle.std.specs.Prelude.{◌≡◌, ◌+◌, ◌++◌, ◌∷◌, [], ℕ, None, OnOk, IfErr};
 ghost use Rattle.cell_value.specs.declared.values.Value.{Value as CellValue};
-ghost use Rattle.eval_ops.specs.Machines.{DoesAll, IsReady, Moment, machine_state, moment_of};
+ghost use Rattle.eval_machine.specs.Machines.{DoesAll, IsReady, Moment, machine_state, moment_of};
 ghost use Rattle.program_meaning.specs.Actions.{Action, performs};
 ghost use Rattle.program_meaning.specs.Tree.{bind, doing};
 ghost use Rattle.program_meaning.specs.Expressions as expressions;
@@ -13,8 +13,10 @@ ghost use Rattle.eval_tasks.specs.Weight.{Falls, body_weight, come, left_of, lef
 ghost use Rattle.eval_tasks.specs.Weight.{now_weight, tasks_weight};
 
 use cell_value::{Cells, Value};
-use eval_ops::{Halt, Machine, frame_out, passed, routine_out, spend, test};
+use eval_cells::{frame_out, routine_out};
+use eval_machine::{Halt, Machine, passed, spend};
 use eval_tasks::{Body, Located, Now, Part, Task, Turned, Way};
+use eval_values::test;
 use program_tables::Program;
 use program_tables::rows::{ItemRow, Row};
 use std::alloc::Global;

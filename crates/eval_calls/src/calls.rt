@@ -4,7 +4,7 @@ ghost use Rattle.std.specs.Prelude.{◌≡◌, ◌+◌, ◌∷◌, [], ℕ, None
 ghost use Rattle.cell_value.specs.declared.values.Value.{Value as CellValue};
 ghost use Rattle.program_tables.specs.declared.program.Routine.{Routine as RoutineRow};
 ghost use Rattle.program_tables.specs.ProgramRows.{ProgramRows, routine_at};
-ghost use Rattle.eval_ops.specs.Machines.{IsReady, Moment, moment_of};
+ghost use Rattle.eval_machine.specs.Machines.{IsReady, Moment, moment_of};
 ghost use Rattle.program_meaning.specs.Acts.{limit_passed};
 ghost use Rattle.program_meaning.specs.Tree.{Enter, bind};
 ghost use Rattle.eval_tasks.specs.Rest.{at_work, below, from_under, lists_of, resume, returned, tasks_of, top_list};
@@ -15,7 +15,8 @@ ghost use Rattle.eval_tasks.specs.Weight.{tasks_weight};
 
 use crate::actuals::{append, append_all};
 use cell_value::{Cells, Value};
-use eval_ops::{Halt, Machine, frame_out, limit_passed, routine_out};
+use eval_cells::{frame_out, routine_out};
+use eval_machine::{Halt, Machine, limit_passed};
 use eval_tasks::{Body, Next, Now, Part, Pause, Task, Turned, Way};
 use program_tables::Program;
 use std::alloc::Global;

@@ -1,1 +1,2 @@
 mod ExpressionsByRow
+mod LocatedWeighs

@@ -1,13 +1,13 @@
 //! Accesses.
 
-ghost use Rattle.std.specs.Prelude.{◌≡◌, ◌+◌, slice_get};
+ghost use Rattle.std.specs.Prelude.{◌≡◌, ℕ, ◌+◌, slice_get};
 ghost use Rattle.program_tables.specs.ProgramRows.{ProgramRows};
-ghost use Rattle.eval_ops.specs.Machines.{IsReady, Moment, moment_of};
-ghost use Rattle.program_meaning.specs.Tree.{bind, doing};
+ghost use Rattle.eval_machine.specs.Machines.{IsReady, Moment, moment_of};
+ghost use Rattle.program_meaning.specs.Tree.{Locate, Sub, Tree, bind, doing};
 ghost use Rattle.program_meaning.specs.Cells as action;
 ghost use Rattle.program_meaning.specs.Cells.{cell_out, reference_out};
 ghost use Rattle.program_meaning.specs.Heap.{pointed_at as pointed_at_in};
-ghost use Rattle.program_meaning.specs.Accesses.{address, cells_at, of_access, value_at};
+ghost use Rattle.program_meaning.specs.Accesses.{address, cells_at, of_access, on_address, value_at};
 ghost use Rattle.program_meaning.specs.Accesses.{locate_field as field_in, with_record};
 ghost use Rattle.program_meaning.specs.Accesses.{locate_before, with_bounds, with_components, spend as spend_in};
 ghost use Rattle.eval_tasks.specs.Rest.{from, from_under, here, waiting};
@@ -17,11 +17,11 @@ ghost use Rattle.eval_tasks.specs.Weight.{now_weight, tasks_weight};
 
 use cell_value::Value;
 use eval_calls::add_cell;
-use eval_ops::{
-    Machine, cell_out, component, field_at, ordinal_at, pointed_at, pointer_at, read_cells,
-    reference_out, set_at, spend,
-};
+use eval_cells::{cell_out, component, ordinal_at, read_cells, reference_out, set_at};
+use eval_heap::{pointed_at, pointer_at};
+use eval_machine::{Machine, spend};
 use eval_tasks::{Body, Located, Now, Operand, Part, Task, Turned, Way};
+use eval_variants::field_at;
 use program_meaning::Components;
 use program_tables::Program;
 use program_tables::rows::{AccessRow, Row, TypeRow};
@@ -86,43 +86,25 @@ fn begin_access(
             array,
             ..
         } => {
-            if access < row {
-                body.wait(
-                    Task::Located(Located::Index { index, array, line }),
-                    Now::Begin(Part::Locate {
-                        row: access,
-                        target,
-                        line,
-                    }),
-                )
-            } else {
-                body.no_row()
-            }
+            let component = Located::Index { index, array, line };
+            locate_first(body, component, access, row, target, line)
         }
         AccessRow::Field { access, field, .. } => {
-            if access < row {
-                body.wait(
-                    Task::Located(Located::Field {
-                        field,
-                        target,
-                        line,
-                    }),
-                    Now::Begin(Part::Locate {
-                        row: access,
-                        target,
-                        line,
-                    }),
-                )
-            } else {
-                body.no_row()
-            }
+            let selected = Located::Field {
+                field,
+                target,
+                line,
+            };
+            locate_first(body, selected, access, row, target, line)
         }
         AccessRow::Within {
             record: place,
             field,
             ..
         } => within(body, alloc, program, machine, place, field, target, line),
-        AccessRow::Dereference { access, .. } => dereference(body, access, row, target, line),
+        AccessRow::Dereference { access, .. } => {
+            locate_first(body, Located::Pointed { line }, access, row, target, line)
+        }
     }
 }
 
@@ -229,18 +211,29 @@ pub fn continue_access(
     }
 }
 
-/// The variable to which a pointer points (6.5.4): the access to the pointer begins, if its row stands before.
-fn dereference(body: &mut Body, access: u32, row: u32, target: bool, line: u32) -> Turned
-    ensures turns { (p : ProgramRows) (m : Moment) → Turns p (bind (locate_before row access target
-        (here body.old.home line) (λ addr. spend_in (here body.old.home line)
-        (doing line (pointed_at_in addr) address))) (waiting p body.old)) m result body.new m }
+/// The access begins to which a selector is put (6.5.3, 6.5.4), if its row stands before the selector's. What waits for
+/// it goes on with its address.
+#[inline(always)]
+fn locate_first(
+    body: &mut Body,
+    located: Located,
+    access: u32,
+    row: u32,
+    target: bool,
+    line: u32,
+) -> Turned
+    ensures turns { (p : ProgramRows) (go : ℕ → Tree) (m : Moment)
+        → from_under p body.old (Now.Begin (Part.Locate access target line)) (Task.Located located)
+        ≡ bind (Sub (Locate access target (here body.old.home line)) (on_address go)) (waiting p body.old)
+        → Turns p (bind (locate_before row access target (here body.old.home line) go) (waiting p body.old)) m result
+        body.new m }
     ensures falls { Falls result (body_weight body.new)
         (part_weight (Part.Locate row target line) + tasks_weight body.old) }
     ensures home { body.new.home ≡ body.old.home }
 {
     if access < row {
         body.wait(
-            Task::Located(Located::Pointed { line }),
+            Task::Located(located),
             Now::Begin(Part::Locate {
                 row: access,
                 target,

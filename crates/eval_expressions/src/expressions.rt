@@ -2,7 +2,7 @@
 
 ghost use Rattle.std.specs.Prelude.{◌≡◌, ◌+◌, ◌*◌};
 ghost use Rattle.program_tables.specs.ProgramRows.{ProgramRows};
-ghost use Rattle.eval_ops.specs.Machines.{IsReady, Moment, moment_of};
+ghost use Rattle.eval_machine.specs.Machines.{IsReady, Moment, moment_of};
 ghost use Rattle.program_meaning.specs.Tree.{bind};
 ghost use Rattle.program_meaning.specs.Expressions.{of_expression};
 ghost use Rattle.eval_rules.specs.Operators.{dyadic_of};
@@ -16,13 +16,15 @@ use crate::accesses::locate_component;
 use crate::sets::{gather_from, gather_member, give_string};
 use cell_value::{OpFault, Value, arith};
 use eval_calls::begin_call;
-use eval_ops::{
-    Machine, combine_sets, compare_ordinals, compare_pointers, compare_sets, is_in, is_true,
-    no_members, ordinal_function, passed, sign, spend, truth,
-};
+use eval_heap::compare_pointers;
+use eval_machine::{Machine, passed, spend};
 use eval_rules::{Dyadic, combine, constant, dyadic_in, type_accessed};
 use eval_tasks::{Body, Located, Now, Operand, Part, Task, Turned, Way};
 use eval_textfiles::{at_end, at_line_end};
+use eval_values::{
+    combine_sets, compare_ordinals, compare_sets, is_in, is_true, no_members, ordinal_function,
+    sign, truth,
+};
 use program_tables::Program;
 use program_tables::rows::{ExpressionRow, Row};
 use std::alloc::Global;

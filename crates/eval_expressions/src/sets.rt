@@ -2,7 +2,7 @@
 
 ghost use Rattle.std.specs.Prelude.{◌≡◌, ◌+◌};
 ghost use Rattle.program_tables.specs.ProgramRows.{ProgramRows, text_at};
-ghost use Rattle.eval_ops.specs.Machines.{Moment};
+ghost use Rattle.eval_machine.specs.Machines.{Moment};
 ghost use Rattle.program_meaning.specs.Tree.{Cells as CellsOf, Ret, Scalar, Sub, bind};
 ghost use Rattle.program_meaning.specs.Tree as parts;
 ghost use Rattle.program_meaning.specs.Values as values;
@@ -13,8 +13,9 @@ ghost use Rattle.eval_tasks.specs.Turns.{Turns};
 ghost use Rattle.eval_tasks.specs.Weight.{Falls, body_weight, come, part_weight, task_weight, tasks_weight};
 
 use cell_value::{OpFault, Order, Value};
-use eval_ops::{add_members, compare_texts, passed, string_of};
+use eval_machine::passed;
 use eval_tasks::{Body, Now, Operand, Part, Task, Turned, Way};
+use eval_values::{add_members, compare_texts, string_of};
 use program_tables::Program;
 use program_tables::rows::{ItemRow, Row};
 use std::alloc::Global;

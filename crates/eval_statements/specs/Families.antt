@@ -27,6 +27,16 @@ of_conditional p home row (statements.Case line index choices) =
     of_statement p row (here home line) (statements.Case line index choices)
 of_conditional p home row s = no_row
 
+-- a repetitive statement (6.8.3.6) whose line is told
+abbrev pub of_repetitive : ProgramRows → Home → (row : ℕ) → StatementRow → Tree
+of_repetitive p home row (statements.Repeat line list condition) =
+    of_statement p row (here home line) (statements.Repeat line list condition)
+of_repetitive p home row (statements.While line condition body) =
+    of_statement p row (here home line) (statements.While line condition body)
+of_repetitive p home row (statements.For line initial turns) =
+    of_statement p row (here home line) (statements.For line initial turns)
+of_repetitive p home row s = no_row
+
 -- a statement on a variable of the heap (6.6.5.3) whose line is told
 abbrev pub of_heap : ProgramRows → Home → (row : ℕ) → StatementRow → Tree
 of_heap p home row (statements.New line access of') =

@@ -4,7 +4,7 @@ ghost use Rattle.std.specs.Prelude.{◌≡◌, ◌+◌, if◌then◌else◌};
 ghost use Rattle.program_tables.specs.ProgramRows.{ProgramRows};
 ghost use Rattle.program_meaning.specs.Tree.{bind};
 ghost use Rattle.program_meaning.specs.Statements as statements;
-ghost use Rattle.eval_ops.specs.Machines.{IsReady, Moment, moment_of};
+ghost use Rattle.eval_machine.specs.Machines.{IsReady, Moment, moment_of};
 ghost use Rattle.eval_tasks.specs.Rest.{from, from_under, here, waiting};
 ghost use Rattle.eval_tasks.specs.Turns.{Turns};
 ghost use Rattle.eval_tasks.specs.Weight.{Falls, body_weight, come, left_of, left_with, task_weight, tasks_weight};
@@ -12,10 +12,11 @@ ghost use Rattle.eval_tasks.specs.Weight.{Falls, body_weight, come, left_of, lef
 use crate::counting::{first_turn, turn_ended};
 use crate::statements::by_value;
 use cell_value::{Kind, Value};
-use eval_ops::{Halt, Machine, is_true};
+use eval_machine::{Halt, Machine};
 use eval_rules::{Case, case_of};
 use eval_tasks::{Body, Choice, Next, Now, Part, Task, Turned, Way};
 use eval_textfiles::end_line;
+use eval_values::is_true;
 use program_tables::Program;
 use std::alloc::Global;
 

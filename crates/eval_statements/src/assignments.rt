@@ -1,14 +1,16 @@
 //! Assignments.
 
 ghost use Rattle.std.specs.Prelude.{◌≡◌, ◌+◌};
-ghost use Rattle.eval_ops.specs.Machines.{IsReady, Moment, moment_of};
+ghost use Rattle.eval_machine.specs.Machines.{IsReady, Moment, moment_of};
 ghost use Rattle.eval_tasks.specs.Rest.{from_under};
 ghost use Rattle.eval_tasks.specs.Turns.{Turns};
 ghost use Rattle.eval_tasks.specs.Weight.{Falls, body_weight, come, left_of, left_with, task_weight, tasks_weight};
 
 use cell_value::Value;
-use eval_ops::{Machine, assign_to, tag_accessed, write_cells};
+use eval_cells::write_cells;
+use eval_machine::Machine;
 use eval_tasks::{Body, Now, Part, Task, Turned, Way};
+use eval_variants::{assign_to, tag_accessed};
 use program_tables::Program;
 use std::alloc::Global;
 

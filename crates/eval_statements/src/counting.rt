@@ -5,18 +5,20 @@ ghost use Rattle.cell_value.specs.declared.values.Value.TheVariants as CellValue
 ghost use Rattle.program_tables.specs.ProgramRows.{ProgramRows, row_at};
 ghost use Rattle.program_meaning.specs.Tree.{Count, Exec, Sub, bind};
 ghost use Rattle.program_meaning.specs.Statements as statements;
-ghost use Rattle.eval_ops.specs.Machines.{Gives, IsReady, Moment, moment_of};
+ghost use Rattle.eval_machine.specs.Machines.{Gives, IsReady, Moment, moment_of};
 ghost use Rattle.eval_tasks.specs.Rest.{counted, here, waiting, with_numbers};
 ghost use Rattle.eval_rules.specs.Counting.{turns_row};
 ghost use Rattle.eval_tasks.specs.Turns.{Turns};
 ghost use Rattle.eval_tasks.specs.Weight.{Falls, body_weight, come, left_of, left_with, tasks_weight};
 
 use cell_value::Value;
-use eval_ops::{Halt, Machine, moved, passed, test, write_cell};
+use eval_cells::moved;
+use eval_machine::{Halt, Machine, passed, write_cell};
 use eval_rules::{
     Counting, Span, counting_at, has_turn, is_last, last_value, turn_after, turn_value,
 };
 use eval_tasks::{Body, Next, Now, Part, Task, Turned};
+use eval_values::test;
 use program_tables::Program;
 use program_tables::rows::TypeRow;
 use std::alloc::Global;

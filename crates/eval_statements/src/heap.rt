@@ -5,14 +5,15 @@ ghost use Rattle.program_tables.specs.ProgramRows.{size_of};
 ghost use Rattle.program_meaning.specs.Tree.{bind, doing};
 ghost use Rattle.program_meaning.specs.Heap as action;
 ghost use Rattle.program_meaning.specs.Statements.{point};
-ghost use Rattle.eval_ops.specs.Machines.{IsReady, moment_of};
+ghost use Rattle.eval_machine.specs.Machines.{IsReady, moment_of};
 ghost use Rattle.eval_statements.specs.Families.{of_heap};
 ghost use Rattle.eval_tasks.specs.Rest.{from_under, here, waiting};
 ghost use Rattle.eval_tasks.specs.Turns.{Turns};
 ghost use Rattle.eval_tasks.specs.Weight.{Falls, come, left_of, left_with, task_weight, tasks_weight};
 
 use cell_value::Value;
-use eval_ops::{Machine, dispose, make_variable, write_cell};
+use eval_heap::{dispose, make_variable};
+use eval_machine::{Machine, write_cell};
 use eval_tasks::{Body, Now, Part, Task, Turned, Way};
 use program_tables::Program;
 use program_tables::rows::StatementRow;

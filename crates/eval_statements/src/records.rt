@@ -2,7 +2,7 @@
 
 ghost use Rattle.std.specs.Prelude.{◌≡◌, ◌+◌};
 ghost use Rattle.program_tables.specs.ProgramRows.{ProgramRows};
-ghost use Rattle.eval_ops.specs.Machines.{Moment};
+ghost use Rattle.eval_machine.specs.Machines.{Moment};
 ghost use Rattle.eval_tasks.specs.Records.{SameFrame};
 ghost use Rattle.eval_tasks.specs.Rest.{from, from_under};
 ghost use Rattle.eval_tasks.specs.Turns.{Turns};

@@ -6,16 +6,18 @@ ghost use Rattle.program_meaning.specs.Acts.{Spend};
 ghost use Rattle.program_meaning.specs.Tree.{Do, Jump, Line, Ret, bind, doing};
 ghost use Rattle.program_meaning.specs.Cells.{frame_out};
 ghost use Rattle.program_meaning.specs.Statements as statements;
-ghost use Rattle.eval_ops.specs.Machines.{IsReady, Moment, moment_of};
-ghost use Rattle.eval_statements.specs.Families.{of_conditional, of_procedure};
+ghost use Rattle.eval_machine.specs.Machines.{IsReady, Moment, moment_of};
+ghost use Rattle.eval_statements.specs.Families.{of_conditional, of_procedure, of_repetitive};
 ghost use Rattle.eval_tasks.specs.Rest.{carry_with, from, from_under, here, waiting};
 ghost use Rattle.eval_tasks.specs.Turns.{Turns};
 ghost use Rattle.eval_tasks.specs.Weight.{Falls, body_weight, come, left_of, left_with, now_weight, operand_most};
 ghost use Rattle.eval_tasks.specs.Weight.{part_weight, task_weight, tasks_weight};
 
 use crate::heap::heap_statement;
+use crate::records::begin_record;
 use eval_calls::begin_call;
-use eval_ops::{Machine, frame_out, spend};
+use eval_cells::frame_out;
+use eval_machine::{Machine, spend};
 use eval_rules::{element_of, line_of, turns_of};
 use eval_tasks::{Body, Choice, Next, Now, Part, Pause, Task, Turned, Way};
 use eval_transfers::transfer_statement;
@@ -189,22 +191,14 @@ fn carry_on(
         StatementRow::If { .. } => conditional(body, statement),
         StatementRow::IfElse { .. } => conditional(body, statement),
         StatementRow::Case { .. } => conditional(body, statement),
-        StatementRow::Repeat { line, .. } => body.go(Now::Begin(Part::Turn { row, line })),
-        StatementRow::While { line, .. } => body.go(Now::Begin(Part::Turn { row, line })),
-        StatementRow::For {
-            line,
-            initial,
-            turns,
-        } => { begin_for(body, program, line, initial, turns) }
+        StatementRow::Repeat { .. } => repetitive(body, program, row, statement),
+        StatementRow::While { .. } => repetitive(body, program, row, statement),
+        StatementRow::For { .. } => repetitive(body, program, row, statement),
         StatementRow::With {
             line,
             records,
             body: inner,
-        } => body.go(Now::Begin(Part::Establish {
-            at: records,
-            body: inner,
-            line,
-        })),
+        } => begin_record(body, program, records, inner, line),
         StatementRow::Read { .. } => transfer_statement(body, machine, statement),
         StatementRow::Write { .. } => transfer_statement(body, machine, statement),
         StatementRow::Page { .. } => transfer_statement(body, machine, statement),
@@ -329,6 +323,26 @@ pub(crate) fn by_value(body: &mut Body, line: u32, expression: u32, choice: Choi
         line,
     };
     body.wait(Task::Choice(choice), Now::Begin(value))
+}
+
+/// A repetitive statement (6.8.3.6) whose line is told: its first turn begins, or the bounds of a for statement.
+fn repetitive(body: &mut Body, program: &Program, row: u32, statement: StatementRow) -> Turned
+    ensures turns { (m : Moment) → Turns program.now
+        (bind (of_repetitive program.now body.old.home row statement) (waiting program.now body.old)) m result
+        body.new m }
+    ensures falls { Falls result (body_weight body.new) (come + 10 + tasks_weight body.old) }
+    ensures home { body.new.home ≡ body.old.home }
+{
+    match statement {
+        StatementRow::Repeat { line, .. } => body.go(Now::Begin(Part::Turn { row, line })),
+        StatementRow::While { line, .. } => body.go(Now::Begin(Part::Turn { row, line })),
+        StatementRow::For {
+            line,
+            initial,
+            turns,
+        } => { begin_for(body, program, line, initial, turns) }
+        _ => body.no_row(),
+    }
 }
 
 /// A for statement begins: both bounds are evaluated before the first turn.

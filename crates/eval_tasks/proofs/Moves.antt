@@ -11,7 +11,7 @@ use Rattle.program_meaning.specs.Actions.{Action, Give, Fail, Perform, Performed
 use Rattle.program_meaning.specs.Tree.{Out, Part, Tree, Ret, Halt, Do, Sub, Enter, Line, way_of, bind, doing}
 use Rattle.program_meaning.specs.Layer.{layer}
 use Rattle.program_meaning.specs.Run.{Ended, Halted}
-use Rattle.eval_ops.specs.Machines.{Moment, ActDone, ActRefused, ActionFinished, ActionStopped}
+use Rattle.eval_machine.specs.Machines.{Moment, ActDone, ActRefused, ActionFinished, ActionStopped}
 use Rattle.eval_tasks.specs.Stops.{Stop, AtLine, AtCall, AtEnd, at_call, on_act, next_stop, Comes, StopsAt}
 
 pub bind_ret : (t : Tree) → bind t Ret ≡ t

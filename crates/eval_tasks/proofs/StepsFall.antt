@@ -5,8 +5,8 @@ use Rattle.program_meaning.specs.State.{State}
 use Rattle.program_meaning.specs.Acts.{Act, Answer, Done, Went, Stops, perform}
 use Rattle.program_meaning.specs.Actions.{Action, Give, Fail, Perform, Performed, Finished, Stopped, before, follow, performs}
 use Rattle.program_meaning.proofs.ActsTakeSteps.{Acted, acted, cost}
-use Rattle.eval_ops.specs.declared.halt.Halt.{Halt}
-use Rattle.eval_ops.specs.Machines.{Moment, DoesAll}
+use Rattle.eval_machine.specs.declared.halt.Halt.{Halt}
+use Rattle.eval_machine.specs.Machines.{Moment, DoesAll}
 use Rattle.eval_tasks.specs.declared.tasks.Pause.{Pause}
 use Rattle.eval_tasks.specs.Weight.{Falls}
 

@@ -12,10 +12,10 @@ use Rattle.program_meaning.specs.Accesses.{spend, on_address, locate_before, no_
 use Rattle.program_meaning.specs.Layer.{layer}
 use Rattle.program_meaning.proofs.ActsTakeSteps.{Acted, acted}
 use Rattle.program_meaning.specs.Run.{Halted}
-use Rattle.eval_ops.specs.declared.halt.Halt.{Halt}
-use Rattle.eval_ops.specs.declared.halt.Halt.TheVariants.{Fault, OutOfSteps, Limited, Memory}
-use Rattle.eval_ops.specs.Machines.{Moment, ActionStopped, Does, DoesAll, Gives}
-use Rattle.eval_ops.proofs.ActionsCompose.{does_act}
+use Rattle.eval_machine.specs.declared.halt.Halt.{Halt}
+use Rattle.eval_machine.specs.declared.halt.Halt.TheVariants.{Fault, OutOfSteps, Limited, Memory}
+use Rattle.eval_machine.specs.Machines.{Moment, ActionStopped, Does, DoesAll, Gives}
+use Rattle.eval_machine.proofs.ActionsCompose.{does_act}
 use Rattle.eval_tasks.specs.Stops.{AtCall, AtEnd, Comes, StopsAt}
 use Rattle.eval_tasks.specs.Rest.{below, lists_of, resume, tasks_of, top_list, values_of}
 use Rattle.cell_value.specs.declared.values.Value.{Value}

@@ -9,7 +9,7 @@ use Rattle.program_meaning.specs.Acts.{Spend, Done, Went, Stops, perform, limit_
 use Rattle.program_meaning.specs.Tree.{Out, Tree, Ret, Halt, Do, Sub, Enter, Line, way_of, bind}
 use Rattle.program_meaning.specs.Layer.{layer}
 use Rattle.program_meaning.specs.Run.{End, Ended, Halted}
-use Rattle.eval_ops.specs.Machines.{Moment}
+use Rattle.eval_machine.specs.Machines.{Moment}
 
 -- what a body stops at, and what it has still to do then
 pub data Stop : Type 0 where

@@ -9,9 +9,9 @@ use Rattle.program_meaning.specs.State.{State}
 use Rattle.program_meaning.specs.Acts.{limit_passed}
 use Rattle.program_meaning.specs.Tree.{Out, Nothing, Scalar, Jump, Tree}
 use Rattle.program_meaning.specs.Run.{End, Ended, Halted}
-use Rattle.eval_ops.specs.Machines.{Moment}
-use Rattle.eval_ops.specs.declared.halt.Halt.{Halt}
-use Rattle.eval_ops.specs.declared.halt.Halt.TheVariants as halts
+use Rattle.eval_machine.specs.Machines.{Moment}
+use Rattle.eval_machine.specs.declared.halt.Halt.{Halt}
+use Rattle.eval_machine.specs.declared.halt.Halt.TheVariants as halts
 use Rattle.eval_tasks.specs.Stops.{Stop, AtLine, AtCall, AtEnd, Comes, StopsAt}
 use Rattle.eval_tasks.specs.Rest.{below, lists_of, rest_of, resume, tasks_of, top_list, values_of, waiting}
 use Rattle.eval_tasks.specs.declared.body.Body.{Body}

@@ -1,6 +1,6 @@
 -- What a body has still to do, as a number that falls from turn to turn.
 use Rattle.std.specs.Prelude.{ℕ, ◌+◌, ◌-◌, ◌*◌, ◌<◌, sum_by, Result, Ok, Option, None}
-use Rattle.eval_ops.specs.declared.machine.Machine.{Machine}
+use Rattle.eval_machine.specs.declared.machine.Machine.{Machine}
 use Rattle.eval_tasks.specs.declared.body.Body.{Body}
 use Rattle.eval_tasks.specs.declared.tasks.Part.{Part}
 use Rattle.eval_tasks.specs.declared.tasks.Part.TheVariants as part
@@ -10,7 +10,7 @@ use Rattle.eval_tasks.specs.declared.tasks.Operand.TheVariants as operands
 use Rattle.eval_tasks.specs.declared.tasks.Choice.TheVariants as choices
 use Rattle.eval_tasks.specs.declared.tasks.Located.TheVariants as locateds
 use Rattle.eval_tasks.specs.declared.tasks.Next.TheVariants as nexts
-use Rattle.eval_ops.specs.declared.halt.Halt.{Halt}
+use Rattle.eval_machine.specs.declared.halt.Halt.{Halt}
 use Rattle.eval_tasks.specs.declared.tasks.Pause.{Pause}
 use Rattle.eval_tasks.specs.declared.tasks.Task.{Task}
 use Rattle.eval_tasks.specs.declared.tasks.Task.TheVariants as tasks

@@ -9,7 +9,7 @@ ghost use Rattle.program_meaning.specs.Tree.{Out, bind, doing, Cells as CellsOut
 ghost use Rattle.program_meaning.specs.Accesses.{address, no_row, scalar};
 ghost use Rattle.program_meaning.specs.Statements.{nothing};
 ghost use Rattle.program_meaning.specs.Run.{Ended, whole};
-ghost use Rattle.eval_ops.specs.Machines.{DoesAll, Moment};
+ghost use Rattle.eval_machine.specs.Machines.{DoesAll, Moment};
 ghost use Rattle.eval_tasks.specs.Rest.{at_work, below, from, from_under, home_below, lists_of, lists_below};
 ghost use Rattle.eval_tasks.specs.Rest.{rest_of, resume};
 ghost use Rattle.eval_tasks.specs.Rest.{tasks_of, top, top_list, values_below, values_of, waiting};
@@ -19,7 +19,7 @@ ghost use Rattle.eval_tasks.specs.Weight.{Falls, body_weight, come, left_with, n
 use crate::records::Records;
 use crate::tasks::{Choice, Home, Located, Next, Now, Operand, Part, Pause, Task, Transfer, Way};
 use cell_value::{Cells, Kind, Value, WayOut};
-use eval_ops::Halt;
+use eval_machine::Halt;
 use std::alloc::Global;
 use std::mem::size_of;
 

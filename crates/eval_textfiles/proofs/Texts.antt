@@ -5,11 +5,11 @@ use Rattle.std.proofs.lemmas.List.{length-map, take-map}
 use Rattle.program_meaning.specs.Actions.{Action, ◌>>=◌, performs}
 use Rattle.program_meaning.specs.Input.{space}
 use Rattle.program_meaning.specs.Output.{give, gives, spaces, kept, in_width}
-use Rattle.eval_ops.specs.declared.halt.Halt.{Halt}
-use Rattle.eval_ops.specs.Machines.{Moment, ActionFinished, DoesAll}
+use Rattle.eval_machine.specs.declared.halt.Halt.{Halt}
+use Rattle.eval_machine.specs.Machines.{Moment, ActionFinished, DoesAll}
 use Rattle.eval_textfiles.specs.Output.{give_one, text_by}
-use Rattle.eval_ops.proofs.ActionsCompose.{CameTo, does_bind, does_stop}
-use Rattle.eval_ops.proofs.Lists.{drop_get}
+use Rattle.eval_machine.proofs.ActionsCompose.{CameTo, does_bind, does_stop}
+use Rattle.eval_machine.proofs.Lists.{drop_get}
 
 give_first : (c : Option ℕ) (cs : List (Option ℕ)) → gives (c ∷ cs) ≡ (give_one c >>= λ _. gives cs)
 give_first (Some byte) cs = refl

@@ -1,15 +1,16 @@
 //! Actions on the input: eof and eoln, chars, integers turn by turn, and the rest of a line (6.6.6.5, 6.9.1, 6.9.2).
 
-ghost use Rattle.std.specs.Prelude.{◌≡◌, ◌<◌, ◌≤◌, length, slice_get, OnOk, Some, IfOk};
+ghost use Rattle.std.specs.Prelude.{◌≡◌, ◌<◌, slice_get, Some, IfOk};
 ghost use Rattle.program_meaning.specs.Acts.{TakeIf, take_item};
 ghost use Rattle.program_meaning.specs.Actions.{act, performs};
 ghost use Rattle.program_meaning.specs.declared.scan.Scan.TheVariants.{Blanks, Digits};
 ghost use Rattle.program_meaning.specs.Input as input;
 ghost use Rattle.eval_textfiles.specs.Input.{after_sign, looked_at, wants};
-ghost use Rattle.eval_ops.specs.Machines.{Does, DoesAll, Gives, IsReady, machine_state, moment_of};
+ghost use Rattle.eval_machine.specs.Machines.{Does, DoesAll, Gives, IsReady, machine_state, moment_of};
 
 use cell_value::{Kind, Touch, Value};
-use eval_ops::{Halt, Machine, note, truth};
+use eval_machine::{Halt, Machine, note};
+use eval_values::truth;
 use program_meaning::{Scan, Scanned};
 
 /// Which item is taken once it was looked at.

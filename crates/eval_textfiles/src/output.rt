@@ -1,14 +1,14 @@
 //! Actions on the output: what is written of a value, byte by byte, and the ends of lines and pages (6.9.3 to 6.9.5).
 
-ghost use Rattle.std.specs.Prelude.{◌≡◌, ℕ, Option, Some, List, map, codes, take, if◌then◌else◌};
-ghost use Rattle.program_meaning.specs.Acts.{GiveByte, perform};
+ghost use Rattle.std.specs.Prelude.{◌≡◌, ℕ, Option, Some, map, take, if◌then◌else◌};
 ghost use Rattle.program_meaning.specs.Actions.{performs};
 ghost use Rattle.program_meaning.specs.Output as output;
 ghost use Rattle.eval_textfiles.specs.Output.{give_one, text_by};
-ghost use Rattle.eval_ops.specs.Machines.{Does, DoesAll, Gives, IsReady, machine_state, moment_of};
+ghost use Rattle.eval_machine.specs.Machines.{DoesAll, Gives, IsReady, machine_state, moment_of};
 
 use cell_value::{Cells, Kind, Touch, Value};
-use eval_ops::{Halt, Machine, is_true, note};
+use eval_machine::{Halt, Machine, note};
+use eval_values::is_true;
 use itoa::Buffer;
 use program_tables::rows::{BOOLEAN, CHAR};
 

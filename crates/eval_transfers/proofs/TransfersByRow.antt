@@ -1,5 +1,5 @@
 -- What is read and written, by its rows.
-use Rattle.std.proofs.Common.{◌≡◌, ◌+◌, ◌≤◌, ℕ, Ok, Option, Some, None, option_map, refl, ap, ◌∙◌, arith}
+use Rattle.std.proofs.Common.{◌≡◌, ◌+◌, ◌≤◌, ℕ, Ok, Option, Some, None, option_map, refl, ◌∙◌}
 use Rattle.program_tables.specs.declared.rows.AccessRow.{AccessRow}
 use Rattle.program_tables.specs.declared.rows.ItemRow.{ItemRow}
 use Rattle.program_tables.specs.declared.rows.ItemRow.TheVariants as item
@@ -20,7 +20,7 @@ use Rattle.program_meaning.specs.Packing.{with_array}
 use Rattle.program_meaning.specs.Statements.{nothing}
 use Rattle.program_meaning.specs.Transfers.{of_printed, of_received, received}
 use Rattle.program_meaning.specs.Tree.{Here, Tree}
-use Rattle.eval_ops.specs.Machines.{DoesAll, Moment}
+use Rattle.eval_machine.specs.Machines.{DoesAll, Moment}
 use Rattle.eval_rules.specs.Arrays.{array_in, components_in, components_of}
 use Rattle.eval_rules.specs.Items.{element_in}
 use Rattle.eval_tasks.proofs.StepsFall.{first_falls}

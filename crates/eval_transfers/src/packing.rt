@@ -5,13 +5,14 @@ ghost use Rattle.program_tables.specs.ProgramRows.{ProgramRows, row_at};
 ghost use Rattle.program_meaning.specs.Packing as arrays;
 ghost use Rattle.program_meaning.specs.Statements as meaning;
 ghost use Rattle.program_meaning.specs.Tree.{bind, doing};
-ghost use Rattle.eval_ops.specs.Machines.{IsReady, Moment, moment_of};
+ghost use Rattle.eval_machine.specs.Machines.{IsReady, Moment, moment_of};
 ghost use Rattle.eval_tasks.specs.Rest.{from_under, here, waiting};
 ghost use Rattle.eval_tasks.specs.Turns.{Turns};
 ghost use Rattle.eval_tasks.specs.Weight.{Falls, body_weight, come, left_of, left_with, tasks_weight};
 
 use cell_value::Value;
-use eval_ops::{Machine, copy_cells, first_moved};
+use eval_cells::{copy_cells, first_moved};
+use eval_machine::Machine;
 use eval_rules::array_of;
 use eval_tasks::{Body, Now, Part, Task, Turned, Way};
 use program_meaning::Components;

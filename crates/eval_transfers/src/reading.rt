@@ -6,17 +6,19 @@ ghost use Rattle.program_meaning.specs.Input as input;
 ghost use Rattle.program_meaning.specs.Output as output;
 ghost use Rattle.program_meaning.specs.Transfers as transfers;
 ghost use Rattle.program_meaning.specs.Tree.{bind, doing};
-ghost use Rattle.eval_ops.specs.Machines.{IsReady, Moment, moment_of};
+ghost use Rattle.eval_machine.specs.Machines.{IsReady, Moment, moment_of};
 ghost use Rattle.eval_tasks.specs.Rest.{from, from_under, here, waiting};
 ghost use Rattle.eval_tasks.specs.Turns.{Turns};
 ghost use Rattle.eval_tasks.specs.Weight.{Falls, body_weight, come, left_of, left_with, part_weight, tasks_weight};
 ghost use Rattle.eval_tasks.specs.Weight.{task_weight};
 
 use crate::writing::{go_after, host_of};
-use eval_ops::{Machine, assign_to, tag_accessed};
+use cell_value::Value;
+use eval_machine::Machine;
 use eval_rules::{element_of, type_accessed};
 use eval_tasks::{Body, Now, Part, Task, Transfer, Turned, Way};
 use eval_textfiles::{next_char, past_item, scan_on};
+use eval_variants::{assign_to, tag_accessed};
 use program_meaning::{Scan, Scanned};
 use program_tables::Program;
 use program_tables::rows::{CHAR, Row};
@@ -134,22 +136,40 @@ fn read_char(
     ensures ready { IsReady machine.new }
 {
     match next_char(machine) {
-        Ok(value) => body.hold(
-            value,
-            Task::Transfer(Transfer::Into {
-                access,
-                of,
-                next,
-                line,
-            }),
-            Now::Begin(Part::Locate {
-                row: access,
-                target: true,
-                line,
-            }),
-        ),
+        Ok(value) => locate_read(body, access, of, next, line, value),
         Err(halt) => body.fail(line, halt),
     }
+}
+
+/// A value was read, and the variable is located that is to get it.
+pub(crate) fn locate_read(
+    body: &mut Body,
+    access: u32,
+    of: u32,
+    next: u32,
+    line: u32,
+    value: Value,
+) -> Turned
+    ensures turns { (p : ProgramRows) (m : Moment) → Turns p
+        (bind (transfers.into p (here body.old.home line) access of next value) (waiting p body.old)) m result
+        body.new m }
+    ensures falls { Falls result (body_weight body.new) (come + tasks_weight body.old) }
+    ensures home { body.new.home ≡ body.old.home }
+{
+    body.hold(
+        value,
+        Task::Transfer(Transfer::Into {
+            access,
+            of,
+            next,
+            line,
+        }),
+        Now::Begin(Part::Locate {
+            row: access,
+            target: true,
+            line,
+        }),
+    )
 }
 
 /// A turn of the reading of an integer.

@@ -7,13 +7,13 @@ ghost use Rattle.program_meaning.specs.Packing as arrays;
 ghost use Rattle.program_meaning.specs.Statements as meaning;
 ghost use Rattle.program_meaning.specs.Tree as parts;
 ghost use Rattle.program_meaning.specs.Tree.{Ret, Sub, bind};
-ghost use Rattle.eval_ops.specs.Machines.{IsReady, Moment, moment_of};
+ghost use Rattle.eval_machine.specs.Machines.{IsReady, Moment, moment_of};
 ghost use Rattle.eval_tasks.specs.Rest.{here, waiting};
 ghost use Rattle.eval_tasks.specs.Turns.{Turns};
 ghost use Rattle.eval_tasks.specs.Weight.{Falls, body_weight, come, left_of, left_with, tasks_weight};
 ghost use Rattle.eval_transfers.specs.Families.{of_transfer};
 
-use eval_ops::Machine;
+use eval_machine::Machine;
 use eval_tasks::{Body, Next, Now, Part, Task, Turned};
 use eval_textfiles::end_page;
 use program_tables::rows::StatementRow;

@@ -6,15 +6,16 @@ ghost use Rattle.program_meaning.specs.Actions.{Action, performs};
 ghost use Rattle.program_meaning.specs.Output as output;
 ghost use Rattle.program_meaning.specs.Transfers as transfers;
 ghost use Rattle.program_meaning.specs.Tree.{Tree, bind, doing};
-ghost use Rattle.eval_ops.specs.Machines.{DoesAll, IsReady, Moment, moment_of};
+ghost use Rattle.eval_machine.specs.Machines.{DoesAll, IsReady, Moment, moment_of};
 ghost use Rattle.eval_tasks.specs.Rest.{below, from, from_under, here, lists_of, resume, tasks_of, top_list};
 ghost use Rattle.eval_tasks.specs.Rest.{values_of, waiting};
 ghost use Rattle.eval_tasks.specs.Turns.{Turns};
 ghost use Rattle.eval_tasks.specs.Weight.{Falls, body_weight, come, left_of, left_with, now_weight, part_weight};
 ghost use Rattle.eval_tasks.specs.Weight.{task_weight, tasks_weight};
 
+use crate::reading::locate_read;
 use cell_value::Value;
-use eval_ops::{Halt, Machine};
+use eval_machine::{Halt, Machine};
 use eval_tasks::{Body, Now, Part, Task, Transfer, Turned, Way};
 use eval_textfiles::{write_scalar, write_string};
 use program_tables::Program;
@@ -69,26 +70,40 @@ fn print_item(body: &mut Body, item: ItemRow, line: u32) -> Turned
     ensures home { body.new.home ≡ body.old.home }
 {
     match item {
-        ItemRow::Written { value, of, next } => body.wait(
-            Task::Transfer(Transfer::Written { of, next, line }),
-            Now::Begin(Part::Eval { row: value, line }),
-        ),
+        ItemRow::Written { value, of, next } => {
+            evaluate(body, value, Transfer::Written { of, next, line }, line)
+        }
         ItemRow::WrittenWide {
             value,
             of,
             width,
             next,
-        } => body.wait(
-            Task::Transfer(Transfer::Wide {
+        } => {
+            let wide = Transfer::Wide {
                 of,
                 width,
                 next,
                 line,
-            }),
-            Now::Begin(Part::Eval { row: value, line }),
-        ),
+            };
+            evaluate(body, value, wide, line)
+        }
         _ => body.go(Now::Came(Way::Nothing)),
     }
+}
+
+/// An expression of an actual begins, and the actual is to go on by its value.
+#[inline(always)]
+fn evaluate(body: &mut Body, expression: u32, transfer: Transfer, line: u32) -> Turned
+    ensures turns { (p : ProgramRows) (m : Moment) → Turns p
+        (from_under p body.old (Now.Begin (Part.Eval expression line)) (Task.Transfer transfer)) m result body.new m }
+    ensures falls { Falls result (body_weight body.new) (come + tasks_weight body.old) }
+    ensures home { body.new.home ≡ body.old.home }
+{
+    let value = Part::Eval {
+        row: expression,
+        line,
+    };
+    body.wait(Task::Transfer(transfer), Now::Begin(value))
 }
 
 /// A value is written, in a width if one is given, and then comes the next actual.
@@ -188,20 +203,7 @@ pub fn continue_transfer(
             of,
             next,
             line,
-        } => body.hold(
-            value,
-            Task::Transfer(Transfer::Into {
-                access,
-                of,
-                next,
-                line,
-            }),
-            Now::Begin(Part::Locate {
-                row: access,
-                target: true,
-                line,
-            }),
-        ),
+        } => locate_read(body, access, of, next, line, value),
         Transfer::Into { .. } => body.no_row(),
         Transfer::Written { of, next, line } => {
             write(body, program, machine, of, next, line, value, None)
@@ -248,10 +250,7 @@ pub fn continue_with_text(
             next,
             line,
             ..
-        } => body.wait(
-            Task::Transfer(Transfer::TextWidth { next, line }),
-            Now::Begin(Part::Eval { row: width, line }),
-        ),
+        } => evaluate(body, width, Transfer::TextWidth { next, line }, line),
         Transfer::Integer { .. } => body.no_row(),
         Transfer::Into { .. } => body.no_row(),
         Transfer::Width { .. } => body.no_row(),

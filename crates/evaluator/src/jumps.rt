@@ -1,7 +1,7 @@
 //! Jumps.
 
 ghost use Rattle.std.specs.Prelude.{◌≡◌, ◌==◌, ◌&&◌, ◌+◌, None, Some};
-ghost use Rattle.eval_ops.specs.Machines.{Moment};
+ghost use Rattle.eval_machine.specs.Machines.{Moment};
 ghost use Rattle.eval_tasks.specs.Records.{SameFrame};
 ghost use Rattle.eval_tasks.specs.Rest.{from_under};
 ghost use Rattle.eval_tasks.specs.Turns.{Turns};

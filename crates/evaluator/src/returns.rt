@@ -9,12 +9,14 @@ ghost use Rattle.program_meaning.specs.Accesses.{scalar};
 ghost use Rattle.program_meaning.specs.Run.{type_in_heading};
 ghost use Rattle.program_meaning.specs.Run as action;
 ghost use Rattle.program_meaning.specs.State as state;
-ghost use Rattle.eval_ops.specs.Machines.{DoesAll, IsReady, Moment, moment_of};
+ghost use Rattle.eval_machine.specs.Machines.{DoesAll, IsReady, Moment, moment_of};
 ghost use Rattle.eval_tasks.specs.Rest.{from, returns};
 ghost use Rattle.eval_tasks.specs.Turns.{Turns};
 
 use cell_value::Value;
-use eval_ops::{Halt, Machine, moved, pointer_result_at, result_at};
+use eval_cells::{moved, result_at};
+use eval_heap::pointer_result_at;
+use eval_machine::{Halt, Machine};
 use eval_tasks::{Body, Now, Pause, Turned, Way};
 use program_tables::Program;
 use program_tables::rows::{PartRow, Row, TypeRow};

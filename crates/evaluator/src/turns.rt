@@ -4,7 +4,7 @@ ghost use Rattle.std.specs.Prelude.{◌≡◌, ◌+◌, Ok, Err, None, Some, IfO
 ghost use Rattle.program_tables.specs.ProgramRows.{ProgramRows};
 ghost use Rattle.program_meaning.specs.Run.{Ended};
 ghost use Rattle.program_meaning.specs.State.{State};
-ghost use Rattle.eval_ops.specs.Machines.{IsReady, machine_state, moment_of};
+ghost use Rattle.eval_machine.specs.Machines.{IsReady, machine_state, moment_of};
 ghost use Rattle.eval_tasks.specs.Records.{SameFrame};
 ghost use Rattle.eval_tasks.specs.Stops.{StopsAt};
 ghost use Rattle.eval_tasks.specs.Rest.{from, from_under, rest_of};
@@ -19,7 +19,7 @@ use eval_expressions::{
     begin_right_text, continue_access, continue_expression, end_texts, evaluate, gather,
     gather_range, locate,
 };
-use eval_ops::{Halt, Machine, spend};
+use eval_machine::{Halt, Machine, spend};
 use eval_statements::{
     begin_record, carry, continue_statement, dispose_of, establish, execute, follow_statement,
     leave, locate_target, locate_target_cells, put, put_cells, put_pointer, sequence, turn_again,

@@ -44,7 +44,7 @@ use Rattle.program_meaning.specs.Tree.{Tree, Ret, Halt, Do, Sub, Enter, Line, wa
 use Rattle.program_meaning.specs.Layer.{layer}
 use Rattle.program_meaning.specs.Run.{Halted}
 use Rattle.program_meaning.proofs.OutcomesCompose.{some_same, none_some}
-use Rattle.eval_ops.specs.Machines.{Moment}
+use Rattle.eval_machine.specs.Machines.{Moment}
 use Rattle.eval_tasks.specs.Stops.{Stop, AtEnd, on_act, next_stop}
 
 -- no call was entered and none was left, and each byte that was given out took a step

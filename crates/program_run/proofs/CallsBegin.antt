@@ -9,9 +9,9 @@ use Rattle.program_meaning.specs.State.{State, stack_end}
 use Rattle.program_meaning.specs.Acts.{Trouble, OutOfSteps, Limited, Done, Went, Stops, spent}
 use Rattle.program_meaning.specs.Tree.{way_of}
 use Rattle.program_meaning.specs.Run.{Halted, ends, after_all, opened, with_frame, without_frame, whole, in_frame, at_work, run_of}
-use Rattle.eval_ops.specs.Machines.{Moment}
-use Rattle.eval_ops.specs.Frames.{framing}
-use Rattle.eval_ops.proofs.CallsInFrames.{on_framing, in_frame_made}
+use Rattle.eval_machine.specs.Machines.{Moment}
+use Rattle.eval_machine.specs.Frames.{framing}
+use Rattle.eval_machine.proofs.CallsInFrames.{on_framing, in_frame_made}
 use Rattle.program_run.specs.Tower.{Rests, Ends, Begins}
 
 -- a frame is made or not: no call is entered or left

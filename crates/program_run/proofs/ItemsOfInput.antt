@@ -3,7 +3,7 @@ use Rattle.std.proofs.Common.{◌≡◌, ℕ, zero, suc, ◌+◌, ◌<◌, Bool,
 use Rattle.std.proofs.Common.{append_assoc, refl, sym, ap, ◌∙◌, append-nil, arith}
 use Rattle.std.specs.Prelude.{◌==◌, ◌&&◌, if◌then◌else◌}
 use Rattle.std.proofs.lemmas.Option.{slice_get-get_or}
-use Rattle.eval_ops.proofs.Lists.{drop_get}
+use Rattle.eval_machine.proofs.Lists.{drop_get}
 use Rattle.program_meaning.specs.Run.{items_of}
 use Rattle.program_run.specs.History.{items_at}
 

@@ -11,7 +11,7 @@ use Rattle.program_meaning.specs.Layer.{layer}
 use Rattle.program_meaning.specs.Run.{Ended, Halted}
 use Rattle.program_meaning.proofs.ActsTakeSteps.{cost, Acted, acted}
 use Rattle.program_meaning.proofs.OutcomesCompose.{some_same, none_some}
-use Rattle.eval_ops.specs.Machines.{Moment}
+use Rattle.eval_machine.specs.Machines.{Moment}
 use Rattle.eval_tasks.specs.Stops.{Stop, AtLine, AtCall, AtEnd, at_call, on_act, next_stop}
 
 -- the steps that are left at a stop, where there were so many before

@@ -13,7 +13,7 @@ use Rattle.program_meaning.specs.Run.{plain, run_of}
 use Rattle.program_meaning.proofs.MoreDepthSameResult.{Less, less_same, joined_less, run_less, plain_grows}
 use Rattle.program_meaning.proofs.OutcomesCompose.{front_nothing, less_then, less_is}
 use Rattle.call_tree.specs.Recording.{Recording, nothing_entered, entered, left, new_call}
-use Rattle.eval_ops.specs.Machines.{Moment}
+use Rattle.eval_machine.specs.Machines.{Moment}
 use Rattle.eval_tasks.specs.Stops.{Stop, AtLine, AtCall, AtEnd, StopsAt}
 use Rattle.program_run.specs.Table.{side_of}
 use Rattle.program_run.specs.Tower.{Level, Levels, Bottom, Push, called, followed, whole_from, Stage, Rests, Calls, Ends, stage_of, stage_after}

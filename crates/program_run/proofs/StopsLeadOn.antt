@@ -11,7 +11,7 @@ use Rattle.program_meaning.specs.Tree.{Out, Tree, Ret, Halt, Do, Sub, Enter, Lin
 use Rattle.program_meaning.specs.Layer.{layer}
 use Rattle.program_meaning.specs.Run.{Ended, Halted, Result, Rules, in_front, ends, joined, on_done, if_allowed, within}
 use Rattle.program_meaning.proofs.MoreDepthSameResult.{Less, Grows, run_less, joined_less, less_same, in_front_less}
-use Rattle.eval_ops.specs.Machines.{Moment}
+use Rattle.eval_machine.specs.Machines.{Moment}
 use Rattle.eval_tasks.specs.Stops.{Stop, AtLine, AtCall, AtEnd, at_call, on_act, next_stop}
 use Rattle.program_meaning.proofs.OutcomesCompose.{front_nothing, front_twice, walk_bind, some_same, none_some, less_then, less_is}
 

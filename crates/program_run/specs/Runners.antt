@@ -7,7 +7,7 @@ use Rattle.program_tables.specs.ProgramRows.{ProgramRows}
 use Rattle.program_meaning.specs.State.{State}
 use Rattle.program_meaning.specs.Tree.{Out, Tree, Ret}
 use Rattle.program_meaning.specs.Run.{End, Halted, whole, way_out, result_in}
-use Rattle.eval_ops.specs.Machines.{IsReady, Moment, moment_of}
+use Rattle.eval_machine.specs.Machines.{IsReady, Moment, moment_of}
 use Rattle.eval_tasks.specs.declared.body.Body.{Body}
 use Rattle.eval_tasks.specs.Rest.{rest_of, waiting}
 use Rattle.program_run.specs.declared.open_call.OpenCall.{OpenCall}

@@ -45,7 +45,7 @@ use Rattle.program_meaning.specs.Run.{
   block,
 }
 use Rattle.program_meaning.specs.Numbering.{belows, parent_of, depth_of, last_of, each_from, Inside}
-use Rattle.eval_ops.specs.Machines.{Moment}
+use Rattle.eval_machine.specs.Machines.{Moment}
 use Rattle.eval_tasks.specs.Stops.{Stop, AtLine, AtCall, AtEnd}
 use Rattle.program_run.specs.Table.{side_of, row_with}
 use Rattle.program_run.specs.History.{recording_of}

@@ -1,13 +1,12 @@
 //! The runner: it runs a program with the open calls in a list.
 
 ghost use Rattle.std.specs.Prelude.{◌≡◌, ℕ, ◌+◌, ◌<◌, ◌≤◌, IfOk, OnOk, IsSome, Some, None, Option, length};
-ghost use Rattle.cell_value.specs.declared.ways_out.WayOut as way;
 ghost use Rattle.program_tables.specs.declared.program.Routine as table;
 ghost use Rattle.program_tables.specs.ProgramRows.{ProgramRows, routine_at};
 ghost use Rattle.program_meaning.specs.State.{State, stack_end};
 ghost use Rattle.program_meaning.specs.Run.{End, Ended, Halted};
 ghost use Rattle.program_meaning.specs.Tree.{Out};
-ghost use Rattle.eval_ops.specs.Machines.{HasRoom, IsReady, machine_state, moment_of};
+ghost use Rattle.eval_machine.specs.Machines.{HasRoom, IsReady, machine_state, moment_of};
 ghost use Rattle.eval_tasks.specs.declared.body.Body as bodies;
 ghost use Rattle.eval_tasks.specs.Turns.{end_of};
 ghost use Rattle.program_run.specs.Table.{side_of};
@@ -17,7 +16,7 @@ ghost use Rattle.program_run.specs.Runners.{At, AtRest, Begun, Chain, Ending, Is
 use crate::open_call::OpenCall;
 use call_tree::{Calls, Side};
 use cell_value::{Cells, Memory, Value, WayOut};
-use eval_ops::{Halt, Machine, close_call, make_frame, open_call, remove_frame};
+use eval_machine::{Halt, Machine, close_call, make_frame, open_call, remove_frame};
 use eval_tasks::{Body, Stop};
 use evaluator::go_on;
 use program_tables::Program;

@@ -1,5 +1,5 @@
 use Rattle.std.proofs.Common.{◌≡◌, ◌+◌, suc, [], ◌∷◌, ◌++◌, drop, sym, ap, ◌∙◌, append_assoc, arith}
-use Rattle.eval_ops.proofs.Lists.{drop_get}
+use Rattle.eval_machine.proofs.Lists.{drop_get}
 use Rattle.eval_calls.proofs.actuals.append_all.Goals as goal
 
 pub cells-preserved : goal.cells-preserved

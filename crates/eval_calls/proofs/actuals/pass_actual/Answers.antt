@@ -9,7 +9,7 @@ use Rattle.eval_tasks.proofs.Turning.{spent, not_spent, spent_less, turns_after,
 use Rattle.eval_tasks.proofs.Moves.{comes_then, comes_same}
 use Rattle.eval_tasks.proofs.StepsFall.{falls_so}
 use Rattle.eval_calls.proofs.actuals.pass_actual.Goals as goal
-use Rattle.eval_ops.specs.Machines.{moment_of}
+use Rattle.eval_machine.specs.Machines.{moment_of}
 
 pub returns-in-Value-clause-turns : goal.returns-in-Value-clause-turns
 returns-in-Value-clause-turns c = rw c.in-Value.is (c.wait.ensures.turns c.args.program.now (moment_of c.args.machine.now))

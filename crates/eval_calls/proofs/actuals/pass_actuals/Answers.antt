@@ -6,7 +6,7 @@ use Rattle.program_tables.specs.declared.rows.Row.TheVariants as rows
 use Rattle.program_tables.specs.ProgramRows.{ProgramRows, row_at}
 use Rattle.program_meaning.specs.Tree.{Here, Pass, Ret, Cells}
 use Rattle.program_meaning.specs.Expressions.{of_actual}
-use Rattle.eval_ops.specs.Machines.{moment_of}
+use Rattle.eval_machine.specs.Machines.{moment_of}
 use Rattle.eval_tasks.specs.Rest.{here, resume, top_list, below, tasks_of, values_of, lists_of}
 use Rattle.eval_tasks.proofs.StepsFall.{falls_so}
 use Rattle.eval_tasks.proofs.Turning.{part_comes, turns_after}

@@ -2,8 +2,8 @@ use Rattle.std.proofs.Common.{Ok, refl}
 use Rattle.std.proofs.lemmas.Result.{err_from_is_err_and}
 use Rattle.program_meaning.specs.Actions.{Give}
 use Rattle.program_meaning.specs.Cells.{frame_out}
-use Rattle.eval_ops.specs.Machines.{moment_of}
-use Rattle.eval_ops.proofs.ActionsCompose.{does_bind, does_given, does_stop}
+use Rattle.eval_machine.specs.Machines.{moment_of}
+use Rattle.eval_machine.proofs.ActionsCompose.{does_bind, does_given, does_stop}
 use Rattle.eval_calls.proofs.actuals.routine_in.Goals as goal
 
 pub returns-in_err-frame-clause-action : goal.returns-in_err-frame-clause-action

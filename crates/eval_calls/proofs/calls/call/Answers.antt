@@ -4,7 +4,7 @@ use Rattle.program_tables.specs.ProgramRows.{routine_at}
 use Rattle.program_meaning.specs.Cells.{frame_out}
 use Rattle.program_meaning.specs.Expressions.{with_frame_size}
 use Rattle.program_meaning.specs.Tree.{Enter, bind, doing}
-use Rattle.eval_ops.specs.Machines.{moment_of}
+use Rattle.eval_machine.specs.Machines.{moment_of}
 use Rattle.eval_tasks.specs.Rest.{returned, resume, top_list, below, tasks_of, values_of, lists_of}
 use Rattle.eval_tasks.proofs.Moves.{comes_then, comes_same}
 use Rattle.eval_tasks.proofs.Turning.{turns_after, turns_same, turns_failed, fails_after, did, fails}

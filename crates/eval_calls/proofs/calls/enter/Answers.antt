@@ -2,8 +2,8 @@ use Rattle.std.proofs.Common.{◌≡◌, ◌∷◌, None, sym, ap, ◌∙◌}
 use Rattle.cell_value.specs.declared.values.Value.TheVariants as value
 use Rattle.program_meaning.specs.Acts.{limit_passed}
 use Rattle.program_meaning.specs.Tree.{bind}
-use Rattle.eval_ops.specs.declared.halt.Halt.TheVariants as halts
-use Rattle.eval_ops.specs.Machines.{moment_of}
+use Rattle.eval_machine.specs.declared.halt.Halt.TheVariants as halts
+use Rattle.eval_machine.specs.Machines.{moment_of}
 use Rattle.eval_tasks.specs.Rest.{returned, resume, top_list, below, tasks_of, values_of, lists_of}
 use Rattle.eval_tasks.proofs.Moves.{limit_here}
 use Rattle.eval_tasks.proofs.Turning.{turns_failed, entered_turns, falls_failed}

@@ -1,10 +1,10 @@
-use Rattle.std.proofs.Common.{ap, ◌∙◌}
+use Rattle.std.proofs.Common.{refl, ap}
 use Rattle.program_meaning.specs.Tree.{bind}
 use Rattle.program_meaning.specs.Accesses.{of_access}
-use Rattle.eval_ops.specs.Machines.{moment_of}
+use Rattle.eval_machine.specs.Machines.{moment_of}
 use Rattle.eval_tasks.specs.Rest.{here, waiting, located, top_list, lists_of}
 use Rattle.eval_tasks.specs.declared.tasks.Located.TheVariants as locateds
-use Rattle.eval_tasks.proofs.Turning.{turns_same, before_it}
+use Rattle.eval_tasks.proofs.Turning.{turns_same}
 use Rattle.eval_expressions.proofs.accesses.begin_access.Goals as goal
 
 pub returns-in-Variable-clause-turns : goal.returns-in-Variable-clause-turns
@@ -23,25 +23,19 @@ returns-in-Reference-clause-turns c =
     c.in-Reference.is)
     c.reference.ensures.turns
 
-pub returns-then-access-row-clause-turns : goal.returns-then-access-row-clause-turns
-returns-then-access-row-clause-turns c =
+pub returns-in-Index-clause-turns : goal.returns-in-Index-clause-turns
+returns-in-Index-clause-turns c =
     let p = c.args.program.now in
-    let h = here c.args.body.now.home c.args.line in
-    turns_same p _ _ _ _ c.wait.result c.wait.new.self
-    (ap (λ e. bind (of_access p c.args.row c.args.target h e) (waiting p c.args.body.now)) c.in-Index.is
-    ∙ before_it c.args.row c.in-Index.access c.args.target h (located p c.args.body.now.home (locateds.Index c.in-Index.index c.in-Index.array c.args.line)
-    (top_list (lists_of c.args.body.now))) (waiting p c.args.body.now) c.if-access-row.true)
-    (c.wait.ensures.turns p _)
+    rw c.in-Index.is (c.locate_first.ensures.turns p
+    (located p c.args.body.now.home (locateds.Index c.in-Index.index c.in-Index.array c.args.line) (top_list (lists_of c.args.body.now)))
+    (moment_of c.args.machine.now) refl)
 
-pub returns-then-access-row-2-clause-turns : goal.returns-then-access-row-2-clause-turns
-returns-then-access-row-2-clause-turns c =
+pub returns-in-Field-clause-turns : goal.returns-in-Field-clause-turns
+returns-in-Field-clause-turns c =
     let p = c.args.program.now in
-    let h = here c.args.body.now.home c.args.line in
-    turns_same p _ _ _ _ c.wait-then-access-row-2.result c.wait-then-access-row-2.new.self
-    (ap (λ e. bind (of_access p c.args.row c.args.target h e) (waiting p c.args.body.now)) c.in-Field.is
-    ∙ before_it c.args.row c.in-Field.access c.args.target h (located p c.args.body.now.home (locateds.Field c.in-Field.field c.args.target c.args.line)
-    (top_list (lists_of c.args.body.now))) (waiting p c.args.body.now) c.if-access-row-2.true)
-    (c.wait-then-access-row-2.ensures.turns p _)
+    rw c.in-Field.is (c.locate_first-in-Field.ensures.turns p
+    (located p c.args.body.now.home (locateds.Field c.in-Field.field c.args.target c.args.line) (top_list (lists_of c.args.body.now)))
+    (moment_of c.args.machine.now) refl)
 
 pub returns-in-Within-clause-turns : goal.returns-in-Within-clause-turns
 returns-in-Within-clause-turns c =
@@ -51,5 +45,8 @@ returns-in-Within-clause-turns c =
     c.within.ensures.turns
 
 pub returns-in-Dereference-clause-turns : goal.returns-in-Dereference-clause-turns
-returns-in-Dereference-clause-turns c = rw c.in-Dereference.is (c.dereference.ensures.turns c.args.program.now
-    (moment_of c.args.machine.now))
+returns-in-Dereference-clause-turns c =
+    let p = c.args.program.now in
+    rw c.in-Dereference.is (c.locate_first-in-Dereference.ensures.turns p
+    (located p c.args.body.now.home (locateds.Pointed c.args.line) (top_list (lists_of c.args.body.now)))
+    (moment_of c.args.machine.now) refl)

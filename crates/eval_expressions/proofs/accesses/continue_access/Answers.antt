@@ -4,7 +4,7 @@ use Rattle.program_tables.specs.ProgramRows.{type_at}
 use Rattle.program_meaning.specs.Tree.{bind, doing}
 use Rattle.program_meaning.specs.Accesses.{eval, address, value_at, locate_field, with_components}
 use Rattle.program_meaning.specs.Cells as action
-use Rattle.eval_ops.specs.Machines.{moment_of}
+use Rattle.eval_machine.specs.Machines.{moment_of}
 use Rattle.eval_tasks.specs.Rest.{here, waiting, resume, tasks_of, values_of, lists_of}
 use Rattle.eval_tasks.specs.declared.tasks.Task.TheVariants as tasks
 use Rattle.eval_tasks.proofs.Moves.{comes_then, comes_same}

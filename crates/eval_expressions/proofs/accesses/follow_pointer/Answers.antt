@@ -2,7 +2,7 @@ use Rattle.std.proofs.Common.{arith}
 use Rattle.program_meaning.specs.Heap.{pointed_at}
 use Rattle.program_meaning.specs.Tree.{doing}
 use Rattle.program_meaning.specs.Accesses.{address}
-use Rattle.eval_ops.specs.Machines.{moment_of}
+use Rattle.eval_machine.specs.Machines.{moment_of}
 use Rattle.eval_tasks.specs.Rest.{here, waiting}
 use Rattle.eval_tasks.proofs.StepsFall.{falls_so}
 use Rattle.eval_tasks.proofs.Turning.{spent, turns_after, spent_less}

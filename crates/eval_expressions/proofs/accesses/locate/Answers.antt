@@ -5,7 +5,7 @@ use Rattle.program_tables.specs.declared.rows.AccessRow.{AccessRow}
 use Rattle.program_tables.specs.ProgramRows.{ProgramRows, row_at}
 use Rattle.program_meaning.specs.Tree.{Here, Locate}
 use Rattle.program_meaning.specs.Accesses.{access_in, no_row}
-use Rattle.eval_ops.specs.Machines.{moment_of}
+use Rattle.eval_machine.specs.Machines.{moment_of}
 use Rattle.eval_tasks.specs.Rest.{here, waiting}
 use Rattle.eval_tasks.proofs.StepsFall.{falls_so}
 use Rattle.eval_tasks.proofs.Turning.{part_comes, turns_after}

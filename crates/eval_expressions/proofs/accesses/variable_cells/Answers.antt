@@ -4,7 +4,7 @@ use Rattle.cell_value.specs.declared.values.Value.{Value}
 use Rattle.program_meaning.specs.Tree.{Cells}
 use Rattle.std.proofs.Common.{[], arith}
 use Rattle.program_meaning.specs.Tree.{Ret}
-use Rattle.eval_ops.specs.Machines.{moment_of}
+use Rattle.eval_machine.specs.Machines.{moment_of}
 use Rattle.eval_tasks.specs.Rest.{waiting}
 use Rattle.eval_tasks.proofs.StepsFall.{steps_fall, falls_so}
 use Rattle.eval_tasks.proofs.Turning.{turns_after, turns_failed, did, fails}

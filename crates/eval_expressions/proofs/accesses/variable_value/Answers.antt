@@ -7,7 +7,7 @@ use Rattle.program_meaning.specs.Tree.{bind}
 use Rattle.program_meaning.specs.Accesses.{value_at}
 use Rattle.program_meaning.specs.Cells as action
 use Rattle.program_meaning.specs.Heap.{pointer_at}
-use Rattle.eval_ops.specs.Machines.{moment_of}
+use Rattle.eval_machine.specs.Machines.{moment_of}
 use Rattle.eval_tasks.specs.Rest.{waiting}
 use Rattle.eval_tasks.proofs.StepsFall.{falls_so}
 use Rattle.eval_tasks.proofs.Turning.{turns_same}

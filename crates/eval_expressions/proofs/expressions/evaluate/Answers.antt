@@ -7,7 +7,7 @@ use Rattle.program_tables.specs.ProgramRows.{ProgramRows, row_at, type_at}
 use Rattle.program_meaning.specs.Tree.{Here, Eval}
 use Rattle.program_meaning.specs.Accesses.{locate, no_row, value_at}
 use Rattle.program_meaning.specs.Expressions.{expression_in, of_expression}
-use Rattle.eval_ops.specs.Machines.{moment_of}
+use Rattle.eval_machine.specs.Machines.{moment_of}
 use Rattle.eval_tasks.specs.Rest.{here, waiting}
 use Rattle.eval_tasks.proofs.Moves.{comes_then}
 use Rattle.eval_tasks.proofs.Turning.{part_comes, spent, not_spent, turns_after, turns_failed, fails_after}

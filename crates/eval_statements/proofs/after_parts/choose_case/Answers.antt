@@ -3,7 +3,7 @@ use Rattle.program_meaning.specs.Tree.{bind}
 use Rattle.eval_rules.specs.Choices.{case_tree}
 use Rattle.eval_tasks.specs.Rest.{here, waiting}
 use Rattle.cell_value.specs.declared.ways_out.Kind.TheVariants as kinds
-use Rattle.eval_ops.specs.declared.halt.Halt.TheVariants as halts
+use Rattle.eval_machine.specs.declared.halt.Halt.TheVariants as halts
 use Rattle.eval_tasks.proofs.StepsFall.{falls_so}
 use Rattle.eval_tasks.proofs.Turning.{turns_same, turns_failed}
 use Rattle.eval_statements.proofs.after_parts.choose_case.Goals as goal

@@ -3,7 +3,7 @@ use Rattle.program_tables.specs.ProgramRows.{row_at}
 use Rattle.program_meaning.specs.Tree.{Exec, Sub, bind}
 use Rattle.program_meaning.specs.Values.{is_true}
 use Rattle.program_meaning.specs.Statements as meaning
-use Rattle.eval_ops.specs.Machines.{moment_of}
+use Rattle.eval_machine.specs.Machines.{moment_of}
 use Rattle.eval_tasks.specs.Rest.{here, waiting, from, top, values_of, exec, turn}
 use Rattle.eval_tasks.specs.declared.tasks.Now.TheVariants.{Begin, Came}
 use Rattle.eval_tasks.specs.declared.tasks.Part.TheVariants as part

@@ -2,7 +2,7 @@ use Rattle.std.proofs.Common.{◌≡◌, sym, ap, ◌∙◌, sum_by, reverse, ar
 use Rattle.program_tables.specs.ProgramRows.{row_at}
 use Rattle.program_meaning.specs.Output.{end_line}
 use Rattle.program_meaning.specs.Tree.{bind}
-use Rattle.eval_ops.specs.Machines.{moment_of}
+use Rattle.eval_machine.specs.Machines.{moment_of}
 use Rattle.eval_tasks.specs.Rest.{waiting, resume, top, below, tasks_of, values_of, lists_of, counted, with_numbers}
 use Rattle.eval_tasks.specs.declared.tasks.Now.TheVariants.{Came}
 use Rattle.eval_tasks.specs.Weight.{task_weight}

@@ -2,7 +2,7 @@ use Rattle.std.proofs.Common.{sym, ap, sum_by, arith}
 use Rattle.program_meaning.specs.Tree.{bind, doing}
 use Rattle.program_meaning.specs.Cells.{writes}
 use Rattle.program_meaning.specs.Statements as meaning
-use Rattle.eval_ops.specs.Machines.{moment_of}
+use Rattle.eval_machine.specs.Machines.{moment_of}
 use Rattle.eval_tasks.specs.Rest.{top_list, lists_of}
 use Rattle.eval_tasks.specs.Weight.{task_weight}
 use Rattle.eval_tasks.proofs.StepsFall.{falls_so}

@@ -2,7 +2,7 @@ use Rattle.std.proofs.Common.{◌≡◌, true, false, Ok, Err, sym, ap, ◌∙�
 use Rattle.program_tables.specs.ProgramRows.{type_at}
 use Rattle.program_meaning.specs.Tree.{Count, Ret, Sub, bind, doing}
 use Rattle.program_meaning.specs.Statements as meaning
-use Rattle.eval_ops.specs.Machines.{Gives, moment_of}
+use Rattle.eval_machine.specs.Machines.{Gives, moment_of}
 use Rattle.eval_tasks.specs.Rest.{here, waiting}
 use Rattle.eval_tasks.proofs.StepsFall.{falls_so}
 use Rattle.eval_tasks.proofs.Turning.{turns_after, turns_same, turns_failed, did, fails, given}

@@ -7,7 +7,7 @@ use Rattle.program_meaning.specs.Accesses.{no_row}
 use Rattle.program_meaning.specs.Cells.{write}
 use Rattle.program_meaning.specs.Statements as meaning
 use Rattle.program_meaning.specs.Actions.{performs}
-use Rattle.eval_ops.specs.Machines.{DoesAll, machine_state, moment_of}
+use Rattle.eval_machine.specs.Machines.{DoesAll, machine_state, moment_of}
 use Rattle.eval_tasks.specs.Rest.{here, waiting, counted}
 use Rattle.eval_tasks.proofs.Moves.{comes_then}
 use Rattle.eval_tasks.proofs.StepsFall.{steps_fall, falls_so}

@@ -3,7 +3,7 @@ use Rattle.cell_value.specs.declared.values.Value.TheVariants as value
 use Rattle.program_tables.specs.ProgramRows.{row_at}
 use Rattle.program_meaning.specs.Tree.{bind}
 use Rattle.program_meaning.specs.Statements as meaning
-use Rattle.eval_ops.specs.Machines.{moment_of}
+use Rattle.eval_machine.specs.Machines.{moment_of}
 use Rattle.eval_tasks.specs.Rest.{here, waiting}
 use Rattle.eval_rules.specs.Counting.{turns_row, turns_in, span_in, both}
 use Rattle.eval_statements.proofs.StatementsByRow.{first_both, row_of_both, with_both}

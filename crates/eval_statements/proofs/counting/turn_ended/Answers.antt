@@ -1,7 +1,7 @@
 use Rattle.std.proofs.Common.{◌≡◌, Some, None, ap, ◌∙◌, arith}
 use Rattle.program_tables.specs.ProgramRows.{row_at}
 use Rattle.program_meaning.specs.Tree.{bind}
-use Rattle.eval_ops.specs.Machines.{moment_of}
+use Rattle.eval_machine.specs.Machines.{moment_of}
 use Rattle.eval_tasks.specs.Rest.{waiting, counted}
 use Rattle.eval_rules.specs.Counting.{turns_row, turns_in, span_in, both}
 use Rattle.eval_statements.proofs.StatementsByRow.{counted_both, row_of_both, with_both}

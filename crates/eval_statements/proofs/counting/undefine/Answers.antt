@@ -2,7 +2,7 @@ use Rattle.std.proofs.Common.{arith}
 use Rattle.cell_value.specs.declared.values.Value.TheVariants as value
 use Rattle.program_meaning.specs.State.{moved}
 use Rattle.program_meaning.specs.Cells.{write}
-use Rattle.eval_ops.specs.Machines.{moment_of}
+use Rattle.eval_machine.specs.Machines.{moment_of}
 use Rattle.eval_tasks.proofs.StepsFall.{falls_so}
 use Rattle.eval_statements.proofs.counting.undefine.Goals as goal
 

@@ -1,7 +1,7 @@
 use Rattle.std.proofs.Common.{arith}
 use Rattle.program_tables.specs.ProgramRows.{size_of}
 use Rattle.program_meaning.specs.Heap.{dispose}
-use Rattle.eval_ops.specs.Machines.{moment_of}
+use Rattle.eval_machine.specs.Machines.{moment_of}
 use Rattle.eval_tasks.proofs.StepsFall.{falls_so}
 use Rattle.eval_statements.proofs.heap.dispose_of.Goals as goal
 

@@ -1,5 +1,5 @@
 use Rattle.std.proofs.Common.{arith}
-use Rattle.eval_ops.specs.Machines.{moment_of}
+use Rattle.eval_machine.specs.Machines.{moment_of}
 use Rattle.eval_tasks.proofs.StepsFall.{falls_so}
 use Rattle.eval_statements.proofs.heap.heap_statement.Goals as goal
 

@@ -4,7 +4,7 @@ use Rattle.program_tables.specs.ProgramRows.{size_of}
 use Rattle.program_meaning.specs.Heap.{made_variable}
 use Rattle.program_meaning.specs.Statements.{point}
 use Rattle.program_meaning.specs.Actions.{performs}
-use Rattle.eval_ops.specs.Machines.{DoesAll, moment_of}
+use Rattle.eval_machine.specs.Machines.{DoesAll, moment_of}
 use Rattle.eval_tasks.specs.Rest.{here, waiting}
 use Rattle.eval_tasks.proofs.StepsFall.{steps_fall, falls_so}
 use Rattle.eval_tasks.proofs.Turning.{did, fails, falls_failed, turns_after, turns_failed}

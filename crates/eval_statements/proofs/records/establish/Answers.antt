@@ -1,4 +1,4 @@
-use Rattle.std.proofs.Common.{◌≡◌, ℕ, List, [], ◌∷◌, ◌++◌, ap, sym, ◌∙◌}
+use Rattle.std.proofs.Common.{ℕ, List, [], ◌∷◌, ◌++◌, ap, sym, ◌∙◌}
 use Rattle.program_meaning.specs.Tree.{Tree, Sub, Establish}
 use Rattle.eval_tasks.specs.Rest.{here, resume, lists_of, tasks_of, values_of}
 use Rattle.eval_tasks.specs.Records.{without_last}

@@ -1,7 +1,7 @@
 use Rattle.std.proofs.Common.{◌≡◌, Some, None, sym, ap, ◌∙◌, arith}
 use Rattle.program_meaning.specs.Tree.{Exec, Sub, Line, bind}
 use Rattle.program_meaning.specs.Statements as meaning
-use Rattle.eval_ops.specs.Machines.{moment_of}
+use Rattle.eval_machine.specs.Machines.{moment_of}
 use Rattle.eval_tasks.specs.Rest.{here, waiting, carried, carry_with}
 use Rattle.eval_statements.proofs.StatementsByRow.{told, untold}
 use Rattle.eval_tasks.proofs.StepsFall.{falls_so}

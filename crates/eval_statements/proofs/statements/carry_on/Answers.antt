@@ -1,6 +1,6 @@
 use Rattle.std.proofs.Common.{ap, arith}
 use Rattle.program_meaning.specs.Tree.{bind}
-use Rattle.eval_ops.specs.Machines.{moment_of}
+use Rattle.eval_machine.specs.Machines.{moment_of}
 use Rattle.eval_tasks.specs.Rest.{waiting}
 use Rattle.eval_statements.proofs.StatementsByRow.{other_carried}
 use Rattle.eval_tasks.proofs.StepsFall.{falls_so}
@@ -25,28 +25,19 @@ returns-in-Case-clause-turns c = rw c.in-Case.is (rw c.in-Case.is at c.condition
     (moment_of c.args.machine.now))
 
 pub returns-in-Repeat-clause-turns : goal.returns-in-Repeat-clause-turns
-returns-in-Repeat-clause-turns c = rw c.in-Repeat.is (c.go.ensures.turns c.args.program.now (moment_of c.args.machine.now))
-
-pub returns-in-Repeat-clause-falls : goal.returns-in-Repeat-clause-falls
-returns-in-Repeat-clause-falls c = falls_so c.go.result _ _ _ _ (λ h. omega (arith, h)) c.go.ensures.falls
+returns-in-Repeat-clause-turns c = rw c.in-Repeat.is (rw c.in-Repeat.is at c.repetitive.ensures.turns (moment_of c.args.machine.now))
 
 pub returns-in-While-clause-turns : goal.returns-in-While-clause-turns
-returns-in-While-clause-turns c = rw c.in-While.is (c.go-in-While.ensures.turns c.args.program.now (moment_of c.args.machine.now))
-
-pub returns-in-While-clause-falls : goal.returns-in-While-clause-falls
-returns-in-While-clause-falls c = falls_so c.go-in-While.result _ _ _ _ (λ h. omega (arith, h)) c.go-in-While.ensures.falls
+returns-in-While-clause-turns c = rw c.in-While.is (rw c.in-While.is at c.repetitive-in-While.ensures.turns (moment_of c.args.machine.now))
 
 pub returns-in-For-clause-turns : goal.returns-in-For-clause-turns
-returns-in-For-clause-turns c = rw c.in-For.is (c.begin_for.ensures.turns (moment_of c.args.machine.now))
-
-pub returns-in-For-clause-falls : goal.returns-in-For-clause-falls
-returns-in-For-clause-falls c = falls_so c.begin_for.result _ _ _ _ (λ h. omega (arith, h)) c.begin_for.ensures.falls
+returns-in-For-clause-turns c = rw c.in-For.is (rw c.in-For.is at c.repetitive-in-For.ensures.turns (moment_of c.args.machine.now))
 
 pub returns-in-With-clause-turns : goal.returns-in-With-clause-turns
-returns-in-With-clause-turns c = rw c.in-With.is (c.go-in-With.ensures.turns c.args.program.now (moment_of c.args.machine.now))
+returns-in-With-clause-turns c = rw c.in-With.is (c.begin_record.ensures.turns (moment_of c.args.machine.now))
 
 pub returns-in-With-clause-falls : goal.returns-in-With-clause-falls
-returns-in-With-clause-falls c = falls_so c.go-in-With.result _ _ _ _ (λ h. omega (arith, h)) c.go-in-With.ensures.falls
+returns-in-With-clause-falls c = falls_so c.begin_record.result _ _ _ _ (λ h. omega (arith, h)) c.begin_record.ensures.falls
 
 pub returns-in_default-clause-turns : goal.returns-in_default-clause-turns
 returns-in_default-clause-turns c =

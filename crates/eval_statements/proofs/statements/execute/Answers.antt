@@ -3,7 +3,7 @@ use Rattle.program_tables.specs.declared.rows.Row.TheVariants as rows
 use Rattle.program_tables.specs.ProgramRows.{row_at}
 use Rattle.program_meaning.specs.Tree.{Exec}
 use Rattle.program_meaning.specs.Statements as meaning
-use Rattle.eval_ops.specs.Machines.{moment_of}
+use Rattle.eval_machine.specs.Machines.{moment_of}
 use Rattle.eval_tasks.specs.Rest.{here, waiting}
 use Rattle.eval_statements.proofs.StatementsByRow.{no_statement}
 use Rattle.eval_tasks.proofs.StepsFall.{falls_so}

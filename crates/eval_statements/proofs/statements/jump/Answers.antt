@@ -1,7 +1,7 @@
 use Rattle.std.proofs.Common.{ℕ, arith}
 use Rattle.program_meaning.specs.Cells.{frame_out}
 use Rattle.program_meaning.specs.Tree.{Ret, Jump}
-use Rattle.eval_ops.specs.Machines.{moment_of}
+use Rattle.eval_machine.specs.Machines.{moment_of}
 use Rattle.eval_tasks.specs.Rest.{waiting}
 use Rattle.eval_tasks.proofs.StepsFall.{steps_fall, falls_so}
 use Rattle.eval_tasks.proofs.Turning.{did, fails, falls_failed, turns_after, turns_failed}

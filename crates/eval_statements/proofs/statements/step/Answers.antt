@@ -1,6 +1,6 @@
 use Rattle.std.proofs.Common.{arith, []}
 use Rattle.program_meaning.specs.Statements as meaning
-use Rattle.eval_ops.specs.Machines.{moment_of}
+use Rattle.eval_machine.specs.Machines.{moment_of}
 use Rattle.eval_tasks.specs.Rest.{from}
 use Rattle.eval_tasks.proofs.StepsFall.{falls_so}
 use Rattle.eval_tasks.proofs.Turning.{spent, not_spent, spent_less, turns_after, turns_failed}

@@ -1,4 +1,4 @@
-use Rattle.eval_ops.specs.Machines.{moment_of}
+use Rattle.eval_machine.specs.Machines.{moment_of}
 use Rattle.eval_tasks.specs.declared.tasks.Now.TheVariants.{Carry}
 use Rattle.eval_tasks.specs.Rest.{from}
 use Rattle.eval_tasks.proofs.Moves.{line_here}

@@ -2,8 +2,8 @@ use Rattle.std.proofs.Common.{Some}
 use Rattle.program_meaning.specs.Acts.{TakeIf}
 use Rattle.program_meaning.specs.Actions.{act}
 use Rattle.program_meaning.specs.Input.{leads_on, leading}
-use Rattle.eval_ops.specs.Machines.{moment_of}
-use Rattle.eval_ops.proofs.ActionsCompose.{does_bind}
+use Rattle.eval_machine.specs.Machines.{moment_of}
+use Rattle.eval_machine.proofs.ActionsCompose.{does_bind}
 use Rattle.eval_textfiles.proofs.input.scan_blanks.Goals as goal
 
 pub returns-in-Some-clause-action : goal.returns-in-Some-clause-action

@@ -2,9 +2,9 @@ use Rattle.std.proofs.Common.{◌+◌, drop, length, map, refl}
 use Rattle.std.proofs.lemmas.Option.{slice_get_read}
 use Rattle.std.proofs.lemmas.Result.{err_from_is_err_and}
 use Rattle.program_meaning.specs.Output.{gives}
-use Rattle.eval_ops.specs.Machines.{moment_of}
+use Rattle.eval_machine.specs.Machines.{moment_of}
 use Rattle.eval_textfiles.specs.Output.{give_one}
-use Rattle.eval_ops.proofs.ActionsCompose.{came_next, came_stop}
+use Rattle.eval_machine.proofs.ActionsCompose.{came_next, came_stop}
 use Rattle.eval_textfiles.proofs.Texts.{at_char}
 use Rattle.eval_textfiles.proofs.output.give_chars.Goals as goal
 

@@ -1,6 +1,6 @@
 use Rattle.std.proofs.Common.{Ok, Err}
 use Rattle.std.proofs.lemmas.Result.{err_from_is_err_and}
-use Rattle.eval_ops.specs.Machines.{moment_of}
+use Rattle.eval_machine.specs.Machines.{moment_of}
 use Rattle.eval_textfiles.proofs.Texts.{wide_goes, wide_stops}
 use Rattle.eval_textfiles.proofs.output.give_in_width.Goals as goal
 

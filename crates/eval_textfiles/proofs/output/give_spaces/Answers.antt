@@ -2,8 +2,8 @@ use Rattle.std.proofs.Common.{◌+◌, ◌-◌}
 use Rattle.std.proofs.lemmas.Result.{err_from_is_err_and}
 use Rattle.program_meaning.specs.Input.{space}
 use Rattle.program_meaning.specs.Output.{give, gives, spaces}
-use Rattle.eval_ops.specs.Machines.{moment_of}
-use Rattle.eval_ops.proofs.ActionsCompose.{came_next, came_stop}
+use Rattle.eval_machine.specs.Machines.{moment_of}
+use Rattle.eval_machine.proofs.ActionsCompose.{came_next, came_stop}
 use Rattle.eval_textfiles.proofs.Texts.{at_space}
 use Rattle.eval_textfiles.proofs.output.give_spaces.Goals as goal
 

@@ -1,7 +1,7 @@
 use Rattle.std.proofs.Common.{◌-◌}
 use Rattle.program_meaning.specs.Output.{gives, spaces}
-use Rattle.eval_ops.specs.Machines.{IsReady, moment_of}
-use Rattle.eval_ops.proofs.ActionsCompose.{CameTo}
+use Rattle.eval_machine.specs.Machines.{IsReady, moment_of}
+use Rattle.eval_machine.proofs.ActionsCompose.{CameTo}
 use Rattle.eval_textfiles.proofs.output.give_spaces.Given as goal
 
 abbrev pub invariant-spaces : goal.invariant-spaces

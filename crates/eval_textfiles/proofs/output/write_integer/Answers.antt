@@ -5,7 +5,7 @@ use Rattle.std.proofs.lemmas.Int.{to_z-of_z}
 use Rattle.cell_value.specs.declared.values.Value.TheVariants.{Number}
 use Rattle.program_meaning.specs.Actions.{performs}
 use Rattle.program_meaning.specs.Output.{written, integer_text}
-use Rattle.eval_ops.specs.Machines.{DoesAll, machine_state, moment_of}
+use Rattle.eval_machine.specs.Machines.{DoesAll, machine_state, moment_of}
 use Rattle.eval_textfiles.proofs.output.write_integer.Goals as goal
 
 pub returns-in-Number-clause-action : goal.returns-in-Number-clause-action

@@ -2,7 +2,7 @@ use Rattle.std.proofs.Common.{ap, arith, if◌then◌else◌}
 use Rattle.program_meaning.specs.Packing.{copies}
 use Rattle.program_meaning.specs.Statements.{finally}
 use Rattle.program_meaning.specs.Tree.{bind}
-use Rattle.eval_ops.specs.Machines.{moment_of}
+use Rattle.eval_machine.specs.Machines.{moment_of}
 use Rattle.eval_tasks.specs.Rest.{here, waiting}
 use Rattle.eval_tasks.proofs.StepsFall.{falls_so}
 use Rattle.eval_tasks.proofs.Turning.{turns_same}

@@ -1,10 +1,10 @@
-use Rattle.std.proofs.Common.{◌≡◌, ℕ, Some, None, ap, ◌∙◌, arith, if◌then◌else◌}
+use Rattle.std.proofs.Common.{◌≡◌, ℕ, Some, None, ap, ◌∙◌, if◌then◌else◌}
 use Rattle.program_tables.specs.ProgramRows.{row_at}
 use Rattle.program_meaning.specs.declared.components.Components.{Components}
-use Rattle.program_meaning.specs.Packing.{copies, first_moved, with_array}
+use Rattle.program_meaning.specs.Packing.{copies, first_moved}
 use Rattle.program_meaning.specs.Statements.{finally}
 use Rattle.program_meaning.specs.Tree.{Tree, bind, doing}
-use Rattle.eval_ops.specs.Machines.{moment_of}
+use Rattle.eval_machine.specs.Machines.{moment_of}
 use Rattle.eval_rules.specs.Arrays.{array_in}
 use Rattle.eval_tasks.specs.Rest.{here, waiting}
 use Rattle.eval_tasks.proofs.Turning.{turns_same}

@@ -1,10 +1,9 @@
-use Rattle.std.proofs.Common.{ℕ, Ok, Err, arith, if◌then◌else◌}
+use Rattle.std.proofs.Common.{ℕ, Ok, Err, if◌then◌else◌}
 use Rattle.program_meaning.specs.Packing.{copies, first_moved}
 use Rattle.program_meaning.specs.Statements.{finally}
-use Rattle.eval_ops.specs.Machines.{moment_of}
+use Rattle.eval_machine.specs.Machines.{moment_of}
 use Rattle.eval_tasks.specs.Rest.{here, waiting}
-use Rattle.eval_tasks.proofs.StepsFall.{falls_so}
-use Rattle.eval_tasks.proofs.Turning.{did, fails, falls_failed, given, turns_after, turns_failed}
+use Rattle.eval_tasks.proofs.Turning.{did, fails, given, turns_after, turns_failed}
 use Rattle.eval_transfers.proofs.packing.move_cells.Goals as goal
 
 pub returns-in-Ok-clause-turns : goal.returns-in-Ok-clause-turns

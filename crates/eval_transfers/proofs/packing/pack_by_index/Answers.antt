@@ -1,7 +1,6 @@
-use Rattle.std.proofs.Common.{sym, ap, ◌∙◌, arith, if◌then◌else◌}
-use Rattle.program_meaning.specs.Accesses.{locate}
+use Rattle.std.proofs.Common.{ap, arith, if◌then◌else◌}
 use Rattle.program_meaning.specs.Tree.{bind}
-use Rattle.eval_tasks.specs.Rest.{both_located, first_located, here, waiting}
+use Rattle.eval_tasks.specs.Rest.{both_located, here, waiting}
 use Rattle.eval_tasks.proofs.StepsFall.{falls_so}
 use Rattle.eval_tasks.proofs.Turning.{turns_same}
 use Rattle.eval_transfers.proofs.packing.pack_by_index.Goals as goal

@@ -1,9 +1,9 @@
-use Rattle.std.proofs.Common.{Bool, sym, arith, if◌then◌else◌}
+use Rattle.std.proofs.Common.{Bool, arith, if◌then◌else◌}
 use Rattle.program_meaning.specs.Acts.{TakeIf}
 use Rattle.program_meaning.specs.Input.{any_item, ends_line, past_item}
 use Rattle.program_meaning.specs.Statements.{nothing}
 use Rattle.program_meaning.specs.Tree.{RestOfLine, Ret, Sub}
-use Rattle.eval_ops.specs.Machines.{moment_of}
+use Rattle.eval_machine.specs.Machines.{moment_of}
 use Rattle.eval_tasks.specs.Rest.{here, waiting}
 use Rattle.eval_tasks.proofs.Moves.{begins, bind_if, comes_then, comes_same}
 use Rattle.eval_tasks.proofs.StepsFall.{first_falls, falls_so}

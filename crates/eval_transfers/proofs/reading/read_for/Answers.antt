@@ -4,7 +4,7 @@ use Rattle.program_meaning.specs.Accesses.{on_scalar}
 use Rattle.program_meaning.specs.Input.{next_char}
 use Rattle.program_meaning.specs.Transfers.{into}
 use Rattle.program_meaning.specs.Tree.{Scanning, Sub, bind, doing}
-use Rattle.eval_ops.specs.Machines.{moment_of}
+use Rattle.eval_machine.specs.Machines.{moment_of}
 use Rattle.eval_tasks.specs.Rest.{here, waiting}
 use Rattle.eval_tasks.proofs.StepsFall.{falls_so}
 use Rattle.eval_tasks.proofs.Turning.{turns_same}

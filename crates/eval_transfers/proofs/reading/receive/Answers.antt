@@ -1,10 +1,9 @@
-use Rattle.std.proofs.Common.{◌≡◌, Some, None, sym, ap, ◌∙◌, arith}
+use Rattle.std.proofs.Common.{◌≡◌, Some, None, ap, ◌∙◌}
 use Rattle.program_tables.specs.ProgramRows.{row_at}
 use Rattle.program_meaning.specs.Tree.{Receive}
-use Rattle.eval_ops.specs.Machines.{moment_of}
+use Rattle.eval_machine.specs.Machines.{moment_of}
 use Rattle.eval_rules.specs.Items.{element_in}
 use Rattle.eval_tasks.specs.Rest.{here, waiting}
-use Rattle.eval_tasks.proofs.StepsFall.{falls_so}
 use Rattle.eval_tasks.proofs.Turning.{part_comes, turns_after}
 use Rattle.eval_transfers.proofs.TransfersByRow.{received_by, with_element}
 use Rattle.eval_transfers.proofs.reading.receive.Goals as goal

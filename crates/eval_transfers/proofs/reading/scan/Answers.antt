@@ -1,9 +1,9 @@
-use Rattle.std.proofs.Common.{ap, arith}
+use Rattle.std.proofs.Common.{arith}
 use Rattle.program_meaning.specs.declared.scan.Scanned.{Scanned}
 use Rattle.program_meaning.specs.Input.{scan_on}
 use Rattle.program_meaning.specs.Transfers.{on_scanned}
 use Rattle.program_meaning.specs.Tree.{Scanning}
-use Rattle.eval_ops.specs.Machines.{moment_of}
+use Rattle.eval_machine.specs.Machines.{moment_of}
 use Rattle.eval_tasks.specs.Rest.{here, waiting}
 use Rattle.eval_tasks.proofs.Moves.{begins, comes_then}
 use Rattle.eval_tasks.proofs.StepsFall.{falls_so}

@@ -2,7 +2,7 @@ use Rattle.std.proofs.Common.{refl, sym, ap, ◌∙◌, sum_by, arith}
 use Rattle.program_tables.specs.ProgramRows.{row_at, type_at}
 use Rattle.program_meaning.specs.Variants.{assign_to, tag_accessed}
 use Rattle.program_meaning.specs.Tree.{Receive, Ret, Sub, bind, doing}
-use Rattle.eval_ops.specs.Machines.{moment_of}
+use Rattle.eval_machine.specs.Machines.{moment_of}
 use Rattle.eval_tasks.specs.Rest.{here, waiting, top, values_of}
 use Rattle.eval_tasks.specs.Weight.{task_weight}
 use Rattle.eval_tasks.proofs.StepsFall.{falls_so}

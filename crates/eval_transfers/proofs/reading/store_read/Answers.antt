@@ -1,5 +1,5 @@
 use Rattle.std.proofs.Common.{◌≡◌, ap, arith}
-use Rattle.eval_ops.specs.Machines.{moment_of}
+use Rattle.eval_machine.specs.Machines.{moment_of}
 use Rattle.eval_tasks.specs.declared.tasks.Task.TheVariants as tasks
 use Rattle.eval_tasks.specs.Weight.{task_weight}
 use Rattle.eval_tasks.proofs.StepsFall.{falls_so}

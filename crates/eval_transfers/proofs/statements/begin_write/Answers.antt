@@ -1,7 +1,7 @@
-use Rattle.std.proofs.Common.{sym, ap, ◌∙◌, arith, if◌then◌else◌}
+use Rattle.std.proofs.Common.{ap, arith, if◌then◌else◌}
 use Rattle.program_meaning.specs.Output.{end_line}
 use Rattle.program_meaning.specs.Statements.{finally, nothing, on_normal}
-use Rattle.program_meaning.specs.Tree.{Receive, RestOfLine, Print, Ret, Sub, bind}
+use Rattle.program_meaning.specs.Tree.{Print, Sub, bind}
 use Rattle.eval_tasks.specs.Rest.{here, waiting}
 use Rattle.eval_tasks.proofs.StepsFall.{falls_so}
 use Rattle.eval_tasks.proofs.Turning.{turns_same}

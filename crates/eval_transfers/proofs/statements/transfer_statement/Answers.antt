@@ -1,6 +1,6 @@
 use Rattle.std.proofs.Common.{arith}
 use Rattle.program_meaning.specs.Output.{end_page}
-use Rattle.eval_ops.specs.Machines.{moment_of}
+use Rattle.eval_machine.specs.Machines.{moment_of}
 use Rattle.eval_tasks.proofs.StepsFall.{falls_so}
 use Rattle.eval_transfers.proofs.statements.transfer_statement.Goals as goal
 

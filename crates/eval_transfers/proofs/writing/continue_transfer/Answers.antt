@@ -1,17 +1,17 @@
 use Rattle.std.proofs.Common.{◌≡◌, ap, arith}
-use Rattle.eval_ops.specs.Machines.{moment_of}
+use Rattle.eval_machine.specs.Machines.{moment_of}
 use Rattle.eval_tasks.specs.declared.tasks.Task.TheVariants as tasks
 use Rattle.eval_tasks.specs.Weight.{task_weight}
 use Rattle.eval_tasks.proofs.StepsFall.{falls_so}
 use Rattle.eval_transfers.proofs.writing.continue_transfer.Goals as goal
 
 pub returns-in-Integer-clause-turns : goal.returns-in-Integer-clause-turns
-returns-in-Integer-clause-turns c = rw c.in-Integer.is (c.hold.ensures.turns c.args.program.now (moment_of c.args.machine.now))
+returns-in-Integer-clause-turns c = rw c.in-Integer.is (c.locate_read.ensures.turns c.args.program.now (moment_of c.args.machine.now))
 
 pub returns-in-Integer-clause-falls : goal.returns-in-Integer-clause-falls
 returns-in-Integer-clause-falls c =
     let e : task_weight (tasks.Transfer c.args.transfer) ≡ 2 = ap (λ t. task_weight (tasks.Transfer t)) c.in-Integer.is in
-    falls_so c.hold.result _ _ _ _ (λ h. omega (arith, h, e)) c.hold.ensures.falls
+    falls_so c.locate_read.result _ _ _ _ (λ h. omega (arith, h, e)) c.locate_read.ensures.falls
 
 pub returns-in-Into-clause-turns : goal.returns-in-Into-clause-turns
 returns-in-Into-clause-turns c = rw c.in-Into.is (c.no_row.ensures.turns c.args.program.now (moment_of c.args.machine.now))
@@ -22,12 +22,12 @@ returns-in-Into-clause-falls c =
     falls_so c.no_row.result _ _ _ _ (λ h. omega (arith, h, e)) c.no_row.ensures.falls
 
 pub returns-in-Wide-clause-turns : goal.returns-in-Wide-clause-turns
-returns-in-Wide-clause-turns c = rw c.in-Wide.is (c.hold-in-Wide.ensures.turns c.args.program.now (moment_of c.args.machine.now))
+returns-in-Wide-clause-turns c = rw c.in-Wide.is (c.hold.ensures.turns c.args.program.now (moment_of c.args.machine.now))
 
 pub returns-in-Wide-clause-falls : goal.returns-in-Wide-clause-falls
 returns-in-Wide-clause-falls c =
     let e : task_weight (tasks.Transfer c.args.transfer) ≡ 2 = ap (λ t. task_weight (tasks.Transfer t)) c.in-Wide.is in
-    falls_so c.hold-in-Wide.result _ _ _ _ (λ h. omega (arith, h, e)) c.hold-in-Wide.ensures.falls
+    falls_so c.hold.result _ _ _ _ (λ h. omega (arith, h, e)) c.hold.ensures.falls
 
 pub returns-in-Written-clause-turns : goal.returns-in-Written-clause-turns
 returns-in-Written-clause-turns c = rw c.in-Written.is c.write.ensures.turns

@@ -1,5 +1,5 @@
 use Rattle.std.proofs.Common.{◌≡◌, ap, arith}
-use Rattle.eval_ops.specs.Machines.{moment_of}
+use Rattle.eval_machine.specs.Machines.{moment_of}
 use Rattle.eval_tasks.specs.declared.tasks.Task.TheVariants as tasks
 use Rattle.eval_tasks.specs.Weight.{task_weight}
 use Rattle.eval_tasks.proofs.StepsFall.{falls_so}
@@ -14,12 +14,12 @@ returns-in-Written-clause-falls c =
     falls_so c.write_text.result _ _ _ _ (λ h. omega (arith, h, e)) c.write_text.ensures.falls
 
 pub returns-in-Wide-clause-turns : goal.returns-in-Wide-clause-turns
-returns-in-Wide-clause-turns c p = rw c.in-Wide.is (c.wait.ensures.turns p (moment_of c.args.machine.now))
+returns-in-Wide-clause-turns c p = rw c.in-Wide.is (c.evaluate.ensures.turns p (moment_of c.args.machine.now))
 
 pub returns-in-Wide-clause-falls : goal.returns-in-Wide-clause-falls
 returns-in-Wide-clause-falls c =
     let e : task_weight (tasks.Transfer c.args.transfer) ≡ 2 = ap (λ t. task_weight (tasks.Transfer t)) c.in-Wide.is in
-    falls_so c.wait.result _ _ _ _ (λ h. omega (arith, h, e)) c.wait.ensures.falls
+    falls_so c.evaluate.result _ _ _ _ (λ h. omega (arith, h, e)) c.evaluate.ensures.falls
 
 pub returns-in-Integer-clause-turns : goal.returns-in-Integer-clause-turns
 returns-in-Integer-clause-turns c p = rw c.in-Integer.is (c.no_row.ensures.turns p (moment_of c.args.machine.now))

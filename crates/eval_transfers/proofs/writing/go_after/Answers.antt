@@ -1,5 +1,4 @@
-use Rattle.std.proofs.Common.{ap, arith, sym}
-use Rattle.program_meaning.specs.Tree.{bind}
+use Rattle.std.proofs.Common.{arith}
 use Rattle.eval_tasks.specs.Rest.{waiting}
 use Rattle.eval_tasks.proofs.StepsFall.{steps_fall, falls_so}
 use Rattle.eval_tasks.proofs.Turning.{did, fails, falls_failed, turns_after, turns_failed, turns_same}

@@ -1,7 +1,7 @@
 use Rattle.std.proofs.Common.{refl, arith}
 use Rattle.program_meaning.specs.Output.{host_at, scalar_text, written}
 use Rattle.program_meaning.specs.Tree.{Print, Ret, Sub}
-use Rattle.eval_ops.specs.Machines.{moment_of}
+use Rattle.eval_machine.specs.Machines.{moment_of}
 use Rattle.eval_tasks.specs.Rest.{here}
 use Rattle.eval_tasks.proofs.StepsFall.{falls_so}
 use Rattle.eval_transfers.proofs.writing.write.Goals as goal

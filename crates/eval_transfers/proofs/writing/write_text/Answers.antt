@@ -2,8 +2,8 @@ use Rattle.std.proofs.Common.{refl, sym, ap, ◌∙◌, sum_by, arith}
 use Rattle.program_meaning.specs.Output.{string_text, written}
 use Rattle.program_meaning.specs.Transfers.{print}
 use Rattle.program_meaning.specs.Tree.{Print, Ret, Sub, bind}
-use Rattle.eval_ops.specs.Machines.{moment_of}
-use Rattle.eval_tasks.specs.Rest.{here, waiting, resume, top_list, below, tasks_of, values_of, lists_of}
+use Rattle.eval_machine.specs.Machines.{moment_of}
+use Rattle.eval_tasks.specs.Rest.{here, waiting, top_list, lists_of}
 use Rattle.eval_tasks.specs.Weight.{task_weight}
 use Rattle.eval_tasks.proofs.StepsFall.{falls_so}
 use Rattle.eval_tasks.proofs.Turning.{turns_same}

@@ -2,7 +2,7 @@ use Rattle.std.proofs.Common.{Some, sym, ap, ◌∙◌, sum_by, arith}
 use Rattle.program_meaning.specs.Output.{host_at, scalar_text}
 use Rattle.program_meaning.specs.Transfers.{print}
 use Rattle.program_meaning.specs.Tree.{bind}
-use Rattle.eval_ops.specs.Machines.{moment_of}
+use Rattle.eval_machine.specs.Machines.{moment_of}
 use Rattle.eval_tasks.specs.Rest.{here, waiting, resume, below, tasks_of, values_of, lists_of}
 use Rattle.eval_tasks.specs.Weight.{task_weight}
 use Rattle.eval_tasks.proofs.StepsFall.{falls_so}

@@ -6,7 +6,7 @@ use mir.Val.{of_z, to_z}
 use Rattle.std.proofs.Common.{rules}
 use Rattle.program_tables.specs.declared.rows.TypeRow.TheVariants as kinds
 use Rattle.std.proofs.Common.{◌≡◌, Some, ap, ◌∙◌}
-use Rattle.eval_ops.specs.Machines.{moment_of}
+use Rattle.eval_machine.specs.Machines.{moment_of}
 use Rattle.eval_tasks.proofs.Turning.{turns_same}
 use Rattle.evaluator.proofs.returns.give_result_of.Goals as goal
 

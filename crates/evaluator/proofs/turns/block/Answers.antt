@@ -1,9 +1,9 @@
-use Rattle.std.proofs.Common.{◌≡◌, ℕ, List, [], Some, None, ap, sym}
+use Rattle.std.proofs.Common.{◌≡◌, ℕ, List, Some, None, ap, sym}
 use Rattle.program_tables.specs.ProgramRows.{routine_at}
 use Rattle.program_meaning.specs.Tree.{Body, Tree, Sub, Sequence, Ret}
 use Rattle.program_meaning.specs.Accesses.{no_row}
 use Rattle.program_meaning.specs.Layer.{of_body}
-use Rattle.eval_ops.specs.Machines.{moment_of}
+use Rattle.eval_machine.specs.Machines.{moment_of}
 use Rattle.eval_tasks.specs.Rest.{bare, here, resume, lists_of, tasks_of, values_of}
 use Rattle.eval_tasks.proofs.Moves.{comes_then, comes_same}
 use Rattle.eval_tasks.proofs.Turning.{part_comes, spent, not_spent, turns_after, turns_failed, fails_after}

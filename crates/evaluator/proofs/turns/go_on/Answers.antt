@@ -1,5 +1,5 @@
 use Rattle.std.proofs.Common.{refl, sym, subst, ◌∙◌}
-use Rattle.eval_ops.specs.Machines.{machine_state, moment_of}
+use Rattle.eval_machine.specs.Machines.{machine_state, moment_of}
 use Rattle.eval_tasks.specs.Rest.{rest_of}
 use Rattle.eval_tasks.specs.Stops.{StopsAt}
 use Rattle.eval_tasks.proofs.Moves.{comes_same, comes_then, stops_then}

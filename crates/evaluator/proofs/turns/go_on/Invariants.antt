@@ -1,5 +1,5 @@
 use Rattle.eval_tasks.specs.Records.{SameFrame}
-use Rattle.eval_ops.specs.Machines.{IsReady, moment_of}
+use Rattle.eval_machine.specs.Machines.{IsReady, moment_of}
 use Rattle.eval_tasks.specs.Rest.{rest_of}
 use Rattle.eval_tasks.specs.Stops.{Comes}
 use Rattle.eval_tasks.specs.Weight.{left_of}

@@ -4,7 +4,7 @@ use Rattle.std.proofs.Common.{◌+◌, ◌≤◌, length, length-append, ◌≡�
 use Rattle.std.proofs.lemmas.Option.{slice_get_within}
 use Rattle.call_tree.specs.Recording.{entered}
 use Rattle.program_tables.specs.ProgramRows.{routine_at}
-use Rattle.eval_ops.specs.Machines.{moment_of}
+use Rattle.eval_machine.specs.Machines.{moment_of}
 use Rattle.program_run.specs.Tower.{Rests, TowerAt, View}
 use Rattle.program_run.specs.Runners.{Begun, open_in, rest_in, view_of, work_left}
 use Rattle.program_run.proofs.RunnerSteps.{begun_calls, counted_entered, entered_stands, few_begun, on_ok, pushed}

@@ -1,6 +1,6 @@
 use Rattle.program_run.specs.declared.runner.Runner.{Runner}
 use Rattle.std.proofs.Common.{◌≡◌, ◌+◌, ◌<◌, ◌≤◌, arith, sym, subst}
-use Rattle.eval_ops.specs.Machines.{moment_of}
+use Rattle.eval_machine.specs.Machines.{moment_of}
 use Rattle.eval_tasks.specs.Stops.{AtLine, AtCall, AtEnd, StopsAt}
 use Rattle.eval_tasks.specs.Rest.{rest_of, waiting}
 use Rattle.eval_tasks.specs.Turns.{end_of, stop_of}

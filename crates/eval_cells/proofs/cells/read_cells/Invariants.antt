@@ -1,0 +1,12 @@
+use Rattle.std.proofs.Common.{◌≡◌, ◌-◌, [], length}
+use Rattle.program_meaning.specs.Cells as cells
+use Rattle.eval_machine.specs.Machines.{IsReady, moment_of}
+use Rattle.eval_machine.proofs.ActionsCompose.{CameTo}
+use Rattle.eval_cells.proofs.cells.read_cells.Given as goal
+
+abbrev pub invariant-cells : goal.invariant-cells
+invariant-cells l = record {
+  ready : IsReady l.machine;
+  count : length l.values ≡ l.counter;
+  came : CameTo (cells.reads [] l.addr l.cells) (moment_of l.fn.machine) (cells.reads l.values l.at (l.cells - l.counter)) (moment_of l.machine);
+}

@@ -1,0 +1,5 @@
+pub mod ActionsCompose
+pub mod CallsInFrames
+pub mod FramesByCell
+pub mod Lists
+pub mod WritesAsk

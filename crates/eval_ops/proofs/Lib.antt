@@ -1,7 +1,0 @@
-pub mod ActionsCompose
-pub mod Bounds
-pub mod CallsInFrames
-pub mod FramesByCell
-pub mod Lists
-pub mod VariantsEntered
-pub mod WritesAsk

@@ -1,7 +1,0 @@
-use Rattle.std.proofs.Common.{refl}
-use Rattle.cell_value.specs.Sets.{set_of, word_of}
-use Rattle.eval_ops.proofs.sets.no_members.Goals as goal
-
-pub returns : goal.returns
-unfolding set_of word_of
-returns c = refl

@@ -1,0 +1,7 @@
+use Rattle.std.proofs.Common.{refl}
+use Rattle.cell_value.specs.Sets.{set_of, word_of}
+use Rattle.eval_values.proofs.sets.no_members.Goals as goal
+
+pub returns : goal.returns
+unfolding set_of word_of
+returns c = refl

@@ -1,0 +1,2 @@
+mod NextUndefined
+mod VariantsEntered
