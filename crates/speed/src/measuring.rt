@@ -15,7 +15,7 @@ const BUDGET: u32 = 4_000_000;
 
 /// What the run of a workload took.
 #[derive(Clone, Copy)]
-pub struct Measured {
+pub(crate) struct Measured {
     /// The nanoseconds of the processor for the run.
     pub nanos: u128,
     /// The same for dropping what it left.
@@ -52,7 +52,7 @@ fn steps_of(calls: &Calls) -> u32 {
 }
 
 /// Measures the run of a source.
-pub fn measure(clock: &impl CpuClock, alloc: Global, source: &[u8]) -> Result<Measured> {
+pub(crate) fn measure(clock: &impl CpuClock, alloc: Global, source: &[u8]) -> Result<Measured> {
     let program = program_of(alloc, source)?;
     let start = clock.process_cpu_time()?;
     let history = run_of(alloc, &program)?;

@@ -68,7 +68,7 @@ begin
 end.";
 
 /// The source of the workload of this name.
-pub fn source_of(name: &str) -> Option<&'static str> {
+pub(crate) fn source_of(name: &str) -> Option<&'static str> {
     match name {
         "loop" => Some(LOOP),
         "array" => Some(ARRAY),

@@ -7,7 +7,7 @@ use std::rt::CpuClock;
 use std::time::Duration;
 
 /// The entries of a round, as many as a run has steps.
-pub const ENTRIES: u32 = 4_000_000;
+pub(crate) const ENTRIES: u32 = 4_000_000;
 
 /// The rounds, of which the fastest counts.
 const ROUNDS: u32 = 5;
@@ -20,7 +20,7 @@ struct Entry {
 }
 
 /// The nanoseconds of the processor since a time.
-pub fn nanos_since(clock: &impl CpuClock, start: Duration) -> Result<u128> {
+pub(crate) fn nanos_since(clock: &impl CpuClock, start: Duration) -> Result<u128> {
     Ok(clock.process_cpu_time()?.saturating_sub(start).as_nanos())
 }
 
@@ -46,7 +46,7 @@ fn sum_of(list: &[Entry]) -> u64 {
 
 /// What pushing the entries and summing them took.
 #[derive(Clone, Copy)]
-pub struct Pushed {
+pub(crate) struct Pushed {
     /// The nanoseconds of the fastest round.
     pub nanos: u128,
     /// The sum of the last round, which is printed so that no compiler leaves the work out.
@@ -54,7 +54,7 @@ pub struct Pushed {
 }
 
 /// Pushes the entries onto a list and sums them, round after round.
-pub fn push_and_sum(clock: &impl CpuClock, alloc: Global) -> Result<Pushed> {
+pub(crate) fn push_and_sum(clock: &impl CpuClock, alloc: Global) -> Result<Pushed> {
     let mut fastest = Pushed {
         nanos: u128::MAX,
         sum: 0,
