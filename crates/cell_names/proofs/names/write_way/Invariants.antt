@@ -1,4 +1,3 @@
-use Rattle.std.proofs.Common.{◌-◌}
 use Rattle.cell_names.specs.Names.{scene_in}
 use Rattle.cell_names.proofs.WaysDown.{IsOnWay}
 use Rattle.cell_names.proofs.names.write_way.Given as goal
