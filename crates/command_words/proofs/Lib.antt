@@ -1,0 +1,2 @@
+mod DigitsSpellSteps
+mod ClapReadsWords

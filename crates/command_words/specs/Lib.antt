@@ -1,0 +1,3 @@
+pub mod CommandLine
+pub mod Meaning
+pub mod Reading
