@@ -10,7 +10,6 @@ use Rattle.cell_value.specs.declared.entries.Change.TheVariants.{Set, Gone}
 use Rattle.program_tables.specs.ProgramRows.{ProgramRows, name_of, size_of, text_at}
 use Rattle.cell_names.specs.declared.names.Local.{Local}
 use Rattle.cell_names.specs.declared.names.Root.{Root}
-use Rattle.cell_names.specs.Places.{finds}
 use Rattle.cell_names.specs.Values.{typed_text, unknown}
 use Rattle.cell_names.specs.Names.{Scene, cell_held, cell_text, local_at, root_at, variable_name, way_down}
 use Rattle.question_text.specs.Lines.{inner_line}
