@@ -11,4 +11,8 @@ pub overflow_mul-number : goal.overflow_mul-number
 overflow_mul-number c = omega (arith, below_nine c.loop-digit.number c.loop-digit.digit-index c.loop-digit.invariant.below (omega arith))
 
 pub overflow_add-number : goal.overflow_add-number
-overflow_add-number c = omega (arith, c.type_inv.word c.loop-digit.digit-index, below_nine c.loop-digit.number c.loop-digit.digit-index c.loop-digit.invariant.below (omega arith))
+overflow_add-number c = omega (
+  arith,
+  c.type_inv.word c.loop-digit.digit-index,
+  below_nine c.loop-digit.number c.loop-digit.digit-index c.loop-digit.invariant.below (omega arith),
+)
