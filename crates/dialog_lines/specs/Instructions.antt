@@ -1,0 +1,43 @@
+-- What a line of the console asks for.
+use Rattle.std.specs.Prelude.{ℕ, List, [], ◌∷◌, Option, Some, None}
+use Rattle.dialog_lines.specs.declared.instructions.Instruction.{Instruction}
+use Rattle.dialog_lines.specs.declared.instructions.Instruction.TheVariants as ask
+use Rattle.dialog_lines.specs.declared.keywords.Keyword.{Keyword}
+use Rattle.dialog_lines.specs.declared.keywords.Keyword.TheVariants as key
+use Rattle.dialog_lines.specs.Keywords.{keyword_of}
+use Rattle.dialog_lines.specs.Numbers.{number_of, routine_number}
+use Rattle.dialog_lines.specs.Words.{words}
+
+-- what is asked for with a number, where the word is one
+abbrev pub with_number : Option ℕ → (ℕ → Instruction) → Instruction
+with_number (Some number) asked = asked number
+with_number None asked = ask.Other
+
+-- a word after `trust` that is no `#` with a number is a name
+abbrev pub trust_by : (word : List ℕ) → Option ℕ → Instruction
+trust_by word (Some routine) = ask.Trust routine
+trust_by word None = ask.TrustNamed word
+
+abbrev pub trust_in : List ℕ → Instruction
+trust_in word = trust_by word (routine_number word)
+
+-- by the first word and those after it
+abbrev pub instruction_by : Keyword → List (List ℕ) → Instruction
+instruction_by (key.Judge judgement) [] = ask.Judge judgement None
+instruction_by (key.Judge judgement) (call ∷ []) =
+    with_number (number_of call) (λ number. ask.Judge judgement (Some number))
+instruction_by key.Trust (routine ∷ []) = trust_in routine
+instruction_by key.Back [] = ask.TakeBack None
+instruction_by key.Back (entry ∷ []) = with_number (number_of entry) (λ number. ask.TakeBack (Some number))
+instruction_by key.Show (call ∷ []) = with_number (number_of call) ask.Show
+instruction_by key.Tree [] = ask.Tree
+instruction_by key.Quit [] = ask.Quit
+instruction_by keyword others = ask.Other
+
+abbrev pub instruction_of_words : List (List ℕ) → Instruction
+instruction_of_words [] = ask.Nothing
+instruction_of_words (word ∷ others) = instruction_by (keyword_of word) others
+
+-- what a line asks for
+abbrev pub instruction_of : List ℕ → Instruction
+instruction_of line = instruction_of_words (words line)

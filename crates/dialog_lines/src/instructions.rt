@@ -1,0 +1,125 @@
+//! What a line of the console asks for.
+ghost use Rattle.std.specs.Prelude.{◌≡◌, ◌∷◌, []};
+ghost use Rattle.dialog_lines.specs.Instructions.{instruction_by, instruction_of, trust_in};
+ghost use Rattle.dialog_lines.specs.Words.{words};
+
+use crate::keywords::{Keyword, keyword_in};
+use crate::numbers::{number_in, routine_number};
+use crate::words::first_word;
+use answer_book::Judgement;
+use std::marker::Model;
+
+/// The name of a routine, as it was typed. Clauses see its bytes.
+#[derive(Drop)]
+pub struct Name<'a> {
+    bytes: &'a [u8],
+}
+
+impl<'a> Model for Name<'a> {
+    ghost use Rattle.std.specs.Prelude.{ℕ, List};
+
+    ghost Value = { List ℕ };
+
+    ghost view = { λ name. name.bytes.now };
+}
+
+impl<'a> Name<'a> {
+    /// Its bytes.
+    pub fn bytes(&self) -> &[u8]
+        ensures { result.now ≡ self.now }
+    {
+        self.bytes
+    }
+}
+
+/// What a line of the console asks for.
+#[derive(Drop)]
+pub enum Instruction<'a> {
+    /// A line without words: nothing.
+    Nothing,
+    /// `right`, `wrong` and `unknown`: a judgement on the call of this number, or on the one that is
+    /// asked about.
+    Judge(Judgement, Option<u32>),
+    /// `trust NAME`: trust in the routine of this name.
+    TrustNamed(Name<'a>),
+    /// `trust #R`: trust in the routine of this number.
+    Trust(u32),
+    /// `back`: to take back the entry of this number, or the last one that stands.
+    TakeBack(Option<u32>),
+    /// `show K`: the card of the call of this number.
+    Show(u32),
+    /// `tree`: the marks of all calls.
+    Tree,
+    /// `quit`: the end of the session.
+    Quit,
+    /// Any other line, which is not understood.
+    Other,
+}
+
+/// What a keyword alone asks for.
+fn alone<'a>(keyword: Keyword) -> Instruction<'a>
+    ensures { result ≡ instruction_by keyword [] }
+{
+    match keyword {
+        Keyword::Judge(judgement) => Instruction::Judge(judgement, None),
+        Keyword::Back => Instruction::TakeBack(None),
+        Keyword::Tree => Instruction::Tree,
+        Keyword::Quit => Instruction::Quit,
+        Keyword::Trust | Keyword::Show | Keyword::Other => Instruction::Other,
+    }
+}
+
+/// What `trust` asks for with this word after it.
+fn trust<'a>(routine: &'a [u8]) -> Instruction<'a>
+    ensures { result ≡ trust_in routine.now }
+{
+    match routine_number(routine) {
+        Some(number) => Instruction::Trust(number),
+        None => Instruction::TrustNamed(Name { bytes: routine }),
+    }
+}
+
+/// What a keyword asks for with this word after it.
+fn with_operand<'a>(keyword: Keyword, operand: &'a [u8]) -> Instruction<'a>
+    ensures { result ≡ instruction_by keyword (operand.now ∷ []) }
+{
+    match keyword {
+        Keyword::Trust => trust(operand),
+        Keyword::Judge(judgement) => match number_in(operand) {
+            Some(call) => Instruction::Judge(judgement, Some(call)),
+            None => Instruction::Other,
+        },
+        Keyword::Back => match number_in(operand) {
+            Some(entry) => Instruction::TakeBack(Some(entry)),
+            None => Instruction::Other,
+        },
+        Keyword::Show => match number_in(operand) {
+            Some(call) => Instruction::Show(call),
+            None => Instruction::Other,
+        },
+        Keyword::Tree | Keyword::Quit | Keyword::Other => Instruction::Other,
+    }
+}
+
+/// What a keyword asks for, by what follows it in the line.
+fn with_rest<'a>(keyword: Keyword, rest: &'a [u8]) -> Instruction<'a>
+    ensures { result ≡ instruction_by keyword (words rest.now) }
+{
+    match first_word(rest) {
+        None => alone(keyword),
+        Some((operand, more)) => match first_word(more) {
+            None => with_operand(keyword, operand),
+            Some(_) => Instruction::Other,
+        },
+    }
+}
+
+/// What a line of the console asks for.
+pub fn instruction_in<'a>(line: &'a [u8]) -> Instruction<'a>
+    ensures { result ≡ instruction_of line.now }
+{
+    match first_word(line) {
+        None => Instruction::Nothing,
+        Some((word, rest)) => with_rest(keyword_in(word), rest),
+    }
+}

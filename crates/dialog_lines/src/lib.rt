@@ -1,0 +1,10 @@
+//! The lines of the dialog: what a line of the console asks for. Blanks part its words, the first one
+//! says what is to be done, and the others are numbers or a routine's name.
+#![tactic(auto)]
+
+mod instructions;
+mod keywords;
+mod numbers;
+mod words;
+
+pub use instructions::{Instruction, Name, instruction_in};

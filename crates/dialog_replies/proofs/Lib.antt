@@ -1,0 +1,4 @@
+pub mod RisingCalls
+pub mod NamedCalls
+pub mod ColumnsOfCalls
+pub mod LinesInTurn

@@ -1,0 +1,55 @@
+use Rattle.std.proofs.Common.{◌≡◌, ◌++◌, ℕ, List, ap, sym, ◌∙◌}
+use Rattle.std.specs.Prelude.{Some, None, filter, find}
+use Rattle.std.specs.List.{flat_map}
+use Rattle.optimal_query.specs.Region.{is_after}
+use Rattle.dialog_replies.specs.Subject.{calls_of, doubts_after}
+use Rattle.dialog_replies.specs.Texts.{doubt_line, doubt_lines}
+use Rattle.dialog_replies.proofs.LinesInTurn.{all_written, line_written, shorter}
+use Rattle.dialog_replies.proofs.NamedCalls.{all_rise, next_of_doubts}
+use Rattle.dialog_replies.proofs.RisingCalls.{all_after_none, found_within, next_is, none_is}
+use Rattle.dialog_replies.proofs.reports.write_doubts.Goals as goal
+
+pub doubts-init : goal.doubts-init
+doubts-init g c =
+    let s = g.D.Debugged.subject c.args.run.now in
+    record { written = ap (λ (ns : List ℕ). c.args.out.now ++ flat_map (doubt_line s) ns) (all_after_none (doubts_after s c.args.debug.now.book.entries)) }
+
+pub write_doubt-requires : goal.write_doubt-requires
+write_doubt-requires g c =
+    let s = g.D.Debugged.subject c.args.run.now in
+    let ds = doubts_after s c.args.debug.now.book.entries in
+    let found : find (is_after c.doubts.last) ds ≡ Some c.in-Some.doubt =
+    sym (next_of_doubts s c.args.debug.now c.doubts.last c.requires) ∙ sym c.next_unknown.ensures ∙ c.in-Some.is in
+    (found_within (is_after c.doubts.last) 0 (calls_of s) ds c.in-Some.doubt (all_rise s c.args.debug.now.book.entries) found).1
+
+pub doubts-smaller : goal.doubts-smaller
+doubts-smaller g c =
+    let s = g.D.Debugged.subject c.args.run.now in
+    let ds = doubts_after s c.args.debug.now.book.entries in
+    let found : find (is_after c.doubts.last) ds ≡ Some c.in-Some.doubt =
+    sym (next_of_doubts s c.args.debug.now c.doubts.last c.requires) ∙ sym c.next_unknown.ensures ∙ c.in-Some.is in
+    shorter (filter (is_after c.doubts.last) ds) (filter (is_after (Some c.in-Some.doubt)) ds) c.in-Some.doubt
+    (next_is c.doubts.last 0 (calls_of s) ds c.in-Some.doubt (all_rise s c.args.debug.now.book.entries) found)
+
+pub doubts-preserved : goal.doubts-preserved
+doubts-preserved g c =
+    let s = g.D.Debugged.subject c.args.run.now in
+    let entries = c.args.debug.now.book.entries in
+    let ds = doubts_after s entries in
+    let found : find (is_after c.doubts.last) ds ≡ Some c.in-Some.doubt =
+    sym (next_of_doubts s c.args.debug.now c.doubts.last c.requires) ∙ sym c.next_unknown.ensures ∙ c.in-Some.is in
+    record {
+      written = line_written (doubt_line s) c.doubts.out c.write_doubt.new.out (c.args.out.now ++ doubt_lines s entries) c.in-Some.doubt
+          (filter (is_after c.doubts.last) ds) (filter (is_after (Some c.in-Some.doubt)) ds)
+          (next_is c.doubts.last 0 (calls_of s) ds c.in-Some.doubt (all_rise s entries) found) c.in_ok-write_doubt-in-Some.ensures c.doubts.invariant.written;
+    }
+
+pub returns-in-None : goal.returns-in-None
+returns-in-None g c =
+    let s = g.D.Debugged.subject c.args.run.now in
+    let entries = c.args.debug.now.book.entries in
+    let ds = doubts_after s entries in
+    let none : find (is_after c.doubts.last) ds ≡ None =
+    sym (next_of_doubts s c.args.debug.now c.doubts.last c.requires) ∙ sym c.next_unknown.ensures ∙ c.in-None.is in
+    all_written (doubt_line s) c.doubts.out (c.args.out.now ++ doubt_lines s entries) (filter (is_after c.doubts.last) ds)
+    (none_is (is_after c.doubts.last) ds none) c.doubts.invariant.written

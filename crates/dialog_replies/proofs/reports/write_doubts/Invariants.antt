@@ -1,0 +1,18 @@
+use Rattle.std.proofs.Common.{◌≡◌, ◌++◌, length}
+use Rattle.std.specs.Prelude.{filter}
+use Rattle.std.specs.List.{flat_map}
+use Rattle.optimal_query.specs.Region.{is_after}
+use Rattle.dialog_replies.specs.Subject.{doubts_after}
+use Rattle.dialog_replies.specs.Texts.{doubt_line, doubt_lines}
+use Rattle.dialog_replies.proofs.reports.write_doubts.Given as goal
+
+abbrev pub invariant-doubts : goal.invariant-doubts
+invariant-doubts g l =
+    let s = g.D.Debugged.subject l.run in
+    record {
+      written : l.out ++ flat_map (doubt_line s) (filter (is_after l.last) (doubts_after s l.debug.book.entries))
+          ≡ l.fn.out ++ doubt_lines s l.debug.book.entries;
+    }
+
+abbrev pub decreases-doubts : goal.decreases-doubts
+decreases-doubts g l = length (filter (is_after l.last) (doubts_after (g.D.Debugged.subject l.run) l.debug.book.entries))

@@ -1,0 +1,4 @@
+pub mod Subject
+pub mod Texts
+pub mod Replies
+pub mod Kept

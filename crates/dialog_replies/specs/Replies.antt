@@ -1,0 +1,104 @@
+-- What each line of the dialog is replied, and the entries after it.
+use Rattle.std.specs.Prelude.{ℕ, ◌++◌, nat_lt, if◌then◌else◌, codes, decimal, List}
+use Rattle.std.specs.Prelude.{[], Option, Some, None, Result, Ok, Err}
+use Rattle.answer_book.specs.declared.entries.BookFault.{BookFault}
+use Rattle.answer_book.specs.declared.entries.BookFault.TheVariants as fault
+use Rattle.answer_book.specs.declared.entries.Entry.{Entry}
+use Rattle.answer_book.specs.declared.entries.Judgement.{Judgement}
+use Rattle.answer_book.specs.declared.entries.What.{What}
+use Rattle.answer_book.specs.declared.entries.What.TheVariants.{Judged, Trusted}
+use Rattle.answer_book.specs.Answers.{judge_answer, take_back_answer, take_back_last_answer, trust_answer}
+use Rattle.answer_book.specs.Entries.{entries_with, entries_without, first_entries}
+use Rattle.optimal_query.specs.declared.state.State.{State}
+use Rattle.optimal_query.specs.declared.state.State.TheVariants.{Ask}
+use Rattle.dialog_lines.specs.declared.instructions.Instruction.{Instruction}
+use Rattle.dialog_lines.specs.declared.instructions.Instruction.TheVariants as asked
+use Rattle.dialog_replies.specs.Subject.{Subject, book_of, calls_of, routine_named, state_after}
+use Rattle.dialog_replies.specs.Texts.{report, tree_text}
+
+-- the entries after a line, and its reply
+pub record Outcome : Type 0 where
+  pub entries : List Entry
+  pub reply : List ℕ
+
+abbrev pub replied : List Entry → List ℕ → Outcome
+replied entries reply = record { entries = entries; reply = reply }
+
+-- ---- refusals, which change nothing
+
+abbrev pub no_call : ℕ → List ℕ
+no_call call = codes "no call " ++ decimal call ++ codes "\n"
+
+abbrev pub refusal_text : BookFault → List ℕ
+refusal_text (fault.NoCall call) = no_call call
+refusal_text (fault.NoRoutine routine) = codes "no routine #" ++ decimal routine ++ codes "\n"
+refusal_text (fault.NotStanding number) = codes "entry " ++ decimal number ++ codes " does not stand\n"
+refusal_text fault.NothingStanding = codes "nothing stands\n"
+refusal_text fault.Full = codes "book is full\n"
+
+-- ---- a new entry, if the book takes it
+
+abbrev pub entry_text : Subject → List Entry → ℕ → List ℕ
+entry_text s entries number = codes "entry " ++ decimal number ++ codes "\n" ++ report s entries
+
+abbrev pub adds : Subject → List Entry → What → Result ℕ BookFault → Outcome
+adds s entries what (Ok number) =
+    replied (entries_with entries what) (entry_text s (entries_with entries what) number)
+adds s entries what (Err why) = replied entries (refusal_text why)
+
+abbrev pub judges : Subject → List Entry → Judgement → ℕ → Outcome
+judges s entries judgement call = adds s entries (Judged call judgement) (judge_answer (book_of s entries) call)
+
+-- a judgement on the call that is asked about
+abbrev pub judges_asked : Subject → List Entry → Judgement → State → Outcome
+judges_asked s entries judgement (Ask call weight suspects left) = judges s entries judgement call
+judges_asked s entries judgement state = replied entries (codes "no question\n")
+
+abbrev pub trusts : Subject → List Entry → ℕ → Outcome
+trusts s entries routine = adds s entries (Trusted routine) (trust_answer (book_of s entries) routine)
+
+abbrev pub trusts_named : Subject → List Entry → List ℕ → Option ℕ → Outcome
+trusts_named s entries name (Some routine) = trusts s entries routine
+trusts_named s entries name None = replied entries (codes "no routine " ++ name ++ codes "\n")
+
+-- ---- an entry is taken back, if it stands
+
+abbrev pub back_text : Subject → List Entry → ℕ → List ℕ
+back_text s entries number = codes "back " ++ decimal number ++ codes "\n" ++ report s entries
+
+abbrev pub without : Subject → List Entry → ℕ → Outcome
+without s entries number =
+    replied (entries_without entries number) (back_text s (entries_without entries number) number)
+
+abbrev pub takes_back : Subject → List Entry → ℕ → Result (Unit {0}) BookFault → Outcome
+takes_back s entries number (Ok done) = without s entries number
+takes_back s entries number (Err why) = replied entries (refusal_text why)
+
+abbrev pub takes_back_last : Subject → List Entry → Result ℕ BookFault → Outcome
+takes_back_last s entries (Ok number) = without s entries number
+takes_back_last s entries (Err why) = replied entries (refusal_text why)
+
+-- ---- what is asked for
+
+abbrev pub card_or_none : Subject → ℕ → List ℕ
+card_or_none s call = if nat_lt call (calls_of s) then s.card call else no_call call
+
+unfoldable pub outcome : Subject → List Entry → Instruction → Outcome
+outcome s entries asked.Nothing = replied entries []
+outcome s entries (asked.Judge judgement None) = judges_asked s entries judgement (state_after s entries)
+outcome s entries (asked.Judge judgement (Some call)) = judges s entries judgement call
+outcome s entries (asked.TrustNamed name) = trusts_named s entries name (routine_named s name)
+outcome s entries (asked.Trust routine) = trusts s entries routine
+outcome s entries (asked.TakeBack None) =
+    takes_back_last s entries (take_back_last_answer (book_of s entries))
+outcome s entries (asked.TakeBack (Some number)) =
+    takes_back s entries number (take_back_answer (book_of s entries) number)
+outcome s entries (asked.Show call) = replied entries (card_or_none s call)
+outcome s entries asked.Tree = replied entries (tree_text s entries)
+outcome s entries asked.Quit = replied entries []
+outcome s entries asked.Other = replied entries (codes "not understood\n")
+
+-- ---- what a session opens with: the card of call 0, and a report
+
+abbrev pub opening : Subject → List ℕ
+opening s = s.card 0 ++ report s first_entries

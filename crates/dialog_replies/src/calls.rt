@@ -1,0 +1,64 @@
+//! Calls and routines by number and name.
+ghost use Rattle.std.specs.Prelude.{◌≡◌, ◌<◌, ◌++◌, OnOk, decimal};
+ghost use Rattle.std.specs.Str.{str_eq_ignore_ascii_case};
+ghost use Rattle.dialog_replies.specs.Subject.{calls_of, routine_named};
+ghost use Rattle.dialog_replies.specs.Texts.{named_call, parent_of, routine_of};
+
+use crate::debugged::Debugged;
+use edge_ports::{Bytes, Memory};
+use itoa::Buffer;
+
+/// Appends a number in decimal.
+pub fn write_number(out: &mut Bytes, number: u32) -> Result<(), Memory>
+    ensures { OnOk result (out.new ≡ out.old ++ decimal number) }
+{
+    let mut buffer = Buffer::new();
+    out.append(buffer.format(number).as_bytes())?;
+    Ok(())
+}
+
+/// The routine of a call.
+pub fn routine_of<D: Debugged>(run: &D, call: u32) -> u32
+    requires { call < calls_of (D.subject run.now) }
+    ensures { result ≡ routine_of (D.subject run.now) call }
+{
+    run.calls().routine_column()[call as usize]
+}
+
+/// The call that made a call.
+pub fn parent_of<D: Debugged>(run: &D, call: u32) -> Option<u32>
+    requires { call < calls_of (D.subject run.now) }
+    ensures { result ≡ parent_of (D.subject run.now) call }
+{
+    run.calls().call(call).parent
+}
+
+/// Appends a call by its number and the name of its routine.
+pub fn write_named_call<D: Debugged>(out: &mut Bytes, run: &D, call: u32) -> Result<(), Memory>
+    requires { call < calls_of (D.subject run.now) }
+    ensures { OnOk result (out.new ≡ out.old ++ named_call (D.subject run.now) call) }
+{
+    write_number(out, call)?;
+    out.append(b" ")?;
+    out.append(run.name(routine_of(run, call)))?;
+    Ok(())
+}
+
+/// Whether two spellings are of one name: letter case does not count (ISO 7185, 6.1.1).
+fn is_same_name(one: &[u8], other: &[u8]) -> bool
+    ensures { result ≡ str_eq_ignore_ascii_case one.now other.now }
+{
+    one.eq_ignore_ascii_case(other)
+}
+
+/// The routine of least number with this name.
+pub fn routine_named<D: Debugged>(run: &D, name: &[u8]) -> Option<u32>
+    ensures { result ≡ routine_named (D.subject run.now) name.now }
+{
+    for routine in 0..run.calls().routines() {
+        if is_same_name(run.name(routine), name) {
+            return Some(routine);
+        }
+    }
+    None
+}

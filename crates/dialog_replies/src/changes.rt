@@ -1,0 +1,162 @@
+//! The replies to changes of the book.
+ghost use Rattle.std.specs.Prelude.{◌≡◌, ◌++◌, IfOk, decimal};
+ghost use Rattle.dialog_replies.specs.Kept.{IsSearchOf};
+ghost use Rattle.dialog_replies.specs.Replies.{adds, back_text, entry_text, judges, refusal_text, replied, takes_back};
+ghost use Rattle.dialog_replies.specs.Replies.{takes_back_last, trusts};
+ghost use Rattle.dialog_replies.specs.Subject.{book_of};
+ghost use Rattle.answer_book.specs.Answers.{take_back_answer, take_back_last_answer};
+
+use crate::calls::write_number;
+use crate::debugged::Debugged;
+use crate::reports::write_report;
+use answer_book::{BookFault, Judgement};
+use cell_value::Steps;
+use edge_ports::{Bytes, Memory};
+use optimal_query::Debug;
+use std::alloc::Global;
+
+/// What the steps of the search are counted by.
+struct Uncounted;
+
+/// A text of these parts: words, a number, and words.
+fn numbered_text(alloc: Global, before: &[u8], number: u32, after: &[u8]) -> Result<Bytes, Memory>
+    ensures { IfOk result (λ text. text ≡ before.now ++ decimal number ++ after.now) }
+{
+    let mut text = Bytes::new(alloc);
+    text.append(before)?;
+    write_number(&mut text, number)?;
+    text.append(after)?;
+    Ok(text)
+}
+
+/// Bytes of their own with this text.
+pub fn text_of(alloc: Global, text: &[u8]) -> Result<Bytes, Memory>
+    ensures { IfOk result (λ bytes. bytes ≡ text.now) }
+{
+    let mut bytes = Bytes::new(alloc);
+    bytes.append(text)?;
+    Ok(bytes)
+}
+
+/// The reply to a change that is refused.
+pub fn refusal(alloc: Global, fault: BookFault) -> Result<Bytes, Memory>
+    ensures { IfOk result (λ text. text ≡ refusal_text fault) }
+{
+    match fault {
+        BookFault::NoCall(call) => numbered_text(alloc, b"no call ", call, b"\n"),
+        BookFault::NoRoutine(routine) => numbered_text(alloc, b"no routine #", routine, b"\n"),
+        BookFault::NotStanding(entry) => {
+            numbered_text(alloc, b"entry ", entry, b" does not stand\n")
+        }
+        BookFault::NothingStanding => text_of(alloc, b"nothing stands\n"),
+        BookFault::Full => text_of(alloc, b"book is full\n"),
+    }
+}
+
+/// The reply to a new entry of this number: its number, and a report.
+fn entry_made<D: Debugged>(
+    alloc: Global,
+    run: &D,
+    debug: &Debug,
+    number: u32,
+) -> Result<Bytes, Memory>
+    requires { IsSearchOf (D.subject run.now) debug.now }
+    ensures { IfOk result (λ text. text ≡ entry_text (D.subject run.now) debug.now.book.entries number) }
+{
+    let mut text = numbered_text(alloc, b"entry ", number, b"\n")?;
+    write_report(alloc, &mut text, run, debug)?;
+    Ok(text)
+}
+
+/// The reply to an entry of this number that was taken back: its number, and a report.
+fn taken_back<D: Debugged>(
+    alloc: Global,
+    run: &D,
+    debug: &Debug,
+    number: u32,
+) -> Result<Bytes, Memory>
+    requires { IsSearchOf (D.subject run.now) debug.now }
+    ensures { IfOk result (λ text. text ≡ back_text (D.subject run.now) debug.now.book.entries number) }
+{
+    let mut text = numbered_text(alloc, b"back ", number, b"\n")?;
+    write_report(alloc, &mut text, run, debug)?;
+    Ok(text)
+}
+
+/// Judges a call.
+pub fn judge<D: Debugged>(
+    alloc: Global,
+    run: &D,
+    debug: &mut Debug,
+    judgement: Judgement,
+    call: u32,
+) -> Result<Bytes, Memory>
+    requires search { IsSearchOf (D.subject run.now) debug.old }
+    ensures judged { IfOk result (λ text. replied debug.new.book.entries text
+        ≡ judges (D.subject run.now) debug.old.book.entries judgement call) }
+    ensures search { IsSearchOf (D.subject run.now) debug.new }
+{
+    let mut steps: Steps<Uncounted> = Steps::new();
+    match debug.judge(call, judgement, &mut steps) {
+        Ok(number) => entry_made(alloc, run, debug, number),
+        Err(fault) => refusal(alloc, fault),
+    }
+}
+
+/// Trusts the routine of a number.
+pub fn trust<D: Debugged>(
+    alloc: Global,
+    run: &D,
+    debug: &mut Debug,
+    routine: u32,
+) -> Result<Bytes, Memory>
+    requires search { IsSearchOf (D.subject run.now) debug.old }
+    ensures trusted { IfOk result (λ text. replied debug.new.book.entries text
+        ≡ trusts (D.subject run.now) debug.old.book.entries routine) }
+    ensures search { IsSearchOf (D.subject run.now) debug.new }
+{
+    let mut steps: Steps<Uncounted> = Steps::new();
+    match debug.trust(routine, &mut steps) {
+        Ok(number) => entry_made(alloc, run, debug, number),
+        Err(fault) => refusal(alloc, fault),
+    }
+}
+
+/// Takes back the entry of a number.
+pub fn take_back<D: Debugged>(
+    alloc: Global,
+    run: &D,
+    debug: &mut Debug,
+    number: u32,
+) -> Result<Bytes, Memory>
+    requires search { IsSearchOf (D.subject run.now) debug.old }
+    ensures taken { IfOk result (λ text. replied debug.new.book.entries text
+        ≡ takes_back (D.subject run.now) debug.old.book.entries number
+        (take_back_answer (book_of (D.subject run.now) debug.old.book.entries) number)) }
+    ensures search { IsSearchOf (D.subject run.now) debug.new }
+{
+    let mut steps: Steps<Uncounted> = Steps::new();
+    match debug.take_back(number, &mut steps) {
+        Ok(()) => taken_back(alloc, run, debug, number),
+        Err(fault) => refusal(alloc, fault),
+    }
+}
+
+/// Takes back the last entry that stands.
+pub fn take_back_last<D: Debugged>(
+    alloc: Global,
+    run: &D,
+    debug: &mut Debug,
+) -> Result<Bytes, Memory>
+    requires search { IsSearchOf (D.subject run.now) debug.old }
+    ensures taken { IfOk result (λ text. replied debug.new.book.entries text
+        ≡ takes_back_last (D.subject run.now) debug.old.book.entries
+        (take_back_last_answer (book_of (D.subject run.now) debug.old.book.entries))) }
+    ensures search { IsSearchOf (D.subject run.now) debug.new }
+{
+    let mut steps: Steps<Uncounted> = Steps::new();
+    match debug.take_back_last(&mut steps) {
+        Ok(number) => taken_back(alloc, run, debug, number),
+        Err(fault) => refusal(alloc, fault),
+    }
+}

@@ -1,0 +1,32 @@
+//! What the dialog needs of a run.
+ghost use Rattle.std.specs.Prelude.{◌≡◌, ◌<◌, ◌++◌, OnOk};
+ghost use Rattle.dialog_replies.specs.Kept.{AreCallsOf};
+ghost use Rattle.dialog_replies.specs.Subject.{Subject, calls_of};
+
+use call_tree::Calls;
+use edge_ports::{Bytes, Memory};
+use std::alloc::Global;
+
+/// A run that is debugged: its calls, the routines of its program, and the texts on its calls.
+pub trait Debugged {
+    /// The columns, names and texts.
+    ghost subject: { Self → Subject };
+
+    /// The calls of the run, of which there is one at least; all were left.
+    fn calls(&self) -> &Calls
+        ensures { AreCallsOf (subject self.now) result.now };
+
+    /// The name of a routine, as its first heading spells it.
+    fn name(&self, routine: u32) -> &[u8]
+        ensures { result.now ≡ (subject self.now).name routine };
+
+    /// Appends the card of a call.
+    fn write_card(&self, alloc: Global, out: &mut Bytes, call: u32) -> Result<(), Memory>
+        requires { call < calls_of (subject self.now) }
+        ensures { OnOk result (out.new ≡ out.old ++ (subject self.now).card call) };
+
+    /// Appends the lines of the trace of a call, the last of which says how the call ended.
+    fn write_trace(&self, alloc: Global, out: &mut Bytes, call: u32) -> Result<(), Memory>
+        requires { call < calls_of (subject self.now) }
+        ensures { OnOk result (out.new ≡ out.old ++ (subject self.now).trace call) };
+}

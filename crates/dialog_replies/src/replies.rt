@@ -1,0 +1,131 @@
+//! The reply to each line.
+ghost use Rattle.std.specs.Prelude.{◌≡◌, ◌++◌, IfOk, codes};
+ghost use Rattle.answer_book.specs.Entries.{first_entries};
+ghost use Rattle.dialog_replies.specs.Kept.{IsSearchOf};
+ghost use Rattle.dialog_replies.specs.Replies.{card_or_none, judges_asked, opening, outcome, replied, trusts_named};
+ghost use Rattle.dialog_replies.specs.Subject.{routine_named, state_after};
+ghost use Rattle.dialog_replies.specs.Texts.{tree_text};
+
+use crate::calls::routine_named;
+use crate::changes::{judge, refusal, take_back, take_back_last, text_of, trust};
+use crate::debugged::Debugged;
+use crate::reports::{state_now, write_report};
+use crate::trees::write_tree;
+use answer_book::{BookFault, Judgement};
+use dialog_lines::Instruction;
+use edge_ports::{Bytes, Memory};
+use optimal_query::{Debug, State};
+use std::alloc::Global;
+
+/// What a session opens with: the card of call 0, and a report.
+pub fn open<D: Debugged>(alloc: Global, run: &D, debug: &Debug) -> Result<Bytes, Memory>
+    requires search { IsSearchOf (D.subject run.now) debug.now }
+    requires first { debug.now.book.entries ≡ first_entries }
+    ensures { IfOk result (λ text. text ≡ opening (D.subject run.now)) }
+{
+    let mut text = Bytes::new(alloc);
+    run.write_card(alloc, &mut text, 0)?;
+    write_report(alloc, &mut text, run, debug)?;
+    Ok(text)
+}
+
+/// Judges the call that is asked about.
+fn judge_asked<D: Debugged>(
+    alloc: Global,
+    run: &D,
+    debug: &mut Debug,
+    judgement: Judgement,
+) -> Result<Bytes, Memory>
+    requires search { IsSearchOf (D.subject run.now) debug.old }
+    ensures judged { IfOk result (λ text. replied debug.new.book.entries text
+        ≡ judges_asked (D.subject run.now) debug.old.book.entries judgement
+        (state_after (D.subject run.now) debug.old.book.entries)) }
+    ensures search { IsSearchOf (D.subject run.now) debug.new }
+{
+    match state_now(run, debug) {
+        State::Ask { call, .. } => judge(alloc, run, debug, judgement, call),
+        State::Found(_) | State::Narrowed(_) | State::NothingWrong | State::Unclear => {
+            text_of(alloc, b"no question\n")
+        }
+    }
+}
+
+/// The reply where no routine has this name.
+fn no_routine(alloc: Global, name: &[u8]) -> Result<Bytes, Memory>
+    ensures { IfOk result (λ text. text ≡ codes "no routine " ++ name.now ++ codes "\n") }
+{
+    let mut text = Bytes::new(alloc);
+    text.append(b"no routine ")?;
+    text.append(name)?;
+    text.append(b"\n")?;
+    Ok(text)
+}
+
+/// Trusts the routine of this name.
+fn trust_named<D: Debugged>(
+    alloc: Global,
+    run: &D,
+    debug: &mut Debug,
+    name: &[u8],
+) -> Result<Bytes, Memory>
+    requires search { IsSearchOf (D.subject run.now) debug.old }
+    ensures trusted { IfOk result (λ text. replied debug.new.book.entries text
+        ≡ trusts_named (D.subject run.now) debug.old.book.entries name.now
+        (routine_named (D.subject run.now) name.now)) }
+    ensures search { IsSearchOf (D.subject run.now) debug.new }
+{
+    match routine_named(run, name) {
+        Some(routine) => trust(alloc, run, debug, routine),
+        None => no_routine(alloc, name),
+    }
+}
+
+/// The card of a call, where there is one of this number.
+fn card_of<D: Debugged>(alloc: Global, run: &D, call: u32) -> Result<Bytes, Memory>
+    ensures { IfOk result (λ text. text ≡ card_or_none (D.subject run.now) call) }
+{
+    if call < run.calls().len() {
+        let mut text = Bytes::new(alloc);
+        run.write_card(alloc, &mut text, call)?;
+        Ok(text)
+    } else {
+        refusal(alloc, BookFault::NoCall(call))
+    }
+}
+
+/// The tree of the calls with their marks.
+fn tree_of<D: Debugged>(alloc: Global, run: &D, debug: &Debug) -> Result<Bytes, Memory>
+    requires { IsSearchOf (D.subject run.now) debug.now }
+    ensures { IfOk result (λ text. text ≡ tree_text (D.subject run.now) debug.now.book.entries) }
+{
+    let mut text = Bytes::new(alloc);
+    write_tree(&mut text, run, debug)?;
+    Ok(text)
+}
+
+/// Does what a line asks for, and answers the reply to it.
+#[tactic(auto, unfolding(crate::specs::Replies::outcome))]
+pub fn answer<D: Debugged>(
+    alloc: Global,
+    run: &D,
+    debug: &mut Debug,
+    instruction: Instruction<'_>,
+) -> Result<Bytes, Memory>
+    requires search { IsSearchOf (D.subject run.now) debug.old }
+    ensures outcome { IfOk result (λ text. replied debug.new.book.entries text
+        ≡ outcome (D.subject run.now) debug.old.book.entries instruction.entry) }
+    ensures search { IsSearchOf (D.subject run.now) debug.new }
+{
+    match instruction {
+        Instruction::Nothing | Instruction::Quit => Ok(Bytes::new(alloc)),
+        Instruction::Judge(judgement, None) => judge_asked(alloc, run, debug, judgement),
+        Instruction::Judge(judgement, Some(call)) => judge(alloc, run, debug, judgement, call),
+        Instruction::TrustNamed(name) => trust_named(alloc, run, debug, name.bytes()),
+        Instruction::Trust(routine) => trust(alloc, run, debug, routine),
+        Instruction::TakeBack(None) => take_back_last(alloc, run, debug),
+        Instruction::TakeBack(Some(entry)) => take_back(alloc, run, debug, entry),
+        Instruction::Show(call) => card_of(alloc, run, call),
+        Instruction::Tree => tree_of(alloc, run, debug),
+        Instruction::Other => text_of(alloc, b"not understood\n"),
+    }
+}

@@ -1,0 +1,102 @@
+//! The report on the state of the search.
+ghost use Rattle.std.specs.Prelude.{◌≡◌, ◌<◌, ◌++◌, OnOk};
+ghost use Rattle.dialog_replies.specs.Kept.{IsSearchOf};
+ghost use Rattle.dialog_replies.specs.Subject.{calls_of, state_after};
+ghost use Rattle.dialog_replies.specs.Texts.{doubt_line, doubt_lines, question_line, report};
+
+use crate::calls::{write_named_call, write_number};
+use crate::debugged::Debugged;
+use edge_ports::{Bytes, Memory};
+use optimal_query::{Debug, State};
+use std::alloc::Global;
+
+/// Appends the line of a question.
+fn write_question(out: &mut Bytes, call: u32, suspects: u32, left: u32) -> Result<(), Memory>
+    ensures { OnOk result (out.new ≡ out.old ++ question_line call suspects left) }
+{
+    out.append(b"ask ")?;
+    write_number(out, call)?;
+    out.append(b" suspects ")?;
+    write_number(out, suspects)?;
+    out.append(b" left ")?;
+    write_number(out, left)?;
+    out.append(b"\n")?;
+    Ok(())
+}
+
+/// Appends the line on a doubt.
+fn write_doubt<D: Debugged>(out: &mut Bytes, run: &D, call: u32) -> Result<(), Memory>
+    requires { call < calls_of (D.subject run.now) }
+    ensures { OnOk result (out.new ≡ out.old ++ doubt_line (D.subject run.now) call) }
+{
+    out.append(b"  doubt ")?;
+    write_named_call(out, run, call)?;
+    out.append(b"\n")?;
+    Ok(())
+}
+
+/// Appends a line on each doubt, rising.
+fn write_doubts<D: Debugged>(out: &mut Bytes, run: &D, debug: &Debug) -> Result<(), Memory>
+    requires { IsSearchOf (D.subject run.now) debug.now }
+    ensures { OnOk result (out.new ≡ out.old ++ doubt_lines (D.subject run.now) debug.now.book.entries) }
+{
+    let mut last = None;
+    'doubts: loop {
+        match debug.next_unknown(last) {
+            Some(doubt) => {
+                write_doubt(out, run, doubt)?;
+                last = Some(doubt);
+            }
+            None => return Ok(()),
+        }
+    }
+}
+
+/// The state of the search.
+pub fn state_now<D: Debugged>(run: &D, debug: &Debug) -> State
+    requires { IsSearchOf (D.subject run.now) debug.now }
+    ensures { result ≡ state_after (D.subject run.now) debug.now.book.entries }
+{
+    debug.state()
+}
+
+/// Appends the report on the state of the search.
+#[tactic(auto, unfolding(crate::specs::Texts::report))]
+pub fn write_report<D: Debugged>(
+    alloc: Global,
+    out: &mut Bytes,
+    run: &D,
+    debug: &Debug,
+) -> Result<(), Memory>
+    requires { IsSearchOf (D.subject run.now) debug.now }
+    ensures { OnOk result (out.new ≡ out.old ++ report (D.subject run.now) debug.now.book.entries) }
+{
+    match state_now(run, debug) {
+        State::Ask {
+            call,
+            suspects,
+            left,
+            ..
+        } => {
+            write_question(out, call, suspects, left)?;
+            run.write_card(alloc, out, call)
+        }
+        State::Found(call) => {
+            out.append(b"found call ")?;
+            write_named_call(out, run, call)?;
+            out.append(b"\n")?;
+            run.write_trace(alloc, out, call)
+        }
+        State::Narrowed(call) => {
+            out.append(b"narrowed to call ")?;
+            write_named_call(out, run, call)?;
+            out.append(b"\n")?;
+            write_doubts(out, run, debug)
+        }
+        State::NothingWrong => out.append(b"nothing wrong\n"),
+        State::Unclear => {
+            out.append(b"unclear\n")?;
+            write_doubts(out, run, debug)
+        }
+    }
+}
