@@ -1,8 +1,8 @@
 //! Whether a call is one that a card tells of, as a run that was made by hand has to show.
 ghost use Rattle.std.specs.Prelude.{◌≡◌, ◌+◌, ◌≤◌, ◌<◌, ◌^◌, IfSome, IsTrue, length, slice_range};
 ghost use Rattle.cell_value.specs.Effects.{IsCountable, made_by, taken_by};
+ghost use Rattle.call_tree.specs.Told.{IsTold};
 ghost use Rattle.cell_names.specs.Finding.{finding_of, found_in};
-ghost use Rattle.question_text.specs.Cards.{IsTold, recorded_in};
 ghost use Rattle.card_tests.specs.Told.{AreCounted, HasOneMore};
 
 use call_tree::Call;
@@ -83,7 +83,7 @@ fn fits(place: u32, taken: u64, items: u32) -> bool
 
 /// Whether a card tells of a call.
 fn is_told(from: &Recorded, call: &Call) -> bool
-    ensures { IsTrue result → IsTold (recorded_in from.now) call.now }
+    ensures { IsTrue result → IsTold from.now.log.now from.now.items.now call.now }
 {
     let (first, end) = (call.entry.mark, call.exit.mark);
     if first > end || end > from.log.len() {
