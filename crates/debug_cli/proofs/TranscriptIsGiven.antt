@@ -1,4 +1,4 @@
--- Where the keeper tells the file that the words name: what the screen got, and which status comes.
+-- Where the keeper tells the files that the words name: what the screen got, and which status comes.
 use Rattle.std.proofs.Common.{◌≡◌, ◌⊎◌, inl, inr, ℕ, ◌+◌, ◌-◌, ◌<◌, ◌≤◌, Bool, true, false, IsTrue, List, [], ◌++◌, Option, Some, None, length, take, refl}
 use Rattle.std.proofs.Common.{sym, ap, subst, ◌∙◌, arith, append_assoc}
 use Rattle.std.specs.Prelude.{IsSomeAnd}
@@ -6,6 +6,7 @@ use Rattle.std.specs.Io.KnownBytes.{IsAtEnd}
 use Rattle.std.proofs.lemmas.List.{append-nil, take_at, length-append}
 use Rattle.std.proofs.Math.Seq.{take-append-add}
 use Rattle.edge_ports.specs.Limits.{console_bytes}
+use Rattle.edge_ports.specs.Counts.{KeeperCounts}
 use Rattle.edge_ports.specs.Told.{GaveAll, GavePrefix}
 use Rattle.edge_ports.specs.Files.{FileMap, file_at, HoldsFile, LacksFile, HoldsLonger}
 use Rattle.edge_ports.specs.Lines.{lines_of, whole_lines, lines_heard}
@@ -21,14 +22,16 @@ use Rattle.answer_book.specs.Entries.{first_entries}
 use Rattle.debug_cli.specs.declared.dialog.Ending.TheVariants as ending
 use Rattle.debug_cli.specs.declared.status.Status.{Status}
 use Rattle.debug_cli.specs.declared.status.Status.TheVariants as status
+use Rattle.command_words.specs.Meaning.{Meant}
 use Rattle.debuggee.specs.Program.{IsProgram, NoProgram}
 use Rattle.debuggee.specs.Execution.{Execution, execution_of}
 use Rattle.debug_cli.specs.Laws.{OneRun}
 use Rattle.debug_cli.specs.Dialog.{opening, replies, ends_among}
 use Rattle.debug_cli.specs.Heard.{Heard, lines_in, IsHeard, EndedBy}
 use Rattle.debug_cli.specs.Outside.{Outside, NotRisen}
-use Rattle.debug_cli.specs.Asked.{Words, said, said_in, transcript, Fetched, Session, SourceRefused, FileFault, NotFetched, Owed, Goes}
-use Rattle.debug_cli.specs.Setting.{Finds, Stored, Setting, transcript_of, EndsInTime, GoesOn}
+use Rattle.debug_cli.specs.Asked.{Words, meaning, said, said_in, transcript, execution_in, IsInput, Fetched, Checked, Session, SourceRefused}
+use Rattle.debug_cli.specs.Asked.{FileSought, FileFault, IsInputOf, IsSource, NotFetched, Owed, Goes}
+use Rattle.debug_cli.specs.Setting.{Finds, FindsInput, Stored, Setting, IsWithin, run_of, transcript_of, EndsInTime, GoesOn}
 use Rattle.debug_cli.proofs.RepliesInOrder.{replies_ended, replies_front, ended_append, nothing_is_prefix}
 
 pub same_name : (a b : List ℕ) → Some a ≡ Some b → a ≡ b
@@ -42,16 +45,37 @@ lacks_none files name bytes f h =
     let x : ◌≡◌ {A = Option (List ℕ)} None (Some bytes) = sym n ∙ f.2 in
     let y : ⊥ = cc in y
 
-longer_not : (files : Option FileMap) (name bytes : List ℕ) → Finds files name bytes → length bytes ≤ source_bytes → HoldsLonger files name source_bytes → ⊥
-longer_not files name bytes f short h =
-    let n = subst (λ (o : Option FileMap). HoldsLonger o name source_bytes) f.1 h in
-    let m : IsSomeAnd (Some bytes) (λ b. source_bytes < length b) = subst (λ (o : Option (List ℕ)). IsSomeAnd o (λ b. source_bytes < length b)) f.2 n in
-    let lt : source_bytes < length bytes = m in omega arith
+longer_not : (files : Option FileMap) (name bytes : List ℕ) (limit : ℕ) → Finds files name bytes → length bytes ≤ limit
+    → HoldsLonger files name limit → ⊥
+longer_not files name bytes limit f short h =
+    let n = subst (λ (o : Option FileMap). HoldsLonger o name limit) f.1 h in
+    let m : IsSomeAnd (Some bytes) (λ b. limit < length b) = subst (λ (o : Option (List ℕ)). IsSomeAnd o (λ b. limit < length b)) f.2 n in
+    let lt : limit < length bytes = m in omega arith
 
 same_bytes : (files : Option FileMap) (name told bytes : List ℕ) → Finds files name told → HoldsFile files name bytes → bytes ≡ told
 same_bytes files name told bytes f h =
     let n : file_at f.0 name ≡ Some bytes = subst (λ (o : Option FileMap). HoldsFile o name bytes) f.1 h in
     same_name bytes told (sym n ∙ f.2)
+
+-- a file that is told and is short enough is fetched, unless the keeper fails
+told_comes : (files : Option FileMap) (file : FileSought) (bytes : List ℕ) (before now : KeeperCounts) → Finds files file.name bytes
+    → length bytes ≤ file.limit → NotRisen before.faults now.faults → (fault : FetchFault) → FileFault fault file files before now → ⊥
+told_comes files file bytes before now f short stayed fetch.Absent why = lacks_none files file.name bytes f why.1
+told_comes files file bytes before now f short stayed fetch.Failed why = stayed why
+told_comes files file bytes before now f short stayed (fetch.TooLong bound) why = longer_not files file.name bytes file.limit f short why.1
+told_comes files file bytes before now f short stayed fetch.Memory why = why
+
+same_request : (words : Words) (a b : Meant) → meaning words ≡ Some a → meaning words ≡ Some b → a ≡ b
+same_request words a b x y = let e : Some a ≡ Some b = sym x ∙ y in cc
+
+-- words that mean nothing name no source
+pub no_setting : {words : Words} {files : Option FileMap} {left : Option (List ℕ)} → Setting words files left → meaning words ≡ None → ⊥
+no_setting set none = let x : ◌≡◌ {A = Option Meant} None (Some set.file.request) = sym none ∙ set.file.meant in let y : ⊥ = cc in y
+
+-- the bytes of an input that is told
+same_input : (files : Option FileMap) (name : Option (List ℕ)) (bytes told : List ℕ) → IsInput files name bytes → FindsInput files name told → bytes ≡ told
+same_input files None bytes told h f = h ∙ sym f
+same_input files (Some name) bytes told h f = same_bytes files name told bytes f h.0
 
 module _ (words : Words) (before after : Outside) where
   abbrev Here : Status → Type 0
@@ -69,33 +93,42 @@ module _ (words : Words) (before after : Outside) where
   module _ (f : Stored words before.files) where
     same_file : (file : Fetched words before.files) → file.bytes ≡ f.bytes
     same_file file =
-        let name : file.name ≡ f.name = same_name file.name f.name (sym file.named ∙ f.named) in
-        same_bytes before.files f.name f.bytes file.bytes f.found (subst (λ (n : List ℕ). HoldsFile before.files n file.bytes) name file.held)
+        let same : file.request ≡ f.request = same_request words file.request f.request file.meant f.meant in
+        same_bytes before.files f.request.source f.bytes file.bytes f.found
+        (subst (λ (m : Meant). HoldsFile before.files m.source file.bytes) same file.fetched.0)
 
-    -- a file that is there and short enough is fetched, unless the keeper fails
-    no_fault : length f.bytes ≤ source_bytes → NotRisen before.counts.faults after.counts.faults → NotFetched words before.files before.counts after.counts → ⊥
-    no_fault short stayed file =
-        let name : file.name ≡ f.name = same_name file.name f.name (sym file.named ∙ f.named) in
-        by file.fault (subst (λ (n : List ℕ). FileFault file.fault n before.files before.counts after.counts) name file.cause)
-      where
-        by : (fault : FetchFault) → FileFault fault f.name before.files before.counts after.counts → ⊥
-        by fetch.Absent why = lacks_none before.files f.name f.bytes f.found why.1
-        by fetch.Failed why = stayed why
-        by (fetch.TooLong bound) why = longer_not before.files f.name f.bytes f.found short why.1
-        by fetch.Memory why = why
+    source_comes : length f.bytes ≤ source_bytes → NotRisen before.counts.faults after.counts.faults → (file : FileSought) → IsSource words file
+        → (fault : FetchFault) → FileFault fault file before.files before.counts after.counts → ⊥
+    source_comes short stayed file is fault cause =
+        let same : is.0 ≡ f.request = same_request words is.0 f.request is.1 f.meant in
+        let wanted : file ≡ record { name = f.request.source; limit = source_bytes } =
+        is.2 ∙ ap (λ (m : Meant). record { name = m.source; limit = source_bytes }) same in
+        told_comes before.files (record { name = f.request.source; limit = source_bytes }) f.bytes before.counts after.counts f.found short stayed fault
+        (subst (λ (x : FileSought). FileFault fault x before.files before.counts after.counts) wanted cause)
 
     not_refused : (t : Lexed) (p : ProgramRows) → IsProgram f.bytes t p → SourceRefused words before.files → ⊥
     not_refused t p is r = r.none t p (subst (λ (b : List ℕ). IsProgram b t p) (sym (same_file r.file)) is)
 
+    no_checked : NoProgram f.bytes → Checked words before.files → ⊥
+    no_checked none k = none k.tokens k.rows (subst (λ (b : List ℕ). IsProgram b k.tokens k.rows) (same_file k.file) k.program)
+
     is_refused : NoProgram f.bytes → Talked → ⊥
-    is_refused none a = none a.tokens a.rows (subst (λ (b : List ℕ). IsProgram b a.tokens a.rows) (same_file a.file) a.program)
+    is_refused none a = no_checked none a.source
+
+    unfetched_not : NoProgram f.bytes → length f.bytes ≤ source_bytes → NotRisen before.counts.faults after.counts.faults
+        → NotFetched words before.files before.counts after.counts → ⊥
+    unfetched_not none short stayed n = by n.sought
+      where
+        by : IsSource words n.file ⊎ IsInputOf words before.files n.file → ⊥
+        by (inl source) = source_comes short stayed n.file source n.fault n.cause
+        by (inr input) = no_checked none input.0
 
     pub refused_or_memory : NoProgram f.bytes → length f.bytes ≤ source_bytes → NotRisen before.counts.faults after.counts.faults → (s : Status) → Here s
         → (s ≡ status.Screen → ⊥) → (s ≡ status.Source) ⊎ (s ≡ status.Memory)
     refused_or_memory none short stayed status.Done h screen = absurd (is_refused none h.0)
     refused_or_memory none short stayed status.Words h screen = absurd h
     refused_or_memory none short stayed status.Source h screen = inl refl
-    refused_or_memory none short stayed status.File h screen = absurd (no_fault short stayed h.0)
+    refused_or_memory none short stayed status.File h screen = absurd (unfetched_not none short stayed h.0)
     refused_or_memory none short stayed status.Console h screen = absurd (is_refused none h.0)
     refused_or_memory none short stayed status.Screen h screen = absurd (screen refl)
     refused_or_memory none short stayed status.Memory h screen = inr refl
@@ -105,12 +138,19 @@ module _ (words : Words) (before after : Outside) where
 
   module _ (one : OneRun) (set : Setting words before.files before.streams.left) where
     abbrev wanted : Execution
-    wanted = execution_of set.tokens set.rows
+    wanted = run_of set
 
-    same_run : (a : Talked) → execution_of a.tokens a.rows ≡ wanted
+    same_run : (a : Talked) → execution_in a ≡ wanted
     same_run a =
-        one set.file.bytes a.tokens set.tokens a.rows set.rows
-        (subst (λ (b : List ℕ). IsProgram b a.tokens a.rows) (same_file set.file a.file) a.program) set.program
+        let k = a.source in
+        let same : k.file.request ≡ set.file.request = same_request words k.file.request set.file.request k.file.meant set.file.meant in
+        let given : a.input ≡ set.input =
+        same_input before.files set.file.request.input a.input set.input
+        (subst (λ (m : Meant). IsInput before.files m.input a.input) same a.is_input) set.found in
+        one set.file.bytes k.tokens set.tokens k.rows set.rows
+        (subst (λ (b : List ℕ). IsProgram b k.tokens k.rows) (same_file set.file k.file) k.program) set.program
+        (record { input = a.input; budget = k.file.request.budget })
+        ∙ (λ i. execution_of set.tokens set.rows (record { input = given i; budget = (same i).budget }))
 
     -- the bytes heard are the first of those told
     abbrev Front : Heard → Type 0
@@ -138,7 +178,7 @@ module _ (words : Words) (before after : Outside) where
     said_first : (a : Talked) → (rest : List ℕ) × (transcript_of set ≡ said_in a ++ rest)
     said_first a =
         let lines = first_lines a.heard a.is_heard a.heard.ended refl in
-        let h : Execution = execution_of a.tokens a.rows in
+        let h : Execution = execution_in a in
         let r = replies_front h first_entries (lines_in a.heard) lines.0 in (
           r.0,
           ap (λ (g : Execution). transcript g set.console) (sym (same_run a))
@@ -150,11 +190,11 @@ module _ (words : Words) (before after : Outside) where
     said_all : (a : Talked) → EndedBy ending.Done a.heard → transcript_of set ≡ said_in a
     said_all a (inl ended) =
         ap (λ (g : Execution). transcript g set.console) (sym (same_run a))
-        ∙ ap (λ (ls : List (List ℕ)). said (execution_of a.tokens a.rows) ls)
+        ∙ ap (λ (ls : List (List ℕ)). said (execution_in a) ls)
         (ap lines_of (none_after a.heard a.is_heard ended) ∙ sym (ap (λ (b : Bool). lines_heard b a.heard.bytes) ended))
     said_all a (inr quit) =
         let lines = first_lines a.heard a.is_heard a.heard.ended refl in
-        let h : Execution = execution_of a.tokens a.rows in
+        let h : Execution = execution_in a in
         ap (λ (g : Execution). transcript g set.console) (sym (same_run a))
         ∙ ap (said h) lines.1
         ∙ ap (λ (text : List ℕ). opening h ++ text) (replies_ended h first_entries (lines_in a.heard) lines.0 quit)
@@ -170,20 +210,37 @@ module _ (words : Words) (before after : Outside) where
     whole_part : (a : Talked) → Gave (said_in a) → GaveFront (transcript_of set)
     whole_part a g = part_of a (gave_prefix_whole before.streams.given after.streams.given (said_in a) g)
 
-    module _ (short : length set.file.bytes ≤ source_bytes) (stayed : NotRisen before.counts.faults after.counts.faults) where
+    module _ (short : IsWithin set) (stayed : NotRisen before.counts.faults after.counts.faults) where
+      -- the input is fetched
+      input_comes : (file : FileSought) → IsInputOf words before.files file → (fault : FetchFault)
+          → FileFault fault file before.files before.counts after.counts → ⊥
+      input_comes file is fault cause =
+          let request = is.0.file.request in
+          let same : request ≡ set.file.request = same_request words request set.file.request is.0.file.meant set.file.meant in
+          let named : set.file.request.input ≡ Some file.name = ap (λ (m : Meant). m.input) (sym same) ∙ is.1 in
+          let found : Finds before.files file.name set.input = subst (λ (o : Option (List ℕ)). FindsInput before.files o set.input) named set.found in
+          told_comes before.files file set.input before.counts after.counts found (omega (arith, short.1, is.2)) stayed fault cause
+
+      no_fault : NotFetched words before.files before.counts after.counts → ⊥
+      no_fault n = by n.sought
+        where
+          by : IsSource words n.file ⊎ IsInputOf words before.files n.file → ⊥
+          by (inl source) = source_comes set.file short.0 stayed n.file source n.fault n.cause
+          by (inr input) = input_comes n.file input n.fault n.cause
+
       refuses_not : SourceRefused words before.files → ⊥
       refuses_not r = not_refused set.file set.tokens set.rows set.program r
 
       owed_part : (text : List ℕ) → Owed words before after text → GaveFront text → GaveFront (transcript_of set)
       owed_part text (inl o) g = part_of o.0 (subst GaveFront o.1 g)
       owed_part text (inr (inl o)) g = absurd (refuses_not o.0)
-      owed_part text (inr (inr o)) g = absurd (no_fault set.file short stayed o.0)
+      owed_part text (inr (inr o)) g = absurd (no_fault o.0)
 
       pub first_part : (s : Status) → Here s → GaveFront (transcript_of set)
       first_part status.Done (a, g, w) = whole_part a g
       first_part status.Words h = absurd h
       first_part status.Source h = absurd (refuses_not h.0)
-      first_part status.File h = absurd (no_fault set.file short stayed h.0)
+      first_part status.File h = absurd (no_fault h.0)
       first_part status.Console (a, g, w) = whole_part a g
       first_part status.Screen h = owed_part h.0 h.1 h.2
       first_part status.Memory (inl same) = nothing_is_prefix before.streams.given after.streams.given (transcript_of set) same
@@ -233,7 +290,7 @@ module _ (words : Words) (before after : Outside) where
             by status.Done h console screen = inl refl
             by status.Words h console screen = absurd h
             by status.Source h console screen = absurd (refuses_not h.0)
-            by status.File h console screen = absurd (no_fault set.file short stayed h.0)
+            by status.File h console screen = absurd (no_fault h.0)
             by status.Console h console screen = absurd (console refl)
             by status.Screen h console screen = absurd (screen refl)
             by status.Memory h console screen = inr refl
@@ -246,7 +303,7 @@ module _ (words : Words) (before after : Outside) where
             by status.Done (a, g, w) console screen = absurd (not_done a w on)
             by status.Words h console screen = absurd h
             by status.Source h console screen = absurd (refuses_not h.0)
-            by status.File h console screen = absurd (no_fault set.file short stayed h.0)
+            by status.File h console screen = absurd (no_fault h.0)
             by status.Console h console screen = absurd (console refl)
             by status.Screen h console screen = absurd (screen refl)
             by status.Memory h console screen = inr refl

@@ -7,14 +7,14 @@ use Rattle.answer_book.specs.Entries.{standing_answers}
 use Rattle.optimal_query.specs.declared.state.State.TheVariants.{Ask, Found}
 use Rattle.optimal_query.specs.Laws.{CallTree, IsAsked, IsAtFault, IsLeast}
 use Rattle.debuggee.specs.Program.{IsProgram}
-use Rattle.debuggee.specs.Execution.{Execution, execution_of, lasts_of, parents_of, routines_of}
+use Rattle.debuggee.specs.Execution.{Execution, Supply, execution_of, lasts_of, parents_of, routines_of}
 use Rattle.debug_cli.specs.Dialog.{state}
 
--- a source is one program at most, and has one run
+-- a source is one program at most, and has one run with each input and budget
 abbrev pub OneRun : Type 0
 OneRun =
     (source : List ℕ) (t t' : Lexed) (p p' : ProgramRows) → IsProgram source t p → IsProgram source t' p'
-    → execution_of t p ≡ execution_of t' p'
+    → (s : Supply) → execution_of t p s ≡ execution_of t' p' s
 
 -- the columns of the calls of a run
 abbrev pub tree_of : Execution → CallTree
@@ -24,13 +24,14 @@ tree_of h = record { parent = parents_of h.calls; last = lasts_of h.calls; routi
 -- does the worse answer leave fewer, and of those on which it leaves as few it is the first.
 abbrev pub AsksTheBest : Type 0
 AsksTheBest =
-    (t : Lexed) (p : ProgramRows) (entries : List Entry) (call weight suspects left : ℕ)
-    → state (execution_of t p) entries ≡ Ask call weight suspects left
-    → IsLeast (tree_of (execution_of t p)) (standing_answers entries) call left
-    × IsAsked (tree_of (execution_of t p)) (standing_answers entries) call weight suspects
+    (t : Lexed) (p : ProgramRows) (s : Supply) (entries : List Entry) (call weight suspects left : ℕ)
+    → state (execution_of t p s) entries ≡ Ask call weight suspects left
+    → IsLeast (tree_of (execution_of t p s)) (standing_answers entries) call left
+    × IsAsked (tree_of (execution_of t p s)) (standing_answers entries) call weight suspects
 
 -- The call that is found is judged wrong, and each of its children is right; no suspect is left.
 abbrev pub FindsTheFault : Type 0
 FindsTheFault =
-    (t : Lexed) (p : ProgramRows) (entries : List Entry) (call : ℕ) → state (execution_of t p) entries ≡ Found call
-    → IsAtFault (tree_of (execution_of t p)) (standing_answers entries) call
+    (t : Lexed) (p : ProgramRows) (s : Supply) (entries : List Entry) (call : ℕ)
+    → state (execution_of t p s) entries ≡ Found call
+    → IsAtFault (tree_of (execution_of t p s)) (standing_answers entries) call

@@ -25,7 +25,7 @@ pub record NoneRisen (before now : KeeperCounts) : Type 0 where
   pub misses : NotRisen before.misses now.misses
   pub overs : NotRisen before.overs now.overs
 
--- a keeper's counts after the command, which fetches one file at most and stores none: they stay, or the one rises
--- that says why it was not fetched, and no other
-abbrev pub CountsOneFetch : KeeperCounts → KeeperCounts → Type 0
-CountsOneFetch before now = (now ≡ before) ⊎ ((fault : FetchFault) × CountsFetch (Err fault) before now)
+-- a keeper's counts after the command, which stores no file, and fetches none after one that was not fetched: they
+-- stay, or the one rises that says why a file was not fetched, and no other
+abbrev pub CountsOneFault : KeeperCounts → KeeperCounts → Type 0
+CountsOneFault before now = (now ≡ before) ⊎ ((fault : FetchFault) × CountsFetch (Err fault) before now)

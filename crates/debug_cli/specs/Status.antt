@@ -14,8 +14,8 @@ code_of Screen = 6
 code_of Memory = 7
 code_of Spent = 9
 
--- a source was fetched, or none was asked for: neither a file that was not fetched, nor the screen, nor memory that ran
--- out ended the command
+-- all files that were asked for were fetched: neither one that was not fetched, nor the screen, nor memory that ran out
+-- ended the command
 abbrev pub is_after_fetch : Status → Bool
 is_after_fetch File = false
 is_after_fetch Screen = false

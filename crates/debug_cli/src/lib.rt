@@ -1,6 +1,6 @@
-//! The command `pasask`: a source file is fetched and run, and a console is asked which of its calls did
-//! what was meant, until the call at fault is found. `ask_pascal` is the command; all that it needs of the
-//! outside comes through the traits of `edge_ports`.
+//! The command `pasask`: a source file and its input are fetched, the program is run, and a console is asked which of
+//! its calls did what was meant, until the call at fault is found. `ask_pascal` is the command; all that it needs of
+//! the outside comes through the traits of `edge_ports`.
 #![tactic(auto)]
 
 mod ask;
@@ -13,4 +13,5 @@ mod status;
 mod texts;
 
 pub use ask::{SOURCE_BYTES, ask_pascal};
-pub use debuggee::BUDGET;
+pub use command_words::{BUDGET, MOST_STEPS};
+pub use debuggee::INPUT_BYTES;

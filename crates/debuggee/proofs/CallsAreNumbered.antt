@@ -19,7 +19,7 @@ use Rattle.program_meaning.specs.Numbering.{greatest, belows, calls_of, last_of,
 use Rattle.program_meaning.specs.Laws.{SubtreeIsInterval, LastIsACall, EveryProgramRuns, EveryRunHasACall}
 use Rattle.program_run.specs.History.{recording_of}
 use Rattle.program_run.specs.Table as table
-use Rattle.debuggee.specs.Execution.{CallRow, calls_within, lasts_of, parents_of, routines_of, row_of, rows_of, told}
+use Rattle.debuggee.specs.Execution.{CallRow, Supply, calls_with, lasts_of, parents_of, routines_of, row_of, rows_of, told}
 
 -- the subtree of each call is the interval from it to its last call, which is a call
 pub record IsTree (bs : List ℕ) : Type 0 where
@@ -162,14 +162,14 @@ no_calls : IsTree (belows [])
 no_calls = record { subtree = λ k j h. absurd (let f : k < 0 = h in omega (arith, f)); last = λ k h. absurd (let f : k < 0 = h in omega (arith, f)) }
 
 module _ (subtree : SubtreeIsInterval) (last : LastIsACall) where
-  tree_of : (p : ProgramRows) (budget : ℕ) (o : Outcome) → run p [] budget ≡ o → IsTree (belows (calls_of o))
-  tree_of p budget None e = no_calls
-  tree_of p budget (Some r) e = record { subtree = subtree p [] budget r e; last = last p [] budget r e }
+  tree_of : (p : ProgramRows) (s : Supply) (o : Outcome) → run p s.input s.budget ≡ o → IsTree (belows (calls_of o))
+  tree_of p s None e = no_calls
+  tree_of p s (Some r) e = record { subtree = subtree p s.input s.budget r e; last = last p s.input s.budget r e }
 
   -- the columns of the calls of a run
-  pub run_numbered : (p : ProgramRows) (budget : ℕ) → IsNumbered (parents_of (calls_within p budget)) (lasts_of (calls_within p budget))
-  unfolding calls_within
-  run_numbered p budget = rows_numbered (calls_of (run p [] budget)) (tree_of p budget (run p [] budget) refl)
+  pub run_numbered : (p : ProgramRows) (s : Supply) → IsNumbered (parents_of (calls_with s p)) (lasts_of (calls_with s p))
+  unfolding calls_with
+  run_numbered p s = rows_numbered (calls_of (run p s.input s.budget)) (tree_of p s (run p s.input s.budget) refl)
 
 -- ---- the calls that were recorded
 
@@ -178,21 +178,23 @@ told_each bs k [] = refl
 told_each bs k (c ∷ cs) = ap (λ (rs : List CallRow). row_of bs k c ∷ rs) (told_each bs (suc k) cs)
 
 -- what is told of the calls that were recorded of a run
-pub told_run : (p : ProgramRows) (budget : ℕ) (calls : Recording) → calls ≡ recording_of p (run p [] budget) → map told calls.calls ≡ calls_within p budget
-unfolding calls_within
-told_run p budget calls e =
-    ap (λ (c : Recording). map told c.calls) e ∙ told_each (belows (calls_of (run p [] budget))) 0 (calls_of (run p [] budget))
+pub told_run : (p : ProgramRows) (s : Supply) (calls : Recording) → calls ≡ recording_of p (run p s.input s.budget)
+    → map told calls.calls ≡ calls_with s p
+unfolding calls_with
+told_run p s calls e =
+    ap (λ (c : Recording). map told c.calls) e
+    ∙ told_each (belows (calls_of (run p s.input s.budget))) 0 (calls_of (run p s.input s.budget))
 
 -- a run has a call
-some_in : EveryRunHasACall → (p : ProgramRows) (budget : ℕ) (o : Outcome) → run p [] budget ≡ o → IsSome o → 0 < length (calls_of o)
-some_in has p budget None e is = let x : ⊥ = cc in absurd x
-some_in has p budget (Some r) e is = let some = has p [] budget r e in omega (arith, belows_length r.events, some)
+some_in : EveryRunHasACall → (p : ProgramRows) (s : Supply) (o : Outcome) → run p s.input s.budget ≡ o → IsSome o → 0 < length (calls_of o)
+some_in has p s None e is = let x : ⊥ = cc in absurd x
+some_in has p s (Some r) e is = let some = has p s.input s.budget r e in omega (arith, belows_length r.events, some)
 
-pub some_call : EveryRunHasACall → EveryProgramRuns → (p : ProgramRows) (budget : ℕ) (calls : Recording) → calls ≡ recording_of p (run p [] budget)
-    → 0 < length calls.calls
-some_call has runs p budget calls e =
-    let cs = calls_of (run p [] budget) in
-    let some = some_in has p budget (run p [] budget) refl (runs p [] budget) in
+pub some_call : EveryRunHasACall → EveryProgramRuns → (p : ProgramRows) (s : Supply) (calls : Recording)
+    → calls ≡ recording_of p (run p s.input s.budget) → 0 < length calls.calls
+some_call has runs p s calls e =
+    let cs = calls_of (run p s.input s.budget) in
+    let some = some_in has p s (run p s.input s.budget) refl (runs p s.input s.budget) in
     omega (arith, ap (λ (c : Recording). length c.calls) e, each_length (table.row_of (belows cs)) 0 cs, some)
 
 -- the column of routines is as long as that of the last calls

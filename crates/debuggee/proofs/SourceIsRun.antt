@@ -1,4 +1,4 @@
--- From the tokens and the program of a source to its run.
+-- From the pieces of a source to its tokens, its program and its run.
 use Rattle.std.proofs.Common.{◌≡◌, ◌⊎◌, ℕ, List, [], Option, Some, None, Ok, Err, refl, sym, ap, subst, ◌∙◌, inl, inr, arith}
 use Rattle.std.specs.Prelude.{Contains}
 use Rattle.pas_lexer.specs.declared.kinds.Token.{Token}
@@ -24,15 +24,14 @@ use Rattle.debuggee.specs.declared.refusal.Refusal.{Refusal}
 use Rattle.debuggee.specs.declared.refusal.Refusal.TheVariants as refusal
 use Rattle.debuggee.specs.declared.source.SourceFault.{SourceFault}
 use Rattle.debuggee.specs.declared.source.SourceFault.TheVariants.{Refused, Memory}
-use Rattle.debuggee.specs.Limits.{default_budget}
-use Rattle.debuggee.specs.Execution.{Execution, execution_of, calls_within}
+use Rattle.debuggee.specs.Execution.{Supply, execution_of, calls_with}
 use Rattle.debuggee.specs.Program.{IsProgram, Keeps, NoProgram, Refuses, RefusesToken, RefusesTree, IsRefused, IsMisfit, IsUnlexed}
 use Rattle.debuggee.specs.Program.{IsUnread, IsRead, fault_of_check, TokensAre}
 
 -- ---- no tokens
 
 pub no_tokens_only : (source : List ℕ) (e : SourceFault) → ((tokens : List Token) → IsLexed source tokens → TokensAre tokens (Err e))
-    → (t : Lexed) (p : ProgramRows) → IsProgram source t p → Keeps (execution_of t p) (Err e)
+    → (t : Lexed) (p : ProgramRows) → IsProgram source t p → Keeps t p (Err e)
 no_tokens_only source (Refused why line byte) h t p r = h t.tokens r.lexed
 no_tokens_only source Memory h t p r = tt
 
@@ -93,7 +92,7 @@ module _ {source : List ℕ} {tokens : Lexed} (the : IsDivided source tokens) wh
   checked_here : (t : Lexed) (p : ProgramRows) → IsProgram source t p → IsChecked tokens p
   checked_here t p is = subst (λ (u : Lexed). IsChecked u p) (sym (same_tokens t p is)) is.checked
 
-  pub unread_only : (e : SourceFault) → IsUnread tokens e → (t : Lexed) (p : ProgramRows) → IsProgram source t p → Keeps (execution_of t p) (Err e)
+  pub unread_only : (e : SourceFault) → IsUnread tokens e → (t : Lexed) (p : ProgramRows) → IsProgram source t p → Keeps t p (Err e)
   unread_only (Refused why line byte) h t p is = h.0 p (checked_here t p is)
   unread_only Memory h t p is = tt
 
@@ -104,25 +103,18 @@ module _ {source : List ℕ} {tokens : Lexed} (the : IsDivided source tokens) wh
 
   -- ---- a program
 
-  pub run_only : (program : ProgramRows) (r : Execution) → IsRead tokens program
-      → r ≡ record { tokens = tokens; program = program; calls = calls_within program default_budget }
-      → (t : Lexed) (p : ProgramRows) → IsProgram source t p → r ≡ execution_of t p
-  run_only program r read kept t p is =
-      let same : tokens ≡ t = same_tokens t p is in
-      let q : program ≡ p = sym (read.1 p (checked_here t p is)) in
-      kept ∙ (λ i. record { tokens = same i; program = q i; calls = calls_within (q i) default_budget })
+  pub read_only : (program : ProgramRows) → IsRead tokens program → (t : Lexed) (p : ProgramRows) → IsProgram source t p
+      → (tokens ≡ t) × (program ≡ p)
+  read_only program read t p is = (same_tokens t p is, sym (read.1 p (checked_here t p is)))
 
-  pub run_found : (program : ProgramRows) (r : Execution) → IsRead tokens program
-      → r ≡ record { tokens = tokens; program = program; calls = calls_within program default_budget }
-      → (t : Lexed) × (p : ProgramRows) × IsProgram source t p × (r ≡ execution_of t p)
-  run_found program r read kept =
-      (tokens, program, record { kept = the.kept; lexed = the.lexed; checked = read.0 }, kept)
+  pub read_found : (program : ProgramRows) → IsRead tokens program → IsProgram source tokens program
+  read_found program read = record { kept = the.kept; lexed = the.lexed; checked = read.0 }
 
 -- ---- one program of a source
 
 pub one_run : OneTextOneProgram → (source : List ℕ) (t t' : Lexed) (p p' : ProgramRows) → IsProgram source t p → IsProgram source t' p'
-    → t.tokens ≡ t'.tokens → execution_of t p ≡ execution_of t' p'
-one_run law source t t' p p' a b e =
+    → t.tokens ≡ t'.tokens → (s : Supply) → execution_of t p s ≡ execution_of t' p' s
+one_run law source t t' p p' a b e s =
     let same : t ≡ t' = λ i. record { tokens = e i; source = (a.kept ∙ sym b.kept) i } in
     let program : p ≡ p' = sym (same_checked law t p p' a.checked (subst (λ (u : Lexed). IsChecked u p') (sym same) b.checked)) in
-    λ i. record { tokens = same i; program = program i; calls = calls_within (program i) default_budget }
+    λ i. record { tokens = same i; program = program i; calls = calls_with s (program i) }

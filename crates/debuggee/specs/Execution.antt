@@ -7,7 +7,6 @@ use Rattle.program_tables.specs.ProgramRows.{ProgramRows}
 use Rattle.program_meaning.specs.Run.{Call, Marked, run}
 use Rattle.program_meaning.specs.Numbering.{belows, calls_of, each_from, last_of, parent_of}
 use Rattle.debuggee.specs.declared.source.Debuggee.{Debuggee}
-use Rattle.debuggee.specs.Limits.{default_budget}
 
 -- a call of a run: its routine, the call that made it, the last call below it, where its frame begins, and how it
 -- ended
@@ -38,13 +37,18 @@ row_of bs k c = record {
 abbrev pub rows_of : List (Marked Call) → List CallRow
 rows_of cs = each_from (row_of (belows cs)) 0 cs
 
--- the calls of the run of a program with no input and this budget
-unfoldable pub calls_within : ProgramRows → ℕ → List CallRow
-calls_within p budget = rows_of (calls_of (run p [] budget))
+-- what a run is supplied with: the bytes of its input, and the steps that it may take
+pub record Supply : Type 0 where
+  pub input : List ℕ
+  pub budget : ℕ
+
+-- the calls of the run of a program that is supplied so
+unfoldable pub calls_with : Supply → ProgramRows → List CallRow
+calls_with s p = rows_of (calls_of (run p s.input s.budget))
 
 -- the run of a program
-abbrev pub execution_of : Lexed → ProgramRows → Execution
-execution_of t p = record { tokens = t; program = p; calls = calls_within p default_budget }
+abbrev pub execution_of : Lexed → ProgramRows → Supply → Execution
+execution_of t p s = record { tokens = t; program = p; calls = calls_with s p }
 
 -- the columns of the calls
 abbrev pub lasts_of : List CallRow → List ℕ

@@ -1,4 +1,4 @@
--- What a source is: a program, and its run; or why and where it is refused.
+-- What a source is: a program; or why and where it is refused.
 use Rattle.std.specs.Prelude.{◌≡◌, ◌⊎◌, ℕ, List, Option, Some, None, Result, Ok, Err}
 use Rattle.pas_lexer.specs.declared.kinds.Token.{Token}
 use Rattle.pas_lexer.specs.Lexed.{Lexed}
@@ -18,8 +18,7 @@ use Rattle.debuggee.specs.declared.refusal.Refusal.{Refusal}
 use Rattle.debuggee.specs.declared.refusal.Refusal.TheVariants as refusal
 use Rattle.debuggee.specs.declared.source.SourceFault.{SourceFault}
 use Rattle.debuggee.specs.declared.source.SourceFault.TheVariants.{Refused, Memory}
-use Rattle.debuggee.specs.declared.source.Debuggee.{Debuggee}
-use Rattle.debuggee.specs.Execution.{Execution, execution}
+use Rattle.debuggee.specs.declared.source.SourceProgram.{SourceProgram}
 
 -- The source has these tokens, which are the text of this program; it breaks no rule, and nothing in it is too big.
 pub record IsProgram (source : List ℕ) (t : Lexed) (p : ProgramRows) : Type 0 where
@@ -27,11 +26,11 @@ pub record IsProgram (source : List ℕ) (t : Lexed) (p : ProgramRows) : Type 0 
   pub lexed : IsLexed source t.tokens
   pub checked : IsChecked t p
 
--- the answer keeps this execution, or memory ran out
-abbrev pub Keeps : Execution → Result Debuggee SourceFault → Type 0
-Keeps h (Ok r) = execution r ≡ h
-Keeps h (Err (Refused why line byte)) = ⊥
-Keeps h (Err Memory) = Unit {0}
+-- the answer is this program, with its tokens, or memory ran out
+abbrev pub Keeps : Lexed → ProgramRows → Result SourceProgram SourceFault → Type 0
+Keeps t p (Ok s) = (s.tokens ≡ t) × (s.program ≡ p)
+Keeps t p (Err (Refused why line byte)) = ⊥
+Keeps t p (Err Memory) = Unit {0}
 
 -- no program has this source
 abbrev pub NoProgram : List ℕ → Type 0

@@ -1,9 +1,9 @@
-//! The program that is debugged: from the bytes of a source to the calls of its run, or to why and where
-//! the source is refused.
+//! The program that is debugged: from the bytes of a source to a program, or to why and where the source is
+//! refused; and from a program and its input to the calls of its run.
 #![tactic(auto)]
 
 mod refusal;
 mod source;
 
 pub use refusal::Refusal;
-pub use source::{BUDGET, Debuggee, SourceFault, run_source};
+pub use source::{Debuggee, INPUT_BYTES, SourceFault, SourceProgram, read_source, run_program};

@@ -1,4 +1,4 @@
-//! From the bytes of a source to its run.
+//! From the bytes of a source to a program, and from a program to its run.
 ghost use Rattle.std.specs.Prelude.{◌≡◌, ◌<◌, ◌≤◌, ℕ, List, IfOk, IfErr, OnOk, length};
 ghost use Rattle.pas_lexer.specs.declared.kinds.Token.{Token};
 ghost use Rattle.pas_lexer.specs.Limits.{source_bytes};
@@ -8,8 +8,8 @@ ghost use Rattle.program_tables.specs.ProgramRows.{ProgramRows};
 ghost use Rattle.debuggee.specs.declared.source.SourceFault.TheVariants.{Refused, Memory};
 ghost use Rattle.debuggee.specs.Program.{IsProgram, Keeps, IsRefused, IsMisfit, IsUnlexed, IsUnread, IsRead};
 ghost use Rattle.debuggee.specs.Program.{fault_of_check, TokensAre};
-ghost use Rattle.debuggee.specs.Execution.{calls_within, execution, execution_of, IsReady};
-ghost use Rattle.debuggee.specs.Limits.{default_budget};
+ghost use Rattle.debuggee.specs.Execution.{execution, execution_of, IsReady};
+ghost use Rattle.debuggee.specs.Limits.{input_bytes, most_steps};
 
 use crate::refusal::Refusal;
 use pas_lexer::{LexFault, Tokens, lex, line_at};
@@ -21,8 +21,17 @@ use source_checker::{ProgramFault, check_tokens};
 use std::alloc::{AllocError, Global};
 use thiserror::Error;
 
-/// The steps that a run may take.
-pub const BUDGET: u32 = 1_000_000;
+/// The most bytes of an input.
+pub const INPUT_BYTES: u64 = 4_194_304;
+
+/// A source that is a program: its tokens, and the program that they are.
+#[derive(Drop)]
+pub struct SourceProgram {
+    /// The tokens of the source, with its bytes.
+    pub tokens: Tokens,
+    /// The program that they are.
+    pub program: Program,
+}
 
 /// A source that was run: its tokens, the program that they are, and its run.
 #[derive(Drop)]
@@ -127,42 +136,48 @@ fn read_program(alloc: Global, tokens: &Tokens) -> Result<Program, SourceFault>
     }
 }
 
-/// The run of a program, whose tokens these are. It gets no input. Tables without a routine are no program of a source;
-/// they count as out of memory.
-fn run_tokens(alloc: Global, tokens: Tokens, program: Program) -> Result<Debuggee, AllocError>
+/// The program that a source is. It takes memory. A source is refused that is no program of the language, that breaks a
+/// static rule, or in which something is too big.
+pub fn read_source(alloc: Global, source: &[u8]) -> Result<SourceProgram, SourceFault>
+    requires { length source.now ≤ source_bytes }
+    // The answer is the one program that the source is.
+    ensures only { (t : Lexed) (p : ProgramRows) → IsProgram source.now t p → Keeps t p result }
+    // A refused source is no program; and it is told why and where: at the first piece that does not fit, at a token
+    // with which no tree of the grammar goes on, or at the first broken rule.
+    ensures refused { IfErr result (IsRefused source.now) }
+    // A source that is no program is refused, unless memory runs out.
+    ensures found { IfOk result (λ s. IsProgram source.now s.tokens s.program) }
+{
+    let tokens = read_tokens(alloc, source)?;
+    let program = read_program(alloc, &tokens)?;
+    Ok(SourceProgram { tokens, program })
+}
+
+/// The run of a program, with an input and a budget of steps. Tables without a routine are no program of a source; they
+/// count as out of memory.
+pub fn run_program(
+    alloc: Global,
+    source: SourceProgram,
+    input: &[u8],
+    budget: u32,
+) -> Result<Debuggee, AllocError>
+    requires input { length input.now ≤ input_bytes }
+    requires steps { 0 < budget }
+    requires few_steps { budget ≤ most_steps }
     ensures kept { IfOk result (λ debuggee. execution debuggee
-        ≡ record { tokens = tokens; program = program; calls = calls_within program default_budget }) }
+        ≡ execution_of source.tokens source.program (record { input = input.now; budget = budget })) }
     ensures ready { IfOk result IsReady }
 {
     every_program_runs();
     every_run_has_a_call();
+    let SourceProgram { tokens, program } = source;
     if program.routines() == 0 {
         return Err(AllocError);
     }
-    let history = run(alloc, &program, b"", BUDGET)?;
+    let history = run(alloc, &program, input, budget)?;
     Ok(Debuggee {
         tokens,
         program,
         history,
     })
-}
-
-/// The run of a source. It takes memory. A source is refused that is no program of the language, that breaks a static
-/// rule, or in which something is too big.
-pub fn run_source(alloc: Global, source: &[u8]) -> Result<Debuggee, SourceFault>
-    requires { length source.now ≤ source_bytes }
-    // Each program that the source is has this run.
-    ensures only { (t : Lexed) (p : ProgramRows) → IsProgram source.now t p → Keeps (execution_of t p) result }
-    // A refused source is no program; and it is told why and where: at the first piece that does not fit, at a token
-    // with which no tree of the grammar goes on, or at the first broken rule.
-    ensures refused { IfErr result (IsRefused source.now) }
-    // A source that is no program is refused, unless memory runs out.
-    ensures found { IfOk result (λ debuggee. (t : Lexed) × (p : ProgramRows) × IsProgram source.now t p
-        × (execution debuggee ≡ execution_of t p)) }
-    ensures ready { IfOk result IsReady }
-{
-    let tokens = read_tokens(alloc, source)?;
-    let program = read_program(alloc, &tokens)?;
-    let debuggee = run_tokens(alloc, tokens, program)?;
-    Ok(debuggee)
 }

@@ -1,22 +1,32 @@
-use Rattle.std.proofs.Common.{inl, inr, subst}
-use Rattle.debug_cli.specs.Heard.{GaveBy, lines_in}
-use Rattle.debuggee.specs.Execution.{Execution}
-use Rattle.debug_cli.specs.Asked.{said}
+use Rattle.std.proofs.Common.{ℕ, List, inl, refl, sym, subst}
+use Rattle.debuggee.specs.Program.{IsProgram, NoProgram, Refuses}
+use Rattle.debug_cli.specs.Outside.{Outside}
+use Rattle.debug_cli.specs.Asked.{Checked}
+use Rattle.debug_cli.proofs.StatusTellsWhy.{outside_at, refused_goes}
 use Rattle.debug_cli.proofs.ask.ask_source.Goals as goal
 
 pub returns-in-Ok-clause-goes : goal.returns-in-Ok-clause-goes
-returns-in-Ok-clause-goes g c =
-    let given = g.O.Sink.given c.args.screen.now in
-    let given' = g.O.Sink.given c.hold_session.new.screen in
-    let found = c.in-Ok.ensures.found in
-    let talk = c.hold_session.ensures.goes in
-    let gave = subst (λ (h : Execution). GaveBy c.hold_session.result given given' (said h (lines_in talk.0))) found.3 talk.2 in
-    inl (found.0, found.1, talk.0, c.hold_session.result, found.2, talk.1, c.status_of.ensures, gave, talk.3)
+returns-in-Ok-clause-goes g c = λ words f same bytes.
+    let checked : Checked words (g.K.Keeper.files c.args.keeper.now) = record {
+      file = f;
+      tokens = c.in-Ok.program.tokens;
+      rows = c.in-Ok.program.program;
+      program = subst (λ (b : List ℕ). IsProgram b c.in-Ok.program.tokens c.in-Ok.program.program) (sym bytes) c.in-Ok.ensures.found;
+    } in
+    c.ask_program.ensures.goes words checked same refl refl
 
 pub returns-in-Err-Refused-clause-goes : goal.returns-in-Err-Refused-clause-goes
-returns-in-Err-Refused-clause-goes g c =
+returns-in-Err-Refused-clause-goes g c = λ words f same bytes.
+    let before : Outside =
+    outside_at g.K.Keeper.files g.K.Keeper.counts g.I.Source.left g.O.Sink.given c.args.keeper.now c.args.console.now c.args.screen.now in
+    let after : Outside =
+    outside_at g.K.Keeper.files g.K.Keeper.counts g.I.Source.left g.O.Sink.given c.args.keeper.now c.args.console.now c.refuse_source.new.screen in
     let refused = rw c.in-Err-Refused.field-0-is at c.in-Err-Refused.ensures.refused in
-    elim c.refuse_source.ensures.goes [
-      | inl line ↦ inr (inl (c.in-Err-Refused.why, c.in-Err-Refused.line, c.in-Err-Refused.byte, refused.0, refused.1, line))
-      | inr none ↦ inr (inr none)
-    ]
+    let why = c.in-Err-Refused.why in
+    let line = c.in-Err-Refused.line in
+    let byte = c.in-Err-Refused.byte in
+    refused_goes words before after f why line byte (subst NoProgram (sym bytes) refused.0)
+    (subst (λ (b : List ℕ). Refuses b why line byte) (sym bytes) refused.1) c.refuse_source.result c.refuse_source.ensures.goes
+
+pub returns-in-Err-Memory-clause-goes : goal.returns-in-Err-Memory-clause-goes
+returns-in-Err-Memory-clause-goes g c = λ words f same bytes. inl refl

@@ -1,7 +1,6 @@
 use Rattle.std.proofs.lemmas.Result.{err_from_is_err_and}
-use Rattle.debuggee.specs.Execution.{execution}
-use Rattle.debuggee.proofs.SourceIsRun.{no_tokens_only, no_tokens_refused, IsDivided, unread_only, unread_refused, run_only, run_found}
-use Rattle.debuggee.proofs.source.run_source.Goals as goal
+use Rattle.debuggee.proofs.SourceIsRun.{no_tokens_only, no_tokens_refused, IsDivided, unread_only, unread_refused, read_only, read_found}
+use Rattle.debuggee.proofs.source.read_source.Goals as goal
 
 pub returns-in_err-tokens-clause-only : goal.returns-in_err-tokens-clause-only
 returns-in_err-tokens-clause-only c = λ t p is.
@@ -31,10 +30,10 @@ pub returns-clause-only : goal.returns-clause-only
 returns-clause-only c =
     let the : IsDivided c.args.source.now c.in_ok-tokens.tokens =
     record { kept = c.in_ok-tokens.ensures.found.0; lexed = c.in_ok-tokens.ensures.found.1; only = c.in_ok-tokens.ensures.only } in
-    run_only the c.in_ok-program.program (execution c.in_ok-debuggee.debuggee) c.in_ok-program.ensures.found c.in_ok-debuggee.ensures.kept
+    read_only the c.in_ok-program.program c.in_ok-program.ensures.found
 
 pub returns-clause-found : goal.returns-clause-found
 returns-clause-found c =
     let the : IsDivided c.args.source.now c.in_ok-tokens.tokens =
     record { kept = c.in_ok-tokens.ensures.found.0; lexed = c.in_ok-tokens.ensures.found.1; only = c.in_ok-tokens.ensures.only } in
-    run_found the c.in_ok-program.program (execution c.in_ok-debuggee.debuggee) c.in_ok-program.ensures.found c.in_ok-debuggee.ensures.kept
+    read_found the c.in_ok-program.program c.in_ok-program.ensures.found
