@@ -5,6 +5,7 @@ ghost use Rattle.pas_lexer.specs.Limits.{source_bytes};
 ghost use Rattle.pas_lexer.specs.Lexed.{Lexed};
 ghost use Rattle.pas_lexer.specs.Division.{line_at, IsLexed, IsFault};
 ghost use Rattle.program_tables.specs.ProgramRows.{ProgramRows};
+ghost use Rattle.program_run.specs.History.{IsOfRun};
 ghost use Rattle.debuggee.specs.declared.source.SourceFault.TheVariants.{Refused, Memory};
 ghost use Rattle.debuggee.specs.Program.{IsProgram, Keeps, IsRefused, IsMisfit, IsUnlexed, IsUnread, IsRead};
 ghost use Rattle.debuggee.specs.Program.{fault_of_check, TokensAre};
@@ -166,6 +167,9 @@ pub fn run_program(
     requires few_steps { budget ≤ most_steps }
     ensures kept { IfOk result (λ debuggee. execution debuggee
         ≡ execution_of source.tokens source.program (record { input = input.now; budget = budget })) }
+    // All that is kept of the run is that of the program's run: the calls with what was there at their entry and exit,
+    // the log, the items of the input, and what was given out.
+    ensures history { IfOk result (λ debuggee. IsOfRun source.program input.now budget debuggee.history) }
     ensures ready { IfOk result IsReady }
 {
     every_program_runs();
