@@ -13,7 +13,7 @@ use optimal_query::State;
 use question_text::{Recorded, write_call, write_call_name, write_way_line};
 use std::alloc::{AllocError, Global};
 
-/// Appends the card of a call. After `Memory` the text is as before.
+/// Appends the card of a call.
 pub fn write_card(
     alloc: Global,
     out: &mut Bytes,
