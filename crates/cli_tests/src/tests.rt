@@ -8,8 +8,9 @@ const ADDERS: &[u8] =
     b"program p; var x: integer; procedure a; begin x := x + 1 end; procedure b; begin a; a end; begin x := 1; b end.";
 
 const SHOWN: &[u8] =
-    b"call 0 p\n  returned\nask 1 suspects 3 left 2\ncall 1 b in call 0\n  returned\n\
-    entry 2\nask 2 suspects 2 left 1\ncall 2 a in call 1\n  returned\nnot understood\n";
+    b"call 0 p\n  returned\nask 1 suspects 3 left 2\ncall 1 b in call 0\n  reads x = 1\n  changes x = 3\n  returned\n\
+    entry 2\nask 2 suspects 2 left 1\ncall 2 a in call 1\n  reads x = 1\n  changes x = 2\n  returned\n\
+    not understood\n";
 
 // Serves `rt try --test --fail-alloc N -- little_memory`, in which the Nth allocation fails: the screen then gets a
 // first part of the session, and the status is 7. Where none fails it is a session like the worked cases.

@@ -1,4 +1,3 @@
-mod FramesOutward
 pub mod LineIsCommand
 pub mod RepliesInOrder
 pub mod StatusByCode

@@ -20,6 +20,7 @@ use Rattle.answer_book.specs.Entries.{entries_with, standing_answers}
 use Rattle.answer_book.specs.Marks.{marks_of}
 use Rattle.answer_book.specs.Numbers.{numbers_below}
 use Rattle.call_tree.specs.Clear.{is_unjudged}
+use Rattle.call_tree.specs.Recording.{lasts_of, routines_of}
 use Rattle.call_tree.specs.declared.records.Mark.{Mark}
 use Rattle.subtree_weights.specs.Searched.{is_searched, mark_at}
 use Rattle.optimal_query.specs.declared.state.State.{State}
@@ -29,8 +30,8 @@ use Rattle.optimal_query.specs.Region.{doubts_of, region_of, suspects_of}
 use Rattle.optimal_query.specs.Search.{Search, state_now}
 use Rattle.optimal_query.specs.State.{state_by, state_of, state_with, verdict_by}
 use Rattle.debuggee.specs.declared.source.Debuggee.{Debuggee}
-use Rattle.debuggee.specs.Execution.{Execution, execution, lasts_of, routines_of}
-use Rattle.debuggee.proofs.CallsAreNumbered.{columns_of_routines, lasts_told, routines_told}
+use Rattle.debuggee.specs.Execution.{Execution, execution}
+use Rattle.debuggee.proofs.CallsAreNumbered.{columns_of_routines}
 use Rattle.debug_cli.specs.declared.dialog.Ending.{Ending}
 use Rattle.debug_cli.specs.declared.dialog.Ending.TheVariants as ending
 use Rattle.debug_cli.specs.Dialog.{entered, entries_judged, is_full, reply_judged, state}
@@ -39,9 +40,7 @@ use Rattle.debug_cli.specs.Turned.{Judges}
 
 -- the state of that search is the one that is told
 pub state_kept : (d : Debuggee) (s : Search) → IsSearch d s → state_now s ≡ state (execution d) s.book.entries
-state_kept d s e =
-    ap state_now e
-    ∙ (λ i. state_of (lasts_told d.history.calls.calls i) (routines_told d.history.calls.calls i) (standing_answers s.book.entries))
+state_kept d s e = ap state_now e
 
 -- ---- what is asked about is a call
 
@@ -123,7 +122,8 @@ pub refused_reply : (d : Debuggee) (s later : Search) (j : Judgement) (call weig
     → Judges (execution d) s.book.entries j r later.book.entries
 refused_reply d s later j call weight suspects left f r is asked answer same ok err =
     let h = execution d in
-    let below = asked_call (lasts_of h.calls) (routines_of h.calls) (standing_answers s.book.entries) call weight suspects left asked in
-    let routines = ap (λ (x : Search). length x.book.routine) is ∙ ap length (routines_told d.history.calls.calls) ∙ columns_of_routines h.calls in
+    let calls = d.history.calls.calls in
+    let below = asked_call (lasts_of calls) (routines_of calls) (standing_answers s.book.entries) call weight suspects left asked in
+    let routines = ap (λ (x : Search). length x.book.routine) is ∙ columns_of_routines calls in
     full_reply h s.book.entries later.book.entries j call weight suspects left r asked
     (full_when s.book call f (omega (arith, below, routines)) answer) (ap (λ (x : Search). x.book.entries) same) ok err

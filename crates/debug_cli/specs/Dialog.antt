@@ -15,16 +15,18 @@ use Rattle.debug_cli.specs.declared.commands.Command.{Command}
 use Rattle.debug_cli.specs.declared.commands.Command.TheVariants.{Nothing, Right, Wrong, Quit, Other}
 use Rattle.debug_cli.specs.Limits.{book_entries}
 use Rattle.debug_cli.specs.Commands.{command_of}
-use Rattle.debuggee.specs.Execution.{Execution, lasts_of, routines_of}
-use Rattle.debug_cli.specs.Texts.{card, report}
+use Rattle.call_tree.specs.Recording.{lasts_of, routines_of}
+use Rattle.question_text.specs.Cards.{card}
+use Rattle.debuggee.specs.Execution.{Execution}
+use Rattle.debug_cli.specs.Texts.{report}
 
 -- the state of the search, from scratch, after these entries: a function of the calls and of the answers that stand
 abbrev pub state : Execution → List Entry → State
-state h entries = state_of (lasts_of h.calls) (routines_of h.calls) (standing_answers entries)
+state h entries = state_of (lasts_of h.recorded.calls) (routines_of h.recorded.calls) (standing_answers entries)
 
 -- what a session opens with: the card of call 0, and a report
 abbrev pub opening : Execution → List ℕ
-opening h = card h 0 ++ report h (state h first_entries)
+opening h = card h.recorded 0 ++ report h.recorded (state h first_entries)
 
 -- ---- a judgement on the call that is asked about
 
@@ -39,7 +41,7 @@ entries_judged _ entries j = entries
 
 -- the number of the last entry, and a report
 abbrev pub entered : Execution → List Entry → List ℕ
-entered h entries = codes "entry " ++ decimal (length entries) ++ codes "\n" ++ report h (state h entries)
+entered h entries = codes "entry " ++ decimal (length entries) ++ codes "\n" ++ report h.recorded (state h entries)
 
 -- the reply to the judgement
 abbrev pub reply_judged : Execution → State → List Entry → Judgement → List ℕ

@@ -2,12 +2,13 @@
 use Rattle.std.specs.Prelude.{◌≡◌, ℕ, List}
 use Rattle.pas_lexer.specs.Lexed.{Lexed}
 use Rattle.program_tables.specs.ProgramRows.{ProgramRows}
+use Rattle.call_tree.specs.Recording.{lasts_of, parents_of, routines_of}
 use Rattle.answer_book.specs.declared.entries.Entry.{Entry}
 use Rattle.answer_book.specs.Entries.{standing_answers}
 use Rattle.optimal_query.specs.declared.state.State.TheVariants.{Ask, Found}
 use Rattle.optimal_query.specs.Laws.{CallTree, IsAsked, IsAtFault, IsLeast}
 use Rattle.debuggee.specs.Program.{IsProgram}
-use Rattle.debuggee.specs.Execution.{Execution, Supply, execution_of, lasts_of, parents_of, routines_of}
+use Rattle.debuggee.specs.Execution.{Execution, Supply, execution_of}
 use Rattle.debug_cli.specs.Dialog.{state}
 
 -- a source is one program at most, and has one run with each input and budget
@@ -18,7 +19,11 @@ OneRun =
 
 -- the columns of the calls of a run
 abbrev pub tree_of : Execution → CallTree
-tree_of h = record { parent = parents_of h.calls; last = lasts_of h.calls; routine = routines_of h.calls }
+tree_of h = record {
+  parent = parents_of h.recorded.calls;
+  last = lasts_of h.recorded.calls;
+  routine = routines_of h.recorded.calls;
+}
 
 -- A question in the run of a program, after whatever entries: a suspect, with the numbers that are told. On no suspect
 -- does the worse answer leave fewer, and of those on which it leaves as few it is the first.

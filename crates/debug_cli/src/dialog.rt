@@ -6,7 +6,7 @@ ghost use Rattle.edge_ports.specs.Told.{GaveAll, GavePrefix};
 ghost use Rattle.edge_ports.specs.Lines.{Moves};
 ghost use Rattle.edge_ports.specs.Limits.{line_bytes};
 ghost use Rattle.edge_ports.specs.Turns.{IsConsistent};
-ghost use Rattle.debuggee.specs.Execution.{execution};
+ghost use Rattle.debuggee.specs.Execution.{IsReady, execution};
 ghost use Rattle.debug_cli.specs.Status.{is_console, is_screen};
 ghost use Rattle.debug_cli.specs.Dialog.{replies};
 ghost use Rattle.answer_book.specs.Entries.{first_entries};
@@ -66,6 +66,7 @@ fn answer(
     debug: &mut Debug,
     line: &[u8],
 ) -> Result<Bytes, Ending>
+    requires ready { IsReady debuggee.now }
     requires search { IsSearch debuggee.now debug.old }
     requires short { length line.now ≤ line_bytes }
     ensures answers { Answers (execution debuggee.now) debug.old.book.entries line.now result debug.new.book.entries }
@@ -88,6 +89,7 @@ fn next_reply<I: Source>(
     lines: &mut Lines,
     console: &mut I,
 ) -> Result<Bytes, Ending>
+    requires ready { IsReady debuggee.now }
     requires search { IsSearch debuggee.now debug.old }
     ensures reply { NextReply (execution debuggee.now)
         (record { entries = debug.old.book.entries; lines = lines.old }) result
@@ -133,6 +135,7 @@ fn turn<I: Source, O: Sink>(
     console: &mut I,
     screen: &mut O,
 ) -> Result<(), Ending>
+    requires ready { IsReady debuggee.now }
     requires search { IsSearch debuggee.now debug.old }
     ensures turned { Turned (execution debuggee.now)
         (record {
@@ -170,6 +173,7 @@ pub fn converse<I: Source, O: Sink>(
     console: &mut I,
     screen: &mut O,
 ) -> Ending
+    requires ready { IsReady debuggee.now }
     requires search { IsSearch debuggee.now debug.old }
     requires first { debug.old.book.entries ≡ first_entries }
     requires fresh { lines.old ≡ record { taken = []; handed = 0; ended = false; line = [] } }

@@ -1,13 +1,14 @@
 //! A judgement on the call that is asked about.
 ghost use Rattle.std.specs.Prelude.{◌≡◌, ◌<◌, IfOk, IfErr, length};
-ghost use Rattle.debuggee.specs.Execution.{execution};
+ghost use Rattle.debuggee.specs.Execution.{IsReady, execution};
 ghost use Rattle.debug_cli.specs.Dialog.{entered, state};
 ghost use Rattle.debug_cli.specs.Searches.{IsSearch};
 ghost use Rattle.debug_cli.specs.Turned.{Judges};
 
 use crate::dialog::Ending;
-use crate::texts::{write_number, write_report};
+use crate::texts::write_report;
 use answer_book::Judgement;
+use cell_names::write_number;
 use cell_value::Steps;
 use debuggee::Debuggee;
 use edge_ports::Bytes;
@@ -42,6 +43,7 @@ fn entered_text(
     debug: &Debug,
     number: u32,
 ) -> Result<Bytes, AllocError>
+    requires ready { IsReady debuggee.now }
     requires search { IsSearch debuggee.now debug.now }
     requires last { number ≡ length debug.now.book.entries }
     ensures { IfOk result (λ text. text ≡ entered (execution debuggee.now) debug.now.book.entries) }
@@ -50,7 +52,7 @@ fn entered_text(
     text.append(b"entry ")?;
     write_number(&mut text, number)?;
     text.append(b"\n")?;
-    write_report(&mut text, debuggee, find_state(debuggee, debug))?;
+    write_report(alloc, &mut text, debuggee, find_state(debuggee, debug))?;
     Ok(text)
 }
 
@@ -61,6 +63,7 @@ pub fn judge(
     debug: &mut Debug,
     judgement: Judgement,
 ) -> Result<Bytes, Ending>
+    requires ready { IsReady debuggee.now }
     requires search { IsSearch debuggee.now debug.old }
     ensures judges { Judges (execution debuggee.now) debug.old.book.entries judgement result debug.new.book.entries }
     ensures search { IsSearch debuggee.now debug.new }

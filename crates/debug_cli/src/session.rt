@@ -33,13 +33,14 @@ pub fn give_line<O: Sink>(screen: &mut O, line: &[u8], status: Status) -> Status
 
 /// What a session opens with: the card of call 0, and a report.
 fn opening_text(alloc: Global, debuggee: &Debuggee, debug: &Debug) -> Result<Bytes, AllocError>
+    requires ready { IsReady debuggee.now }
     requires search { IsSearch debuggee.now debug.now }
     requires first { debug.now.book.entries ≡ first_entries }
     ensures { IfOk result (λ text. text ≡ opening (execution debuggee.now)) }
 {
     let mut text = Bytes::new(alloc);
-    write_card(&mut text, debuggee, 0)?;
-    write_report(&mut text, debuggee, find_state(debuggee, debug))?;
+    write_card(alloc, &mut text, debuggee, 0)?;
+    write_report(alloc, &mut text, debuggee, find_state(debuggee, debug))?;
     Ok(text)
 }
 

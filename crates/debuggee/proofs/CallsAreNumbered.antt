@@ -10,16 +10,15 @@ use Rattle.std.proofs.lemmas.Bool.{leb-true, leb-false}
 use Rattle.std.proofs.lemmas.List.{length-map, get_or_past}
 use Rattle.std.proofs.lemmas.Option.{slice_get_within, get_or_from_slice_get, slice_get-map}
 use Rattle.call_tree.specs.Numbering.{AreIntervals, IsParent, IsNumbered}
-use Rattle.call_tree.specs.Recording.{Recording}
-use Rattle.call_tree.specs.Recording as recording
-use Rattle.call_tree.specs.declared.records.Call as recorded
+use Rattle.call_tree.specs.Recording.{Recording, lasts_of, parents_of, routines_of}
+use Rattle.call_tree.specs.declared.records.Call as table
 use Rattle.program_tables.specs.ProgramRows.{ProgramRows}
 use Rattle.program_meaning.specs.Run.{Call, Marked, Outcome, run}
 use Rattle.program_meaning.specs.Numbering.{greatest, belows, calls_of, last_of, parent_of, is_below, each_from, InSubtree, Root, Child}
 use Rattle.program_meaning.specs.Laws.{SubtreeIsInterval, LastIsACall, EveryProgramRuns, EveryRunHasACall}
 use Rattle.program_run.specs.History.{recording_of}
-use Rattle.program_run.specs.Table as table
-use Rattle.debuggee.specs.Execution.{CallRow, Supply, calls_with, lasts_of, parents_of, routines_of, row_of, rows_of, told}
+use Rattle.program_run.specs.Table.{numbered, row_of}
+use Rattle.debuggee.specs.Execution.{Supply, calls_with}
 
 -- the subtree of each call is the interval from it to its last call, which is a call
 pub record IsTree (bs : List ℕ) : Type 0 where
@@ -43,27 +42,27 @@ get_within [] i h = absurd (omega arith)
 get_within (x ∷ xs) zero h = (x, refl)
 get_within (x ∷ xs) (suc i) h = get_within xs i (omega arith)
 
-pub rows_length : (cs : List (Marked Call)) → length (rows_of cs) ≡ length cs
+pub rows_length : (cs : List (Marked Call)) → length (numbered cs) ≡ length cs
 rows_length cs = each_length (row_of (belows cs)) 0 cs
 
 -- the row of a call
-pub row_of_call : (cs : List (Marked Call)) (k : ℕ) (c : Marked Call) → slice_get cs k ≡ Some c → slice_get (rows_of cs) k ≡ Some (row_of (belows cs) k c)
+pub row_of_call : (cs : List (Marked Call)) (k : ℕ) (c : Marked Call) → slice_get cs k ≡ Some c → slice_get (numbered cs) k ≡ Some (row_of (belows cs) k c)
 row_of_call cs k c e = each_at (row_of (belows cs)) 0 k cs c e ∙ (let n : 0 + k ≡ k = omega arith in ap (λ m. Some (row_of (belows cs) m c)) n)
 
-pub row_at : (cs : List (Marked Call)) (k : ℕ) → k < length cs → (c : Marked Call) × (slice_get (rows_of cs) k ≡ Some (row_of (belows cs) k c))
+pub row_at : (cs : List (Marked Call)) (k : ℕ) → k < length cs → (c : Marked Call) × (slice_get (numbered cs) k ≡ Some (row_of (belows cs) k c))
     × (slice_get cs k ≡ Some c)
 row_at cs k h = let here = get_within cs k h in (here.0, row_of_call cs k here.0 here.1, here.1)
 
 -- a column of the row of a call
-column_at : {A : Type 0} (v : CallRow → A) (cs : List (Marked Call)) (k : ℕ) (h : k < length cs)
-    → slice_get (map v (rows_of cs)) k ≡ Some (v (row_of (belows cs) k (row_at cs k h).0))
-column_at v cs k h = slice_get-map v (rows_of cs) k ∙ ap (option_map v) (row_at cs k h).1
+column_at : {A : Type 0} (v : table.Call → A) (cs : List (Marked Call)) (k : ℕ) (h : k < length cs)
+    → slice_get (map v (numbered cs)) k ≡ Some (v (row_of (belows cs) k (row_at cs k h).0))
+column_at v cs k h = slice_get-map v (numbered cs) k ∙ ap (option_map v) (row_at cs k h).1
 
-pub parent_at : (cs : List (Marked Call)) (k : ℕ) → k < length cs → slice_get (parents_of (rows_of cs)) k ≡ Some (parent_of (belows cs) k)
+pub parent_at : (cs : List (Marked Call)) (k : ℕ) → k < length cs → slice_get (parents_of (numbered cs)) k ≡ Some (parent_of (belows cs) k)
 parent_at cs k h = column_at (λ r. r.parent) cs k h
 
-pub last_at : (cs : List (Marked Call)) (k : ℕ) → k < length cs → slice_index (lasts_of (rows_of cs)) k ≡ last_of (belows cs) k
-last_at cs k h = get_or_from_slice_get (lasts_of (rows_of cs)) k (last_of (belows cs) k) 0 (column_at (λ r. r.last) cs k h)
+pub last_at : (cs : List (Marked Call)) (k : ℕ) → k < length cs → slice_index (lasts_of (numbered cs)) k ≡ last_of (belows cs) k
+last_at cs k h = get_or_from_slice_get (lasts_of (numbered cs)) k (last_of (belows cs) k) 0 (column_at (λ r. r.last) cs k h)
 
 -- the greatest number that passes is below the bound
 greatest_below : (p : ℕ → Bool) (n m : ℕ) → greatest p n ≡ Some m → m < n
@@ -74,20 +73,20 @@ greatest_below p (suc n) m e = by (λ q. greatest_below p n m q) (p n) e
     by below true q = let same : n ≡ m = cc in omega arith
     by below false q = let less = below q in omega (arith, less)
 
-parents_length : (cs : List (Marked Call)) → length (parents_of (rows_of cs)) ≡ length cs
-parents_length cs = length-map (rows_of cs) (λ r. r.parent) ∙ rows_length cs
+parents_length : (cs : List (Marked Call)) → length (parents_of (numbered cs)) ≡ length cs
+parents_length cs = length-map (numbered cs) (λ r. r.parent) ∙ rows_length cs
 
-lasts_length : (cs : List (Marked Call)) → length (lasts_of (rows_of cs)) ≡ length cs
-lasts_length cs = length-map (rows_of cs) (λ r. r.last) ∙ rows_length cs
+lasts_length : (cs : List (Marked Call)) → length (lasts_of (numbered cs)) ≡ length cs
+lasts_length cs = length-map (numbered cs) (λ r. r.last) ∙ rows_length cs
 
 belows_length : (cs : List (Marked Call)) → length (belows cs) ≡ length cs
 belows_length cs = length-map cs (λ c. c.event.below)
 
 -- a call of which there is a parent is a call, and that is its parent
-parent_is : (cs : List (Marked Call)) (above call : ℕ) → IsParent (parents_of (rows_of cs)) above call → (call < length cs)
+parent_is : (cs : List (Marked Call)) (above call : ℕ) → IsParent (parents_of (numbered cs)) above call → (call < length cs)
     × (parent_of (belows cs) call ≡ Some above)
 parent_is cs above call e =
-    let inside : call < length cs = let l = slice_get_within (parents_of (rows_of cs)) call (Some above) e in omega (arith, l, parents_length cs) in
+    let inside : call < length cs = let l = slice_get_within (parents_of (numbered cs)) call (Some above) e in omega (arith, l, parents_length cs) in
     (inside, inner (parent_of (belows cs) call) (sym (parent_at cs call inside) ∙ e))
   where
     inner : (o : Option ℕ) → Some o ≡ Some (Some above) → o ≡ Some above
@@ -109,7 +108,7 @@ module _ (bs : List ℕ) (tree : IsTree bs) where
   parent_within top _ h later Root = absurd (omega arith)
   parent_within top _ h later (Child call above e s) = (above, ((tree.subtree top above h).0 s).0, e)
 
-pub rows_numbered : (cs : List (Marked Call)) → IsTree (belows cs) → IsNumbered (parents_of (rows_of cs)) (lasts_of (rows_of cs))
+pub rows_numbered : (cs : List (Marked Call)) → IsTree (belows cs) → IsNumbered (parents_of (numbered cs)) (lasts_of (numbered cs))
 rows_numbered cs tree = record {
   same_length = parents_length cs ∙ sym (lasts_length cs);
   intervals = record { from_itself = itself; to_a_call = a_call };
@@ -121,17 +120,17 @@ rows_numbered cs tree = record {
     size : length (belows cs) ≡ length cs
     size = belows_length cs
 
-    itself : (call : ℕ) → call < length (lasts_of (rows_of cs)) → call ≤ slice_index (lasts_of (rows_of cs)) call
+    itself : (call : ℕ) → call < length (lasts_of (numbered cs)) → call ≤ slice_index (lasts_of (numbered cs)) call
     itself call h = let l = last_at cs call (omega (arith, lasts_length cs)) in omega (arith, l)
 
-    a_call : (call : ℕ) → call < length (lasts_of (rows_of cs)) → slice_index (lasts_of (rows_of cs)) call < length (lasts_of (rows_of cs))
+    a_call : (call : ℕ) → call < length (lasts_of (numbered cs)) → slice_index (lasts_of (numbered cs)) call < length (lasts_of (numbered cs))
     a_call call h =
         let l = last_at cs call (omega (arith, lasts_length cs)) in
         let x = tree.last call (omega (arith, lasts_length cs, size)) in
         omega (arith, l, x, lasts_length cs, size)
 
-    ends : (above call : ℕ) → IsParent (parents_of (rows_of cs)) above call
-        → slice_index (lasts_of (rows_of cs)) call ≤ slice_index (lasts_of (rows_of cs)) above
+    ends : (above call : ℕ) → IsParent (parents_of (numbered cs)) above call
+        → slice_index (lasts_of (numbered cs)) call ≤ slice_index (lasts_of (numbered cs)) above
     ends above call e =
         let is = parent_is cs above call e in
         let inside : call < length cs = is.0 in
@@ -140,13 +139,13 @@ rows_numbered cs tree = record {
         omega (arith, last_at cs call inside, last_at cs above (omega arith), x)
 
     -- only a call has a last call after it
-    top_inside : (top call : ℕ) → top < call → call ≤ slice_index (lasts_of (rows_of cs)) top → (b : Bool) → leb (length cs) top ≡ b → top < length cs
+    top_inside : (top call : ℕ) → top < call → call ≤ slice_index (lasts_of (numbered cs)) top → (b : Bool) → leb (length cs) top ≡ b → top < length cs
     top_inside top call later h true t =
-        let past = leb-true _ _ t in let none = get_or_past (lasts_of (rows_of cs)) top 0 (omega (arith, lasts_length cs)) in absurd (omega (arith, none))
+        let past = leb-true _ _ t in let none = get_or_past (lasts_of (numbered cs)) top 0 (omega (arith, lasts_length cs)) in absurd (omega (arith, none))
     top_inside top call later h false t = leb-false _ _ t
 
-    within : (top call : ℕ) → top < call → call ≤ slice_index (lasts_of (rows_of cs)) top
-        → (above : ℕ) × (top ≤ above) × IsParent (parents_of (rows_of cs)) above call
+    within : (top call : ℕ) → top < call → call ≤ slice_index (lasts_of (numbered cs)) top
+        → (above : ℕ) × (top ≤ above) × IsParent (parents_of (numbered cs)) above call
     within top call later h =
         let inside : top < length cs = top_inside top call later h (leb (length cs) top) refl in
         let l = last_at cs top inside in
@@ -171,20 +170,6 @@ module _ (subtree : SubtreeIsInterval) (last : LastIsACall) where
   unfolding calls_with
   run_numbered p s = rows_numbered (calls_of (run p s.input s.budget)) (tree_of p s (run p s.input s.budget) refl)
 
--- ---- the calls that were recorded
-
-told_each : (bs : List ℕ) (k : ℕ) (cs : List (Marked Call)) → map told (each_from (table.row_of bs) k cs) ≡ each_from (row_of bs) k cs
-told_each bs k [] = refl
-told_each bs k (c ∷ cs) = ap (λ (rs : List CallRow). row_of bs k c ∷ rs) (told_each bs (suc k) cs)
-
--- what is told of the calls that were recorded of a run
-pub told_run : (p : ProgramRows) (s : Supply) (calls : Recording) → calls ≡ recording_of p (run p s.input s.budget)
-    → map told calls.calls ≡ calls_with s p
-unfolding calls_with
-told_run p s calls e =
-    ap (λ (c : Recording). map told c.calls) e
-    ∙ told_each (belows (calls_of (run p s.input s.budget))) 0 (calls_of (run p s.input s.budget))
-
 -- a run has a call
 some_in : EveryRunHasACall → (p : ProgramRows) (s : Supply) (o : Outcome) → run p s.input s.budget ≡ o → IsSome o → 0 < length (calls_of o)
 some_in has p s None e is = let x : ⊥ = cc in absurd x
@@ -195,19 +180,14 @@ pub some_call : EveryRunHasACall → EveryProgramRuns → (p : ProgramRows) (s :
 some_call has runs p s calls e =
     let cs = calls_of (run p s.input s.budget) in
     let some = some_in has p s (run p s.input s.budget) refl (runs p s.input s.budget) in
-    omega (arith, ap (λ (c : Recording). length c.calls) e, each_length (table.row_of (belows cs)) 0 cs, some)
+    omega (arith, ap (λ (c : Recording). length c.calls) e, each_length (row_of (belows cs)) 0 cs, some)
+
+-- the calls that are kept of a run are those of the run
+pub calls_kept : (p : ProgramRows) (s : Supply) (calls : Recording) → calls ≡ recording_of p (run p s.input s.budget)
+    → calls.calls ≡ calls_with s p
+unfolding calls_with
+calls_kept p s calls e = ap (λ (c : Recording). c.calls) e
 
 -- the column of routines is as long as that of the last calls
-pub columns_of_routines : (rows : List CallRow) → length (routines_of rows) ≡ length (lasts_of rows)
+pub columns_of_routines : (rows : List table.Call) → length (routines_of rows) ≡ length (lasts_of rows)
 columns_of_routines rows = length-map rows (λ r. r.routine) ∙ sym (length-map rows (λ r. r.last))
-
-map_told : {A : Type 0} (v : CallRow → A) (cs : List recorded.Call) → map v (map told cs) ≡ map (λ c. v (told c)) cs
-map_told v [] = refl
-map_told v (c ∷ cs) = ap (λ xs. v (told c) ∷ xs) (map_told v cs)
-
--- the columns of the calls that were recorded are those of what is told of them
-pub lasts_told : (cs : List recorded.Call) → recording.lasts_of cs ≡ lasts_of (map told cs)
-lasts_told cs = sym (map_told (λ r. r.last) cs)
-
-pub routines_told : (cs : List recorded.Call) → recording.routines_of cs ≡ routines_of (map told cs)
-routines_told cs = sym (map_told (λ r. r.routine) cs)

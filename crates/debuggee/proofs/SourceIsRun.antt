@@ -24,7 +24,7 @@ use Rattle.debuggee.specs.declared.refusal.Refusal.{Refusal}
 use Rattle.debuggee.specs.declared.refusal.Refusal.TheVariants as refusal
 use Rattle.debuggee.specs.declared.source.SourceFault.{SourceFault}
 use Rattle.debuggee.specs.declared.source.SourceFault.TheVariants.{Refused, Memory}
-use Rattle.debuggee.specs.Execution.{Supply, execution_of, calls_with}
+use Rattle.debuggee.specs.Execution.{Supply, execution_of}
 use Rattle.debuggee.specs.Program.{IsProgram, Keeps, NoProgram, Refuses, RefusesToken, RefusesTree, IsRefused, IsMisfit, IsUnlexed}
 use Rattle.debuggee.specs.Program.{IsUnread, IsRead, fault_of_check, TokensAre}
 
@@ -117,4 +117,4 @@ pub one_run : OneTextOneProgram → (source : List ℕ) (t t' : Lexed) (p p' : P
 one_run law source t t' p p' a b e s =
     let same : t ≡ t' = λ i. record { tokens = e i; source = (a.kept ∙ sym b.kept) i } in
     let program : p ≡ p' = sym (same_checked law t p p' a.checked (subst (λ (u : Lexed). IsChecked u p') (sym same) b.checked)) in
-    λ i. record { tokens = same i; program = program i; calls = calls_with s (program i) }
+    λ i. execution_of (same i) (program i) s

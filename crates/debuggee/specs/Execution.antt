@@ -1,74 +1,60 @@
 -- A run, as the texts and the search see it.
-use Rattle.std.specs.Prelude.{◌≡◌, ℕ, ◌<◌, List, [], Option, length, map}
-use Rattle.cell_value.specs.declared.ways_out.WayOut.{WayOut}
-use Rattle.call_tree.specs.declared.records.Call as table
+use Rattle.std.specs.Prelude.{◌≡◌, ℕ, ◌<◌, List, [], Some, length, slice_get}
+use Rattle.call_tree.specs.declared.records.Call.{Call}
+use Rattle.call_tree.specs.Told.{IsTold}
 use Rattle.pas_lexer.specs.Lexed.{Lexed}
 use Rattle.program_tables.specs.ProgramRows.{ProgramRows}
-use Rattle.program_meaning.specs.Run.{Call, Marked, run}
-use Rattle.program_meaning.specs.Numbering.{belows, calls_of, each_from, last_of, parent_of}
+use Rattle.program_meaning.specs.Run.{items_of, run}
+use Rattle.program_run.specs.History.{log_of, recording_of}
+use Rattle.cell_names.specs.Finding.{finding_of, found_in}
+use Rattle.question_text.specs.Cards.{Recorded}
 use Rattle.debuggee.specs.declared.source.Debuggee.{Debuggee}
 
--- a call of a run: its routine, the call that made it, the last call below it, where its frame begins, and how it
--- ended
-pub record CallRow : Type 0 where
-  pub routine : ℕ
-  pub parent : Option ℕ
-  pub last : ℕ
-  pub base : ℕ
-  pub way : WayOut
-
--- the tokens of a source, the program that they are, and the calls of its run in order of entry
+-- the tokens of a source, and the run of the program that they are, as its cards tell of it
 pub record Execution : Type 0 where
   pub tokens : Lexed
-  pub program : ProgramRows
-  pub calls : List CallRow
-
--- call k of a run, where these numbers of calls are below each call
-abbrev pub row_of : List ℕ → ℕ → Marked Call → CallRow
-row_of bs k c = record {
-  routine = c.event.routine;
-  parent = parent_of bs k;
-  last = last_of bs k;
-  base = c.event.entry.top;
-  way = c.event.way;
-}
-
--- the calls of a run
-abbrev pub rows_of : List (Marked Call) → List CallRow
-rows_of cs = each_from (row_of (belows cs)) 0 cs
+  pub recorded : Recorded
 
 -- what a run is supplied with: the bytes of its input, and the steps that it may take
 pub record Supply : Type 0 where
   pub input : List ℕ
   pub budget : ℕ
 
--- the calls of the run of a program that is supplied so
-unfoldable pub calls_with : Supply → ProgramRows → List CallRow
-calls_with s p = rows_of (calls_of (run p s.input s.budget))
+-- the calls of the run of a program that is supplied so, in order of entry
+unfoldable pub calls_with : Supply → ProgramRows → List Call
+calls_with s p = (recording_of p (run p s.input s.budget)).calls
 
--- the run of a program
+-- the run of a program: its calls, what was done, and the items of its input
 abbrev pub execution_of : Lexed → ProgramRows → Supply → Execution
-execution_of t p s = record { tokens = t; program = p; calls = calls_with s p }
-
--- the columns of the calls
-abbrev pub lasts_of : List CallRow → List ℕ
-lasts_of rows = map (λ r. r.last) rows
-
-abbrev pub parents_of : List CallRow → List (Option ℕ)
-parents_of rows = map (λ r. r.parent) rows
-
-abbrev pub routines_of : List CallRow → List ℕ
-routines_of rows = map (λ r. r.routine) rows
-
--- what of a call that was recorded is told
-abbrev pub told : table.Call → CallRow
-told c = record { routine = c.routine; parent = c.parent; last = c.last; base = c.entry.top; way = c.way }
+execution_of t p s = record {
+  tokens = t;
+  recorded = record {
+    program = p;
+    tokens = length t.tokens;
+    calls = calls_with s p;
+    log = log_of (run p s.input s.budget);
+    items = items_of s.input;
+  };
+}
 
 -- the code keeps this execution
 abbrev pub execution : Debuggee → Execution
-execution d = record { tokens = d.tokens; program = d.program; calls = map told d.history.calls.calls }
+execution d = record {
+  tokens = d.tokens;
+  recorded = record {
+    program = d.program;
+    tokens = length d.tokens.tokens;
+    calls = d.history.calls.calls;
+    log = d.history.log;
+    items = d.history.input;
+  };
+}
 
--- there is a call, and all were left
+-- There is a call, and all were left; what is found by its place is that of the program and of what was done; and of
+-- each call can be told what it did.
 pub record IsReady (d : Debuggee) : Type 0 where
   pub some : 0 < length d.history.calls.calls
   pub all_left : d.history.calls.open_calls ≡ []
+  pub named : found_in d.names ≡ finding_of d.program (length d.tokens.tokens) d.history.log
+  pub told : (number : ℕ) (c : Call) → slice_get d.history.calls.calls number ≡ Some c
+      → IsTold d.history.log d.history.input c

@@ -13,9 +13,10 @@ ghost use Rattle.debuggee.specs.Execution.{execution, execution_of, IsReady};
 ghost use Rattle.debuggee.specs.Limits.{input_bytes, most_steps};
 
 use crate::refusal::Refusal;
+use cell_names::Names;
 use pas_lexer::{LexFault, Tokens, lex, line_at};
 use program_meaning::{every_program_runs, every_run_has_a_call};
-use program_run::{History, run};
+use program_run::{History, calls_are_told, run};
 use program_tables::Program;
 use same_programs::one_text_one_program;
 use source_checker::{ProgramFault, check_tokens};
@@ -43,6 +44,8 @@ pub struct Debuggee {
     pub program: Program,
     /// What its run left: the calls, in order of entry; call 0 is the program.
     pub history: History,
+    /// What is found by its place in the program, and in the heap of its run.
+    pub names: Names,
 }
 
 /// Why a source opens no session.
@@ -154,7 +157,7 @@ pub fn read_source(alloc: Global, source: &[u8]) -> Result<SourceProgram, Source
     Ok(SourceProgram { tokens, program })
 }
 
-/// The run of a program, with an input and a budget of steps. Tables without a routine are no program of a source; they
+/// The run of a program, with an input and a budget of steps. It takes memory, also for the names of cells. Tables without a routine are no program of a source; they
 /// count as out of memory.
 pub fn run_program(
     alloc: Global,
@@ -174,14 +177,18 @@ pub fn run_program(
 {
     every_program_runs();
     every_run_has_a_call();
+    // Of each call can be told what it did.
+    calls_are_told();
     let SourceProgram { tokens, program } = source;
     if program.routines() == 0 {
         return Err(AllocError);
     }
     let history = run(alloc, &program, input, budget)?;
+    let names = Names::new(alloc, &program, tokens.len(), &history.log)?;
     Ok(Debuggee {
         tokens,
         program,
         history,
+        names,
     })
 }

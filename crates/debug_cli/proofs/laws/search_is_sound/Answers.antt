@@ -8,12 +8,12 @@ pub returns-clause-asks : goal.returns-clause-asks
 returns-clause-asks c = λ t p s entries call weight suspects left e.
     c.question_is_least.ensures (tree_of (execution_of t p s)) (standing_answers entries) call weight suspects left (record {
       numbered = run_numbered c.numbers_tell_the_tree.ensures.subtree c.numbers_tell_the_tree.ensures.last p s;
-      of_routines = columns_of_routines (execution_of t p s).calls;
+      of_routines = columns_of_routines (execution_of t p s).recorded.calls;
     }) e
 
 pub returns-clause-finds : goal.returns-clause-finds
 returns-clause-finds c = λ t p s entries call e.
     c.found_is_at_fault.ensures (tree_of (execution_of t p s)) (standing_answers entries) call (record {
       numbered = run_numbered c.numbers_tell_the_tree.ensures.subtree c.numbers_tell_the_tree.ensures.last p s;
-      of_routines = columns_of_routines (execution_of t p s).calls;
+      of_routines = columns_of_routines (execution_of t p s).recorded.calls;
     }) e

@@ -1,22 +1,41 @@
-use Rattle.std.proofs.Common.{ap}
+use Rattle.std.proofs.Common.{length, ap, ◌∙◌}
 use Rattle.call_tree.specs.Recording.{Recording}
+use Rattle.cell_names.specs.Finding.{finding_of}
 use Rattle.debuggee.specs.Execution.{Supply}
-use Rattle.debuggee.proofs.CallsAreNumbered.{some_call, told_run}
+use Rattle.debuggee.proofs.CallsAreNumbered.{calls_kept, some_call}
 use Rattle.debuggee.proofs.source.run_program.Goals as goal
 
 pub returns-clause-kept : goal.returns-clause-kept
-returns-clause-kept c = λ i. record {
-  tokens = c.args.source.tokens;
-  program = c.args.source.program;
-  calls = told_run c.args.source.program (record { input = c.args.input.now; budget = c.args.budget }) c.in_ok-history.history.calls
-      c.in_ok-history.ensures.calls i;
-}
+returns-clause-kept c =
+    let given : Supply = record { input = c.args.input.now; budget = c.args.budget } in
+    let kept = c.in_ok-history.ensures in
+    let calls = calls_kept c.args.source.program given c.in_ok-history.history.calls kept.calls in
+    λ i. record {
+      tokens = c.args.source.tokens;
+      recorded = record {
+        program = c.args.source.program;
+        tokens = length c.args.source.tokens.tokens;
+        calls = calls i;
+        log = kept.log i;
+        items = kept.input i;
+      };
+    }
 
 pub returns-clause-ready : goal.returns-clause-ready
 returns-clause-ready c =
+    let p = c.args.source.program in
     let given : Supply = record { input = c.args.input.now; budget = c.args.budget } in
+    let kept = c.in_ok-history.ensures in
+    let history = c.in_ok-history.history in
     record {
-      some = some_call c.every_run_has_a_call.ensures c.every_program_runs.ensures c.args.source.program given c.in_ok-history.history.calls
-          c.in_ok-history.ensures.calls;
-      all_left = ap (λ (r : Recording). r.open_calls) c.in_ok-history.ensures.calls;
+      some = some_call c.every_run_has_a_call.ensures c.every_program_runs.ensures p given history.calls kept.calls;
+      all_left = ap (λ (r : Recording). r.open_calls) kept.calls;
+      named = c.in_ok-names.ensures ∙ ap (λ n. finding_of p n history.log) c.len.ensures.count;
+      told = c.calls_are_told.ensures p given.input given.budget history c.requires.input (record {
+        calls = kept.calls;
+        log = kept.log;
+        output = kept.output;
+        items = kept.input;
+        steps = kept.budget;
+      });
     }
