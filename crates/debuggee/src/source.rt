@@ -157,8 +157,8 @@ pub fn read_source(alloc: Global, source: &[u8]) -> Result<SourceProgram, Source
     Ok(SourceProgram { tokens, program })
 }
 
-/// The run of a program, with an input and a budget of steps. It takes memory, also for the names of cells. Tables without a routine are no program of a source; they
-/// count as out of memory.
+/// The run of a program, with an input and a budget of steps, and the names of its cells. Tables without a routine are
+/// no program of a source; they count as out of memory.
 pub fn run_program(
     alloc: Global,
     source: SourceProgram,
