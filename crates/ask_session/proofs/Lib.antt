@@ -1,0 +1,4 @@
+pub mod RepliesInOrder
+pub mod LineIsAnswered
+pub mod TranscriptIsGiven
+pub mod ReportsAreSound

@@ -1,0 +1,49 @@
+-- What the reports of a dialog say, from the laws of the search.
+use Rattle.std.proofs.Common.{◌≡◌, ◌⊎◌, inl, inr, ℕ, List, [], ◌∷◌, Option, Some, None, sym, ap, subst, ◌∙◌}
+use Rattle.std.proofs.lemmas.List.{length-map}
+use Rattle.call_tree.specs.Numbering.{IsNumbered}
+use Rattle.call_tree.specs.Recording.{Recording, lasts_of, parents_of}
+use Rattle.answer_book.specs.declared.entries.Entry.{Entry}
+use Rattle.answer_book.specs.Accused.{accused_of}
+use Rattle.answer_book.specs.Entries.{standing_answers}
+use Rattle.optimal_query.specs.declared.state.State.TheVariants.{Found, Narrowed}
+use Rattle.optimal_query.specs.Laws.{IsCallTree, doubts_in, suspects_in}
+use Rattle.optimal_query.specs.Question.{question_of}
+use Rattle.optimal_query.specs.State.{state_by, state_with, verdict_by}
+use Rattle.dialog_replies.specs.Kept.{AreCallsOf}
+use Rattle.dialog_replies.specs.Subject.{Subject, state_after}
+use Rattle.ask_session.specs.Laws.{accused_after}
+
+-- the calls of a run whose subtrees are intervals
+pub tree_is : (s : Subject) (run : Recording) → AreCallsOf s run → IsNumbered (parents_of run.calls) (lasts_of run.calls) → IsCallTree s.tree
+tree_is s run are numbered = subst IsCallTree (sym are.tree) (record {
+  numbered = numbered;
+  of_routines = length-map run.calls (λ c. c.routine) ∙ sym (length-map run.calls (λ c. c.last));
+})
+
+-- the call of a verdict
+verdict_names : (accused : Option ℕ) (doubts : List ℕ) (call : ℕ)
+    → (verdict_by accused doubts ≡ Found call) ⊎ (verdict_by accused doubts ≡ Narrowed call) → accused ≡ Some call
+verdict_names (Some a) [] call (inl h) = let same : a ≡ call = cc in ap Some same
+verdict_names (Some a) [] call (inr h) = absurd (let x : ⊥ = cc in x)
+verdict_names (Some a) (d ∷ ds) call (inl h) = absurd (let x : ⊥ = cc in x)
+verdict_names (Some a) (d ∷ ds) call (inr h) = let same : a ≡ call = cc in ap Some same
+verdict_names None [] call (inl h) = absurd (let x : ⊥ = cc in x)
+verdict_names None [] call (inr h) = absurd (let x : ⊥ = cc in x)
+verdict_names None (d ∷ ds) call (inl h) = absurd (let x : ⊥ = cc in x)
+verdict_names None (d ∷ ds) call (inr h) = absurd (let x : ⊥ = cc in x)
+
+state_names : (last suspects : List ℕ) (question accused : Option ℕ) (doubts : List ℕ) (call : ℕ)
+    → (state_by last suspects question (verdict_by accused doubts) ≡ Found call)
+    ⊎ (state_by last suspects question (verdict_by accused doubts) ≡ Narrowed call) → accused ≡ Some call
+state_names last suspects (Some k) accused doubts call (inl h) = absurd (let x : ⊥ = cc in x)
+state_names last suspects (Some k) accused doubts call (inr h) = absurd (let x : ⊥ = cc in x)
+state_names last suspects None accused doubts call h = verdict_names accused doubts call h
+
+pub names_the_accused : (s : Subject) (entries : List Entry) (call : ℕ)
+    → (state_after s entries ≡ Found call) ⊎ (state_after s entries ≡ Narrowed call) → accused_after s entries ≡ Some call
+unfolding state_with
+names_the_accused s entries call h =
+    let answers = standing_answers entries in
+    state_names s.tree.last (suspects_in s.tree answers) (question_of s.tree.last (suspects_in s.tree answers)) (accused_of s.tree.routine answers)
+    (doubts_in s.tree answers) call h

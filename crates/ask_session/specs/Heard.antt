@@ -1,0 +1,52 @@
+-- What is heard of a console, and what a dialog gives by how it ends.
+use Rattle.std.specs.Prelude.{◌≡◌, ◌⊎◌, ◌<◌, ◌≤◌, ℕ, Bool, true, false, IsTrue, List, Option, length}
+use Rattle.std.specs.Io.KnownBytes.{IsAtEnd}
+use Rattle.edge_ports.specs.Limits.{console_bytes}
+use Rattle.edge_ports.specs.Lines.{lines_heard}
+use Rattle.edge_ports.specs.Told.{TookAll, GaveAll, GavePrefix}
+use Rattle.ask_session.specs.declared.dialog.Ending.{Ending}
+use Rattle.ask_session.specs.declared.dialog.Ending.TheVariants as ending
+use Rattle.ask_session.specs.Dialog.{ends_among}
+
+-- the bytes that were taken of it, and whether its end was seen
+pub record Heard : Type 0 where
+  pub bytes : List ℕ
+  pub ended : Bool
+
+-- the lines that can be answered: those whose LF was heard, and the last part too where the end was seen
+abbrev pub lines_in : Heard → List (List ℕ)
+lines_in x = lines_heard x.ended x.bytes
+
+-- These bytes were taken, at most console_bytes; fewer where the end was seen, and then none is left.
+pub record IsHeard (left left' : Option (List ℕ)) (x : Heard) : Type 0 where
+  pub took : TookAll left left' x.bytes
+  pub within : length x.bytes ≤ console_bytes
+  pub room : IsTrue x.ended → length x.bytes < console_bytes
+  pub at_end : IsTrue x.ended → IsAtEnd left'
+
+-- why a dialog ended: at the console's end or a line that ends it; or at no such line, with all console_bytes taken
+-- where it was spent, and fewer where the console failed
+abbrev pub EndedBy : Ending → Heard → Type 0
+EndedBy ending.Done x = IsTrue x.ended ⊎ IsTrue (ends_among (lines_in x))
+EndedBy ending.Console x = (x.ended ≡ false) × (ends_among (lines_in x) ≡ false) × (length x.bytes < console_bytes)
+EndedBy ending.Spent x = (x.ended ≡ false) × (ends_among (lines_in x) ≡ false) × (length x.bytes ≡ console_bytes)
+EndedBy ending.Screen x = Unit {0}
+EndedBy ending.Memory x = Unit {0}
+
+-- a dialog that ended so has given the whole text, or, where the screen failed or memory ran out, a first part of it
+abbrev pub GaveBy : Ending → Option (List ℕ) → Option (List ℕ) → List ℕ → Type 0
+GaveBy ending.Done given given' text = GaveAll given given' text
+GaveBy ending.Console given given' text = GaveAll given given' text
+GaveBy ending.Spent given given' text = GaveAll given given' text
+GaveBy ending.Screen given given' text = GavePrefix given given' text
+GaveBy ending.Memory given given' text = GavePrefix given given' text
+
+-- the screen failed
+abbrev pub is_screen : Ending → Bool
+is_screen ending.Screen = true
+is_screen _ = false
+
+-- the console failed
+abbrev pub is_console : Ending → Bool
+is_console ending.Console = true
+is_console _ = false

@@ -1,0 +1,5 @@
+pub mod Dialog
+pub mod Heard
+pub mod Console
+pub mod Laws
+pub mod Turned

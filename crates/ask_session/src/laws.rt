@@ -1,0 +1,20 @@
+//! What the reports of a dialog say, the contract of a call that does nothing.
+ghost use Rattle.ask_session.specs.Laws.{AsksTheBest, FindsTheFault, NamesTheAccused, NarrowsTheFault};
+
+use dialog_replies::Debugged;
+use optimal_query::laws::{buggy_is_left, found_is_at_fault, question_is_least};
+
+/// What is asked is best, what is found is at fault, and once a call is accused one of those that are left is
+/// buggy.
+pub fn search_is_sound<D: Debugged>(run: &D)
+    ensures asks { AsksTheBest (D.subject run.now) }
+    ensures narrows { NarrowsTheFault (D.subject run.now) }
+    ensures names { NamesTheAccused (D.subject run.now) }
+    ensures finds { FindsTheFault (D.subject run.now) }
+{
+    // The subtree of a call is an interval.
+    run.calls().are_numbered();
+    question_is_least();
+    buggy_is_left();
+    found_is_at_fault();
+}

@@ -1,0 +1,10 @@
+//! The dialog on a console: it opens with the card of call 0 and a report, and answers each line up to `quit` or
+//! the console's end.
+#![tactic(auto)]
+
+mod dialog;
+mod laws;
+mod session;
+
+pub use dialog::Ending;
+pub use session::converse;
