@@ -51,7 +51,7 @@ module _ (s : Subject) (left left' : Option (List ℕ)) (bytes : List ℕ) (told
       (l.0, ap lines_of k.2 ∙ l.1 ∙ ap (λ (b : Bool). lines_heard b x.bytes ++ l.0) (sym e))
 
   -- what was said is a first part of the transcript, and all of it where the dialog was answered to its end
-  said_first : (x : Heard) → IsHeard left left' x → (rest : List ℕ) × (transcript s bytes ≡ said s (lines_in x) ++ rest)
+  pub said_first : (x : Heard) → IsHeard left left' x → (rest : List ℕ) × (transcript s bytes ≡ said s (lines_in x) ++ rest)
   said_first x h =
       let lines = first_lines x h x.ended refl in
       let r = replies_front s first_entries (lines_in x) lines.0 in (
@@ -61,7 +61,7 @@ module _ (s : Subject) (left left' : Option (List ℕ)) (bytes : List ℕ) (told
             ∙ sym (append_assoc (opening s) (replies s first_entries (lines_in x)) r.0),
       )
 
-  said_all : (x : Heard) → IsHeard left left' x → EndedBy ending.Done x → transcript s bytes ≡ said s (lines_in x)
+  pub said_all : (x : Heard) → IsHeard left left' x → EndedBy ending.Done x → transcript s bytes ≡ said s (lines_in x)
   said_all x h (inl ended) =
       ap (said s) (ap lines_of (none_after x h ended) ∙ sym (ap (λ (b : Bool). lines_heard b x.bytes) ended))
   said_all x h (inr quit) =
@@ -90,7 +90,7 @@ module _ (s : Subject) (left left' : Option (List ℕ)) (bytes : List ℕ) (told
 
   -- ---- how it ended
 
-  not_spent : (x : Heard) → IsHeard left left' x → EndedBy ending.Spent x → EndsInTime bytes → ⊥
+  pub not_spent : (x : Heard) → IsHeard left left' x → EndedBy ending.Spent x → EndsInTime bytes → ⊥
   not_spent x h w (inl less) = let k = front x h in omega (arith, ap length k.2, length-append x.bytes k.0, w.2)
   not_spent x h w (inr quit) =
       let k = front x h in
@@ -99,7 +99,7 @@ module _ (s : Subject) (left left' : Option (List ℕ)) (bytes : List ℕ) (told
       let both : true ≡ false = sym quit ∙ ap ends_among (sym lines) ∙ w.1 in
       let x : ⊥ = cc in x
 
-  not_done : (x : Heard) → IsHeard left left' x → EndedBy ending.Done x → GoesOn bytes → ⊥
+  pub not_done : (x : Heard) → IsHeard left left' x → EndedBy ending.Done x → GoesOn bytes → ⊥
   not_done x h w on = by w x.ended refl
     where
       ended_not : IsTrue x.ended → ⊥

@@ -4,9 +4,13 @@ use Rattle.answer_book.specs.declared.entries.Entry.{Entry}
 use Rattle.answer_book.specs.Accused.{accused_of}
 use Rattle.answer_book.specs.Entries.{standing_answers}
 use Rattle.optimal_query.specs.declared.state.State.TheVariants.{Ask, Found, Narrowed}
-use Rattle.optimal_query.specs.Laws.{IsAsked, IsAtFault, IsLeast}
+use Rattle.optimal_query.specs.Laws.{IsAsked, IsAtFault, IsCallTree, IsLeast}
 use Rattle.optimal_query.specs.Narrowing.{AgreesWithMarks, IsBuggy, IsLeft, Truth}
 use Rattle.dialog_replies.specs.Subject.{Subject, state_after}
+
+-- it holds of each subject in whose columns the subtree of a call is an interval
+abbrev pub OfEachTree : (Subject → Type 0) → Type 0
+OfEachTree holds = (s : Subject) → IsCallTree s.tree → holds s
 
 -- A question: a suspect, with the numbers that are told. On no suspect does the worse answer leave fewer, and of those
 -- on which it leaves as few it is the first.

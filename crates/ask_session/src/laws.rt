@@ -1,11 +1,23 @@
-//! What the reports of a dialog say, the contract of a call that does nothing.
-ghost use Rattle.ask_session.specs.Laws.{AsksTheBest, FindsTheFault, NamesTheAccused, NarrowsTheFault};
+//! What the reports of a dialog say, the contract of calls that do nothing.
+ghost use Rattle.ask_session.specs.Laws.{AsksTheBest, FindsTheFault, NamesTheAccused, NarrowsTheFault, OfEachTree};
 
 use dialog_replies::Debugged;
 use optimal_query::laws::{buggy_is_left, found_is_at_fault, question_is_least};
 
 /// What is asked is best, what is found is at fault, and once a call is accused one of those that are left is
-/// buggy.
+/// buggy: in each tree of calls.
+pub fn reports_are_sound()
+    ensures asks { OfEachTree AsksTheBest }
+    ensures narrows { OfEachTree NarrowsTheFault }
+    ensures names { OfEachTree NamesTheAccused }
+    ensures finds { OfEachTree FindsTheFault }
+{
+    question_is_least();
+    buggy_is_left();
+    found_is_at_fault();
+}
+
+/// The same, of a run.
 pub fn search_is_sound<D: Debugged>(run: &D)
     ensures asks { AsksTheBest (D.subject run.now) }
     ensures narrows { NarrowsTheFault (D.subject run.now) }
@@ -14,7 +26,5 @@ pub fn search_is_sound<D: Debugged>(run: &D)
 {
     // The subtree of a call is an interval.
     run.calls().are_numbered();
-    question_is_least();
-    buggy_is_left();
-    found_is_at_fault();
+    reports_are_sound();
 }

@@ -1,6 +1,4 @@
-pub mod LineIsCommand
-pub mod RepliesInOrder
+pub mod RunIsTree
 pub mod StatusByCode
 pub mod StatusTellsWhy
 pub mod TranscriptIsGiven
-pub mod SearchesAreRuns

@@ -3,8 +3,11 @@ use Rattle.std.proofs.Common.{◌≡◌, ◌⊎◌, inl, inr, ℕ, Bool, nat_eq,
 use Rattle.edge_ports.specs.Counts.{Counted}
 use Rattle.debug_cli.specs.declared.status.Status.{Status}
 use Rattle.debug_cli.specs.declared.status.Status.TheVariants.{Done, Words, Source, File, Console, Screen, Memory, Spent}
-use Rattle.debug_cli.specs.Status.{code_of, is_console, is_screen}
-use Rattle.debug_cli.specs.Outside.{NotRisen}
+use Rattle.ask_session.specs.declared.dialog.Ending.{Ending}
+use Rattle.ask_session.specs.declared.dialog.Ending.TheVariants as ending
+use Rattle.ask_session.specs.Console.{NotRisen}
+use Rattle.ask_session.specs.Heard as session
+use Rattle.debug_cli.specs.Status.{code_of, is_console, is_screen, session_status}
 
 abbrev status_with : ℕ → Status
 status_with n =
@@ -63,3 +66,18 @@ console_counted s n before now e k = subst (λ (b : Bool). Counted b before now)
 
 pub screen_counted : (s : Status) (n before now : ℕ) → n ≡ code_of s → Counted (is_screen s) before now → Counted (n == 6) before now
 screen_counted s n before now e k = subst (λ (b : Bool). Counted b before now) (screen_status s ∙ ap (λ (m : ℕ). m == 6) (sym e)) k
+
+-- the status of a session that ended so tells what failed
+pub console_by_end : (e : Ending) → session.is_console e ≡ is_console (session_status e)
+console_by_end ending.Done = refl
+console_by_end ending.Console = refl
+console_by_end ending.Screen = refl
+console_by_end ending.Spent = refl
+console_by_end ending.Memory = refl
+
+pub screen_by_end : (e : Ending) → session.is_screen e ≡ is_screen (session_status e)
+screen_by_end ending.Done = refl
+screen_by_end ending.Console = refl
+screen_by_end ending.Screen = refl
+screen_by_end ending.Spent = refl
+screen_by_end ending.Memory = refl

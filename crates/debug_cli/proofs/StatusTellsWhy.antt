@@ -11,13 +11,13 @@ use Rattle.command_words.specs.Meaning.{Meant}
 use Rattle.debuggee.specs.declared.refusal.Refusal.{Refusal}
 use Rattle.debuggee.specs.Program.{NoProgram, Refuses}
 use Rattle.debuggee.specs.Execution.{Execution, execution_of}
-use Rattle.debug_cli.specs.declared.dialog.Ending.{Ending}
-use Rattle.debug_cli.specs.declared.dialog.Ending.TheVariants as ending
+use Rattle.ask_session.specs.declared.dialog.Ending.{Ending}
+use Rattle.ask_session.specs.declared.dialog.Ending.TheVariants as ending
+use Rattle.ask_session.specs.Heard.{EndedBy, GaveBy}
 use Rattle.debug_cli.specs.declared.status.Status.{Status}
 use Rattle.debug_cli.specs.declared.status.Status.TheVariants as status
-use Rattle.debug_cli.specs.Status.{code_of}
+use Rattle.debug_cli.specs.Status.{code_of, session_status}
 use Rattle.debug_cli.specs.Texts.{file_line, refused_line}
-use Rattle.debug_cli.specs.Heard.{EndedBy, GaveBy, session_status}
 use Rattle.debug_cli.specs.Outside.{Outside, NoneRisen}
 use Rattle.debug_cli.specs.Asked.{Words, said_in, GivesLine, GivesNothing, Fetched, Checked, Session, SourceRefused, FileSought, FileFault, NotFetched}
 use Rattle.debug_cli.specs.Asked.{IsInput, IsInputOf, IsSource, RunGoes, Owed, Goes}

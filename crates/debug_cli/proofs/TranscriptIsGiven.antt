@@ -1,38 +1,33 @@
 -- Where the keeper tells the files that the words name: what the screen got, and which status comes.
-use Rattle.std.proofs.Common.{◌≡◌, ◌⊎◌, inl, inr, ℕ, ◌+◌, ◌-◌, ◌<◌, ◌≤◌, Bool, true, false, IsTrue, List, [], ◌++◌, Option, Some, None, length, take, refl}
-use Rattle.std.proofs.Common.{sym, ap, subst, ◌∙◌, arith, append_assoc}
+use Rattle.std.proofs.Common.{◌≡◌, ◌⊎◌, inl, inr, ℕ, ◌<◌, ◌≤◌, List, ◌++◌, Option, Some, None, length}
+use Rattle.std.proofs.Common.{refl, sym, ap, subst, ◌∙◌, arith}
 use Rattle.std.specs.Prelude.{IsSomeAnd}
-use Rattle.std.specs.Io.KnownBytes.{IsAtEnd}
-use Rattle.std.proofs.lemmas.List.{append-nil, take_at, length-append}
-use Rattle.std.proofs.Math.Seq.{take-append-add}
-use Rattle.edge_ports.specs.Limits.{console_bytes}
 use Rattle.edge_ports.specs.Counts.{KeeperCounts}
 use Rattle.edge_ports.specs.Told.{GaveAll, GavePrefix}
 use Rattle.edge_ports.specs.Files.{FileMap, file_at, HoldsFile, LacksFile, HoldsLonger}
-use Rattle.edge_ports.specs.Lines.{lines_of, whole_lines, lines_heard}
 use Rattle.edge_ports.specs.declared.ports.FetchFault.{FetchFault}
 use Rattle.edge_ports.specs.declared.ports.FetchFault.TheVariants as fetch
 use Rattle.edge_ports.proofs.PiecesAddUp.{gave_prefix_before, gave_prefix_whole}
-use Rattle.edge_ports.proofs.SameBytesCome.{told_still}
-use Rattle.edge_ports.proofs.HandedLinesAreHeard.{heard_longer}
 use Rattle.pas_lexer.specs.Lexed.{Lexed}
 use Rattle.pas_lexer.specs.Limits.{source_bytes}
 use Rattle.program_tables.specs.ProgramRows.{ProgramRows}
-use Rattle.answer_book.specs.Entries.{first_entries}
-use Rattle.debug_cli.specs.declared.dialog.Ending.TheVariants as ending
+use Rattle.ask_session.specs.declared.dialog.Ending.TheVariants as ending
+use Rattle.ask_session.specs.Console.{EndsInTime, GoesOn, NotRisen}
+use Rattle.ask_session.specs.Dialog.{transcript}
+use Rattle.ask_session.specs.Heard.{EndedBy}
+use Rattle.ask_session.proofs.RepliesInOrder.{nothing_is_prefix}
+use Rattle.ask_session.proofs.TranscriptIsGiven.{said_first, said_all, not_spent, not_done}
 use Rattle.debug_cli.specs.declared.status.Status.{Status}
 use Rattle.debug_cli.specs.declared.status.Status.TheVariants as status
 use Rattle.command_words.specs.Meaning.{Meant}
 use Rattle.debuggee.specs.Program.{IsProgram, NoProgram}
 use Rattle.debuggee.specs.Execution.{Execution, execution_of}
+use Rattle.debuggee.specs.Subjects.{subject_of}
 use Rattle.debug_cli.specs.Laws.{OneRun}
-use Rattle.debug_cli.specs.Dialog.{opening, replies, ends_among}
-use Rattle.debug_cli.specs.Heard.{Heard, lines_in, IsHeard, EndedBy}
-use Rattle.debug_cli.specs.Outside.{Outside, NotRisen}
-use Rattle.debug_cli.specs.Asked.{Words, meaning, said, said_in, transcript, execution_in, IsInput, Fetched, Checked, Session, SourceRefused}
+use Rattle.debug_cli.specs.Outside.{Outside}
+use Rattle.debug_cli.specs.Asked.{Words, meaning, said_in, execution_in, IsInput, Fetched, Checked, Session, SourceRefused}
 use Rattle.debug_cli.specs.Asked.{FileSought, FileFault, IsInputOf, IsSource, NotFetched, Owed, Goes}
-use Rattle.debug_cli.specs.Setting.{Finds, FindsInput, Stored, Setting, IsWithin, run_of, transcript_of, EndsInTime, GoesOn}
-use Rattle.debug_cli.proofs.RepliesInOrder.{replies_ended, replies_front, ended_append, nothing_is_prefix}
+use Rattle.debug_cli.specs.Setting.{Finds, FindsInput, Stored, Setting, IsWithin, run_of, transcript_of}
 
 pub same_name : (a b : List ℕ) → Some a ≡ Some b → a ≡ b
 same_name a b e = cc
@@ -152,59 +147,23 @@ module _ (words : Words) (before after : Outside) where
         (record { input = a.input; budget = k.file.request.budget })
         ∙ (λ i. execution_of set.tokens set.rows (record { input = given i; budget = (same i).budget }))
 
-    -- the bytes heard are the first of those told
-    abbrev Front : Heard → Type 0
-    Front x = (rest : List ℕ) × (after.streams.left ≡ Some rest) × (set.console ≡ x.bytes ++ rest)
-
-    front : (x : Heard) → IsHeard before.streams.left after.streams.left x → Front x
-    front x h = told_still before.streams.left after.streams.left x.bytes set.console h.took set.told
-
-    none_after : (x : Heard) (h : IsHeard before.streams.left after.streams.left x) → IsTrue x.ended → set.console ≡ x.bytes
-    none_after x h ended =
-        let k = front x h in
-        let none : k.0 ≡ [] = subst IsAtEnd k.1 (h.at_end ended) in
-        k.2 ∙ ap (λ (r : List ℕ). x.bytes ++ r) none ∙ append-nil x.bytes
-
-    -- the lines heard are the first of all lines
-    first_lines : (x : Heard) (h : IsHeard before.streams.left after.streams.left x) (b : Bool) → x.ended ≡ b
-        → (rest : List (List ℕ)) × (lines_of set.console ≡ lines_in x ++ rest)
-    first_lines x h true e = ([], ap lines_of (none_after x h e) ∙ sym (ap (λ (b : Bool). lines_heard b x.bytes) e) ∙ sym (append-nil (lines_in x)))
-    first_lines x h false e =
-        let k = front x h in
-        let l = heard_longer true x.bytes k.0 in
-        (l.0, ap lines_of k.2 ∙ l.1 ∙ ap (λ (b : Bool). lines_heard b x.bytes ++ l.0) (sym e))
-
     -- what was said is a first part of the transcript, and all of it where the dialog was answered to its end
-    said_first : (a : Talked) → (rest : List ℕ) × (transcript_of set ≡ said_in a ++ rest)
-    said_first a =
-        let lines = first_lines a.heard a.is_heard a.heard.ended refl in
-        let h : Execution = execution_in a in
-        let r = replies_front h first_entries (lines_in a.heard) lines.0 in (
-          r.0,
-          ap (λ (g : Execution). transcript g set.console) (sym (same_run a))
-              ∙ ap (said h) lines.1
-              ∙ ap (λ (text : List ℕ). opening h ++ text) r.1
-              ∙ sym (append_assoc (opening h) (replies h first_entries (lines_in a.heard)) r.0),
-        )
+    told_first : (a : Talked) → (rest : List ℕ) × (transcript_of set ≡ said_in a ++ rest)
+    told_first a =
+        let r = said_first (subject_of (execution_in a)) before.streams.left after.streams.left set.console set.told a.heard a.is_heard in
+        (r.0, ap (λ (h : Execution). transcript (subject_of h) set.console) (sym (same_run a)) ∙ r.1)
 
-    said_all : (a : Talked) → EndedBy ending.Done a.heard → transcript_of set ≡ said_in a
-    said_all a (inl ended) =
-        ap (λ (g : Execution). transcript g set.console) (sym (same_run a))
-        ∙ ap (λ (ls : List (List ℕ)). said (execution_in a) ls)
-        (ap lines_of (none_after a.heard a.is_heard ended) ∙ sym (ap (λ (b : Bool). lines_heard b a.heard.bytes) ended))
-    said_all a (inr quit) =
-        let lines = first_lines a.heard a.is_heard a.heard.ended refl in
-        let h : Execution = execution_in a in
-        ap (λ (g : Execution). transcript g set.console) (sym (same_run a))
-        ∙ ap (said h) lines.1
-        ∙ ap (λ (text : List ℕ). opening h ++ text) (replies_ended h first_entries (lines_in a.heard) lines.0 quit)
+    told_all : (a : Talked) → EndedBy ending.Done a.heard → transcript_of set ≡ said_in a
+    told_all a w =
+        ap (λ (h : Execution). transcript (subject_of h) set.console) (sym (same_run a))
+        ∙ said_all (subject_of (execution_in a)) before.streams.left after.streams.left set.console set.told a.heard a.is_heard w
 
     pub whole_transcript : Here status.Done → Gave (transcript_of set)
-    whole_transcript (a, g, w) = subst Gave (sym (said_all a w)) g
+    whole_transcript (a, g, w) = subst Gave (sym (told_all a w)) g
 
     part_of : (a : Talked) → GaveFront (said_in a) → GaveFront (transcript_of set)
     part_of a g =
-        let r = said_first a in
+        let r = told_first a in
         subst GaveFront (sym r.1) (gave_prefix_before before.streams.given after.streams.given (said_in a) r.0 g)
 
     whole_part : (a : Talked) → Gave (said_in a) → GaveFront (transcript_of set)
@@ -249,38 +208,11 @@ module _ (words : Words) (before after : Outside) where
 
       -- ---- which status comes
 
-      not_spent : (a : Talked) → EndedBy ending.Spent a.heard → EndsInTime set.console → ⊥
-      not_spent a w (inl less) = let k = front a.heard a.is_heard in omega (arith, ap length k.2, length-append a.heard.bytes k.0, w.2)
-      not_spent a w (inr quit) =
-          let k = front a.heard a.is_heard in
-          let same : take console_bytes set.console ≡ a.heard.bytes = ap (take console_bytes) k.2 ∙ take_at a.heard.bytes k.0 console_bytes w.2 in
-          let lines : lines_in a.heard ≡ whole_lines (take console_bytes set.console) =
-          ap (λ (b : Bool). lines_heard b a.heard.bytes) w.0 ∙ sym (ap whole_lines same) in
-          let both : true ≡ false = sym quit ∙ ap ends_among (sym lines) ∙ w.1 in
-          let x : ⊥ = cc in x
+      unspent : (a : Talked) → EndedBy ending.Spent a.heard → EndsInTime set.console → ⊥
+      unspent a = not_spent (subject_of wanted) before.streams.left after.streams.left set.console set.told a.heard a.is_heard
 
-      not_done : (a : Talked) → EndedBy ending.Done a.heard → GoesOn set.console → ⊥
-      not_done a w on = by w a.heard.ended refl
-        where
-          ended_not : IsTrue a.heard.ended → ⊥
-          ended_not e = let room = a.is_heard.room e in omega (arith, ap length (none_after a.heard a.is_heard e), room, on.0)
-
-          by : EndedBy ending.Done a.heard → (b : Bool) → a.heard.ended ≡ b → ⊥
-          by (inl ended) b e = ended_not ended
-          by (inr quit) true e = ended_not e
-          by (inr quit) false e =
-              let k = front a.heard a.is_heard in
-              let n : ℕ = console_bytes - length a.heard.bytes in
-              let reach : take console_bytes set.console ≡ a.heard.bytes ++ take n k.0 =
-              ap (take console_bytes) k.2
-              ∙ ap (λ (m : ℕ). take m (a.heard.bytes ++ k.0)) (let e : console_bytes ≡ length a.heard.bytes + n = omega (arith, a.is_heard.within) in e)
-              ∙ take-append-add a.heard.bytes k.0 n in
-              let l = heard_longer false a.heard.bytes (take n k.0) in
-              let quit' : ends_among (whole_lines a.heard.bytes) ≡ true = ap (λ (b : Bool). ends_among (lines_heard b a.heard.bytes)) (sym e) ∙ quit in
-              let both : true ≡ false =
-              sym (ended_append (whole_lines a.heard.bytes) l.0 quit') ∙ ap ends_among (sym l.1)
-              ∙ ap (λ (bytes : List ℕ). ends_among (whole_lines bytes)) (sym reach) ∙ on.1 in
-              let x : ⊥ = cc in x
+      undone : (a : Talked) → EndedBy ending.Done a.heard → GoesOn set.console → ⊥
+      undone a = not_done (subject_of wanted) before.streams.left after.streams.left set.console set.told a.heard a.is_heard
 
       module _ (s : Status) (h : Here s) (console : s ≡ status.Console → ⊥) (screen : s ≡ status.Screen → ⊥) where
         pub done_or_memory : EndsInTime set.console → (s ≡ status.Done) ⊎ (s ≡ status.Memory)
@@ -294,13 +226,13 @@ module _ (words : Words) (before after : Outside) where
             by status.Console h console screen = absurd (console refl)
             by status.Screen h console screen = absurd (screen refl)
             by status.Memory h console screen = inr refl
-            by status.Spent (a, g, w) console screen = absurd (not_spent a w ends)
+            by status.Spent (a, g, w) console screen = absurd (unspent a w ends)
 
         pub spent_or_memory : GoesOn set.console → (s ≡ status.Spent) ⊎ (s ≡ status.Memory)
         spent_or_memory on = by s h console screen
           where
             by : (s : Status) → Here s → (s ≡ status.Console → ⊥) → (s ≡ status.Screen → ⊥) → (s ≡ status.Spent) ⊎ (s ≡ status.Memory)
-            by status.Done (a, g, w) console screen = absurd (not_done a w on)
+            by status.Done (a, g, w) console screen = absurd (undone a w on)
             by status.Words h console screen = absurd h
             by status.Source h console screen = absurd (refuses_not h.0)
             by status.File h console screen = absurd (no_fault h.0)

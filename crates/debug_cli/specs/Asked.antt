@@ -1,9 +1,8 @@
 -- What the command gives to the screen, by how it ends.
-use Rattle.std.specs.Prelude.{◌≡◌, ◌⊎◌, ◌≤◌, ℕ, List, [], ◌++◌, Option, Some, None, length, map}
+use Rattle.std.specs.Prelude.{◌≡◌, ◌⊎◌, ◌≤◌, ℕ, List, [], Option, Some, None, length, map}
 use Rattle.std.specs.String.{string_bytes}
 use Rattle.std.specs.declared.alloc.Global.{Global}
 use Rattle.std.specs.declared.string.String.{String}
-use Rattle.edge_ports.specs.Lines.{lines_of}
 use Rattle.edge_ports.specs.Files.{FileMap, HoldsFile, LacksFile, HoldsLonger}
 use Rattle.edge_ports.specs.Counts.{Rose, KeeperCounts}
 use Rattle.edge_ports.specs.Told.{GaveAll, GavePrefix}
@@ -12,22 +11,21 @@ use Rattle.edge_ports.specs.declared.ports.FetchFault.TheVariants as fetch
 use Rattle.pas_lexer.specs.Lexed.{Lexed}
 use Rattle.pas_lexer.specs.Limits.{source_bytes}
 use Rattle.program_tables.specs.ProgramRows.{ProgramRows}
-use Rattle.answer_book.specs.Entries.{first_entries}
 use Rattle.command_words.specs.Meaning.{Meant, meant}
-use Rattle.debug_cli.specs.declared.dialog.Ending.{Ending}
-use Rattle.debug_cli.specs.declared.dialog.Ending.TheVariants as ending
+use Rattle.ask_session.specs.declared.dialog.Ending.{Ending}
+use Rattle.ask_session.specs.declared.dialog.Ending.TheVariants as ending
+use Rattle.ask_session.specs.Dialog.{said}
+use Rattle.ask_session.specs.Heard.{Heard, lines_in, IsHeard, EndedBy, GaveBy}
 use Rattle.debuggee.specs.declared.refusal.Refusal.{Refusal}
 use Rattle.debug_cli.specs.declared.status.Status.{Status}
 use Rattle.debug_cli.specs.declared.status.Status.TheVariants as status
 use Rattle.debuggee.specs.Program.{IsProgram, NoProgram, Refuses}
 use Rattle.debuggee.specs.Execution.{Execution, execution_of}
+use Rattle.debuggee.specs.Subjects.{subject_of}
 use Rattle.debuggee.specs.Limits.{input_bytes}
 use Rattle.debug_cli.specs.Texts.{file_line, refused_line}
-use Rattle.debug_cli.specs.Dialog.{opening, replies}
-use Rattle.debug_cli.specs.Heard.{Heard, lines_in, IsHeard, EndedBy, GaveBy, session_status}
+use Rattle.debug_cli.specs.Status.{session_status}
 use Rattle.debug_cli.specs.Outside.{Streams, Outside}
-
--- ---- the transcript
 
 -- the words of the command, the program's name first
 abbrev pub Words : Type 0
@@ -36,14 +34,6 @@ Words = List (String Global)
 -- what they mean, if anything
 abbrev pub meaning : Words → Option Meant
 meaning words = meant (map string_bytes words)
-
--- what is printed for the run of a program and these console lines
-abbrev pub said : Execution → List (List ℕ) → List ℕ
-said h lines = opening h ++ replies h first_entries lines
-
--- the whole of what is printed for the run of a program and a console with these bytes
-abbrev pub transcript : Execution → List ℕ → List ℕ
-transcript h bytes = said h (lines_of bytes)
 
 -- ---- what is given
 
@@ -99,7 +89,7 @@ execution_in s = execution_of s.source.tokens s.source.rows
 -- what is printed for that run and what was heard of the console
 abbrev pub said_in : {words : Words} {files : Option FileMap} {left left' : Option (List ℕ)}
     → Session words files left left' → List ℕ
-said_in s = said (execution_in s) (lines_in s.heard)
+said_in s = said (subject_of (execution_in s)) (lines_in s.heard)
 
 -- a source that was fetched and is no program, and why and where it is refused
 pub record SourceRefused (words : Words) (files : Option FileMap) : Type 0 where
@@ -145,7 +135,7 @@ pub record NotFetched (words : Words) (files : Option FileMap) (before now : Kee
 abbrev pub RunGoes : Execution → (before after : Streams) → Status → Type 0
 RunGoes h before after result =
     ((x : Heard) × (e : Ending) × IsHeard before.left after.left x × (result ≡ session_status e)
-    × GaveBy e before.given after.given (said h (lines_in x)) × EndedBy e x)
+    × GaveBy e before.given after.given (said (subject_of h) (lines_in x)) × EndedBy e x)
     ⊎ GivesNothing result before.given after.given
 
 -- the text that is to be given where the words mean a request: that of a session, or the line of a refusal

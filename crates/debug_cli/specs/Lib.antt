@@ -1,12 +1,6 @@
-pub mod Commands
 pub mod Texts
-pub mod Dialog
 pub mod Status
 pub mod Outside
 pub mod Asked
 pub mod Setting
 pub mod Laws
-pub mod Limits
-pub mod Heard
-pub mod Turned
-pub mod Searches

@@ -1,8 +1,9 @@
 -- What is outside of the command, at one moment.
 use Rattle.std.specs.Prelude.{◌≡◌, ◌⊎◌, ℕ, List, Option, Err}
 use Rattle.edge_ports.specs.Files.{FileMap}
-use Rattle.edge_ports.specs.Counts.{Rose, KeeperCounts, CountsFetch}
+use Rattle.edge_ports.specs.Counts.{KeeperCounts, CountsFetch}
 use Rattle.edge_ports.specs.declared.ports.FetchFault.{FetchFault}
+use Rattle.ask_session.specs.Console.{NotRisen}
 
 -- the bytes that the console has left, and those that the screen was given, where they tell them
 pub record Streams : Type 0 where
@@ -14,10 +15,6 @@ pub record Outside : Type 0 where
   pub files : Option FileMap
   pub counts : KeeperCounts
   pub streams : Streams
-
--- a count did not rise, and does not stand at its last value
-abbrev pub NotRisen : ℕ → ℕ → Type 0
-NotRisen before now = Rose before now → ⊥
 
 -- no count of a keeper rose, and none stands at its last value
 pub record NoneRisen (before now : KeeperCounts) : Type 0 where

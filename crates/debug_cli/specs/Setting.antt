@@ -1,8 +1,6 @@
 -- What may be known before the command begins: the files that its words name, the program, and the console's bytes.
-use Rattle.std.specs.Prelude.{◌≡◌, ◌⊎◌, ◌<◌, ◌≤◌, ℕ, false, IsTrue, List, [], Option, Some, None, length, take}
+use Rattle.std.specs.Prelude.{◌≡◌, ◌≤◌, ℕ, List, [], Option, Some, None, length}
 use Rattle.edge_ports.specs.Files.{FileMap, file_at}
-use Rattle.edge_ports.specs.Lines.{whole_lines}
-use Rattle.edge_ports.specs.Limits.{console_bytes}
 use Rattle.pas_lexer.specs.Lexed.{Lexed}
 use Rattle.pas_lexer.specs.Limits.{source_bytes}
 use Rattle.program_tables.specs.ProgramRows.{ProgramRows}
@@ -10,8 +8,9 @@ use Rattle.command_words.specs.Meaning.{Meant}
 use Rattle.debuggee.specs.Program.{IsProgram}
 use Rattle.debuggee.specs.Execution.{Execution, execution_of}
 use Rattle.debuggee.specs.Limits.{input_bytes}
-use Rattle.debug_cli.specs.Dialog.{ends_among}
-use Rattle.debug_cli.specs.Asked.{Words, meaning, transcript}
+use Rattle.debuggee.specs.Subjects.{subject_of}
+use Rattle.ask_session.specs.Dialog.{transcript}
+use Rattle.debug_cli.specs.Asked.{Words, meaning}
 
 -- the keeper tells its files, and the one of this name has these bytes
 abbrev pub Finds : Option FileMap → List ℕ → List ℕ → Type 0
@@ -51,12 +50,4 @@ module _ {words : Words} {files : Option FileMap} {left : Option (List ℕ)} whe
 
   -- the whole of what is printed there
   abbrev pub transcript_of : Setting words files left → List ℕ
-  transcript_of s = transcript (run_of s) s.console
-
--- a console with these bytes ends before console_bytes of it were taken, or a whole line among those ends the session
-abbrev pub EndsInTime : List ℕ → Type 0
-EndsInTime bytes = (length bytes < console_bytes) ⊎ IsTrue (ends_among (whole_lines (take console_bytes bytes)))
-
--- it has at least console_bytes, and no whole line among those ends the session
-abbrev pub GoesOn : List ℕ → Type 0
-GoesOn bytes = (console_bytes ≤ length bytes) × (ends_among (whole_lines (take console_bytes bytes)) ≡ false)
+  transcript_of s = transcript (subject_of (run_of s)) s.console

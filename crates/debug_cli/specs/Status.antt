@@ -1,5 +1,7 @@
 -- The exit status.
 use Rattle.std.specs.Prelude.{ℕ, Bool, true, false}
+use Rattle.ask_session.specs.declared.dialog.Ending.{Ending}
+use Rattle.ask_session.specs.declared.dialog.Ending.TheVariants as ending
 use Rattle.debug_cli.specs.declared.status.Status.{Status}
 use Rattle.debug_cli.specs.declared.status.Status.TheVariants.{Done, Words, Source, File}
 use Rattle.debug_cli.specs.declared.status.Status.TheVariants.{Console, Screen, Memory, Spent}
@@ -31,3 +33,11 @@ is_screen _ = false
 abbrev pub is_console : Status → Bool
 is_console Console = true
 is_console _ = false
+
+-- the status of a session that ended so
+abbrev pub session_status : Ending → Status
+session_status ending.Done = Done
+session_status ending.Console = Console
+session_status ending.Screen = Screen
+session_status ending.Spent = Spent
+session_status ending.Memory = Memory

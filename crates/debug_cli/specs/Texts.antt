@@ -1,37 +1,10 @@
--- What is printed of the state of the search, and of files and sources that are refused.
+-- What is printed of words, files and sources that are refused.
 use Rattle.std.specs.Prelude.{ℕ, List, [], ◌++◌, codes, decimal}
-use Rattle.optimal_query.specs.declared.state.State.{State}
-use Rattle.optimal_query.specs.declared.state.State.TheVariants.{Ask, Found, Narrowed, NothingWrong, Unclear}
-use Rattle.question_text.specs.Cards.{Recorded, card}
-use Rattle.question_text.specs.Lines.{call_name}
-use Rattle.question_text.specs.WaysOut.{way_line}
 use Rattle.debuggee.specs.declared.refusal.Refusal.{Refusal}
 use Rattle.debuggee.specs.declared.refusal.Refusal.TheVariants as refusal
 use Rattle.edge_ports.specs.declared.ports.FetchFault.{FetchFault}
 use Rattle.edge_ports.specs.declared.ports.FetchFault.TheVariants as fetch
 
--- the lines on a call that is found: its name, and how it ended
-unfoldable pub found_text : Recorded → (call : ℕ) → List ℕ
-found_text r call = codes "found " ++ call_name r.program r.calls call ++ codes "\n" ++ way_line r.calls call
-
--- the line on the call to which the fault is narrowed down
-unfoldable pub narrowed_text : Recorded → (call : ℕ) → List ℕ
-narrowed_text r call = codes "narrowed to " ++ call_name r.program r.calls call ++ codes "\n"
-
-abbrev pub question_line : (call suspects left : ℕ) → List ℕ
-question_line call suspects left =
-    codes "ask " ++ decimal call ++ codes " suspects " ++ decimal suspects ++ codes " left " ++ decimal left
-    ++ codes "\n"
-
--- The report on a state of the search. No command says yet that a call is unknown; so no doubts are told.
-unfoldable pub report : Recorded → State → List ℕ
-report r (Ask call weight suspects left) = question_line call suspects left ++ card r call
-report r (Found call) = found_text r call
-report r (Narrowed call) = narrowed_text r call
-report r NothingWrong = codes "nothing wrong\n"
-report r Unclear = codes "unclear\n"
-
--- the lines of refusals
 abbrev pub usage_line : List ℕ
 usage_line = codes "usage: pasask SOURCE [--input F] [--budget N] [--load F]\n"
 

@@ -10,20 +10,22 @@ ghost use Rattle.debuggee.specs.Execution.{execution_of};
 ghost use Rattle.debuggee.specs.Limits.{input_bytes, most_steps};
 ghost use Rattle.debuggee.specs.Program.{NoProgram};
 ghost use Rattle.debug_cli.specs.declared.status.Status.{Status};
-ghost use Rattle.debug_cli.specs.declared.dialog.Ending.TheVariants as ending;
+ghost use Rattle.ask_session.specs.declared.dialog.Ending.TheVariants as ending;
+ghost use Rattle.ask_session.specs.Console.{EndsInTime, GoesOn, NotRisen};
+ghost use Rattle.ask_session.specs.Heard.{EndedBy};
+ghost use Rattle.ask_session.specs.Laws.{AsksTheBest, FindsTheFault, NamesTheAccused, NarrowsTheFault};
 ghost use Rattle.debug_cli.specs.Texts.{usage_line, file_line, refused_line};
-ghost use Rattle.debug_cli.specs.Laws.{AsksTheBest, FindsTheFault, OneRun};
+ghost use Rattle.debug_cli.specs.Laws.{InEachRun, OneRun};
 ghost use Rattle.debug_cli.specs.Status.{code_of, is_after_fetch, is_console, is_screen};
-ghost use Rattle.debug_cli.specs.Heard.{EndedBy};
-ghost use Rattle.debug_cli.specs.Outside.{NotRisen, NoneRisen, CountsOneFault};
+ghost use Rattle.debug_cli.specs.Outside.{NoneRisen, CountsOneFault};
 ghost use Rattle.debug_cli.specs.Asked.{Words, meaning, said_in, GivesLine, GivesNothing, RunGoes, Goes};
 ghost use Rattle.debug_cli.specs.Asked.{Fetched, Checked, Session, SourceRefused, NotFetched};
-ghost use Rattle.debug_cli.specs.Setting.{Stored, Setting, IsWithin, transcript_of, EndsInTime, GoesOn};
+ghost use Rattle.debug_cli.specs.Setting.{Stored, Setting, IsWithin, transcript_of};
 
 use crate::laws;
-use crate::session::{give_line, hold_session, status_of};
-use crate::status::Status;
+use crate::status::{Status, give_line, status_of};
 use crate::texts::{absent_text, failed_text, refused_text, too_long_text};
+use ask_session::converse;
 use command_words::{Request, WordFault, read_words};
 use debuggee::{INPUT_BYTES, Refusal, SourceFault, SourceProgram, read_source, run_program};
 use edge_ports::{Bytes, FetchFault, Keeper, Sink, Source};
@@ -76,7 +78,7 @@ fn ask_run<I: Source, O: Sink>(
     ensures last { IsTrue (is_screen result) → IsTrue (O.last_failed screen.new) }
 {
     match run_program(alloc, source, input, budget) {
-        Ok(debuggee) => status_of(hold_session(alloc, &debuggee, console, screen)),
+        Ok(debuggee) => status_of(converse(alloc, &debuggee, console, screen)),
         Err(_) => Status::Memory,
     }
 }
@@ -259,10 +261,12 @@ pub fn ask_pascal<K: Keeper, I: Source, O: Sink>(
         → IsWithin s → NotRisen (K.counts keeper.old).faults (K.counts keeper.new).faults
         → NotRisen (I.faults console.old) (I.faults console.new) → NotRisen (O.faults screen.old) (O.faults screen.new)
         → (result ≡ 9) ⊎ (result ≡ 7) }
-    // What a question and a verdict in that transcript say. A source is one program at most, and has one run with each
-    // input and budget.
-    ensures asks { AsksTheBest }
-    ensures finds { FindsTheFault }
+    // What the questions and the verdicts in that transcript say. A source is one program at most, and has one run with
+    // each input and budget.
+    ensures asks { InEachRun AsksTheBest }
+    ensures narrows { InEachRun NarrowsTheFault }
+    ensures names { InEachRun NamesTheAccused }
+    ensures finds { InEachRun FindsTheFault }
     ensures one_run { OneRun }
     // Words that mean nothing, a file that is no program, and any words that mean something, where
     // nothing failed.
@@ -306,7 +310,7 @@ pub fn ask_pascal<K: Keeper, I: Source, O: Sink>(
     ensures fetched { result ≢ 4 → result ≢ 6 → result ≢ 7 → K.counts keeper.new ≡ K.counts keeper.old }
     ensures no_fetch { meaning words.now ≡ None → K.counts keeper.new ≡ K.counts keeper.old }
 {
-    // What the clauses `asks`, `finds` and `one_run` say is a law each.
+    // What the clauses `asks`, `narrows`, `names`, `finds` and `one_run` say is a law each.
     laws::search_is_sound();
     laws::one_run();
     match read_words(alloc, words) {

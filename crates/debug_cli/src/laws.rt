@@ -1,7 +1,8 @@
-//! Laws of the transcript, the contract of a call that does nothing.
-ghost use Rattle.debug_cli.specs.Laws.{OneRun, AsksTheBest, FindsTheFault};
+//! Laws of the transcript, the contract of calls that do nothing.
+ghost use Rattle.ask_session.specs.Laws.{AsksTheBest, FindsTheFault, NamesTheAccused, NarrowsTheFault};
+ghost use Rattle.debug_cli.specs.Laws.{InEachRun, OneRun};
 
-use optimal_query::laws::{found_is_at_fault, question_is_least};
+use ask_session::reports_are_sound;
 use pas_lexer::lexing::division_laws;
 use program_meaning::numbers_tell_the_tree;
 use same_programs::one_text_one_program;
@@ -14,12 +15,15 @@ pub fn one_run()
     one_text_one_program();
 }
 
-/// What is asked is best, and what is found is at fault, in the run of each program.
+/// What is asked is best, what is found is at fault, and once a call is accused one of those that are left is buggy, in
+/// the run of each program.
 pub fn search_is_sound()
-    ensures asks { AsksTheBest }
-    ensures finds { FindsTheFault }
+    ensures asks { InEachRun AsksTheBest }
+    ensures narrows { InEachRun NarrowsTheFault }
+    ensures names { InEachRun NamesTheAccused }
+    ensures finds { InEachRun FindsTheFault }
 {
+    // The subtree of a call is an interval.
     numbers_tell_the_tree();
-    question_is_least();
-    found_is_at_fault();
+    reports_are_sound();
 }

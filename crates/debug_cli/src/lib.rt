@@ -4,11 +4,7 @@
 #![tactic(auto)]
 
 mod ask;
-mod commands;
-mod dialog;
-mod judging;
 mod laws;
-mod session;
 mod status;
 mod texts;
 

@@ -1,6 +1,11 @@
 //! How the command ends.
-ghost use Rattle.std.specs.Prelude.{◌≡◌};
-ghost use Rattle.debug_cli.specs.Status.{code_of};
+ghost use Rattle.std.specs.Prelude.{◌≡◌, false, IsTrue};
+ghost use Rattle.edge_ports.specs.Counts.{Counted};
+ghost use Rattle.debug_cli.specs.Asked.{GivesLine};
+ghost use Rattle.debug_cli.specs.Status.{code_of, is_screen, session_status};
+
+use ask_session::Ending;
+use edge_ports::{Sink, write_all};
 
 /// How the command ends.
 #[derive(Clone, Copy)]
@@ -38,5 +43,31 @@ impl Status {
             Status::Memory => 7,
             Status::Spent => 9,
         }
+    }
+}
+
+/// The status of a session that ended so.
+pub fn status_of(ending: Ending) -> Status
+    ensures { result ≡ session_status ending }
+{
+    match ending {
+        Ending::Done => Status::Done,
+        Ending::Console => Status::Console,
+        Ending::Screen => Status::Screen,
+        Ending::Spent => Status::Spent,
+        Ending::Memory => Status::Memory,
+    }
+}
+
+/// Gives a whole line and ends with this status, or with that of a screen that failed.
+pub fn give_line<O: Sink>(screen: &mut O, line: &[u8], status: Status) -> Status
+    requires { is_screen status ≡ false }
+    ensures gives { GivesLine result status line.now (O.given screen.old) (O.given screen.new) }
+    ensures faults { Counted (is_screen result) (O.faults screen.old) (O.faults screen.new) }
+    ensures last { IsTrue (is_screen result) → IsTrue (O.last_failed screen.new) }
+{
+    match write_all(screen, line) {
+        Ok(()) => status,
+        Err(_) => Status::Screen,
     }
 }

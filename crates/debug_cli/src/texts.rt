@@ -1,103 +1,12 @@
-//! The texts of the state of the search, and of what is refused.
+//! The texts on what is refused.
 ghost use Rattle.std.specs.Prelude.{◌≡◌, ◌++◌, IfOk, OnOk, codes};
-ghost use Rattle.question_text.specs.Cards.{card};
-ghost use Rattle.debuggee.specs.Execution.{IsReady, execution};
-ghost use Rattle.debug_cli.specs.Texts.{found_text, narrowed_text, question_line, report};
 ghost use Rattle.debug_cli.specs.Texts.{absent_line, failed_line, too_long_line};
 ghost use Rattle.debug_cli.specs.Texts.{refusal_name, refusal_text, refused_line};
 
 use cell_names::write_number;
-use debuggee::{Debuggee, Refusal};
+use debuggee::Refusal;
 use edge_ports::Bytes;
-use optimal_query::State;
-use question_text::{Recorded, write_call, write_call_name, write_way_line};
 use std::alloc::{AllocError, Global};
-
-/// Appends the card of a call.
-pub fn write_card(
-    alloc: Global,
-    out: &mut Bytes,
-    debuggee: &Debuggee,
-    number: u32,
-) -> Result<(), AllocError>
-    requires { IsReady debuggee.now }
-    ensures { OnOk result (out.new ≡ out.old ++ card (execution debuggee.now).recorded number) }
-{
-    let from = Recorded {
-        program: &debuggee.program,
-        tokens: debuggee.tokens.len(),
-        names: &debuggee.names,
-        calls: &debuggee.history.calls,
-        log: &debuggee.history.log,
-        items: &debuggee.history.input,
-    };
-    write_call(alloc, out, &from, number)
-}
-
-/// Appends the lines on a call that is found.
-#[tactic(auto, unfolding(crate::specs::Texts::found_text))]
-fn write_found(out: &mut Bytes, debuggee: &Debuggee, number: u32) -> Result<(), AllocError>
-    ensures { OnOk result (out.new ≡ out.old ++ found_text (execution debuggee.now).recorded number) }
-{
-    let calls = &debuggee.history.calls;
-    out.append(b"found ")?;
-    write_call_name(out, &debuggee.program, calls, number)?;
-    out.append(b"\n")?;
-    write_way_line(out, calls, number)
-}
-
-/// Appends the line on the call to which the fault is narrowed down.
-#[tactic(auto, unfolding(crate::specs::Texts::narrowed_text))]
-fn write_narrowed(out: &mut Bytes, debuggee: &Debuggee, number: u32) -> Result<(), AllocError>
-    ensures { OnOk result (out.new ≡ out.old ++ narrowed_text (execution debuggee.now).recorded number) }
-{
-    out.append(b"narrowed to ")?;
-    write_call_name(out, &debuggee.program, &debuggee.history.calls, number)?;
-    out.append(b"\n")
-}
-
-/// Appends the line of a question.
-fn write_question(out: &mut Bytes, call: u32, suspects: u32, left: u32) -> Result<(), AllocError>
-    ensures { OnOk result (out.new ≡ out.old ++ question_line call suspects left) }
-{
-    out.append(b"ask ")?;
-    write_number(out, call)?;
-    out.append(b" suspects ")?;
-    write_number(out, suspects)?;
-    out.append(b" left ")?;
-    write_number(out, left)?;
-    out.append(b"\n")?;
-    Ok(())
-}
-
-/// Appends the report on a state of the search.
-#[tactic(auto, unfolding(crate::specs::Texts::report))]
-pub fn write_report(
-    alloc: Global,
-    out: &mut Bytes,
-    debuggee: &Debuggee,
-    state: State,
-) -> Result<(), AllocError>
-    requires { IsReady debuggee.now }
-    ensures { OnOk result (out.new ≡ out.old ++ report (execution debuggee.now).recorded state) }
-{
-    match state {
-        State::Ask {
-            call,
-            suspects,
-            left,
-            ..
-        } => {
-            write_question(out, call, suspects, left)?;
-            write_card(alloc, out, debuggee, call)?;
-        }
-        State::Found(call) => write_found(out, debuggee, call)?,
-        State::Narrowed(call) => write_narrowed(out, debuggee, call)?,
-        State::NothingWrong => out.append(b"nothing wrong\n")?,
-        State::Unclear => out.append(b"unclear\n")?,
-    }
-    Ok(())
-}
 
 /// Begin, name and line end.
 fn named_line(alloc: Global, begin: &[u8], name: &[u8]) -> Result<Bytes, AllocError>

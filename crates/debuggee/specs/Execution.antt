@@ -1,14 +1,12 @@
 -- A run, as the texts and the search see it.
-use Rattle.std.specs.Prelude.{◌≡◌, ℕ, ◌<◌, List, [], Some, length, slice_get}
+use Rattle.std.specs.Prelude.{ℕ, List, length}
 use Rattle.call_tree.specs.declared.records.Call.{Call}
-use Rattle.call_tree.specs.Told.{IsTold}
 use Rattle.pas_lexer.specs.Lexed.{Lexed}
 use Rattle.program_tables.specs.ProgramRows.{ProgramRows}
 use Rattle.program_meaning.specs.Run.{items_of, run}
 use Rattle.program_run.specs.History.{log_of, recording_of}
-use Rattle.cell_names.specs.Finding.{finding_of, found_in}
 use Rattle.question_text.specs.Cards.{Recorded}
-use Rattle.debuggee.specs.declared.source.Debuggee.{Debuggee}
+use Rattle.debuggee.specs.declared.runs.Debuggee.{Debuggee}
 
 -- the tokens of a source, and the run of the program that they are, as its cards tell of it
 pub record Execution : Type 0 where
@@ -49,12 +47,3 @@ execution d = record {
     items = d.history.input;
   };
 }
-
--- There is a call, and all were left; what is found by its place is that of the program and of what was done; and of
--- each call can be told what it did.
-pub record IsReady (d : Debuggee) : Type 0 where
-  pub some : 0 < length d.history.calls.calls
-  pub all_left : d.history.calls.open_calls ≡ []
-  pub named : found_in d.names ≡ finding_of d.program (length d.tokens.tokens) d.history.log
-  pub told : (number : ℕ) (c : Call) → slice_get d.history.calls.calls number ≡ Some c
-      → IsTold d.history.log d.history.input c

@@ -1,3 +1,5 @@
 pub mod Limits
+pub mod Told
 pub mod Execution
+pub mod Subjects
 pub mod Program

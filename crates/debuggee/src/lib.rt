@@ -3,7 +3,9 @@
 #![tactic(auto)]
 
 mod refusal;
+mod runs;
 mod source;
 
 pub use refusal::Refusal;
-pub use source::{Debuggee, INPUT_BYTES, SourceFault, SourceProgram, read_source, run_program};
+pub use runs::Debuggee;
+pub use source::{INPUT_BYTES, SourceFault, SourceProgram, read_source, run_program};

@@ -9,14 +9,15 @@ ghost use Rattle.program_run.specs.History.{IsOfRun};
 ghost use Rattle.debuggee.specs.declared.source.SourceFault.TheVariants.{Refused, Memory};
 ghost use Rattle.debuggee.specs.Program.{IsProgram, Keeps, IsRefused, IsMisfit, IsUnlexed, IsUnread, IsRead};
 ghost use Rattle.debuggee.specs.Program.{fault_of_check, TokensAre};
-ghost use Rattle.debuggee.specs.Execution.{execution, execution_of, IsReady};
+ghost use Rattle.debuggee.specs.Execution.{execution, execution_of};
 ghost use Rattle.debuggee.specs.Limits.{input_bytes, most_steps};
 
 use crate::refusal::Refusal;
+use crate::runs::Debuggee;
 use cell_names::Names;
 use pas_lexer::{LexFault, Tokens, lex, line_at};
 use program_meaning::{every_program_runs, every_run_has_a_call};
-use program_run::{History, calls_are_told, run};
+use program_run::{calls_are_told, run};
 use program_tables::Program;
 use same_programs::one_text_one_program;
 use source_checker::{ProgramFault, check_tokens};
@@ -33,19 +34,6 @@ pub struct SourceProgram {
     pub tokens: Tokens,
     /// The program that they are.
     pub program: Program,
-}
-
-/// A source that was run: its tokens, the program that they are, and its run.
-#[derive(Drop)]
-pub struct Debuggee {
-    /// The tokens of the source, with its bytes.
-    pub tokens: Tokens,
-    /// The program that they are.
-    pub program: Program,
-    /// What its run left: the calls, in order of entry; call 0 is the program.
-    pub history: History,
-    /// What is found by its place in the program, and in the heap of its run.
-    pub names: Names,
 }
 
 /// Why a source opens no session.
@@ -173,7 +161,6 @@ pub fn run_program(
     // All that is kept of the run is that of the program's run: the calls with what was there at their entry and exit,
     // the log, the items of the input, and what was given out.
     ensures history { IfOk result (λ debuggee. IsOfRun source.program input.now budget debuggee.history) }
-    ensures ready { IfOk result IsReady }
 {
     every_program_runs();
     every_run_has_a_call();

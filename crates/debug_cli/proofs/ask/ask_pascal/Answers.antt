@@ -2,7 +2,7 @@ use Rattle.std.proofs.Common.{◌≡◌, ◌⊎◌, ℕ, Err, inr, refl, sym, ap
 use Rattle.debug_cli.specs.declared.status.Status.TheVariants as status
 use Rattle.debug_cli.specs.Outside.{Outside}
 use Rattle.debug_cli.specs.Setting.{transcript_of}
-use Rattle.debug_cli.proofs.RepliesInOrder.{nothing_is_prefix}
+use Rattle.ask_session.proofs.RepliesInOrder.{nothing_is_prefix}
 use Rattle.debug_cli.proofs.StatusByCode.{either_code, no_console, no_screen, console_counted, screen_counted}
 use Rattle.debug_cli.proofs.StatusTellsWhy.{outside_at, goes_at, no_fault_status}
 use Rattle.debug_cli.proofs.TranscriptIsGiven.{no_setting, whole_transcript, first_part, done_or_memory, spent_or_memory, refused_or_memory}

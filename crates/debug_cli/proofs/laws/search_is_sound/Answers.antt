@@ -1,19 +1,24 @@
-use Rattle.answer_book.specs.Entries.{standing_answers}
-use Rattle.debuggee.specs.Execution.{execution_of}
-use Rattle.debuggee.proofs.CallsAreNumbered.{run_numbered, columns_of_routines}
-use Rattle.debug_cli.specs.Laws.{tree_of}
+use Rattle.debug_cli.proofs.RunIsTree.{run_is_tree}
 use Rattle.debug_cli.proofs.laws.search_is_sound.Goals as goal
+use Rattle.debuggee.specs.Execution.{execution_of}
+use Rattle.debuggee.specs.Subjects.{subject_of}
 
 pub returns-clause-asks : goal.returns-clause-asks
-returns-clause-asks c = λ t p s entries call weight suspects left e.
-    c.question_is_least.ensures (tree_of (execution_of t p s)) (standing_answers entries) call weight suspects left (record {
-      numbered = run_numbered c.numbers_tell_the_tree.ensures.subtree c.numbers_tell_the_tree.ensures.last p s;
-      of_routines = columns_of_routines (execution_of t p s).recorded.calls;
-    }) e
+returns-clause-asks c = λ t p s.
+    let numbers = c.numbers_tell_the_tree.ensures in
+    c.reports_are_sound.ensures.asks (subject_of (execution_of t p s)) (run_is_tree numbers.subtree numbers.last t p s)
+
+pub returns-clause-narrows : goal.returns-clause-narrows
+returns-clause-narrows c = λ t p s.
+    let numbers = c.numbers_tell_the_tree.ensures in
+    c.reports_are_sound.ensures.narrows (subject_of (execution_of t p s)) (run_is_tree numbers.subtree numbers.last t p s)
+
+pub returns-clause-names : goal.returns-clause-names
+returns-clause-names c = λ t p s.
+    let numbers = c.numbers_tell_the_tree.ensures in
+    c.reports_are_sound.ensures.names (subject_of (execution_of t p s)) (run_is_tree numbers.subtree numbers.last t p s)
 
 pub returns-clause-finds : goal.returns-clause-finds
-returns-clause-finds c = λ t p s entries call e.
-    c.found_is_at_fault.ensures (tree_of (execution_of t p s)) (standing_answers entries) call (record {
-      numbered = run_numbered c.numbers_tell_the_tree.ensures.subtree c.numbers_tell_the_tree.ensures.last p s;
-      of_routines = columns_of_routines (execution_of t p s).recorded.calls;
-    }) e
+returns-clause-finds c = λ t p s.
+    let numbers = c.numbers_tell_the_tree.ensures in
+    c.reports_are_sound.ensures.finds (subject_of (execution_of t p s)) (run_is_tree numbers.subtree numbers.last t p s)

@@ -21,8 +21,8 @@ returns-clause-kept c =
       };
     }
 
-pub returns-clause-ready : goal.returns-clause-ready
-returns-clause-ready c =
+pub invariant_of-result : goal.invariant_of-result
+invariant_of-result c =
     let p = c.args.source.program in
     let given : Supply = record { input = c.args.input.now; budget = c.args.budget } in
     let kept = c.in_ok-history.ensures in
@@ -30,6 +30,7 @@ returns-clause-ready c =
     record {
       some = some_call c.every_run_has_a_call.ensures c.every_program_runs.ensures p given history.calls kept.calls;
       all_left = ap (λ (r : Recording). r.open_calls) kept.calls;
+      routines = ap (λ (r : Recording). r.routines) kept.calls;
       named = c.in_ok-names.ensures ∙ ap (λ n. finding_of p n history.log) c.len.ensures.count;
       told = c.calls_are_told.ensures p given.input given.budget history c.requires.input (record {
         calls = kept.calls;

@@ -1,0 +1,23 @@
+-- The calls of a run of each of which can be told what it did.
+use Rattle.std.specs.Prelude.{◌≡◌, ℕ, List, Some, slice_get}
+use Rattle.std.specs.Coded.{le_prop, Unit-prop}
+use Rattle.cell_value.specs.declared.entries.Touch.{Touch}
+use Rattle.cell_value.specs.declared.entries.Touch.TheVariants as touch
+use Rattle.cell_value.specs.Effects.{IsCountable}
+use Rattle.call_tree.specs.declared.records.Call.{Call}
+use Rattle.call_tree.specs.Told.{IsTold}
+
+-- of each of these calls can be told what it did, by the log and the items of the input
+abbrev pub AreTold : List Touch → (items : List ℕ) → List Call → Type 0
+AreTold log items calls = (number : ℕ) (c : Call) → slice_get calls number ≡ Some c → IsTold log items c
+
+-- that the effect of a touch can be counted has one proof at most
+pub counts_once : (t : Touch) → IsProp (IsCountable t)
+counts_once (touch.Read at v) = Unit-prop
+counts_once (touch.Has at answer) = Unit-prop
+counts_once (touch.Write at v) = Unit-prop
+counts_once (touch.Make first cells kind) = le_prop
+counts_once (touch.Drop first cells) = le_prop
+counts_once (touch.Look at) = le_prop
+counts_once (touch.Take many) = Unit-prop
+counts_once (touch.Give byte) = Unit-prop
