@@ -16,8 +16,8 @@ use Rattle.program_meaning.specs.Replay.{body}
 use Rattle.program_meaning.proofs.CallsOfRunsNest.{stand_of}
 use Rattle.program_meaning.proofs.OutcomesCompose.{some_same, none_some}
 use Rattle.program_meaning.proofs.RunAtAnyDepth.{runs}
-use Rattle.run_laws.specs.Laws.{calls_in, most_bytes, IsBody, MeetsItems}
-use Rattle.run_laws.proofs.LawsOfRuns.{begins_sound, body_is, made, runs_items}
+use Rattle.run_laws.specs.Laws.{calls_in, most_bytes, MeetsItems}
+use Rattle.run_laws.proofs.LawsOfRuns.{begins_sound, made, runs_items}
 use Rattle.run_laws.proofs.Ways.{run_gives}
 use Rattle.run_laws.proofs.RunsLeave.{call_leaves}
 use Rattle.run_laws.proofs.RunsRecord.{MadeBy}
@@ -157,8 +157,3 @@ module _ {p : ProgramRows} {input : List ℕ} {h : History} (g : RunOf p input h
   pub work_is : {number : ℕ} {row : table.Call} (r : RowOf p h (calls_in g.result) number row) → work_in p input h number
       ≡ body p (depth_enough p r.call.entry.steps) r.call number (take r.call.below (drop (number + 1) (calls_in g.result)))
   work_is {number = number} r = ap (λ x. work_of p x number) g.is ∙ ap (work_at p (calls_in g.result) number) r.stands
-
-  pub body_of : {number : ℕ} {row : table.Call} (r : RowOf p h (calls_in g.result) number row)
-      → IsBody number r.call (take r.call.below (drop (number + 1) (calls_in g.result))) (work_in p input h number)
-  body_of {number = number} r = subst (IsBody number r.call (take r.call.below (drop (number + 1) (calls_in g.result)))) (sym (work_is r))
-      (body_is p number r.call (drop (number + 1) (calls_in g.result)) r.made (depth_enough p r.call.entry.steps) (omega arith))
