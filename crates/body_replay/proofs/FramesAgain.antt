@@ -1,0 +1,83 @@
+-- What making a frame does, and what is then left of a call's own work.
+use Rattle.std.proofs.Common.{◌≡◌, ℕ, ◌+◌, ◌≤◌, Bool, true, false, List, [], Option, Some, None, refl, sym, ap, subst, ◌∙◌, arith}
+use Rattle.std.proofs.Common.{nat_lt, if◌then◌else◌}
+use Rattle.std.proofs.lemmas.Bool.Decides.{nat_tests}
+use Rattle.cell_value.specs.declared.values.Value.{Value}
+use Rattle.cell_value.specs.declared.entries.Touch.{Touch}
+use Rattle.cell_value.specs.declared.ways_out.WayOut.{WayOut}
+use Rattle.cell_value.specs.declared.ways_out.Which.TheVariants.{Stack}
+use Rattle.program_tables.specs.declared.program.Routine.{Routine}
+use Rattle.program_tables.specs.ProgramRows.{ProgramRows, routine_at}
+use Rattle.program_meaning.specs.State.{State, stack_end}
+use Rattle.program_meaning.specs.Acts.{Trouble, OutOfSteps, Limited, Done, Went, Stops, spent}
+use Rattle.program_meaning.specs.Tree.{way_of}
+use Rattle.program_meaning.specs.Run.{Halted, ends, after_all, framed_run, at_work, whole, with_frame, without_frame}
+use Rattle.program_meaning.specs.Replay.{Replaying, Replayed, in_replaying, on_state, replay_of}
+use Rattle.eval_machine.specs.Frames.{framing}
+use Rattle.body_replay.specs.Traces.{FrameMade}
+
+-- goes on in a frame that was made
+abbrev pub on_framing : Done (Unit {0}) → (State → Replaying) → (State → Replayed) → Replayed
+on_framing (Went x w τ) hold go = go τ
+on_framing (Stops why w τ) hold go = ends (Halted (way_of 0 why)) (hold τ)
+
+by_tests : (hold : State → Replaying) (go : State → Replayed) (σ τ : State) (a b : Bool)
+    → (if a then ends (Halted (way_of 0 (Limited Stack))) (hold σ) else if b then ends (Halted (way_of 0 OutOfSteps)) (hold (spent σ)) else go τ)
+    ≡ on_framing (if a then Stops (Limited Stack) [] σ else if b then Stops OutOfSteps [] (spent σ) else Went tt [] τ) hold go
+by_tests hold go σ τ true b = refl
+by_tests hold go σ τ false true = refl
+by_tests hold go σ τ false false = refl
+
+-- a routine at work in a frame of its own at a state
+abbrev pub work_from : ProgramRows → (depth f : ℕ) → Routine → Replaying → State → Replayed
+work_from p depth f r s τ =
+    after_all (on_state (without_frame s.state.top r.cells)) (replay_of p depth (whole p f s.state.top r) (record s { state = τ }))
+
+-- a routine in a new frame, by what making the frame did
+pub framed_again : (p : ProgramRows) (depth f : ℕ) (args : List Value) (r : Routine) (s : Replaying) → routine_at p f ≡ Some r
+    → framed_run in_replaying (at_work p (replay_of p depth) f) args s (routine_at p f)
+    ≡ on_framing (framing r.cells args s.state) (λ τ. record s { state = τ }) (work_from p depth f r s)
+framed_again p depth f args r s e = ap (framed_run in_replaying (at_work p (replay_of p depth) f) args s) e
+    ∙ by_tests (λ τ. record s { state = τ }) (work_from p depth f r s) s.state (with_frame r.cells args s.state)
+    (nat_lt stack_end (s.state.top + r.cells)) (nat_lt s.state.steps r.cells)
+
+-- what is left of the steps
+abbrev Fell : Done (Unit {0}) → ℕ → Type 0
+Fell (Went x w τ) most = τ.steps ≤ most
+Fell (Stops why w τ) most = τ.steps ≤ most
+
+fell_by : (n : ℕ) (args : List Value) (σ : State) (a b : Bool)
+    → Fell (if a then Stops (Limited Stack) [] σ else if b then Stops OutOfSteps [] (spent σ) else Went tt [] (with_frame n args σ)) σ.steps
+fell_by n args σ true b = omega arith
+fell_by n args σ false true = omega arith
+fell_by n args σ false false = omega arith
+
+framing_fell : (n : ℕ) (args : List Value) (σ : State) → Fell (framing n args σ) σ.steps
+framing_fell n args σ = fell_by n args σ (nat_lt stack_end (σ.top + n)) (nat_lt σ.steps n)
+
+pub went_fell : (n : ℕ) (args : List Value) (σ τ : State) (w : List Touch) → framing n args σ ≡ Went tt w τ → τ.steps ≤ σ.steps
+went_fell n args σ τ w e = subst (λ d. Fell d σ.steps) e (framing_fell n args σ)
+
+stops_fell : (n : ℕ) (args : List Value) (σ τ : State) (why : Trouble) (w : List Touch) → framing n args σ ≡ Stops why w τ → τ.steps ≤ σ.steps
+stops_fell n args σ τ why w e = subst (λ d. Fell d σ.steps) e (framing_fell n args σ)
+
+-- a frame that was made fits into the stack, and no call is entered by it
+pub record Fits (n : ℕ) (σ τ : State) : Type 0 where
+  pub top : σ.top + n ≤ stack_end
+  pub calls : τ.calls ≡ σ.calls
+
+fits_by : (n : ℕ) (args : List Value) (σ τ : State) (w : List Touch) (a b : Bool) → nat_lt stack_end (σ.top + n) ≡ a
+    → ◌≡◌ {A = Done (Unit {0})} (if a then Stops (Limited Stack) [] σ
+    else if b then Stops OutOfSteps [] (spent σ) else Went tt [] (with_frame n args σ)) (Went tt w τ) → Fits n σ τ
+fits_by n args σ τ w true b t e = absurd (let z : ⊥ = cc in z)
+fits_by n args σ τ w false true t e = absurd (let z : ⊥ = cc in z)
+fits_by n args σ τ w false false t e =
+    let s : with_frame n args σ ≡ τ = cc in
+    record { top = grind (arith, nat_tests, t); calls = ap (λ (υ : State). υ.calls) (sym s) }
+
+pub fits : (n : ℕ) (args : List Value) (σ τ : State) (w : List Touch) → framing n args σ ≡ Went tt w τ → Fits n σ τ
+fits n args σ τ w e = fits_by n args σ τ w (nat_lt stack_end (σ.top + n)) (nat_lt σ.steps n) refl e
+
+pub made_fell : (n : ℕ) (args : List Value) (σ τ : State) (o : Option WayOut) → FrameMade (framing n args σ) o τ → τ.steps ≤ σ.steps
+made_fell n args σ τ None m = went_fell n args σ τ m.0 m.1
+made_fell n args σ τ (Some way) m = stops_fell n args σ τ m.1 m.0 m.2

@@ -1,0 +1,9 @@
+pub mod ChangesOneByOne
+pub mod FramesAgain
+pub mod RecordsOfRuns
+pub mod RowsTellTheStates
+pub mod StepsAreCounted
+pub mod StopsAgain
+pub mod WorkBegins
+pub mod WorkEnds
+pub mod WorkGoesOn

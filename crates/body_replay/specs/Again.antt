@@ -1,0 +1,149 @@
+-- What is left of a call's own work, while it is done again.
+use Rattle.std.specs.Prelude.{◌≡◌, ◌<◌, ◌≤◌, ℕ, suc, ◌+◌, ◌-◌, List, [], ◌∷◌, ◌++◌, Option, Some, None, map, drop}
+use Rattle.std.specs.Prelude.{length}
+use Rattle.std.specs.List.{All, slice_get}
+use Rattle.cell_value.specs.declared.values.Value.{Value}
+use Rattle.cell_value.specs.declared.ways_out.WayOut.{WayOut}
+use Rattle.call_tree.specs.Told.{IsTold}
+use Rattle.call_tree.specs.declared.records.Call as table
+use Rattle.call_tree.specs.declared.events.Event as kept
+use Rattle.program_tables.specs.ProgramRows.{ProgramRows}
+use Rattle.program_meaning.specs.State.{State, most_calls}
+use Rattle.program_meaning.specs.Tree.{Out, Tree}
+use Rattle.program_meaning.specs.Run.{End, Ended, Halted, Marked, Result, Call, joined}
+use Rattle.program_meaning.specs.Apply.{apply}
+use Rattle.program_meaning.specs.Replay.{Event, LineOf, ChildOf, Replaying, end_of, next_call, replay_of}
+use Rattle.run_laws.specs.Laws.{IsMet}
+use Rattle.eval_machine.specs.Machines.{machine_state}
+use Rattle.eval_tasks.specs.Stops.{Stop, AtLine, AtCall, AtEnd}
+use Rattle.eval_tasks.specs.Rest.{rest_of, waiting}
+use Rattle.eval_tasks.specs.Turns as turns
+use Rattle.program_run.specs.declared.history.History.{History}
+use Rattle.body_replay.specs.Records.{HasRoomFor, IsRecordOf}
+use Rattle.body_replay.specs.Replays.{kept_event}
+use Rattle.body_replay.specs.declared.replayer.Replayer.{Replayer}
+
+-- the events, without their marks
+abbrev pub happened : List (Marked Event) → List Event
+happened es = map (λ e. e.event) es
+
+-- what is left of a result after these events
+pub record Past (told : List Event) (r rest : Result Replaying Event) : Type 0 where
+  pub end : r.end ≡ rest.end
+  pub after : r.after ≡ rest.after
+  pub events : happened r.events ≡ told ++ happened rest.events
+
+-- what has still to be done again, after these events, gives the result
+pub record Goes (p : ProgramRows) (told : List Event) (t : Tree) (s : Replaying) (r : Result Replaying Event) :
+    Type 0
+  where
+    pub depth : ℕ
+    pub rest : Result Replaying Event
+    pub is : replay_of p depth t s ≡ Some rest
+    pub past : Past told r rest
+
+-- nothing has to be done again
+pub record Over (told : List Event) (end : End) (s : Replaying) (r : Result Replaying Event) : Type 0 where
+  pub ends : r.end ≡ end
+  pub after : r.after ≡ s
+  pub events : happened r.events ≡ told
+
+-- a call is to be met
+pub record Meeting (p : ProgramRows) (told : List Event) (f : ℕ) (args : List Value) (next : Out → Tree)
+    (s : Replaying) (r : Result Replaying Event) : Type 0
+  where
+    pub depth : ℕ
+    pub rest : Result Replaying Event
+    pub is : joined (next_call f args s.state s.number s.calls) (λ out τ. replay_of p (suc depth) (next out) τ)
+        ≡ Some rest
+    pub past : Past told r rest
+
+abbrev pub Stands : ProgramRows → List Event → Stop → Replaying → Result Replaying Event → Type 0
+Stands p told (AtLine line rest) s r = Goes p (told ++ LineOf line ∷ []) rest s r
+Stands p told (AtCall f args next) s r = Meeting p told f args next s r
+Stands p told (AtEnd end) s r = Over told end s r
+
+abbrev pub with_state : Replaying → State → Replaying
+with_state s σ = record s { state = σ }
+
+-- how it goes on after a call that ended so
+abbrev pub Resumed : ProgramRows → List Event → (Out → Tree) → End → Replaying → Result Replaying Event → Type 0
+Resumed p told next (Ended out) s r = Goes p told (next out) s r
+Resumed p told next (Halted way) s r = Over told (Halted way) s r
+
+-- what is left after the effect of a call
+abbrev pub after_child : Call → List Call → Replaying → Replaying
+after_child c cs s = record { state = apply c s.state; number = s.number + (c.below + 1); calls = drop c.below cs }
+
+pub record Met (p : ProgramRows) (told : List Event) (next : Out → Tree) (s : Replaying) (r : Result Replaying Event) :
+    Type 0
+  where
+    pub call : Call
+    pub others : List Call
+    pub calls : s.calls ≡ call ∷ others
+    pub goes : Resumed p (told ++ ChildOf s.number s.state ∷ []) next (end_of call.way call.result)
+        (after_child call others s) r
+    pub later : List Event
+    pub among : happened r.events ≡ told ++ ChildOf s.number s.state ∷ later
+
+-- ---- at work
+
+-- what the history tells of a call of this number
+pub record Known (h : History) (number : ℕ) (c : Call) : Type 0 where
+  pub row : table.Call
+  pub stands : slice_get h.calls.calls number ≡ Some row
+  pub recorded : IsRecordOf h.log number row c
+  pub told : IsTold h.log h.input row
+  pub items : c.entry.items ≡ h.input
+  pub room : HasRoomFor c c.entry
+  pub last : number + c.below < 500000
+
+-- what is fixed while a call's own work is done again: the number of the call, the calls below it, what the work in the
+-- frame gives, and what the history tells of the calls below
+pub record Job (h : History) : Type 0 where
+  pub number : ℕ
+  pub below : List Call
+  pub work : Result Replaying Event
+  pub met : All (λ e. IsMet (number + 1) below e.event) work.events
+  pub known : (i : ℕ) (c : Call) → slice_get below i ≡ Some c → Known h (number + 1 + i) c
+
+-- what is at work: its state, the events so far, and the number of the next call
+pub record View : Type 0 where
+  pub state : State
+  pub events : List kept.Event
+  pub next : ℕ
+
+abbrev pub view_of : Replayer → View
+view_of r = record { state = machine_state r.machine; events = r.events; next = r.next }
+
+-- how far the work is
+pub record Reached (h : History) (j : Job h) (stage : List Event → Replaying → Type 0) (v : View) : Type 0 where
+  pub told : List Event
+  pub events : v.events ≡ map kept_event told
+  pub next : j.number + 1 ≤ v.next
+  -- each event took a step or a call
+  pub few : length v.events + v.state.steps ≤ 4000000 + v.state.calls
+  pub calls : v.state.calls ≤ most_calls
+  pub stands : stage told (record { state = v.state; number = v.next; calls = drop (v.next - (j.number + 1)) j.below })
+
+-- it goes on with what the body has still to do
+abbrev pub AtRest : ProgramRows → (h : History) → Job h → Replayer → Type 0
+AtRest p h j r = Reached h j (λ told s. Goes p told (rest_of p r.body) s j.work) (view_of r)
+
+-- it is before a call
+abbrev pub AtChild : ProgramRows → (h : History) → Job h → Replayer → Type 0
+AtChild p h j r = Reached h j (λ told s. Met p told (waiting p r.body) s j.work) (view_of r)
+
+-- it is after a call that ended so
+abbrev pub AfterChild : ProgramRows → (h : History) → Job h → WayOut → Option Value → Replayer → Type 0
+AfterChild p h j way answer r =
+    Reached h j (λ told s. Resumed p told (waiting p r.body) (turns.end_of way answer) s j.work) (view_of r)
+
+-- it goes on, or the body has ended so
+abbrev pub Turned : ProgramRows → (h : History) → Job h → Option (WayOut × Option Value) → Replayer → Type 0
+Turned p h j None r = AtRest p h j r
+Turned p h j (Some end) r = Reached h j (λ told s. Over told (turns.end_of end.0 end.1) s j.work) (view_of r)
+
+-- a measure of what is still to be done
+abbrev pub work_left : Replayer → ℕ
+work_left r = r.machine.steps + (500000 - r.machine.calls)

@@ -1,0 +1,5 @@
+pub mod Records
+pub mod Replays
+pub mod Counting
+pub mod Again
+pub mod Traces

@@ -1,0 +1,161 @@
+//! A call's own work, done again in a frame of its own.
+
+ghost use Rattle.std.specs.Prelude.{◌≡◌, ◌+◌, ◌<◌, ◌≤◌, [], IfOk, OnOk, None};
+ghost use Rattle.program_meaning.specs.State.{stack_end};
+ghost use Rattle.program_meaning.specs.Run.{result_in, way_out, without_frame};
+ghost use Rattle.eval_machine.specs.Frames.{framing};
+ghost use Rattle.eval_machine.specs.Machines.{IsReady, machine_state};
+ghost use Rattle.eval_tasks.specs.Turns.{end_of};
+ghost use Rattle.body_replay.specs.Again.{AtRest, Job};
+ghost use Rattle.body_replay.specs.Counting.{Counts, Tally};
+ghost use Rattle.body_replay.specs.Traces.{EndsAs, Entered, FrameMade, changed_result, tally, tally_of};
+
+use crate::counted::count_steps;
+use crate::replayer::Replayer;
+use call_tree::{Call, Events};
+use cell_value::{Cells, Kind, Memory, Steps, Value, WayOut};
+use eval_machine::{Halt, Machine, make_frame, remove_frame};
+use eval_tasks::Body;
+use program_run::History;
+use program_tables::Program;
+use std::alloc::{AllocError, Global};
+
+/// What is left once a call's work has ended.
+#[derive(Drop)]
+pub struct Ending {
+    pub machine: Machine,
+    /// What happened, in order.
+    pub events: Events,
+    pub way: WayOut,
+    /// The value of a function that returned.
+    pub answer: Option<Value>,
+}
+
+/// The value that a routine gave that ended so.
+fn answer_of(way: WayOut, answer: Option<Value>) -> Option<Value>
+    ensures way { way_out (end_of way answer) ≡ way }
+    ensures answer { result_in (end_of way answer) ≡ result }
+{
+    match way {
+        WayOut::Returned => answer,
+        _ => None,
+    }
+}
+
+/// Makes the frame of a call, and answers how the call ends where the frame is not made.
+fn frame_made(
+    alloc: Global,
+    machine: &mut Machine,
+    args: &Cells,
+    cells: u32,
+) -> Result<Option<WayOut>, Memory>
+    requires ready { IsReady machine.old }
+    ensures made { IfOk result (λ halted. FrameMade (framing cells args.now (machine_state machine.old)) halted
+        (machine_state machine.new)) }
+    ensures ready { OnOk result (IsReady machine.new) }
+{
+    match make_frame(alloc, machine, args, cells) {
+        Ok(()) => Ok(None),
+        Err(Halt::Fault(kind)) => Ok(Some(WayOut::Faulted(kind, 0))),
+        Err(Halt::OutOfSteps) => Ok(Some(WayOut::OutOfSteps)),
+        Err(Halt::Limited(which)) => Ok(Some(WayOut::Limited(which))),
+        Err(Halt::Memory) => Err(AllocError),
+    }
+}
+
+/// Goes on until the body has ended, and removes its frame of so many cells at a base.
+fn in_frame<L>(
+    alloc: Global,
+    program: &Program,
+    run: &History,
+    replayer: Replayer,
+    base: u32,
+    cells: u32,
+    steps: &mut Steps<L>,
+) -> Result<Ending, Memory>
+    requires ready { IsReady replayer.machine }
+    requires fits { base + cells ≤ stack_end }
+    requires rests { (j : Job run.now) × AtRest program.now run.now j replayer }
+    ensures ends { (j : Job run.now) → AtRest program.now run.now j replayer
+        → IfOk result (λ e. EndsAs (changed_result (without_frame base cells) j.work) e) }
+    ensures ready { IfOk result (λ e. IsReady e.machine) }
+    ensures counts { (first : Tally) → Counts run.now first (tally_of steps.old replayer)
+        → IfOk result (λ e. Counts run.now first (tally steps.new e.machine e.events)) }
+{
+    let mut replayer = replayer;
+    let (way, answer) = replayer.go(alloc, program, run, steps)?;
+    let Replayer {
+        mut machine,
+        events,
+        ..
+    } = replayer;
+    remove_frame(alloc, &mut machine, base, cells)?;
+    Ok(Ending {
+        machine,
+        events,
+        way,
+        answer: answer_of(way, answer),
+    })
+}
+
+/// Makes the frame of a call that was entered, by the call's row, does the work in it, and removes the frame. `number`
+/// is that of the call.
+pub(crate) fn work<L>(
+    alloc: Global,
+    program: &Program,
+    run: &History,
+    number: u32,
+    row: &Call,
+    machine: Machine,
+    steps: &mut Steps<L>,
+) -> Result<Ending, Memory>
+    requires ready { IsReady machine }
+    requires few { number < 500000 }
+    requires entered { (j : Job run.now) × (j.number ≡ number)
+        × Entered program.now run.now j row.now (machine_state machine) }
+    ensures ends { (j : Job run.now) → j.number ≡ number
+        → Entered program.now run.now j row.now (machine_state machine) → IfOk result (λ e. EndsAs j.work e) }
+    ensures ready { IfOk result (λ e. IsReady e.machine) }
+    ensures counts { (first : Tally) → Counts run.now first (tally steps.old machine [])
+        → IfOk result (λ e. Counts run.now first (tally steps.new e.machine e.events)) }
+{
+    let mut machine = machine;
+    let Some(routine) = program.routine(row.routine) else {
+        let way = WayOut::Faulted(Kind::Undefined, 0);
+        return Ok(refused(alloc, machine, way));
+    };
+    let base = machine.top;
+    let before = machine.steps;
+    let halted = frame_made(alloc, &mut machine, &row.args, routine.cells)?;
+    count_steps(steps, before, machine.steps);
+    match halted {
+        None => {
+            let body = Body::new(alloc, row.routine, base);
+            let events = Events::new(alloc);
+            let replayer = Replayer {
+                machine,
+                body,
+                events,
+                next: number + 1,
+            };
+            let ending = in_frame(alloc, program, run, replayer, base, routine.cells, steps)?;
+            Ok(ending)
+        }
+        Some(way) => Ok(refused(alloc, machine, way)),
+    }
+}
+
+/// The end of a call whose frame was not made.
+fn refused(alloc: Global, machine: Machine, way: WayOut) -> Ending
+    ensures machine { result.machine ≡ machine }
+    ensures events { result.events ≡ [] }
+    ensures way { result.way ≡ way }
+    ensures answer { result.answer ≡ None }
+{
+    Ending {
+        machine,
+        events: Events::new(alloc),
+        way,
+        answer: None,
+    }
+}

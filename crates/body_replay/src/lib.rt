@@ -1,0 +1,14 @@
+//! What the body of one recorded call did, done again: the body runs from the recorded state before the call, and each
+//! call that it makes does what its record says.
+#![tactic(auto)]
+
+mod applied;
+mod counted;
+mod framed;
+mod moment;
+mod replayer;
+mod replays;
+
+pub use applied::apply;
+pub use moment::Moment;
+pub use replays::{Trace, replay};
