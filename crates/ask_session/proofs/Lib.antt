@@ -1,4 +1,6 @@
 pub mod RepliesInOrder
 pub mod LineIsAnswered
+pub mod DialogEnds
+pub mod SessionsAreHeld
 pub mod TranscriptIsGiven
 pub mod ReportsAreSound

@@ -1,36 +1,218 @@
--- A line that is not too long is answered as its instruction is.
-use Rattle.std.proofs.Common.{◌≡◌, ◌≤◌, ℕ, Bool, true, false, if◌then◌else◌, List, Ok, Err, length, sym, ap, ◌∙◌}
-use Rattle.std.specs.Prelude.{codes}
-use Rattle.std.proofs.lemmas.Bool.{le-ltb}
+-- What a line is replied, and what becomes of the keeper.
+use Rattle.std.proofs.Common.{◌≡◌, ◌<◌, ◌≤◌, ℕ, Bool, true, false, if◌then◌else◌, List, [], ◌∷◌, Option, None, Some, Result, Ok, Err, length, refl, sym, ap}
+use Rattle.std.proofs.Common.{subst}
+use Rattle.std.proofs.Common.{inl, inr, ◌∙◌, arith}
+use Rattle.std.specs.Prelude.{codes, IfErr, IfOk}
+use Rattle.std.proofs.lemmas.Bool.{le-ltb, lt-ltb}
+use Rattle.edge_ports.specs.Counts.{counts_stored}
 use Rattle.edge_ports.specs.Limits.{line_bytes}
+use Rattle.edge_ports.specs.declared.ports.StoreFault.TheVariants as store
 use Rattle.answer_book.specs.declared.entries.Entry.{Entry}
 use Rattle.dialog_lines.specs.declared.instructions.Instruction.{Instruction}
+use Rattle.dialog_lines.specs.declared.instructions.Instruction.TheVariants as asks
 use Rattle.dialog_lines.specs.Instructions.{instruction_of}
 use Rattle.dialog_replies.specs.Replies.{Outcome, outcome, replied}
 use Rattle.dialog_replies.specs.Subject.{Subject}
+use Rattle.session_book.specs.declared.start.Start.{Start}
+use Rattle.session_book.specs.Start.{saved_text}
+use Rattle.ask_session.specs.declared.dialog.Ending.{Ending}
 use Rattle.ask_session.specs.declared.dialog.Ending.TheVariants as ending
-use Rattle.ask_session.specs.Dialog.{ends_session, is_quit, is_too_long}
-use Rattle.ask_session.specs.Turned.{Answers}
+use Rattle.ask_session.specs.Dialog.{ends_session, entries_after_line, file_asked, file_in, is_quit, is_too_long, plain_reply, reply_or_save}
+use Rattle.ask_session.specs.Dialog.{save_reply}
+use Rattle.ask_session.specs.Saves.{FileAfter, FilesAfter, Save, counts_saved, saves_asked}
+use Rattle.ask_session.specs.Turned.{Answers, BreaksOff, Hands, LineAt, Moment, NextReply, Passes, Progress, SaveGoes, one_line}
+use Rattle.ask_session.proofs.RepliesInOrder.{one_asked, one_on, plainly}
 
-not_long : (line : List ℕ) → length line ≤ line_bytes → is_too_long line ≡ false
-not_long line short = le-ltb line_bytes (length line) short
+-- an instruction, and the line that is not too long and asks for it
+pub record Asks (line : List ℕ) (i : Instruction) : Type 0 where
+  pub short : length line ≤ line_bytes
+  pub is : i ≡ instruction_of line
 
--- whether such a line ends the session
-ends_by : (line : List ℕ) (i : Instruction) (b : Bool) → length line ≤ line_bytes → i ≡ instruction_of line → is_quit i ≡ b → ends_session line ≡ b
-ends_by line i b short is quit =
-    ap (λ (long : Bool). if long then false else is_quit (instruction_of line)) (not_long line short) ∙ ap is_quit (sym is) ∙ quit
+module _ (line : List ℕ) where
+  not_long : length line ≤ line_bytes → is_too_long line ≡ false
+  not_long short = le-ltb line_bytes (length line) short
 
-pub quits : (s : Subject) (entries later : List Entry) (line : List ℕ) (i : Instruction) → length line ≤ line_bytes → i ≡ instruction_of line
-    → is_quit i ≡ true → Answers s entries line (Err ending.Done) later
-quits s entries later line i short is quit = ends_by line i true short is quit
+  module _ (i : Instruction) (a : Asks line i) where
+    -- whether such a line ends the session, and in which file it asks to save
+    pub ends_by : (b : Bool) → is_quit i ≡ b → ends_session line ≡ b
+    ends_by b quit =
+        ap (λ (long : Bool). if long then false else is_quit (instruction_of line)) (not_long a.short) ∙ ap is_quit (sym a.is) ∙ quit
 
-pub replies_so : (s : Subject) (entries later : List Entry) (line reply : List ℕ) (i : Instruction) → length line ≤ line_bytes
-    → i ≡ instruction_of line → is_quit i ≡ false → replied later reply ≡ outcome s entries i → Answers s entries line (Ok reply) later
-replies_so s entries later line reply i short is on answered =
-    let same = answered ∙ ap (outcome s entries) is in (
-      ends_by line i false short is on,
-      ap (λ (o : Outcome). o.reply) same
-          ∙ sym (ap (λ (long : Bool). if long then codes "line too long\n" else (outcome s entries (instruction_of line)).reply) (not_long line short)),
-      ap (λ (o : Outcome). o.entries) same
-          ∙ sym (ap (λ (long : Bool). if long then entries else (outcome s entries (instruction_of line)).entries) (not_long line short)),
-    )
+    asked_by : (file : Option (List ℕ)) → file_in i ≡ file → file_asked line ≡ file
+    asked_by file is =
+        ap (λ (long : Bool). if long then None else file_in (instruction_of line)) (not_long a.short) ∙ ap file_in (sym a.is) ∙ is
+
+    plain_by : (s : Subject) (entries : List Entry) → plain_reply s entries line ≡ (outcome s entries i).reply
+    plain_by s entries =
+        ap (λ (long : Bool). if long then codes "line too long\n" else (outcome s entries (instruction_of line)).reply) (not_long a.short)
+        ∙ ap (λ (j : Instruction). (outcome s entries j).reply) (sym a.is)
+
+    entries_by : (s : Subject) (entries : List Entry) → entries_after_line s entries line ≡ (outcome s entries i).entries
+    entries_by s entries =
+        ap (λ (long : Bool). if long then entries else (outcome s entries (instruction_of line)).entries) (not_long a.short)
+        ∙ ap (λ (j : Instruction). (outcome s entries j).entries) (sym a.is)
+
+-- ---- a line that does not ask to save
+
+-- a moment with other entries
+abbrev pub with_entries : Moment → List Entry → Moment
+with_entries moment entries = record moment { entries = entries }
+
+module _ (s : Subject) (start : Start) (old : LineAt) where
+  -- such a line leaves the keeper as it is
+  passes_plain : (entries : List Entry) → ends_session old.line ≡ false → file_asked old.line ≡ None
+      → entries ≡ entries_after_line s old.moment.entries old.line
+      → Passes s start old.moment (one_line old.line []) (with_entries old.moment entries)
+  passes_plain entries on none are = record {
+    on = one_on old.line false on;
+    entries_are = are;
+    answered = ap length (sym (one_asked s start old.moment.entries old.line None on none));
+    files_are = refl;
+    counts_are = refl;
+  }
+
+  -- memory ran out before the keeper was asked
+  pub breaks_off : (entries : List Entry) → BreaksOff s start old.moment old.line (with_entries old.moment entries)
+  breaks_off entries = record { saves = []; answered = omega arith; files_are = refl; counts_are = inl refl }
+
+  pub replies_so : (entries : List Entry) (reply : List ℕ) (i : Instruction) → Asks old.line i → (is_quit i ≡ false) × (file_in i ≡ None)
+      → replied entries reply ≡ outcome s old.moment.entries i → Answers s start old (Ok reply) (with_entries old.moment entries)
+  replies_so entries reply i a on is =
+      let none : file_asked old.line ≡ None = asked_by old.line i a None on.1 in (
+        [],
+        passes_plain entries (ends_by old.line i a false on.0) none
+            (ap (λ (o : Outcome). o.entries) is ∙ sym (entries_by old.line i a s old.moment.entries)),
+        ap (λ (o : Outcome). o.reply) is ∙ sym (plain_by old.line i a s old.moment.entries) ∙ sym (plainly s start old.moment.entries old.line true none),
+      )
+
+  pub too_long_so : (reply : List ℕ) → line_bytes < length old.line → reply ≡ codes "line too long\n" → Answers s start old (Ok reply) old.moment
+  too_long_so reply long is =
+      let e : is_too_long old.line ≡ true = lt-ltb line_bytes (length old.line) long in
+      let none : file_asked old.line ≡ None = ap (λ (b : Bool). if b then None else file_in (instruction_of old.line)) e in (
+        [],
+        passes_plain old.moment.entries (ap (λ (b : Bool). if b then false else is_quit (instruction_of old.line)) e) none
+            (sym (ap (λ (b : Bool). if b then old.moment.entries else (outcome s old.moment.entries (instruction_of old.line)).entries) e)),
+        is ∙ sym (ap (λ (b : Bool). if b then codes "line too long\n" else (outcome s old.moment.entries (instruction_of old.line)).reply) e)
+            ∙ sym (plainly s start old.moment.entries old.line true none),
+      )
+
+-- ---- a line that asks to save
+
+module _ (s : Subject) where
+  -- only such an instruction names a file, and it leaves the entries
+  entries_stay : (entries : List Entry) (i : Instruction) (file : List ℕ) → file_in i ≡ Some file → (outcome s entries i).entries ≡ entries
+  unfolding outcome
+  entries_stay entries (asks.Save f) file e = refl
+  entries_stay entries asks.Nothing file e = absurd (let x : ⊥ = cc in x)
+  entries_stay entries (asks.Judge judgement call) file e = absurd (let x : ⊥ = cc in x)
+  entries_stay entries (asks.TrustNamed name) file e = absurd (let x : ⊥ = cc in x)
+  entries_stay entries (asks.Trust routine) file e = absurd (let x : ⊥ = cc in x)
+  entries_stay entries (asks.TakeBack number) file e = absurd (let x : ⊥ = cc in x)
+  entries_stay entries (asks.Show call) file e = absurd (let x : ⊥ = cc in x)
+  entries_stay entries (asks.Trace call) file e = absurd (let x : ⊥ = cc in x)
+  entries_stay entries asks.Tree file e = absurd (let x : ⊥ = cc in x)
+  entries_stay entries asks.Quit file e = absurd (let x : ⊥ = cc in x)
+  entries_stay entries asks.Other file e = absurd (let x : ⊥ = cc in x)
+
+-- an instruction that names a file is not `quit`
+goes_on : (i : Instruction) (file : List ℕ) → file_in i ≡ Some file → is_quit i ≡ false
+goes_on (asks.Save f) file e = refl
+goes_on asks.Nothing file e = refl
+goes_on (asks.Judge judgement call) file e = refl
+goes_on (asks.TrustNamed name) file e = refl
+goes_on (asks.Trust routine) file e = refl
+goes_on (asks.TakeBack number) file e = refl
+goes_on (asks.Show call) file e = refl
+goes_on (asks.Trace call) file e = refl
+goes_on asks.Tree file e = refl
+goes_on asks.Quit file e = absurd (let x : ⊥ = cc in x)
+goes_on asks.Other file e = refl
+
+-- a save of the moment's session, and the same moment but for the keeper
+pub record Keeps (start : Start) (old new : Moment) (file : List ℕ) (r : Result (List ℕ) Ending) : Type 0 where
+  pub goes : SaveGoes (record { file = file; text = saved_text start old.entries }) old r new
+  pub entries : new.entries ≡ old.entries
+
+module _ (s : Subject) (start : Start) (old : LineAt) where
+  pub saves_so : (new : Moment) (r : Result (List ℕ) Ending) (i : Instruction) (file : List ℕ) → Asks old.line i × (file_in i ≡ Some file)
+      → Keeps start old.moment new file r → Answers s start old r new
+  saves_so new r i file names k = by r k.goes
+    where
+      entries : List Entry
+      entries = old.moment.entries
+
+      on : ends_session old.line ≡ false
+      on = ends_by old.line i names.0 false (goes_on i file names.1)
+
+      named : file_asked old.line ≡ Some file
+      named = asked_by old.line i names.0 (Some file) names.1
+
+      save : Save
+      save = record { file = file; text = saved_text start entries }
+
+      asked : saves_asked s start entries (old.line ∷ []) ≡ save ∷ []
+      asked = one_asked s start entries old.line (Some file) on named
+
+      by : (r : Result (List ℕ) Ending) → SaveGoes save old.moment r new → Answers s start old r new
+      by (Ok reply) g = (
+        g.0 ∷ [],
+        record {
+          on = one_on old.line false on;
+          entries_are = k.entries ∙ sym (entries_by old.line i names.0 s entries ∙ entries_stay s entries i file names.1);
+          answered = sym (ap length asked);
+          files_are = subst (λ (saves : List Save). FilesAfter (g.0 ∷ []) saves old.moment.files new.files) (sym asked) g.2;
+          counts_are = g.3;
+        },
+        g.1 ∙ sym (ap (λ (o : Option (List ℕ)). reply_or_save o g.0 (plain_reply s entries old.line)) named),
+      )
+      by (Err ending.Memory) g = record {
+        saves = g.0;
+        answered = subst (λ (saves : List Save). length g.0 ≤ length saves) (sym asked) g.1;
+        files_are = subst (λ (saves : List Save). FilesAfter g.0 saves old.moment.files new.files) (sym asked) g.2;
+        counts_are = g.3;
+      }
+      by (Err ending.Done) g = absurd g
+      by (Err ending.Console) g = absurd g
+      by (Err ending.Screen) g = absurd g
+      by (Err ending.Spent) g = absurd g
+      by (Err ending.Refused) g = absurd g
+
+-- ---- a save, by what was stored and replied
+
+-- a store answered so
+pub record StoreSays (save : Save) (stored : Bool) (old new : Moment) : Type 0 where
+  pub file_is : FileAfter stored save old.files new.files
+  pub counts_are : new.counts ≡ counts_saved (stored ∷ []) old.counts
+
+-- the reply to it, or that memory ran out
+pub record SaveSays (save : Save) (stored : Bool) (r : Result (List ℕ) Ending) : Type 0 where
+  pub text : IfOk r (λ (reply : List ℕ). reply ≡ save_reply stored save.file)
+  pub memory : IfErr r (λ (e : Ending). e ≡ ending.Memory)
+
+pub save_said : (save : Save) (stored : Bool) (old new : Moment) (r : Result (List ℕ) Ending) → StoreSays save stored old new × SaveSays save stored r
+    → SaveGoes save old r new
+save_said save stored old new (Ok reply) h = (stored, h.1.text, (new.files, h.0.file_is, refl), h.0.counts_are)
+save_said save stored old new (Err ending.Memory) h = (stored ∷ [], omega arith, (new.files, h.0.file_is, refl), inl h.0.counts_are)
+save_said save stored old new (Err ending.Done) h = let e : ending.Done ≡ ending.Memory = h.1.memory in absurd (let x : ⊥ = cc in x)
+save_said save stored old new (Err ending.Console) h = let e : ending.Console ≡ ending.Memory = h.1.memory in absurd (let x : ⊥ = cc in x)
+save_said save stored old new (Err ending.Screen) h = let e : ending.Screen ≡ ending.Memory = h.1.memory in absurd (let x : ⊥ = cc in x)
+save_said save stored old new (Err ending.Spent) h = let e : ending.Spent ≡ ending.Memory = h.1.memory in absurd (let x : ⊥ = cc in x)
+save_said save stored old new (Err ending.Refused) h = let e : ending.Refused ≡ ending.Memory = h.1.memory in absurd (let x : ⊥ = cc in x)
+
+-- the store ran out of memory
+pub save_out : (save : Save) (old new : Moment) (e : Ending) → e ≡ ending.Memory
+    → (new.files ≡ old.files) × (new.counts ≡ counts_stored (Err store.Memory) old.counts) → SaveGoes save old (Err e) new
+save_out save old new e is h = subst (λ (x : Ending). SaveGoes save old (Err x) new) (sym is) ([], omega arith, h.0, inr h.1)
+
+-- ---- the reply to the next line
+
+module _ (s : Subject) (start : Start) where
+  pub next_of : (old new : Progress) (line : List ℕ) (r : Result (List ℕ) Ending)
+      → Hands old.lines new.lines line × Answers s start (record { line = line; moment = old.moment }) r new.moment → NextReply s start old r new
+  next_of old new line (Ok reply) h = (line, h.0, h.1)
+  next_of old new line (Err ending.Memory) h = (line, h.0, h.1)
+  next_of old new line (Err ending.Done) h = inl (line, h.0, h.1)
+  next_of old new line (Err ending.Console) h = absurd h.1
+  next_of old new line (Err ending.Screen) h = absurd h.1
+  next_of old new line (Err ending.Spent) h = absurd h.1
+  next_of old new line (Err ending.Refused) h = absurd h.1

@@ -1,34 +1,21 @@
--- What is answered to a console, line by line.
-use Rattle.std.proofs.Common.{◌≡◌, inl, inr, ℕ, Bool, true, false, ◌||◌, IsTrue, if◌then◌else◌, List, [], ◌∷◌, ◌++◌, Option, Ok, Err, refl, sym, ap, subst}
-use Rattle.std.proofs.Common.{◌∙◌, append_assoc, append-nil, arith}
-use Rattle.std.specs.Io.KnownBytes.{IsAtEnd}
-use Rattle.edge_ports.specs.Lines.{LinesState, lines_heard, handed_lines, unread, Moves}
-use Rattle.edge_ports.specs.Turns.{IsConsistent}
-use Rattle.edge_ports.specs.Told.{TookAll, GaveAll, GavePrefix}
-use Rattle.edge_ports.proofs.PiecesAddUp.{gave_nothing, gave_more, gave_prefix_after, gave_prefix_before, gave_prefix_whole, took_nothing}
-use Rattle.edge_ports.proofs.HandedLinesAreHeard.{heard_in_order}
-use Rattle.ask_session.specs.declared.dialog.Ending.{Ending}
-use Rattle.ask_session.specs.declared.dialog.Ending.TheVariants as ending
+-- What is replied to lines and to those after them, what they ask to save, and what becomes of the keeper.
+use Rattle.std.proofs.Common.{◌≡◌, ◌≤◌, ℕ, ◌+◌, Bool, true, false, ◌||◌, if◌then◌else◌, List, [], ◌∷◌, ◌++◌, Option, Some, None, Ok, Err, refl}
+use Rattle.std.proofs.Common.{sym, ap, subst, ◌∙◌, append_assoc, append-nil, arith, length}
+use Rattle.std.proofs.lemmas.List.{length-append}
+use Rattle.edge_ports.specs.Counts.{KeeperCounts, counts_stored}
+use Rattle.edge_ports.specs.Files.{FileMap}
+use Rattle.edge_ports.specs.declared.ports.StoreFault.TheVariants as store
 use Rattle.answer_book.specs.declared.entries.Entry.{Entry}
 use Rattle.dialog_replies.specs.Subject.{Subject}
-use Rattle.ask_session.specs.Dialog.{said, replies, reply_to, entries_after_line, ends_session, ends_among}
-use Rattle.answer_book.specs.Entries.{first_entries}
-use Rattle.ask_session.specs.Heard.{Heard, IsHeard, EndedBy, GaveBy, lines_in}
-use Rattle.ask_session.specs.Turned.{entries_through, Stage, Answered, Hands, HandsNone, NextReply, Turned}
+use Rattle.session_book.specs.declared.start.Start.{Start}
+use Rattle.ask_session.specs.Dialog.{replies, reply_to, entries_after_line, ends_session, ends_among, file_asked, next_save, plain_reply, reply_or_save}
+use Rattle.ask_session.specs.Dialog.{saves_after_line}
+use Rattle.ask_session.specs.Saves.{FilesAfter, Save, counts_saved, save_of, saves_asked}
+use Rattle.ask_session.specs.Turned.{Moment, Passes, Talk, entries_through}
 
--- ---- lines
+-- ---- lines that end the session, and lines that do not
 
-module _ (h : Subject) where
-  replied : (entries : List Entry) (line : List ℕ) (ls : List (List ℕ)) → ends_session line ≡ false
-      → replies h entries (line ∷ ls) ≡ reply_to h entries line ++ replies h (entries_after_line h entries line) ls
-  replied entries line ls e = ap (λ (b : Bool). if b then [] else reply_to h entries line ++ replies h (entries_after_line h entries line) ls) e
-
-  quitted : (entries : List Entry) (line : List ℕ) (ls : List (List ℕ)) → ends_session line ≡ true → replies h entries (line ∷ ls) ≡ []
-  quitted entries line ls e = ap (λ (b : Bool). if b then [] else reply_to h entries line ++ replies h (entries_after_line h entries line) ls) e
-
--- ---- several lines
-
-or_false : (a b : Bool) → a || b ≡ false → (a ≡ false) × (b ≡ false)
+pub or_false : (a b : Bool) → a || b ≡ false → (a ≡ false) × (b ≡ false)
 or_false true b e = absurd (let x : ⊥ = cc in x)
 or_false false b e = (refl, e)
 
@@ -46,193 +33,229 @@ ended_append (l ∷ ls) ms e = by (ended_append ls ms) (ends_session l) e
     by ih true h = refl
     by ih false h = ih h
 
-module _ (h : Subject) where
-  -- the replies to lines that go on, and to those after them
-  pub replies_append : (entries : List Entry) (ls ms : List (List ℕ)) → ends_among ls ≡ false
-      → replies h entries (ls ++ ms) ≡ replies h entries ls ++ replies h (entries_through h entries ls) ms
-  replies_append entries [] ms e = refl
-  replies_append entries (l ∷ ls) ms e =
-      let both = or_false (ends_session l) (ends_among ls) e in
-      let rest : List ℕ = replies h (entries_after_line h entries l) ls in
-      replied h entries l (ls ++ ms) both.0
-      ∙ ap (λ (t : List ℕ). reply_to h entries l ++ t) (replies_append (entries_after_line h entries l) ls ms both.1)
-      ∙ sym (append_assoc (reply_to h entries l) rest (replies h (entries_through h (entries_after_line h entries l) ls) ms))
-      ∙ ap (λ (t : List ℕ). t ++ replies h (entries_through h (entries_after_line h entries l) ls) ms) (sym (replied h entries l ls both.0))
+pub one_on : (line : List ℕ) (b : Bool) → ends_session line ≡ b → ends_among (line ∷ []) ≡ b
+one_on line true e = ap (λ (c : Bool). c || false) e
+one_on line false e = ap (λ (c : Bool). c || false) e
+
+pub on_of_one : (line : List ℕ) → ends_among (line ∷ []) ≡ false → ends_session line ≡ false
+on_of_one line e = (or_false (ends_session line) false e).0
+
+-- ---- answers to saves
+
+no_saves : (saves : List Bool) → length saves ≡ 0 → saves ≡ []
+no_saves [] e = refl
+no_saves (b ∷ saves) e = absurd (omega (arith, e))
+
+pub counts_append : (saves more : List Bool) (counts : KeeperCounts) → counts_saved (saves ++ more) counts ≡ counts_saved more (counts_saved saves counts)
+counts_append [] more counts = refl
+counts_append (true ∷ saves) more counts = counts_append saves more (counts_stored (Ok tt) counts)
+counts_append (false ∷ saves) more counts = counts_append saves more (counts_stored (Err store.Failed) counts)
+
+-- the files after saves that got these answers
+pub record Stored (saves : List Bool) (asked : List Save) (before after : Option FileMap) : Type 0 where
+  pub files_are : FilesAfter saves asked before after
+
+-- after some saves, each of which got its answer, and then after others
+pub files_append : {saves more : List Bool} {asked others : List Save} {before between after : Option FileMap} → length saves ≡ length asked
+    → Stored saves asked before between → Stored more others between after → Stored (saves ++ more) (asked ++ others) before after
+files_append {saves = []} {more = more} {asked = []} {others = others} {after = after} e p q = record {
+  files_are = subst (λ (files : Option FileMap). FilesAfter more others files after) p.files_are q.files_are;
+}
+files_append {saves = []} {asked = save ∷ asked} e p q = absurd (omega (arith, e))
+files_append {saves = stored ∷ saves} {asked = []} e p q = absurd (omega (arith, e))
+files_append {saves = stored ∷ saves} {asked = save ∷ asked} {between = between} e p q =
+    let same : length saves ≡ length asked = omega (arith, e) in
+    let rest : Stored saves asked p.files_are.0 between = record { files_are = p.files_are.2 } in
+    record { files_are = (p.files_are.0, p.files_are.1, (files_append {saves = saves} same rest q).files_are) }
+
+-- saves after those that got an answer leave the files
+pub files_longer : {saves : List Bool} {asked : List Save} {before after : Option FileMap} (others : List Save) → length saves ≤ length asked
+    → Stored saves asked before after → Stored saves (asked ++ others) before after
+files_longer {saves = []} others few p = record { files_are = p.files_are }
+files_longer {saves = stored ∷ saves} {asked = []} others few p = absurd (omega (arith, few))
+files_longer {saves = stored ∷ saves} {asked = save ∷ asked} {after = after} others few p =
+    let less : length saves ≤ length asked = omega (arith, few) in
+    let rest : Stored saves asked p.files_are.0 after = record { files_are = p.files_are.2 } in
+    record { files_are = (p.files_are.0, p.files_are.1, (files_longer {saves = saves} others less rest).files_are) }
+
+module _ (s : Subject) where
+  -- ---- the replies to one line and to those after it
+
+  pub replied : (entries : List Entry) (saves : List Bool) (line : List ℕ) (ls : List (List ℕ)) → ends_session line ≡ false
+      → replies s entries saves (line ∷ ls)
+      ≡ reply_to s entries (next_save saves) line ++ replies s (entries_after_line s entries line) (saves_after_line (file_asked line) saves) ls
+  replied entries saves line ls e = ap (λ (b : Bool). if b then [] else reply_to s entries (next_save saves) line
+      ++ replies s (entries_after_line s entries line) (saves_after_line (file_asked line) saves) ls) e
+
+  pub quitted : (entries : List Entry) (saves : List Bool) (line : List ℕ) (ls : List (List ℕ)) → ends_session line ≡ true
+      → replies s entries saves (line ∷ ls) ≡ []
+  quitted entries saves line ls e = ap (λ (b : Bool). if b then [] else reply_to s entries (next_save saves) line
+      ++ replies s (entries_after_line s entries line) (saves_after_line (file_asked line) saves) ls) e
+
+  pub through_append : (entries : List Entry) (ls ms : List (List ℕ))
+      → entries_through s entries (ls ++ ms) ≡ entries_through s (entries_through s entries ls) ms
+  through_append entries [] ms = refl
+  through_append entries (l ∷ ls) ms = through_append (entries_after_line s entries l) ls ms
 
   -- nothing is replied after a line that ends the session
-  pub replies_ended : (entries : List Entry) (ls ms : List (List ℕ)) → ends_among ls ≡ true → replies h entries (ls ++ ms) ≡ replies h entries ls
-  replies_ended entries [] ms e = absurd (let x : ⊥ = cc in x)
-  replies_ended entries (l ∷ ls) ms e = by (replies_ended (entries_after_line h entries l) ls ms) (ends_session l) refl e
+  pub replies_ended : (entries : List Entry) (saves : List Bool) (ls ms : List (List ℕ)) → ends_among ls ≡ true
+      → replies s entries saves (ls ++ ms) ≡ replies s entries saves ls
+  replies_ended entries saves [] ms e = absurd (let x : ⊥ = cc in x)
+  replies_ended entries saves (l ∷ ls) ms e =
+      by (replies_ended (entries_after_line s entries l) (saves_after_line (file_asked l) saves) ls ms) (ends_session l) refl e
     where
-      by : (ends_among ls ≡ true → replies h (entries_after_line h entries l) (ls ++ ms) ≡ replies h (entries_after_line h entries l) ls)
-          → (b : Bool) → ends_session l ≡ b → b || ends_among ls ≡ true → replies h entries (l ∷ (ls ++ ms)) ≡ replies h entries (l ∷ ls)
-      by ih true is f = quitted h entries l (ls ++ ms) is ∙ sym (quitted h entries l ls is)
+      by : (ends_among ls ≡ true → replies s (entries_after_line s entries l) (saves_after_line (file_asked l) saves) (ls ++ ms)
+          ≡ replies s (entries_after_line s entries l) (saves_after_line (file_asked l) saves) ls)
+          → (b : Bool) → ends_session l ≡ b → b || ends_among ls ≡ true → replies s entries saves (l ∷ (ls ++ ms)) ≡ replies s entries saves (l ∷ ls)
+      by ih true is f = quitted entries saves l (ls ++ ms) is ∙ sym (quitted entries saves l ls is)
       by ih false is f =
-          replied h entries l (ls ++ ms) is
-          ∙ ap (λ (t : List ℕ). reply_to h entries l ++ t) (ih f)
-          ∙ sym (replied h entries l ls is)
+          replied entries saves l (ls ++ ms) is
+          ∙ ap (λ (t : List ℕ). reply_to s entries (next_save saves) l ++ t) (ih f)
+          ∙ sym (replied entries saves l ls is)
 
   -- the replies to the first lines are the first of the replies
-  pub replies_front : (entries : List Entry) (ls ms : List (List ℕ)) → (rest : List ℕ) × (replies h entries (ls ++ ms) ≡ replies h entries ls ++ rest)
-  replies_front entries ls ms = by (ends_among ls) refl
+  pub replies_front : (entries : List Entry) (saves : List Bool) (ls ms : List (List ℕ))
+      → (rest : List ℕ) × (replies s entries saves (ls ++ ms) ≡ replies s entries saves ls ++ rest)
+  replies_front entries saves [] ms = (replies s entries saves ms, refl)
+  replies_front entries saves (l ∷ ls) ms =
+      by (replies_front (entries_after_line s entries l) (saves_after_line (file_asked l) saves) ls ms) (ends_session l) refl
     where
-      by : (b : Bool) → ends_among ls ≡ b → (rest : List ℕ) × (replies h entries (ls ++ ms) ≡ replies h entries ls ++ rest)
-      by true e = ([], replies_ended entries ls ms e ∙ sym (append-nil (replies h entries ls)))
-      by false e = (replies h (entries_through h entries ls) ms, replies_append entries ls ms e)
+      by : ((rest : List ℕ) × (replies s (entries_after_line s entries l) (saves_after_line (file_asked l) saves) (ls ++ ms)
+          ≡ replies s (entries_after_line s entries l) (saves_after_line (file_asked l) saves) ls ++ rest))
+          → (b : Bool) → ends_session l ≡ b → (rest : List ℕ) × (replies s entries saves (l ∷ (ls ++ ms)) ≡ replies s entries saves (l ∷ ls) ++ rest)
+      by ih true is = ([], quitted entries saves l (ls ++ ms) is ∙ ap (λ (t : List ℕ). t ++ []) (sym (quitted entries saves l ls is)))
+      by ih false is = (
+        ih.0,
+        replied entries saves l (ls ++ ms) is
+            ∙ ap (λ (t : List ℕ). reply_to s entries (next_save saves) l ++ t) ih.1
+            ∙ sym (append_assoc (reply_to s entries (next_save saves) l)
+            (replies s (entries_after_line s entries l) (saves_after_line (file_asked l) saves) ls) ih.0)
+            ∙ ap (λ (t : List ℕ). t ++ ih.0) (sym (replied entries saves l ls is)),
+      )
 
-  through_append : (entries : List Entry) (ls ms : List (List ℕ)) → entries_through h entries (ls ++ ms) ≡ entries_through h (entries_through h entries ls) ms
-  through_append entries [] ms = refl
-  through_append entries (l ∷ ls) ms = through_append (entries_after_line h entries l) ls ms
+  module _ (start : Start) where
+    -- ---- what one line asks to save, and those after it
 
-  one_reply : (entries : List Entry) (line : List ℕ) → ends_session line ≡ false → replies h entries (line ∷ []) ≡ reply_to h entries line
-  one_reply entries line e = replied h entries line [] e ∙ append-nil (reply_to h entries line)
+    asked_on : (entries : List Entry) (line : List ℕ) (ls : List (List ℕ)) → ends_session line ≡ false
+        → saves_asked s start entries (line ∷ ls)
+        ≡ save_of start entries (file_asked line) ++ saves_asked s start (entries_after_line s entries line) ls
+    asked_on entries line ls e =
+        ap (λ (b : Bool). if b then [] else save_of start entries (file_asked line) ++ saves_asked s start (entries_after_line s entries line) ls) e
 
-  one_on : (line : List ℕ) (b : Bool) → ends_session line ≡ b → ends_among (line ∷ []) ≡ b
-  one_on line true e = ap (λ (c : Bool). c || false) e
-  one_on line false e = ap (λ (c : Bool). c || false) e
+    pub asked_quit : (entries : List Entry) (line : List ℕ) (ls : List (List ℕ)) → ends_session line ≡ true → saves_asked s start entries (line ∷ ls) ≡ []
+    asked_quit entries line ls e =
+        ap (λ (b : Bool). if b then [] else save_of start entries (file_asked line) ++ saves_asked s start (entries_after_line s entries line) ls) e
 
-  -- ---- one line after another
+    pub one_asked : (entries : List Entry) (line : List ℕ) (file : Option (List ℕ)) → ends_session line ≡ false → file_asked line ≡ file
+        → saves_asked s start entries (line ∷ []) ≡ save_of start entries file
+    one_asked entries line file e f =
+        asked_on entries line [] e ∙ append-nil (save_of start entries (file_asked line)) ∙ ap (save_of start entries) f
 
-  pub answered_more : (first : Option (List ℕ)) (old new : Stage) (r : Unit {0}) → Answered h first old → Turned h old (Ok r) new → Answered h first new
-  answered_more first old new r a t =
-      let line : List ℕ = t.1.0 in
-      let hands = t.1.1 in
-      let on = t.1.2 in
-      let before : List (List ℕ) = handed_lines old.progress.lines in
-      let said : replies h first_entries (handed_lines new.progress.lines) ≡ replies h first_entries before ++ t.0 =
-      ap (replies h first_entries) hands ∙ replies_append first_entries before (line ∷ []) a.on
-      ∙ ap (λ (text : List ℕ). replies h first_entries before ++ text) (one_reply (entries_through h first_entries before) line on
-      ∙ ap (λ (es : List Entry). reply_to h es line) (sym a.entries_are) ∙ sym t.1.3) in
-      record {
-        on = subst (λ (ls : List (List ℕ)). ends_among ls ≡ false) (sym hands) (on_append before (line ∷ []) false a.on (one_on line false on));
-        entries_are = t.1.4 ∙ ap (λ (es : List Entry). entries_after_line h es line) a.entries_are
-            ∙ sym (through_append first_entries before (line ∷ [])) ∙ ap (entries_through h first_entries) (sym hands);
-        gave = subst (λ (text : List ℕ). GaveAll first new.given text) (sym said)
-            (gave_more first (replies h first_entries before) t.0 a.gave t.2);
-      }
+    pub asked_append : (entries : List Entry) (ls ms : List (List ℕ)) → ends_among ls ≡ false
+        → saves_asked s start entries (ls ++ ms) ≡ saves_asked s start entries ls ++ saves_asked s start (entries_through s entries ls) ms
+    asked_append entries [] ms e = refl
+    asked_append entries (l ∷ ls) ms e =
+        let both = or_false (ends_session l) (ends_among ls) e in
+        let after : List Entry = entries_after_line s entries l in
+        let first : List Save = save_of start entries (file_asked l) in
+        asked_on entries l (ls ++ ms) both.0
+        ∙ ap (λ (t : List Save). first ++ t) (asked_append after ls ms both.1)
+        ∙ sym (append_assoc first (saves_asked s start after ls) (saves_asked s start (entries_through s after ls) ms))
+        ∙ ap (λ (t : List Save). t ++ saves_asked s start (entries_through s after ls) ms) (sym (asked_on entries l ls both.0))
 
-  -- ---- the end of the dialog
+    pub asked_ended : (entries : List Entry) (ls ms : List (List ℕ)) → ends_among ls ≡ true
+        → saves_asked s start entries (ls ++ ms) ≡ saves_asked s start entries ls
+    asked_ended entries [] ms e = absurd (let x : ⊥ = cc in x)
+    asked_ended entries (l ∷ ls) ms e = by (asked_ended (entries_after_line s entries l) ls ms) (ends_session l) refl e
+      where
+        by : (ends_among ls ≡ true
+            → saves_asked s start (entries_after_line s entries l) (ls ++ ms) ≡ saves_asked s start (entries_after_line s entries l) ls)
+            → (b : Bool) → ends_session l ≡ b → b || ends_among ls ≡ true → saves_asked s start entries (l ∷ (ls ++ ms)) ≡ saves_asked s start entries (l ∷ ls)
+        by ih true is f = asked_quit entries l (ls ++ ms) is ∙ sym (asked_quit entries l ls is)
+        by ih false is f =
+            asked_on entries l (ls ++ ms) is
+            ∙ ap (λ (t : List Save). save_of start entries (file_asked l) ++ t) (ih f)
+            ∙ sym (asked_on entries l ls is)
 
-  abbrev Ends : LinesState → Ending → Option (List ℕ) → Option (List ℕ) → Type 0
-  Ends lines e first given =
-      GaveBy e first given (replies h first_entries (lines_heard lines.ended lines.taken)) × EndedBy e (record { bytes = lines.taken; ended = lines.ended })
+    -- what the first lines ask to save comes first
+    pub asked_front : (entries : List Entry) (ls ms : List (List ℕ))
+        → (rest : List Save) × (saves_asked s start entries (ls ++ ms) ≡ saves_asked s start entries ls ++ rest)
+    asked_front entries ls ms = by (ends_among ls) refl
+      where
+        by : (b : Bool) → ends_among ls ≡ b → (rest : List Save) × (saves_asked s start entries (ls ++ ms) ≡ saves_asked s start entries ls ++ rest)
+        by true e = ([], asked_ended entries ls ms e ∙ sym (append-nil (saves_asked s start entries ls)))
+        by false e = (saves_asked s start (entries_through s entries ls) ms, asked_append entries ls ms e)
 
-  module _ (first : Option (List ℕ)) (old new : Stage) (a : Answered h first old) (c : IsConsistent new.progress.lines) where
-    abbrev reader : LinesState
-    reader = new.progress.lines
+    -- ---- the replies to lines whose saves got their answers, and to those after them
 
-    abbrev heard : List (List ℕ)
-    heard = lines_heard reader.ended reader.taken
+    -- the answers to a line and to those after it
+    record Parted (file : Option (List ℕ)) (saves : List Bool) (later : List Save) : Type 0 where
+      left : length (saves_after_line file saves) ≡ length later
+      after : (more : List Bool) → saves_after_line file (saves ++ more) ≡ saves_after_line file saves ++ more
+      same : (more : List Bool) (entries : List Entry) (line : List ℕ) → file_asked line ≡ file
+          → reply_to s entries (next_save (saves ++ more)) line ≡ reply_to s entries (next_save saves) line
 
-    abbrev rest : List (List ℕ)
-    rest = lines_heard reader.ended (unread reader)
+    pub plainly : (entries : List Entry) (line : List ℕ) (stored : Bool) → file_asked line ≡ None → reply_to s entries stored line ≡ plain_reply s entries line
+    plainly entries line stored e = ap (λ (file : Option (List ℕ)). reply_or_save file stored (plain_reply s entries line)) e
 
-    abbrev before : List (List ℕ)
-    before = handed_lines old.progress.lines
+    parted : (entries : List Entry) (file : Option (List ℕ)) (saves : List Bool) (later : List Save)
+        → length saves ≡ length (save_of start entries file ++ later) → Parted file saves later
+    parted entries None saves later e = record {
+      left = e;
+      after = λ more. refl;
+      same = λ more es line f. plainly es line (next_save (saves ++ more)) f ∙ sym (plainly es line (next_save saves) f);
+    }
+    parted entries (Some file) [] later e = absurd (omega (arith, e))
+    parted entries (Some file) (stored ∷ saves) later e = record {
+      left = let same : length saves ≡ length later = omega (arith, e) in same;
+      after = λ more. refl;
+      same = λ more es line f. refl;
+    }
 
-    abbrev Gave : List ℕ → Type 0
-    Gave text = GaveAll first new.given text
+    module _ (more : List Bool) (ms : List (List ℕ)) where
+      pub replies_append : (entries : List Entry) (saves : List Bool) (ls : List (List ℕ)) → ends_among ls ≡ false
+          → length saves ≡ length (saves_asked s start entries ls)
+          → replies s entries (saves ++ more) (ls ++ ms) ≡ replies s entries saves ls ++ replies s (entries_through s entries ls) more ms
+      replies_append entries saves [] e each = ap (λ (answers : List Bool). replies s entries (answers ++ more) ms) (no_saves saves each)
+      replies_append entries saves (l ∷ ls) e each =
+          let both = or_false (ends_session l) (ends_among ls) e in
+          let after : List Entry = entries_after_line s entries l in
+          let file : Option (List ℕ) = file_asked l in
+          let p = parted entries file saves (saves_asked s start after ls) (each ∙ ap length (asked_on entries l ls both.0)) in
+          let first : List ℕ = reply_to s entries (next_save saves) l in
+          let later : List Bool = saves_after_line file saves in
+          let rest : List ℕ = replies s (entries_through s after ls) more ms in
+          replied entries (saves ++ more) l (ls ++ ms) both.0
+          ∙ ap (λ (t : List ℕ). t ++ replies s after (saves_after_line file (saves ++ more)) (ls ++ ms)) (p.same more entries l refl)
+          ∙ ap (λ (answers : List Bool). first ++ replies s after answers (ls ++ ms)) (p.after more)
+          ∙ ap (λ (t : List ℕ). first ++ t) (replies_append after later ls both.1 p.left)
+          ∙ sym (append_assoc first (replies s after later ls) rest)
+          ∙ ap (λ (t : List ℕ). t ++ rest) (sym (replied entries saves l ls both.0))
 
-    abbrev GaveFront : List ℕ → Type 0
-    GaveFront text = GavePrefix first new.given text
+    -- ---- lines that were answered, and then others
 
-    -- the lines heard are those handed out and more
-    order : heard ≡ handed_lines reader ++ rest
-    order = heard_in_order reader c.handed c.cut
-
-    same_given : new.given ≡ old.given → Gave (replies h first_entries before)
-    same_given e = subst (λ (g : Option (List ℕ)). GaveAll first g (replies h first_entries before)) (sym e) a.gave
-
-    -- no further line
-    none_more : HandsNone old.progress.lines reader → (replies h first_entries heard ≡ replies h first_entries before) × (ends_among heard ≡ false)
-    none_more n =
-        let same : heard ≡ before = n.1 ∙ n.0 in
-        (ap (replies h first_entries) same, ap ends_among same ∙ a.on)
-
-    gave_none : HandsNone old.progress.lines reader → new.given ≡ old.given → Gave (replies h first_entries heard)
-    gave_none n e = subst Gave (sym (none_more n).0) (same_given e)
-
-    -- one more line
-    with_line : (line : List ℕ) → Hands old.progress.lines reader line → heard ≡ before ++ (line ∷ rest)
-    with_line line hands = order ∙ ap (λ (ls : List (List ℕ)). ls ++ rest) hands ∙ append_assoc before (line ∷ []) rest
-
-    quit_ends : (line : List ℕ) → Hands old.progress.lines reader line → ends_session line ≡ true → new.given ≡ old.given
-        → Ends reader ending.Done first new.given
-    quit_ends line hands quit e =
-        let all = with_line line hands in
-        let said : replies h first_entries heard ≡ replies h first_entries before =
-        ap (replies h first_entries) all ∙ replies_append first_entries before (line ∷ rest) a.on
-        ∙ ap (λ (t : List ℕ). replies h first_entries before ++ t) (quitted h (entries_through h first_entries before) line rest quit)
-        ∙ append-nil (replies h first_entries before) in
-        let among : ends_among heard ≡ true = ap ends_among all ∙ on_append before (line ∷ rest) true a.on (ap (λ (b : Bool). b || ends_among rest) quit) in
-        (subst Gave (sym said) (same_given e), inr among)
-
-    screen_ends : (reply : List ℕ) → NextReply h old.progress (Ok reply) new.progress → GavePrefix old.given new.given reply
-        → GaveFront (replies h first_entries heard)
-    screen_ends reply n g =
-        let line = n.0 in
-        let after : List Entry = entries_through h first_entries before in
-        let more : List ℕ = replies h (entries_after_line h after line) rest in
-        let said : replies h first_entries heard ≡ replies h first_entries before ++ (reply ++ more) =
-        ap (replies h first_entries) (with_line line n.1) ∙ replies_append first_entries before (line ∷ rest) a.on
-        ∙ ap (λ (t : List ℕ). replies h first_entries before ++ t) (replied h after line rest n.2
-        ∙ ap (λ (t : List ℕ). t ++ more) (ap (λ (es : List Entry). reply_to h es line) (sym a.entries_are) ∙ sym n.3)) in
-        subst GaveFront (sym said)
-        (gave_prefix_after first (replies h first_entries before) a.gave
-        (gave_prefix_before old.given new.given reply more g))
-
-    memory_ends : (more : List (List ℕ)) → handed_lines reader ≡ before ++ more → new.given ≡ old.given → GaveFront (replies h first_entries heard)
-    memory_ends more hands e =
-        let all : heard ≡ before ++ (more ++ rest) = order ∙ ap (λ (ls : List (List ℕ)). ls ++ rest) hands ∙ append_assoc before more rest in
-        let front = replies_front first_entries before (more ++ rest) in
-        subst GaveFront (sym (ap (replies h first_entries) all ∙ front.1))
-        (gave_prefix_before first new.given (replies h first_entries before) front.0 (gave_prefix_whole first new.given (replies h first_entries before)
-        (same_given e)))
-
-    pub talk_ends : (e : Ending) → Turned h old (Err e) new → Ends reader e first new.given
-    talk_ends ending.Done (inl quit, e) = quit_ends quit.0 quit.1 quit.2 e
-    talk_ends ending.Done (inr end, e) = (gave_none end.1 e, inl end.0)
-    talk_ends ending.Console (n, e) = (gave_none n.1 e, (n.0, (none_more n.1).1, n.2))
-    talk_ends ending.Spent (n, e) = (gave_none n.1 e, (n.0, (none_more n.1).1, n.2))
-    talk_ends ending.Screen (reply, n, g) = (screen_ends reply n g, tt)
-    talk_ends ending.Memory (n, e) = (memory_ends n.0 n.1 e, tt)
-
--- what was heard while a reader that had taken nothing took these bytes
-pub heard_of : (taken : List ℕ) (new : LinesState) (left left' : Option (List ℕ)) → taken ≡ [] → Moves taken new.taken left left' → IsConsistent new
-    → (IsTrue new.ended → IsAtEnd left') → IsHeard left left' (record { bytes = new.taken; ended = new.ended })
-heard_of taken new left left' none m c at_end = record {
-  took = subst (λ (bytes : List ℕ). TookAll left left' bytes) (sym (m.grown ∙ ap (λ (bytes : List ℕ). bytes ++ m.more) none)) m.took;
-  within = c.taken;
-  room = c.seen;
-  at_end = at_end;
-}
-
--- ---- a session
-
--- nothing was heard
-abbrev pub nothing : Heard
-nothing = record { bytes = []; ended = false }
-
-pub heard_nothing : (left : Option (List ℕ)) → IsHeard left left nothing
-heard_nothing left = record {
-  took = took_nothing left;
-  within = omega arith;
-  room = λ e. absurd (let x : ⊥ = cc in x);
-  at_end = λ e. absurd (let x : ⊥ = cc in x);
-}
-
-pub nothing_is_prefix : (given given' : Option (List ℕ)) (text : List ℕ) → given' ≡ given → GavePrefix given given' text
-nothing_is_prefix given given' text e = gave_prefix_before given given' [] text (gave_prefix_whole given given' [] (e ∙ gave_nothing given))
-
--- a session that ended before anything was heard or given
-pub ended_at_once : (h : Subject) (left given : Option (List ℕ))
-    → (x : Heard) × IsHeard left left x × GaveBy ending.Memory given given (said h (lines_in x)) × EndedBy ending.Memory x
-ended_at_once h left given = (nothing, heard_nothing left, nothing_is_prefix given given (said h (lines_in nothing)) refl, tt)
-
--- what a dialog gave after the opening
-pub gave_after_opening : (e : Ending) (k0 k1 k2 : Option (List ℕ)) (a b : List ℕ) → GaveAll k0 k1 a → GaveBy e k1 k2 b → GaveBy e k0 k2 (a ++ b)
-gave_after_opening ending.Done k0 k1 k2 a b f g = gave_more k0 a b f g
-gave_after_opening ending.Console k0 k1 k2 a b f g = gave_more k0 a b f g
-gave_after_opening ending.Spent k0 k1 k2 a b f g = gave_more k0 a b f g
-gave_after_opening ending.Screen k0 k1 k2 a b f g = gave_prefix_after k0 a f g
-gave_after_opening ending.Memory k0 k1 k2 a b f g = gave_prefix_after k0 a f g
+    pub passes_more : {old between new : Moment} (talk more : Talk) → Passes s start old talk between → Passes s start between more new
+        → Passes s start old (record { lines = talk.lines ++ more.lines; saves = talk.saves ++ more.saves }) new
+    passes_more {old} {between} {new} talk more p q =
+        let through : List Entry = entries_through s old.entries talk.lines in
+        let asked : List Save = saves_asked s start old.entries talk.lines in
+        let others : List Save = saves_asked s start through more.lines in
+        let all : saves_asked s start old.entries (talk.lines ++ more.lines) ≡ asked ++ others = asked_append old.entries talk.lines more.lines p.on in
+        let same : saves_asked s start between.entries more.lines ≡ others =
+        ap (λ (es : List Entry). saves_asked s start es more.lines) p.entries_are in
+        record {
+          on = on_append talk.lines more.lines false p.on q.on;
+          entries_are = q.entries_are ∙ ap (λ (es : List Entry). entries_through s es more.lines) p.entries_are
+              ∙ sym (through_append old.entries talk.lines more.lines);
+          answered =
+              let both : length (talk.saves ++ more.saves) ≡ length asked + length others =
+              omega (arith, length-append talk.saves more.saves, p.answered, q.answered, ap length same) in
+              both ∙ sym (length-append asked others) ∙ ap length (sym all);
+          files_are =
+              let first : Stored talk.saves asked old.files between.files = record { files_are = p.files_are } in
+              let next : Stored more.saves others between.files new.files =
+              record { files_are = subst (λ (saved : List Save). FilesAfter more.saves saved between.files new.files) same q.files_are } in
+              subst (λ (saved : List Save). FilesAfter (talk.saves ++ more.saves) saved old.files new.files) (sym all)
+              (files_append p.answered first next).files_are;
+          counts_are = q.counts_are ∙ ap (counts_saved more.saves) p.counts_are ∙ sym (counts_append talk.saves more.saves old.counts);
+        }

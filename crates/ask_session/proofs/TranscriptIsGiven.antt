@@ -1,25 +1,33 @@
--- Where the console tells its bytes: what the screen got, and how the dialog ended.
-use Rattle.std.proofs.Common.{◌≡◌, ◌⊎◌, inl, inr, ℕ, ◌+◌, ◌-◌, Bool, true, false, IsTrue, List, [], ◌++◌, Option, Some, length, take, refl}
+-- Where the console tells its bytes: what the screen got, what became of the keeper, and how the session ended.
+use Rattle.std.proofs.Common.{◌≡◌, ◌⊎◌, ◌≤◌, inl, inr, ℕ, ◌+◌, ◌-◌, Bool, true, false, IsTrue, List, [], ◌++◌, Option, Some, None, IsSome, length, take, refl}
 use Rattle.std.proofs.Common.{sym, ap, subst, ◌∙◌, arith, append_assoc}
 use Rattle.std.specs.Io.KnownBytes.{IsAtEnd}
 use Rattle.std.proofs.lemmas.List.{append-nil, take_at, length-append}
 use Rattle.std.proofs.Math.Seq.{take-append-add}
 use Rattle.edge_ports.specs.Limits.{console_bytes}
 use Rattle.edge_ports.specs.Counts.{Counted}
+use Rattle.edge_ports.specs.Files.{FileMap}
 use Rattle.edge_ports.specs.Told.{GaveAll, GavePrefix}
 use Rattle.edge_ports.specs.Lines.{lines_of, whole_lines, lines_heard}
 use Rattle.edge_ports.proofs.PiecesAddUp.{gave_prefix_before, gave_prefix_whole}
 use Rattle.edge_ports.proofs.SameBytesCome.{told_still}
 use Rattle.edge_ports.proofs.HandedLinesAreHeard.{heard_longer}
-use Rattle.answer_book.specs.Entries.{first_entries}
 use Rattle.dialog_replies.specs.Replies.{opening}
 use Rattle.dialog_replies.specs.Subject.{Subject}
+use Rattle.session_book.specs.declared.misfits.Misfit.{Misfit}
+use Rattle.session_book.specs.declared.start.Start.{Start}
+use Rattle.session_book.specs.Fit.{misfit}
+use Rattle.session_book.specs.Lines.{misfit_line}
+use Rattle.session_book.specs.Start.{entries_at_start}
 use Rattle.ask_session.specs.declared.dialog.Ending.{Ending}
 use Rattle.ask_session.specs.declared.dialog.Ending.TheVariants as ending
-use Rattle.ask_session.specs.Console.{EndsInTime, GaveOf, GoesOn, NotRisen}
-use Rattle.ask_session.specs.Dialog.{said, transcript, replies, ends_among}
-use Rattle.ask_session.specs.Heard.{Heard, lines_in, IsHeard, EndedBy, GaveBy, is_console, is_screen}
-use Rattle.ask_session.proofs.RepliesInOrder.{replies_ended, replies_front, ended_append}
+use Rattle.ask_session.specs.Console.{EndsInTime, FirstAnswered, GaveOf, GoesOn, NotRisen}
+use Rattle.ask_session.specs.Dialog.{said, said_unless, transcript, replies, ends_among}
+use Rattle.ask_session.specs.Heard.{Heard, lines_in, IsHeard, EndedBy, GaveBy, RefusedBy, is_console, is_screen}
+use Rattle.ask_session.specs.Outside.{Outside}
+use Rattle.ask_session.specs.Saves.{AreAnswered, FilesAfter, Save, saves_in}
+use Rattle.ask_session.specs.Went.{Went}
+use Rattle.ask_session.proofs.RepliesInOrder.{Stored, asked_ended, asked_front, files_longer, replies_ended, replies_front, ended_append}
 
 -- how a session ended, and the counts of its console and its screen before and after it
 pub record Closed (e : Ending) (console console' screen screen' : ℕ) : Type 0 where
@@ -28,112 +36,217 @@ pub record Closed (e : Ending) (console console' screen screen' : ℕ) : Type 0 
   pub screen_counted : Counted (is_screen e) screen screen'
   pub screen_stayed : NotRisen screen screen'
 
-module _ (s : Subject) (left left' : Option (List ℕ)) (bytes : List ℕ) (told : left ≡ Some bytes) where
-  -- the bytes heard are the first of those told
-  abbrev Front : Heard → Type 0
-  Front x = (rest : List ℕ) × (left' ≡ Some rest) × (bytes ≡ x.bytes ++ rest)
+-- ---- what is said of more lines
 
-  front : (x : Heard) → IsHeard left left' x → Front x
-  front x h = told_still left left' x.bytes bytes h.took told
+said_longer : (m : Option Misfit) (text more rest : List ℕ) → more ≡ text ++ rest → (back : List ℕ) × (said_unless m more ≡ said_unless m text ++ back)
+said_longer (Some why) text more rest e = ([], sym (append-nil (misfit_line why)))
+said_longer None text more rest e = (rest, e)
 
-  none_after : (x : Heard) → IsHeard left left' x → IsTrue x.ended → bytes ≡ x.bytes
-  none_after x h ended =
-      let k = front x h in
-      let none : k.0 ≡ [] = subst IsAtEnd k.1 (h.at_end ended) in
-      k.2 ∙ ap (λ (r : List ℕ). x.bytes ++ r) none ∙ append-nil x.bytes
+said_refused : (m : Option Misfit) (text more : List ℕ) → IsSome m → said_unless m more ≡ said_unless m text
+said_refused (Some why) text more some = refl
+said_refused None text more some = absurd (let x : ⊥ = cc in x)
 
-  -- the lines heard are the first of all lines
-  first_lines : (x : Heard) (h : IsHeard left left' x) (b : Bool) → x.ended ≡ b → (rest : List (List ℕ)) × (lines_of bytes ≡ lines_in x ++ rest)
-  first_lines x h true e = ([], ap lines_of (none_after x h e) ∙ sym (ap (λ (b : Bool). lines_heard b x.bytes) e) ∙ sym (append-nil (lines_in x)))
-  first_lines x h false e =
-      let k = front x h in
-      let l = heard_longer true x.bytes k.0 in
-      (l.0, ap lines_of k.2 ∙ l.1 ∙ ap (λ (b : Bool). lines_heard b x.bytes ++ l.0) (sym e))
+none_is_some : {m : Option Misfit} → m ≡ None → IsSome m → ⊥
+none_is_some {m} none some = is_none (subst IsSome none some)
+  where
+    is_none : IsSome {T = Misfit} None → ⊥
+    is_none e = let x : ⊥ = cc in x
 
-  -- what was said is a first part of the transcript, and all of it where the dialog was answered to its end
-  pub said_first : (x : Heard) → IsHeard left left' x → (rest : List ℕ) × (transcript s bytes ≡ said s (lines_in x) ++ rest)
-  said_first x h =
-      let lines = first_lines x h x.ended refl in
-      let r = replies_front s first_entries (lines_in x) lines.0 in (
-        r.0,
-        ap (said s) lines.1
-            ∙ ap (λ (text : List ℕ). opening s ++ text) r.1
-            ∙ sym (append_assoc (opening s) (replies s first_entries (lines_in x)) r.0),
-      )
+answered_few : (e : Ending) (saves : List Bool) (asked : List Save) → AreAnswered e saves asked → length saves ≤ length asked
+answered_few ending.Done saves asked a = omega (arith, a)
+answered_few ending.Console saves asked a = omega (arith, a)
+answered_few ending.Spent saves asked a = omega (arith, a)
+answered_few ending.Refused saves asked a = omega (arith, a)
+answered_few ending.Screen saves asked a = a
+answered_few ending.Memory saves asked a = a
 
-  pub said_all : (x : Heard) → IsHeard left left' x → EndedBy ending.Done x → transcript s bytes ≡ said s (lines_in x)
-  said_all x h (inl ended) =
-      ap (said s) (ap lines_of (none_after x h ended) ∙ sym (ap (λ (b : Bool). lines_heard b x.bytes) ended))
-  said_all x h (inr quit) =
-      let lines = first_lines x h x.ended refl in
-      ap (said s) lines.1
-      ∙ ap (λ (text : List ℕ). opening s ++ text) (replies_ended s first_entries (lines_in x) lines.0 quit)
+module _ (s : Subject) (start : Start) where
+  abbrev said_of : List Bool → List (List ℕ) → List ℕ
+  said_of saves lines = opening s (entries_at_start start) ++ replies s (entries_at_start start) saves lines
 
-  -- ---- what was given
+  -- what is said of the first lines is the first part of what is said
+  said_front : (saves : List Bool) (ls ms : List (List ℕ)) → (back : List ℕ) × (said s start saves (ls ++ ms) ≡ said s start saves ls ++ back)
+  said_front saves ls ms =
+      let r = replies_front s (entries_at_start start) saves ls ms in
+      said_longer (misfit s start) (said_of saves ls) (said_of saves (ls ++ ms)) r.0
+      (ap (λ (text : List ℕ). opening s (entries_at_start start) ++ text) r.1
+      ∙ sym (append_assoc (opening s (entries_at_start start)) (replies s (entries_at_start start) saves ls) r.0))
 
-  module _ (given given' : Option (List ℕ)) where
-    part_of : (x : Heard) → IsHeard left left' x → GavePrefix given given' (said s (lines_in x)) → GavePrefix given given' (transcript s bytes)
-    part_of x h g =
-        let r = said_first x h in
-        subst (λ (text : List ℕ). GavePrefix given given' text) (sym r.1) (gave_prefix_before given given' (said s (lines_in x)) r.0 g)
+  -- and all of it, where one of them ends the session
+  said_ended : (saves : List Bool) (ls ms : List (List ℕ)) → ends_among ls ≡ true → said s start saves (ls ++ ms) ≡ said s start saves ls
+  said_ended saves ls ms e =
+      ap (λ (text : List ℕ). said_unless (misfit s start) (opening s (entries_at_start start) ++ text)) (replies_ended s (entries_at_start start) saves ls ms e)
 
-    whole_part : (x : Heard) → IsHeard left left' x → GaveAll given given' (said s (lines_in x)) → GavePrefix given given' (transcript s bytes)
-    whole_part x h g = part_of x h (gave_prefix_whole given given' (said s (lines_in x)) g)
+  module _ (left left' : Option (List ℕ)) (bytes : List ℕ) (told : left ≡ Some bytes) where
+    -- the bytes heard are the first of those told
+    abbrev Front : Heard → Type 0
+    Front x = (rest : List ℕ) × (left' ≡ Some rest) × (bytes ≡ x.bytes ++ rest)
 
-    pub transcript_given : (e : Ending) (x : Heard) → IsHeard left left' x → GaveBy e given given' (said s (lines_in x)) → EndedBy e x
-        → GaveOf e given given' (transcript s bytes)
-    transcript_given ending.Done x h g w = subst (λ (text : List ℕ). GaveAll given given' text) (sym (said_all x h w)) g
-    transcript_given ending.Console x h g w = whole_part x h g
-    transcript_given ending.Screen x h g w = part_of x h g
-    transcript_given ending.Spent x h g w = whole_part x h g
-    transcript_given ending.Memory x h g w = part_of x h g
+    front : (x : Heard) → IsHeard left left' x → Front x
+    front x h = told_still left left' x.bytes bytes h.took told
 
-  -- ---- how it ended
+    none_after : (x : Heard) → IsHeard left left' x → IsTrue x.ended → bytes ≡ x.bytes
+    none_after x h ended =
+        let k = front x h in
+        let none : k.0 ≡ [] = subst IsAtEnd k.1 (h.at_end ended) in
+        k.2 ∙ ap (λ (r : List ℕ). x.bytes ++ r) none ∙ append-nil x.bytes
 
-  pub not_spent : (x : Heard) → IsHeard left left' x → EndedBy ending.Spent x → EndsInTime bytes → ⊥
-  not_spent x h w (inl less) = let k = front x h in omega (arith, ap length k.2, length-append x.bytes k.0, w.2)
-  not_spent x h w (inr quit) =
-      let k = front x h in
-      let same : take console_bytes bytes ≡ x.bytes = ap (take console_bytes) k.2 ∙ take_at x.bytes k.0 console_bytes w.2 in
-      let lines : lines_in x ≡ whole_lines (take console_bytes bytes) = ap (λ (b : Bool). lines_heard b x.bytes) w.0 ∙ sym (ap whole_lines same) in
-      let both : true ≡ false = sym quit ∙ ap ends_among (sym lines) ∙ w.1 in
-      let x : ⊥ = cc in x
+    -- the lines heard are the first of all lines
+    first_lines : (x : Heard) (h : IsHeard left left' x) (b : Bool) → x.ended ≡ b → (rest : List (List ℕ)) × (lines_of bytes ≡ lines_in x ++ rest)
+    first_lines x h true e = ([], ap lines_of (none_after x h e) ∙ sym (ap (λ (b : Bool). lines_heard b x.bytes) e) ∙ sym (append-nil (lines_in x)))
+    first_lines x h false e =
+        let k = front x h in
+        let l = heard_longer true x.bytes k.0 in
+        (l.0, ap lines_of k.2 ∙ l.1 ∙ ap (λ (b : Bool). lines_heard b x.bytes ++ l.0) (sym e))
 
-  pub not_done : (x : Heard) → IsHeard left left' x → EndedBy ending.Done x → GoesOn bytes → ⊥
-  not_done x h w on = by w x.ended refl
-    where
-      ended_not : IsTrue x.ended → ⊥
-      ended_not e = let room = h.room e in omega (arith, ap length (none_after x h e), room, on.0)
+    -- where the dialog is done, what is said and saved of them is that of all lines
+    record AsAll (x : Heard) : Type 0 where
+      text : (saves : List Bool) → transcript s start saves bytes ≡ said s start saves (lines_in x)
+      asked : saves_in s start (lines_of bytes) ≡ saves_in s start (lines_in x)
 
-      by : EndedBy ending.Done x → (b : Bool) → x.ended ≡ b → ⊥
-      by (inl ended) b e = ended_not ended
-      by (inr quit) true e = ended_not e
-      by (inr quit) false e =
-          let k = front x h in
-          let n : ℕ = console_bytes - length x.bytes in
-          let reach : take console_bytes bytes ≡ x.bytes ++ take n k.0 =
-          ap (take console_bytes) k.2
-          ∙ ap (λ (m : ℕ). take m (x.bytes ++ k.0)) (let e : console_bytes ≡ length x.bytes + n = omega (arith, h.within) in e)
-          ∙ take-append-add x.bytes k.0 n in
-          let l = heard_longer false x.bytes (take n k.0) in
-          let quit' : ends_among (whole_lines x.bytes) ≡ true = ap (λ (b : Bool). ends_among (lines_heard b x.bytes)) (sym e) ∙ quit in
-          let both : true ≡ false =
-          sym (ended_append (whole_lines x.bytes) l.0 quit') ∙ ap ends_among (sym l.1)
-          ∙ ap (λ (taken : List ℕ). ends_among (whole_lines taken)) (sym reach) ∙ on.1 in
-          let x : ⊥ = cc in x
+    as_all : (x : Heard) → IsHeard left left' x → EndedBy ending.Done x → AsAll x
+    as_all x h (inl ended) =
+        let same : lines_of bytes ≡ lines_in x = ap lines_of (none_after x h ended) ∙ sym (ap (λ (b : Bool). lines_heard b x.bytes) ended) in
+        record { text = λ saves. ap (said s start saves) same; asked = ap (saves_in s start) same }
+    as_all x h (inr quit) =
+        let lines = first_lines x h x.ended refl in
+        record {
+          text = λ saves. ap (said s start saves) lines.1 ∙ said_ended saves (lines_in x) lines.0 quit;
+          asked = ap (saves_in s start) lines.1 ∙ asked_ended s start (entries_at_start start) (lines_in x) lines.0 quit;
+        }
 
-  pub done_or_memory : {console console' screen screen' : ℕ} (e : Ending) (x : Heard) → IsHeard left left' x → EndedBy e x
-      → Closed e console console' screen screen' → EndsInTime bytes → (e ≡ ending.Done) ⊎ (e ≡ ending.Memory)
-  done_or_memory ending.Done x h w c ends = inl refl
-  done_or_memory ending.Console x h w c ends = absurd (c.console_stayed c.console_counted)
-  done_or_memory ending.Screen x h w c ends = absurd (c.screen_stayed c.screen_counted)
-  done_or_memory ending.Spent x h w c ends = absurd (not_spent x h w ends)
-  done_or_memory ending.Memory x h w c ends = inr refl
+    -- ---- what was given and saved
 
-  pub spent_or_memory : {console console' screen screen' : ℕ} (e : Ending) (x : Heard) → IsHeard left left' x → EndedBy e x
-      → Closed e console console' screen screen' → GoesOn bytes → (e ≡ ending.Spent) ⊎ (e ≡ ending.Memory)
-  spent_or_memory ending.Done x h w c on = absurd (not_done x h w on)
-  spent_or_memory ending.Console x h w c on = absurd (c.console_stayed c.console_counted)
-  spent_or_memory ending.Screen x h w c on = absurd (c.screen_stayed c.screen_counted)
-  spent_or_memory ending.Spent x h w c on = inl refl
-  spent_or_memory ending.Memory x h w c on = inr refl
+    more_asked : (x : Heard) → IsHeard left left' x → (rest : List Save) × (saves_in s start (lines_of bytes) ≡ saves_in s start (lines_in x) ++ rest)
+    more_asked x h =
+        let lines = first_lines x h x.ended refl in
+        let more = asked_front s start (entries_at_start start) (lines_in x) lines.0 in
+        (more.0, ap (saves_in s start) lines.1 ∙ more.1)
+
+    files_told : {before after : Option FileMap} (saves : List Bool) (x : Heard) → IsHeard left left' x → length saves ≤ length (saves_in s start (lines_in x))
+        → Stored saves (saves_in s start (lines_in x)) before after → Stored saves (saves_in s start (lines_of bytes)) before after
+    files_told {before} {after} saves x h few stored =
+        let more = more_asked x h in
+        subst (λ (asked : List Save). Stored saves asked before after) (sym more.1) (files_longer more.0 few stored)
+
+    first_few : (saves : List Bool) (x : Heard) → IsHeard left left' x → length saves ≤ length (saves_in s start (lines_in x))
+        → length saves ≤ length (saves_in s start (lines_of bytes))
+    first_few saves x h few =
+        let more = more_asked x h in omega (arith, few, ap length more.1, length-append (saves_in s start (lines_in x)) more.0)
+
+    pub first_answered : (e : Ending) (saves : List Bool) (x : Heard) → IsHeard left left' x → EndedBy e x × AreAnswered e saves (saves_in s start (lines_in x))
+        → FirstAnswered e saves (saves_in s start (lines_of bytes))
+    first_answered ending.Done saves x h a = a.1 ∙ ap length (sym (as_all x h a.0).asked)
+    first_answered ending.Console saves x h a = first_few saves x h (answered_few ending.Console saves (saves_in s start (lines_in x)) a.1)
+    first_answered ending.Spent saves x h a = first_few saves x h (answered_few ending.Spent saves (saves_in s start (lines_in x)) a.1)
+    first_answered ending.Refused saves x h a = first_few saves x h (answered_few ending.Refused saves (saves_in s start (lines_in x)) a.1)
+    first_answered ending.Screen saves x h a = first_few saves x h a.1
+    first_answered ending.Memory saves x h a = first_few saves x h a.1
+
+    module _ (given given' : Option (List ℕ)) (saves : List Bool) (x : Heard) (h : IsHeard left left' x) where
+      part_of : GavePrefix given given' (said s start saves (lines_in x)) → GavePrefix given given' (transcript s start saves bytes)
+      part_of g =
+          let lines = first_lines x h x.ended refl in
+          let r = said_front saves (lines_in x) lines.0 in
+          subst (λ (text : List ℕ). GavePrefix given given' text) (sym (ap (said s start saves) lines.1 ∙ r.1))
+          (gave_prefix_before given given' (said s start saves (lines_in x)) r.0 g)
+
+      whole_part : GaveAll given given' (said s start saves (lines_in x)) → GavePrefix given given' (transcript s start saves bytes)
+      whole_part g = part_of (gave_prefix_whole given given' (said s start saves (lines_in x)) g)
+
+      pub transcript_given : (e : Ending) → GaveBy e given given' (said s start saves (lines_in x)) → EndedBy e x → RefusedBy e (misfit s start)
+          → GaveOf e given given' (transcript s start saves bytes)
+      transcript_given ending.Done g w r = subst (λ (text : List ℕ). GaveAll given given' text) (sym ((as_all x h w).text saves)) g
+      transcript_given ending.Console g w r = whole_part g
+      transcript_given ending.Screen g w r = part_of g
+      transcript_given ending.Spent g w r = whole_part g
+      transcript_given ending.Memory g w r = part_of g
+      transcript_given ending.Refused g w r = subst (λ (text : List ℕ). GaveAll given given' text)
+          (said_refused (misfit s start) (said_of saves (lines_of bytes)) (said_of saves (lines_in x)) r) g
+
+    -- what the contract says where the console tells its bytes
+    pub told_so : (before after : Outside) (e : Ending) (w : Went s start before e after) → IsHeard left left' w.heard
+        → FirstAnswered e w.saves (saves_in s start (lines_of bytes))
+        × GaveOf e before.streams.given after.streams.given (transcript s start w.saves bytes)
+        × FilesAfter w.saves (saves_in s start (lines_of bytes)) before.files after.files
+    told_so before after e w h =
+        let stored : Stored w.saves (saves_in s start (lines_in w.heard)) before.files after.files = record { files_are = w.files } in (
+          first_answered e w.saves w.heard h (w.ended, w.answered),
+          transcript_given before.streams.given after.streams.given w.saves w.heard h e w.gave w.ended w.refused,
+          (files_told w.saves w.heard h (answered_few e w.saves (saves_in s start (lines_in w.heard)) w.answered) stored).files_are,
+        )
+
+    -- ---- how it ended
+
+    not_spent : (x : Heard) → IsHeard left left' x → EndedBy ending.Spent x → EndsInTime bytes → ⊥
+    not_spent x h w (inl less) = let k = front x h in omega (arith, ap length k.2, length-append x.bytes k.0, w.2)
+    not_spent x h w (inr quit) =
+        let k = front x h in
+        let same : take console_bytes bytes ≡ x.bytes = ap (take console_bytes) k.2 ∙ take_at x.bytes k.0 console_bytes w.2 in
+        let lines : lines_in x ≡ whole_lines (take console_bytes bytes) = ap (λ (b : Bool). lines_heard b x.bytes) w.0 ∙ sym (ap whole_lines same) in
+        let both : true ≡ false = sym quit ∙ ap ends_among (sym lines) ∙ w.1 in
+        let x : ⊥ = cc in x
+
+    not_done : (x : Heard) → IsHeard left left' x → EndedBy ending.Done x → GoesOn bytes → ⊥
+    not_done x h w on = by w x.ended refl
+      where
+        ended_not : IsTrue x.ended → ⊥
+        ended_not e = let room = h.room e in omega (arith, ap length (none_after x h e), room, on.0)
+
+        by : EndedBy ending.Done x → (b : Bool) → x.ended ≡ b → ⊥
+        by (inl ended) b e = ended_not ended
+        by (inr quit) true e = ended_not e
+        by (inr quit) false e =
+            let k = front x h in
+            let n : ℕ = console_bytes - length x.bytes in
+            let reach : take console_bytes bytes ≡ x.bytes ++ take n k.0 =
+            ap (take console_bytes) k.2
+            ∙ ap (λ (m : ℕ). take m (x.bytes ++ k.0)) (let e : console_bytes ≡ length x.bytes + n = omega (arith, h.within) in e)
+            ∙ take-append-add x.bytes k.0 n in
+            let l = heard_longer false x.bytes (take n k.0) in
+            let quit' : ends_among (whole_lines x.bytes) ≡ true = ap (λ (b : Bool). ends_among (lines_heard b x.bytes)) (sym e) ∙ quit in
+            let both : true ≡ false =
+            sym (ended_append (whole_lines x.bytes) l.0 quit') ∙ ap ends_among (sym l.1)
+            ∙ ap (λ (taken : List ℕ). ends_among (whole_lines taken)) (sym reach) ∙ on.1 in
+            let x : ⊥ = cc in x
+
+    -- why a session ended, where the saved session fits
+    pub record Cause (e : Ending) : Type 0 where
+      pub heard : Heard
+      pub is_heard : IsHeard left left' heard
+      pub ended : EndedBy e heard
+      pub refused : RefusedBy e (misfit s start)
+      pub fits : misfit s start ≡ None
+
+    pub done_or_memory : {console console' screen screen' : ℕ} (e : Ending) → Cause e → Closed e console console' screen screen' → EndsInTime bytes
+        → (e ≡ ending.Done) ⊎ (e ≡ ending.Memory)
+    done_or_memory ending.Done w c ends = inl refl
+    done_or_memory ending.Console w c ends = absurd (c.console_stayed c.console_counted)
+    done_or_memory ending.Screen w c ends = absurd (c.screen_stayed c.screen_counted)
+    done_or_memory ending.Spent w c ends = absurd (not_spent w.heard w.is_heard w.ended ends)
+    done_or_memory ending.Refused w c ends = absurd (none_is_some w.fits w.refused)
+    done_or_memory ending.Memory w c ends = inr refl
+
+    pub spent_or_memory : {console console' screen screen' : ℕ} (e : Ending) → Cause e → Closed e console console' screen screen' → GoesOn bytes
+        → (e ≡ ending.Spent) ⊎ (e ≡ ending.Memory)
+    spent_or_memory ending.Done w c on = absurd (not_done w.heard w.is_heard w.ended on)
+    spent_or_memory ending.Console w c on = absurd (c.console_stayed c.console_counted)
+    spent_or_memory ending.Screen w c on = absurd (c.screen_stayed c.screen_counted)
+    spent_or_memory ending.Spent w c on = inl refl
+    spent_or_memory ending.Refused w c on = absurd (none_is_some w.fits w.refused)
+    spent_or_memory ending.Memory w c on = inr refl
+
+-- the screen's count did not rise
+pub record ScreenStayed (e : Ending) (screen screen' : ℕ) : Type 0 where
+  pub counted : Counted (is_screen e) screen screen'
+  pub stayed : NotRisen screen screen'
+
+-- a session that does not fit is refused, unless the screen fails or memory runs out
+pub refused_or_memory : {screen screen' : ℕ} (e : Ending) (m : Option Misfit) → RefusedBy e m → IsSome m
+    → ScreenStayed e screen screen' → (e ≡ ending.Refused) ⊎ (e ≡ ending.Memory)
+refused_or_memory ending.Done m r some c = absurd (none_is_some r some)
+refused_or_memory ending.Console m r some c = absurd (none_is_some r some)
+refused_or_memory ending.Spent m r some c = absurd (none_is_some r some)
+refused_or_memory ending.Refused m r some c = inl refl
+refused_or_memory ending.Screen m r some c = absurd (c.stayed c.counted)
+refused_or_memory ending.Memory m r some c = inr refl

@@ -1,5 +1,5 @@
 -- What may be known of a console before the dialog begins, and what the screen gets then.
-use Rattle.std.specs.Prelude.{◌≡◌, ◌⊎◌, ◌<◌, ◌≤◌, ℕ, false, IsTrue, List, Option, length, take}
+use Rattle.std.specs.Prelude.{◌≡◌, ◌⊎◌, ◌<◌, ◌≤◌, ℕ, Bool, false, IsTrue, List, Option, length, take}
 use Rattle.edge_ports.specs.Counts.{Rose}
 use Rattle.edge_ports.specs.Lines.{whole_lines}
 use Rattle.edge_ports.specs.Limits.{console_bytes}
@@ -7,6 +7,7 @@ use Rattle.edge_ports.specs.Told.{GaveAll, GavePrefix}
 use Rattle.ask_session.specs.declared.dialog.Ending.{Ending}
 use Rattle.ask_session.specs.declared.dialog.Ending.TheVariants as ending
 use Rattle.ask_session.specs.Dialog.{ends_among}
+use Rattle.ask_session.specs.Saves.{Save}
 
 -- a count did not rise, and does not stand at its last value
 abbrev pub NotRisen : ℕ → ℕ → Type 0
@@ -20,10 +21,20 @@ EndsInTime bytes = (length bytes < console_bytes) ⊎ IsTrue (ends_among (whole_
 abbrev pub GoesOn : List ℕ → Type 0
 GoesOn bytes = (console_bytes ≤ length bytes) × (ends_among (whole_lines (take console_bytes bytes)) ≡ false)
 
--- the whole text was given where the dialog is done, and else a first part of it
+-- the whole text was given where the dialog is done or its session is refused, and else a first part of it
 abbrev pub GaveOf : Ending → Option (List ℕ) → Option (List ℕ) → List ℕ → Type 0
 GaveOf ending.Done given given' text = GaveAll given given' text
 GaveOf ending.Console given given' text = GavePrefix given given' text
 GaveOf ending.Screen given given' text = GavePrefix given given' text
 GaveOf ending.Spent given given' text = GavePrefix given given' text
+GaveOf ending.Refused given given' text = GaveAll given given' text
 GaveOf ending.Memory given given' text = GavePrefix given given' text
+
+-- each of these saves got its answer where the dialog is done, and else the first ones did
+abbrev pub FirstAnswered : Ending → (saves : List Bool) → List Save → Type 0
+FirstAnswered ending.Done saves asked = length saves ≡ length asked
+FirstAnswered ending.Console saves asked = length saves ≤ length asked
+FirstAnswered ending.Screen saves asked = length saves ≤ length asked
+FirstAnswered ending.Spent saves asked = length saves ≤ length asked
+FirstAnswered ending.Refused saves asked = length saves ≤ length asked
+FirstAnswered ending.Memory saves asked = length saves ≤ length asked

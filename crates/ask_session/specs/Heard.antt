@@ -1,9 +1,10 @@
 -- What is heard of a console, and what a dialog gives by how it ends.
-use Rattle.std.specs.Prelude.{◌≡◌, ◌⊎◌, ◌<◌, ◌≤◌, ℕ, Bool, true, false, IsTrue, List, Option, length}
+use Rattle.std.specs.Prelude.{◌≡◌, ◌⊎◌, ◌<◌, ◌≤◌, ℕ, Bool, true, false, IsTrue, List, [], Option, None, length, IsSome}
 use Rattle.std.specs.Io.KnownBytes.{IsAtEnd}
 use Rattle.edge_ports.specs.Limits.{console_bytes}
 use Rattle.edge_ports.specs.Lines.{lines_heard}
 use Rattle.edge_ports.specs.Told.{TookAll, GaveAll, GavePrefix}
+use Rattle.session_book.specs.declared.misfits.Misfit.{Misfit}
 use Rattle.ask_session.specs.declared.dialog.Ending.{Ending}
 use Rattle.ask_session.specs.declared.dialog.Ending.TheVariants as ending
 use Rattle.ask_session.specs.Dialog.{ends_among}
@@ -25,19 +26,30 @@ pub record IsHeard (left left' : Option (List ℕ)) (x : Heard) : Type 0 where
   pub at_end : IsTrue x.ended → IsAtEnd left'
 
 -- why a dialog ended: at the console's end or a line that ends it; or at no such line, with all console_bytes taken
--- where it was spent, and fewer where the console failed
+-- where it was spent, and fewer where the console failed; or before the console was asked
 abbrev pub EndedBy : Ending → Heard → Type 0
 EndedBy ending.Done x = IsTrue x.ended ⊎ IsTrue (ends_among (lines_in x))
 EndedBy ending.Console x = (x.ended ≡ false) × (ends_among (lines_in x) ≡ false) × (length x.bytes < console_bytes)
 EndedBy ending.Spent x = (x.ended ≡ false) × (ends_among (lines_in x) ≡ false) × (length x.bytes ≡ console_bytes)
+EndedBy ending.Refused x = (x.bytes ≡ []) × (x.ended ≡ false)
 EndedBy ending.Screen x = Unit {0}
 EndedBy ending.Memory x = Unit {0}
+
+-- a saved session that does not fit is refused, and no other, unless the screen failed or memory ran out
+abbrev pub RefusedBy : Ending → Option Misfit → Type 0
+RefusedBy ending.Done misfit = misfit ≡ None
+RefusedBy ending.Console misfit = misfit ≡ None
+RefusedBy ending.Spent misfit = misfit ≡ None
+RefusedBy ending.Refused misfit = IsSome misfit
+RefusedBy ending.Screen misfit = Unit {0}
+RefusedBy ending.Memory misfit = Unit {0}
 
 -- a dialog that ended so has given the whole text, or, where the screen failed or memory ran out, a first part of it
 abbrev pub GaveBy : Ending → Option (List ℕ) → Option (List ℕ) → List ℕ → Type 0
 GaveBy ending.Done given given' text = GaveAll given given' text
 GaveBy ending.Console given given' text = GaveAll given given' text
 GaveBy ending.Spent given given' text = GaveAll given given' text
+GaveBy ending.Refused given given' text = GaveAll given given' text
 GaveBy ending.Screen given given' text = GavePrefix given given' text
 GaveBy ending.Memory given given' text = GavePrefix given given' text
 

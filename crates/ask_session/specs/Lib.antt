@@ -1,5 +1,8 @@
 pub mod Dialog
+pub mod Saves
 pub mod Heard
+pub mod Outside
+pub mod Went
 pub mod Console
 pub mod Laws
 pub mod Turned

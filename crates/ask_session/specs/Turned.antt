@@ -1,36 +1,32 @@
--- What the code of the dialog does with one line.
-use Rattle.std.specs.Prelude.{◌≡◌, ◌⊎◌, ◌<◌, ℕ, Bool, true, false, IsTrue, List, [], ◌∷◌, ◌++◌, Option, length}
+-- What the code of the dialog does with one line, and with all of them.
+use Rattle.std.specs.Prelude.{◌≡◌, ◌⊎◌, ◌<◌, ◌≤◌, ℕ, Bool, true, false, IsTrue, List, [], ◌∷◌, ◌++◌, Option, length}
 use Rattle.std.specs.Prelude.{Result, Ok, Err}
+use Rattle.edge_ports.specs.Counts.{KeeperCounts}
+use Rattle.edge_ports.specs.Files.{FileMap}
 use Rattle.edge_ports.specs.Limits.{console_bytes}
 use Rattle.edge_ports.specs.Lines.{LinesState, lines_heard, handed_lines}
 use Rattle.edge_ports.specs.Told.{GaveAll, GavePrefix}
 use Rattle.answer_book.specs.declared.entries.Entry.{Entry}
-use Rattle.answer_book.specs.Entries.{first_entries}
+use Rattle.dialog_replies.specs.Subject.{Subject}
+use Rattle.session_book.specs.declared.start.Start.{Start}
+use Rattle.session_book.specs.Start.{entries_at_start}
 use Rattle.ask_session.specs.declared.dialog.Ending.{Ending}
 use Rattle.ask_session.specs.declared.dialog.Ending.TheVariants as ending
-use Rattle.dialog_replies.specs.Subject.{Subject}
-use Rattle.ask_session.specs.Dialog.{replies, reply_to, entries_after_line}
-use Rattle.ask_session.specs.Dialog.{ends_session, ends_among}
-use Rattle.ask_session.specs.Heard.{is_console, is_screen}
+use Rattle.ask_session.specs.Dialog.{ends_session, ends_among, entries_after_line, next_save, replies, reply_to}
+use Rattle.ask_session.specs.Dialog.{save_reply}
+use Rattle.ask_session.specs.Heard.{Heard, IsHeard, lines_in, EndedBy, GaveBy, is_console, is_screen}
+use Rattle.ask_session.specs.Outside.{Outside}
+use Rattle.ask_session.specs.Saves.{AreAnswered, CountsAfter, FilesAfter, Save, counts_saved, saves_asked, saves_in}
 
--- the reply to a line that is not too long, or that it ends the session
-abbrev pub Answers : Subject → List Entry → List ℕ → Result (List ℕ) Ending → List Entry → Type 0
-Answers h entries line (Ok reply) entries' =
-    (ends_session line ≡ false) × (reply ≡ reply_to h entries line) × (entries' ≡ entries_after_line h entries line)
-Answers h entries line (Err ending.Memory) entries' = Unit {0}
-Answers h entries line (Err ending.Done) entries' = ends_session line ≡ true
-Answers h entries line (Err ending.Console) entries' = ⊥
-Answers h entries line (Err ending.Screen) entries' = ⊥
-Answers h entries line (Err ending.Spent) entries' = ⊥
-
--- the entries after lines none of which ends the session
-abbrev pub entries_through : Subject → List Entry → List (List ℕ) → List Entry
-entries_through h entries [] = entries
-entries_through h entries (line ∷ lines) = entries_through h (entries_after_line h entries line) lines
-
--- how far a dialog has come: the entries, and the reader of the lines
-pub record Progress : Type 0 where
+-- the entries, and the keeper's files and counts, at one moment of a dialog
+pub record Moment : Type 0 where
   pub entries : List Entry
+  pub files : Option FileMap
+  pub counts : KeeperCounts
+
+-- how far a dialog has come: that, and the reader of the lines
+pub record Progress : Type 0 where
+  pub moment : Moment
   pub lines : LinesState
 
 -- how far it has come, and what the screen was given
@@ -38,11 +34,64 @@ pub record Stage : Type 0 where
   pub progress : Progress
   pub given : Option (List ℕ)
 
--- the lines that were handed out were answered, and none of them ends the session; the screen had these bytes at first
-pub record Answered (h : Subject) (first : Option (List ℕ)) (now : Stage) : Type 0 where
-  pub on : ends_among (handed_lines now.progress.lines) ≡ false
-  pub entries_are : now.progress.entries ≡ entries_through h first_entries (handed_lines now.progress.lines)
-  pub gave : GaveAll first now.given (replies h first_entries (handed_lines now.progress.lines))
+-- a moment, and the line that is to be answered then
+pub record LineAt : Type 0 where
+  pub line : List ℕ
+  pub moment : Moment
+
+-- some lines of a console, and of each save that they ask for whether its file was stored
+pub record Talk : Type 0 where
+  pub lines : List (List ℕ)
+  pub saves : List Bool
+
+abbrev pub one_line : List ℕ → List Bool → Talk
+one_line line saves = record { lines = line ∷ []; saves = saves }
+
+-- the entries after lines none of which ends the session
+abbrev pub entries_through : Subject → List Entry → List (List ℕ) → List Entry
+entries_through s entries [] = entries
+entries_through s entries (line ∷ lines) = entries_through s (entries_after_line s entries line) lines
+
+-- these lines were answered, and none of them ends the session
+pub record Passes (s : Subject) (start : Start) (old : Moment) (talk : Talk) (new : Moment) : Type 0 where
+  pub on : ends_among talk.lines ≡ false
+  pub entries_are : new.entries ≡ entries_through s old.entries talk.lines
+  pub answered : length talk.saves ≡ length (saves_asked s start old.entries talk.lines)
+  pub files_are : FilesAfter talk.saves (saves_asked s start old.entries talk.lines) old.files new.files
+  pub counts_are : new.counts ≡ counts_saved talk.saves old.counts
+
+-- memory ran out at this line, after the answer to its save or before
+pub record BreaksOff (s : Subject) (start : Start) (old : Moment) (line : List ℕ) (new : Moment) : Type 0 where
+  pub saves : List Bool
+  pub answered : length saves ≤ length (saves_asked s start old.entries (line ∷ []))
+  pub files_are : FilesAfter saves (saves_asked s start old.entries (line ∷ [])) old.files new.files
+  pub counts_are : CountsAfter ending.Memory saves old.counts new.counts
+
+-- the reply to a save, or that memory ran out
+abbrev pub SaveGoes : Save → Moment → Result (List ℕ) Ending → Moment → Type 0
+SaveGoes save old (Ok reply) new =
+    (stored : Bool) × (reply ≡ save_reply stored save.file)
+    × FilesAfter (stored ∷ []) (save ∷ []) old.files new.files × (new.counts ≡ counts_saved (stored ∷ []) old.counts)
+SaveGoes save old (Err ending.Memory) new =
+    (saves : List Bool) × (length saves ≤ 1) × FilesAfter saves (save ∷ []) old.files new.files
+    × CountsAfter ending.Memory saves old.counts new.counts
+SaveGoes save old (Err ending.Done) new = ⊥
+SaveGoes save old (Err ending.Console) new = ⊥
+SaveGoes save old (Err ending.Screen) new = ⊥
+SaveGoes save old (Err ending.Spent) new = ⊥
+SaveGoes save old (Err ending.Refused) new = ⊥
+
+-- the reply to a line, or that it ends the session
+abbrev pub Answers : Subject → Start → LineAt → Result (List ℕ) Ending → Moment → Type 0
+Answers s start old (Ok reply) new =
+    (saves : List Bool) × Passes s start old.moment (one_line old.line saves) new
+    × (reply ≡ reply_to s old.moment.entries (next_save saves) old.line)
+Answers s start old (Err ending.Memory) new = BreaksOff s start old.moment old.line new
+Answers s start old (Err ending.Done) new = (ends_session old.line ≡ true) × (new ≡ old.moment)
+Answers s start old (Err ending.Console) new = ⊥
+Answers s start old (Err ending.Screen) new = ⊥
+Answers s start old (Err ending.Spent) new = ⊥
+Answers s start old (Err ending.Refused) new = ⊥
 
 -- one more line was handed out
 abbrev pub Hands : LinesState → LinesState → List ℕ → Type 0
@@ -53,33 +102,62 @@ abbrev pub HandsNone : LinesState → LinesState → Type 0
 HandsNone old new = (handed_lines new ≡ handed_lines old) × (lines_heard new.ended new.taken ≡ handed_lines new)
 
 -- the reply to the next line, or how the dialog ends
-abbrev pub NextReply : Subject → Progress → Result (List ℕ) Ending → Progress → Type 0
-NextReply h old (Ok reply) new =
-    (line : List ℕ) × Hands old.lines new.lines line × (ends_session line ≡ false)
-    × (reply ≡ reply_to h old.entries line) × (new.entries ≡ entries_after_line h old.entries line)
-NextReply h old (Err ending.Done) new =
-    ((line : List ℕ) × Hands old.lines new.lines line × (ends_session line ≡ true))
-    ⊎ (IsTrue new.lines.ended × HandsNone old.lines new.lines)
-NextReply h old (Err ending.Console) new =
+abbrev pub NextReply : Subject → Start → Progress → Result (List ℕ) Ending → Progress → Type 0
+NextReply s start old (Ok reply) new =
+    (line : List ℕ) × Hands old.lines new.lines line
+    × Answers s start (record { line = line; moment = old.moment }) (Ok reply) new.moment
+NextReply s start old (Err ending.Memory) new =
+    (line : List ℕ) × Hands old.lines new.lines line
+    × Answers s start (record { line = line; moment = old.moment }) (Err ending.Memory) new.moment
+NextReply s start old (Err ending.Done) new =
+    ((line : List ℕ) × Hands old.lines new.lines line
+    × Answers s start (record { line = line; moment = old.moment }) (Err ending.Done) new.moment)
+    ⊎ (IsTrue new.lines.ended × HandsNone old.lines new.lines × (new.moment ≡ old.moment))
+NextReply s start old (Err ending.Console) new =
     (new.lines.ended ≡ false) × HandsNone old.lines new.lines × (length new.lines.taken < console_bytes)
-NextReply h old (Err ending.Spent) new =
+    × (new.moment ≡ old.moment)
+NextReply s start old (Err ending.Spent) new =
     (new.lines.ended ≡ false) × HandsNone old.lines new.lines × (length new.lines.taken ≡ console_bytes)
-NextReply h old (Err ending.Memory) new =
-    (more : List (List ℕ)) × (handed_lines new.lines ≡ handed_lines old.lines ++ more)
-NextReply h old (Err ending.Screen) new = ⊥
+    × (new.moment ≡ old.moment)
+NextReply s start old (Err ending.Screen) new = ⊥
+NextReply s start old (Err ending.Refused) new = ⊥
 
 -- the reply was given, or how the dialog ends
-abbrev pub Turned : Subject → Stage → Result (Unit {0}) Ending → Stage → Type 0
-Turned h old (Ok _) new =
-    (reply : List ℕ) × NextReply h old.progress (Ok reply) new.progress × GaveAll old.given new.given reply
-Turned h old (Err ending.Screen) new =
-    (reply : List ℕ) × NextReply h old.progress (Ok reply) new.progress × GavePrefix old.given new.given reply
-Turned h old (Err ending.Done) new = NextReply h old.progress (Err ending.Done) new.progress × (new.given ≡ old.given)
-Turned h old (Err ending.Console) new =
-    NextReply h old.progress (Err ending.Console) new.progress × (new.given ≡ old.given)
-Turned h old (Err ending.Spent) new = NextReply h old.progress (Err ending.Spent) new.progress × (new.given ≡ old.given)
-Turned h old (Err ending.Memory) new =
-    NextReply h old.progress (Err ending.Memory) new.progress × (new.given ≡ old.given)
+abbrev pub Turned : Subject → Start → Stage → Result (Unit {0}) Ending → Stage → Type 0
+Turned s start old (Ok _) new =
+    (reply : List ℕ) × NextReply s start old.progress (Ok reply) new.progress × GaveAll old.given new.given reply
+Turned s start old (Err ending.Screen) new =
+    (reply : List ℕ) × NextReply s start old.progress (Ok reply) new.progress × GavePrefix old.given new.given reply
+Turned s start old (Err ending.Done) new =
+    NextReply s start old.progress (Err ending.Done) new.progress × (new.given ≡ old.given)
+Turned s start old (Err ending.Console) new =
+    NextReply s start old.progress (Err ending.Console) new.progress × (new.given ≡ old.given)
+Turned s start old (Err ending.Spent) new =
+    NextReply s start old.progress (Err ending.Spent) new.progress × (new.given ≡ old.given)
+Turned s start old (Err ending.Memory) new =
+    NextReply s start old.progress (Err ending.Memory) new.progress × (new.given ≡ old.given)
+Turned s start old (Err ending.Refused) new = ⊥
+
+-- the lines that were handed out since then were answered
+pub record Answered (s : Subject) (start : Start) (first now : Stage) : Type 0 where
+  pub saves : List Bool
+  pub passes : Passes s start first.progress.moment
+      (record { lines = handed_lines now.progress.lines; saves = saves }) now.progress.moment
+  pub gave : GaveAll first.given now.given
+      (replies s first.progress.moment.entries saves (handed_lines now.progress.lines))
+
+-- the lines of the console were answered, from the entries at the start on
+pub record Talked (s : Subject) (start : Start) (before : Outside) (e : Ending) (after : Outside) : Type 0 where
+  pub heard : Heard
+  pub saves : List Bool
+  pub is_heard : IsHeard before.streams.left after.streams.left heard
+  pub ended : EndedBy e heard
+  pub not_refused : e ≡ ending.Refused → ⊥
+  pub answered : AreAnswered e saves (saves_in s start (lines_in heard))
+  pub gave : GaveBy e before.streams.given after.streams.given
+      (replies s (entries_at_start start) saves (lines_in heard))
+  pub files : FilesAfter saves (saves_in s start (lines_in heard)) before.files after.files
+  pub counts : CountsAfter e saves before.counts after.counts
 
 -- the console failed in a call that answers so
 abbrev pub console_failed : {A : Type 0} → Result A Ending → Bool

@@ -1,21 +1,29 @@
 //! The dialog on the console.
-ghost use Rattle.std.specs.Prelude.{◌≡◌, ◌<◌, ◌≤◌, [], false, IsTrue, length, IfErr, IfOk, OnOk, OnErr, codes};
+ghost use Rattle.std.specs.Prelude.{◌≡◌, ◌<◌, ◌≤◌, [], ◌∷◌, false, IsTrue, length, codes, Err, IfErr, IfOk, OnErr};
+ghost use Rattle.std.specs.Prelude.{OnOk};
+ghost use Rattle.std.specs.Option.{option_map};
 ghost use Rattle.std.specs.Io.KnownBytes.{IsAtEnd};
-ghost use Rattle.edge_ports.specs.Counts.{Counted};
+ghost use Rattle.edge_ports.specs.Counts.{Counted, counts_stored};
 ghost use Rattle.edge_ports.specs.Told.{GaveAll, GavePrefix};
 ghost use Rattle.edge_ports.specs.Lines.{Moves};
 ghost use Rattle.edge_ports.specs.Limits.{line_bytes};
 ghost use Rattle.edge_ports.specs.Turns.{IsConsistent};
-ghost use Rattle.ask_session.specs.Dialog.{is_quit, replies};
-ghost use Rattle.answer_book.specs.Entries.{first_entries};
+ghost use Rattle.edge_ports.specs.declared.ports.StoreFault.TheVariants as store;
 ghost use Rattle.dialog_replies.specs.Kept.{IsSearchOf};
-ghost use Rattle.ask_session.specs.Heard.{Heard, IsHeard, lines_in, EndedBy, GaveBy, is_console, is_screen};
-ghost use Rattle.ask_session.specs.Turned.{Answers, NextReply, Turned, console_failed, screen_failed};
+ghost use Rattle.dialog_replies.specs.Subject.{Subject};
+ghost use Rattle.session_book.specs.Start.{entries_at_start, saved_text};
+ghost use Rattle.session_book.specs.declared.start.Start.{Start as StartValue};
+ghost use Rattle.ask_session.specs.Dialog.{file_in, is_quit, save_reply};
+ghost use Rattle.ask_session.specs.Heard.{is_console, is_screen};
+ghost use Rattle.ask_session.specs.Saves.{FileAfter, counts_saved};
+ghost use Rattle.ask_session.specs.Turned.{Answers, LineAt, NextReply, SaveGoes, Talked, Turned, console_failed};
+ghost use Rattle.ask_session.specs.Turned.{screen_failed};
 
-use dialog_lines::{Instruction, instruction_in};
+use dialog_lines::{FileName, Instruction, instruction_in};
 use dialog_replies::{Debugged, answer};
-use edge_ports::{Bytes, LineFault, Lines, Sink, Source, Turn, write_all};
+use edge_ports::{Bytes, Keeper, LineFault, Lines, Sink, Source, StoreFault, Turn, write_all};
 use optimal_query::Debug;
+use session_book::{Start, session_text_of};
 use std::alloc::{AllocError, AllocFailed, Global};
 
 /// How a dialog ended.
@@ -31,6 +39,8 @@ pub enum Ending {
     Spent,
     /// Memory ran out.
     Memory,
+    /// The saved session does not fit the run.
+    Refused,
 }
 
 impl From<AllocError> for Ending {
@@ -67,26 +77,118 @@ fn is_quit(instruction: &Instruction<'_>) -> bool
         | Instruction::Trust(_)
         | Instruction::TakeBack(_)
         | Instruction::Show(_)
+        | Instruction::Trace(_)
         | Instruction::Tree
+        | Instruction::Save(_)
         | Instruction::Other => false,
     }
 }
 
+/// The file that the session is to be saved in, if that is asked for.
+fn file_in<'a, 'b>(instruction: &'a Instruction<'b>) -> Option<&'a FileName<'b>>
+    ensures { option_map (λ file. file.now) result ≡ file_in instruction.now }
+{
+    match instruction {
+        Instruction::Save(file) => Some(file),
+        Instruction::Nothing
+        | Instruction::Judge(_, _)
+        | Instruction::TrustNamed(_)
+        | Instruction::Trust(_)
+        | Instruction::TakeBack(_)
+        | Instruction::Show(_)
+        | Instruction::Trace(_)
+        | Instruction::Tree
+        | Instruction::Quit
+        | Instruction::Other => None,
+    }
+}
+
+/// Stores a text under this name. It answers whether it was stored.
+fn store_text<K: Keeper>(
+    alloc: Global,
+    keeper: &mut K,
+    name: &str,
+    text: &[u8],
+) -> Result<bool, Ending>
+    ensures file { IfOk result (λ stored. FileAfter stored (record { file = name.now; text = text.now })
+        (K.files keeper.old) (K.files keeper.new)) }
+    ensures counts { IfOk result (λ stored. K.counts keeper.new ≡ counts_saved (stored ∷ []) (K.counts keeper.old)) }
+    ensures memory { IfErr result (λ e. e ≡ Ending.Memory) }
+    ensures same_files { OnErr result (K.files keeper.new ≡ K.files keeper.old) }
+    ensures one_store { OnErr result (K.counts keeper.new ≡ counts_stored (Err store.Memory) (K.counts keeper.old)) }
+{
+    match keeper.store(alloc, name, text) {
+        Ok(()) => Ok(true),
+        Err(StoreFault::Failed) => Ok(false),
+        Err(StoreFault::Memory) => Err(Ending::Memory),
+    }
+}
+
+/// The reply to a line that asks to save, by whether its file was stored.
+fn save_reply(alloc: Global, stored: bool, file: &FileName<'_>) -> Result<Bytes, Ending>
+    ensures text { IfOk result (λ bytes. bytes ≡ save_reply stored file.now) }
+    ensures memory { IfErr result (λ e. e ≡ Ending.Memory) }
+{
+    let before: &[u8] = if stored { b"saved " } else { b"not saved " };
+    let mut bytes = Bytes::new(alloc);
+    bytes.append(before)?;
+    bytes.append(file.as_str().as_bytes())?;
+    bytes.append(b"\n")?;
+    Ok(bytes)
+}
+
+/// Saves the session of the moment in this file, and answers the reply.
+fn save<K: Keeper>(
+    alloc: Global,
+    start: &Start,
+    keeper: &mut K,
+    debug: &Debug,
+    file: &FileName<'_>,
+) -> Result<Bytes, Ending>
+    ensures goes { SaveGoes (record { file = file.now; text = saved_text start.now debug.now.book.entries })
+        (record { entries = debug.now.book.entries; files = K.files keeper.old; counts = K.counts keeper.old })
+        result
+        (record { entries = debug.now.book.entries; files = K.files keeper.new; counts = K.counts keeper.new }) }
+{
+    let Ok(text) = session_text_of(alloc, start, debug) else {
+        return Err(Ending::Memory);
+    };
+    match store_text(alloc, keeper, file.as_str(), text.as_slice()) {
+        Ok(stored) => save_reply(alloc, stored, file),
+        Err(ending) => Err(ending),
+    }
+}
+
 /// The reply to a line of the console. `Done` says that it ends the session.
-fn answer_line<D: Debugged>(
+fn answer_line<D: Debugged, K: Keeper>(
     alloc: Global,
     run: &D,
+    start: &Start,
+    keeper: &mut K,
     debug: &mut Debug,
     line: &[u8],
 ) -> Result<Bytes, Ending>
     requires search { IsSearchOf (D.subject run.now) debug.old }
     requires short { length line.now ≤ line_bytes }
-    ensures answers { Answers (D.subject run.now) debug.old.book.entries line.now result debug.new.book.entries }
+    ensures answers { Answers (D.subject run.now) start.now
+        (record {
+          line = line.now;
+          moment = record {
+            entries = debug.old.book.entries;
+            files = K.files keeper.old;
+            counts = K.counts keeper.old;
+          };
+        })
+        result
+        (record { entries = debug.new.book.entries; files = K.files keeper.new; counts = K.counts keeper.new }) }
     ensures search { IsSearchOf (D.subject run.now) debug.new }
 {
     let instruction = instruction_in(line);
     if is_quit(&instruction) {
         return Err(Ending::Done);
+    }
+    if let Some(file) = file_in(&instruction) {
+        return save(alloc, start, keeper, debug, file);
     }
     match answer(alloc, run, debug, instruction) {
         Ok(reply) => Ok(reply),
@@ -98,24 +200,45 @@ fn answer_line<D: Debugged>(
 fn too_long(alloc: Global) -> Result<Bytes, Ending>
     ensures text { IfOk result (λ bytes. bytes ≡ codes "line too long\n") }
     ensures memory { IfErr result (λ e. e ≡ Ending.Memory) }
+    ensures answers { (s : Subject) (start : StartValue) (asked : LineAt) → line_bytes < length asked.line
+        → Answers s start asked result asked.moment }
 {
     let mut bytes = Bytes::new(alloc);
-    bytes.append(b"line too long\n")?;
-    Ok(bytes)
+    match bytes.append(b"line too long\n") {
+        Ok(()) => Ok(bytes),
+        Err(_) => Err(Ending::Memory),
+    }
 }
 
 /// The reply to the next line of the console.
-fn next_reply<D: Debugged, I: Source>(
+fn next_reply<D: Debugged, K: Keeper, I: Source>(
     alloc: Global,
     run: &D,
+    start: &Start,
+    keeper: &mut K,
     debug: &mut Debug,
     lines: &mut Lines,
     console: &mut I,
 ) -> Result<Bytes, Ending>
     requires search { IsSearchOf (D.subject run.now) debug.old }
-    ensures reply { NextReply (D.subject run.now)
-        (record { entries = debug.old.book.entries; lines = lines.old }) result
-        (record { entries = debug.new.book.entries; lines = lines.new }) }
+    ensures reply { NextReply (D.subject run.now) start.now
+        (record {
+          moment = record {
+            entries = debug.old.book.entries;
+            files = K.files keeper.old;
+            counts = K.counts keeper.old;
+          };
+          lines = lines.old;
+        })
+        result
+        (record {
+          moment = record {
+            entries = debug.new.book.entries;
+            files = K.files keeper.new;
+            counts = K.counts keeper.new;
+          };
+          lines = lines.new;
+        }) }
     ensures moved { Moves lines.old.taken lines.new.taken (I.left console.old) (I.left console.new) }
     ensures at_end { (IsTrue lines.old.ended → IsAtEnd (I.left console.old))
         → IsTrue lines.new.ended → IsAtEnd (I.left console.new) }
@@ -126,7 +249,7 @@ fn next_reply<D: Debugged, I: Source>(
     ensures handed { OnOk result (lines.old.handed < lines.new.handed) }
 {
     match lines.next(console) {
-        Ok(Turn::Line) => answer_line(alloc, run, debug, lines.line()),
+        Ok(Turn::Line) => answer_line(alloc, run, start, keeper, debug, lines.line()),
         Ok(Turn::TooLong) => too_long(alloc),
         Ok(Turn::End) => Err(Ending::Done),
         Err(LineFault::Failed) => Err(Ending::Console),
@@ -149,23 +272,39 @@ fn give_reply<O: Sink>(screen: &mut O, reply: &[u8]) -> Result<(), Ending>
 }
 
 /// Answers one line of the console.
-fn turn<D: Debugged, I: Source, O: Sink>(
+fn turn<D: Debugged, K: Keeper, I: Source, O: Sink>(
     alloc: Global,
     run: &D,
+    start: &Start,
+    keeper: &mut K,
     debug: &mut Debug,
     lines: &mut Lines,
     console: &mut I,
     screen: &mut O,
 ) -> Result<(), Ending>
     requires search { IsSearchOf (D.subject run.now) debug.old }
-    ensures turned { Turned (D.subject run.now)
+    ensures turned { Turned (D.subject run.now) start.now
         (record {
-          progress = record { entries = debug.old.book.entries; lines = lines.old };
+          progress = record {
+            moment = record {
+              entries = debug.old.book.entries;
+              files = K.files keeper.old;
+              counts = K.counts keeper.old;
+            };
+            lines = lines.old;
+          };
           given = O.given screen.old;
         })
         result
         (record {
-          progress = record { entries = debug.new.book.entries; lines = lines.new };
+          progress = record {
+            moment = record {
+              entries = debug.new.book.entries;
+              files = K.files keeper.new;
+              counts = K.counts keeper.new;
+            };
+            lines = lines.new;
+          };
           given = O.given screen.new;
         }) }
     ensures moved { Moves lines.old.taken lines.new.taken (I.left console.old) (I.left console.new) }
@@ -178,29 +317,41 @@ fn turn<D: Debugged, I: Source, O: Sink>(
     ensures search { IsSearchOf (D.subject run.now) debug.new }
     ensures handed { OnOk result (lines.old.handed < lines.new.handed) }
 {
-    match next_reply(alloc, run, debug, lines, console) {
+    match next_reply(alloc, run, start, keeper, debug, lines, console) {
         Ok(reply) => give_reply(screen, reply.as_slice()),
         Err(ending) => Err(ending),
     }
 }
 
-/// Answers the lines of the console, up to `quit` or its end. It takes memory for the entries and for
-/// each reply.
-pub fn answer_lines<D: Debugged, I: Source, O: Sink>(
+/// Answers the lines of the console, up to `quit` or its end. It takes memory for the entries, for each reply and for
+/// each file that is stored.
+pub fn answer_lines<D: Debugged, K: Keeper, I: Source, O: Sink>(
     alloc: Global,
     run: &D,
+    start: &Start,
+    keeper: &mut K,
     debug: &mut Debug,
     lines: &mut Lines,
     console: &mut I,
     screen: &mut O,
 ) -> Ending
     requires search { IsSearchOf (D.subject run.now) debug.old }
-    requires first { debug.old.book.entries ≡ first_entries }
+    requires first { debug.old.book.entries ≡ entries_at_start start.now }
     requires fresh { lines.old ≡ record { taken = []; handed = 0; ended = false; line = [] } }
-    // What was heard of the console, what the screen got by how the dialog ended, and why it ended.
-    ensures goes { (x : Heard) × IsHeard (I.left console.old) (I.left console.new) x
-        × GaveBy result (O.given screen.old) (O.given screen.new)
-        (replies (D.subject run.now) first_entries (lines_in x)) × EndedBy result x }
+    // What was heard of the console, what the screen got by how the dialog ended, and why it ended; and what became of
+    // the keeper.
+    ensures goes { Talked (D.subject run.now) start.now
+        (record {
+          files = K.files keeper.old;
+          counts = K.counts keeper.old;
+          streams = record { left = I.left console.old; given = O.given screen.old };
+        })
+        result
+        (record {
+          files = K.files keeper.new;
+          counts = K.counts keeper.new;
+          streams = record { left = I.left console.new; given = O.given screen.new };
+        }) }
     // A count rises where its object failed, and there alone.
     ensures console_faults { Counted (is_console result)
         (I.faults console.old) (I.faults console.new) }
@@ -209,7 +360,7 @@ pub fn answer_lines<D: Debugged, I: Source, O: Sink>(
     ensures last { IsTrue (is_screen result) → IsTrue (O.last_failed screen.new) }
 {
     'lines: loop {
-        match turn(alloc, run, debug, lines, console, screen) {
+        match turn(alloc, run, start, keeper, debug, lines, console, screen) {
             Ok(()) => {}
             Err(ending) => return ending,
         }

@@ -1,27 +1,46 @@
 //! A session on the console: what it opens with, and the dialog.
-ghost use Rattle.std.specs.Prelude.{◌≡◌, ◌⊎◌, ℕ, List, Some, IsTrue};
+ghost use Rattle.std.specs.Prelude.{◌≡◌, ◌⊎◌, ℕ, Bool, List, None, Some, IsSome, IsTrue};
 ghost use Rattle.edge_ports.specs.Counts.{Counted};
-ghost use Rattle.ask_session.specs.Console.{EndsInTime, GaveOf, GoesOn, NotRisen};
-ghost use Rattle.ask_session.specs.Dialog.{said, transcript};
-ghost use Rattle.ask_session.specs.Heard.{Heard, IsHeard, lines_in, EndedBy, GaveBy, is_console, is_screen};
+ghost use Rattle.edge_ports.specs.Lines.{lines_of};
+ghost use Rattle.session_book.specs.Fit.{misfit};
+ghost use Rattle.session_book.specs.Start.{IsWholeStart};
+ghost use Rattle.ask_session.specs.Console.{EndsInTime, FirstAnswered, GaveOf, GoesOn, NotRisen};
+ghost use Rattle.ask_session.specs.Dialog.{transcript};
+ghost use Rattle.ask_session.specs.Heard.{is_console, is_screen};
 ghost use Rattle.ask_session.specs.Laws.{AsksTheBest, FindsTheFault, NamesTheAccused, NarrowsTheFault};
+ghost use Rattle.ask_session.specs.Saves.{CountsAfter, FilesAfter, saves_in};
+ghost use Rattle.ask_session.specs.Went.{Went};
 
 use crate::dialog::{Ending, answer_lines};
 use crate::laws::search_is_sound;
-use dialog_replies::{Debugged, begin, open};
-use edge_ports::{Lines, Sink, Source, write_all};
+use dialog_replies::{Debugged, open};
+use edge_ports::{Keeper, Lines, Sink, Source, write_all};
+use session_book::{Start, refusal, resume};
 use std::alloc::Global;
 
 /// Gives the opening, and then answers the console.
-fn hold_session<D: Debugged, I: Source, O: Sink>(
+fn hold_session<D: Debugged, K: Keeper, I: Source, O: Sink>(
     alloc: Global,
     run: &D,
+    start: &Start,
+    keeper: &mut K,
     console: &mut I,
     screen: &mut O,
 ) -> Ending
-    ensures goes { (x : Heard) × IsHeard (I.left console.old) (I.left console.new) x
-        × GaveBy result (O.given screen.old) (O.given screen.new) (said (D.subject run.now) (lines_in x))
-        × EndedBy result x }
+    requires whole { IsWholeStart start.now }
+    requires fits { misfit (D.subject run.now) start.now ≡ None }
+    ensures goes { Went (D.subject run.now) start.now
+        (record {
+          files = K.files keeper.old;
+          counts = K.counts keeper.old;
+          streams = record { left = I.left console.old; given = O.given screen.old };
+        })
+        result
+        (record {
+          files = K.files keeper.new;
+          counts = K.counts keeper.new;
+          streams = record { left = I.left console.new; given = O.given screen.new };
+        }) }
     ensures console_faults { Counted (is_console result)
         (I.faults console.old) (I.faults console.new) }
     ensures screen_faults { Counted (is_screen result) (O.faults screen.old) (O.faults screen.new) }
@@ -30,46 +49,113 @@ fn hold_session<D: Debugged, I: Source, O: Sink>(
     let Ok(mut lines) = Lines::new(alloc) else {
         return Ending::Memory;
     };
-    let Ok(mut debug) = begin(alloc, run) else {
+    let Ok(mut debug) = resume(alloc, run, start) else {
         return Ending::Memory;
     };
     let Ok(opening) = open(alloc, run, &debug) else {
         return Ending::Memory;
     };
     match write_all(screen, opening.as_slice()) {
-        Ok(()) => answer_lines(alloc, run, &mut debug, &mut lines, console, screen),
+        Ok(()) => answer_lines(
+            alloc, run, start, keeper, &mut debug, &mut lines, console, screen,
+        ),
         Err(_) => Ending::Screen,
     }
 }
 
-/// A session about a run: it gives the card of call 0 and a report to the screen, and then the reply to each
-/// line of the console, up to `quit` or the console's end. What it gives is a function of the run's columns,
-/// names and texts and of the console's bytes.
-pub fn converse<D: Debugged, I: Source, O: Sink>(
+/// Holds the session, or refuses a saved session that does not fit.
+fn hold_if_fit<D: Debugged, K: Keeper, I: Source, O: Sink>(
     alloc: Global,
     run: &D,
+    start: &Start,
+    keeper: &mut K,
     console: &mut I,
     screen: &mut O,
 ) -> Ending
-    // Where the console tells its bytes: what the screen got, and how the session ends if neither failed.
-    ensures transcript { (bytes : List ℕ) → I.left console.old ≡ Some bytes
-        → GaveOf result (O.given screen.old) (O.given screen.new) (transcript (D.subject run.now) bytes) }
+    requires whole { IsWholeStart start.now }
+    ensures goes { Went (D.subject run.now) start.now
+        (record {
+          files = K.files keeper.old;
+          counts = K.counts keeper.old;
+          streams = record { left = I.left console.old; given = O.given screen.old };
+        })
+        result
+        (record {
+          files = K.files keeper.new;
+          counts = K.counts keeper.new;
+          streams = record { left = I.left console.new; given = O.given screen.new };
+        }) }
+    ensures console_faults { Counted (is_console result)
+        (I.faults console.old) (I.faults console.new) }
+    ensures screen_faults { Counted (is_screen result) (O.faults screen.old) (O.faults screen.new) }
+    ensures last { IsTrue (is_screen result) → IsTrue (O.last_failed screen.new) }
+{
+    match refusal(alloc, run, start) {
+        Ok(None) => hold_session(alloc, run, start, keeper, console, screen),
+        Ok(Some(line)) => match write_all(screen, line.as_slice()) {
+            Ok(()) => Ending::Refused,
+            Err(_) => Ending::Screen,
+        },
+        Err(_) => Ending::Memory,
+    }
+}
+
+/// A session about a run. It gives the card of call 0 and a report to the screen, as the saved session's entries
+/// stand, and then the reply to each line of the console, up to `quit` or the console's end. A line that asks for it
+/// stores the session of that moment. What the session gives is a function of the run's columns, names and texts, of
+/// the start, of the console's bytes, and of whether each file was stored. A saved session that does not fit the run is
+/// refused by one line.
+///
+/// A store that runs out of memory ends the session with `Memory`.
+pub fn converse<D: Debugged, K: Keeper, I: Source, O: Sink>(
+    alloc: Global,
+    run: &D,
+    start: &Start,
+    keeper: &mut K,
+    console: &mut I,
+    screen: &mut O,
+) -> Ending
+    requires whole { IsWholeStart start.now }
+    // Where the console tells its bytes: of each line that asks to save, whether its file was stored; what the screen
+    // got, what became of the files and of the keeper's counts; and how the session ends if neither the console nor the
+    // screen failed, whatever stores did.
+    ensures transcript { (bytes : List ℕ) → I.left console.old ≡ Some bytes → (saves : List Bool)
+        × FirstAnswered result saves (saves_in (D.subject run.now) start.now (lines_of bytes))
+        × GaveOf result (O.given screen.old) (O.given screen.new) (transcript (D.subject run.now) start.now saves bytes)
+        × FilesAfter saves (saves_in (D.subject run.now) start.now (lines_of bytes)) (K.files keeper.old)
+        (K.files keeper.new)
+        × CountsAfter result saves (K.counts keeper.old) (K.counts keeper.new) }
     ensures complete { (bytes : List ℕ) → I.left console.old ≡ Some bytes → EndsInTime bytes
+        → misfit (D.subject run.now) start.now ≡ None
         → NotRisen (I.faults console.old) (I.faults console.new) → NotRisen (O.faults screen.old) (O.faults screen.new)
         → (result ≡ Ending.Done) ⊎ (result ≡ Ending.Memory) }
     ensures limit { (bytes : List ℕ) → I.left console.old ≡ Some bytes → GoesOn bytes
+        → misfit (D.subject run.now) start.now ≡ None
         → NotRisen (I.faults console.old) (I.faults console.new) → NotRisen (O.faults screen.old) (O.faults screen.new)
         → (result ≡ Ending.Spent) ⊎ (result ≡ Ending.Memory) }
+    // A saved session that does not fit is refused, and no other.
+    ensures unfit { IsSome (misfit (D.subject run.now) start.now)
+        → NotRisen (O.faults screen.old) (O.faults screen.new)
+        → (result ≡ Ending.Refused) ⊎ (result ≡ Ending.Memory) }
+    ensures refused { result ≡ Ending.Refused → IsSome (misfit (D.subject run.now) start.now) }
     // What the questions and the verdicts among the reports say.
     ensures asks { AsksTheBest (D.subject run.now) }
     ensures narrows { NarrowsTheFault (D.subject run.now) }
     ensures names { NamesTheAccused (D.subject run.now) }
     ensures finds { FindsTheFault (D.subject run.now) }
-    // Whether or not the console tells its bytes: what was heard of it, what the screen got by how the session
-    // ended, and why it ended.
-    ensures goes { (x : Heard) × IsHeard (I.left console.old) (I.left console.new) x
-        × GaveBy result (O.given screen.old) (O.given screen.new) (said (D.subject run.now) (lines_in x))
-        × EndedBy result x }
+    // Whether or not the objects tell their bytes: what was heard of the console and why the session ended, what the
+    // screen got, and what became of the files and of the keeper's counts.
+    ensures goes { Went (D.subject run.now) start.now
+        (record {
+          files = K.files keeper.old;
+          counts = K.counts keeper.old;
+          streams = record { left = I.left console.old; given = O.given screen.old };
+        }) result
+        (record {
+          files = K.files keeper.new;
+          counts = K.counts keeper.new;
+          streams = record { left = I.left console.new; given = O.given screen.new };
+        }) }
     // A count rises where its object failed, and there alone.
     ensures console_faults { Counted (is_console result)
         (I.faults console.old) (I.faults console.new) }
@@ -78,5 +164,5 @@ pub fn converse<D: Debugged, I: Source, O: Sink>(
     ensures last { IsTrue (is_screen result) → IsTrue (O.last_failed screen.new) }
 {
     search_is_sound(run);
-    hold_session(alloc, run, console, screen)
+    hold_if_fit(alloc, run, start, keeper, console, screen)
 }

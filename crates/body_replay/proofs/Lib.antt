@@ -1,4 +1,5 @@
 pub mod ChangesOneByOne
+mod ExitsAreGiven
 pub mod FramesAgain
 pub mod RecordsOfRuns
 pub mod RowsTellTheStates

@@ -11,7 +11,8 @@ ghost use Rattle.body_replay.specs.Records.{HasRoomFor, IsRecordOf};
 
 use call_tree::Call;
 use cell_value::{Change, Memory, Steps};
-use effect_log::{Changes, Footprint, Log, effect};
+use effect_log::{Changes, Footprint, Log};
+use effect_pages::effect;
 use eval_machine::Machine;
 use persistent_store::Store;
 use std::alloc::Global;

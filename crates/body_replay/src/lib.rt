@@ -5,10 +5,12 @@
 mod applied;
 mod counted;
 mod framed;
+mod laws;
 mod moment;
 mod replayer;
 mod replays;
 
 pub use applied::apply;
+pub use laws::bodies_give_their_exits;
 pub use moment::Moment;
 pub use replays::{Trace, replay};

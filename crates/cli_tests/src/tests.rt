@@ -48,15 +48,23 @@ fn said_of_repeats(alloc: Global, count: usize) -> Result<Page, Fail> {
     Ok(screen)
 }
 
+// What it is to say: each repeat is a line of the trace.
+fn found_in_repeats(alloc: Global, count: usize) -> Result<Vec<u8>, Fail> {
+    let mut text = Vec::from_slice(alloc, b"call 0 p\n  returned\nfound call 0 p\n")?;
+    for _ in 0..count {
+        text.extend_from_slice(b"  line 1\n")?;
+    }
+    text.extend_from_slice(b"  returned\n")?;
+    Ok(text)
+}
+
 // The native stack suffices for statements nested 200 deep: repeats take the most of it, and more than the worked cases
 // have as Rattle's own compiler builds them.
 #[test]
 fn deepest_repeats(rt: HostRuntime) -> Result<(), Fail> {
     let taken = said_of_repeats(rt.alloc(), 198)?;
-    assert_eq!(rt;
-        taken.given(),
-        b"call 0 p\n  returned\nfound call 0 p\n  returned\n".as_slice()
-    );
+    let found = found_in_repeats(rt.alloc(), 198)?;
+    assert_eq!(rt; taken.given(), found.as_slice());
     let refused = said_of_repeats(rt.alloc(), 199)?;
     assert_eq!(rt;
         refused.given(),

@@ -9,9 +9,9 @@ use Rattle.clap.specs.declared.error.kind.ErrorKind.{ErrorKind}
 use Rattle.clap.specs.declared.error.kind.ErrorKind.TheVariants as kind
 use Rattle.clap.specs.declared.parser.matches.ArgMatches.{ArgMatches}
 use Rattle.command_words.specs.CommandLine.{command_line}
-use Rattle.command_words.specs.Meaning.{IsBudget, meant, meant_by, unless_fault, value_at}
+use Rattle.command_words.specs.Meaning.{IsInRange, meant, meant_by, unless_fault, value_at}
 use Rattle.command_words.specs.Reading.{asked_by}
-use Rattle.command_words.specs.declared.request.Request.{Request}
+use Rattle.command_words.specs.declared.request.Asked.{Asked}
 use Rattle.command_words.specs.declared.request.WordFault.{WordFault}
 use Rattle.command_words.specs.declared.request.WordFault.TheVariants.{Refused, Memory}
 
@@ -23,22 +23,22 @@ pub simple_and_free : is_simple_and_free command_line ≡ true
 simple_and_free = refl
 
 -- an answer that is handed on
-module _ (words : List Text) (x : Result Request WordFault) where
-  pub answers : (r : Option Request) → x ≡ ok_or r Refused → meant words ≡ option_map asked_by r → IfOk x (λ q. meant words ≡ Some (asked_by q))
+module _ (words : List Text) (x : Result Asked WordFault) where
+  pub answers : (r : Option Asked) → x ≡ ok_or r Refused → meant words ≡ option_map asked_by r → IfOk x (λ q. meant words ≡ Some (asked_by q))
   answers None e h = rw e tt
   answers (Some r) e h = rw e h
 
-  pub refuses : (r : Option Request) → x ≡ ok_or r Refused → meant words ≡ option_map asked_by r → x ≡ Err Refused → meant words ≡ None
+  pub refuses : (r : Option Asked) → x ≡ ok_or r Refused → meant words ≡ option_map asked_by r → x ≡ Err Refused → meant words ≡ None
   refuses None e h refused = h
-  refuses (Some r) e h refused = absurd (let same : ◌≡◌ {A = Result Request WordFault} (Ok r) (Err Refused) = sym e ∙ refused in let y : ⊥ = cc in y)
+  refuses (Some r) e h refused = absurd (let same : ◌≡◌ {A = Result Asked WordFault} (Ok r) (Err Refused) = sym e ∙ refused in let y : ⊥ = cc in y)
 
-  pub allows : (r : Option Request) → x ≡ ok_or r Refused → IfSome r (λ q. IsBudget q.budget) → IfOk x (λ q. IsBudget q.budget)
+  pub allows : (r : Option Asked) → x ≡ ok_or r Refused → IfSome r (λ q. IsInRange (asked_by q)) → IfOk x (λ q. IsInRange (asked_by q))
   allows None e h = rw e tt
   allows (Some r) e h = rw e h
 
 module _ (a : App) (is : a ≡ command_line) (words : List Text) where
   -- where clap takes the words
-  pub taken : (m : ArgMatches) (r : Option Request) → (is_simple_and_free a ≡ true → fault_of a words ≡ []) → HasMatchesOf a words m
+  pub taken : (m : ArgMatches) (r : Option Asked) → (is_simple_and_free a ≡ true → fault_of a words ≡ []) → HasMatchesOf a words m
       → option_map asked_by r ≡ meant_by (value_at (rows_of (found_of m))) → meant words ≡ option_map asked_by r
   unfolding meant
   taken m r kinds matches asks =

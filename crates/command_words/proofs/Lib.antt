@@ -1,2 +1,2 @@
-mod DigitsSpellSteps
+mod DigitsSpellNumbers
 mod ClapReadsWords

@@ -1,17 +1,24 @@
 -- What the words of the command mean.
 use Rattle.std.specs.Prelude.{◌≤◌, ◌&&◌, ◌||◌, ℕ, Bool, List, [], ◌∷◌, Option, Some, None, option_map, if◌then◌else◌}
-use Rattle.std.specs.Prelude.{is_some, nat_eq, nat_le, length, codes}
+use Rattle.std.specs.Prelude.{is_some, nat_eq, nat_le, not, drop, length, codes}
 use Rattle.std.specs.Char.{is_ascii_digit}
 use Rattle.std.specs.List.{list_all, starts_with}
 use Rattle.std.specs.Str.Parse.{digits_value}
 use Rattle.clap.specs.Words.{Kinds, Row, Text, fault_of, first_of, matches_of}
 use Rattle.command_words.specs.CommandLine.{command_line}
 
--- what is asked for: the names of the source and of the input, if there is one, and the steps that the run may take
-pub record Meant : Type 0 where
+-- a source that is asked about: its name, the names of its input and of a session about it, if there are any, and the
+-- steps that its run may take
+pub record Requested : Type 0 where
   pub source : Text
   pub input : Option Text
+  pub load : Option Text
   pub budget : ℕ
+
+-- what is asked for: a source that a file holds, or the made source of a number
+pub data Meant : Type 0 where
+  Source : (request : Requested) → Meant
+  Made : (number : ℕ) → Meant
 
 -- ---- the budget
 
@@ -34,27 +41,61 @@ abbrev pub budget_meant : Option Text → Option ℕ
 budget_meant None = Some default_budget
 budget_meant (Some text) = budget_spelled text
 
+-- ---- the number of a made source
+
+-- decimal digits, the first of them not zero
+abbrev pub is_plain : Text → Bool
+is_plain text = list_all is_ascii_digit text && not (starts_with nat_eq text (codes "0"))
+
+-- the number that a text spells, from 1 to 14
+abbrev pub number_spelled : Text → Option ℕ
+number_spelled text =
+    let number = digits_value 10 text in
+    if is_plain text && nat_le 1 number && nat_le number 14 then Some number else None
+
+-- ---- what may be asked for
+
 -- a run may take so many steps
 abbrev pub IsBudget : ℕ → Type 0
 IsBudget steps = (1 ≤ steps) × (steps ≤ 4000000)
 
+-- a source is made for this number
+abbrev pub IsMadeNumber : ℕ → Type 0
+IsMadeNumber number = (1 ≤ number) × (number ≤ 14)
+
+abbrev pub IsInRange : Meant → Type 0
+IsInRange (Source request) = IsBudget request.budget
+IsInRange (Made number) = IsMadeNumber number
+
 -- ---- the values of the arguments
 
--- a source that no file holds
-abbrev pub is_made : Text → Bool
-is_made source = starts_with nat_eq source (codes "make:")
+-- what comes after `make:`, in the name of a source that no file holds
+abbrev pub after_make : Text → Option Text
+after_make source = if starts_with nat_eq source (codes "make:") then Some (drop 5 source) else None
 
--- No session can be loaded yet, and no made source be asked about.
-abbrev pub request_of : (source input budget load : Option Text) → Option Meant
-request_of None input budget load = None
-request_of (Some source) input budget load =
-    if is_made source || is_some load then None
-    else option_map (λ steps. record { source = source; input = input; budget = steps }) (budget_meant budget)
+-- a source that a file holds, by the text of the budget
+abbrev pub source_meant : (source : Text) → (input budget load : Option Text) → Option Meant
+source_meant source input budget load =
+    option_map (λ steps. Source (record { source = source; input = input; load = load; budget = steps }))
+    (budget_meant budget)
+
+-- a made source, which stands without any option
+abbrev pub made_meant : (text : Text) → (input budget load : Option Text) → Option Meant
+made_meant text input budget load =
+    if is_some input || is_some budget || is_some load then None else option_map Made (number_spelled text)
+
+abbrev pub made_or_source : (made : Option Text) → (source : Text) → (input budget load : Option Text) → Option Meant
+made_or_source None source input budget load = source_meant source input budget load
+made_or_source (Some text) source input budget load = made_meant text input budget load
+
+abbrev pub asked_of : (source input budget load : Option Text) → Option Meant
+asked_of None input budget load = None
+asked_of (Some source) input budget load = made_or_source (after_make source) source input budget load
 
 -- by the value that each argument has
 abbrev pub meant_by : (Text → Option Text) → Option Meant
 meant_by value =
-    request_of (value (codes "source")) (value (codes "input")) (value (codes "budget")) (value (codes "load"))
+    asked_of (value (codes "source")) (value (codes "input")) (value (codes "budget")) (value (codes "load"))
 
 -- the value of an argument among those that clap matched
 abbrev pub value_at : List Row → Text → Option Text

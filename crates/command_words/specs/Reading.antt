@@ -1,8 +1,19 @@
--- A request, as what the words mean.
+-- What was read, as what the words mean.
 use Rattle.std.specs.Prelude.{option_map}
-use Rattle.command_words.specs.Meaning.{Meant}
+use Rattle.command_words.specs.Meaning.{Meant, Requested, Source, Made}
 use Rattle.command_words.specs.declared.request.Request.{Request}
+use Rattle.command_words.specs.declared.request.Asked.{Asked}
+use Rattle.command_words.specs.declared.request.Asked.TheVariants as asked
 
--- what a request asks for
-abbrev pub asked_by : Request → Meant
-asked_by r = record { source = r.source.now; input = option_map (λ name. name.now) r.input; budget = r.budget }
+-- the source that a request is about
+abbrev pub requested_by : Request → Requested
+requested_by r = record {
+  source = r.source.now;
+  input = option_map (λ name. name.now) r.input;
+  load = option_map (λ name. name.now) r.load;
+  budget = r.budget;
+}
+
+abbrev pub asked_by : Asked → Meant
+asked_by (asked.Source request) = Source (requested_by request)
+asked_by (asked.Made number) = Made number

@@ -1,10 +1,12 @@
 //! The words of the command `pasask SOURCE [--input F] [--budget N] [--load F]`, read with `clap`: what they ask for,
-//! or that they are refused. Nothing is printed here.
+//! or that they are refused. A source `make:N` is made, and no file holds it. Nothing is printed here.
 #![tactic(auto)]
 
 mod budget;
 mod command;
+mod made;
 mod request;
 
 pub use budget::{BUDGET, MOST_STEPS};
-pub use request::{Request, WordFault, read_words};
+pub use made::MOST_MADE;
+pub use request::{Asked, Request, WordFault, read_words};

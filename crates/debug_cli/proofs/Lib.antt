@@ -1,4 +1,9 @@
+mod CallsAreRecorded
+pub mod DigestsAreWhole
+pub mod FilesAreTold
+pub mod MadeSourceIsShort
 pub mod RunIsTree
 pub mod StatusByCode
+pub mod StatusIsRefusal
 pub mod StatusTellsWhy
 pub mod TranscriptIsGiven

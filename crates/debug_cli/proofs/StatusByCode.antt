@@ -1,8 +1,8 @@
 -- A code tells its status.
-use Rattle.std.proofs.Common.{◌≡◌, ◌⊎◌, inl, inr, ℕ, Bool, nat_eq, ◌==◌, if◌then◌else◌, refl, sym, ap, subst, ◌∙◌}
+use Rattle.std.proofs.Common.{◌≡◌, ◌⊎◌, inl, inr, ℕ, Bool, true, nat_eq, ◌==◌, if◌then◌else◌, refl, sym, ap, subst, ◌∙◌}
 use Rattle.edge_ports.specs.Counts.{Counted}
 use Rattle.debug_cli.specs.declared.status.Status.{Status}
-use Rattle.debug_cli.specs.declared.status.Status.TheVariants.{Done, Words, Source, File, Console, Screen, Memory, Spent}
+use Rattle.debug_cli.specs.declared.status.Status.TheVariants.{Done, Words, Source, File, Console, Screen, Memory, Session, Spent}
 use Rattle.ask_session.specs.declared.dialog.Ending.{Ending}
 use Rattle.ask_session.specs.declared.dialog.Ending.TheVariants as ending
 use Rattle.ask_session.specs.Console.{NotRisen}
@@ -12,7 +12,8 @@ use Rattle.debug_cli.specs.Status.{code_of, is_console, is_screen, session_statu
 abbrev status_with : ℕ → Status
 status_with n =
     if nat_eq n 0 then Done else (if nat_eq n 2 then Words else (if nat_eq n 3 then Source else (if nat_eq n 4 then File
-    else (if nat_eq n 5 then Console else (if nat_eq n 6 then Screen else (if nat_eq n 7 then Memory else Spent))))))
+    else (if nat_eq n 5 then Console else (if nat_eq n 6 then Screen else (if nat_eq n 7 then Memory
+    else (if nat_eq n 8 then Session else Spent)))))))
 
 status_again : (s : Status) → status_with (code_of s) ≡ s
 status_again Done = refl
@@ -22,6 +23,7 @@ status_again File = refl
 status_again Console = refl
 status_again Screen = refl
 status_again Memory = refl
+status_again Session = refl
 status_again Spent = refl
 
 -- no two statuses have one code
@@ -49,6 +51,7 @@ console_status File = refl
 console_status Console = refl
 console_status Screen = refl
 console_status Memory = refl
+console_status Session = refl
 console_status Spent = refl
 
 screen_status : (s : Status) → is_screen s ≡ (code_of s == 6)
@@ -59,7 +62,11 @@ screen_status File = refl
 screen_status Console = refl
 screen_status Screen = refl
 screen_status Memory = refl
+screen_status Session = refl
 screen_status Spent = refl
+
+pub screen_code : (s : Status) → code_of s ≡ 6 → is_screen s ≡ true
+screen_code s e = ap is_screen (code_is s Screen e)
 
 pub console_counted : (s : Status) (n before now : ℕ) → n ≡ code_of s → Counted (is_console s) before now → Counted (n == 5) before now
 console_counted s n before now e k = subst (λ (b : Bool). Counted b before now) (console_status s ∙ ap (λ (m : ℕ). m == 5) (sym e)) k
@@ -73,6 +80,7 @@ console_by_end ending.Done = refl
 console_by_end ending.Console = refl
 console_by_end ending.Screen = refl
 console_by_end ending.Spent = refl
+console_by_end ending.Refused = refl
 console_by_end ending.Memory = refl
 
 pub screen_by_end : (e : Ending) → session.is_screen e ≡ is_screen (session_status e)
@@ -80,4 +88,5 @@ screen_by_end ending.Done = refl
 screen_by_end ending.Console = refl
 screen_by_end ending.Screen = refl
 screen_by_end ending.Spent = refl
+screen_by_end ending.Refused = refl
 screen_by_end ending.Memory = refl

@@ -1,242 +1,358 @@
--- Where the keeper tells the files that the words name: what the screen got, and which status comes.
-use Rattle.std.proofs.Common.{◌≡◌, ◌⊎◌, inl, inr, ℕ, ◌<◌, ◌≤◌, List, ◌++◌, Option, Some, None, length}
-use Rattle.std.proofs.Common.{refl, sym, ap, subst, ◌∙◌, arith}
-use Rattle.std.specs.Prelude.{IsSomeAnd}
-use Rattle.edge_ports.specs.Counts.{KeeperCounts}
+-- Where the keeper tells the files that the words name, or they mean a made program: what the screen got, what became of the files, and which
+-- status comes.
+use Rattle.std.proofs.Common.{◌≡◌, ◌⊎◌, ◌≤◌, inl, inr, ℕ, Bool, List, [], Option, Some, None, IsSome, length, refl, sym, ap, subst, ◌∙◌, arith}
+use Rattle.std.specs.Io.KnownBytes.{append_known}
+use Rattle.edge_ports.specs.Counts.{Counted, KeeperCounts}
+use Rattle.edge_ports.specs.Files.{FileMap}
+use Rattle.edge_ports.specs.Lines.{lines_of}
 use Rattle.edge_ports.specs.Told.{GaveAll, GavePrefix}
-use Rattle.edge_ports.specs.Files.{FileMap, file_at, HoldsFile, LacksFile, HoldsLonger}
-use Rattle.edge_ports.specs.declared.ports.FetchFault.{FetchFault}
-use Rattle.edge_ports.specs.declared.ports.FetchFault.TheVariants as fetch
-use Rattle.edge_ports.proofs.PiecesAddUp.{gave_prefix_before, gave_prefix_whole}
-use Rattle.pas_lexer.specs.Lexed.{Lexed}
-use Rattle.pas_lexer.specs.Limits.{source_bytes}
-use Rattle.program_tables.specs.ProgramRows.{ProgramRows}
+use Rattle.edge_ports.proofs.PiecesAddUp.{gave_nothing, gave_prefix_before, gave_prefix_whole}
+use Rattle.command_words.specs.Meaning.{Meant, Requested, Source, Made}
+use Rattle.dialog_replies.specs.Subject.{Subject}
+use Rattle.session_book.specs.declared.start.Start.{Start}
+use Rattle.session_book.specs.declared.misfits.Misfit.{Misfit}
+use Rattle.session_book.specs.Fit.{misfit}
+use Rattle.debuggee.specs.Program.{IsProgram}
+use Rattle.ask_session.specs.declared.dialog.Ending.{Ending}
 use Rattle.ask_session.specs.declared.dialog.Ending.TheVariants as ending
-use Rattle.ask_session.specs.Console.{EndsInTime, GoesOn, NotRisen}
+use Rattle.ask_session.specs.Console.{EndsInTime, FirstAnswered, GaveOf, GoesOn, NotRisen}
 use Rattle.ask_session.specs.Dialog.{transcript}
-use Rattle.ask_session.specs.Heard.{EndedBy}
-use Rattle.ask_session.proofs.RepliesInOrder.{nothing_is_prefix}
-use Rattle.ask_session.proofs.TranscriptIsGiven.{said_first, said_all, not_spent, not_done}
+use Rattle.ask_session.specs.Heard as session
+use Rattle.ask_session.specs.Outside.{Outside}
+use Rattle.ask_session.specs.Saves.{FilesAfter, Save, counts_saved, saves_in}
+use Rattle.ask_session.specs.Went.{Went}
+use Rattle.ask_session.proofs.TranscriptIsGiven.{Cause, Closed, done_or_memory, spent_or_memory, told_so}
 use Rattle.debug_cli.specs.declared.status.Status.{Status}
 use Rattle.debug_cli.specs.declared.status.Status.TheVariants as status
-use Rattle.command_words.specs.Meaning.{Meant}
-use Rattle.debuggee.specs.Program.{IsProgram, NoProgram}
-use Rattle.debuggee.specs.Execution.{Execution, execution_of}
-use Rattle.debuggee.specs.Subjects.{subject_of}
+use Rattle.debug_cli.specs.Goes.{Goes, Owes, Says, SaysNothing, SaysPart, Talks}
 use Rattle.debug_cli.specs.Laws.{OneRun}
-use Rattle.debug_cli.specs.Outside.{Outside}
-use Rattle.debug_cli.specs.Asked.{Words, meaning, said_in, execution_in, IsInput, Fetched, Checked, Session, SourceRefused}
-use Rattle.debug_cli.specs.Asked.{FileSought, FileFault, IsInputOf, IsSource, NotFetched, Owed, Goes}
-use Rattle.debug_cli.specs.Setting.{Finds, FindsInput, Stored, Setting, IsWithin, run_of, transcript_of}
+use Rattle.debug_cli.specs.Named.{Words, meaning, Begun, MadeProgram, NotFetched, SessionRefused, SourceRefused, made_text, start_in, subject_in}
+use Rattle.debug_cli.specs.Outside.{LeavesAlone, NoFetchFailed}
+use Rattle.debug_cli.specs.Setting.{AllFetched, ComesTo, InFiles, IsMade, NothingFailed, Setting, Told, saves_of, transcript_of}
+use Rattle.debug_cli.specs.Status.{is_console, is_screen}
+use Rattle.debug_cli.proofs.StatusByCode.{no_console, no_screen}
+use Rattle.debug_cli.proofs.FilesAreTold.{begun_comes, no_fault, no_other_session, no_refusal, same_made, same_start, same_subject}
 
-pub same_name : (a b : List ℕ) → Some a ≡ Some b → a ≡ b
-same_name a b e = cc
+-- the screen has got this much, and the files and the counts followed
+pub record Follows (before after : Outside) (text : List Bool → List ℕ) (asked : List Save) : Type 0 where
+  pub saves : List Bool
+  pub each : length saves ≡ length asked
+  pub gave : GaveAll before.streams.given after.streams.given (text saves)
+  pub files_are : FilesAfter saves asked before.files after.files
+  pub counts_are : after.counts ≡ counts_saved saves before.counts
 
--- ---- a file that is told
+pub record FollowsPart (before after : Outside) (text : List Bool → List ℕ) (asked : List Save) : Type 0 where
+  pub saves : List Bool
+  pub few : length saves ≤ length asked
+  pub gave : GavePrefix before.streams.given after.streams.given (text saves)
+  pub files_are : FilesAfter saves asked before.files after.files
 
-lacks_none : (files : Option FileMap) (name bytes : List ℕ) → Finds files name bytes → LacksFile files name → ⊥
-lacks_none files name bytes f h =
-    let n : file_at f.0 name ≡ None = subst (λ (o : Option FileMap). LacksFile o name) f.1 h in
-    let x : ◌≡◌ {A = Option (List ℕ)} None (Some bytes) = sym n ∙ f.2 in
-    let y : ⊥ = cc in y
+-- the same text and the same saves, told otherwise
+follows_same : {before after : Outside} {s t : Subject} {a b : Start} (bytes : List ℕ) → s ≡ t → a ≡ b
+    → Follows before after (λ saves. transcript s a saves bytes) (saves_in s a (lines_of bytes))
+    → Follows before after (λ saves. transcript t b saves bytes) (saves_in t b (lines_of bytes))
+follows_same {before} {after} bytes p q f = record {
+  saves = f.saves;
+  each = f.each ∙ (λ i. length (saves_in (p i) (q i) (lines_of bytes)));
+  gave = f.gave ∙ (λ i. append_known before.streams.given (transcript (p i) (q i) f.saves bytes));
+  files_are = subst (λ (asked : List Save). FilesAfter f.saves asked before.files after.files) (λ i. saves_in (p i) (q i) (lines_of bytes)) f.files_are;
+  counts_are = f.counts_are;
+}
 
-longer_not : (files : Option FileMap) (name bytes : List ℕ) (limit : ℕ) → Finds files name bytes → length bytes ≤ limit
-    → HoldsLonger files name limit → ⊥
-longer_not files name bytes limit f short h =
-    let n = subst (λ (o : Option FileMap). HoldsLonger o name limit) f.1 h in
-    let m : IsSomeAnd (Some bytes) (λ b. limit < length b) = subst (λ (o : Option (List ℕ)). IsSomeAnd o (λ b. limit < length b)) f.2 n in
-    let lt : limit < length bytes = m in omega arith
+part_same : {before after : Outside} {s t : Subject} {a b : Start} (bytes : List ℕ) → s ≡ t → a ≡ b
+    → FollowsPart before after (λ saves. transcript s a saves bytes) (saves_in s a (lines_of bytes))
+    → FollowsPart before after (λ saves. transcript t b saves bytes) (saves_in t b (lines_of bytes))
+part_same {before} {after} bytes p q f = record {
+  saves = f.saves;
+  few = subst (λ (n : ℕ). length f.saves ≤ n) (λ i. length (saves_in (p i) (q i) (lines_of bytes))) f.few;
+  gave = subst (λ (text : List ℕ). GavePrefix before.streams.given after.streams.given text) (λ i. transcript (p i) (q i) f.saves bytes) f.gave;
+  files_are = subst (λ (asked : List Save). FilesAfter f.saves asked before.files after.files) (λ i. saves_in (p i) (q i) (lines_of bytes)) f.files_are;
+}
 
-same_bytes : (files : Option FileMap) (name told bytes : List ℕ) → Finds files name told → HoldsFile files name bytes → bytes ≡ told
-same_bytes files name told bytes f h =
-    let n : file_at f.0 name ≡ Some bytes = subst (λ (o : Option FileMap). HoldsFile o name bytes) f.1 h in
-    same_name bytes told (sym n ∙ f.2)
+-- nothing was given and nothing was stored
+nothing_follows : (before after : Outside) (text : List Bool → List ℕ) (asked : List Save) → after.streams.given ≡ before.streams.given
+    → LeavesAlone before after → FollowsPart before after text asked
+nothing_follows before after text asked same alone = record {
+  saves = [];
+  few = omega arith;
+  gave = gave_prefix_before before.streams.given after.streams.given [] (text [])
+      (gave_prefix_whole before.streams.given after.streams.given [] (same ∙ gave_nothing before.streams.given));
+  files_are = alone.files;
+}
 
--- a file that is told and is short enough is fetched, unless the keeper fails
-told_comes : (files : Option FileMap) (file : FileSought) (bytes : List ℕ) (before now : KeeperCounts) → Finds files file.name bytes
-    → length bytes ≤ file.limit → NotRisen before.faults now.faults → (fault : FetchFault) → FileFault fault file files before now → ⊥
-told_comes files file bytes before now f short stayed fetch.Absent why = lacks_none files file.name bytes f why.1
-told_comes files file bytes before now f short stayed fetch.Failed why = stayed why
-told_comes files file bytes before now f short stayed (fetch.TooLong bound) why = longer_not files file.name bytes file.limit f short why.1
-told_comes files file bytes before now f short stayed fetch.Memory why = why
+-- ---- a session
 
-same_request : (words : Words) (a b : Meant) → meaning words ≡ Some a → meaning words ≡ Some b → a ≡ b
-same_request words a b x y = let e : Some a ≡ Some b = sym x ∙ y in cc
+module _ (before after : Outside) (s : Subject) (start : Start) (bytes : List ℕ) (console : before.streams.left ≡ Some bytes) where
+  abbrev Whole : Type 0
+  Whole = Follows before after (λ saves. transcript s start saves bytes) (saves_in s start (lines_of bytes))
 
--- words that mean nothing name no source
-pub no_setting : {words : Words} {files : Option FileMap} {left : Option (List ℕ)} → Setting words files left → meaning words ≡ None → ⊥
-no_setting set none = let x : ◌≡◌ {A = Option Meant} None (Some set.file.request) = sym none ∙ set.file.meant in let y : ⊥ = cc in y
+  abbrev Part : Type 0
+  Part = FollowsPart before after (λ saves. transcript s start saves bytes) (saves_in s start (lines_of bytes))
 
--- the bytes of an input that is told
-same_input : (files : Option FileMap) (name : Option (List ℕ)) (bytes told : List ℕ) → IsInput files name bytes → FindsInput files name told → bytes ≡ told
-same_input files None bytes told h f = h ∙ sym f
-same_input files (Some name) bytes told h f = same_bytes files name told bytes f h.0
+  whole_of : Went s start before ending.Done after → Whole
+  whole_of w =
+      let t = told_so s start before.streams.left after.streams.left bytes console before after ending.Done w w.is_heard in
+      record { saves = w.saves; each = t.0; gave = t.1; files_are = t.2; counts_are = w.counts }
 
-module _ (words : Words) (before after : Outside) where
-  abbrev Here : Status → Type 0
-  Here s = Goes words before after s
+  part_with : (saves : List Bool) → length saves ≤ length (saves_in s start (lines_of bytes))
+      → GavePrefix before.streams.given after.streams.given (transcript s start saves bytes)
+      → FilesAfter saves (saves_in s start (lines_of bytes)) before.files after.files → Part
+  part_with saves few gave files = record { saves = saves; few = few; gave = gave; files_are = files }
 
-  abbrev Talked : Type 0
-  Talked = Session words before.files before.streams.left after.streams.left
+  part_of : (e : Ending) → Went s start before e after → Part
+  part_of e w = by e w (told_so s start before.streams.left after.streams.left bytes console before after e w w.is_heard)
+    where
+      by : (e : Ending) (w : Went s start before e after)
+          → FirstAnswered e w.saves (saves_in s start (lines_of bytes))
+          × GaveOf e before.streams.given after.streams.given (transcript s start w.saves bytes)
+          × FilesAfter w.saves (saves_in s start (lines_of bytes)) before.files after.files → Part
+      by ending.Done w t = part_with w.saves (omega (arith, t.0)) (gave_prefix_whole before.streams.given after.streams.given _ t.1) t.2
+      by ending.Refused w t = part_with w.saves t.0 (gave_prefix_whole before.streams.given after.streams.given _ t.1) t.2
+      by ending.Console w t = part_with w.saves t.0 t.1 t.2
+      by ending.Screen w t = part_with w.saves t.0 t.1 t.2
+      by ending.Spent w t = part_with w.saves t.0 t.1 t.2
+      by ending.Memory w t = part_with w.saves t.0 t.1 t.2
 
-  abbrev Gave : List ℕ → Type 0
-  Gave text = GaveAll before.streams.given after.streams.given text
+  -- ---- how it ended, where the saved session fits
 
-  abbrev GaveFront : List ℕ → Type 0
-  GaveFront text = GavePrefix before.streams.given after.streams.given text
+  module _ (fits : misfit s start ≡ None) where
+    cause : (e : Ending) → Went s start before e after → Cause s start before.streams.left after.streams.left bytes console e
+    cause e w = record { heard = w.heard; is_heard = w.is_heard; ended = w.ended; refused = w.refused; fits = fits }
 
-  module _ (f : Stored words before.files) where
-    same_file : (file : Fetched words before.files) → file.bytes ≡ f.bytes
-    same_file file =
-        let same : file.request ≡ f.request = same_request words file.request f.request file.meant f.meant in
-        same_bytes before.files f.request.source f.bytes file.bytes f.found
-        (subst (λ (m : Meant). HoldsFile before.files m.source file.bytes) same file.fetched.0)
+    closed : (e : Ending) → Counted (session.is_console e) 0 0 → Counted (session.is_screen e) 0 0 → Closed e 0 0 0 0
+    closed e a b = record {
+      console_counted = a;
+      console_stayed = λ r. let x : ⊥ = omega (arith, r) in x;
+      screen_counted = b;
+      screen_stayed = λ r. let x : ⊥ = omega (arith, r) in x;
+    }
 
-    source_comes : length f.bytes ≤ source_bytes → NotRisen before.counts.faults after.counts.faults → (file : FileSought) → IsSource words file
-        → (fault : FetchFault) → FileFault fault file before.files before.counts after.counts → ⊥
-    source_comes short stayed file is fault cause =
-        let same : is.0 ≡ f.request = same_request words is.0 f.request is.1 f.meant in
-        let wanted : file ≡ record { name = f.request.source; limit = source_bytes } =
-        is.2 ∙ ap (λ (m : Meant). record { name = m.source; limit = source_bytes }) same in
-        told_comes before.files (record { name = f.request.source; limit = source_bytes }) f.bytes before.counts after.counts f.found short stayed fault
-        (subst (λ (x : FileSought). FileFault fault x before.files before.counts after.counts) wanted cause)
-
-    not_refused : (t : Lexed) (p : ProgramRows) → IsProgram f.bytes t p → SourceRefused words before.files → ⊥
-    not_refused t p is r = r.none t p (subst (λ (b : List ℕ). IsProgram b t p) (sym (same_file r.file)) is)
-
-    no_checked : NoProgram f.bytes → Checked words before.files → ⊥
-    no_checked none k = none k.tokens k.rows (subst (λ (b : List ℕ). IsProgram b k.tokens k.rows) (same_file k.file) k.program)
-
-    is_refused : NoProgram f.bytes → Talked → ⊥
-    is_refused none a = no_checked none a.source
-
-    unfetched_not : NoProgram f.bytes → length f.bytes ≤ source_bytes → NotRisen before.counts.faults after.counts.faults
-        → NotFetched words before.files before.counts after.counts → ⊥
-    unfetched_not none short stayed n = by n.sought
+    not_spent : Went s start before ending.Spent after → EndsInTime bytes → ⊥
+    not_spent w ends =
+        by (done_or_memory s start before.streams.left after.streams.left bytes console ending.Spent (cause ending.Spent w) (closed ending.Spent refl refl)
+        ends)
       where
-        by : IsSource words n.file ⊎ IsInputOf words before.files n.file → ⊥
-        by (inl source) = source_comes short stayed n.file source n.fault n.cause
-        by (inr input) = no_checked none input.0
+        by : (ending.Spent ≡ ending.Done) ⊎ (ending.Spent ≡ ending.Memory) → ⊥
+        by (inl e) = let x : ⊥ = cc in x
+        by (inr e) = let x : ⊥ = cc in x
 
-    pub refused_or_memory : NoProgram f.bytes → length f.bytes ≤ source_bytes → NotRisen before.counts.faults after.counts.faults → (s : Status) → Here s
-        → (s ≡ status.Screen → ⊥) → (s ≡ status.Source) ⊎ (s ≡ status.Memory)
-    refused_or_memory none short stayed status.Done h screen = absurd (is_refused none h.0)
-    refused_or_memory none short stayed status.Words h screen = absurd h
-    refused_or_memory none short stayed status.Source h screen = inl refl
-    refused_or_memory none short stayed status.File h screen = absurd (unfetched_not none short stayed h.0)
-    refused_or_memory none short stayed status.Console h screen = absurd (is_refused none h.0)
-    refused_or_memory none short stayed status.Screen h screen = absurd (screen refl)
-    refused_or_memory none short stayed status.Memory h screen = inr refl
-    refused_or_memory none short stayed status.Spent h screen = absurd (is_refused none h.0)
+    not_done : Went s start before ending.Done after → GoesOn bytes → ⊥
+    not_done w on =
+        by (spent_or_memory s start before.streams.left after.streams.left bytes console ending.Done (cause ending.Done w) (closed ending.Done refl refl) on)
+      where
+        by : (ending.Done ≡ ending.Spent) ⊎ (ending.Done ≡ ending.Memory) → ⊥
+        by (inl e) = let x : ⊥ = cc in x
+        by (inr e) = let x : ⊥ = cc in x
 
-  -- ---- where the file is a program, and the console tells its bytes
+    not_refused : Went s start before ending.Refused after → ⊥
+    not_refused w = none_some (subst IsSome fits w.refused)
+      where
+        none_some : IsSome {T = Misfit} None → ⊥
+        none_some e = let x : ⊥ = cc in x
 
-  module _ (one : OneRun) (set : Setting words before.files before.streams.left) where
-    abbrev wanted : Execution
-    wanted = run_of set
+-- ---- files that are told
 
-    same_run : (a : Talked) → execution_in a ≡ wanted
-    same_run a =
-        let k = a.source in
-        let same : k.file.request ≡ set.file.request = same_request words k.file.request set.file.request k.file.meant set.file.meant in
-        let given : a.input ≡ set.input =
-        same_input before.files set.file.request.input a.input set.input
-        (subst (λ (m : Meant). IsInput before.files m.input a.input) same a.is_input) set.found in
-        one set.file.bytes k.tokens set.tokens k.rows set.rows
-        (subst (λ (b : List ℕ). IsProgram b k.tokens k.rows) (same_file set.file k.file) k.program) set.program
-        (record { input = a.input; budget = k.file.request.budget })
-        ∙ (λ i. execution_of set.tokens set.rows (record { input = given i; budget = (same i).budget }))
+module _ (one : OneRun) (r : Requested) (before after : Outside) (told : Told r before.files before.streams.left) where
+  abbrev Here : Status → Type 0
+  Here s = Goes (Some (Source r)) before after s
 
-    -- what was said is a first part of the transcript, and all of it where the dialog was answered to its end
-    told_first : (a : Talked) → (rest : List ℕ) × (transcript_of set ≡ said_in a ++ rest)
-    told_first a =
-        let r = said_first (subject_of (execution_in a)) before.streams.left after.streams.left set.console set.told a.heard a.is_heard in
-        (r.0, ap (λ (h : Execution). transcript (subject_of h) set.console) (sym (same_run a)) ∙ r.1)
+  abbrev about : Subject
+  about = subject_in told.begun
 
-    told_all : (a : Talked) → EndedBy ending.Done a.heard → transcript_of set ≡ said_in a
-    told_all a w =
-        ap (λ (h : Execution). transcript (subject_of h) set.console) (sym (same_run a))
-        ∙ said_all (subject_of (execution_in a)) before.streams.left after.streams.left set.console set.told a.heard a.is_heard w
+  abbrev begins : Start
+  begins = start_in told.begun
 
-    pub whole_transcript : Here status.Done → Gave (transcript_of set)
-    whole_transcript (a, g, w) = subst Gave (sym (told_all a w)) g
+  talk : (e : Ending) → Talks (Some (Source r)) before after e → Went about begins before e after
+  talk e (b, w) =
+      subst (λ (start : Start). Went about start before e after) (same_start r before.files told.files_told one b told.begun)
+      (subst (λ (s : Subject). Went s (start_in b) before e after) (same_subject r before.files told.files_told one b told.begun) w)
 
-    part_of : (a : Talked) → GaveFront (said_in a) → GaveFront (transcript_of set)
-    part_of a g =
-        let r = told_first a in
-        subst GaveFront (sym r.1) (gave_prefix_before before.streams.given after.streams.given (said_in a) r.0 g)
+  whole_told : Here status.Done → Whole before after about begins told.console told.console_told
+  whole_told (inl x) = absurd x.owed
+  whole_told (inr t) = whole_of before after about begins told.console told.console_told (talk ending.Done t)
 
-    whole_part : (a : Talked) → Gave (said_in a) → GaveFront (transcript_of set)
-    whole_part a g = part_of a (gave_prefix_whole before.streams.given after.streams.given (said_in a) g)
+  module _ (well : NoFetchFailed before.counts after.counts) where
+    none_owed : (wanted : Status) (text : List ℕ) → Owes (Some (Source r)) before after wanted text → ⊥
+    none_owed status.Done text o = o
+    none_owed status.Words text o = o
+    none_owed status.Source text o = no_refusal r before.files told.files_told told.begun.run.source o.0
+    none_owed status.File text o =
+        no_fault r before.files told.files_told (begun_comes r before.files told.files_told told.begun) before.counts after.counts well o.0 o.2
+    none_owed status.Console text o = o
+    none_owed status.Screen text o = o
+    none_owed status.Memory text o = o
+    none_owed status.Session text o = no_other_session r before.files told.files_told told.begun o.0
+    none_owed status.Spent text o = o
 
-    module _ (short : IsWithin set) (stayed : NotRisen before.counts.faults after.counts.faults) where
-      -- the input is fetched
-      input_comes : (file : FileSought) → IsInputOf words before.files file → (fault : FetchFault)
-          → FileFault fault file before.files before.counts after.counts → ⊥
-      input_comes file is fault cause =
-          let request = is.0.file.request in
-          let same : request ≡ set.file.request = same_request words request set.file.request is.0.file.meant set.file.meant in
-          let named : set.file.request.input ≡ Some file.name = ap (λ (m : Meant). m.input) (sym same) ∙ is.1 in
-          let found : Finds before.files file.name set.input = subst (λ (o : Option (List ℕ)). FindsInput before.files o set.input) named set.found in
-          told_comes before.files file set.input before.counts after.counts found (omega (arith, short.1, is.2)) stayed fault cause
+    part : (e : Ending) → Talks (Some (Source r)) before after e → Part before after about begins told.console told.console_told
+    part e t = part_of before after about begins told.console told.console_told e (talk e t)
 
-      no_fault : NotFetched words before.files before.counts after.counts → ⊥
-      no_fault n = by n.sought
-        where
-          by : IsSource words n.file ⊎ IsInputOf words before.files n.file → ⊥
-          by (inl source) = source_comes set.file short.0 stayed n.file source n.fault n.cause
-          by (inr input) = input_comes n.file input n.fault n.cause
+    part_told : (s : Status) → Here s → Part before after about begins told.console told.console_told
+    part_told status.Done (inl x) = absurd (none_owed status.Done x.text x.owed)
+    part_told status.Done (inr t) = part ending.Done t
+    part_told status.Words x = absurd (none_owed status.Words x.text x.owed)
+    part_told status.Source x = absurd (none_owed status.Source x.text x.owed)
+    part_told status.File x = absurd (none_owed status.File x.text x.owed)
+    part_told status.Console t = part ending.Console t
+    part_told status.Screen (inl x) = absurd (none_owed x.wanted x.text x.owed)
+    part_told status.Screen (inr t) = part ending.Screen t
+    part_told status.Memory (inl x) = nothing_follows before after _ _ x.given x.alone
+    part_told status.Memory (inr t) = part ending.Memory t
+    part_told status.Session (inl x) = absurd (none_owed status.Session x.text x.owed)
+    part_told status.Session (inr t) = part ending.Refused t
+    part_told status.Spent t = part ending.Spent t
 
-      refuses_not : SourceRefused words before.files → ⊥
-      refuses_not r = not_refused set.file set.tokens set.rows set.program r
+    module _ (fits : misfit about begins ≡ None) where
+      abbrev Either : Status → Status → Type 0
+      Either wanted s = (s ≡ status.Console → ⊥) → (s ≡ status.Screen → ⊥) → (s ≡ wanted) ⊎ (s ≡ status.Memory)
 
-      owed_part : (text : List ℕ) → Owed words before after text → GaveFront text → GaveFront (transcript_of set)
-      owed_part text (inl o) g = part_of o.0 (subst GaveFront o.1 g)
-      owed_part text (inr (inl o)) g = absurd (refuses_not o.0)
-      owed_part text (inr (inr o)) g = absurd (no_fault o.0)
+      no_misfit : Talks (Some (Source r)) before after ending.Refused → ⊥
+      no_misfit t = not_refused before after about begins told.console told.console_told fits (talk ending.Refused t)
 
-      pub first_part : (s : Status) → Here s → GaveFront (transcript_of set)
-      first_part status.Done (a, g, w) = whole_part a g
-      first_part status.Words h = absurd h
-      first_part status.Source h = absurd (refuses_not h.0)
-      first_part status.File h = absurd (no_fault h.0)
-      first_part status.Console (a, g, w) = whole_part a g
-      first_part status.Screen h = owed_part h.0 h.1 h.2
-      first_part status.Memory (inl same) = nothing_is_prefix before.streams.given after.streams.given (transcript_of set) same
-      first_part status.Memory (inr (a, g)) = part_of a g
-      first_part status.Spent (a, g, w) = whole_part a g
+      done_comes : EndsInTime told.console → (s : Status) → Here s → Either status.Done s
+      done_comes ends status.Done h console screen = inl refl
+      done_comes ends status.Words x console screen = absurd (none_owed status.Words x.text x.owed)
+      done_comes ends status.Source x console screen = absurd (none_owed status.Source x.text x.owed)
+      done_comes ends status.File x console screen = absurd (none_owed status.File x.text x.owed)
+      done_comes ends status.Console h console screen = absurd (console refl)
+      done_comes ends status.Screen h console screen = absurd (screen refl)
+      done_comes ends status.Memory h console screen = inr refl
+      done_comes ends status.Session (inl x) console screen = absurd (none_owed status.Session x.text x.owed)
+      done_comes ends status.Session (inr t) console screen = absurd (no_misfit t)
+      done_comes ends status.Spent t console screen =
+          absurd (not_spent before after about begins told.console told.console_told fits (talk ending.Spent t) ends)
 
-      -- ---- which status comes
+      spent_comes : GoesOn told.console → (s : Status) → Here s → Either status.Spent s
+      spent_comes on status.Done (inl x) console screen = absurd (none_owed status.Done x.text x.owed)
+      spent_comes on status.Done (inr t) console screen =
+          absurd (not_done before after about begins told.console told.console_told fits (talk ending.Done t) on)
+      spent_comes on status.Words x console screen = absurd (none_owed status.Words x.text x.owed)
+      spent_comes on status.Source x console screen = absurd (none_owed status.Source x.text x.owed)
+      spent_comes on status.File x console screen = absurd (none_owed status.File x.text x.owed)
+      spent_comes on status.Console h console screen = absurd (console refl)
+      spent_comes on status.Screen h console screen = absurd (screen refl)
+      spent_comes on status.Memory h console screen = inr refl
+      spent_comes on status.Session (inl x) console screen = absurd (none_owed status.Session x.text x.owed)
+      spent_comes on status.Session (inr t) console screen = absurd (no_misfit t)
+      spent_comes on status.Spent h console screen = inl refl
 
-      unspent : (a : Talked) → EndedBy ending.Spent a.heard → EndsInTime set.console → ⊥
-      unspent a = not_spent (subject_of wanted) before.streams.left after.streams.left set.console set.told a.heard a.is_heard
+-- ---- a made program
 
-      undone : (a : Talked) → EndedBy ending.Done a.heard → GoesOn set.console → ⊥
-      undone a = not_done (subject_of wanted) before.streams.left after.streams.left set.console set.told a.heard a.is_heard
+module _ (one : OneRun) (number : ℕ) (before after : Outside) (x : MadeProgram number) where
+  abbrev AsMade : Status → Type 0
+  AsMade s = Goes (Some (Made number)) before after s
 
-      module _ (s : Status) (h : Here s) (console : s ≡ status.Console → ⊥) (screen : s ≡ status.Screen → ⊥) where
-        pub done_or_memory : EndsInTime set.console → (s ≡ status.Done) ⊎ (s ≡ status.Memory)
-        done_or_memory ends = by s h console screen
-          where
-            by : (s : Status) → Here s → (s ≡ status.Console → ⊥) → (s ≡ status.Screen → ⊥) → (s ≡ status.Done) ⊎ (s ≡ status.Memory)
-            by status.Done h console screen = inl refl
-            by status.Words h console screen = absurd h
-            by status.Source h console screen = absurd (refuses_not h.0)
-            by status.File h console screen = absurd (no_fault h.0)
-            by status.Console h console screen = absurd (console refl)
-            by status.Screen h console screen = absurd (screen refl)
-            by status.Memory h console screen = inr refl
-            by status.Spent (a, g, w) console screen = absurd (unspent a w ends)
+  no_made_refusal : SourceRefused (Made number) before.files → ⊥
+  no_made_refusal y = y.none x.tokens x.rows (subst (λ (bytes : List ℕ). IsProgram bytes x.tokens x.rows) (sym y.source) x.program)
 
-        pub spent_or_memory : GoesOn set.console → (s ≡ status.Spent) ⊎ (s ≡ status.Memory)
-        spent_or_memory on = by s h console screen
-          where
-            by : (s : Status) → Here s → (s ≡ status.Console → ⊥) → (s ≡ status.Screen → ⊥) → (s ≡ status.Spent) ⊎ (s ≡ status.Memory)
-            by status.Done (a, g, w) console screen = absurd (undone a w on)
-            by status.Words h console screen = absurd h
-            by status.Source h console screen = absurd (refuses_not h.0)
-            by status.File h console screen = absurd (no_fault h.0)
-            by status.Console h console screen = absurd (console refl)
-            by status.Screen h console screen = absurd (screen refl)
-            by status.Memory h console screen = inr refl
-            by status.Spent h console screen = inl refl
+  whole_made : AsMade status.Done → Follows before after (λ saves. made_text x) []
+  whole_made (inl y) = record {
+    saves = [];
+    each = refl;
+    gave = subst (λ (text : List ℕ). GaveAll before.streams.given after.streams.given text) (y.owed.1 ∙ same_made one number y.owed.0 x) y.gave;
+    files_are = y.alone.files;
+    counts_are = y.owed.2;
+  }
+  whole_made (inr t) = absurd t
+
+  some_made : LeavesAlone before after → GavePrefix before.streams.given after.streams.given (made_text x)
+      → FollowsPart before after (λ saves. made_text x) []
+  some_made alone gave = record { saves = []; few = omega arith; gave = gave; files_are = alone.files }
+
+  owed_made : (y : SaysPart (Some (Made number)) before after) → FollowsPart before after (λ saves. made_text x) []
+  owed_made y = by y.wanted y.owed
+    where
+      by : (wanted : Status) → Owes (Some (Made number)) before after wanted y.text → FollowsPart before after (λ saves. made_text x) []
+      by status.Done o =
+          some_made y.alone
+          (subst (λ (text : List ℕ). GavePrefix before.streams.given after.streams.given text) (o.1 ∙ same_made one number o.0 x) y.gave)
+      by status.Words o = absurd o
+      by status.Source o = absurd (no_made_refusal o.0)
+      by status.File o = absurd o
+      by status.Console o = absurd o
+      by status.Screen o = absurd o
+      by status.Memory o = absurd o
+      by status.Session o = absurd o
+      by status.Spent o = absurd o
+
+  part_made : (s : Status) → AsMade s → FollowsPart before after (λ saves. made_text x) []
+  part_made status.Done h =
+      let f = whole_made h in
+      record { saves = []; few = omega arith; gave = gave_prefix_whole before.streams.given after.streams.given (made_text x) f.gave; files_are = made_files h }
+    where
+      made_files : AsMade status.Done → after.files ≡ before.files
+      made_files (inl y) = y.alone.files
+      made_files (inr t) = absurd t
+  part_made status.Words y = absurd y.owed
+  part_made status.Source y = absurd (no_made_refusal y.owed.0)
+  part_made status.File y = absurd y.owed
+  part_made status.Console t = absurd t
+  part_made status.Screen (inl y) = owed_made y
+  part_made status.Screen (inr t) = absurd t
+  part_made status.Memory (inl y) = nothing_follows before after _ _ y.given y.alone
+  part_made status.Memory (inr t) = absurd t
+  part_made status.Session (inl y) = absurd y.owed
+  part_made status.Session (inr t) = absurd t
+  part_made status.Spent t = absurd t
+
+  made_comes : (s : Status) → AsMade s → (s ≡ status.Screen → ⊥) → (s ≡ status.Done) ⊎ (s ≡ status.Memory)
+  made_comes status.Done h screen = inl refl
+  made_comes status.Words y screen = absurd y.owed
+  made_comes status.Source y screen = absurd (no_made_refusal y.owed.0)
+  made_comes status.File y screen = absurd y.owed
+  made_comes status.Console t screen = absurd t
+  made_comes status.Screen h screen = absurd (screen refl)
+  made_comes status.Memory h screen = inr refl
+  made_comes status.Session (inl y) screen = absurd y.owed
+  made_comes status.Session (inr t) screen = absurd t
+  made_comes status.Spent t screen = absurd t
+
+-- ---- either
+
+module _ (one : OneRun) (words : Words) (before after : Outside) where
+  abbrev At : Option Meant → Status → Type 0
+  At m s = Goes m before after s
+
+  pub whole_transcript : (set : Setting words before.files before.streams.left) → At (meaning words) status.Done
+      → Follows before after (transcript_of set) (saves_of set)
+  whole_transcript (InFiles r means told) h = whole_told one r before after told (subst (λ (m : Option Meant). At m status.Done) means h)
+  whole_transcript (IsMade number means x) h = whole_made one number before after x (subst (λ (m : Option Meant). At m status.Done) means h)
+
+  pub first_part : (set : Setting words before.files before.streams.left) → AllFetched set before.counts after.counts → (s : Status)
+      → At (meaning words) s → FollowsPart before after (transcript_of set) (saves_of set)
+  first_part (InFiles r means told) well s h = part_told one r before after told well s (subst (λ (m : Option Meant). At m s) means h)
+  first_part (IsMade number means x) well s h = part_made one number before after x s (subst (λ (m : Option Meant). At m s) means h)
+
+  -- what failed, by the counts of the console and of the screen
+  pub record Failed (s : Status) (console console' screen screen' : ℕ) : Type 0 where
+    pub console_counted : Counted (is_console s) console console'
+    pub screen_counted : Counted (is_screen s) screen screen'
+
+  pub wanted_or_memory : (set : Setting words before.files before.streams.left) (wanted : Status) → ComesTo set wanted
+      → {console console' screen screen' : ℕ}
+      → NothingFailed set (record { keeper = before.counts; console = console; screen = screen })
+      (record { keeper = after.counts; console = console'; screen = screen' })
+      → (s : Status) → Failed s console console' screen screen' → At (meaning words) s → (s ≡ wanted) ⊎ (s ≡ status.Memory)
+  wanted_or_memory (InFiles r means told) status.Done (fits, ends) {console} {console'} {screen} {screen'} (well, calm, still) s f h =
+      done_comes one r before after told well fits ends s (subst (λ (m : Option Meant). At m s) means h)
+      (no_console s console console' f.console_counted calm) (no_screen s screen screen' f.screen_counted still)
+  wanted_or_memory (InFiles r means told) status.Spent (fits, on) {console} {console'} {screen} {screen'} (well, calm, still) s f h =
+      spent_comes one r before after told well fits on s (subst (λ (m : Option Meant). At m s) means h)
+      (no_console s console console' f.console_counted calm) (no_screen s screen screen' f.screen_counted still)
+  wanted_or_memory (InFiles r means told) status.Words c n s f h = absurd c
+  wanted_or_memory (InFiles r means told) status.Source c n s f h = absurd c
+  wanted_or_memory (InFiles r means told) status.File c n s f h = absurd c
+  wanted_or_memory (InFiles r means told) status.Console c n s f h = absurd c
+  wanted_or_memory (InFiles r means told) status.Screen c n s f h = absurd c
+  wanted_or_memory (InFiles r means told) status.Memory c n s f h = absurd c
+  wanted_or_memory (InFiles r means told) status.Session c n s f h = absurd c
+  wanted_or_memory (IsMade number means x) status.Done c {console} {console'} {screen} {screen'} still s f h =
+      made_comes one number before after x s (subst (λ (m : Option Meant). At m s) means h) (no_screen s screen screen' f.screen_counted still)
+  wanted_or_memory (IsMade number means x) status.Spent c n s f h = absurd c
+  wanted_or_memory (IsMade number means x) status.Words c n s f h = absurd c
+  wanted_or_memory (IsMade number means x) status.Source c n s f h = absurd c
+  wanted_or_memory (IsMade number means x) status.File c n s f h = absurd c
+  wanted_or_memory (IsMade number means x) status.Console c n s f h = absurd c
+  wanted_or_memory (IsMade number means x) status.Screen c n s f h = absurd c
+  wanted_or_memory (IsMade number means x) status.Memory c n s f h = absurd c
+  wanted_or_memory (IsMade number means x) status.Session c n s f h = absurd c

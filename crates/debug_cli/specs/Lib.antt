@@ -1,6 +1,9 @@
 pub mod Texts
 pub mod Status
+pub mod Given
+pub mod Named
 pub mod Outside
-pub mod Asked
+pub mod Goes
 pub mod Setting
 pub mod Laws
+pub mod Headline

@@ -1,20 +1,19 @@
--- What is outside of the command, at one moment.
-use Rattle.std.specs.Prelude.{◌≡◌, ◌⊎◌, ℕ, List, Option, Err}
-use Rattle.edge_ports.specs.Files.{FileMap}
+-- What became of what is outside of the command.
+use Rattle.std.specs.Prelude.{◌≡◌, ◌⊎◌, ◌≢◌, ℕ, Err}
 use Rattle.edge_ports.specs.Counts.{KeeperCounts, CountsFetch}
 use Rattle.edge_ports.specs.declared.ports.FetchFault.{FetchFault}
 use Rattle.ask_session.specs.Console.{NotRisen}
+use Rattle.ask_session.specs.Outside.{Outside}
 
--- the bytes that the console has left, and those that the screen was given, where they tell them
-pub record Streams : Type 0 where
-  pub left : Option (List ℕ)
-  pub given : Option (List ℕ)
+-- no file was stored, and nothing was taken of the console
+pub record LeavesAlone (before after : Outside) : Type 0 where
+  pub files : after.files ≡ before.files
+  pub left : after.streams.left ≡ before.streams.left
 
--- the keeper's files, where it tells them, and its counts; and the streams
-pub record Outside : Type 0 where
-  pub files : Option FileMap
-  pub counts : KeeperCounts
-  pub streams : Streams
+-- a keeper's counts after fetches none of which came after one that failed: they stay, or the one rises that says why a
+-- file was not fetched, and no other
+abbrev pub CountsOneFault : KeeperCounts → KeeperCounts → Type 0
+CountsOneFault before now = (now ≡ before) ⊎ ((fault : FetchFault) × CountsFetch (Err fault) before now)
 
 -- no count of a keeper rose, and none stands at its last value
 pub record NoneRisen (before now : KeeperCounts) : Type 0 where
@@ -22,7 +21,12 @@ pub record NoneRisen (before now : KeeperCounts) : Type 0 where
   pub misses : NotRisen before.misses now.misses
   pub overs : NotRisen before.overs now.overs
 
--- a keeper's counts after the command, which stores no file, and fetches none after one that was not fetched: they
--- stay, or the one rises that says why a file was not fetched, and no other
-abbrev pub CountsOneFault : KeeperCounts → KeeperCounts → Type 0
-CountsOneFault before now = (now ≡ before) ⊎ ((fault : FetchFault) × CountsFetch (Err fault) before now)
+-- no fetch failed: no call of the keeper did, or files were to be stored, which comes after all fetches
+abbrev pub NoFetchFailed : KeeperCounts → KeeperCounts → Type 0
+NoFetchFailed before now = NotRisen before.faults now.faults ⊎ (now.stores ≢ before.stores)
+
+-- the counts of what went wrong outside
+pub record Faults : Type 0 where
+  pub keeper : KeeperCounts
+  pub console : ℕ
+  pub screen : ℕ

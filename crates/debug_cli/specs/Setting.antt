@@ -1,53 +1,80 @@
--- What may be known before the command begins: the files that its words name, the program, and the console's bytes.
-use Rattle.std.specs.Prelude.{◌≡◌, ◌≤◌, ℕ, List, [], Option, Some, None, length}
-use Rattle.edge_ports.specs.Files.{FileMap, file_at}
-use Rattle.pas_lexer.specs.Lexed.{Lexed}
-use Rattle.pas_lexer.specs.Limits.{source_bytes}
-use Rattle.program_tables.specs.ProgramRows.{ProgramRows}
-use Rattle.command_words.specs.Meaning.{Meant}
-use Rattle.debuggee.specs.Program.{IsProgram}
-use Rattle.debuggee.specs.Execution.{Execution, execution_of}
-use Rattle.debuggee.specs.Limits.{input_bytes}
-use Rattle.debuggee.specs.Subjects.{subject_of}
+-- What may be known before the command begins: the files that its words name, the program, and the console's bytes; and
+-- what follows.
+use Rattle.std.specs.Prelude.{◌≡◌, ◌⊎◌, ℕ, Bool, List, [], Option, Some, None, IsSome}
+use Rattle.edge_ports.specs.Counts.{KeeperCounts}
+use Rattle.edge_ports.specs.Files.{FileMap}
+use Rattle.edge_ports.specs.Lines.{lines_of}
+use Rattle.command_words.specs.Meaning.{Meant, Requested, Source, Made}
+use Rattle.ask_session.specs.Console.{EndsInTime, GoesOn, NotRisen}
 use Rattle.ask_session.specs.Dialog.{transcript}
-use Rattle.debug_cli.specs.Asked.{Words, meaning}
+use Rattle.ask_session.specs.Saves.{Save, saves_in}
+use Rattle.session_book.specs.Fit.{misfit}
+use Rattle.debuggee.specs.Program.{NoProgram}
+use Rattle.debug_cli.specs.declared.status.Status.{Status}
+use Rattle.debug_cli.specs.declared.status.Status.TheVariants as status
+use Rattle.debug_cli.specs.Named.{Words, meaning, Begun, IsSource, MadeProgram, SessionRefused}
+use Rattle.debug_cli.specs.Named.{made_text, start_in, subject_in}
+use Rattle.debug_cli.specs.Outside.{Faults, NoFetchFailed}
 
--- the keeper tells its files, and the one of this name has these bytes
-abbrev pub Finds : Option FileMap → List ℕ → List ℕ → Type 0
-Finds files name bytes = (map : FileMap) × (files ≡ Some map) × (file_at map name ≡ Some bytes)
-
--- the bytes of the input: those of the file that is named, which the keeper tells, and none where no file is named
-abbrev pub FindsInput : Option FileMap → (name : Option (List ℕ)) → (bytes : List ℕ) → Type 0
-FindsInput files None bytes = bytes ≡ []
-FindsInput files (Some name) bytes = Finds files name bytes
-
--- the words name a source that the keeper tells
-pub record Stored (words : Words) (files : Option FileMap) : Type 0 where
-  pub request : Meant
-  pub meant : meaning words ≡ Some request
-  pub bytes : List ℕ
-  pub found : Finds files request.source bytes
-
--- that source is a program, the input is told too, and the console tells its bytes
-pub record Setting (words : Words) (files : Option FileMap) (left : Option (List ℕ)) : Type 0 where
-  pub file : Stored words files
-  pub tokens : Lexed
-  pub rows : ProgramRows
-  pub program : IsProgram file.bytes tokens rows
-  pub input : List ℕ
-  pub found : FindsInput files file.request.input input
+-- a session can be held: the keeper tells its files, and they are what the request names; and the console tells its
+-- bytes
+pub record Told (r : Requested) (files : Option FileMap) (left : Option (List ℕ)) : Type 0 where
+  pub files_told : IsSome files
+  pub begun : Begun r files
   pub console : List ℕ
-  pub told : left ≡ Some console
+  pub console_told : left ≡ Some console
+
+-- that is so, or the words mean a made program
+pub data Setting (words : Words) (files : Option FileMap) (left : Option (List ℕ)) : Type 0 where
+  InFiles : (r : Requested) → (meaning words ≡ Some (Source r)) → (told : Told r files left) → Setting words files left
+  IsMade : (number : ℕ) → (meaning words ≡ Some (Made number)) → (x : MadeProgram number) → Setting words files left
 
 module _ {words : Words} {files : Option FileMap} {left : Option (List ℕ)} where
-  -- neither file has more bytes than it may have
-  abbrev pub IsWithin : Setting words files left → Type 0
-  IsWithin s = (length s.file.bytes ≤ source_bytes) × (length s.input ≤ input_bytes)
+  -- The whole of what is printed, by the answers that the lines got that ask to save; of a made program its lines.
+  abbrev pub transcript_of : Setting words files left → (saves : List Bool) → List ℕ
+  transcript_of (InFiles r means told) saves =
+      transcript (subject_in told.begun) (start_in told.begun) saves told.console
+  transcript_of (IsMade number means x) saves = made_text x
 
-  -- the run of that program, with its input and the budget that the words give
-  abbrev pub run_of : Setting words files left → Execution
-  run_of s = execution_of s.tokens s.rows (record { input = s.input; budget = s.file.request.budget })
+  -- what the lines of the console ask to save
+  abbrev pub saves_of : Setting words files left → List Save
+  saves_of (InFiles r means told) = saves_in (subject_in told.begun) (start_in told.begun) (lines_of told.console)
+  saves_of (IsMade number means x) = []
 
-  -- the whole of what is printed there
-  abbrev pub transcript_of : Setting words files left → List ℕ
-  transcript_of s = transcript (subject_of (run_of s)) s.console
+  -- The status that is to come: of a session that fits the run, by whether the console ends in time.
+  abbrev pub ComesTo : Setting words files left → Status → Type 0
+  ComesTo (InFiles r means told) status.Done =
+      (misfit (subject_in told.begun) (start_in told.begun) ≡ None) × EndsInTime told.console
+  ComesTo (InFiles r means told) status.Spent =
+      (misfit (subject_in told.begun) (start_in told.begun) ≡ None) × GoesOn told.console
+  ComesTo (IsMade number means x) status.Done = Unit {0}
+  ComesTo s wanted = ⊥
+
+  -- no fetch failed; of a made program there is none
+  abbrev pub AllFetched : Setting words files left → (before now : KeeperCounts) → Type 0
+  AllFetched (InFiles r means told) before now = NoFetchFailed before now
+  AllFetched (IsMade number means x) before now = Unit {0}
+
+  -- no fetch failed, and neither did the console nor the screen; of a made program there is but the screen
+  abbrev pub NothingFailed : Setting words files left → (before now : Faults) → Type 0
+  NothingFailed (InFiles r means told) before now =
+      NoFetchFailed before.keeper now.keeper × NotRisen before.console now.console × NotRisen before.screen now.screen
+  NothingFailed (IsMade number means x) before now = NotRisen before.screen now.screen
+
+-- ---- words that mean a source of which no session can be held
+
+-- the source is no program
+abbrev pub MeansNoProgram : Option Meant → Option FileMap → Type 0
+MeansNoProgram None files = ⊥
+MeansNoProgram (Some m) files = (bytes : List ℕ) × IsSource m files bytes × NoProgram bytes
+
+-- the file that is named as a session's is none, or its session does not fit the run
+abbrev pub MeansNoSession : Option Meant → Option FileMap → Type 0
+MeansNoSession (Some (Source r)) files =
+    SessionRefused r files ⊎ ((b : Begun r files) × IsSome (misfit (subject_in b) (start_in b)))
+MeansNoSession m files = ⊥
+
+-- they name no file
+abbrev pub NamesNoFile : Option Meant → Type 0
+NamesNoFile (Some (Source r)) = ⊥
+NamesNoFile m = Unit {0}

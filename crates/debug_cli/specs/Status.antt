@@ -4,7 +4,7 @@ use Rattle.ask_session.specs.declared.dialog.Ending.{Ending}
 use Rattle.ask_session.specs.declared.dialog.Ending.TheVariants as ending
 use Rattle.debug_cli.specs.declared.status.Status.{Status}
 use Rattle.debug_cli.specs.declared.status.Status.TheVariants.{Done, Words, Source, File}
-use Rattle.debug_cli.specs.declared.status.Status.TheVariants.{Console, Screen, Memory, Spent}
+use Rattle.debug_cli.specs.declared.status.Status.TheVariants.{Console, Screen, Memory, Session, Spent}
 
 abbrev pub code_of : Status → ℕ
 code_of Done = 0
@@ -14,15 +14,8 @@ code_of File = 4
 code_of Console = 5
 code_of Screen = 6
 code_of Memory = 7
+code_of Session = 8
 code_of Spent = 9
-
--- all files that were asked for were fetched: neither one that was not fetched, nor the screen, nor memory that ran out
--- ended the command
-abbrev pub is_after_fetch : Status → Bool
-is_after_fetch File = false
-is_after_fetch Screen = false
-is_after_fetch Memory = false
-is_after_fetch _ = true
 
 -- the screen failed
 abbrev pub is_screen : Status → Bool
@@ -40,4 +33,5 @@ session_status ending.Done = Done
 session_status ending.Console = Console
 session_status ending.Screen = Screen
 session_status ending.Spent = Spent
+session_status ending.Refused = Session
 session_status ending.Memory = Memory

@@ -1,9 +1,13 @@
--- What is printed of words, files and sources that are refused.
+-- What is printed of words, files, sources and sessions that are refused.
 use Rattle.std.specs.Prelude.{ℕ, List, [], ◌++◌, codes, decimal}
 use Rattle.debuggee.specs.declared.refusal.Refusal.{Refusal}
 use Rattle.debuggee.specs.declared.refusal.Refusal.TheVariants as refusal
 use Rattle.edge_ports.specs.declared.ports.FetchFault.{FetchFault}
 use Rattle.edge_ports.specs.declared.ports.FetchFault.TheVariants as fetch
+use Rattle.session_file.specs.declared.session.Field.{Field}
+use Rattle.session_file.specs.declared.session.Field.TheVariants as field
+use Rattle.session_file.specs.declared.session.LoadFault.{LoadFault}
+use Rattle.session_file.specs.declared.session.LoadFault.TheVariants as load
 
 abbrev pub usage_line : List ℕ
 usage_line = codes "usage: pasask SOURCE [--input F] [--budget N] [--load F]\n"
@@ -48,3 +52,18 @@ abbrev pub refused_line : Refusal → (line byte : ℕ) → List ℕ
 refused_line why line byte =
     codes "refused: " ++ refusal_text why ++ codes ", line " ++ decimal line ++ codes ", byte " ++ decimal byte
     ++ codes "\n"
+
+-- the key of a field of a session's text
+abbrev pub field_key : Field → List ℕ
+field_key field.Version = codes "version"
+field_key field.Source = codes "source"
+field_key field.Input = codes "input"
+field_key field.Budget = codes "budget"
+field_key field.Entries = codes "entries"
+
+-- the line on a file that is no session
+abbrev pub session_line : LoadFault → List ℕ
+session_line load.NotJson = codes "session: NotJson\n"
+session_line (load.BadShape field) = codes "session: BadShape " ++ field_key field ++ codes "\n"
+session_line (load.BadVersion version) = codes "session: BadVersion " ++ decimal version ++ codes "\n"
+session_line load.Memory = []

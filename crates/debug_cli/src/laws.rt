@@ -1,8 +1,11 @@
 //! Laws of the transcript, the contract of calls that do nothing.
+ghost use Rattle.body_replay.specs.Laws.{BodiesGiveTheirExits};
 ghost use Rattle.ask_session.specs.Laws.{AsksTheBest, FindsTheFault, NamesTheAccused, NarrowsTheFault};
+ghost use Rattle.debug_cli.specs.Headline.{VerdictsAreFound};
 ghost use Rattle.debug_cli.specs.Laws.{InEachRun, OneRun};
 
 use ask_session::reports_are_sound;
+use body_replay::bodies_give_their_exits;
 use pas_lexer::lexing::division_laws;
 use program_meaning::numbers_tell_the_tree;
 use same_programs::one_text_one_program;
@@ -26,4 +29,21 @@ pub fn search_is_sound()
     // The subtree of a call is an interval.
     numbers_tell_the_tree();
     reports_are_sound();
+}
+
+/// The body of each call of the run of each program, run from its recorded entry with the recorded effects of the calls
+/// that it makes, gives exactly the call's recorded exit.
+pub fn exits_are_given()
+    ensures { BodiesGiveTheirExits }
+{
+    bodies_give_their_exits();
+}
+
+/// Each call that is found, in the run of each program, is judged wrong, the calls that it made are right or trusted,
+/// and its body gives what was recorded of it.
+pub fn verdicts_are_found()
+    ensures { VerdictsAreFound }
+{
+    search_is_sound();
+    exits_are_given();
 }

@@ -1,7 +1,7 @@
 //! How the command ends.
 ghost use Rattle.std.specs.Prelude.{◌≡◌, false, IsTrue};
 ghost use Rattle.edge_ports.specs.Counts.{Counted};
-ghost use Rattle.debug_cli.specs.Asked.{GivesLine};
+ghost use Rattle.debug_cli.specs.Given.{GivesText};
 ghost use Rattle.debug_cli.specs.Status.{code_of, is_screen, session_status};
 
 use ask_session::Ending;
@@ -10,7 +10,7 @@ use edge_ports::{Sink, write_all};
 /// How the command ends.
 #[derive(Clone, Copy)]
 pub enum Status {
-    /// `quit` or the console's end was read.
+    /// `quit` or the console's end was read, or the lines on a made program were given.
     Done,
     /// The words are refused.
     Words,
@@ -24,6 +24,8 @@ pub enum Status {
     Screen,
     /// Memory ran out.
     Memory,
+    /// The session is refused.
+    Session,
     /// The most bytes that are taken of a console were taken, and no end was seen.
     Spent,
 }
@@ -41,6 +43,7 @@ impl Status {
             Status::Console => 5,
             Status::Screen => 6,
             Status::Memory => 7,
+            Status::Session => 8,
             Status::Spent => 9,
         }
     }
@@ -55,18 +58,19 @@ pub fn status_of(ending: Ending) -> Status
         Ending::Console => Status::Console,
         Ending::Screen => Status::Screen,
         Ending::Spent => Status::Spent,
+        Ending::Refused => Status::Session,
         Ending::Memory => Status::Memory,
     }
 }
 
-/// Gives a whole line and ends with this status, or with that of a screen that failed.
-pub fn give_line<O: Sink>(screen: &mut O, line: &[u8], status: Status) -> Status
+/// Gives a whole text and ends with this status, or with that of a screen that failed.
+pub fn give_text<O: Sink>(screen: &mut O, text: &[u8], status: Status) -> Status
     requires { is_screen status ≡ false }
-    ensures gives { GivesLine result status line.now (O.given screen.old) (O.given screen.new) }
+    ensures gives { GivesText result status text.now (O.given screen.old) (O.given screen.new) }
     ensures faults { Counted (is_screen result) (O.faults screen.old) (O.faults screen.new) }
     ensures last { IsTrue (is_screen result) → IsTrue (O.last_failed screen.new) }
 {
-    match write_all(screen, line) {
+    match write_all(screen, text) {
         Ok(()) => status,
         Err(_) => Status::Screen,
     }

@@ -1,11 +1,13 @@
 //! The texts on what is refused.
-ghost use Rattle.std.specs.Prelude.{◌≡◌, ◌++◌, IfOk, OnOk, codes};
+ghost use Rattle.std.specs.Prelude.{◌≡◌, ◌++◌, Err, IfOk, OnOk, alloc_error, codes, decimal};
 ghost use Rattle.debug_cli.specs.Texts.{absent_line, failed_line, too_long_line};
-ghost use Rattle.debug_cli.specs.Texts.{refusal_name, refusal_text, refused_line};
+ghost use Rattle.debug_cli.specs.Texts.{field_key, refusal_name, refusal_text, refused_line, session_line};
 
 use cell_names::write_number;
 use debuggee::Refusal;
 use edge_ports::Bytes;
+use itoa::Buffer;
+use session_file::{Field, LoadFault};
 use std::alloc::{AllocError, Global};
 
 /// Begin, name and line end.
@@ -86,4 +88,45 @@ pub fn refused_text(alloc: Global, why: Refusal, line: u32, byte: u32) -> Result
     write_number(&mut text, byte)?;
     text.append(b"\n")?;
     Ok(text)
+}
+
+/// The key of a field of a session's text.
+fn field_key(field: Field) -> &'static str
+    ensures { result.now ≡ field_key field }
+{
+    match field {
+        Field::Version => "version",
+        Field::Source => "source",
+        Field::Input => "input",
+        Field::Budget => "budget",
+        Field::Entries => "entries",
+    }
+}
+
+/// Begin, word and line end.
+fn word_line(alloc: Global, begin: &[u8], word: &str) -> Result<Bytes, AllocError>
+    ensures { IfOk result (λ text. text ≡ begin.now ++ word.now ++ codes "\n") }
+{
+    named_line(alloc, begin, word.as_bytes())
+}
+
+/// The line on a session of another version.
+fn version_text(alloc: Global, version: u64) -> Result<Bytes, AllocError>
+    ensures { IfOk result (λ text. text ≡ codes "session: BadVersion " ++ decimal version ++ codes "\n") }
+{
+    let mut buffer = Buffer::new();
+    word_line(alloc, b"session: BadVersion ", buffer.format(version))
+}
+
+/// The line on a file that is no session.
+pub fn session_text(alloc: Global, fault: LoadFault) -> Result<Bytes, AllocError>
+    ensures text { IfOk result (λ text. text ≡ session_line fault) }
+    ensures memory { fault ≡ LoadFault.Memory → result ≡ Err alloc_error }
+{
+    match fault {
+        LoadFault::NotJson => word_line(alloc, b"session: ", "NotJson"),
+        LoadFault::BadShape(field) => word_line(alloc, b"session: BadShape ", field_key(field)),
+        LoadFault::BadVersion(version) => version_text(alloc, version),
+        LoadFault::Memory => Err(AllocError),
+    }
 }

@@ -1,2 +1,3 @@
 pub mod SourceIsRun
 pub mod CallsAreNumbered
+pub mod TracesAreOfBodies

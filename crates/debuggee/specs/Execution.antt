@@ -8,15 +8,16 @@ use Rattle.program_run.specs.History.{log_of, recording_of}
 use Rattle.question_text.specs.Cards.{Recorded}
 use Rattle.debuggee.specs.declared.runs.Debuggee.{Debuggee}
 
--- the tokens of a source, and the run of the program that they are, as its cards tell of it
-pub record Execution : Type 0 where
-  pub tokens : Lexed
-  pub recorded : Recorded
-
 -- what a run is supplied with: the bytes of its input, and the steps that it may take
 pub record Supply : Type 0 where
   pub input : List ℕ
   pub budget : ℕ
+
+-- the tokens of a source, what the program that they are was supplied with, and its run, as its cards tell of it
+pub record Execution : Type 0 where
+  pub tokens : Lexed
+  pub supply : Supply
+  pub recorded : Recorded
 
 -- the calls of the run of a program that is supplied so, in order of entry
 unfoldable pub calls_with : Supply → ProgramRows → List Call
@@ -26,6 +27,7 @@ calls_with s p = (recording_of p (run p s.input s.budget)).calls
 abbrev pub execution_of : Lexed → ProgramRows → Supply → Execution
 execution_of t p s = record {
   tokens = t;
+  supply = s;
   recorded = record {
     program = p;
     tokens = length t.tokens;
@@ -39,6 +41,7 @@ execution_of t p s = record {
 abbrev pub execution : Debuggee → Execution
 execution d = record {
   tokens = d.tokens;
+  supply = record { input = d.input.now; budget = d.history.budget };
   recorded = record {
     program = d.program;
     tokens = length d.tokens.tokens;

@@ -1,13 +1,30 @@
 -- What a dialog on a run is about.
-use Rattle.std.specs.Prelude.{length}
+use Rattle.std.specs.Prelude.{ℕ, List, [], Some, None, length, map}
 use Rattle.call_tree.specs.Recording.{lasts_of, parents_of, routines_of}
 use Rattle.program_tables.specs.ProgramRows.{name_of}
-use Rattle.question_text.specs.Cards.{card}
-use Rattle.question_text.specs.WaysOut.{way_line}
+use Rattle.program_meaning.specs.Replay.{Replayed}
+use Rattle.program_meaning.specs.Run.{run, way_out}
+use Rattle.question_text.specs.Cards.{Recorded, card}
+use Rattle.question_text.specs.Traces.{trace_text}
+use Rattle.question_text.specs.Trees.{tree_text}
+use Rattle.body_replay.specs.Replays.{kept_event, work_of}
 use Rattle.dialog_replies.specs.Subject.{Subject}
 use Rattle.debuggee.specs.Execution.{Execution}
 
--- the columns of its calls, the routines of its program by number and name, the cards of its calls, and how each ended
+-- the trace of a call that did this work: what happened in it, and how it ended
+abbrev pub trace_by : Recorded → (k : ℕ) → Replayed → List ℕ
+trace_by r k None = []
+trace_by r k (Some work) = trace_text r k (map (λ e. kept_event e.event) work.events) (way_out work.end)
+
+-- The trace of call k of a run: that of its own work, which is its body, run from its recorded entry with the recorded
+-- effects of the calls that it makes.
+unfoldable pub trace : Execution → (k : ℕ) → List ℕ
+trace h k =
+    let p = h.recorded.program in
+    trace_by h.recorded k (work_of p (run p h.supply.input h.supply.budget) k)
+
+-- the columns of its calls, the routines of its program by number and name, the cards and traces of its calls, and the
+-- lines of all calls with what is said of each
 abbrev pub subject_of : Execution → Subject
 subject_of h = record {
   tree = record {
@@ -18,5 +35,6 @@ subject_of h = record {
   routines = length h.recorded.program.routines;
   name = name_of h.recorded.program;
   card = card h.recorded;
-  trace = way_line h.recorded.calls;
+  trace = trace h;
+  marked = tree_text h.recorded.program h.recorded.calls;
 }

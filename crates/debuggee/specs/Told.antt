@@ -1,4 +1,4 @@
--- The calls of a run of each of which can be told what it did.
+-- What is kept of a run: all of it, and of each call can be told what it did.
 use Rattle.std.specs.Prelude.{◌≡◌, ℕ, List, Some, slice_get}
 use Rattle.std.specs.Coded.{le_prop, Unit-prop}
 use Rattle.cell_value.specs.declared.entries.Touch.{Touch}
@@ -6,6 +6,20 @@ use Rattle.cell_value.specs.declared.entries.Touch.TheVariants as touch
 use Rattle.cell_value.specs.Effects.{IsCountable}
 use Rattle.call_tree.specs.declared.records.Call.{Call}
 use Rattle.call_tree.specs.Told.{IsTold}
+use Rattle.program_tables.specs.ProgramRows.{ProgramRows}
+use Rattle.program_meaning.specs.Run.{items_of, run}
+use Rattle.program_run.specs.History.{log_of, output_of, recording_of}
+use Rattle.program_run.specs.declared.history.History.{History}
+
+-- all that is kept of the run of a program with an input and a budget of steps
+abbrev pub history_of : ProgramRows → (input : List ℕ) → (budget : ℕ) → History
+history_of p input budget = record {
+  calls = recording_of p (run p input budget);
+  log = log_of (run p input budget);
+  input = items_of input;
+  output = output_of (run p input budget);
+  budget = budget;
+}
 
 -- of each of these calls can be told what it did, by the log and the items of the input
 abbrev pub AreTold : List Touch → (items : List ℕ) → List Call → Type 0

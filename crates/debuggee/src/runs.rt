@@ -1,40 +1,70 @@
 //! A source that was run, and what a dialog needs of it.
-ghost use Rattle.std.specs.Prelude.{◌≡◌, ◌<◌, [], length};
+ghost use Rattle.std.specs.Prelude.{◌≡◌, ◌<◌, ◌≤◌, length};
+ghost use Rattle.std.specs.Coded.{Coded-set};
 ghost use Rattle.cell_names.specs.Finding.{finding_of, found_in};
-ghost use Rattle.debuggee.specs.Told.{AreTold, counts_once};
+ghost use Rattle.question_text.specs.Cards.{recorded_in};
+ghost use Rattle.debuggee.specs.Limits.{input_bytes, most_steps};
+ghost use Rattle.debuggee.specs.Told.{AreTold, counts_once, history_of};
 ghost use Rattle.std.proofs.Props.{props};
 
-use call_tree::Calls;
+use body_replay::replay;
+use call_tree::{Calls, Mark};
 use cell_names::Names;
+use cell_value::Steps;
 use dialog_replies::Debugged;
 use edge_ports::{Bytes, Memory};
 use pas_lexer::Tokens;
 use program_run::History;
 use program_tables::Program;
-use question_text::{Recorded, write_call, write_way_line};
+use question_text::{Recorded, write_call, write_trace, write_tree};
 use std::alloc::Global;
 
 /// A source that was run: its tokens, the program that they are, and its run.
 #[derive(Drop)]
-pub struct Debuggee {
+pub struct Debuggee<'a> {
     /// The tokens of the source, with its bytes.
     pub tokens: Tokens,
     /// The program that they are.
     pub program: Program,
-    /// What its run left: the calls, in order of entry; call 0 is the program.
+    /// The bytes of the run's input.
+    pub input: &'a [u8],
+    /// What the run left: the calls, in order of entry; call 0 is the program.
     pub history: History,
     /// What is found by its place in the program, and in the heap of its run.
     pub names: Names,
-    // There is a call, all were left, and their routines are those of the program.
+    // What is kept of the run is all that of the program's run, whose input and budget are not too large.
+    pub ghost short: { length input.now ≤ input_bytes },
+    pub ghost few_steps: { history.budget ≤ most_steps },
+    pub ghost ran: { history ≡ history_of program input.now history.budget } by { Coded-set history-code _ _ },
+    // There is a call, and of each call can be told what it did.
     pub ghost some: { 0 < length history.calls.calls },
-    pub ghost all_left: { history.calls.open_calls ≡ [] },
-    pub ghost routines: { history.calls.routines ≡ length program.routines },
-    // What is found is that of the program and of what was done; and of each call can be told what it did.
-    pub ghost named: { found_in names ≡ finding_of program (length tokens.tokens) history.log },
     pub ghost told: { AreTold history.log history.input history.calls.calls } by { Prim.hlevel (props, counts_once) },
+    // What is found is that of the program and of what was done.
+    pub ghost named: { found_in names ≡ finding_of program (length tokens.tokens) history.log },
 }
 
-impl Debugged for Debuggee {
+impl<'a> Debuggee<'a> {
+    ghost use Rattle.debuggee.specs.Execution.{execution};
+
+    /// The run, as the texts on its calls tell of it.
+    fn recorded(&self) -> Recorded<'_>
+        ensures recorded { recorded_in result ≡ (execution self.now).recorded }
+        ensures names { found_in result.names.now
+            ≡ finding_of result.program.now result.tokens result.log.now }
+        ensures told { AreTold result.log.now result.items.now result.calls.now.calls }
+    {
+        Recorded {
+            program: &self.program,
+            tokens: self.tokens.len(),
+            names: &self.names,
+            calls: &self.history.calls,
+            log: &self.history.log,
+            items: &self.history.input,
+        }
+    }
+}
+
+impl<'a> Debugged for Debuggee<'a> {
     ghost use Rattle.debuggee.specs.Execution.{execution};
     ghost use Rattle.debuggee.specs.Subjects.{subject_of};
 
@@ -49,18 +79,16 @@ impl Debugged for Debuggee {
     }
 
     fn write_card(&self, alloc: Global, out: &mut Bytes, call: u32) -> Result<(), Memory> {
-        let from = Recorded {
-            program: &self.program,
-            tokens: self.tokens.len(),
-            names: &self.names,
-            calls: &self.history.calls,
-            log: &self.history.log,
-            items: &self.history.input,
-        };
-        write_call(alloc, out, &from, call)
+        write_call(alloc, out, &self.recorded(), call)
     }
 
-    fn write_trace(&self, _alloc: Global, out: &mut Bytes, call: u32) -> Result<(), Memory> {
-        write_way_line(out, &self.history.calls, call)
+    fn write_trace(&self, alloc: Global, out: &mut Bytes, call: u32) -> Result<(), Memory> {
+        let mut steps: Steps<()> = Steps::new();
+        let trace = replay(alloc, &self.program, &self.history, call, &mut steps)?;
+        write_trace(alloc, out, &self.recorded(), call, &trace.events, trace.way)
+    }
+
+    fn write_tree(&self, alloc: Global, out: &mut Bytes, marks: &[Mark]) -> Result<(), Memory> {
+        write_tree(alloc, out, &self.program, &self.history.calls, marks)
     }
 }

@@ -147,12 +147,12 @@ pub fn read_source(alloc: Global, source: &[u8]) -> Result<SourceProgram, Source
 
 /// The run of a program, with an input and a budget of steps. It takes memory, also for the names of cells. Tables
 /// without a routine are no program of a source; they count as out of memory.
-pub fn run_program(
+pub fn run_program<'a>(
     alloc: Global,
     source: SourceProgram,
-    input: &[u8],
+    input: &'a [u8],
     budget: u32,
-) -> Result<Debuggee, AllocError>
+) -> Result<Debuggee<'a>, AllocError>
     requires input { length input.now ≤ input_bytes }
     requires steps { 0 < budget }
     requires few_steps { budget ≤ most_steps }
@@ -175,6 +175,7 @@ pub fn run_program(
     Ok(Debuggee {
         tokens,
         program,
+        input,
         history,
         names,
     })

@@ -1,5 +1,6 @@
 -- What a line of the console asks for.
-use Rattle.std.specs.Prelude.{ℕ, List, [], ◌∷◌, Option, Some, None}
+use Rattle.std.specs.Prelude.{ℕ, if◌then◌else◌, List, [], ◌∷◌, Option, Some, None}
+use Rattle.std.specs.Str.{is_utf8}
 use Rattle.dialog_lines.specs.declared.instructions.Instruction.{Instruction}
 use Rattle.dialog_lines.specs.declared.instructions.Instruction.TheVariants as ask
 use Rattle.dialog_lines.specs.declared.keywords.Keyword.{Keyword}
@@ -21,6 +22,10 @@ trust_by word None = ask.TrustNamed word
 abbrev pub trust_in : List ℕ → Instruction
 trust_in word = trust_by word (routine_number word)
 
+-- a file has a name in UTF-8
+abbrev pub save_in : List ℕ → Instruction
+save_in word = if is_utf8 word then ask.Save word else ask.Other
+
 -- by the first word and those after it
 abbrev pub instruction_by : Keyword → List (List ℕ) → Instruction
 instruction_by (key.Judge judgement) [] = ask.Judge judgement None
@@ -30,7 +35,9 @@ instruction_by key.Trust (routine ∷ []) = trust_in routine
 instruction_by key.Back [] = ask.TakeBack None
 instruction_by key.Back (entry ∷ []) = with_number (number_of entry) (λ number. ask.TakeBack (Some number))
 instruction_by key.Show (call ∷ []) = with_number (number_of call) ask.Show
+instruction_by key.Trace (call ∷ []) = with_number (number_of call) ask.Trace
 instruction_by key.Tree [] = ask.Tree
+instruction_by key.Save (file ∷ []) = save_in file
 instruction_by key.Quit [] = ask.Quit
 instruction_by keyword others = ask.Other
 

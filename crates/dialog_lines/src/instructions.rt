@@ -1,6 +1,6 @@
 //! What a line of the console asks for.
 ghost use Rattle.std.specs.Prelude.{◌≡◌, ◌∷◌, []};
-ghost use Rattle.dialog_lines.specs.Instructions.{instruction_by, instruction_of, trust_in};
+ghost use Rattle.dialog_lines.specs.Instructions.{instruction_by, instruction_of, save_in, trust_in};
 ghost use Rattle.dialog_lines.specs.Words.{words};
 
 use crate::keywords::{Keyword, keyword_in};
@@ -32,6 +32,29 @@ impl<'a> Name<'a> {
     }
 }
 
+/// The name of a file, as it was typed: UTF-8. Clauses see its bytes.
+#[derive(Drop)]
+pub struct FileName<'a> {
+    name: &'a str,
+}
+
+impl<'a> Model for FileName<'a> {
+    ghost use Rattle.std.specs.Prelude.{ℕ, List};
+
+    ghost Value = { List ℕ };
+
+    ghost view = { λ file. file.name.now };
+}
+
+impl<'a> FileName<'a> {
+    /// The name as a text.
+    pub fn as_str(&self) -> &str
+        ensures { result.now ≡ self.now }
+    {
+        self.name
+    }
+}
+
 /// What a line of the console asks for.
 #[derive(Drop)]
 pub enum Instruction<'a> {
@@ -48,8 +71,12 @@ pub enum Instruction<'a> {
     TakeBack(Option<u32>),
     /// `show K`: the card of the call of this number.
     Show(u32),
+    /// `trace K`: the trace of the call of this number.
+    Trace(u32),
     /// `tree`: the marks of all calls.
     Tree,
+    /// `save F`: the session goes into the file of this name.
+    Save(FileName<'a>),
     /// `quit`: the end of the session.
     Quit,
     /// Any other line, which is not understood.
@@ -65,7 +92,8 @@ fn alone<'a>(keyword: Keyword) -> Instruction<'a>
         Keyword::Back => Instruction::TakeBack(None),
         Keyword::Tree => Instruction::Tree,
         Keyword::Quit => Instruction::Quit,
-        Keyword::Trust | Keyword::Show | Keyword::Other => Instruction::Other,
+        Keyword::Trust | Keyword::Show | Keyword::Trace | Keyword::Save | Keyword::Other =>
+            Instruction::Other,
     }
 }
 
@@ -76,6 +104,16 @@ fn trust<'a>(routine: &'a [u8]) -> Instruction<'a>
     match routine_number(routine) {
         Some(number) => Instruction::Trust(number),
         None => Instruction::TrustNamed(Name { bytes: routine }),
+    }
+}
+
+/// What `save` asks for with this word after it.
+fn save<'a>(file: &'a [u8]) -> Instruction<'a>
+    ensures { result ≡ save_in file.now }
+{
+    match str::from_utf8(file) {
+        Ok(name) => Instruction::Save(FileName { name }),
+        Err(_) => Instruction::Other,
     }
 }
 
@@ -97,6 +135,11 @@ fn with_operand<'a>(keyword: Keyword, operand: &'a [u8]) -> Instruction<'a>
             Some(call) => Instruction::Show(call),
             None => Instruction::Other,
         },
+        Keyword::Trace => match number_in(operand) {
+            Some(call) => Instruction::Trace(call),
+            None => Instruction::Other,
+        },
+        Keyword::Save => save(operand),
         Keyword::Tree | Keyword::Quit | Keyword::Other => Instruction::Other,
     }
 }

@@ -15,8 +15,12 @@ pub enum Keyword {
     Back,
     /// `show`.
     Show,
+    /// `trace`.
+    Trace,
     /// `tree`.
     Tree,
+    /// `save`.
+    Save,
     /// `quit`.
     Quit,
     /// Any other word.
@@ -39,8 +43,12 @@ pub fn keyword_in(word: &[u8]) -> Keyword
         Keyword::Back
     } else if word == b"show".as_slice() {
         Keyword::Show
+    } else if word == b"trace".as_slice() {
+        Keyword::Trace
     } else if word == b"tree".as_slice() {
         Keyword::Tree
+    } else if word == b"save".as_slice() {
+        Keyword::Save
     } else if word == b"quit".as_slice() {
         Keyword::Quit
     } else {

@@ -8,7 +8,7 @@ use Rattle.answer_book.specs.declared.entries.Judgement.{Judgement}
 use Rattle.answer_book.specs.declared.entries.What.{What}
 use Rattle.answer_book.specs.declared.entries.What.TheVariants.{Judged, Trusted}
 use Rattle.answer_book.specs.Answers.{judge_answer, take_back_answer, take_back_last_answer, trust_answer}
-use Rattle.answer_book.specs.Entries.{entries_with, entries_without, first_entries}
+use Rattle.answer_book.specs.Entries.{entries_with, entries_without}
 use Rattle.optimal_query.specs.declared.state.State.{State}
 use Rattle.optimal_query.specs.declared.state.State.TheVariants.{Ask}
 use Rattle.dialog_lines.specs.declared.instructions.Instruction.{Instruction}
@@ -83,6 +83,10 @@ takes_back_last s entries (Err why) = replied entries (refusal_text why)
 abbrev pub card_or_none : Subject → ℕ → List ℕ
 card_or_none s call = if nat_lt call (calls_of s) then s.card call else no_call call
 
+abbrev pub trace_or_none : Subject → ℕ → List ℕ
+trace_or_none s call = if nat_lt call (calls_of s) then s.trace call else no_call call
+
+-- What a line that saves is replied depends on the keeper, and is said where the session is held.
 unfoldable pub outcome : Subject → List Entry → Instruction → Outcome
 outcome s entries asked.Nothing = replied entries []
 outcome s entries (asked.Judge judgement None) = judges_asked s entries judgement (state_after s entries)
@@ -94,11 +98,13 @@ outcome s entries (asked.TakeBack None) =
 outcome s entries (asked.TakeBack (Some number)) =
     takes_back s entries number (take_back_answer (book_of s entries) number)
 outcome s entries (asked.Show call) = replied entries (card_or_none s call)
+outcome s entries (asked.Trace call) = replied entries (trace_or_none s call)
 outcome s entries asked.Tree = replied entries (tree_text s entries)
+outcome s entries (asked.Save file) = replied entries []
 outcome s entries asked.Quit = replied entries []
 outcome s entries asked.Other = replied entries (codes "not understood\n")
 
--- ---- what a session opens with: the card of call 0, and a report
+-- ---- what a session with these entries opens with: the card of call 0, and a report
 
-abbrev pub opening : Subject → List ℕ
-opening s = s.card 0 ++ report s first_entries
+abbrev pub opening : Subject → List Entry → List ℕ
+opening s entries = s.card 0 ++ report s entries

@@ -4,20 +4,22 @@ use Rattle.std.specs.Str.{str_eq_ignore_ascii_case}
 use Rattle.answer_book.specs.declared.entries.Entry.{Entry}
 use Rattle.answer_book.specs.Answers.{Answers}
 use Rattle.answer_book.specs.Entries.{standing_answers}
+use Rattle.answer_book.specs.Marks.{marks_of}
 use Rattle.answer_book.specs.Numbers.{numbers_below}
 use Rattle.call_tree.specs.declared.records.Mark.{Mark}
 use Rattle.call_tree.specs.Recording.{Recording, lasts_of, parents_of, routines_of}
 use Rattle.optimal_query.specs.declared.state.State.{State}
-use Rattle.optimal_query.specs.Laws.{CallTree, doubts_in, mark_in, state_in}
+use Rattle.optimal_query.specs.Laws.{CallTree, doubts_in, state_in}
 
--- the columns of the calls of a run, how many routines the program has, and the name of each; and the texts on each
--- call: its card, and the lines of its trace
+-- the columns of the calls of a run, how many routines the program has, and the name of each; the texts on each call:
+-- its card, and the lines of its trace; and the lines of all calls, with a mark for each
 pub record Subject : Type 0 where
   pub tree : CallTree
   pub routines : ℕ
   pub name : ℕ → List ℕ
   pub card : ℕ → List ℕ
   pub trace : ℕ → List ℕ
+  pub marked : List Mark → List ℕ
 
 -- the columns of a run
 abbrev pub tree_of : Recording → CallTree
@@ -27,15 +29,15 @@ tree_of run = record { parent = parents_of run.calls; last = lasts_of run.calls;
 abbrev pub calls_of : Subject → ℕ
 calls_of s = length s.tree.last
 
--- the state, the doubts and the marks, by the entries that stand
+-- the state, the doubts and the marks of all calls in order of entry, by the entries that stand
 abbrev pub state_after : Subject → List Entry → State
 state_after s entries = state_in s.tree (standing_answers entries)
 
 abbrev pub doubts_after : Subject → List Entry → List ℕ
 doubts_after s entries = doubts_in s.tree (standing_answers entries)
 
-abbrev pub mark_after : Subject → List Entry → ℕ → Mark
-mark_after s entries call = mark_in s.tree (standing_answers entries) call
+abbrev pub marks_after : Subject → List Entry → List Mark
+marks_after s entries = marks_of s.tree.routine (standing_answers entries)
 
 -- the book with these entries
 abbrev pub book_of : Subject → List Entry → Answers

@@ -1,20 +1,14 @@
--- What is printed of calls, of their marks, and of the state of the search.
-use Rattle.std.specs.Prelude.{ℕ, List, [], ◌++◌, codes, decimal, Option, Some, None, slice_index, slice_index_or}
+-- What is printed of calls, and of the state of the search.
+use Rattle.std.specs.Prelude.{ℕ, List, ◌++◌, codes, decimal, slice_index}
 use Rattle.std.specs.List.{flat_map}
 use Rattle.answer_book.specs.declared.entries.Entry.{Entry}
-use Rattle.answer_book.specs.Numbers.{numbers_below}
-use Rattle.call_tree.specs.declared.records.Mark.{Mark}
-use Rattle.call_tree.specs.declared.records.Mark.TheVariants as mark
 use Rattle.optimal_query.specs.declared.state.State.{State}
 use Rattle.optimal_query.specs.declared.state.State.TheVariants.{Ask, Found, Narrowed, NothingWrong, Unclear}
-use Rattle.dialog_replies.specs.Subject.{Subject, calls_of, doubts_after, mark_after, state_after}
+use Rattle.dialog_replies.specs.Subject.{Subject, doubts_after, marks_after, state_after}
 
--- the routine of a call, and the call that made it
+-- the routine of a call
 abbrev pub routine_of : Subject → ℕ → ℕ
 routine_of s call = slice_index s.tree.routine call
-
-abbrev pub parent_of : Subject → ℕ → Option ℕ
-parent_of s call = slice_index_or s.tree.parent call None
 
 -- a number with a name
 abbrev pub numbered_name : ℕ → List ℕ → List ℕ
@@ -52,22 +46,6 @@ report s entries = report_on s entries (state_after s entries)
 
 -- ---- the tree with its marks
 
-abbrev pub mark_text : Mark → List ℕ
-mark_text mark.Unjudged = codes "unjudged"
-mark_text mark.Right = codes "right"
-mark_text mark.Wrong = codes "wrong"
-mark_text mark.Unknown = codes "unknown"
-mark_text mark.Trusted = codes "trusted"
-
-abbrev pub in_parent : Option ℕ → List ℕ
-in_parent None = []
-in_parent (Some parent) = codes " in " ++ decimal parent
-
-abbrev pub tree_line : Subject → List Entry → ℕ → List ℕ
-tree_line s entries call =
-    decimal call ++ in_parent (parent_of s call) ++ codes " " ++ s.name (routine_of s call) ++ codes " #"
-    ++ decimal (routine_of s call) ++ codes " " ++ mark_text (mark_after s entries call) ++ codes "\n"
-
 -- a line on each call, in order of entry
 abbrev pub tree_text : Subject → List Entry → List ℕ
-tree_text s entries = flat_map (tree_line s entries) (numbers_below (calls_of s))
+tree_text s entries = s.marked (marks_after s entries)

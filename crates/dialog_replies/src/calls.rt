@@ -2,7 +2,7 @@
 ghost use Rattle.std.specs.Prelude.{◌≡◌, ◌<◌, ◌++◌, OnOk, decimal};
 ghost use Rattle.std.specs.Str.{str_eq_ignore_ascii_case};
 ghost use Rattle.dialog_replies.specs.Subject.{calls_of, routine_named};
-ghost use Rattle.dialog_replies.specs.Texts.{named_call, parent_of, routine_of};
+ghost use Rattle.dialog_replies.specs.Texts.{named_call, routine_of};
 
 use crate::debugged::Debugged;
 use edge_ports::{Bytes, Memory};
@@ -18,19 +18,11 @@ pub fn write_number(out: &mut Bytes, number: u32) -> Result<(), Memory>
 }
 
 /// The routine of a call.
-pub fn routine_of<D: Debugged>(run: &D, call: u32) -> u32
+fn routine_of<D: Debugged>(run: &D, call: u32) -> u32
     requires { call < calls_of (D.subject run.now) }
     ensures { result ≡ routine_of (D.subject run.now) call }
 {
     run.calls().routine_column()[call as usize]
-}
-
-/// The call that made a call.
-pub fn parent_of<D: Debugged>(run: &D, call: u32) -> Option<u32>
-    requires { call < calls_of (D.subject run.now) }
-    ensures { result ≡ parent_of (D.subject run.now) call }
-{
-    run.calls().call(call).parent
 }
 
 /// Appends a call by its number and the name of its routine.

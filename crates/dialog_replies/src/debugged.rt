@@ -1,9 +1,9 @@
 //! What the dialog needs of a run.
-ghost use Rattle.std.specs.Prelude.{◌≡◌, ◌<◌, ◌++◌, OnOk};
+ghost use Rattle.std.specs.Prelude.{◌≡◌, ◌<◌, ◌++◌, OnOk, length};
 ghost use Rattle.dialog_replies.specs.Kept.{AreCallsOf};
 ghost use Rattle.dialog_replies.specs.Subject.{Subject, calls_of};
 
-use call_tree::Calls;
+use call_tree::{Calls, Mark};
 use edge_ports::{Bytes, Memory};
 use std::alloc::Global;
 
@@ -29,4 +29,9 @@ pub trait Debugged {
     fn write_trace(&self, alloc: Global, out: &mut Bytes, call: u32) -> Result<(), Memory>
         requires { call < calls_of (subject self.now) }
         ensures { OnOk result (out.new ≡ out.old ++ (subject self.now).trace call) };
+
+    /// Appends a line on each call, in order of entry, with these marks: one for each call.
+    fn write_tree(&self, alloc: Global, out: &mut Bytes, marks: &[Mark]) -> Result<(), Memory>
+        requires { length marks.now ≡ calls_of (subject self.now) }
+        ensures { OnOk result (out.new ≡ out.old ++ (subject self.now).marked marks.now) };
 }

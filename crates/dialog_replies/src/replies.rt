@@ -1,27 +1,26 @@
 //! The reply to each line.
 ghost use Rattle.std.specs.Prelude.{◌≡◌, ◌++◌, IfOk, codes};
-ghost use Rattle.answer_book.specs.Entries.{first_entries};
 ghost use Rattle.dialog_replies.specs.Kept.{IsSearchOf};
-ghost use Rattle.dialog_replies.specs.Replies.{card_or_none, judges_asked, opening, outcome, replied, trusts_named};
+ghost use Rattle.dialog_replies.specs.Replies.{card_or_none, judges_asked, opening, outcome, replied};
+ghost use Rattle.dialog_replies.specs.Replies.{trace_or_none, trusts_named};
 ghost use Rattle.dialog_replies.specs.Subject.{routine_named, state_after};
 ghost use Rattle.dialog_replies.specs.Texts.{tree_text};
 
 use crate::calls::routine_named;
 use crate::changes::{judge, refusal, take_back, take_back_last, text_of, trust};
 use crate::debugged::Debugged;
+use crate::marks::marks_now;
 use crate::reports::{state_now, write_report};
-use crate::trees::write_tree;
 use answer_book::{BookFault, Judgement};
 use dialog_lines::Instruction;
 use edge_ports::{Bytes, Memory};
 use optimal_query::{Debug, State};
 use std::alloc::Global;
 
-/// What a session opens with: the card of call 0, and a report.
+/// What a session opens with, as its entries stand: the card of call 0, and a report.
 pub fn open<D: Debugged>(alloc: Global, run: &D, debug: &Debug) -> Result<Bytes, Memory>
     requires search { IsSearchOf (D.subject run.now) debug.now }
-    requires first { debug.now.book.entries ≡ first_entries }
-    ensures { IfOk result (λ text. text ≡ opening (D.subject run.now)) }
+    ensures { IfOk result (λ text. text ≡ opening (D.subject run.now) debug.now.book.entries) }
 {
     let mut text = Bytes::new(alloc);
     run.write_card(alloc, &mut text, 0)?;
@@ -93,17 +92,32 @@ fn card_of<D: Debugged>(alloc: Global, run: &D, call: u32) -> Result<Bytes, Memo
     }
 }
 
+/// The lines of the trace of a call, where there is one of this number.
+fn trace_of<D: Debugged>(alloc: Global, run: &D, call: u32) -> Result<Bytes, Memory>
+    ensures { IfOk result (λ text. text ≡ trace_or_none (D.subject run.now) call) }
+{
+    if call < run.calls().len() {
+        let mut text = Bytes::new(alloc);
+        run.write_trace(alloc, &mut text, call)?;
+        Ok(text)
+    } else {
+        refusal(alloc, BookFault::NoCall(call))
+    }
+}
+
 /// The tree of the calls with their marks.
 fn tree_of<D: Debugged>(alloc: Global, run: &D, debug: &Debug) -> Result<Bytes, Memory>
     requires { IsSearchOf (D.subject run.now) debug.now }
     ensures { IfOk result (λ text. text ≡ tree_text (D.subject run.now) debug.now.book.entries) }
 {
+    let marks = marks_now(alloc, run, debug)?;
     let mut text = Bytes::new(alloc);
-    write_tree(&mut text, run, debug)?;
+    run.write_tree(alloc, &mut text, &marks)?;
     Ok(text)
 }
 
-/// Does what a line asks for, and answers the reply to it.
+/// Does what a line asks for, and answers the reply to it. A line that saves is answered nothing: its reply depends on
+/// the keeper.
 #[tactic(auto, unfolding(crate::specs::Replies::outcome))]
 pub fn answer<D: Debugged>(
     alloc: Global,
@@ -117,7 +131,7 @@ pub fn answer<D: Debugged>(
     ensures search { IsSearchOf (D.subject run.now) debug.new }
 {
     match instruction {
-        Instruction::Nothing | Instruction::Quit => Ok(Bytes::new(alloc)),
+        Instruction::Nothing | Instruction::Save(_) | Instruction::Quit => Ok(Bytes::new(alloc)),
         Instruction::Judge(judgement, None) => judge_asked(alloc, run, debug, judgement),
         Instruction::Judge(judgement, Some(call)) => judge(alloc, run, debug, judgement, call),
         Instruction::TrustNamed(name) => trust_named(alloc, run, debug, name.bytes()),
@@ -125,6 +139,7 @@ pub fn answer<D: Debugged>(
         Instruction::TakeBack(None) => take_back_last(alloc, run, debug),
         Instruction::TakeBack(Some(entry)) => take_back(alloc, run, debug, entry),
         Instruction::Show(call) => card_of(alloc, run, call),
+        Instruction::Trace(call) => trace_of(alloc, run, call),
         Instruction::Tree => tree_of(alloc, run, debug),
         Instruction::Other => text_of(alloc, b"not understood\n"),
     }

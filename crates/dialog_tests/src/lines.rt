@@ -40,6 +40,16 @@ const fn named(line: &'static [u8], name: &'static [u8]) -> Row {
     }
 }
 
+/// A line that saves into this file.
+const fn saved(line: &'static [u8], name: &'static [u8]) -> Row {
+    Row {
+        line,
+        asked: "save",
+        number: None,
+        name,
+    }
+}
+
 fn judged(judgement: Judgement) -> &'static str {
     match judgement {
         Judgement::Right => "right",
@@ -55,7 +65,9 @@ fn asked(instruction: &Instruction<'_>) -> &'static str {
         Instruction::TrustNamed(_) | Instruction::Trust(_) => "trust",
         Instruction::TakeBack(_) => "back",
         Instruction::Show(_) => "show",
+        Instruction::Trace(_) => "trace",
         Instruction::Tree => "tree",
+        Instruction::Save(_) => "save",
         Instruction::Quit => "quit",
         Instruction::Other => "not understood",
     }
@@ -66,7 +78,7 @@ fn number(instruction: &Instruction<'_>) -> Option<u32> {
         Instruction::Judge(_, call) => *call,
         Instruction::Trust(routine) => Some(*routine),
         Instruction::TakeBack(entry) => *entry,
-        Instruction::Show(call) => Some(*call),
+        Instruction::Show(call) | Instruction::Trace(call) => Some(*call),
         _ => None,
     }
 }
@@ -74,6 +86,7 @@ fn number(instruction: &Instruction<'_>) -> Option<u32> {
 fn name<'a>(instruction: &'a Instruction<'a>) -> &'a [u8] {
     match instruction {
         Instruction::TrustNamed(name) => name.bytes(),
+        Instruction::Save(file) => file.as_str().as_bytes(),
         _ => b"",
     }
 }
@@ -106,8 +119,8 @@ fn words(rt: HostRuntime) {
         plain(b"trust", "not understood"),
         plain(b"show", "not understood"),
         plain(b"hello", "not understood"),
-        plain(b"trace 0", "not understood"),
-        plain(b"save f", "not understood"),
+        plain(b"trace", "not understood"),
+        plain(b"save", "not understood"),
         plain(b"carry 1 2", "not understood"),
     ];
     assert_rows(&rt, &rows);
@@ -158,6 +171,44 @@ fn names(rt: HostRuntime) {
         plain(b"trust a b", "not understood"),
         plain(b"trust #1 #2", "not understood"),
         plain(b"trust # 1", "not understood"),
+    ];
+    assert_rows(&rt, &rows);
+}
+
+#[test]
+fn traces(rt: HostRuntime) {
+    let rows = [
+        numbered(b"trace 0", "trace", 0),
+        numbered(b"\ttrace  012 ", "trace", 12),
+        numbered(b"trace 999999999", "trace", 999_999_999),
+        plain(b"trace 1000000000", "not understood"),
+        plain(b"trace x", "not understood"),
+        plain(b"trace #1", "not understood"),
+        plain(b"trace 1 2", "not understood"),
+        plain(b"Trace 1", "not understood"),
+    ];
+    assert_rows(&rt, &rows);
+}
+
+#[test]
+fn files(rt: HostRuntime) {
+    let rows = [
+        saved(b"save f", b"f"),
+        saved(b" save\tmonday.session ", b"monday.session"),
+        saved(b"save ../7", b"../7"),
+        saved(b"save \x00", b"\x00"),
+        saved(b"save gr\xc3\xbc\xc3\x9fe", b"gr\xc3\xbc\xc3\x9fe"),
+        saved(b"save \xf4\x8f\xbf\xbf", b"\xf4\x8f\xbf\xbf"),
+        plain(b"save \xf4\x90\x80\x80", "not understood"),
+        plain(b"save \xff", "not understood"),
+        plain(b"save a\xc3", "not understood"),
+        plain(b"save \x80a", "not understood"),
+        plain(b"save \xc0\xaf", "not understood"),
+        plain(b"save \xed\xa0\x80", "not understood"),
+        plain(b"save a b", "not understood"),
+        plain(b"save \t ", "not understood"),
+        plain(b"Save f", "not understood"),
+        plain(b"saved f", "not understood"),
     ];
     assert_rows(&rt, &rows);
 }

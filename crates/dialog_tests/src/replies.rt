@@ -28,14 +28,14 @@ fn assert_replies<D: Debugged>(
 }
 
 /// From the opening down to the call that is at fault, with refusals on the way.
-const DOWN: [(&str, &str); 14] = [
-    (
-        "tree",
-        "0 p #0 wrong\n1 in 0 b #2 unjudged\n2 in 1 a #1 unjudged\n3 in 1 a #1 unjudged\n",
-    ),
+const DOWN: [(&str, &str); 17] = [
+    ("tree", "marks wrong unjudged unjudged unjudged\n"),
     ("right 9", "no call 9\n"),
     ("show 4", "no call 4\n"),
     ("show 3", "card 3\n"),
+    ("trace 4", "no call 4\n"),
+    ("trace 3", "  trace 3\n"),
+    ("save f", ""),
     ("trust zz", "no routine zz\n"),
     ("trust #007", "no routine #7\n"),
     ("back 5", "entry 5 does not stand\n"),
@@ -53,10 +53,7 @@ const BACK: [(&str, &str); 18] = [
     ("back 3", "back 3\nfound call 1 b\n  trace 1\n"),
     ("back", "back 5\nask 2 suspects 1 left 0\ncard 2\n"),
     ("trust A", "entry 6\nfound call 1 b\n  trace 1\n"),
-    (
-        "tree",
-        "0 p #0 wrong\n1 in 0 b #2 wrong\n2 in 1 a #1 trusted\n3 in 1 a #1 right\n",
-    ),
+    ("tree", "marks wrong wrong trusted right\n"),
     ("back 1", "back 1\nfound call 1 b\n  trace 1\n"),
     ("back 2", "back 2\nask 0 suspects 2 left 1\ncard 0\n"),
     ("right 0", "entry 7\nnothing wrong\n"),

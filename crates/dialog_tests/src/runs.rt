@@ -1,9 +1,10 @@
 //! A run by hand, with short texts on its calls.
 ghost use Rattle.std.specs.Prelude.{◌≡◌, ◌<◌, ◌++◌, [], OnOk, IfOk, length};
 ghost use Rattle.call_tree.specs.Recording.{lasts_of};
-ghost use Rattle.dialog_tests.specs.Texts.{numbered, subject_of};
+ghost use Rattle.std.specs.List.{flat_map};
+ghost use Rattle.dialog_tests.specs.Texts.{mark_text, numbered, subject_of};
 
-use call_tree::{Calls, Side};
+use call_tree::{Calls, Mark, Side};
 use cell_value::{Cells, WayOut};
 use dialog_replies::Debugged;
 use edge_ports::{Bytes, Memory};
@@ -31,6 +32,29 @@ fn write_numbered(out: &mut Bytes, words: &[u8], number: u32) -> Result<(), Memo
     Ok(())
 }
 
+/// A blank and the word for a mark.
+fn mark_name(mark: Mark) -> &'static str
+    ensures { result.now ≡ mark_text mark }
+{
+    match mark {
+        Mark::Unjudged => " unjudged",
+        Mark::Right => " right",
+        Mark::Wrong => " wrong",
+        Mark::Unknown => " unknown",
+        Mark::Trusted => " trusted",
+    }
+}
+
+/// Appends the words for the marks.
+fn write_marks(out: &mut Bytes, marks: &[Mark]) -> Result<(), Memory>
+    ensures { OnOk result (out.new ≡ out.old ++ flat_map mark_text marks.now) }
+{
+    'marks: for mark in marks {
+        out.append(mark_name(*mark).as_bytes())?;
+    }
+    Ok(())
+}
+
 impl Debugged for HandRun {
     ghost subject = { λ run. subject_of run.calls };
 
@@ -54,6 +78,12 @@ impl Debugged for HandRun {
 
     fn write_trace(&self, _alloc: Global, out: &mut Bytes, call: u32) -> Result<(), Memory> {
         write_numbered(out, b"  trace ", call)
+    }
+
+    fn write_tree(&self, _alloc: Global, out: &mut Bytes, marks: &[Mark]) -> Result<(), Memory> {
+        out.append(b"marks")?;
+        write_marks(out, marks)?;
+        out.append(b"\n")
     }
 }
 

@@ -1,5 +1,5 @@
 -- The lines of a card: its first one, and how those after it stand.
-use Rattle.std.specs.Prelude.{ℕ, List, [], ◌++◌, codes, decimal, Option, Some, None, slice_get}
+use Rattle.std.specs.Prelude.{ℕ, List, [], ◌++◌, codes, decimal, Option, Some, None}
 use Rattle.call_tree.specs.declared.records.Call.{Call}
 use Rattle.program_tables.specs.ProgramRows.{ProgramRows, name_of}
 
@@ -18,11 +18,3 @@ in_parent (Some parent) = codes " in call " ++ decimal parent
 -- the first line of a card: a call by its number, the name of its routine, and the call that made it
 abbrev pub call_line : ProgramRows → (k : ℕ) → Call → List ℕ
 call_line p k call = call_text p k call ++ in_parent call.parent ++ codes "\n"
-
-abbrev pub name_by : ProgramRows → (k : ℕ) → Option Call → List ℕ
-name_by p k None = []
-name_by p k (Some call) = call_text p k call
-
--- call k by its number and the name of its routine, if there is such a call
-unfoldable pub call_name : ProgramRows → List Call → (k : ℕ) → List ℕ
-call_name p calls k = name_by p k (slice_get calls k)

@@ -1,5 +1,5 @@
 -- How a call ended: what is shown of it.
-use Rattle.std.specs.Prelude.{ℕ, List, [], ◌++◌, codes, decimal, length, Option, Some, None, slice_get}
+use Rattle.std.specs.Prelude.{ℕ, List, [], ◌++◌, codes, decimal, length, Option, Some, None}
 use Rattle.cell_value.specs.declared.ways_out.Kind.{Kind}
 use Rattle.cell_value.specs.declared.ways_out.Kind.TheVariants as fault
 use Rattle.cell_value.specs.declared.ways_out.Which.{Which}
@@ -7,7 +7,6 @@ use Rattle.cell_value.specs.declared.ways_out.Which.TheVariants as which
 use Rattle.cell_value.specs.declared.ways_out.WayOut.{WayOut}
 use Rattle.cell_value.specs.declared.ways_out.WayOut.TheVariants as way
 use Rattle.call_tree.specs.declared.records.Call.{Call}
-use Rattle.question_text.specs.Lines.{inner_line}
 use Rattle.question_text.specs.Frames.{call_of_frame}
 
 -- the name of a kind of fault
@@ -44,11 +43,3 @@ way_text calls parent (way.Jumped label base) =
 way_text calls parent (way.Faulted k line) = codes "faulted " ++ fault_text k ++ codes " line " ++ decimal line
 way_text calls parent way.OutOfSteps = codes "out of steps"
 way_text calls parent (way.Limited w) = codes "limited " ++ limit_text w
-
-abbrev pub way_by : List Call → Option Call → List ℕ
-way_by calls None = []
-way_by calls (Some call) = inner_line (way_text calls call.parent call.way)
-
--- how call k ended, as the last line of its card, if there is such a call
-unfoldable pub way_line : List Call → (k : ℕ) → List ℕ
-way_line calls k = way_by calls (slice_get calls k)

@@ -15,12 +15,13 @@ ghost use Rattle.question_text.specs.Cells.{change_line, seen_line};
 use crate::cells::{write_changes, write_parameters, write_reads};
 use crate::lines::write_call_line;
 use crate::opened::opened_calls;
-use crate::ways_out::write_way_of;
+use crate::ways_out::write_way_line;
 use call_tree::{Call, Calls};
 use cell_names::{Names, Scene, result_of, write_quoted, write_quoted_items, write_typed};
 use cell_value::{Items, Value};
 use edge_ports::Bytes;
-use effect_log::{Footprint, Log, effect};
+use effect_log::{Footprint, Log};
+use effect_pages::effect;
 use program_tables::Program;
 use std::alloc::{AllocError, Global};
 
@@ -203,7 +204,7 @@ fn write_lines(
     write_parameters(out, scene, call.routine, &call.args)?;
     write_effect(alloc, out, from, scene, call)?;
     write_result(out, from.program, call.routine, call.result)?;
-    write_way_of(out, from.calls, call)
+    write_way_line(out, from.calls, call.parent, call.way)
 }
 
 /// Appends the card of a call.

@@ -1,16 +1,16 @@
 //! What is shown of a call of a run when it is to be judged: what it was called with, what it read, changed, looked at,
 //! took and gave, and how it ended. Variables have the names that the source gives them, and values the texts of their
-//! types. And what is shown of all calls of a run, a line for each.
+//! types. And what is shown of what happened in its body, and of all calls of a run, a line for each.
 #![tactic(auto)]
 
 mod cards;
 mod cells;
 mod lines;
 mod opened;
+mod traces;
 mod trees;
 mod ways_out;
 
 pub use cards::{Recorded, write_call};
-pub use lines::write_call_name;
+pub use traces::write_trace;
 pub use trees::write_tree;
-pub use ways_out::write_way_line;

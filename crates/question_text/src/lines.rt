@@ -1,17 +1,16 @@
 //! The first line of a card, and its parts.
 
 ghost use Rattle.std.specs.Prelude.{◌≡◌, ◌++◌, OnOk};
-ghost use Rattle.question_text.specs.Lines.{call_line, call_name, call_text, in_parent};
+ghost use Rattle.question_text.specs.Lines.{call_line, call_text, in_parent};
 
-use crate::opened::call_at;
-use call_tree::{Call, Calls};
+use call_tree::Call;
 use cell_names::write_number;
 use edge_ports::Bytes;
 use program_tables::Program;
 use std::alloc::AllocError;
 
 /// Appends a call by its number and the name of its routine.
-fn write_call_text(
+pub(crate) fn write_call_text(
     out: &mut Bytes,
     program: &Program,
     number: u32,
@@ -50,21 +49,4 @@ pub(crate) fn write_call_line(
     write_call_text(out, program, number, call)?;
     write_parent(out, call.parent)?;
     out.append(b"\n")
-}
-
-/// Appends a call by its number and the name of its routine. Of a number that is no call's nothing is appended. When
-/// memory is short, a first part of it may stand there.
-#[tactic(auto, unfolding(crate::specs::Lines::call_name))]
-pub fn write_call_name(
-    out: &mut Bytes,
-    program: &Program,
-    calls: &Calls,
-    number: u32,
-) -> Result<(), AllocError>
-    ensures { OnOk result (out.new ≡ out.old ++ call_name program.now calls.now.calls number) }
-{
-    match call_at(calls, number) {
-        None => Ok(()),
-        Some(call) => write_call_text(out, program, number, call),
-    }
 }

@@ -3,10 +3,10 @@
 ghost use Rattle.std.specs.Prelude.{◌≡◌, ◌++◌, OnOk, codes, decimal, length};
 ghost use Rattle.question_text.specs.Frames.{call_of_frame};
 ghost use Rattle.question_text.specs.Lines.{inner_line};
-ghost use Rattle.question_text.specs.WaysOut.{fault_text, limit_text, of_call, way_line, way_text};
+ghost use Rattle.question_text.specs.WaysOut.{fault_text, limit_text, of_call, way_text};
 
-use crate::opened::{call_at, frame_of};
-use call_tree::{Call, Calls};
+use crate::opened::frame_of;
+use call_tree::Calls;
 use cell_names::write_number;
 use cell_value::{Kind, WayOut, Which};
 use edge_ports::Bytes;
@@ -77,14 +77,19 @@ fn write_jump(out: &mut Bytes, label: u32, holder: Option<u32>) -> Result<(), Al
     Ok(())
 }
 
-/// Appends how a call ended.
-fn write_way_out(out: &mut Bytes, calls: &Calls, call: &Call) -> Result<(), AllocError>
-    ensures { OnOk result (out.new ≡ out.old ++ way_text calls.now.calls call.now.parent call.now.way) }
+/// Appends how a call ended that this call made.
+fn write_way_out(
+    out: &mut Bytes,
+    calls: &Calls,
+    parent: Option<u32>,
+    way: WayOut,
+) -> Result<(), AllocError>
+    ensures { OnOk result (out.new ≡ out.old ++ way_text calls.now.calls parent way) }
 {
-    match call.way {
+    match way {
         WayOut::Returned => out.append(b"returned")?,
         WayOut::Jumped(label, base) => {
-            write_jump(out, label, call_of_frame(calls, call.parent, base))?
+            write_jump(out, label, call_of_frame(calls, parent, base))?
         }
         WayOut::Faulted(kind, line) => {
             out.append(b"faulted ")?;
@@ -101,25 +106,17 @@ fn write_way_out(out: &mut Bytes, calls: &Calls, call: &Call) -> Result<(), Allo
     Ok(())
 }
 
-/// Appends how a call ended, as a line of its card.
-pub(crate) fn write_way_of(out: &mut Bytes, calls: &Calls, call: &Call) -> Result<(), AllocError>
-    ensures { OnOk result (out.new ≡ out.old
-        ++ inner_line (way_text calls.now.calls call.now.parent call.now.way)) }
+/// Appends how a call ended that this call made, as a line of its card and of its trace.
+pub(crate) fn write_way_line(
+    out: &mut Bytes,
+    calls: &Calls,
+    parent: Option<u32>,
+    way: WayOut,
+) -> Result<(), AllocError>
+    ensures { OnOk result (out.new ≡ out.old ++ inner_line (way_text calls.now.calls parent way)) }
 {
     out.append(b"  ")?;
-    write_way_out(out, calls, call)?;
+    write_way_out(out, calls, parent, way)?;
     out.append(b"\n")?;
     Ok(())
-}
-
-/// Appends how a call ended, as the last line of its card. Of a number that is no call's nothing is appended. When
-/// memory is short, a first part of it may stand there.
-#[tactic(auto, unfolding(crate::specs::WaysOut::way_line))]
-pub fn write_way_line(out: &mut Bytes, calls: &Calls, number: u32) -> Result<(), AllocError>
-    ensures { OnOk result (out.new ≡ out.old ++ way_line calls.now.calls number) }
-{
-    match call_at(calls, number) {
-        None => Ok(()),
-        Some(call) => write_way_of(out, calls, call),
-    }
 }

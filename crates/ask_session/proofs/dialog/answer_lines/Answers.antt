@@ -1,17 +1,58 @@
-use Rattle.std.proofs.Common.{ap, ◌∙◌}
-use Rattle.edge_ports.proofs.PiecesAddUp.{moves_more}
+use Rattle.std.proofs.Common.{◌≡◌, [], false, refl, ap, sym, ◌∙◌, append-nil}
+use Rattle.edge_ports.specs.Lines.{handed_lines}
+use Rattle.edge_ports.proofs.PiecesAddUp.{moves_more, took_nothing}
+use Rattle.ask_session.specs.Outside.{Outside}
 use Rattle.ask_session.specs.Turned.{Stage}
-use Rattle.ask_session.proofs.RepliesInOrder.{answered_more, talk_ends, heard_of}
+use Rattle.ask_session.proofs.DialogEnds.{answered_more, first_stage, heard_of, none_answered, stage, talk_ends, talked_of}
 use Rattle.ask_session.proofs.dialog.answer_lines.Goals as goal
+
+pub lines-init : goal.lines-init
+lines-init g c =
+    let left = g.I.Source.left c.args.console.now in
+    let outside : Outside = record {
+      files = g.K.Keeper.files c.args.keeper.now;
+      counts = g.K.Keeper.counts c.args.keeper.now;
+      streams = record { left = left; given = g.O.Sink.given c.args.screen.now };
+    } in
+    let lines = c.args.lines.now in
+    let none : handed_lines lines ≡ [] = ap handed_lines c.requires.fresh in
+    let not_ended : lines.ended ≡ false = ap (λ l. l.ended) c.requires.fresh in
+    record {
+      answered = none_answered (g.D.Debugged.subject c.args.run.now) c.args.start.now outside c.args.debug.now.book.entries lines c.requires.first none;
+      moved = record { more = []; grown = sym (append-nil lines.taken); took = took_nothing left };
+      at_end = λ ended. absurd (let x : ⊥ = cc in x);
+      console_faults = refl;
+      search = c.requires.search;
+      screen_faults = refl;
+    }
 
 pub lines-preserved : goal.lines-preserved
 lines-preserved g c =
+    let s = g.D.Debugged.subject c.args.run.now in
     let left = g.I.Source.left in
     let given = g.O.Sink.given in
-    let old : Stage = record { progress = record { entries = c.lines.debug.book.entries; lines = c.lines.lines }; given = given c.lines.screen } in
-    let new : Stage = record { progress = record { entries = c.turn.new.debug.book.entries; lines = c.turn.new.lines }; given = given c.turn.new.screen } in
+    let files = g.K.Keeper.files in
+    let counts = g.K.Keeper.counts in
+    let before : Outside = record {
+      files = files c.args.keeper.now;
+      counts = counts c.args.keeper.now;
+      streams = record { left = left c.args.console.now; given = given c.args.screen.now };
+    } in
+    let between : Outside = record {
+      files = files c.lines.keeper;
+      counts = counts c.lines.keeper;
+      streams = record { left = left c.lines.console; given = given c.lines.screen };
+    } in
+    let after : Outside = record {
+      files = files c.turn.new.keeper;
+      counts = counts c.turn.new.keeper;
+      streams = record { left = left c.turn.new.console; given = given c.turn.new.screen };
+    } in
+    let first : Stage = first_stage s c.args.start.now before c.args.lines.now in
+    let old : Stage = stage c.lines.debug.book.entries between c.lines.lines in
+    let new : Stage = stage c.turn.new.debug.book.entries after c.turn.new.lines in
     record {
-      answered = answered_more (g.D.Debugged.subject c.args.run.now) (given c.args.screen.now) old new tt c.lines.invariant.answered c.in-Ok.ensures.turned;
+      answered = answered_more s c.args.start.now first old new tt c.lines.invariant.answered c.in-Ok.ensures.turned;
       moved = moves_more c.lines.invariant.moved c.turn.ensures.moved;
       at_end = c.turn.ensures.at_end c.lines.invariant.at_end;
       console_faults = c.in-Ok.ensures.console_faults ∙ c.lines.invariant.console_faults;
@@ -21,16 +62,31 @@ lines-preserved g c =
 
 pub returns-in-Err-clause-goes : goal.returns-in-Err-clause-goes
 returns-in-Err-clause-goes g c =
+    let s = g.D.Debugged.subject c.args.run.now in
     let left = g.I.Source.left in
     let given = g.O.Sink.given in
-    let old : Stage = record { progress = record { entries = c.lines.debug.book.entries; lines = c.lines.lines }; given = given c.lines.screen } in
-    let new : Stage = record { progress = record { entries = c.turn.new.debug.book.entries; lines = c.turn.new.lines }; given = given c.turn.new.screen } in
-    let ends = talk_ends (g.D.Debugged.subject c.args.run.now) (given c.args.screen.now) old new c.lines.invariant.answered c.turn.ensures.consistent
-    c.in-Err.ending c.in-Err.ensures.turned in
-    let moved = moves_more c.lines.invariant.moved c.turn.ensures.moved in (
-      record { bytes = c.turn.new.lines.taken; ended = c.turn.new.lines.ended },
-      heard_of c.args.lines.now.taken c.turn.new.lines (left c.args.console.now) (left c.turn.new.console) (ap (λ s. s.taken) c.requires.fresh)
-          moved c.turn.ensures.consistent (c.turn.ensures.at_end c.lines.invariant.at_end),
-      ends.0,
-      ends.1,
-    )
+    let files = g.K.Keeper.files in
+    let counts = g.K.Keeper.counts in
+    let before : Outside = record {
+      files = files c.args.keeper.now;
+      counts = counts c.args.keeper.now;
+      streams = record { left = left c.args.console.now; given = given c.args.screen.now };
+    } in
+    let between : Outside = record {
+      files = files c.lines.keeper;
+      counts = counts c.lines.keeper;
+      streams = record { left = left c.lines.console; given = given c.lines.screen };
+    } in
+    let after : Outside = record {
+      files = files c.turn.new.keeper;
+      counts = counts c.turn.new.keeper;
+      streams = record { left = left c.turn.new.console; given = given c.turn.new.screen };
+    } in
+    let first : Stage = first_stage s c.args.start.now before c.args.lines.now in
+    let old : Stage = stage c.lines.debug.book.entries between c.lines.lines in
+    let new : Stage = stage c.turn.new.debug.book.entries after c.turn.new.lines in
+    let ends = talk_ends s c.args.start.now first old new c.lines.invariant.answered c.turn.ensures.consistent c.in-Err.ending c.in-Err.ensures.turned in
+    let moved = moves_more c.lines.invariant.moved c.turn.ensures.moved in
+    talked_of s c.args.start.now before after ends
+    (heard_of c.args.lines.now.taken c.turn.new.lines (left c.args.console.now) (left c.turn.new.console) (ap (λ l. l.taken) c.requires.fresh)
+    moved c.turn.ensures.consistent (c.turn.ensures.at_end c.lines.invariant.at_end))

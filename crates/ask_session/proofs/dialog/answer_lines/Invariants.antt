@@ -4,15 +4,27 @@ use Rattle.edge_ports.specs.Lines.{Moves}
 use Rattle.edge_ports.specs.Limits.{console_bytes}
 use Rattle.dialog_replies.specs.Kept.{IsSearchOf}
 use Rattle.ask_session.specs.Turned.{Answered}
+use Rattle.ask_session.proofs.DialogEnds.{first_stage, stage}
 use Rattle.ask_session.proofs.dialog.answer_lines.Given as goal
 
 abbrev pub invariant-lines : goal.invariant-lines
 invariant-lines g l =
     let left = g.I.Source.left in
     let given = g.O.Sink.given in
+    let files = g.K.Keeper.files in
+    let counts = g.K.Keeper.counts in
     record {
-      answered : Answered (g.D.Debugged.subject l.run) (given l.fn.screen)
-          (record { progress = record { entries = l.debug.book.entries; lines = l.lines }; given = given l.screen });
+      answered : Answered (g.D.Debugged.subject l.run) l.start
+          (first_stage (g.D.Debugged.subject l.run) l.start (record {
+            files = files l.fn.keeper;
+            counts = counts l.fn.keeper;
+            streams = record { left = left l.fn.console; given = given l.fn.screen };
+          }) l.fn.lines)
+          (stage l.debug.book.entries (record {
+            files = files l.keeper;
+            counts = counts l.keeper;
+            streams = record { left = left l.console; given = given l.screen };
+          }) l.lines);
       moved : Moves l.fn.lines.taken l.lines.taken (left l.fn.console) (left l.console);
       at_end : IsTrue l.lines.ended → IsAtEnd (left l.console);
       console_faults : g.I.Source.faults l.console ≡ g.I.Source.faults l.fn.console;

@@ -1,38 +1,78 @@
-use Rattle.ask_session.proofs.TranscriptIsGiven.{Closed, done_or_memory, spent_or_memory, transcript_given}
+use Rattle.std.proofs.Common.{subst}
+use Rattle.session_book.specs.Fit.{misfit}
+use Rattle.ask_session.specs.Heard.{RefusedBy}
+use Rattle.ask_session.specs.Outside.{Outside}
+use Rattle.ask_session.proofs.TranscriptIsGiven.{Cause, Closed, ScreenStayed, done_or_memory, refused_or_memory, spent_or_memory, told_so}
 use Rattle.ask_session.proofs.session.converse.Goals as goal
 
 pub returns-clause-transcript : goal.returns-clause-transcript
 returns-clause-transcript g c = λ bytes told.
+    let s = g.D.Debugged.subject c.args.run.now in
     let left = g.I.Source.left in
-    let given = g.O.Sink.given in
-    let goes = c.hold_session.ensures.goes in
-    transcript_given (g.D.Debugged.subject c.args.run.now) (left c.args.console.now) (left c.hold_session.new.console) bytes told
-    (given c.args.screen.now) (given c.hold_session.new.screen) c.hold_session.result goes.0 goes.1 goes.2 goes.3
+    let w = c.hold_if_fit.ensures.goes in
+    let before : Outside = record {
+      files = g.K.Keeper.files c.args.keeper.now;
+      counts = g.K.Keeper.counts c.args.keeper.now;
+      streams = record { left = g.I.Source.left c.args.console.now; given = g.O.Sink.given c.args.screen.now };
+    } in
+    let after : Outside = record {
+      files = g.K.Keeper.files c.hold_if_fit.new.keeper;
+      counts = g.K.Keeper.counts c.hold_if_fit.new.keeper;
+      streams = record { left = left c.hold_if_fit.new.console; given = g.O.Sink.given c.hold_if_fit.new.screen };
+    } in
+    let t =
+    told_so s c.args.start.now (left c.args.console.now) (left c.hold_if_fit.new.console) bytes told before after c.hold_if_fit.result w w.is_heard in
+    (w.saves, t.0, t.1, t.2, w.counts)
 
 pub returns-clause-complete : goal.returns-clause-complete
-returns-clause-complete g c = λ bytes told ends calm still.
+returns-clause-complete g c = λ bytes told ends fits calm still.
+    let s = g.D.Debugged.subject c.args.run.now in
     let left = g.I.Source.left in
-    let goes = c.hold_session.ensures.goes in
-    let closed : Closed c.hold_session.result (g.I.Source.faults c.args.console.now) (g.I.Source.faults c.hold_session.new.console)
-    (g.O.Sink.faults c.args.screen.now) (g.O.Sink.faults c.hold_session.new.screen) = record {
-      console_counted = c.hold_session.ensures.console_faults;
+    let w = c.hold_if_fit.ensures.goes in
+    let closed : Closed c.hold_if_fit.result (g.I.Source.faults c.args.console.now) (g.I.Source.faults c.hold_if_fit.new.console)
+    (g.O.Sink.faults c.args.screen.now) (g.O.Sink.faults c.hold_if_fit.new.screen) = record {
+      console_counted = c.hold_if_fit.ensures.console_faults;
       console_stayed = calm;
-      screen_counted = c.hold_session.ensures.screen_faults;
+      screen_counted = c.hold_if_fit.ensures.screen_faults;
       screen_stayed = still;
     } in
-    done_or_memory (g.D.Debugged.subject c.args.run.now) (left c.args.console.now) (left c.hold_session.new.console) bytes told c.hold_session.result
-    goes.0 goes.1 goes.3 closed ends
+    let cause : Cause s c.args.start.now (left c.args.console.now) (left c.hold_if_fit.new.console) bytes told c.hold_if_fit.result = record {
+      heard = w.heard;
+      is_heard = w.is_heard;
+      ended = w.ended;
+      refused = w.refused;
+      fits = fits;
+    } in
+    done_or_memory s c.args.start.now (left c.args.console.now) (left c.hold_if_fit.new.console) bytes told c.hold_if_fit.result cause closed ends
 
 pub returns-clause-limit : goal.returns-clause-limit
-returns-clause-limit g c = λ bytes told on calm still.
+returns-clause-limit g c = λ bytes told on fits calm still.
+    let s = g.D.Debugged.subject c.args.run.now in
     let left = g.I.Source.left in
-    let goes = c.hold_session.ensures.goes in
-    let closed : Closed c.hold_session.result (g.I.Source.faults c.args.console.now) (g.I.Source.faults c.hold_session.new.console)
-    (g.O.Sink.faults c.args.screen.now) (g.O.Sink.faults c.hold_session.new.screen) = record {
-      console_counted = c.hold_session.ensures.console_faults;
+    let w = c.hold_if_fit.ensures.goes in
+    let closed : Closed c.hold_if_fit.result (g.I.Source.faults c.args.console.now) (g.I.Source.faults c.hold_if_fit.new.console)
+    (g.O.Sink.faults c.args.screen.now) (g.O.Sink.faults c.hold_if_fit.new.screen) = record {
+      console_counted = c.hold_if_fit.ensures.console_faults;
       console_stayed = calm;
-      screen_counted = c.hold_session.ensures.screen_faults;
+      screen_counted = c.hold_if_fit.ensures.screen_faults;
       screen_stayed = still;
     } in
-    spent_or_memory (g.D.Debugged.subject c.args.run.now) (left c.args.console.now) (left c.hold_session.new.console) bytes told c.hold_session.result
-    goes.0 goes.1 goes.3 closed on
+    let cause : Cause s c.args.start.now (left c.args.console.now) (left c.hold_if_fit.new.console) bytes told c.hold_if_fit.result = record {
+      heard = w.heard;
+      is_heard = w.is_heard;
+      ended = w.ended;
+      refused = w.refused;
+      fits = fits;
+    } in
+    spent_or_memory s c.args.start.now (left c.args.console.now) (left c.hold_if_fit.new.console) bytes told c.hold_if_fit.result cause closed on
+
+pub returns-clause-unfit : goal.returns-clause-unfit
+returns-clause-unfit g c = λ some still.
+    let s = g.D.Debugged.subject c.args.run.now in
+    let stayed : ScreenStayed c.hold_if_fit.result (g.O.Sink.faults c.args.screen.now) (g.O.Sink.faults c.hold_if_fit.new.screen) =
+    record { counted = c.hold_if_fit.ensures.screen_faults; stayed = still } in
+    refused_or_memory c.hold_if_fit.result (misfit s c.args.start.now) c.hold_if_fit.ensures.goes.refused some stayed
+
+pub returns-clause-refused : goal.returns-clause-refused
+returns-clause-refused g c = λ is.
+    subst (λ e. RefusedBy e (misfit (g.D.Debugged.subject c.args.run.now) c.args.start.now)) is c.hold_if_fit.ensures.goes.refused

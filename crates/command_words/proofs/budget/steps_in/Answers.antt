@@ -1,5 +1,5 @@
 use Rattle.std.proofs.Common.{arith, rules}
-use Rattle.command_words.proofs.DigitsSpellSteps.{spells, spells_none}
+use Rattle.command_words.proofs.DigitsSpellNumbers.{spells, spells_none}
 use Rattle.command_words.proofs.budget.steps_in.Goals as goal
 
 pub returns-in-Ok-clause-spelled : goal.returns-in-Ok-clause-spelled

@@ -7,20 +7,20 @@ use Rattle.command_words.proofs.request.read_words.Goals as goal
 pub returns-in-Ok-clause-meant : goal.returns-in-Ok-clause-meant
 returns-in-Ok-clause-meant c =
     let words : List Text = map string_bytes c.args.words.now in
-    answers words c.ok_or.result c.request_in.result c.ok_or.ensures.value
-    (taken (app_of c.in_ok-command.command) c.in_ok-command.ensures words c.in-Ok.matches c.request_in.result c.in-Ok.ensures.kinds
-    c.in-Ok.ensures.matches c.request_in.ensures.meant)
+    answers words c.ok_or.result c.asked_in.result c.ok_or.ensures.value
+    (taken (app_of c.in_ok-command.command) c.in_ok-command.ensures words c.in-Ok.matches c.asked_in.result c.in-Ok.ensures.kinds
+    c.in-Ok.ensures.matches c.asked_in.ensures.meant)
 
 pub returns-in-Ok-clause-refused : goal.returns-in-Ok-clause-refused
 returns-in-Ok-clause-refused c =
     let words : List Text = map string_bytes c.args.words.now in
-    refuses words c.ok_or.result c.request_in.result c.ok_or.ensures.value
-    (taken (app_of c.in_ok-command.command) c.in_ok-command.ensures words c.in-Ok.matches c.request_in.result c.in-Ok.ensures.kinds
-    c.in-Ok.ensures.matches c.request_in.ensures.meant)
+    refuses words c.ok_or.result c.asked_in.result c.ok_or.ensures.value
+    (taken (app_of c.in_ok-command.command) c.in_ok-command.ensures words c.in-Ok.matches c.asked_in.result c.in-Ok.ensures.kinds
+    c.in-Ok.ensures.matches c.asked_in.ensures.meant)
 
-pub returns-in-Ok-clause-budget : goal.returns-in-Ok-clause-budget
-returns-in-Ok-clause-budget c =
-    allows (map string_bytes c.args.words.now) c.ok_or.result c.request_in.result c.ok_or.ensures.value c.request_in.ensures.budget
+pub returns-in-Ok-clause-range : goal.returns-in-Ok-clause-range
+returns-in-Ok-clause-range c =
+    allows (map string_bytes c.args.words.now) c.ok_or.result c.asked_in.result c.ok_or.ensures.value c.asked_in.ensures.range
 
 pub returns-in-Err-clause-refused : goal.returns-in-Err-clause-refused
 returns-in-Err-clause-refused c = λ refused.

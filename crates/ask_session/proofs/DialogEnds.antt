@@ -1,0 +1,341 @@
+-- What was said and saved where a dialog ends.
+use Rattle.std.proofs.Common.{◌≡◌, ◌≤◌, inl, inr, ℕ, ◌+◌, Bool, true, false, ◌||◌, IsTrue, List, [], ◌∷◌, ◌++◌, Option, Ok, Err, length, refl, sym, ap, subst}
+use Rattle.std.proofs.Common.{◌∙◌, append_assoc, append-nil, arith}
+use Rattle.std.specs.Io.KnownBytes.{IsAtEnd}
+use Rattle.std.proofs.lemmas.List.{length-append}
+use Rattle.edge_ports.specs.Counts.{counts_stored}
+use Rattle.edge_ports.specs.Lines.{LinesState, lines_heard, handed_lines, unread, Moves}
+use Rattle.edge_ports.specs.Turns.{IsConsistent}
+use Rattle.edge_ports.specs.Told.{TookAll, GaveAll, GavePrefix}
+use Rattle.edge_ports.specs.declared.ports.StoreFault.TheVariants as store
+use Rattle.edge_ports.proofs.PiecesAddUp.{gave_more, gave_nothing, gave_prefix_after, gave_prefix_before, gave_prefix_whole}
+use Rattle.edge_ports.proofs.HandedLinesAreHeard.{heard_in_order}
+use Rattle.answer_book.specs.declared.entries.Entry.{Entry}
+use Rattle.dialog_replies.specs.Subject.{Subject}
+use Rattle.session_book.specs.declared.start.Start.{Start}
+use Rattle.session_book.specs.Start.{entries_at_start}
+use Rattle.ask_session.specs.declared.dialog.Ending.{Ending}
+use Rattle.ask_session.specs.declared.dialog.Ending.TheVariants as ending
+use Rattle.ask_session.specs.Dialog.{replies, reply_to, entries_after_line, ends_session, ends_among, file_asked, next_save, saves_after_line}
+use Rattle.ask_session.specs.Heard.{Heard, IsHeard, EndedBy, GaveBy, lines_in}
+use Rattle.ask_session.specs.Outside.{Outside}
+use Rattle.ask_session.specs.Saves.{AreAnswered, CountsAfter, FilesAfter, Save, counts_saved, saves_asked}
+use Rattle.ask_session.specs.Turned.{entries_through, one_line, Answered, BreaksOff, Hands, HandsNone, Moment, NextReply, Passes, Stage, Talk, Talked}
+use Rattle.ask_session.specs.Turned.{Turned}
+use Rattle.ask_session.proofs.RepliesInOrder.{asked_append, asked_front, asked_quit, counts_append, files_append, files_longer, on_append, on_of_one}
+use Rattle.ask_session.proofs.RepliesInOrder.{passes_more}
+use Rattle.ask_session.proofs.RepliesInOrder.{Stored, quitted, replied, replies_append}
+
+-- what was heard by a reader
+abbrev pub heard_by : LinesState → Heard
+heard_by lines = record { bytes = lines.taken; ended = lines.ended }
+
+module _ (s : Subject) (start : Start) where
+  -- ---- one line after another
+
+  pub answered_more : (first old new : Stage) (r : Unit {0}) → Answered s start first old → Turned s start old (Ok r) new → Answered s start first new
+  answered_more first old new r a t =
+      let line : List ℕ = t.1.0 in
+      let saves : List Bool = t.1.2.0 in
+      let one : Passes s start old.progress.moment (one_line line saves) new.progress.moment = t.1.2.1 in
+      let before : List (List ℕ) = handed_lines old.progress.lines in
+      let entries : List Entry = first.progress.moment.entries in
+      let both : Talk = record { lines = before ++ line ∷ []; saves = a.saves ++ saves } in
+      let passes : Passes s start first.progress.moment both new.progress.moment =
+      passes_more s start (record { lines = before; saves = a.saves }) (one_line line saves) a.passes one in
+      let after : List Entry = entries_through s entries before in
+      let on : ends_session line ≡ false = on_of_one line one.on in
+      let said : replies s entries (a.saves ++ saves) (before ++ line ∷ []) ≡ replies s entries a.saves before ++ t.0 =
+      replies_append s start saves (line ∷ []) entries a.saves before a.passes.on a.passes.answered
+      ∙ ap (λ (text : List ℕ). replies s entries a.saves before ++ text)
+      (replied s after saves line [] on ∙ append-nil (reply_to s after (next_save saves) line)
+      ∙ ap (λ (es : List Entry). reply_to s es (next_save saves) line) (sym a.passes.entries_are) ∙ sym t.1.2.2) in
+      record {
+        saves = a.saves ++ saves;
+        passes = subst (λ (ls : List (List ℕ)). Passes s start first.progress.moment (record { lines = ls; saves = a.saves ++ saves }) new.progress.moment)
+            (sym t.1.1) passes;
+        gave = subst (λ (ls : List (List ℕ)). GaveAll first.given new.given (replies s entries (a.saves ++ saves) ls)) (sym t.1.1)
+            (subst (λ (text : List ℕ). GaveAll first.given new.given text) (sym said)
+            (gave_more first.given (replies s entries a.saves before) t.0 a.gave t.2));
+      }
+
+  -- ---- the end of the dialog
+
+  -- what was said and saved, of all lines that were heard
+  pub record Ends (first : Stage) (e : Ending) (new : Stage) : Type 0 where
+    pub saves : List Bool
+    pub not_refused : e ≡ ending.Refused → ⊥
+    pub ended : EndedBy e (heard_by new.progress.lines)
+    pub answered : AreAnswered e saves (saves_asked s start first.progress.moment.entries (lines_in (heard_by new.progress.lines)))
+    pub gave : GaveBy e first.given new.given (replies s first.progress.moment.entries saves (lines_in (heard_by new.progress.lines)))
+    pub files_are : FilesAfter saves (saves_asked s start first.progress.moment.entries (lines_in (heard_by new.progress.lines)))
+        first.progress.moment.files new.progress.moment.files
+    pub counts_are : CountsAfter e saves first.progress.moment.counts new.progress.moment.counts
+
+  -- all of them were answered
+  record Through (first : Stage) (lines : List (List ℕ)) (new : Stage) : Type 0 where
+    saves : List Bool
+    answered : length saves ≡ length (saves_asked s start first.progress.moment.entries lines)
+    gave : GaveAll first.given new.given (replies s first.progress.moment.entries saves lines)
+    files_are : FilesAfter saves (saves_asked s start first.progress.moment.entries lines) first.progress.moment.files new.progress.moment.files
+    counts_are : new.progress.moment.counts ≡ counts_saved saves first.progress.moment.counts
+
+  module _ (first old new : Stage) (a : Answered s start first old) (c : IsConsistent new.progress.lines) where
+    abbrev reader : LinesState
+    reader = new.progress.lines
+
+    abbrev entries : List Entry
+    entries = first.progress.moment.entries
+
+    abbrev heard : List (List ℕ)
+    heard = lines_heard reader.ended reader.taken
+
+    abbrev rest : List (List ℕ)
+    rest = lines_heard reader.ended (unread reader)
+
+    abbrev before : List (List ℕ)
+    before = handed_lines old.progress.lines
+
+    abbrev after : List Entry
+    after = entries_through s entries before
+
+    abbrev asked : List (List ℕ) → List Save
+    asked lines = saves_asked s start entries lines
+
+    abbrev Gave : List ℕ → Type 0
+    Gave text = GaveAll first.given new.given text
+
+    abbrev GaveFront : List ℕ → Type 0
+    GaveFront text = GavePrefix first.given new.given text
+
+    -- the lines heard are those handed out and more
+    order : heard ≡ handed_lines reader ++ rest
+    order = heard_in_order reader c.handed c.cut
+
+    -- one more line
+    with_line : (line : List ℕ) → Hands old.progress.lines reader line → heard ≡ before ++ (line ∷ rest)
+    with_line line hands = order ∙ ap (λ (ls : List (List ℕ)). ls ++ rest) hands ∙ append_assoc before (line ∷ []) rest
+
+    -- nothing was said or saved since then
+    same : replies s entries a.saves heard ≡ replies s entries a.saves before → asked heard ≡ asked before
+        → (new.progress.moment ≡ old.progress.moment) × (new.given ≡ old.given) → Through first heard new
+    same said saved still = record {
+      saves = a.saves;
+      answered = a.passes.answered ∙ sym (ap length saved);
+      gave = subst Gave (sym said) (subst (λ (g : Option (List ℕ)). GaveAll first.given g (replies s entries a.saves before)) (sym still.1) a.gave);
+      files_are = subst (λ (saves : List Save). FilesAfter a.saves saves first.progress.moment.files new.progress.moment.files) (sym saved)
+          (subst (λ (m : Moment). FilesAfter a.saves (asked before) first.progress.moment.files m.files) (sym still.0) a.passes.files_are);
+      counts_are = ap (λ (m : Moment). m.counts) still.0 ∙ a.passes.counts_are;
+    }
+
+    -- no further line
+    lines_same : HandsNone old.progress.lines reader → heard ≡ before
+    lines_same n = n.1 ∙ n.0
+
+    none_more : HandsNone old.progress.lines reader → (new.progress.moment ≡ old.progress.moment) × (new.given ≡ old.given) → Through first heard new
+    none_more n still = same (ap (replies s entries a.saves) (lines_same n)) (ap asked (lines_same n)) still
+
+    goes_on : HandsNone old.progress.lines reader → ends_among heard ≡ false
+    goes_on n = ap ends_among (lines_same n) ∙ a.passes.on
+
+    -- a line that ends the session
+    quit : (line : List ℕ) → Hands old.progress.lines reader line → ends_session line ≡ true
+        → (new.progress.moment ≡ old.progress.moment) × (new.given ≡ old.given) → Through first heard new
+    quit line hands ends still =
+        let all = with_line line hands in
+        let said : replies s entries a.saves heard ≡ replies s entries a.saves before =
+        ap (replies s entries a.saves) all ∙ ap (λ (saves : List Bool). replies s entries saves (before ++ (line ∷ rest))) (sym (append-nil a.saves))
+        ∙ replies_append s start [] (line ∷ rest) entries a.saves before a.passes.on a.passes.answered
+        ∙ ap (λ (t : List ℕ). replies s entries a.saves before ++ t) (quitted s after [] line rest ends)
+        ∙ append-nil (replies s entries a.saves before) in
+        let saved : asked heard ≡ asked before =
+        ap asked all ∙ asked_append s start entries before (line ∷ rest) a.passes.on
+        ∙ ap (λ (saves : List Save). asked before ++ saves) (asked_quit s start after line rest ends)
+        ∙ append-nil (asked before) in
+        same said saved still
+
+    quit_among : (line : List ℕ) → Hands old.progress.lines reader line → ends_session line ≡ true → ends_among heard ≡ true
+    quit_among line hands ends =
+        ap ends_among (with_line line hands)
+        ∙ on_append before (line ∷ rest) true a.passes.on (ap (λ (b : Bool). b || ends_among rest) ends)
+
+    -- the screen failed in the reply to a line
+    screen_ends : (reply : List ℕ) → NextReply s start old.progress (Ok reply) new.progress → GavePrefix old.given new.given reply
+        → Ends first ending.Screen new
+    screen_ends reply n g =
+        let line : List ℕ = n.0 in
+        let saves : List Bool = n.2.0 in
+        let one : Passes s start old.progress.moment (one_line line saves) new.progress.moment = n.2.1 in
+        let passes = passes_more s start (record { lines = before; saves = a.saves }) (one_line line saves) a.passes one in
+        let lines : heard ≡ (before ++ line ∷ []) ++ rest = order ∙ ap (λ (ls : List (List ℕ)). ls ++ rest) n.1 in
+        let front = asked_front s start entries (before ++ line ∷ []) rest in
+        let all : asked heard ≡ asked (before ++ line ∷ []) ++ front.0 = ap asked lines ∙ front.1 in
+        let few : length (a.saves ++ saves) ≤ length (asked (before ++ line ∷ [])) = omega (arith, passes.answered) in
+        let next : List Entry = entries_after_line s after line in
+        let more : List ℕ = replies s next (saves_after_line (file_asked line) saves) rest in
+        let said : replies s entries (a.saves ++ saves) heard ≡ replies s entries a.saves before ++ (reply ++ more) =
+        ap (replies s entries (a.saves ++ saves)) (with_line line n.1)
+        ∙ replies_append s start saves (line ∷ rest) entries a.saves before a.passes.on a.passes.answered
+        ∙ ap (λ (t : List ℕ). replies s entries a.saves before ++ t) (replied s after saves line rest (on_of_one line one.on)
+        ∙ ap (λ (t : List ℕ). t ++ more) (ap (λ (es : List Entry). reply_to s es (next_save saves) line) (sym a.passes.entries_are) ∙ sym n.2.2)) in
+        record {
+          saves = a.saves ++ saves;
+          not_refused = λ r. absurd (let x : ⊥ = cc in x);
+          ended = tt;
+          answered = omega (arith, few, ap length all, length-append (asked (before ++ line ∷ [])) front.0);
+          gave = subst GaveFront (sym said)
+              (gave_prefix_after first.given (replies s entries a.saves before) a.gave
+              (gave_prefix_before old.given new.given reply more g));
+          files_are = subst (λ (saved : List Save). FilesAfter (a.saves ++ saves) saved first.progress.moment.files new.progress.moment.files) (sym all)
+              (let stored : Stored (a.saves ++ saves) (asked (before ++ line ∷ [])) first.progress.moment.files new.progress.moment.files =
+              record { files_are = passes.files_are } in (files_longer front.0 few stored).files_are);
+          counts_are = passes.counts_are;
+        }
+
+    -- the counts after the answers, and then after those at the line
+    counts_more : (saves : List Bool) → CountsAfter ending.Memory saves old.progress.moment.counts new.progress.moment.counts
+        → CountsAfter ending.Memory (a.saves ++ saves) first.progress.moment.counts new.progress.moment.counts
+    counts_more saves (inl e) =
+        inl (e ∙ ap (counts_saved saves) a.passes.counts_are ∙ sym (counts_append a.saves saves first.progress.moment.counts))
+    counts_more saves (inr e) =
+        inr (e ∙ ap (counts_stored (Err store.Memory)) (ap (counts_saved saves) a.passes.counts_are
+        ∙ sym (counts_append a.saves saves first.progress.moment.counts)))
+
+    -- memory ran out at a line
+    memory_ends : (line : List ℕ) → Hands old.progress.lines reader line → BreaksOff s start old.progress.moment line new.progress.moment
+        → new.given ≡ old.given → Ends first ending.Memory new
+    memory_ends line hands b still =
+        let one : List Save = saves_asked s start after (line ∷ []) in
+        let same_one : saves_asked s start old.progress.moment.entries (line ∷ []) ≡ one =
+        ap (λ (es : List Entry). saves_asked s start es (line ∷ [])) a.passes.entries_are in
+        let front = asked_front s start after (line ∷ []) rest in
+        let all : asked heard ≡ asked before ++ (one ++ front.0) =
+        ap asked (with_line line hands) ∙ asked_append s start entries before (line ∷ rest) a.passes.on
+        ∙ ap (λ (saved : List Save). asked before ++ saved) front.1 in
+        let few : length b.saves ≤ length one = omega (arith, b.answered, ap length same_one) in
+        let stored : Stored a.saves (asked before) first.progress.moment.files old.progress.moment.files = record { files_are = a.passes.files_are } in
+        let more : Stored b.saves one old.progress.moment.files new.progress.moment.files =
+        record {
+          files_are = subst (λ (saved : List Save). FilesAfter b.saves saved old.progress.moment.files new.progress.moment.files) same_one
+              b.files_are;
+        } in
+        let said : replies s entries (a.saves ++ b.saves) heard ≡ replies s entries a.saves before ++ replies s after b.saves (line ∷ rest) =
+        ap (replies s entries (a.saves ++ b.saves)) (with_line line hands)
+        ∙ replies_append s start b.saves (line ∷ rest) entries a.saves before a.passes.on a.passes.answered in
+        let gave : Gave (replies s entries a.saves before) =
+        subst (λ (g : Option (List ℕ)). GaveAll first.given g (replies s entries a.saves before)) (sym still) a.gave in
+        record {
+          saves = a.saves ++ b.saves;
+          not_refused = λ r. absurd (let x : ⊥ = cc in x);
+          ended = tt;
+          answered = omega (
+            arith,
+            few,
+            a.passes.answered,
+            length-append a.saves b.saves,
+            ap length all,
+            length-append (asked before) (one ++ front.0),
+            length-append one front.0,
+          );
+          gave = subst GaveFront (sym said)
+              (gave_prefix_before first.given new.given (replies s entries a.saves before) (replies s after b.saves (line ∷ rest))
+              (gave_prefix_whole first.given new.given (replies s entries a.saves before) gave));
+          files_are = subst (λ (saved : List Save). FilesAfter (a.saves ++ b.saves) saved first.progress.moment.files new.progress.moment.files) (sym all)
+              (files_append a.passes.answered stored (files_longer front.0 few more)).files_are;
+          counts_are = counts_more b.saves b.counts_are;
+        }
+
+    done : EndedBy ending.Done (heard_by reader) → Through first heard new → Ends first ending.Done new
+    done why t = record {
+      saves = t.saves;
+      not_refused = λ r. absurd (let x : ⊥ = cc in x);
+      ended = why;
+      answered = t.answered;
+      gave = t.gave;
+      files_are = t.files_are;
+      counts_are = t.counts_are;
+    }
+
+    console : EndedBy ending.Console (heard_by reader) → Through first heard new → Ends first ending.Console new
+    console why t = record {
+      saves = t.saves;
+      not_refused = λ r. absurd (let x : ⊥ = cc in x);
+      ended = why;
+      answered = t.answered;
+      gave = t.gave;
+      files_are = t.files_are;
+      counts_are = t.counts_are;
+    }
+
+    spent : EndedBy ending.Spent (heard_by reader) → Through first heard new → Ends first ending.Spent new
+    spent why t = record {
+      saves = t.saves;
+      not_refused = λ r. absurd (let x : ⊥ = cc in x);
+      ended = why;
+      answered = t.answered;
+      gave = t.gave;
+      files_are = t.files_are;
+      counts_are = t.counts_are;
+    }
+
+    pub talk_ends : (e : Ending) → Turned s start old (Err e) new → Ends first e new
+    talk_ends ending.Done (inl q, e) = done (inr (quit_among q.0 q.1 q.2.0)) (quit q.0 q.1 q.2.0 (q.2.1, e))
+    talk_ends ending.Done (inr end, e) = done (inl end.0) (none_more end.1 (end.2, e))
+    talk_ends ending.Console (n, e) = console (n.0, goes_on n.1, n.2) (none_more n.1 (n.3, e))
+    talk_ends ending.Spent (n, e) = spent (n.0, goes_on n.1, n.2) (none_more n.1 (n.3, e))
+    talk_ends ending.Screen (reply, n, g) = screen_ends reply n g
+    talk_ends ending.Memory (n, e) = memory_ends n.0 n.1 n.2 e
+    talk_ends ending.Refused t = absurd t
+
+-- what was heard while a reader that had taken nothing took these bytes
+pub heard_of : (taken : List ℕ) (new : LinesState) (left left' : Option (List ℕ)) → taken ≡ [] → Moves taken new.taken left left' → IsConsistent new
+    → (IsTrue new.ended → IsAtEnd left') → IsHeard left left' (heard_by new)
+heard_of taken new left left' none m c at_end = record {
+  took = subst (λ (bytes : List ℕ). TookAll left left' bytes) (sym (m.grown ∙ ap (λ (bytes : List ℕ). bytes ++ m.more) none)) m.took;
+  within = c.taken;
+  room = c.seen;
+  at_end = at_end;
+}
+
+-- ---- from the entries at the start on
+
+abbrev pub stage : List Entry → Outside → LinesState → Stage
+stage entries outside lines = record {
+  progress = record { moment = record { entries = entries; files = outside.files; counts = outside.counts }; lines = lines };
+  given = outside.streams.given;
+}
+
+module _ (s : Subject) (start : Start) where
+  abbrev pub first_stage : Outside → LinesState → Stage
+  first_stage outside lines = stage (entries_at_start start) outside lines
+
+  -- before a line was handed out
+  pub none_answered : (outside : Outside) (entries : List Entry) (lines : LinesState) → entries ≡ entries_at_start start → handed_lines lines ≡ []
+      → Answered s start (first_stage outside lines) (stage entries outside lines)
+  none_answered outside now lines same none = record {
+    saves = [];
+    passes = record {
+      on = ap ends_among none;
+      entries_are = same ∙ sym (ap (entries_through s (entries_at_start start)) none);
+      answered = sym (ap (λ (ls : List (List ℕ)). length (saves_asked s start (entries_at_start start) ls)) none);
+      files_are = refl;
+      counts_are = refl;
+    };
+    gave = subst (λ (ls : List (List ℕ)). GaveAll outside.streams.given outside.streams.given (replies s (entries_at_start start) [] ls)) (sym none)
+        (gave_nothing outside.streams.given);
+  }
+
+  pub talked_of : {fresh lines : LinesState} {entries : List Entry} {e : Ending} (outside outside' : Outside)
+      → Ends s start (first_stage outside fresh) e (stage entries outside' lines) → IsHeard outside.streams.left outside'.streams.left (heard_by lines)
+      → Talked s start outside e outside'
+  talked_of {lines = lines} outside outside' ends heard = record {
+    heard = heard_by lines;
+    saves = ends.saves;
+    not_refused = ends.not_refused;
+    is_heard = heard;
+    ended = ends.ended;
+    answered = ends.answered;
+    gave = ends.gave;
+    files = ends.files_are;
+    counts = ends.counts_are;
+  }

@@ -1,0 +1,146 @@
+-- A session: the opening and the dialog, or a saved session that is refused.
+use Rattle.std.proofs.Common.{◌≡◌, inl, ℕ, false, Bool, List, [], ◌++◌, Option, Some, None, IsSome, refl, sym, ap, subst, arith}
+use Rattle.std.specs.Option.{option_map}
+use Rattle.edge_ports.specs.Told.{GaveAll, GavePrefix}
+use Rattle.edge_ports.proofs.PiecesAddUp.{gave_more, gave_nothing, gave_prefix_after, gave_prefix_before, gave_prefix_whole, took_nothing}
+use Rattle.dialog_replies.specs.Replies.{opening}
+use Rattle.dialog_replies.specs.Subject.{Subject}
+use Rattle.session_book.specs.declared.misfits.Misfit.{Misfit}
+use Rattle.session_book.specs.declared.start.Start.{Start}
+use Rattle.session_book.specs.Fit.{misfit}
+use Rattle.session_book.specs.Lines.{misfit_line}
+use Rattle.session_book.specs.Start.{entries_at_start}
+use Rattle.ask_session.specs.declared.dialog.Ending.{Ending}
+use Rattle.ask_session.specs.declared.dialog.Ending.TheVariants as ending
+use Rattle.ask_session.specs.Dialog.{replies, said, said_unless}
+use Rattle.ask_session.specs.Heard.{GaveBy, Heard, IsHeard, RefusedBy, lines_in}
+use Rattle.ask_session.specs.Outside.{Outside}
+use Rattle.ask_session.specs.Turned.{Talked}
+use Rattle.ask_session.specs.Went.{Went}
+
+-- nothing was heard
+abbrev pub nothing : Heard
+nothing = record { bytes = []; ended = false }
+
+pub heard_nothing : (left : Option (List ℕ)) → IsHeard left left nothing
+heard_nothing left = record {
+  took = took_nothing left;
+  within = omega arith;
+  room = λ e. absurd (let x : ⊥ = cc in x);
+  at_end = λ e. absurd (let x : ⊥ = cc in x);
+}
+
+nothing_is_prefix : (given : Option (List ℕ)) (text : List ℕ) → GavePrefix given given text
+nothing_is_prefix given text = gave_prefix_before given given [] text (gave_prefix_whole given given [] (gave_nothing given))
+
+-- the same outside, but for what the screen was given
+abbrev pub with_given : Outside → Option (List ℕ) → Outside
+with_given outside given = record outside { streams = record { left = outside.streams.left; given = given } }
+
+module _ (s : Subject) (start : Start) where
+  -- ---- a session that ended before anything was heard or saved
+
+  pub ended_at_once : (outside : Outside) → Went s start outside ending.Memory outside
+  ended_at_once outside = record {
+    heard = nothing;
+    saves = [];
+    is_heard = heard_nothing outside.streams.left;
+    ended = tt;
+    refused = tt;
+    answered = omega arith;
+    gave = nothing_is_prefix outside.streams.given (said s start [] (lines_in nothing));
+    files = refl;
+    counts = inl refl;
+  }
+
+  -- the screen failed in a first part of what was to be said
+  pub screen_at_once : (outside : Outside) (given : Option (List ℕ)) (text rest : List ℕ) → said s start [] (lines_in nothing) ≡ text ++ rest
+      → GavePrefix outside.streams.given given text → Went s start outside ending.Screen (with_given outside given)
+  screen_at_once outside given text rest is gave = record {
+    heard = nothing;
+    saves = [];
+    is_heard = heard_nothing outside.streams.left;
+    ended = tt;
+    refused = tt;
+    answered = omega arith;
+    gave = subst (λ (t : List ℕ). GavePrefix outside.streams.given given t) (sym is) (gave_prefix_before outside.streams.given given text rest gave);
+    files = refl;
+    counts = refl;
+  }
+
+  -- ---- a saved session that does not fit
+
+  pub said_misfit : (why : Misfit) (saves : List Bool) (lines : List (List ℕ)) → misfit s start ≡ Some why → said s start saves lines ≡ misfit_line why
+  said_misfit why saves lines unfit =
+      ap (λ (m : Option Misfit). said_unless m (opening s (entries_at_start start) ++ replies s (entries_at_start start) saves lines)) unfit
+
+  pub refused_so : (outside : Outside) (given : Option (List ℕ)) (why : Misfit) → misfit s start ≡ Some why
+      → GaveAll outside.streams.given given (misfit_line why) → Went s start outside ending.Refused (with_given outside given)
+  refused_so outside given why unfit gave = record {
+    heard = nothing;
+    saves = [];
+    is_heard = heard_nothing outside.streams.left;
+    ended = (refl, refl);
+    refused = subst IsSome (sym unfit) refl;
+    answered = refl;
+    gave = subst (λ (t : List ℕ). GaveAll outside.streams.given given t) (sym (said_misfit why [] (lines_in nothing) unfit)) gave;
+    files = refl;
+    counts = refl;
+  }
+
+  -- ---- the opening, and the dialog
+
+  pub said_fit : (saves : List Bool) (lines : List (List ℕ)) → misfit s start ≡ None
+      → said s start saves lines ≡ opening s (entries_at_start start) ++ replies s (entries_at_start start) saves lines
+  said_fit saves lines fits =
+      ap (λ (m : Option Misfit). said_unless m (opening s (entries_at_start start) ++ replies s (entries_at_start start) saves lines)) fits
+
+  -- what a dialog gave after the opening
+  module _ (k0 k1 k2 : Option (List ℕ)) (a b : List ℕ) where
+    gave_after_opening : (e : Ending) → GaveAll k0 k1 a → GaveBy e k1 k2 b → GaveBy e k0 k2 (a ++ b)
+    gave_after_opening ending.Done f g = gave_more k0 a b f g
+    gave_after_opening ending.Console f g = gave_more k0 a b f g
+    gave_after_opening ending.Spent f g = gave_more k0 a b f g
+    gave_after_opening ending.Refused f g = gave_more k0 a b f g
+    gave_after_opening ending.Screen f g = gave_prefix_after k0 a f g
+    gave_after_opening ending.Memory f g = gave_prefix_after k0 a f g
+
+  -- a dialog does not end as a saved session that is refused
+  fit_by : (e : Ending) (m : Option Misfit) → (e ≡ ending.Refused → ⊥) → m ≡ None → RefusedBy e m
+  fit_by ending.Done m not none = none
+  fit_by ending.Console m not none = none
+  fit_by ending.Spent m not none = none
+  fit_by ending.Refused m not none = absurd (not refl)
+  fit_by ending.Screen m not none = tt
+  fit_by ending.Memory m not none = tt
+
+  -- the opening of a session that fits was given
+  pub record Opened (before : Outside) (given : Option (List ℕ)) : Type 0 where
+    pub fits : misfit s start ≡ None
+    pub gave : GaveAll before.streams.given given (opening s (entries_at_start start))
+
+  pub went_so : (given : Option (List ℕ)) (before after : Outside) (e : Ending) → Opened before given → Talked s start (with_given before given) e after
+      → Went s start before e after
+  went_so given before after e o t = record {
+    heard = t.heard;
+    saves = t.saves;
+    is_heard = t.is_heard;
+    ended = t.ended;
+    refused = fit_by e (misfit s start) t.not_refused o.fits;
+    answered = t.answered;
+    gave = subst (λ (text : List ℕ). GaveBy e before.streams.given after.streams.given text) (sym (said_fit t.saves (lines_in t.heard) o.fits))
+        (gave_after_opening before.streams.given given after.streams.given (opening s (entries_at_start start))
+        (replies s (entries_at_start start) t.saves (lines_in t.heard)) e o.gave t.gave);
+    files = t.files;
+    counts = t.counts;
+  }
+
+-- ---- the line of a saved session that does not fit, by how it was made
+
+pub fits_by : (m : Option Misfit) → None ≡ option_map misfit_line m → m ≡ None
+fits_by None e = refl
+fits_by (Some why) e = absurd (let x : ⊥ = cc in x)
+
+pub unfit_by : (m : Option Misfit) (line : List ℕ) → Some line ≡ option_map misfit_line m → (why : Misfit) × (m ≡ Some why) × (line ≡ misfit_line why)
+unfit_by None line e = absurd (let x : ⊥ = cc in x)
+unfit_by (Some why) line e = let same : line ≡ misfit_line why = cc in (why, refl, same)

@@ -1,0 +1,11 @@
+use Rattle.std.proofs.Common.{ℕ, List, ◌++◌, ap, ◌∙◌}
+use Rattle.std.specs.Prelude.{codes}
+use Rattle.ask_session.proofs.LineIsAnswered.{breaks_off, too_long_so}
+use Rattle.ask_session.proofs.dialog.too_long.Goals as goal
+
+pub returns-in-Ok-clause-answers : goal.returns-in-Ok-clause-answers
+returns-in-Ok-clause-answers c = λ s start asked long.
+    too_long_so s start asked c.append.new.self long (c.in-Ok.ensures.ok ∙ ap (λ (bytes : List ℕ). bytes ++ codes "line too long\n") c.new-bytes.ensures)
+
+pub returns-in-Err-clause-answers : goal.returns-in-Err-clause-answers
+returns-in-Err-clause-answers c = λ s start asked long. breaks_off s start asked asked.moment.entries

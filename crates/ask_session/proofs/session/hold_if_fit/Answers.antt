@@ -1,0 +1,49 @@
+use Rattle.std.proofs.Common.{ℕ, List, [], sym, subst, ◌∙◌, append-nil}
+use Rattle.edge_ports.specs.Told.{GaveAll, GavePrefix}
+use Rattle.session_book.specs.Fit.{misfit}
+use Rattle.session_book.specs.Lines.{misfit_line}
+use Rattle.ask_session.specs.Heard.{lines_in}
+use Rattle.ask_session.specs.Outside.{Outside}
+use Rattle.ask_session.proofs.SessionsAreHeld.{ended_at_once, fits_by, nothing, refused_so, said_misfit, screen_at_once, unfit_by}
+use Rattle.ask_session.proofs.session.hold_if_fit.Goals as goal
+
+pub hold_session-requires-clause-fits : goal.hold_session-requires-clause-fits
+hold_session-requires-clause-fits g c =
+    fits_by (misfit (g.D.Debugged.subject c.args.run.now) c.args.start.now) (sym c.in-Ok-None.field-0-is ∙ c.in-Ok-None.ensures)
+
+pub returns-in-Ok-clause-goes : goal.returns-in-Ok-clause-goes
+returns-in-Ok-clause-goes g c =
+    let s = g.D.Debugged.subject c.args.run.now in
+    let before : Outside = record {
+      files = g.K.Keeper.files c.args.keeper.now;
+      counts = g.K.Keeper.counts c.args.keeper.now;
+      streams = record { left = g.I.Source.left c.args.console.now; given = g.O.Sink.given c.args.screen.now };
+    } in
+    let given' = g.O.Sink.given c.write_all.new.sink in
+    let why = unfit_by (misfit s c.args.start.now) c.in-Ok-Some.line (sym c.in-Ok-Some.field-0-is ∙ c.in-Ok-Some.ensures) in
+    refused_so s c.args.start.now before given' why.0 why.1
+    (subst (λ (x : List ℕ). GaveAll before.streams.given given' x) (c.as_slice.ensures ∙ why.2) c.in-Ok.ensures.ok)
+
+pub returns-in-Ok-Some-clause-goes : goal.returns-in-Ok-Some-clause-goes
+returns-in-Ok-Some-clause-goes g c =
+    let s = g.D.Debugged.subject c.args.run.now in
+    let before : Outside = record {
+      files = g.K.Keeper.files c.args.keeper.now;
+      counts = g.K.Keeper.counts c.args.keeper.now;
+      streams = record { left = g.I.Source.left c.args.console.now; given = g.O.Sink.given c.args.screen.now };
+    } in
+    let given' = g.O.Sink.given c.write_all.new.sink in
+    let why = unfit_by (misfit s c.args.start.now) c.in-Ok-Some.line (sym c.in-Ok-Some.field-0-is ∙ c.in-Ok-Some.ensures) in
+    screen_at_once s c.args.start.now before given' (misfit_line why.0) []
+    (said_misfit s c.args.start.now why.0 [] (lines_in nothing) why.1 ∙ sym (append-nil (misfit_line why.0)))
+    (subst (λ (x : List ℕ). GavePrefix before.streams.given given' x) (c.as_slice.ensures ∙ why.2) c.in-Err-write_all.ensures.failed)
+
+pub returns-clause-goes : goal.returns-clause-goes
+returns-clause-goes g c =
+    let s = g.D.Debugged.subject c.args.run.now in
+    let before : Outside = record {
+      files = g.K.Keeper.files c.args.keeper.now;
+      counts = g.K.Keeper.counts c.args.keeper.now;
+      streams = record { left = g.I.Source.left c.args.console.now; given = g.O.Sink.given c.args.screen.now };
+    } in
+    ended_at_once s c.args.start.now before

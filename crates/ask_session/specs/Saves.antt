@@ -1,0 +1,72 @@
+-- What the lines of a console ask to save, and what becomes of the keeper.
+use Rattle.std.specs.Prelude.{◌≡◌, ◌⊎◌, ◌≤◌, ℕ, Bool, true, false, if◌then◌else◌, List, [], ◌∷◌, ◌++◌, length}
+use Rattle.std.specs.Prelude.{Option, Some, None, Ok, Err}
+use Rattle.edge_ports.specs.Counts.{KeeperCounts, counts_stored}
+use Rattle.edge_ports.specs.Files.{FileMap, KeepsOthers, StoresFile}
+use Rattle.edge_ports.specs.declared.ports.StoreFault.TheVariants as store
+use Rattle.answer_book.specs.declared.entries.Entry.{Entry}
+use Rattle.dialog_replies.specs.Subject.{Subject}
+use Rattle.session_book.specs.declared.start.Start.{Start}
+use Rattle.session_book.specs.Start.{entries_at_start, saved_text}
+use Rattle.ask_session.specs.declared.dialog.Ending.{Ending}
+use Rattle.ask_session.specs.declared.dialog.Ending.TheVariants as ending
+use Rattle.ask_session.specs.Dialog.{ends_session, entries_after_line, file_asked}
+
+-- a file that is to be stored: its name, and the session's text
+pub record Save : Type 0 where
+  pub file : List ℕ
+  pub text : List ℕ
+
+-- what a line asks to save: the entries of that moment
+abbrev pub save_of : Start → List Entry → (file : Option (List ℕ)) → List Save
+save_of start entries (Some file) = record { file = file; text = saved_text start entries } ∷ []
+save_of start entries None = []
+
+-- what the lines of a console ask to save, in order, up to `quit`
+abbrev pub saves_asked : Subject → Start → List Entry → (lines : List (List ℕ)) → List Save
+saves_asked s start entries [] = []
+saves_asked s start entries (line ∷ lines) =
+    if ends_session line then [] else save_of start entries (file_asked line)
+    ++ saves_asked s start (entries_after_line s entries line) lines
+
+abbrev pub saves_in : Subject → Start → (lines : List (List ℕ)) → List Save
+saves_in s start lines = saves_asked s start (entries_at_start start) lines
+
+-- the file was stored, or of its name nothing is known; all others stay
+abbrev pub FileAfter : (stored : Bool) → Save → (before now : Option FileMap) → Type 0
+FileAfter true save before now = StoresFile save.file save.text before now
+FileAfter false save before now = KeepsOthers save.file before now
+
+-- the files after as many of these saves as got an answer, one after the other; `saves` are the answers
+abbrev pub FilesAfter : (saves : List Bool) → List Save → (before now : Option FileMap) → Type 0
+FilesAfter [] asked before now = now ≡ before
+FilesAfter (stored ∷ saves) [] before now = now ≡ before
+FilesAfter (stored ∷ saves) (save ∷ asked) before now =
+    (files : Option FileMap) × FileAfter stored save before files × FilesAfter saves asked files now
+
+-- a keeper's counts after stores with these answers
+abbrev pub counts_saved : (saves : List Bool) → KeeperCounts → KeeperCounts
+counts_saved [] counts = counts
+counts_saved (true ∷ saves) counts = counts_saved saves (counts_stored (Ok tt) counts)
+counts_saved (false ∷ saves) counts = counts_saved saves (counts_stored (Err store.Failed) counts)
+
+-- ---- by how the dialog ended
+
+-- each save got its answer; where the screen failed or memory ran out, the first ones did
+abbrev pub AreAnswered : Ending → (saves : List Bool) → List Save → Type 0
+AreAnswered ending.Done saves asked = length saves ≡ length asked
+AreAnswered ending.Console saves asked = length saves ≡ length asked
+AreAnswered ending.Spent saves asked = length saves ≡ length asked
+AreAnswered ending.Refused saves asked = length saves ≡ length asked
+AreAnswered ending.Screen saves asked = length saves ≤ length asked
+AreAnswered ending.Memory saves asked = length saves ≤ length asked
+
+-- the counts are those after the answers, unless it was one more store that ran out of memory
+abbrev pub CountsAfter : Ending → (saves : List Bool) → (before now : KeeperCounts) → Type 0
+CountsAfter ending.Done saves before now = now ≡ counts_saved saves before
+CountsAfter ending.Console saves before now = now ≡ counts_saved saves before
+CountsAfter ending.Spent saves before now = now ≡ counts_saved saves before
+CountsAfter ending.Refused saves before now = now ≡ counts_saved saves before
+CountsAfter ending.Screen saves before now = now ≡ counts_saved saves before
+CountsAfter ending.Memory saves before now =
+    (now ≡ counts_saved saves before) ⊎ (now ≡ counts_stored (Err store.Memory) (counts_saved saves before))

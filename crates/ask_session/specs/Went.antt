@@ -1,0 +1,24 @@
+-- How a dialog went.
+use Rattle.std.specs.Prelude.{Bool, List}
+use Rattle.dialog_replies.specs.Subject.{Subject}
+use Rattle.session_book.specs.declared.start.Start.{Start}
+use Rattle.session_book.specs.Fit.{misfit}
+use Rattle.ask_session.specs.declared.dialog.Ending.{Ending}
+use Rattle.ask_session.specs.Dialog.{said}
+use Rattle.ask_session.specs.Heard.{Heard, IsHeard, lines_in, EndedBy, GaveBy, RefusedBy}
+use Rattle.ask_session.specs.Outside.{Outside}
+use Rattle.ask_session.specs.Saves.{AreAnswered, CountsAfter, FilesAfter, saves_in}
+
+-- A dialog about a run went so: what was heard of the console and why it ended; of each line that asks to save, whether
+-- its file was stored; what the screen got; and what became of the files, by the replies alone, and of the keeper's
+-- counts.
+pub record Went (s : Subject) (start : Start) (before : Outside) (e : Ending) (after : Outside) : Type 0 where
+  pub heard : Heard
+  pub saves : List Bool
+  pub is_heard : IsHeard before.streams.left after.streams.left heard
+  pub ended : EndedBy e heard
+  pub refused : RefusedBy e (misfit s start)
+  pub answered : AreAnswered e saves (saves_in s start (lines_in heard))
+  pub gave : GaveBy e before.streams.given after.streams.given (said s start saves (lines_in heard))
+  pub files : FilesAfter saves (saves_in s start (lines_in heard)) before.files after.files
+  pub counts : CountsAfter e saves before.counts after.counts

@@ -1,0 +1,22 @@
+-- What the own work of each call of a run comes to.
+use Rattle.std.specs.Prelude.{◌≡◌, ℕ, List, Some}
+use Rattle.std.specs.List.{slice_get}
+use Rattle.program_tables.specs.ProgramRows.{ProgramRows}
+use Rattle.program_meaning.specs.Run.{Call, Result, result_in, run, way_out}
+use Rattle.program_meaning.specs.Replay.{Event, Replayed, Replaying}
+use Rattle.body_replay.specs.Replays.{records_of, work_of}
+
+-- The own work of a call, which is its body, run from its recorded entry with the recorded effects of the calls that it
+-- makes, gives exactly its recorded way out, its recorded result and its recorded exit.
+pub record GivesItsExit (c : Call) (work : Replayed) : Type 0 where
+  pub body : Result Replaying Event
+  pub is : work ≡ Some body
+  pub way : way_out body.end ≡ c.way
+  pub result : result_in body.end ≡ c.result
+  pub exit : body.after.state ≡ c.exit
+
+-- so it is with each call of the run of each program, with each input and each budget of steps
+abbrev pub BodiesGiveTheirExits : Type 0
+BodiesGiveTheirExits = (p : ProgramRows) (input : List ℕ) (budget number : ℕ) (c : Call)
+    → slice_get (records_of (run p input budget)) number ≡ Some c
+    → GivesItsExit c (work_of p (run p input budget) number)

@@ -1,0 +1,168 @@
+-- Where the keeper tells its files, and the source is no program or the session is refused: which status comes.
+use Rattle.std.proofs.Common.{◌≡◌, ◌⊎◌, inl, inr, List, ℕ, Option, Some, None, IsSome, Err, refl, sym, ap, subst, ◌∙◌}
+use Rattle.edge_ports.specs.Counts.{CountsFetch, KeeperCounts}
+use Rattle.edge_ports.specs.Files.{FileMap}
+use Rattle.edge_ports.specs.declared.ports.FetchFault.{FetchFault}
+use Rattle.edge_ports.specs.declared.ports.FetchFault.TheVariants as fetch
+use Rattle.command_words.specs.Meaning.{Meant, Requested, Source, Made}
+use Rattle.session_book.specs.declared.misfits.Misfit.{Misfit}
+use Rattle.session_book.specs.Fit.{misfit}
+use Rattle.debuggee.specs.Program.{IsProgram, NoProgram}
+use Rattle.ask_session.specs.declared.dialog.Ending.{Ending}
+use Rattle.ask_session.specs.declared.dialog.Ending.TheVariants as ending
+use Rattle.ask_session.specs.Outside.{Outside}
+use Rattle.ask_session.specs.Heard.{RefusedBy}
+use Rattle.debug_cli.specs.declared.status.Status.{Status}
+use Rattle.debug_cli.specs.declared.status.Status.TheVariants as status
+use Rattle.debug_cli.specs.Goes.{Goes, Owes, Talks}
+use Rattle.debug_cli.specs.Laws.{OneRun}
+use Rattle.debug_cli.specs.Named.{Begun, Checked, FileSought, IsFault, IsSource, IsSought, MadeProgram, NotFetched, SessionRefused, start_in, subject_in}
+use Rattle.debug_cli.specs.Outside.{NoFetchFailed, NoneRisen}
+use Rattle.debug_cli.specs.Status.{code_of}
+use Rattle.debug_cli.specs.Setting.{MeansNoProgram, MeansNoSession}
+use Rattle.debug_cli.proofs.FilesAreTold.{Comes, Fits, begun_comes, no_fault, no_fault_at, no_other_session, no_refusal, refused_comes, same_file, same_start}
+use Rattle.debug_cli.proofs.FilesAreTold.{same_subject}
+
+module _ (before after : Outside) (told : IsSome before.files) (well : NoFetchFailed before.counts after.counts) where
+  -- ---- the source is no program
+
+  module _ (r : Requested) (bytes : List ℕ) (source : IsSource (Source r) before.files bytes) (none : NoProgram bytes) where
+    no_checked : Checked r before.files → ⊥
+    no_checked c =
+        none c.tokens c.rows
+        (subst (λ (b : List ℕ). IsProgram b c.tokens c.rows) (same_file before.files r.source c.bytes bytes told c.fetched.0 source.0) c.program)
+
+    no_talk : (e : Ending) → Talks (Some (Source r)) before after e → ⊥
+    no_talk e t = no_checked t.0.run.source
+
+    sought_not : (x : NotFetched r before.files) → CountsFetch (Err x.why) before.counts after.counts → IsSought r before.files x.file → ⊥
+    sought_not x counts (inl is) =
+        no_fault_at r before.files told before.counts after.counts well x (subst (Fits r before.files told) (sym is) (bytes, source)) counts
+    sought_not x counts (inr (inl is)) = no_checked is.0
+    sought_not x counts (inr (inr is)) = no_checked is.0.source
+
+    source_refused : (s : Status) → Goes (Some (Source r)) before after s → (s ≡ status.Screen → ⊥) → (s ≡ status.Source) ⊎ (s ≡ status.Memory)
+    source_refused status.Done (inl x) screen = absurd x.owed
+    source_refused status.Done (inr t) screen = absurd (no_talk ending.Done t)
+    source_refused status.Words x screen = absurd x.owed
+    source_refused status.Source x screen = inl refl
+    source_refused status.File x screen = absurd (sought_not x.owed.0 x.owed.2 x.owed.0.sought)
+    source_refused status.Console t screen = absurd (no_talk ending.Console t)
+    source_refused status.Screen h screen = absurd (screen refl)
+    source_refused status.Memory h screen = inr refl
+    source_refused status.Session (inl x) screen = absurd (no_checked x.owed.0.run.source)
+    source_refused status.Session (inr t) screen = absurd (no_talk ending.Refused t)
+    source_refused status.Spent t screen = absurd (no_talk ending.Spent t)
+
+  module _ (number : ℕ) (bytes : List ℕ) (source : IsSource (Made number) before.files bytes) (none : NoProgram bytes) where
+    no_made : MadeProgram number → ⊥
+    no_made x = none x.tokens x.rows (subst (λ (b : List ℕ). IsProgram b x.tokens x.rows) (sym source) x.program)
+
+    made_refused : (s : Status) → Goes (Some (Made number)) before after s → (s ≡ status.Screen → ⊥) → (s ≡ status.Source) ⊎ (s ≡ status.Memory)
+    made_refused status.Done (inl x) screen = absurd (no_made x.owed.0)
+    made_refused status.Done (inr t) screen = absurd t
+    made_refused status.Words x screen = absurd x.owed
+    made_refused status.Source x screen = inl refl
+    made_refused status.File x screen = absurd x.owed
+    made_refused status.Console t screen = absurd t
+    made_refused status.Screen h screen = absurd (screen refl)
+    made_refused status.Memory h screen = inr refl
+    made_refused status.Session (inl x) screen = absurd x.owed
+    made_refused status.Session (inr t) screen = absurd t
+    made_refused status.Spent t screen = absurd t
+
+  pub program_refused : (m : Option Meant) → MeansNoProgram m before.files → (s : Status) → Goes m before after s → (s ≡ status.Screen → ⊥)
+      → (s ≡ status.Source) ⊎ (s ≡ status.Memory)
+  program_refused None means s h screen = absurd means
+  program_refused (Some (Source r)) (bytes, source, none) s h screen = source_refused r bytes source none s h screen
+  program_refused (Some (Made number)) (bytes, source, none) s h screen = made_refused number bytes source none s h screen
+
+  -- ---- the session is refused
+
+  module _ (r : Requested) (checked : Checked r before.files) (comes : Comes r before.files told)
+      (quiet : (e : Ending) → (e ≡ ending.Done) ⊎ (e ≡ ending.Console) ⊎ (e ≡ ending.Spent) → Talks (Some (Source r)) before after e → ⊥) where
+    refused_so : (s : Status) → Goes (Some (Source r)) before after s → (s ≡ status.Screen → ⊥) → (s ≡ status.Session) ⊎ (s ≡ status.Memory)
+    refused_so status.Done (inl x) screen = absurd x.owed
+    refused_so status.Done (inr t) screen = absurd (quiet ending.Done (inl refl) t)
+    refused_so status.Words x screen = absurd x.owed
+    refused_so status.Source x screen = absurd (no_refusal r before.files told checked x.owed.0)
+    refused_so status.File x screen = absurd (no_fault r before.files told comes before.counts after.counts well x.owed.0 x.owed.2)
+    refused_so status.Console t screen = absurd (quiet ending.Console (inr (inl refl)) t)
+    refused_so status.Screen h screen = absurd (screen refl)
+    refused_so status.Memory h screen = inr refl
+    refused_so status.Session h screen = inl refl
+    refused_so status.Spent t screen = absurd (quiet ending.Spent (inr (inr refl)) t)
+
+  unfit_talks : OneRun → (r : Requested) (b : Begun r before.files) → IsSome (misfit (subject_in b) (start_in b)) → (e : Ending)
+      → (e ≡ ending.Done) ⊎ (e ≡ ending.Console) ⊎ (e ≡ ending.Spent) → Talks (Some (Source r)) before after e → ⊥
+  unfit_talks one r b unfit e which (a, w) = by which w.refused
+    where
+      same : misfit (subject_in a) (start_in a) ≡ misfit (subject_in b) (start_in b)
+      same = λ i. misfit (same_subject r before.files told one a b i) (same_start r before.files told one a b i)
+
+      not_none : misfit (subject_in a) (start_in a) ≡ None → ⊥
+      not_none e = let some : IsSome {T = Misfit} None = subst IsSome (sym same ∙ e) unfit in let x : ⊥ = cc in x
+
+      by : (e ≡ ending.Done) ⊎ (e ≡ ending.Console) ⊎ (e ≡ ending.Spent) → RefusedBy e (misfit (subject_in a) (start_in a)) → ⊥
+      by (inl is) refused = not_none (subst (λ (e : Ending). RefusedBy e (misfit (subject_in a) (start_in a))) is refused)
+      by (inr (inl is)) refused = not_none (subst (λ (e : Ending). RefusedBy e (misfit (subject_in a) (start_in a))) is refused)
+      by (inr (inr is)) refused = not_none (subst (λ (e : Ending). RefusedBy e (misfit (subject_in a) (start_in a))) is refused)
+
+  pub session_refused : OneRun → (m : Option Meant) → MeansNoSession m before.files → (s : Status) → Goes m before after s → (s ≡ status.Screen → ⊥)
+      → (s ≡ status.Session) ⊎ (s ≡ status.Memory)
+  session_refused one None means s h screen = absurd means
+  session_refused one (Some (Made number)) means s h screen = absurd means
+  session_refused one (Some (Source r)) (inl x) s h screen =
+      refused_so r x.run.source (refused_comes r before.files told x) (λ e which t. no_other_session r before.files told t.0 x) s h screen
+  session_refused one (Some (Source r)) (inr (b, unfit)) s h screen =
+      refused_so r b.run.source (begun_comes r before.files told b) (unfit_talks one r b unfit) s h screen
+
+-- ---- by the counts, where files need not be told
+
+module _ (before after : Outside) where
+  not_fetched : NoneRisen before.counts after.counts → (why : FetchFault) → CountsFetch (Err why) before.counts after.counts → (why ≡ fetch.Memory → ⊥) → ⊥
+  not_fetched none fetch.Absent counts other = none.misses (ap (λ (c : KeeperCounts). c.misses) counts)
+  not_fetched none fetch.Failed counts other = none.faults (ap (λ (c : KeeperCounts). c.faults) counts)
+  not_fetched none (fetch.TooLong limit) counts other = none.overs (ap (λ (c : KeeperCounts). c.overs) counts)
+  not_fetched none fetch.Memory counts other = other refl
+
+  no_memory : (why : FetchFault) (file : FileSought) (files : Option FileMap) → IsFault why file files → why ≡ fetch.Memory → ⊥
+  no_memory why file files cause is = subst (λ (w : FetchFault). IsFault w file files) is cause
+
+  abbrev Expected : Status → Type 0
+  Expected s = (code_of s ≡ 0) ⊎ (code_of s ≡ 3) ⊎ (code_of s ≡ 7) ⊎ (code_of s ≡ 8) ⊎ (code_of s ≡ 9)
+
+  file_not : (m : Option Meant) → NoneRisen before.counts after.counts → (text : List ℕ) → Owes m before after status.File text → ⊥
+  file_not None none text o = o
+  file_not (Some (Made number)) none text o = o
+  file_not (Some (Source r)) none text o = not_fetched none o.0.why o.2 (no_memory o.0.why o.0.file before.files o.0.cause)
+
+  words_not : (m : Option Meant) → IsSome m → (text : List ℕ) → Owes m before after status.Words text → ⊥
+  words_not None some text o = let x : ⊥ = cc in x
+  words_not (Some (Made number)) some text o = o
+  words_not (Some (Source r)) some text o = o
+
+  pub no_fault_status : (m : Option Meant) → IsSome m → NoneRisen before.counts after.counts → (s : Status) → Goes m before after s
+      → (s ≡ status.Console → ⊥) → (s ≡ status.Screen → ⊥) → Expected s
+  no_fault_status m some none status.Done h console screen = inl refl
+  no_fault_status m some none status.Words x console screen = absurd (words_not m some x.text x.owed)
+  no_fault_status m some none status.Source h console screen = inr (inl refl)
+  no_fault_status m some none status.File x console screen = absurd (file_not m none x.text x.owed)
+  no_fault_status m some none status.Console h console screen = absurd (console refl)
+  no_fault_status m some none status.Screen h console screen = absurd (screen refl)
+  no_fault_status m some none status.Memory h console screen = inr (inr (inl refl))
+  no_fault_status m some none status.Session h console screen = inr (inr (inr (inl refl)))
+  no_fault_status m some none status.Spent h console screen = inr (inr (inr (inr refl)))
+
+  pub no_words_status : (s : Status) → Goes None before after s → (code_of s ≡ 2) ⊎ (code_of s ≡ 6) ⊎ (code_of s ≡ 7)
+  no_words_status status.Done (inl x) = absurd x.owed
+  no_words_status status.Done (inr t) = absurd t
+  no_words_status status.Words x = inl refl
+  no_words_status status.Source x = absurd x.owed
+  no_words_status status.File x = absurd x.owed
+  no_words_status status.Console t = absurd t
+  no_words_status status.Screen h = inr (inl refl)
+  no_words_status status.Memory h = inr (inr refl)
+  no_words_status status.Session (inl x) = absurd x.owed
+  no_words_status status.Session (inr t) = absurd t
+  no_words_status status.Spent t = absurd t

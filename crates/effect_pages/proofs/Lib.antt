@@ -1,0 +1,7 @@
+mod AddressesAreListed
+mod BlocksAreMarked
+mod FoundGoesOn
+mod ListsGoOn
+mod PagesKeepCells
+mod SlicesGoOn
+mod TouchesAddUp

@@ -1,0 +1,267 @@
+-- What is found in touches, one more touch at a time.
+use Rattle.std.proofs.Common.{◌≡◌, ℕ, ◌+◌, List, [], ◌∷◌, ◌++◌, Option, Some, None, refl, ap, sym, ◌∙◌, true, false, cond, Bool, max, inl, inr, ◌⊎◌, take}
+use Rattle.std.proofs.Common.{zero-add}
+use Rattle.std.proofs.Math.Numerals.{one-add}
+use Rattle.std.specs.Prelude.{◌==◌, ◌&&◌, is_some, not, fold, map, sum_by, option_to_list, nat_le, nat_lt, slice_get}
+use Rattle.std.specs.List.{before_first, cons_option, filter_map, prefix_len}
+use Rattle.std.proofs.lemmas.List.{append-nil, map-append}
+use Rattle.std.proofs.lemmas.List.Elements.{filter_map-append}
+use Rattle.std.proofs.lemmas.List.Sums.{fold-append, sum_by-append}
+use Rattle.cell_value.specs.declared.values.Value.TheVariants as value
+use Rattle.cell_value.specs.declared.entries.Touch.{Touch}
+use Rattle.cell_value.specs.declared.entries.Touch.TheVariants.{Read, Has, Write, Make, Drop, Look, Take, Give}
+use Rattle.cell_value.specs.declared.entries.Change.{Change}
+use Rattle.cell_value.specs.declared.entries.Change.TheVariants.{Set, Gone}
+use Rattle.cell_value.specs.Effects.{asked_by, byte_by, change_at, change_by, first_of, given_of, last_of, looked_by, looked_of, made_by, read_by, taken_by}
+use Rattle.effect_pages.specs.declared.found.Found.{Found}
+use Rattle.effect_pages.specs.declared.cells.Cell.{Cell}
+use Rattle.effect_pages.specs.Marks.{IsCounted, IsMarked, StandsFor, TakesIn, answer_mark, cell_after, change_mark, first_before}
+use Rattle.effect_pages.specs.Marks.{first_mark, read_mark, shown}
+
+-- the later of two values, if there is a later one, and the sooner
+abbrev later : {X : Type 0} → Option X → Option X → Option X
+later (Some x) earlier = Some x
+later None earlier = earlier
+
+-- ---- the last and the first of a list with one more element, or none more
+last_snoc : {X : Type 0} (xs : List X) (y : X) → last_of (xs ++ y ∷ []) ≡ Some y
+last_snoc [] y = refl
+last_snoc (x ∷ []) y = refl
+last_snoc (x ∷ z ∷ xs) y = last_snoc (z ∷ xs) y
+
+last_more : {X : Type 0} (xs : List X) (o : Option X) → last_of (xs ++ cons_option o []) ≡ later o (last_of xs)
+last_more xs (Some y) = last_snoc xs y
+last_more xs None = ap last_of (append-nil xs)
+
+abbrev sooner : {X : Type 0} → Option X → Option X → Option X
+sooner (Some x) o = Some x
+sooner None o = o
+
+first_more : {X : Type 0} (xs : List X) (o : Option X) → first_of (xs ++ cons_option o []) ≡ sooner (first_of xs) o
+first_more [] (Some y) = refl
+first_more [] None = refl
+first_more (x ∷ xs) o = refl
+
+last_there : {X : Type 0} (x : X) (xs : List X) → last_of (x ∷ xs) ≡ None → ⊥
+last_there x [] e = cc
+last_there x (y ∷ ys) e = last_there y ys e
+
+-- the touches before the first that changes, where the first of all changes or not
+module _ {T C : Type 0} (h : T → Option C) where
+  abbrev changes : T → Bool
+  changes t = is_some (h t)
+
+  before_changing : (t : T) (ts : List T) (c : C) → h t ≡ Some c → before_first changes (t ∷ ts) ≡ []
+  before_changing t ts c e = ap (λ o. take (cond (not (is_some o)) (1 + prefix_len (λ x. not (changes x)) ts) 0) (t ∷ ts)) e
+
+  before_other : (t : T) (ts : List T) → h t ≡ None → before_first changes (t ∷ ts) ≡ t ∷ before_first changes ts
+  before_other t ts e =
+      ap (λ o. take (cond (not (is_some o)) (1 + prefix_len (λ x. not (changes x)) ts) 0) (t ∷ ts)) e
+      ∙ ap (λ n. take n (t ∷ ts)) (one-add (prefix_len (λ x. not (changes x)) ts))
+
+  kept_other : (t : T) (ts : List T) → h t ≡ None → filter_map h (t ∷ ts) ≡ filter_map h ts
+  kept_other t ts e = ap (λ o. cons_option o (filter_map h ts)) e
+
+  kept_changing : (t : T) (ts : List T) (c : C) → h t ≡ Some c → filter_map h (t ∷ ts) ≡ c ∷ filter_map h ts
+  kept_changing t ts c e = ap (λ o. cons_option o (filter_map h ts)) e
+
+  option_cases : (o : Option C) → ((c : C) × (o ≡ Some c)) ⊎ (o ≡ None)
+  option_cases (Some c) = inl (c, refl)
+  option_cases None = inr refl
+
+  -- with no change so far all touches count, and so does one more that does not change
+  all_before : (ts : List T) → last_of (filter_map h ts) ≡ None → before_first changes ts ≡ ts
+  all_before [] e = refl
+  all_before (t ∷ ts) e = elim (option_cases (h t)) [
+    | inl w ↦ absurd (last_there w.0 (filter_map h ts) (ap last_of (sym (kept_changing t ts w.0 w.1)) ∙ e))
+    | inr none ↦ before_other t ts none ∙ ap (λ xs. t ∷ xs) (all_before ts (ap last_of (sym (kept_other t ts none)) ∙ e))
+  ]
+
+  before_none : (ts : List T) (t : T) → last_of (filter_map h ts) ≡ None → before_first changes (ts ++ t ∷ []) ≡ ts ++ before_first changes (t ∷ [])
+  before_none [] t e = refl
+  before_none (s ∷ ts) t e = elim (option_cases (h s)) [
+    | inl w ↦ absurd (last_there w.0 (filter_map h ts) (ap last_of (sym (kept_changing s ts w.0 w.1)) ∙ e))
+    | inr none ↦ before_other s (ts ++ t ∷ []) none ∙ ap (λ xs. s ∷ xs) (before_none ts t (ap last_of (sym (kept_other s ts none)) ∙ e))
+  ]
+
+  -- after a change no more counts
+  before_some : (ts : List T) (t : T) (c : C) → last_of (filter_map h ts) ≡ Some c → before_first changes (ts ++ t ∷ []) ≡ before_first changes ts
+  before_some [] t c e = cc
+  before_some (s ∷ ts) t c e = elim (option_cases (h s)) [
+    | inl w ↦ before_changing s (ts ++ t ∷ []) w.0 w.1 ∙ sym (before_changing s ts w.0 w.1)
+    | inr none ↦ before_other s (ts ++ t ∷ []) none ∙ ap (λ xs. s ∷ xs) (before_some ts t c (ap last_of (sym (kept_other s ts none)) ∙ e))
+        ∙ sym (before_other s ts none)
+  ]
+
+-- ---- one address
+change_more : (addr : ℕ) (ts : List Touch) (t : Touch) → change_at addr (ts ++ t ∷ []) ≡ later (change_by addr t) (change_at addr ts)
+unfolding change_at
+change_more addr ts t = ap last_of (filter_map-append (change_by addr) ts (t ∷ [])) ∙ last_more (filter_map (change_by addr) ts) (change_by addr t)
+
+module _ {X : Type 0} (f : Touch → Option X) (addr : ℕ) (ts : List Touch) (t : Touch) where
+  -- what the first says, where nothing was changed yet and this touch does not change the address
+  first_goes_on : change_at addr ts ≡ None → change_by addr t ≡ None → first_before f addr (ts ++ t ∷ []) ≡ sooner (first_before f addr ts) (f t)
+  unfolding change_at
+  first_goes_on none none_here =
+      ap (λ xs. first_of (filter_map f xs)) (before_none (change_by addr) ts t none)
+      ∙ ap (λ xs. first_of (filter_map f (ts ++ xs))) (before_other (change_by addr) t [] none_here)
+      ∙ ap first_of (filter_map-append f ts (t ∷ [])) ∙ first_more (filter_map f ts) (f t)
+      ∙ ap (λ xs. sooner (first_of (filter_map f xs)) (f t)) (sym (all_before (change_by addr) ts none))
+
+  -- where it changes the address
+  first_ends : change_at addr ts ≡ None → (c : Change) → change_by addr t ≡ Some c → first_before f addr (ts ++ t ∷ []) ≡ first_before f addr ts
+  unfolding change_at
+  first_ends none c here =
+      ap (λ xs. first_of (filter_map f xs)) (before_none (change_by addr) ts t none)
+      ∙ ap (λ xs. first_of (filter_map f (ts ++ xs))) (before_changing (change_by addr) t [] c here)
+      ∙ ap (λ xs. first_of (filter_map f xs)) (append-nil ts)
+      ∙ ap (λ xs. first_of (filter_map f xs)) (sym (all_before (change_by addr) ts none))
+
+  -- where the address was changed before
+  first_stays : (c : Change) → change_at addr ts ≡ Some c → first_before f addr (ts ++ t ∷ []) ≡ first_before f addr ts
+  unfolding change_at
+  first_stays c some = ap (λ xs. first_of (filter_map f xs)) (before_some (change_by addr) ts t c some)
+
+  by_change : {P : Type 0} → ((c : Change) → change_at addr ts ≡ Some c → P) → (change_at addr ts ≡ None → P) → P
+  by_change some none = elim (option_cases (change_by addr) (change_at addr ts)) [
+    | inl w ↦ some w.0 w.1
+    | inr e ↦ none e
+  ]
+
+  -- a touch that says nothing, or that changes the address, leaves what the first says
+  first_same : f t ≡ None → first_before f addr (ts ++ t ∷ []) ≡ first_before f addr ts
+  first_same silent = by_change (λ (c : Change) (some : change_at addr ts ≡ Some c). first_stays c some)
+      (λ (none : change_at addr ts ≡ None). elim (option_cases (change_by addr) (change_by addr t)) [
+        | inl w ↦ first_ends none w.0 w.1
+        | inr here ↦ first_goes_on none here ∙ ap (sooner (first_before f addr ts)) silent ∙ sooner_none (first_before f addr ts)
+      ])
+    where
+      sooner_none : (o : Option X) → sooner o None ≡ o
+      sooner_none (Some x) = refl
+      sooner_none None = refl
+
+-- ---- what numbers stand for
+module _ {X : Type 0} (log : List Touch) (f : Touch → Option X) where
+  stays : (n : Option ℕ) (v w : Option X) → StandsFor log f n v → w ≡ v → StandsFor log f n w
+  stays n v w stands e = record { there = stands.there ∙ ap is_some (sym e); says = stands.says ∙ sym e }
+
+  now : (n : ℕ) (t : Touch) (x : X) → slice_get log n ≡ Some t → f t ≡ Some x → StandsFor log f (Some n) (Some x)
+  now n t x is says = record { there = refl; says = ap (shown f) is ∙ says }
+
+  -- the first number, where nothing was changed yet and where something was
+  first_yet : (m : Option ℕ) (n : ℕ) (v : Option X) (t : Touch) (x : X) → slice_get log n ≡ Some t → f t ≡ Some x → StandsFor log f m v
+      → StandsFor log f (first_mark None m n) (sooner v (Some x))
+  first_yet (Some m) n (Some y) t x is says stands = stands
+  first_yet (Some m) n None t x is says stands = absurd (let e = stands.there in cc)
+  first_yet None n (Some y) t x is says stands = absurd (let e = stands.there in cc)
+  first_yet None n None t x is says stands = now n t x is says
+
+  first_marked : (c m : Option ℕ) (n addr : ℕ) (ts : List Touch) (t : Touch) (x : X) → slice_get log n ≡ Some t → f t ≡ Some x → change_by addr t ≡ None
+      → is_some c ≡ is_some (change_at addr ts) → StandsFor log f m (first_before f addr ts)
+      → StandsFor log f (first_mark c m n) (first_before f addr (ts ++ t ∷ []))
+  first_marked (Some c) m n addr ts t x is says other there stands = by_change f addr ts t
+      (λ (d : Change) (some : change_at addr ts ≡ Some d). stays m (first_before f addr ts) (first_before f addr (ts ++ t ∷ [])) stands
+      (first_stays f addr ts t d some))
+      (λ (none : change_at addr ts ≡ None). absurd (let e = ap is_some none in cc))
+  first_marked None m n addr ts t x is says other there stands = by_change f addr ts t
+      (λ (d : Change) (some : change_at addr ts ≡ Some d). absurd (let e = ap is_some some in cc))
+      (λ (none : change_at addr ts ≡ None). stays (first_mark None m n) (sooner (first_before f addr ts) (Some x)) (first_before f addr (ts ++ t ∷ []))
+      (first_yet m n (first_before f addr ts) t x is says stands)
+      (first_goes_on f addr ts t none other ∙ ap (sooner (first_before f addr ts)) says))
+
+-- ---- the cell of an address
+module _ (log ts : List Touch) (addr number : ℕ) (t : Touch) (cell : Cell) (is : slice_get log number ≡ Some t) (marked : IsMarked log ts addr cell) where
+  abbrev Next : Cell → Type 0
+  Next = IsMarked log (ts ++ t ∷ []) addr
+
+  read_stays : read_by addr t ≡ None → StandsFor log (read_by addr) cell.read (first_before (read_by addr) addr (ts ++ t ∷ []))
+  read_stays none = stays log (read_by addr) cell.read (first_before (read_by addr) addr ts) (first_before (read_by addr) addr (ts ++ t ∷ [])) marked.read
+      (first_same (read_by addr) addr ts t none)
+
+  answer_stays : asked_by addr t ≡ None → StandsFor log (asked_by addr) cell.answer (first_before (asked_by addr) addr (ts ++ t ∷ []))
+  answer_stays none = stays log (asked_by addr) cell.answer (first_before (asked_by addr) addr ts) (first_before (asked_by addr) addr (ts ++ t ∷ []))
+      marked.answer
+      (first_same (asked_by addr) addr ts t none)
+
+  change_stays : change_by addr t ≡ None → StandsFor log (change_by addr) cell.change (change_at addr (ts ++ t ∷ []))
+  change_stays none = stays log (change_by addr) cell.change (change_at addr ts) (change_at addr (ts ++ t ∷ [])) marked.change
+      (change_more addr ts t ∙ ap (λ o. later o (change_at addr ts)) none)
+
+  not_here : change_by addr t ≡ None → read_by addr t ≡ None → asked_by addr t ≡ None → Next cell
+  not_here c r a = record { read = read_stays r; answer = answer_stays a; change = change_stays c }
+
+  reads_here : change_by addr t ≡ None → (v : _) → read_by addr t ≡ Some v → asked_by addr t ≡ None → Next (read_mark number cell)
+  reads_here c v r a = record {
+    read = first_marked log (read_by addr) cell.change cell.read number addr ts t v is r c marked.change.there marked.read;
+    answer = answer_stays a;
+    change = change_stays c;
+  }
+
+  asks_here : change_by addr t ≡ None → read_by addr t ≡ None → (v : _) → asked_by addr t ≡ Some v → Next (answer_mark number cell)
+  asks_here c r v a = record {
+    read = read_stays r;
+    answer = first_marked log (asked_by addr) cell.change cell.answer number addr ts t v is a c marked.change.there marked.answer;
+    change = change_stays c;
+  }
+
+  changes_here : (c : Change) → change_by addr t ≡ Some c → read_by addr t ≡ None → asked_by addr t ≡ None → Next (change_mark number cell)
+  changes_here c here r a = record {
+    read = read_stays r;
+    answer = answer_stays a;
+    change = stays log (change_by addr) (Some number) (Some c) (change_at addr (ts ++ t ∷ [])) (now log (change_by addr) number t c is here)
+        (change_more addr ts t ∙ ap (λ o. later o (change_at addr ts)) here);
+  }
+
+by_test : (P : Cell → Type 0) (b : Bool) (x y : Cell) → (b ≡ true → P x) → (b ≡ false → P y) → P (cond b x y)
+by_test P true x y f g = f refl
+by_test P false x y f g = g refl
+
+pub cell_marked : (log ts : List Touch) (addr number : ℕ) (t : Touch) (cell : Cell) → slice_get log number ≡ Some t → IsMarked log ts addr cell
+    → IsMarked log (ts ++ t ∷ []) addr (cell_after number t addr cell)
+cell_marked log ts addr number (Read at value) cell is marked = by_test (IsMarked log (ts ++ Read at value ∷ []) addr) (at == addr) (read_mark number cell) cell
+    (λ (e : (at == addr) ≡ true). reads_here log ts addr number (Read at value) cell is marked refl value (ap (λ b. cond b (Some value) None) e) refl)
+    (λ (e : (at == addr) ≡ false). not_here log ts addr number (Read at value) cell is marked refl (ap (λ b. cond b (Some value) None) e) refl)
+cell_marked log ts addr number (Has at there) cell is marked = by_test (IsMarked log (ts ++ Has at there ∷ []) addr) (at == addr) (answer_mark number cell) cell
+    (λ (e : (at == addr) ≡ true). asks_here log ts addr number (Has at there) cell is marked refl refl there (ap (λ b. cond b (Some there) None) e))
+    (λ (e : (at == addr) ≡ false). not_here log ts addr number (Has at there) cell is marked refl refl (ap (λ b. cond b (Some there) None) e))
+cell_marked log ts addr number (Write at value) cell is marked =
+    by_test (IsMarked log (ts ++ Write at value ∷ []) addr) (at == addr) (change_mark number cell) cell
+    (λ (e : (at == addr) ≡ true). changes_here log ts addr number (Write at value) cell is marked (Set value) (ap (λ b. cond b (Some (Set value)) None) e) refl
+    refl)
+    (λ (e : (at == addr) ≡ false). not_here log ts addr number (Write at value) cell is marked (ap (λ b. cond b (Some (Set value)) None) e) refl refl)
+cell_marked log ts addr number (Make first cells kind) cell is marked =
+    let inside : Bool = nat_le first addr && nat_lt addr (first + cells) in
+    by_test (IsMarked log (ts ++ Make first cells kind ∷ []) addr) inside (change_mark number cell) cell
+    (λ (e : inside ≡ true). changes_here log ts addr number (Make first cells kind) cell is marked (Set value.Undefined)
+    (ap (λ b. cond b (Some (Set value.Undefined)) None) e) refl refl)
+    (λ (e : inside ≡ false). not_here log ts addr number (Make first cells kind) cell is marked (ap (λ b. cond b (Some (Set value.Undefined)) None) e) refl
+    refl)
+cell_marked log ts addr number (Drop first cells) cell is marked =
+    let inside : Bool = nat_le first addr && nat_lt addr (first + cells) in
+    by_test (IsMarked log (ts ++ Drop first cells ∷ []) addr) inside (change_mark number cell) cell
+    (λ (e : inside ≡ true). changes_here log ts addr number (Drop first cells) cell is marked Gone (ap (λ b. cond b (Some Gone) None) e) refl refl)
+    (λ (e : inside ≡ false). not_here log ts addr number (Drop first cells) cell is marked (ap (λ b. cond b (Some Gone) None) e) refl refl)
+cell_marked log ts addr number (Look at) cell is marked = not_here log ts addr number (Look at) cell is marked refl refl refl
+cell_marked log ts addr number (Take items) cell is marked = not_here log ts addr number (Take items) cell is marked refl refl refl
+cell_marked log ts addr number (Give byte) cell is marked = not_here log ts addr number (Give byte) cell is marked refl refl refl
+
+-- ---- the counts
+looked_more : (place : ℕ) (ts : List Touch) (t : Touch) → looked_of place (ts ++ t ∷ []) ≡ max (looked_of place ts) (looked_by place t)
+looked_more place ts t = ap (fold max 0) (map-append (looked_by place) ts (t ∷ [])) ∙ fold-append max 0 (map (looked_by place) ts) (looked_by place t ∷ [])
+
+sum_more : (f : Touch → ℕ) (ts : List Touch) (t : Touch) → sum_by f (ts ++ t ∷ []) ≡ sum_by f ts + f t
+sum_more f ts t = sum_by-append f ts (t ∷ []) ∙ ap (λ n. sum_by f ts + n) (zero-add (f t))
+
+one_option : {X : Type 0} (o : Option X) → cons_option o [] ≡ option_to_list o
+one_option (Some x) = refl
+one_option None = refl
+
+pub one_more_counted : (base place number : ℕ) (ts : List Touch) (t : Touch) (old new : Found) → IsCounted place ts old → TakesIn base place number t old new
+    → IsCounted place (ts ++ t ∷ []) new
+one_more_counted base place number ts t old new found takes = record {
+  made = takes.made ∙ ap (λ n. n + made_by t) found.made ∙ sym (sum_more made_by ts t);
+  looked = takes.looked ∙ ap (λ n. max n (looked_by place t)) found.looked ∙ sym (looked_more place ts t);
+  taken = takes.taken ∙ ap (λ n. n + taken_by t) found.taken ∙ sym (sum_more taken_by ts t);
+  given = takes.given ∙ ap (λ bs. bs ++ option_to_list (byte_by t)) found.given ∙ ap (λ bs. given_of ts ++ bs) (sym (one_option (byte_by t)))
+      ∙ sym (filter_map-append byte_by ts (t ∷ []));
+}

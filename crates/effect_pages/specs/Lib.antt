@@ -1,0 +1,4 @@
+pub mod Lists
+pub mod Marks
+pub mod Pages
+pub mod Paging

@@ -1,0 +1,176 @@
+-- The marks that the answers give: what is said of each call is what was agreed on.
+use Rattle.std.proofs.Common.{◌≡◌, ℕ, zero, suc, ◌+◌, Bool, true, false, List, [], ◌∷◌, ◌++◌, Some, inl, inr, refl, sym, ap, subst}
+use Rattle.std.proofs.Common.{◌∙◌, append-nil, arith}
+use Rattle.std.specs.Prelude.{if◌then◌else◌, slice_index}
+use Rattle.std.specs.List.{filter_map}
+use Rattle.std.proofs.lemmas.Bool.{and_from, cases_eq, cond-false, cond-true, eq-eqb, le-leb, ne_eqb}
+use Rattle.std.proofs.lemmas.List.Elements.{filter_map-append}
+use Rattle.std.proofs.lemmas.List.Folds.{list_any-append}
+use Rattle.std.specs.Prelude.{nat_le, ◌||◌}
+use Rattle.call_tree.specs.Clear.{is_clear, is_unknown}
+use Rattle.call_tree.specs.declared.records.Mark.{Mark}
+use Rattle.call_tree.specs.declared.records.Mark.TheVariants.{Unjudged, Right, Wrong, Unknown, Trusted}
+use Rattle.answer_book.specs.declared.entries.Entry.{Entry}
+use Rattle.answer_book.specs.declared.entries.Judgement.{Judgement}
+use Rattle.answer_book.specs.declared.entries.Judgement.TheVariants as judged_to_be
+use Rattle.answer_book.specs.declared.entries.What.{What}
+use Rattle.answer_book.specs.declared.entries.What.TheVariants.{Judged}
+use Rattle.answer_book.specs.Entries.{entries_with, entry_saying, said_by, standing_answers}
+use Rattle.answer_book.specs.Marks.{is_trusted, judgement_on, last_judgement, mark_by, mark_given, mark_of, trusts}
+use Rattle.answer_book.specs.Numbers.{last_of}
+use Rattle.answer_book.proofs.FilterMaps.{gives_none, gives_one}
+use Rattle.answer_book.proofs.LastWhere.{last_of_more}
+use Rattle.subtree_weights.specs.Searched.{is_in}
+use Rattle.optimal_query.specs.declared.state.State.{State}
+use Rattle.optimal_query.specs.declared.state.State.TheVariants.{Ask, Found, Narrowed, NothingWrong, Unclear}
+use Rattle.optimal_query.specs.Laws.{judged, mark_in}
+use Rattle.dialog_replies.specs.Subject.{Subject, state_after}
+use Rattle.made_program.specs.Answering.{answered_to, entries_after, fault_of, judgement_of}
+use Rattle.made_program.specs.Laws.{IsSmallTree}
+
+last_more : (answers : List What) (what : What) (call : ℕ)
+    → last_judgement (answers ++ what ∷ []) call ≡ last_of (filter_map (judgement_on call) answers ++ filter_map (judgement_on call) (what ∷ []))
+last_more answers what call = ap last_of (filter_map-append (judgement_on call) answers (what ∷ []))
+
+or_false : (b : Bool) → (b || false) ≡ b
+or_false true = refl
+or_false false = refl
+
+new_mark : (routine : List ℕ) (answers : List What) (call : ℕ) (answer : Judgement) → mark_of routine (judged answers call answer) call ≡ mark_by answer
+unfolding mark_of
+new_mark routine answers call answer =
+    let said = filter_map (judgement_on call) answers in
+    let last : last_judgement (judged answers call answer) call ≡ Some answer =
+    last_more answers (Judged call answer) call
+    ∙ ap (λ l. last_of (said ++ l)) (gives_one (judgement_on call) (Judged call answer) answer (cond-true _ _ _ (eq-eqb call call refl)))
+    ∙ last_of_more said answer in
+    ap (λ o. mark_given o (is_trusted (judged answers call answer) (slice_index routine call))) last
+
+old_mark : (routine : List ℕ) (answers : List What) (call : ℕ) (answer : Judgement) (other : ℕ) → (other ≡ call → ⊥)
+    → mark_of routine (judged answers call answer) other ≡ mark_of routine answers other
+unfolding mark_of
+old_mark routine answers call answer other differs =
+    let said = filter_map (judgement_on other) answers in
+    let last : last_judgement (judged answers call answer) other ≡ last_judgement answers other =
+    last_more answers (Judged call answer) other
+    ∙ ap (λ l. last_of (said ++ l)) (gives_none (judgement_on other) (Judged call answer) (cond-false _ _ _ (ne_eqb call other (λ e. differs (sym e)))))
+    ∙ ap last_of (append-nil said) in
+    let trust : is_trusted (judged answers call answer) (slice_index routine other) ≡ is_trusted answers (slice_index routine other) =
+    list_any-append (trusts (slice_index routine other)) answers (Judged call answer ∷ [])
+    ∙ or_false (is_trusted answers (slice_index routine other)) in
+    ap (λ o. mark_given o (is_trusted (judged answers call answer) (slice_index routine other))) last
+    ∙ ap (mark_given (last_judgement answers other)) trust
+
+-- a mark that says nothing, or whether the call at fault stands in the call's subtree
+abbrev pub IsFair : Mark → Bool → Type 0
+IsFair Unjudged within = Unit {0}
+IsFair Right within = within ≡ false
+IsFair Wrong within = within ≡ true
+IsFair Unknown within = ⊥
+IsFair Trusted within = ⊥
+
+pub fair_clear : (mark : Mark) (within : Bool) → IsFair mark within → is_clear mark ≡ true → within ≡ false
+fair_clear Unjudged within fair clear = absurd (let l : ⊥ = cc in l)
+fair_clear Right within fair clear = fair
+fair_clear Wrong within fair clear = absurd (let l : ⊥ = cc in l)
+fair_clear Unknown within fair clear = absurd fair
+fair_clear Trusted within fair clear = absurd fair
+
+pub fair_wrong : (mark : Mark) (within : Bool) → IsFair mark within → mark ≡ Wrong → within ≡ true
+fair_wrong mark within fair wrong = subst (λ (m : Mark). IsFair m within) wrong fair
+
+pub fair_known : (mark : Mark) (within : Bool) → IsFair mark within → is_unknown mark ≡ false
+fair_known Unjudged within fair = refl
+fair_known Right within fair = refl
+fair_known Wrong within fair = refl
+fair_known Unknown within fair = absurd fair
+fair_known Trusted within fair = absurd fair
+
+fair_said : (within : Bool) → IsFair (mark_by (if within then judged_to_be.Wrong else judged_to_be.Right)) within
+fair_said true = refl
+fair_said false = refl
+
+-- all marks are fair, and call 0 is wrong
+pub record AreAgreed (s : Subject) (answers : List What) : Type 0 where
+  pub root : mark_in s.tree answers 0 ≡ Wrong
+  pub fair : (call : ℕ) → IsFair (mark_in s.tree answers call) (is_in s.tree.last call (fault_of s))
+
+pub fault_in_root : (s : Subject) → IsSmallTree s → is_in s.tree.last 0 (fault_of s) ≡ true
+fault_in_root s small =
+    and_from (nat_le 0 (fault_of s)) (nat_le (fault_of s) (slice_index s.tree.last 0)) (le-leb 0 (fault_of s) (omega arith))
+    (le-leb (fault_of s) (slice_index s.tree.last 0) (omega (arith, small.rooted)))
+
+fair_more : (s : Subject) (answers : List What) (call other : ℕ) → IsFair (mark_in s.tree answers other) (is_in s.tree.last other (fault_of s))
+    → IsFair (mark_in s.tree (judged answers call (judgement_of s call)) other) (is_in s.tree.last other (fault_of s))
+fair_more s answers call other fair =
+    let within : ℕ → Bool = λ k. is_in s.tree.last k (fault_of s) in
+    elim (cases_eq other call) [
+      | inl same ↦
+          let mark : mark_in s.tree (judged answers call (judgement_of s call)) other ≡ mark_by (judgement_of s call) =
+          ap (λ k. mark_in s.tree (judged answers call (judgement_of s call)) k) same ∙ new_mark s.tree.routine answers call (judgement_of s call) in
+          subst (λ (m : Mark). IsFair m (within other)) (sym mark)
+          (subst (λ (b : Bool). IsFair (mark_by (judgement_of s call)) b) (sym (ap within same)) (fair_said (within call)))
+      | inr differs ↦
+          subst (λ (m : Mark). IsFair m (within other)) (sym (old_mark s.tree.routine answers call (judgement_of s call) other differs)) fair
+    ]
+
+root_more : (s : Subject) (answers : List What) (call : ℕ) → IsSmallTree s → mark_in s.tree answers 0 ≡ Wrong
+    → mark_in s.tree (judged answers call (judgement_of s call)) 0 ≡ Wrong
+root_more s answers call small root =
+    elim (cases_eq 0 call) [
+      | inl same ↦
+          let said : judgement_of s call ≡ judged_to_be.Wrong =
+          ap (judgement_of s) (sym same) ∙ ap (λ (b : Bool). if b then judged_to_be.Wrong else judged_to_be.Right) (fault_in_root s small) in
+          ap (λ k. mark_in s.tree (judged answers call (judgement_of s call)) k) same
+          ∙ new_mark s.tree.routine answers call (judgement_of s call) ∙ ap mark_by said
+      | inr differs ↦ old_mark s.tree.routine answers call (judgement_of s call) 0 differs ∙ root
+    ]
+
+pub agreed_more : (s : Subject) (answers : List What) (call : ℕ) → IsSmallTree s → AreAgreed s answers
+    → AreAgreed s (judged answers call (judgement_of s call))
+agreed_more s answers call small are = record {
+  root = root_more s answers call small are.root;
+  fair = λ other. fair_more s answers call other (are.fair other);
+}
+
+-- what is said first
+no_marks : (s : Subject) (call : ℕ) → mark_in s.tree [] call ≡ Unjudged
+unfolding mark_of
+no_marks s call = refl
+
+agreed_first : (s : Subject) → IsSmallTree s → AreAgreed s (judged [] 0 judged_to_be.Wrong)
+agreed_first s small =
+    let within : ℕ → Bool = λ k. is_in s.tree.last k (fault_of s) in
+    record {
+      root = new_mark s.tree.routine [] 0 judged_to_be.Wrong;
+      fair = λ other. elim (cases_eq other 0) [
+        | inl same ↦
+            let mark : mark_in s.tree (judged [] 0 judged_to_be.Wrong) other ≡ Wrong =
+            ap (λ k. mark_in s.tree (judged [] 0 judged_to_be.Wrong) k) same ∙ new_mark s.tree.routine [] 0 judged_to_be.Wrong in
+            subst (λ (m : Mark). IsFair m (within other)) (sym mark) (ap within same ∙ fault_in_root s small)
+        | inr differs ↦
+            subst (λ (m : Mark). IsFair m (within other))
+            (sym (old_mark s.tree.routine [] 0 judged_to_be.Wrong other differs ∙ no_marks s other)) tt
+      ];
+    }
+
+-- the answers that stand with one more entry
+pub one_more_stands : (entries : List Entry) (call : ℕ) (answer : Judgement)
+    → standing_answers (entries_with entries (Judged call answer)) ≡ judged (standing_answers entries) call answer
+one_more_stands entries call answer = filter_map-append said_by entries (entry_saying (Judged call answer) ∷ [])
+
+agreed_by : (s : Subject) (entries : List Entry) (state : State) → IsSmallTree s → AreAgreed s (standing_answers entries)
+    → AreAgreed s (standing_answers (answered_to s entries state))
+agreed_by s entries (Ask call weight suspects left) small are =
+    subst (λ (answers : List What). AreAgreed s answers) (sym (one_more_stands entries call (judgement_of s call)))
+    (agreed_more s (standing_answers entries) call small are)
+agreed_by s entries (Found call) small are = are
+agreed_by s entries (Narrowed call) small are = are
+agreed_by s entries NothingWrong small are = are
+agreed_by s entries Unclear small are = are
+
+-- after whatever number of answers they are as agreed
+pub agreed : (s : Subject) (n : ℕ) → IsSmallTree s → AreAgreed s (standing_answers (entries_after s n))
+unfolding entries_after
+agreed s zero small = agreed_first s small
+agreed s (suc n) small = agreed_by s (entries_after s n) (state_after s (entries_after s n)) small (agreed s n small)

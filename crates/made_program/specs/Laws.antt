@@ -1,0 +1,20 @@
+-- That the search finds the call that it was to find.
+use Rattle.std.specs.Prelude.{◌≡◌, ◌+◌, ◌<◌, slice_index}
+use Rattle.optimal_query.specs.declared.state.State.TheVariants.{Found}
+use Rattle.optimal_query.specs.Laws.{IsCallTree}
+use Rattle.dialog_replies.specs.Subject.{Subject, calls_of, state_after}
+use Rattle.made_program.specs.Answering.{entries_at_end, fault_of}
+
+-- the calls of a run, fewer than 100,000, all of them in the subtree of call 0
+pub record IsSmallTree (s : Subject) : Type 0 where
+  pub tree : IsCallTree s.tree
+  pub rooted : slice_index s.tree.last 0 + 1 ≡ calls_of s
+  pub few : calls_of s < 100000
+
+-- the call at fault is found
+abbrev pub FindsTheFault : Subject → Type 0
+FindsTheFault s = state_after s (entries_at_end s) ≡ Found (fault_of s)
+
+-- of such calls it is
+abbrev pub FaultIsFound : Type 0
+FaultIsFound = (s : Subject) → IsSmallTree s → FindsTheFault s

@@ -1,0 +1,5 @@
+pub mod Source
+pub mod Answering
+pub mod Asked
+pub mod Lines
+pub mod Laws

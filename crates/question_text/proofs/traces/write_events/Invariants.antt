@@ -1,0 +1,9 @@
+use Rattle.std.proofs.Common.{◌≡◌, ◌++◌, drop}
+use Rattle.std.specs.Prelude.{flat_map}
+use Rattle.question_text.specs.Cards.{recorded_in}
+use Rattle.question_text.specs.Traces.{event_line}
+use Rattle.question_text.proofs.traces.write_events.Given as goal
+
+abbrev pub invariant-events : goal.invariant-events
+invariant-events l =
+    l.out ++ flat_map (event_line (recorded_in l.from)) (drop l.i l.events) ≡ l.fn.out ++ flat_map (event_line (recorded_in l.from)) l.events

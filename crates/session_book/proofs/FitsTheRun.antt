@@ -1,0 +1,78 @@
+-- The entries of a session that fits a run name what there is, and the search stays one over the run.
+use Rattle.std.proofs.Common.{◌≡◌, ℕ, ◌+◌, ◌<◌, ◌==◌, Bool, true, false, List, [], ◌∷◌, Option, Some, None, length, nat_lt, not, if◌then◌else◌}
+use Rattle.std.proofs.Common.{ap, sym, ◌∙◌, subst, refl, ltb-true}
+use Rattle.std.specs.Prelude.{All}
+use Rattle.std.specs.Option.{option_or}
+use Rattle.std.specs.Str.{bytes_eq}
+use Rattle.std.proofs.lemmas.List.Elements.{All-cons, All-nil}
+use Rattle.answer_book.specs.declared.entries.Entry.{Entry}
+use Rattle.answer_book.specs.declared.entries.What.{What}
+use Rattle.answer_book.specs.declared.entries.What.TheVariants.{Judged, Trusted}
+use Rattle.answer_book.specs.InRange.{IsInRange}
+use Rattle.dialog_replies.specs.Kept.{IsSearchOf}
+use Rattle.dialog_replies.specs.Subject.{Subject, calls_of}
+use Rattle.optimal_query.specs.Search.{Search}
+use Rattle.session_file.specs.declared.session.Session.{Session}
+use Rattle.session_book.specs.declared.misfits.Misfit.{Misfit}
+use Rattle.session_book.specs.declared.misfits.Misfit.TheVariants.{Source, Input, Budget, Call, Routine}
+use Rattle.session_book.specs.declared.start.Start.{Start}
+use Rattle.session_book.specs.Fit.{entries_misfit, misfit, named_beyond, saved_misfit, session_misfit}
+use Rattle.session_book.specs.Having.{search_having}
+
+-- they name calls and routines that there are
+abbrev pub AreNamed : ℕ → ℕ → List Entry → Type 0
+AreNamed calls routines entries = All (λ entry. IsInRange calls routines entry.what) entries
+
+below_by : (n most : ℕ) (beyond : Misfit) (t : Bool) → nat_lt n most ≡ t → (if t then None else Some beyond) ≡ None → n < most
+below_by n most beyond true e none = ltb-true n most e
+below_by n most beyond false e none = absurd (let l : ⊥ = cc in l)
+
+named : (s : Subject) (number : ℕ) (what : What) → named_beyond s number what ≡ None → IsInRange (calls_of s) s.routines what
+named s number (Judged call judgement) none = below_by call (calls_of s) (Call number call) (nat_lt call (calls_of s)) refl none
+named s number (Trusted routine) none = below_by routine s.routines (Routine number routine) (nat_lt routine s.routines) refl none
+
+neither : (a b : Option Misfit) → option_or a b ≡ None → (a ≡ None) × (b ≡ None)
+neither None b none = (refl, none)
+neither (Some misfit) b none = absurd (let l : ⊥ = cc in l)
+
+all_named : (s : Subject) (number : ℕ) (entries : List Entry) → entries_misfit s number entries ≡ None → AreNamed (calls_of s) s.routines entries
+all_named s number [] none = All-nil (λ entry. IsInRange (calls_of s) s.routines entry.what)
+all_named s number (entry ∷ entries) none =
+    let both = neither (named_beyond s number entry.what) (entries_misfit s (number + 1) entries) none in
+    All-cons (λ entry. IsInRange (calls_of s) s.routines entry.what) entry entries (named s number entry.what both.0)
+    (all_named s (number + 1) entries both.1)
+
+same : (t : Bool) (differs : Misfit) (rest : Option Misfit) → (if not t then Some differs else rest) ≡ None → rest ≡ None
+same true differs rest none = none
+same false differs rest none = absurd (let l : ⊥ = cc in l)
+
+session_named : (s : Subject) (start : Start) (session : Session) → session_misfit s start session ≡ None
+    → AreNamed (calls_of s) s.routines session.entries
+session_named s start session none =
+    let input = same (bytes_eq start.source session.source) (Source start.source session.source) _ none in
+    let budget = same (bytes_eq start.input session.input) (Input start.input session.input) _ input in
+    let entries = same (start.budget == session.budget) (Budget start.budget session.budget) _ budget in
+    all_named s 1 session.entries entries
+
+in_book : (s : Subject) (search : Search) (entries : List Entry) → IsSearchOf s search → AreNamed (calls_of s) s.routines entries
+    → AreNamed (length search.book.routine) search.book.routines entries
+in_book s search entries h all =
+    let calls : calls_of s ≡ length search.book.routine = ap length (sym h.last) ∙ sym h.of_routines in
+    subst (λ n. AreNamed n search.book.routines entries) calls (subst (λ n. AreNamed (calls_of s) n entries) (sym h.routines) all)
+
+-- the entries of the session that is gone on with
+pub entries_named : (s : Subject) (start : Start) (session : Session) (search : Search) → IsSearchOf s search → start.saved ≡ Some session
+    → misfit s start ≡ None → AreNamed (length search.book.routine) search.book.routines session.entries
+unfolding misfit
+entries_named s start session search h is fits =
+    in_book s search session.entries h (session_named s start session (sym (ap (saved_misfit s start) is) ∙ fits))
+
+-- other entries change nothing of that
+pub still_search : (s : Subject) (search : Search) (entries : List Entry) → IsSearchOf s search → IsSearchOf s (search_having search entries)
+still_search s search entries h = record {
+  last = h.last;
+  routine = h.routine;
+  routines = h.routines;
+  of_routines = h.of_routines;
+  some = h.some;
+}

@@ -1,0 +1,3 @@
+mod EntriesInTurn
+mod MisfitsInTurn
+mod FitsTheRun
