@@ -1,20 +1,15 @@
 -- Where the keeper tells its files: what the words name is one program with its input and its session, and all of it is fetched.
-use Rattle.std.proofs.Common.{◌≡◌, ◌⊎◌, inl, inr, ℕ, ◌<◌, ◌≤◌, List, [], Option, Some, None, IsSome, Result, Ok, Err, length, refl, sym, ap, subst, ◌∙◌, arith}
+use Rattle.std.proofs.Common.{◌≡◌, inl, inr, ℕ, ◌<◌, List, [], Option, Some, None, IsSome, Result, Ok, Err, length, sym, ap, subst, ◌∙◌, arith}
 use Rattle.std.specs.Prelude.{IsSomeAnd}
 use Rattle.sha2.specs.Sha256.{sha256}
 use Rattle.edge_ports.specs.Counts.{KeeperCounts, CountsFetch}
-use Rattle.edge_ports.specs.Files.{FileMap, file_at, HoldsFile, HoldsLonger, LacksFile}
+use Rattle.edge_ports.specs.Files.{FileMap, HoldsFile, HoldsLonger, LacksFile}
 use Rattle.edge_ports.specs.declared.ports.FetchFault.{FetchFault}
 use Rattle.edge_ports.specs.declared.ports.FetchFault.TheVariants as fetch
-use Rattle.pas_lexer.specs.Lexed.{Lexed}
-use Rattle.pas_lexer.specs.Limits.{source_bytes}
-use Rattle.program_tables.specs.ProgramRows.{ProgramRows}
-use Rattle.command_words.specs.Meaning.{Meant, Requested, Source}
-use Rattle.dialog_replies.specs.Subject.{Subject}
+use Rattle.command_words.specs.Meaning.{Requested, Source}
 use Rattle.session_file.specs.declared.session.LoadFault.{LoadFault}
 use Rattle.session_file.specs.declared.session.Session.{Session}
 use Rattle.session_file.specs.Reading.{session_of}
-use Rattle.session_book.specs.declared.start.Start.{Start}
 use Rattle.debuggee.specs.Execution.{Execution, execution_of}
 use Rattle.debuggee.specs.Program.{IsProgram}
 use Rattle.debuggee.specs.Subjects.{subject_of}
@@ -25,7 +20,6 @@ use Rattle.debug_cli.specs.Laws.{OneRun}
 use Rattle.debug_cli.specs.Named.{Begun, Checked, FileSought, IsFault, IsFetched, IsInput, IsSaved, IsSought, MadeProgram, NotFetched, SessionRefused}
 use Rattle.debug_cli.specs.Named.{SourceRefused, Supplied, made_text, session_bytes, start_in, subject_in}
 use Rattle.debug_cli.specs.Outside.{NoFetchFailed}
-use Rattle.debug_cli.specs.Setting.{MeansNoSession}
 
 same_some : {A : Type 0} {a b : A} → Some a ≡ Some b → a ≡ b
 same_some e = cc

@@ -16,7 +16,7 @@ use Rattle.debug_cli.specs.declared.status.Status.{Status}
 use Rattle.debug_cli.specs.declared.status.Status.TheVariants as status
 use Rattle.debug_cli.specs.Goes.{Goes, Owes, Talks}
 use Rattle.debug_cli.specs.Laws.{OneRun}
-use Rattle.debug_cli.specs.Named.{Begun, Checked, FileSought, IsFault, IsSource, IsSought, MadeProgram, NotFetched, SessionRefused, start_in, subject_in}
+use Rattle.debug_cli.specs.Named.{Begun, Checked, FileSought, IsFault, IsSource, IsSought, MadeProgram, NotFetched, start_in, subject_in}
 use Rattle.debug_cli.specs.Outside.{NoFetchFailed, NoneRisen}
 use Rattle.debug_cli.specs.Status.{code_of}
 use Rattle.debug_cli.specs.Setting.{MeansNoProgram, MeansNoSession}

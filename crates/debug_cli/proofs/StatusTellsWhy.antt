@@ -1,5 +1,5 @@
 -- By the status that the command answers: why it came, what the screen got, and what became of the files.
-use Rattle.std.proofs.Common.{◌≡◌, ◌⊎◌, inl, inr, ℕ, List, Option, Some, None, Result, Ok, Err, refl, sym, ap, subst, ◌∙◌}
+use Rattle.std.proofs.Common.{◌≡◌, ◌⊎◌, inl, inr, ℕ, List, Option, Some, None, Result, Ok, Err, refl, sym, ap, subst}
 use Rattle.edge_ports.specs.Counts.{KeeperCounts, CountsFetch}
 use Rattle.edge_ports.specs.Files.{FileMap, LacksFile, HoldsLonger}
 use Rattle.edge_ports.specs.declared.ports.FetchFault.{FetchFault}

@@ -1,9 +1,8 @@
 -- Where the keeper tells the files that the words name, or they mean a made program: what the screen got, what became of the files, and which
 -- status comes.
-use Rattle.std.proofs.Common.{◌≡◌, ◌⊎◌, ◌≤◌, inl, inr, ℕ, Bool, List, [], Option, Some, None, IsSome, length, refl, sym, ap, subst, ◌∙◌, arith}
+use Rattle.std.proofs.Common.{◌≡◌, ◌⊎◌, ◌≤◌, inl, inr, ℕ, Bool, List, [], Option, Some, None, IsSome, length, refl, sym, subst, ◌∙◌, arith}
 use Rattle.std.specs.Io.KnownBytes.{append_known}
-use Rattle.edge_ports.specs.Counts.{Counted, KeeperCounts}
-use Rattle.edge_ports.specs.Files.{FileMap}
+use Rattle.edge_ports.specs.Counts.{Counted}
 use Rattle.edge_ports.specs.Lines.{lines_of}
 use Rattle.edge_ports.specs.Told.{GaveAll, GavePrefix}
 use Rattle.edge_ports.proofs.PiecesAddUp.{gave_nothing, gave_prefix_before, gave_prefix_whole}
@@ -15,7 +14,7 @@ use Rattle.session_book.specs.Fit.{misfit}
 use Rattle.debuggee.specs.Program.{IsProgram}
 use Rattle.ask_session.specs.declared.dialog.Ending.{Ending}
 use Rattle.ask_session.specs.declared.dialog.Ending.TheVariants as ending
-use Rattle.ask_session.specs.Console.{EndsInTime, FirstAnswered, GaveOf, GoesOn, NotRisen}
+use Rattle.ask_session.specs.Console.{EndsInTime, FirstAnswered, GaveOf, GoesOn}
 use Rattle.ask_session.specs.Dialog.{transcript}
 use Rattle.ask_session.specs.Heard as session
 use Rattle.ask_session.specs.Outside.{Outside}
@@ -24,9 +23,9 @@ use Rattle.ask_session.specs.Went.{Went}
 use Rattle.ask_session.proofs.TranscriptIsGiven.{Cause, Closed, done_or_memory, spent_or_memory, told_so}
 use Rattle.debug_cli.specs.declared.status.Status.{Status}
 use Rattle.debug_cli.specs.declared.status.Status.TheVariants as status
-use Rattle.debug_cli.specs.Goes.{Goes, Owes, Says, SaysNothing, SaysPart, Talks}
+use Rattle.debug_cli.specs.Goes.{Goes, Owes, SaysPart, Talks}
 use Rattle.debug_cli.specs.Laws.{OneRun}
-use Rattle.debug_cli.specs.Named.{Words, meaning, Begun, MadeProgram, NotFetched, SessionRefused, SourceRefused, made_text, start_in, subject_in}
+use Rattle.debug_cli.specs.Named.{Words, meaning, MadeProgram, SourceRefused, made_text, start_in, subject_in}
 use Rattle.debug_cli.specs.Outside.{LeavesAlone, NoFetchFailed}
 use Rattle.debug_cli.specs.Setting.{AllFetched, ComesTo, InFiles, IsMade, NothingFailed, Setting, Told, saves_of, transcript_of}
 use Rattle.debug_cli.specs.Status.{is_console, is_screen}

@@ -1,5 +1,5 @@
 -- From the pieces of a source to its tokens, its program and its run.
-use Rattle.std.proofs.Common.{◌≡◌, ◌⊎◌, ℕ, List, [], Option, Some, None, Ok, Err, refl, sym, ap, subst, ◌∙◌, inl, inr, arith}
+use Rattle.std.proofs.Common.{◌≡◌, ℕ, List, [], Err, sym, subst, ◌∙◌, inl, inr, arith}
 use Rattle.std.specs.Prelude.{Contains}
 use Rattle.pas_lexer.specs.declared.kinds.Token.{Token}
 use Rattle.pas_lexer.specs.declared.kinds.LexFault.{LexFault}
@@ -11,21 +11,18 @@ use Rattle.pas_tree.specs.Blocks.{tree_node}
 use Rattle.pas_parser.specs.Formed.{IsText}
 use Rattle.program_tables.specs.ProgramRows.{ProgramRows}
 use Rattle.check_steps.specs.declared.breaks.Break.{Break}
-use Rattle.check_steps.specs.declared.breaks.CheckFault.{CheckFault}
-use Rattle.check_steps.specs.Breaks.{IsOfFirst}
-use Rattle.code_checker.specs.Programs.{broken, program_of}
+use Rattle.code_checker.specs.Programs.{broken}
 use Rattle.source_checker.specs.Declarations.{IsTextOf}
 use Rattle.source_checker.specs.declared.programs.ProgramFault.{ProgramFault}
 use Rattle.source_checker.specs.declared.programs.ProgramFault.TheVariants as refused
 use Rattle.source_checker.specs.Programs.{IsChecked}
 use Rattle.source_checker.specs.Programs as check
 use Rattle.same_programs.specs.Laws.{OneTextOneProgram}
-use Rattle.debuggee.specs.declared.refusal.Refusal.{Refusal}
 use Rattle.debuggee.specs.declared.refusal.Refusal.TheVariants as refusal
 use Rattle.debuggee.specs.declared.source.SourceFault.{SourceFault}
 use Rattle.debuggee.specs.declared.source.SourceFault.TheVariants.{Refused, Memory}
 use Rattle.debuggee.specs.Execution.{Supply, execution_of}
-use Rattle.debuggee.specs.Program.{IsProgram, Keeps, NoProgram, Refuses, RefusesToken, RefusesTree, IsRefused, IsMisfit, IsUnlexed}
+use Rattle.debuggee.specs.Program.{IsProgram, Keeps, IsRefused, IsMisfit, IsUnlexed}
 use Rattle.debuggee.specs.Program.{IsUnread, IsRead, fault_of_check, TokensAre}
 
 -- ---- no tokens

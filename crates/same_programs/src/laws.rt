@@ -5,7 +5,7 @@ ghost use Rattle.same_programs.specs.Laws.{MemorySaysNothing, OneTextOneProgram,
 
 /// The rules that a tree breaks and the program that it denotes go by its tokens alone. A text has at most one formed
 /// tree but for places in memory, so its trees all break the same rules and denote the same program, and so do their
-/// declarations alone. But for want of memory, no text is both a program and refused, and none is refused for two
+/// declarations alone. Unless memory runs out, no text is both a program and refused, and none is refused for two
 /// reasons or at two places. A source has at most one set of tables.
 pub fn one_text_one_program()
     ensures memory { MemorySaysNothing }

@@ -4,7 +4,6 @@ use Rattle.debuggee.specs.Execution.{Supply}
 use Rattle.debug_cli.specs.declared.status.Status.TheVariants as status
 use Rattle.debug_cli.specs.Goes.{Goes}
 use Rattle.debug_cli.specs.Named.{meaning}
-use Rattle.debug_cli.specs.Outside.{Faults}
 use Rattle.debug_cli.specs.Setting.{InFiles}
 use Rattle.debug_cli.proofs.StatusByCode.{code_is, either_code, no_console, no_screen, screen_code, console_counted, screen_counted}
 use Rattle.debug_cli.proofs.StatusIsRefusal.{program_refused, session_refused, no_fault_status, no_words_status}

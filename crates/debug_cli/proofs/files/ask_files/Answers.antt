@@ -1,12 +1,10 @@
-use Rattle.std.proofs.Common.{◌≡◌, inl, inr, ℕ, List, Option, Some, None, Err, Bor, refl, sym, ap, subst}
-use Rattle.std.specs.Prelude.{option_map}
+use Rattle.std.proofs.Common.{inl, ℕ, List, Option, Err, refl, sym, ap, subst}
 use Rattle.edge_ports.specs.Files.{FileMap}
 use Rattle.pas_lexer.specs.Limits.{source_bytes}
 use Rattle.command_words.specs.Meaning.{Requested}
 use Rattle.command_words.specs.Reading.{requested_by}
 use Rattle.ask_session.specs.Outside.{Outside}
-use Rattle.debuggee.specs.Limits.{input_bytes}
-use Rattle.debug_cli.specs.Named.{Checked, FileSought, IsFetched, IsInput, IsSaved, Supplied, session_bytes}
+use Rattle.debug_cli.specs.Named.{FileSought, IsFetched}
 use Rattle.debug_cli.proofs.StatusTellsWhy.{Asked, Tells, fault_goes, outside_at, same_outside}
 use Rattle.debug_cli.proofs.files.ask_files.Goals as goal
 

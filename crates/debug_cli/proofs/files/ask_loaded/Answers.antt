@@ -2,7 +2,7 @@ use Rattle.std.proofs.Common.{List, ℕ, Option, Some, refl, sym, subst}
 use Rattle.command_words.specs.Meaning.{Requested}
 use Rattle.command_words.specs.Reading.{requested_by}
 use Rattle.ask_session.specs.Outside.{Outside}
-use Rattle.debug_cli.specs.Named.{IsSaved, SessionRefused}
+use Rattle.debug_cli.specs.Named.{IsSaved}
 use Rattle.debug_cli.proofs.StatusTellsWhy.{loaded, not_loaded, no_session_goes, outside_at}
 use Rattle.debug_cli.proofs.files.ask_loaded.Goals as goal
 

@@ -1,4 +1,4 @@
-use Rattle.std.proofs.Common.{◌≡◌, inl, inr, ℕ, List, [], Option, Some, None, Err, Bor, refl, sym, ap, subst}
+use Rattle.std.proofs.Common.{inl, inr, ℕ, List, [], Option, Err, Bor, refl, sym, ap, subst}
 use Rattle.std.specs.Prelude.{option_map}
 use Rattle.edge_ports.specs.Files.{FileMap}
 use Rattle.pas_lexer.specs.Limits.{source_bytes}
@@ -6,7 +6,7 @@ use Rattle.command_words.specs.Meaning.{Requested}
 use Rattle.command_words.specs.Reading.{requested_by}
 use Rattle.ask_session.specs.Outside.{Outside}
 use Rattle.debuggee.specs.Limits.{input_bytes}
-use Rattle.debug_cli.specs.Named.{Checked, FileSought, IsFetched, IsInput, IsSaved, Supplied, session_bytes}
+use Rattle.debug_cli.specs.Named.{Checked, FileSought, IsFetched, IsInput}
 use Rattle.debug_cli.proofs.StatusTellsWhy.{Asked, Tells, fault_goes, outside_at, same_outside}
 use Rattle.debug_cli.proofs.files.ask_program.Goals as goal
 

@@ -7,8 +7,6 @@ use Rattle.ask_session.specs.Outside.{Outside}
 use Rattle.ask_session.specs.Went.{Went}
 use Rattle.debuggee.specs.Execution.{Execution, execution_of}
 use Rattle.debuggee.specs.Subjects.{subject_of}
-use Rattle.debug_cli.specs.declared.status.Status.{Status}
-use Rattle.debug_cli.specs.Goes.{Goes}
 use Rattle.debug_cli.specs.Named.{Begun, start_in}
 use Rattle.debug_cli.specs.Status.{is_console, is_screen}
 use Rattle.debug_cli.proofs.StatusByCode.{console_by_end, screen_by_end}

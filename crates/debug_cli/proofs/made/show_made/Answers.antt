@@ -1,7 +1,6 @@
-use Rattle.std.proofs.Common.{inl, refl, sym, ap, subst, ◌∙◌}
-use Rattle.command_words.specs.Meaning.{Made}
+use Rattle.std.proofs.Common.{inl, refl, ◌∙◌}
 use Rattle.ask_session.specs.Outside.{Outside}
-use Rattle.debug_cli.specs.Named.{MadeProgram, made_text}
+use Rattle.debug_cli.specs.Named.{MadeProgram}
 use Rattle.debug_cli.proofs.StatusTellsWhy.{made_goes}
 use Rattle.debug_cli.proofs.made.show_made.Goals as goal
 
