@@ -168,8 +168,3 @@ access_factor frame a =
     (λ i. named_variable frame a.name >>= λ t. (selected_each frame a.name _ (hidden-the_row-Selector-0 a.selectors) t
     ∙ ap (each (selector frame a.name) t) (items_hidden-the_row-Selector-0 a.selectors)) i >>= λ _. give tt)
     ∙ sym (bind-assoc (named_variable frame a.name) (λ t. each (selector frame a.name) t a.selectors.items) (λ _. give tt))
-
--- the items of lists
-pub ruleset nexts = (next_term_out, next_factor_out, next_argument_out, next_member_out)
-
-pub ruleset outs = (term_out, simple_out, expression_out, indices_out, arguments_out, some_members_out, member_out)

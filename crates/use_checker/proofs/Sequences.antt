@@ -87,4 +87,4 @@ pub next_branch_out : (frame : ℕ) (u : Unit {0}) (n : NextBranch)
 unfolding next_branch
 next_branch_out frame u n = refl
 
-pub ruleset statement_outs = (compound_out, statements_out, if_out, case_out, repeat_out)
+pub ruleset statement_outs = (compound_out, if_out, repeat_out)

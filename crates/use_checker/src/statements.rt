@@ -4,7 +4,7 @@ ghost use Rattle.std.specs.Prelude.{◌≡◌, IfOk};
 ghost use Rattle.check_steps.specs.Steps.{Does, each};
 ghost use Rattle.use_checker.specs.Statements.{actual_uses, actuals_uses, assignment_uses, case_uses, compound_uses};
 ghost use Rattle.use_checker.specs.Statements.{constants_uses, fields_in, if_uses, inside_access, inside_next};
-ghost use Rattle.use_checker.specs.Statements.{next_actual, next_branch, next_constant, next_statement};
+ghost use Rattle.use_checker.specs.Statements.{next_actual, next_constant};
 ghost use Rattle.use_checker.specs.Statements.{one_more_with, open_fields, plain_uses, repeat_uses};
 ghost use Rattle.use_checker.specs.Statements.{some_actuals_uses, statements_uses, width_uses};
 
@@ -15,8 +15,8 @@ use kind_checker::constants::check_constant;
 use pas_tree::constants::{Constants, NextConstant};
 use pas_tree::expressions::Access;
 use pas_tree::statements::{
-    Actual, Actuals, Assignment, Case, Compound, If, NextAccess, NextActual, NextBranch,
-    NextStatement, Plain, Repeat, Statements, Width,
+    Actual, Actuals, Assignment, Case, Compound, If, NextAccess, NextActual, Plain, Repeat,
+    Statements, Width,
 };
 use program_tables::rows::TypeRow;
 use std::alloc::AllocError;
@@ -199,24 +199,12 @@ pub fn use_compound(work: &mut Work, c: &Compound, frame: u32) -> Result<(), All
 }
 
 #[cycle(statements)]
-#[tactic(auto, using(check_steps::proofs::Runs::steps, crate::proofs::Sequences::statement_outs))]
+#[tactic(auto, using(check_steps::proofs::Runs::steps, check_steps::proofs::Runs::loops, crate::proofs::Sequences::statements_out, crate::proofs::Sequences::next_statement_out))]
 fn use_statements(work: &mut Work, s: &Statements, frame: u32) -> Result<(), AllocError>
     ensures { IfOk result (λ _. Does (statements_uses frame s.now) tt work.old work.new) }
 {
     use_plain(work, &s.first.plain, frame)?;
-    use_more_statements(work, &s.others, frame)
-}
-
-#[cycle(statements)]
-#[tactic(auto, using(check_steps::proofs::Runs::loops, crate::proofs::Sequences::next_statement_out))]
-fn use_more_statements(
-    work: &mut Work,
-    others: &[NextStatement],
-    frame: u32,
-) -> Result<(), AllocError>
-    ensures { IfOk result (λ _. Does (each (next_statement frame) tt others.now) tt work.old work.new) }
-{
-    'others: for other in others {
+    'others: for other in &s.others {
         use_plain(work, &other.statement.plain, frame)?;
     }
     Ok(())
@@ -236,22 +224,14 @@ fn use_if(work: &mut Work, x: &If, frame: u32) -> Result<(), AllocError>
 }
 
 #[cycle(statements)]
-#[tactic(auto, using(check_steps::proofs::Runs::steps, crate::proofs::Sequences::statement_outs))]
+#[tactic(auto, using(check_steps::proofs::Runs::steps, check_steps::proofs::Runs::loops, crate::proofs::Sequences::case_out, crate::proofs::Sequences::next_branch_out))]
 fn use_case(work: &mut Work, x: &Case, frame: u32) -> Result<(), AllocError>
     ensures { IfOk result (λ _. Does (case_uses frame x.now) tt work.old work.new) }
 {
     use_expression(work, &x.selector, frame);
     use_constants(work, &x.first.constants, frame);
     use_plain(work, &x.first.statement.plain, frame)?;
-    use_more_branches(work, &x.others, frame)
-}
-
-#[cycle(statements)]
-#[tactic(auto, using(check_steps::proofs::Runs::loops, check_steps::proofs::Runs::steps, crate::proofs::Sequences::next_branch_out))]
-fn use_more_branches(work: &mut Work, others: &[NextBranch], frame: u32) -> Result<(), AllocError>
-    ensures { IfOk result (λ _. Does (each (next_branch frame) tt others.now) tt work.old work.new) }
-{
-    'others: for other in others {
+    'others: for other in &x.others {
         use_constants(work, &other.branch.constants, frame);
         use_plain(work, &other.branch.statement.plain, frame)?;
     }

@@ -1,30 +1,34 @@
 use Rattle.std.proofs.Common.{◌≡◌, drop}
+use Rattle.pas_tree.specs.declared.expressions.Arguments.{out-Arguments}
+use Rattle.pas_tree.specs.declared.expressions.Index.{out-Index}
+use Rattle.pas_tree.specs.declared.expressions.Simple.{out-Simple}
+use Rattle.pas_tree.specs.declared.expressions.Term.{out-Term}
 use Rattle.check_steps.specs.Steps.{run, each}
+use Rattle.use_checker.specs.Accesses.{access_type, arguments_uses, indices, members_uses, simple_uses, term_uses}
 use Rattle.use_checker.specs.Accesses.{next_argument, next_factor, next_index, next_member, next_term, selector}
 use Rattle.use_checker.proofs.expressions.+expressions.Given as goal
 
-abbrev pub invariant-use_more_terms-others : goal.invariant-use_more_terms-others
-invariant-use_more_terms-others l =
-    run (each (next_term l.frame) tt (drop l.other-index l.others)) l.work ≡ run (each (next_term l.frame) tt l.others) l.fn.work
+abbrev pub invariant-use_simple-others : goal.invariant-use_simple-others
+invariant-use_simple-others l =
+    run (each (next_term l.frame) tt (drop l.other-index (out-Simple l.s).others.items)) l.work ≡ run (simple_uses l.frame l.s) l.fn.work
 
-abbrev pub invariant-use_more_factors-others : goal.invariant-use_more_factors-others
-invariant-use_more_factors-others l =
-    run (each (next_factor l.frame) tt (drop l.other-index l.others)) l.work ≡ run (each (next_factor l.frame) tt l.others) l.fn.work
+abbrev pub invariant-use_term-others : goal.invariant-use_term-others
+invariant-use_term-others l =
+    run (each (next_factor l.frame) tt (drop l.other-index (out-Term l.t).others.items)) l.work ≡ run (term_uses l.frame l.t) l.fn.work
 
-abbrev pub invariant-check_selectors-selectors : goal.invariant-check_selectors-selectors
-invariant-check_selectors-selectors l =
-    run (each (selector l.frame l.unknown) l.part (drop l.selector-index l.selectors)) l.work
-    ≡ run (each (selector l.frame l.unknown) l.fn.kind l.selectors) l.fn.work
+abbrev pub invariant-check_access-selectors : goal.invariant-check_access-selectors
+invariant-check_access-selectors l =
+    run (each (selector l.frame l.a.name) l.part (drop l.selector-index l.a.selectors.items)) l.work ≡ run (access_type l.frame l.a) l.fn.work
 
-abbrev pub invariant-check_more_indices-others : goal.invariant-check_more_indices-others
-invariant-check_more_indices-others l =
-    run (each (next_index l.frame l.unknown) l.part (drop l.other-index l.others)) l.work
-    ≡ run (each (next_index l.frame l.unknown) l.fn.kind l.others) l.fn.work
+abbrev pub invariant-check_indices-others : goal.invariant-check_indices-others
+invariant-check_indices-others l =
+    run (each (next_index l.frame l.unknown) l.part (drop l.other-index (out-Index l.x).others.items)) l.work
+    ≡ run (indices l.frame l.unknown l.kind l.x) l.fn.work
 
-abbrev pub invariant-use_more_arguments-others : goal.invariant-use_more_arguments-others
-invariant-use_more_arguments-others l =
-    run (each (next_argument l.frame) tt (drop l.other-index l.others)) l.work ≡ run (each (next_argument l.frame) tt l.others) l.fn.work
+abbrev pub invariant-use_arguments-others : goal.invariant-use_arguments-others
+invariant-use_arguments-others l =
+    run (each (next_argument l.frame) tt (drop l.other-index (out-Arguments l.a).others.items)) l.work ≡ run (arguments_uses l.frame l.a) l.fn.work
 
-abbrev pub invariant-use_more_members-others : goal.invariant-use_more_members-others
-invariant-use_more_members-others l =
-    run (each (next_member l.frame) tt (drop l.other-index l.others)) l.work ≡ run (each (next_member l.frame) tt l.others) l.fn.work
+abbrev pub invariant-use_members-others : goal.invariant-use_members-others
+invariant-use_members-others l =
+    run (each (next_member l.frame) tt (drop l.other-index l.other-items)) l.work ≡ run (members_uses l.frame l.m) l.fn.work
