@@ -83,3 +83,5 @@ define_fields_fixed w region f (Some n) last = refl
 pub define_next_variants_out : (w : Wanted) (region : ℕ) (n : NextVariants)
     → define_next_variants w region n ≡ define_variants w region (out-NextVariants n).variants.value
 define_next_variants_out w region n = ap (define_next_variants w region) (is-NextVariants' n)
+
+pub ruleset define_fields_parts = (define_fields_fixed, define_next_variants_out)

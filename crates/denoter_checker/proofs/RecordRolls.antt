@@ -142,6 +142,8 @@ pub next_variants_out : (s : Scope) (holder offset : ℕ) (n : NextVariants)
     → next_variants s holder offset n ≡ variants_at s holder offset (out-NextVariants n).variants.value
 next_variants_out s holder offset n = ap (next_variants s holder offset) (is-NextVariants' n)
 
+pub ruleset fields_parts = (fields_fixed, next_variants_out)
+
 pub word_is : (v : Variants) → word_of v ≡ (out-Variants v).word
 word_is v = ap word_of (is-Variants' v)
 

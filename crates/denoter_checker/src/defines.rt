@@ -4,15 +4,14 @@ ghost use Rattle.std.specs.Prelude.{◌≡◌, IfOk};
 ghost use Rattle.check_steps.specs.Steps.{Does, each};
 ghost use Rattle.denoter_checker.specs.Defines.{define_array, define_denoter, define_field, define_fixed};
 ghost use Rattle.denoter_checker.specs.Defines.{define_in_fields, define_next_arm, define_next_section};
-ghost use Rattle.denoter_checker.specs.Defines.{define_next_variants};
-ghost use Rattle.denoter_checker.specs.Defines.{define_other, define_part, define_record, define_section};
+ghost use Rattle.denoter_checker.specs.Defines.{define_other, define_record, define_section};
 ghost use Rattle.denoter_checker.specs.Defines.{define_structure, define_tag, define_variants};
 
 use check_steps::Work;
 use kind_checker::names::{Kind, define_name, define_names};
 use pas_tree::denoters::{
-    ArrayDenoter, Denoter, Fields, Fixed, NextArm, NextDenoter, NextSection, NextVariants, Section,
-    Structure, TagField, Variants,
+    ArrayDenoter, Denoter, Fields, Fixed, NextArm, NextDenoter, NextSection, Section, Structure,
+    TagField, Variants,
 };
 use std::alloc::AllocError;
 
@@ -94,27 +93,19 @@ fn define_array(work: &mut Work, a: &ArrayDenoter, region: u32) -> Result<(), Al
 }
 
 #[cycle(define)]
-#[tactic(auto, using(check_steps::proofs::Runs::loops))]
+#[tactic(auto, using(check_steps::proofs::Runs::loops), unfolding(crate::specs::Defines::define_other))]
 fn define_others(work: &mut Work, others: &[NextDenoter], region: u32) -> Result<(), AllocError>
     ensures { IfOk result (λ _. Does (each (define_other region) tt others.now) tt work.old work.new) }
 {
     'others: for other in others {
-        define_other(work, other, region)?;
+        define_denoter(work, &other.denoter, region)?;
     }
     Ok(())
 }
 
-#[cycle(define)]
-#[tactic(auto, using(check_steps::proofs::Runs::steps), unfolding(crate::specs::Defines::define_other))]
-fn define_other(work: &mut Work, other: &NextDenoter, region: u32) -> Result<(), AllocError>
-    ensures { IfOk result (λ _. Does (define_other region tt other.now) tt work.old work.new) }
-{
-    define_denoter(work, &other.denoter, region)
-}
-
 /// Defines the fields of a field list, or the constants of the enumerations in their types.
 #[cycle(define)]
-#[tactic(auto, using(check_steps::proofs::Runs::steps, crate::proofs::DefineRolls::define_fields_fixed))]
+#[tactic(auto, using(check_steps::proofs::Runs::steps, crate::proofs::DefineRolls::define_fields_parts))]
 pub fn define_in_fields(
     work: &mut Work,
     fields: &Fields,
@@ -129,24 +120,11 @@ pub fn define_in_fields(
             define_fixed(work, fixed, wanted, region)?;
             match variants {
                 None => Ok(()),
-                Some(variants) => define_next_variants(work, variants, wanted, region),
+                Some(part) => define_variants(work, &part.variants, wanted, region),
             }
         }
         Fields::Variants(variants, _) => define_variants(work, variants, wanted, region),
     }
-}
-
-#[cycle(define)]
-#[tactic(auto, using(check_steps::proofs::Runs::steps, crate::proofs::DefineRolls::define_next_variants_out))]
-fn define_next_variants(
-    work: &mut Work,
-    n: &NextVariants,
-    wanted: Wanted,
-    region: u32,
-) -> Result<(), AllocError>
-    ensures { IfOk result (λ _. Does (define_next_variants wanted region n.now) tt work.old work.new) }
-{
-    define_variants(work, &n.variants, wanted, region)
 }
 
 #[cycle(define)]
@@ -165,7 +143,7 @@ fn define_fixed(
 }
 
 #[cycle(define)]
-#[tactic(auto, using(check_steps::proofs::Runs::loops))]
+#[tactic(auto, using(check_steps::proofs::Runs::loops), unfolding(crate::specs::Defines::define_next_section))]
 fn define_sections(
     work: &mut Work,
     sections: &[NextSection],
@@ -175,22 +153,9 @@ fn define_sections(
     ensures { IfOk result (λ _. Does (each (define_next_section wanted region) tt sections.now) tt work.old work.new) }
 {
     'sections: for section in sections {
-        define_next_section(work, section, wanted, region)?;
+        define_section(work, &section.section, wanted, region)?;
     }
     Ok(())
-}
-
-#[cycle(define)]
-#[tactic(auto, using(check_steps::proofs::Runs::steps), unfolding(crate::specs::Defines::define_next_section))]
-fn define_next_section(
-    work: &mut Work,
-    n: &NextSection,
-    wanted: Wanted,
-    region: u32,
-) -> Result<(), AllocError>
-    ensures { IfOk result (λ _. Does (define_next_section wanted region tt n.now) tt work.old work.new) }
-{
-    define_section(work, &n.section, wanted, region)
 }
 
 #[cycle(define)]
@@ -226,7 +191,7 @@ fn define_variants(
 }
 
 #[cycle(define)]
-#[tactic(auto, using(check_steps::proofs::Runs::loops))]
+#[tactic(auto, using(check_steps::proofs::Runs::loops), unfolding(crate::specs::Defines::define_next_arm))]
 fn define_arms(
     work: &mut Work,
     arms: &[NextArm],
@@ -236,22 +201,9 @@ fn define_arms(
     ensures { IfOk result (λ _. Does (each (define_next_arm wanted region) tt arms.now) tt work.old work.new) }
 {
     'arms: for arm in arms {
-        define_next_arm(work, arm, wanted, region)?;
+        define_in_fields(work, &arm.arm.fields, wanted, region)?;
     }
     Ok(())
-}
-
-#[cycle(define)]
-#[tactic(auto, using(check_steps::proofs::Runs::steps), unfolding(crate::specs::Defines::define_next_arm))]
-fn define_next_arm(
-    work: &mut Work,
-    n: &NextArm,
-    wanted: Wanted,
-    region: u32,
-) -> Result<(), AllocError>
-    ensures { IfOk result (λ _. Does (define_next_arm wanted region tt n.now) tt work.old work.new) }
-{
-    define_in_fields(work, &n.arm.fields, wanted, region)
 }
 
 /// Defines the fields of a record, in the region of its frame.

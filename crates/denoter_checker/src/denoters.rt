@@ -3,8 +3,7 @@
 ghost use Rattle.std.specs.Prelude.{◌≡◌, IfOk};
 ghost use Rattle.check_steps.specs.Steps.{Does, each};
 ghost use Rattle.denoter_checker.specs.Denoters.{array_denoter, denoter, fields_at, fixed_at, next_arm, next_index};
-ghost use Rattle.denoter_checker.specs.Denoters.{next_section, next_variants, record_type, section, structure};
-ghost use Rattle.denoter_checker.specs.Denoters.{variants_at};
+ghost use Rattle.denoter_checker.specs.Denoters.{next_section, record_type, section, structure, variants_at};
 
 use crate::arrays::{check_array, check_joins, put_index};
 use crate::defines::define_record;
@@ -22,8 +21,8 @@ use kind_checker::types::{
 };
 use pas_places::first_of_denoter;
 use pas_tree::denoters::{
-    ArrayDenoter, Denoter, Fields, Fixed, NextArm, NextDenoter, NextSection, NextVariants, Section,
-    Structure, Variants,
+    ArrayDenoter, Denoter, Fields, Fixed, NextArm, NextDenoter, NextSection, Section, Structure,
+    Variants,
 };
 use std::alloc::{AllocError, Global};
 
@@ -94,7 +93,7 @@ fn check_record(
 }
 
 #[cycle(denoters)]
-#[tactic(auto, using(check_steps::proofs::Runs::steps, crate::proofs::RecordRolls::fields_fixed))]
+#[tactic(auto, using(check_steps::proofs::Runs::steps, crate::proofs::RecordRolls::fields_parts))]
 fn check_fields(
     work: &mut Work,
     alloc: Global,
@@ -111,28 +110,13 @@ fn check_fields(
             let next = check_fixed(work, alloc, fixed, scope, holder, offset)?;
             match variants {
                 None => Ok(next),
-                Some(variants) => check_next_variants(work, alloc, variants, scope, holder, next),
+                Some(part) => check_variants(work, alloc, &part.variants, scope, holder, next),
             }
         }
         Fields::Variants(variants, _) => {
             check_variants(work, alloc, variants, scope, holder, offset)
         }
     }
-}
-
-#[cycle(denoters)]
-#[tactic(auto, using(check_steps::proofs::Runs::steps, crate::proofs::RecordRolls::next_variants_out))]
-fn check_next_variants(
-    work: &mut Work,
-    alloc: Global,
-    n: &NextVariants,
-    scope: Scope,
-    holder: u32,
-    offset: u32,
-) -> Result<u32, AllocError>
-    ensures { IfOk result (λ x. Does (next_variants scope holder offset n.now) x work.old work.new) }
-{
-    check_variants(work, alloc, &n.variants, scope, holder, offset)
 }
 
 #[cycle(denoters)]
@@ -152,7 +136,7 @@ fn check_fixed(
 }
 
 #[cycle(denoters)]
-#[tactic(auto, using(check_steps::proofs::Runs::loops))]
+#[tactic(auto, using(check_steps::proofs::Runs::loops), unfolding(crate::specs::Denoters::next_section))]
 fn check_sections(
     work: &mut Work,
     alloc: Global,
@@ -165,24 +149,9 @@ fn check_sections(
 {
     let mut next = offset;
     'sections: for section in sections {
-        next = check_next_section(work, alloc, section, scope, holder, next)?;
+        next = check_section(work, alloc, &section.section, scope, holder, next)?;
     }
     Ok(next)
-}
-
-#[cycle(denoters)]
-#[tactic(auto, using(check_steps::proofs::Runs::steps), unfolding(crate::specs::Denoters::next_section))]
-fn check_next_section(
-    work: &mut Work,
-    alloc: Global,
-    n: &NextSection,
-    scope: Scope,
-    holder: u32,
-    offset: u32,
-) -> Result<u32, AllocError>
-    ensures { IfOk result (λ x. Does (next_section scope holder offset n.now) x work.old work.new) }
-{
-    check_section(work, alloc, &n.section, scope, holder, offset)
 }
 
 #[cycle(denoters)]
@@ -223,7 +192,7 @@ fn check_variants(
 }
 
 #[cycle(denoters)]
-#[tactic(auto, using(check_steps::proofs::Runs::loops))]
+#[tactic(auto, using(check_steps::proofs::Runs::loops), unfolding(crate::specs::Denoters::next_arm))]
 fn check_arms(
     work: &mut Work,
     alloc: Global,
@@ -235,23 +204,9 @@ fn check_arms(
 {
     let mut next = offset;
     'arms: for arm in arms {
-        next = check_next_arm(work, alloc, arm, scope, next)?;
+        next = check_fields(work, alloc, &arm.arm.fields, scope, arm.arm.open, next)?;
     }
     Ok(next)
-}
-
-#[cycle(denoters)]
-#[tactic(auto, using(check_steps::proofs::Runs::steps), unfolding(crate::specs::Denoters::next_arm))]
-fn check_next_arm(
-    work: &mut Work,
-    alloc: Global,
-    n: &NextArm,
-    scope: Scope,
-    offset: u32,
-) -> Result<u32, AllocError>
-    ensures { IfOk result (λ x. Does (next_arm scope offset n.now) x work.old work.new) }
-{
-    check_fields(work, alloc, &n.arm.fields, scope, n.arm.open, offset)
 }
 
 #[cycle(denoters)]
@@ -274,7 +229,7 @@ fn check_array_denoter(
 }
 
 #[cycle(denoters)]
-#[tactic(auto, using(check_steps::proofs::Runs::loops))]
+#[tactic(auto, using(check_steps::proofs::Runs::loops, check_steps::proofs::Runs::steps), unfolding(crate::specs::Denoters::next_index))]
 fn check_other_indexes(
     work: &mut Work,
     alloc: Global,
@@ -285,24 +240,9 @@ fn check_other_indexes(
     ensures { IfOk result (λ _. Does (each (next_index scope word) tt others.now) tt work.old work.new) }
 {
     'others: for other in others {
-        check_next_index(work, alloc, other, word, scope)?;
+        let written = check_denoter(work, alloc, &other.denoter, scope)?;
+        let index = check_ordinal(work, first_of_denoter(&other.denoter), word, written);
+        put_index(work, other.comma, index);
     }
-    Ok(())
-}
-
-#[cycle(denoters)]
-#[tactic(auto, using(check_steps::proofs::Runs::steps), unfolding(crate::specs::Denoters::next_index))]
-fn check_next_index(
-    work: &mut Work,
-    alloc: Global,
-    n: &NextDenoter,
-    word: u32,
-    scope: Scope,
-) -> Result<(), AllocError>
-    ensures { IfOk result (λ _. Does (next_index scope word tt n.now) tt work.old work.new) }
-{
-    let written = check_denoter(work, alloc, &n.denoter, scope)?;
-    let index = check_ordinal(work, first_of_denoter(&n.denoter), word, written);
-    put_index(work, n.comma, index);
     Ok(())
 }
