@@ -3,7 +3,7 @@
 ghost use Rattle.std.specs.Prelude.{◌≡◌, ◌≤◌, ◌<◌, [], ◌∷◌, map, IfOk};
 ghost use Rattle.grammar.specs.declared.terminals.Terminal.TheVariants as k;
 ghost use Rattle.grammar.specs.Terminals.{passes};
-ghost use Rattle.grammar.specs.Nodes.{chain, next, row, step_node};
+ghost use Rattle.grammar.specs.Nodes.{chain, next, row};
 ghost use Rattle.grammar.specs.Grammars.{choice, denoter, many, nothing, seq, series, variant_part, word};
 ghost use Rattle.grammar.specs.Reading.{levels, read};
 ghost use Rattle.grammar.specs.Deciding.{expects};
@@ -13,8 +13,8 @@ ghost use Rattle.pas_tree.specs.Denoters.{section_step, set_node, structure_node
 ghost use Rattle.pas_tree.specs.Operators.{token_node};
 ghost use Rattle.pas_tree.specs.Rules.{arm_rule, array_rule, constant_starts, denoter_rule, enumeration_rule};
 ghost use Rattle.pas_tree.specs.Rules.{fields_rule, named_denoter_rule, next_denoter_rule, optional, record_rule};
-ghost use Rattle.pas_tree.specs.Rules.{section_rule, set_rule, structure_rule, structured_rule, subrange_rule};
-ghost use Rattle.pas_tree.specs.Rules.{limit_starts, fixed_rule, tag_rule, variant_part_rule, variants_rule};
+ghost use Rattle.pas_tree.specs.Rules.{section_rule, set_rule, structure_rule, subrange_rule};
+ghost use Rattle.pas_tree.specs.Rules.{limit_starts, tag_rule, variant_part_rule, variants_rule};
 ghost use Rattle.pas_tree.specs.FirstFollow.{first_of, pascal};
 ghost use Rattle.pas_phrases.specs.Items.{ReadsAs, items_from, optional_token};
 ghost use Rattle.pas_denoters.specs.Ends.{sections_end_node};
@@ -41,7 +41,7 @@ pub enum SectionsEnd {
 
 /// Reads a type denoter, in which `depth` more levels may be nested.
 #[cycle(denoters)]
-#[tactic(auto, unfolding(grammar::specs::Reading::read, grammar::specs::Reading::levels, pas_tree::specs::Rules::denoter_rule))]
+#[tactic(auto, unfolding(grammar::specs::Reading::read, grammar::specs::Reading::levels, pas_tree::specs::Rules::denoter_rule, pas_tree::specs::Rules::structured_rule))]
 pub fn read_denoter(
     alloc: Global,
     tokens: &TerminalList,
@@ -73,7 +73,10 @@ pub fn read_denoter(
         let (name, after) = tokens.expect(after, Terminal::Name)?;
         return Ok((Denoter::Pointer(caret, name), after));
     }
-    read_structured(alloc, tokens, at, depth)
+    let (packed, after) = read_packed(tokens, at)?;
+    let (structure, after) = read_structure(alloc, tokens, after, depth)?;
+    let structure = Box::new(alloc, structure)?;
+    Ok((Denoter::Structure(packed, structure), after))
 }
 
 #[tactic(auto, unfolding(grammar::specs::Reading::read, pas_tree::specs::Rules::named_denoter_rule, pas_tree::specs::Rules::range_rule))]
@@ -138,24 +141,6 @@ fn read_packed(tokens: &TerminalList, at: u32) -> Result<(Option<u32>, u32), Par
 }
 
 #[cycle(denoters)]
-#[tactic(auto, unfolding(grammar::specs::Reading::read, pas_tree::specs::Rules::structured_rule))]
-fn read_structured(
-    alloc: Global,
-    tokens: &TerminalList,
-    at: u32,
-    depth: u32,
-) -> Result<(Denoter, u32), ParseFault>
-    ensures gives { ReadsAs tokens.now denoter_node result
-        (read pascal depth structured_rule (items_from tokens.now at)) }
-    ensures forward { IfOk result (λ x. at ≤ x.1) }
-{
-    let (packed, after) = read_packed(tokens, at)?;
-    let (structure, after) = read_structure(alloc, tokens, after, depth)?;
-    let structure = Box::new(alloc, structure)?;
-    Ok((Denoter::Structure(packed, structure), after))
-}
-
-#[cycle(denoters)]
 #[tactic(auto, unfolding(grammar::specs::Reading::read, pas_tree::specs::Rules::structure_rule, pas_tree::specs::Rules::record_rule, pas_tree::specs::Rules::set_rule))]
 fn read_structure(
     alloc: Global,
@@ -215,7 +200,7 @@ fn read_array(
 }
 
 #[cycle(denoters)]
-#[tactic(auto, using(pas_phrases::proofs::ReadLists::list_reading, pas_tree::proofs::Parts::parts))]
+#[tactic(auto, using(pas_phrases::proofs::ReadLists::pair_list_reading, pas_tree::proofs::Parts::parts), unfolding(pas_tree::specs::Rules::next_denoter_rule))]
 fn read_next_denoters(
     alloc: Global,
     tokens: &TerminalList,
@@ -229,32 +214,16 @@ fn read_next_denoters(
     let mut others = Vec::new(alloc);
     let mut next = at;
     'denoters: while tokens.is_next(next, Terminal::Comma) {
-        let (other, after) = read_next_denoter(alloc, tokens, next, depth)?;
-        others.push(other)?;
+        let (comma, after) = tokens.expect(next, Terminal::Comma)?;
+        let (denoter, after) = read_denoter(alloc, tokens, after, depth)?;
+        others.push(NextDenoter { comma, denoter })?;
         next = after;
     }
     Ok((others, next))
 }
 
 #[cycle(denoters)]
-#[tactic(auto, unfolding(grammar::specs::Reading::read, pas_tree::specs::Rules::next_denoter_rule))]
-fn read_next_denoter(
-    alloc: Global,
-    tokens: &TerminalList,
-    at: u32,
-    depth: u32,
-) -> Result<(NextDenoter, u32), ParseFault>
-    ensures gives { ReadsAs tokens.now next_denoter_node result
-        (read pascal depth next_denoter_rule (items_from tokens.now at)) }
-    ensures forward { IfOk result (λ x. at < x.1) }
-{
-    let (comma, after) = tokens.expect(at, Terminal::Comma)?;
-    let (denoter, after) = read_denoter(alloc, tokens, after, depth)?;
-    Ok((NextDenoter { comma, denoter }, after))
-}
-
-#[cycle(denoters)]
-#[tactic(auto, unfolding(grammar::specs::Reading::read, pas_tree::specs::Rules::fields_rule, pas_tree::specs::Rules::fixed_rule, pas_tree::specs::Rules::variants_rule))]
+#[tactic(auto, using(pas_tree::proofs::DenoterRolls::fixed_rolled), unfolding(grammar::specs::Reading::read, pas_tree::specs::Rules::fields_rule, pas_tree::specs::Rules::fixed_rule, pas_tree::specs::Rules::variants_rule))]
 fn read_fields(
     alloc: Global,
     tokens: &TerminalList,
@@ -265,7 +234,16 @@ fn read_fields(
     ensures forward { IfOk result (λ x. at ≤ x.1) }
 {
     if tokens.is_next(at, Terminal::Name) {
-        return read_fixed(alloc, tokens, at, depth);
+        let (first, after) = read_section(alloc, tokens, at, depth)?;
+        let ((others, end), after) = read_sections(alloc, tokens, after, depth)?;
+        let fixed = Fixed { first, others };
+        return match end {
+            SectionsEnd::Nothing => Ok((Fields::Fixed(fixed, None, None), after)),
+            SectionsEnd::Semicolon(last) => Ok((Fields::Fixed(fixed, None, Some(last)), after)),
+            SectionsEnd::Variants(variants, last) => {
+                Ok((Fields::Fixed(fixed, Some(variants), last), after))
+            }
+        };
     }
     if tokens.is_next(at, Terminal::WCase) {
         let ((variants, last), after) = read_variants(alloc, tokens, at, depth)?;
@@ -273,29 +251,6 @@ fn read_fields(
         return Ok((Fields::Variants(variants, last), after));
     }
     Ok((Fields::Empty, at))
-}
-
-#[cycle(denoters)]
-#[tactic(auto, using(pas_tree::proofs::DenoterRolls::fixed_rolled), unfolding(grammar::specs::Reading::read, pas_tree::specs::Rules::fixed_rule))]
-fn read_fixed(
-    alloc: Global,
-    tokens: &TerminalList,
-    at: u32,
-    depth: u32,
-) -> Result<(Fields, u32), ParseFault>
-    ensures gives { ReadsAs tokens.now fields_node result (read pascal depth fixed_rule (items_from tokens.now at)) }
-    ensures forward { IfOk result (λ x. at ≤ x.1) }
-{
-    let (first, after) = read_section(alloc, tokens, at, depth)?;
-    let ((others, end), after) = read_sections(alloc, tokens, after, depth)?;
-    let fixed = Fixed { first, others };
-    match end {
-        SectionsEnd::Nothing => Ok((Fields::Fixed(fixed, None, None), after)),
-        SectionsEnd::Semicolon(last) => Ok((Fields::Fixed(fixed, None, Some(last)), after)),
-        SectionsEnd::Variants(variants, last) => {
-            Ok((Fields::Fixed(fixed, Some(variants), last), after))
-        }
-    }
 }
 
 #[cycle(denoters)]
@@ -321,6 +276,7 @@ fn read_section(
 }
 
 #[cycle(denoters)]
+#[tactic(auto, using(pas_phrases::proofs::ReadSeries::pair_series_reading))]
 fn read_sections(
     alloc: Global,
     tokens: &TerminalList,
@@ -334,29 +290,13 @@ fn read_sections(
     let mut others = Vec::new(alloc);
     let mut next = at;
     'sections: while tokens.is_next_pair(next, Terminal::Semicolon, &[Terminal::Name]) {
-        let (other, after) = read_next_section(alloc, tokens, next, depth)?;
-        others.push(other)?;
+        let (semicolon, after) = tokens.expect(next, Terminal::Semicolon)?;
+        let (section, after) = read_section(alloc, tokens, after, depth)?;
+        others.push(NextSection { semicolon, section })?;
         next = after;
     }
     let (end, after) = read_sections_end(alloc, tokens, next, depth)?;
     Ok(((others, end), after))
-}
-
-#[cycle(denoters)]
-#[tactic(auto, unfolding(grammar::specs::Reading::read))]
-fn read_next_section(
-    alloc: Global,
-    tokens: &TerminalList,
-    at: u32,
-    depth: u32,
-) -> Result<(NextSection, u32), ParseFault>
-    ensures gives { ReadsAs tokens.now (λ n. step_node (section_step n)) result
-        (read pascal depth (seq (word k.Semicolon) section_rule) (items_from tokens.now at)) }
-    ensures forward { IfOk result (λ x. at < x.1) }
-{
-    let (semicolon, after) = tokens.expect(at, Terminal::Semicolon)?;
-    let (section, after) = read_section(alloc, tokens, after, depth)?;
-    Ok((NextSection { semicolon, section }, after))
 }
 
 #[cycle(denoters)]
@@ -465,6 +405,7 @@ fn read_arm(
 }
 
 #[cycle(denoters)]
+#[tactic(auto, using(pas_phrases::proofs::ReadSeries::pair_series_reading))]
 fn read_arms(
     alloc: Global,
     tokens: &TerminalList,
@@ -478,29 +419,13 @@ fn read_arms(
     let mut others = Vec::new(alloc);
     let mut next = at;
     'arms: while is_next_case(tokens, next) {
-        let (other, after) = read_next_arm(alloc, tokens, next, depth)?;
-        others.push(other)?;
+        let (semicolon, after) = tokens.expect(next, Terminal::Semicolon)?;
+        let (arm, after) = read_arm(alloc, tokens, after, depth)?;
+        others.push(NextArm { semicolon, arm })?;
         next = after;
     }
     let (end, after) = read_last_semicolon(tokens, next, depth)?;
     Ok(((others, end), after))
-}
-
-#[cycle(denoters)]
-#[tactic(auto, unfolding(grammar::specs::Reading::read))]
-fn read_next_arm(
-    alloc: Global,
-    tokens: &TerminalList,
-    at: u32,
-    depth: u32,
-) -> Result<(NextArm, u32), ParseFault>
-    ensures gives { ReadsAs tokens.now (λ n. step_node (arm_step n)) result
-        (read pascal depth (seq (word k.Semicolon) arm_rule) (items_from tokens.now at)) }
-    ensures forward { IfOk result (λ x. at < x.1) }
-{
-    let (semicolon, after) = tokens.expect(at, Terminal::Semicolon)?;
-    let (arm, after) = read_arm(alloc, tokens, after, depth)?;
-    Ok((NextArm { semicolon, arm }, after))
 }
 
 /// Whether a constant that is no name is next.

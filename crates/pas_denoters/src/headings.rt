@@ -162,7 +162,7 @@ fn read_formals(
 }
 
 #[cycle(headings)]
-#[tactic(auto, using(pas_phrases::proofs::ReadLists::list_reading, pas_tree::proofs::Parts::parts))]
+#[tactic(auto, using(pas_phrases::proofs::ReadLists::pair_list_reading, pas_tree::proofs::Parts::parts), unfolding(pas_tree::specs::Rules::next_formal_rule))]
 fn read_next_formals(
     alloc: Global,
     tokens: &TerminalList,
@@ -176,28 +176,12 @@ fn read_next_formals(
     let mut others = Vec::new(alloc);
     let mut next = at;
     'formals: while tokens.is_next(next, Terminal::Semicolon) {
-        let (other, after) = read_next_formal(alloc, tokens, next, depth)?;
-        others.push(other)?;
+        let (semicolon, after) = tokens.expect(next, Terminal::Semicolon)?;
+        let (formal, after) = read_formal(alloc, tokens, after, depth)?;
+        others.push(NextFormal { semicolon, formal })?;
         next = after;
     }
     Ok((others, next))
-}
-
-#[cycle(headings)]
-#[tactic(auto, unfolding(grammar::specs::Reading::read, pas_tree::specs::Rules::next_formal_rule))]
-fn read_next_formal(
-    alloc: Global,
-    tokens: &TerminalList,
-    at: u32,
-    depth: u32,
-) -> Result<(NextFormal, u32), ParseFault>
-    ensures gives { ReadsAs tokens.now next_formal_node result
-        (read pascal depth next_formal_rule (items_from tokens.now at)) }
-    ensures forward { IfOk result (λ x. at < x.1) }
-{
-    let (semicolon, after) = tokens.expect(at, Terminal::Semicolon)?;
-    let (formal, after) = read_formal(alloc, tokens, after, depth)?;
-    Ok((NextFormal { semicolon, formal }, after))
 }
 
 #[cycle(headings)]

@@ -17,8 +17,16 @@ pub handed_on : {X : Type 0} (whole : Read) (kinds : List Terminal) (view : X �
 handed_on whole kinds view result e exit f = let p = err_from_is_err_and result exit in rw (p.1, p.2) f
 
 -- the pair of a tree and those of what is read after it
-abbrev after_first : Node → Read → Read
+abbrev pub after_first : Node → Read → Read
 after_first x r = r >>= λ y. Ok (Pair x y.0, y.1)
+
+-- a first part that fails
+pub first_fails : (n : ℕ) (a b : Grammar) (l : List Item) (kinds : List Terminal) (e : ParseFault)
+    → Fails kinds e (read pascal n a l) → Fails kinds e (read pascal n (seq a b) l)
+unfolding read
+first_fails n a b l kinds (NotProgram i) f = ap (λ (z : Read). then_pair z (read pascal n b)) f
+first_fails n a b l kinds (TooDeep i) f = ap (λ (z : Read). then_pair z (read pascal n b)) f
+first_fails n a b l kinds Memory f = tt
 
 -- a second part that fails
 pub second_fails : (n : ℕ) (a b : Grammar) (l : List Item) {m : List Item} {x : Node} (kinds : List Terminal) (e : ParseFault)

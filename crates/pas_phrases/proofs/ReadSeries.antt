@@ -1,17 +1,18 @@
 -- A series that is read part by part in a loop is what the grammar reads as `series`.
-use Rattle.std.proofs.Common.{◌≡◌, ℕ, true, false, List, [], ◌∷◌, ◌++◌, map, Ok, ap, ◌∙◌}
+use Rattle.std.proofs.Common.{◌≡◌, ℕ, true, false, List, [], ◌∷◌, ◌++◌, map, Ok, sym, ap, ◌∙◌}
 use Rattle.std.proofs.lemmas.List.{map_push}
 use Rattle.grammar.specs.declared.terminals.Terminal.{Terminal}
 use Rattle.grammar.specs.Nodes.{Item, Node, Step, step_node, chain}
 use Rattle.grammar.specs.Grammars.{Grammar, nothing, seq, choice, word, series}
 use Rattle.grammar.specs.Deciding.{closed}
-use Rattle.grammar.specs.Reading.{Read, Unfit, Deep, read}
+use Rattle.grammar.specs.Reading.{Read, Unfit, Deep, token_at, then_pair, read}
 use Rattle.grammar.proofs.Lists.{with_steps, steps_on, steps_stop, steps_done, steps_break}
 use Rattle.pas_tree.specs.FirstFollow.{pascal}
 use Rattle.pas_tree.proofs.Decided.{pascal_sane}
 use Rattle.pas_phrases.specs.declared.fault.ParseFault.{ParseFault}
 use Rattle.pas_phrases.specs.declared.fault.ParseFault.TheVariants.{NotProgram, TooDeep, Memory}
 use Rattle.pas_phrases.specs.Items.{Fails, goes_further}
+use Rattle.pas_phrases.proofs.Failures.{after_first, first_fails, second_fails, handed_on}
 
 -- parts g after separators that lead to one of ks, and an end z
 pub record Series : Type 0 where
@@ -64,3 +65,31 @@ pub series_read : {X : Type 0} {step : X → Step} {n : ℕ} {q : Series} {xs : 
     → whole ≡ Ok (chain (map step xs) end, rest)
 series_read {X} {step} {n} {q} {xs} {l} {rest} {whole} {end} s h e =
     steps_done pascal pascal_sane n q.separator q.starts q.part q.end q.part_closed q.end_closed (map step xs) l end rest whole h e s.same
+
+-- ---- where a loop itself reads the separator, and the part after it
+
+pub series_pair_more : {X : Type 0} {step : X → Step} {n : ℕ} {q : Series} {xs : List X} {l m rest : List Item} {whole : Read} {ys : List X}
+    {x : X} {a b : Node}
+    → SeriesSoFar step n q xs l whole → goes_further q.separator q.starts l ≡ true → token_at (q.separator ∷ []) l ≡ Ok (a, m)
+    → read pascal n q.part m ≡ Ok (b, rest) → ys ≡ xs ++ x ∷ [] → step x ≡ record { separator = a; part = b } → SeriesSoFar step n q ys rest whole
+unfolding read
+series_pair_more {n = n} {q = q} {rest = rest} {x = x} {a = a} s h t e more same =
+    series_more x s h
+    (ap (λ (z : Read). then_pair z (read pascal n q.part)) t ∙ ap (after_first a) e ∙ ap (λ (y : Step). Ok (step_node y, rest)) (sym same)) more
+
+-- a separator that fails, and a part after one
+pub series_token_fails : {X : Type 0} {step : X → Step} {n : ℕ} {q : Series} {xs : List X} {l : List Item} {whole : Read}
+    (kinds : List Terminal) (e : ParseFault)
+    → SeriesSoFar step n q xs l whole → goes_further q.separator q.starts l ≡ true → Fails kinds e (token_at (q.separator ∷ []) l) → Fails kinds e whole
+unfolding read
+series_token_fails {n = n} {q = q} {l = l} kinds e s h f = series_fails kinds e s h (first_fails n (word q.separator) q.part l kinds e f)
+
+pub series_pair_fails : {X : Type 0} {step : X → Step} {n : ℕ} {q : Series} {xs : List X} {l m : List Item} {whole : Read} {a : Node}
+    (kinds : List Terminal) (e : ParseFault)
+    → SeriesSoFar step n q xs l whole → goes_further q.separator q.starts l ≡ true → token_at (q.separator ∷ []) l ≡ Ok (a, m)
+    → Fails kinds e (read pascal n q.part m) → Fails kinds e whole
+unfolding read
+series_pair_fails {n = n} {q = q} {l = l} kinds e s h t f = series_fails kinds e s h (second_fails n (word q.separator) q.part l kinds e t f)
+
+-- what a loop that reads such parts is proved by
+pub ruleset pair_series_reading = (series_pair_more, series_token_fails, series_pair_fails, series_end_fails, series_read, handed_on)

@@ -41,50 +41,35 @@ invariant-read_arms-arms l = record {
 abbrev pub decreases-read_arms-arms : goal.decreases-read_arms-arms
 decreases-read_arms-arms l = length l.tokens - l.next
 
-abbrev pub decreases-read_structured : goal.decreases-read_structured
-decreases-read_structured l = 32 * l.depth + 15
-
 abbrev pub decreases-read_structure : goal.decreases-read_structure
-decreases-read_structure l = 32 * l.depth + 14
+decreases-read_structure l = 16 * l.depth + 10
 
 abbrev pub decreases-read_array : goal.decreases-read_array
-decreases-read_array l = 32 * l.depth + 13
+decreases-read_array l = 16 * l.depth + 9
 
 abbrev pub decreases-read_next_denoters : goal.decreases-read_next_denoters
-decreases-read_next_denoters l = 32 * l.depth + 12
-
-abbrev pub decreases-read_next_denoter : goal.decreases-read_next_denoter
-decreases-read_next_denoter l = 32 * l.depth + 11
+decreases-read_next_denoters l = 16 * l.depth + 8
 
 abbrev pub decreases-read_arms : goal.decreases-read_arms
-decreases-read_arms l = 32 * l.depth + 10
-
-abbrev pub decreases-read_next_arm : goal.decreases-read_next_arm
-decreases-read_next_arm l = 32 * l.depth + 9
+decreases-read_arms l = 16 * l.depth + 7
 
 abbrev pub decreases-read_arm : goal.decreases-read_arm
-decreases-read_arm l = 32 * l.depth + 8
+decreases-read_arm l = 16 * l.depth + 6
 
 abbrev pub decreases-read_fields : goal.decreases-read_fields
-decreases-read_fields l = 32 * l.depth + 7
-
-abbrev pub decreases-read_fixed : goal.decreases-read_fixed
-decreases-read_fixed l = 32 * l.depth + 6
+decreases-read_fields l = 16 * l.depth + 5
 
 abbrev pub decreases-read_sections : goal.decreases-read_sections
-decreases-read_sections l = 32 * l.depth + 5
+decreases-read_sections l = 16 * l.depth + 4
 
 abbrev pub decreases-read_sections_end : goal.decreases-read_sections_end
-decreases-read_sections_end l = 32 * l.depth + 4
-
-abbrev pub decreases-read_next_section : goal.decreases-read_next_section
-decreases-read_next_section l = 32 * l.depth + 3
+decreases-read_sections_end l = 16 * l.depth + 3
 
 abbrev pub decreases-read_section : goal.decreases-read_section
-decreases-read_section l = 32 * l.depth + 2
+decreases-read_section l = 16 * l.depth + 2
 
 abbrev pub decreases-read_variants : goal.decreases-read_variants
-decreases-read_variants l = 32 * l.depth + 1
+decreases-read_variants l = 16 * l.depth + 1
 
 abbrev pub decreases-read_denoter : goal.decreases-read_denoter
-decreases-read_denoter l = 32 * l.depth
+decreases-read_denoter l = 16 * l.depth

@@ -20,22 +20,19 @@ abbrev pub decreases-read_next_formals-formals : goal.decreases-read_next_formal
 decreases-read_next_formals-formals l = length l.tokens - l.next
 
 abbrev pub decreases-read_procedure : goal.decreases-read_procedure
-decreases-read_procedure l = 32 * l.depth + 6
+decreases-read_procedure l = 8 * l.depth + 5
 
 abbrev pub decreases-read_function : goal.decreases-read_function
-decreases-read_function l = 32 * l.depth + 5
+decreases-read_function l = 8 * l.depth + 4
 
 abbrev pub decreases-read_formals : goal.decreases-read_formals
-decreases-read_formals l = 32 * l.depth + 4
+decreases-read_formals l = 8 * l.depth + 3
 
 abbrev pub decreases-read_next_formals : goal.decreases-read_next_formals
-decreases-read_next_formals l = 32 * l.depth + 3
-
-abbrev pub decreases-read_next_formal : goal.decreases-read_next_formal
-decreases-read_next_formal l = 32 * l.depth + 2
+decreases-read_next_formals l = 8 * l.depth + 2
 
 abbrev pub decreases-read_formal : goal.decreases-read_formal
-decreases-read_formal l = 32 * l.depth + 1
+decreases-read_formal l = 8 * l.depth + 1
 
 abbrev pub decreases-read_heading : goal.decreases-read_heading
-decreases-read_heading l = 32 * l.depth
+decreases-read_heading l = 8 * l.depth
