@@ -11,7 +11,7 @@ ghost use Rattle.pas_tree.specs.Expressions.{member_node, members_node, next_exp
 ghost use Rattle.pas_tree.specs.Expressions.{next_member_node, next_term_node, selector_node, simple_node, term_node};
 ghost use Rattle.pas_tree.specs.Rules.{access_rule, adding, arguments_rule, expression_rule, factor_rule, index_rule};
 ghost use Rattle.pas_tree.specs.Rules.{member_rule, members_rule, multiplying, named_factor_rule, next_expression_rule};
-ghost use Rattle.pas_tree.specs.Rules.{next_factor_rule, next_member_rule, next_term_rule, paren_rule, selector_rule};
+ghost use Rattle.pas_tree.specs.Rules.{next_factor_rule, next_member_rule, next_term_rule, selector_rule};
 ghost use Rattle.pas_tree.specs.Rules.{selector_starts, selectors_rule, simple_rule, term_rule};
 ghost use Rattle.pas_tree.specs.FirstFollow.{first_of, pascal};
 ghost use Rattle.pas_phrases.specs.Items.{ReadsAs, items_from};
@@ -76,7 +76,7 @@ fn read_simple(
 }
 
 #[cycle(expressions)]
-#[tactic(auto, using(pas_phrases::proofs::ReadLists::list_reading, pas_tree::proofs::Parts::parts))]
+#[tactic(auto, using(pas_phrases::proofs::ReadLists::pair_list_reading, pas_tree::proofs::Parts::parts), unfolding(pas_tree::specs::Rules::next_term_rule))]
 fn read_next_terms(
     alloc: Global,
     tokens: &TerminalList,
@@ -90,28 +90,12 @@ fn read_next_terms(
     let mut others = Vec::new(alloc);
     let mut next = at;
     'terms: while is_next_adding(tokens, next) {
-        let (other, after) = read_next_term(alloc, tokens, next, depth)?;
-        others.push(other)?;
+        let (operator, after) = expect_adding(tokens, next)?;
+        let (term, after) = read_term(alloc, tokens, after, depth)?;
+        others.push(NextTerm { operator, term })?;
         next = after;
     }
     Ok((others, next))
-}
-
-#[cycle(expressions)]
-#[tactic(auto, unfolding(grammar::specs::Reading::read, pas_tree::specs::Rules::next_term_rule))]
-fn read_next_term(
-    alloc: Global,
-    tokens: &TerminalList,
-    at: u32,
-    depth: u32,
-) -> Result<(NextTerm, u32), ParseFault>
-    ensures gives { ReadsAs tokens.now next_term_node result
-        (read pascal depth next_term_rule (items_from tokens.now at)) }
-    ensures forward { IfOk result (λ x. at < x.1) }
-{
-    let (operator, after) = expect_adding(tokens, at)?;
-    let (term, after) = read_term(alloc, tokens, after, depth)?;
-    Ok((NextTerm { operator, term }, after))
 }
 
 #[cycle(expressions)]
@@ -131,7 +115,7 @@ fn read_term(
 }
 
 #[cycle(expressions)]
-#[tactic(auto, using(pas_phrases::proofs::ReadLists::list_reading, pas_tree::proofs::Parts::parts))]
+#[tactic(auto, using(pas_phrases::proofs::ReadLists::pair_list_reading, pas_tree::proofs::Parts::parts), unfolding(pas_tree::specs::Rules::next_factor_rule))]
 fn read_next_factors(
     alloc: Global,
     tokens: &TerminalList,
@@ -145,32 +129,16 @@ fn read_next_factors(
     let mut others = Vec::new(alloc);
     let mut next = at;
     'factors: while is_next_multiplying(tokens, next) {
-        let (other, after) = read_next_factor(alloc, tokens, next, depth)?;
-        others.push(other)?;
+        let (operator, after) = expect_multiplying(tokens, next)?;
+        let (factor, after) = read_factor(alloc, tokens, after, depth)?;
+        others.push(NextFactor { operator, factor })?;
         next = after;
     }
     Ok((others, next))
 }
 
 #[cycle(expressions)]
-#[tactic(auto, unfolding(grammar::specs::Reading::read, pas_tree::specs::Rules::next_factor_rule))]
-fn read_next_factor(
-    alloc: Global,
-    tokens: &TerminalList,
-    at: u32,
-    depth: u32,
-) -> Result<(NextFactor, u32), ParseFault>
-    ensures gives { ReadsAs tokens.now next_factor_node result
-        (read pascal depth next_factor_rule (items_from tokens.now at)) }
-    ensures forward { IfOk result (λ x. at < x.1) }
-{
-    let (operator, after) = expect_multiplying(tokens, at)?;
-    let (factor, after) = read_factor(alloc, tokens, after, depth)?;
-    Ok((NextFactor { operator, factor }, after))
-}
-
-#[cycle(expressions)]
-#[tactic(auto, unfolding(grammar::specs::Reading::read, grammar::specs::Reading::levels, pas_tree::specs::Rules::factor_rule))]
+#[tactic(auto, unfolding(grammar::specs::Reading::read, grammar::specs::Reading::levels, pas_tree::specs::Rules::factor_rule, pas_tree::specs::Rules::paren_rule))]
 fn read_factor(
     alloc: Global,
     tokens: &TerminalList,
@@ -194,7 +162,11 @@ fn read_factor(
         return read_named_factor(alloc, tokens, at, depth);
     }
     if tokens.is_next(at, Terminal::LeftParen) {
-        return read_paren(alloc, tokens, at, depth);
+        let (open, after) = tokens.expect(at, Terminal::LeftParen)?;
+        let (expression, after) = read_expression(alloc, tokens, after, depth)?;
+        let expression = Box::new(alloc, expression)?;
+        let (close, after) = tokens.expect(after, Terminal::RightParen)?;
+        return Ok((Factor::Paren(open, expression, close), after));
     }
     if tokens.is_next(at, Terminal::LeftBracket) {
         let (members, after) = read_members(alloc, tokens, at, depth)?;
@@ -236,25 +208,7 @@ fn read_named_factor(
 }
 
 #[cycle(expressions)]
-#[tactic(auto, unfolding(grammar::specs::Reading::read, pas_tree::specs::Rules::paren_rule))]
-fn read_paren(
-    alloc: Global,
-    tokens: &TerminalList,
-    at: u32,
-    depth: u32,
-) -> Result<(Factor, u32), ParseFault>
-    ensures gives { ReadsAs tokens.now factor_node result (read pascal depth paren_rule (items_from tokens.now at)) }
-    ensures forward { IfOk result (λ x. at < x.1) }
-{
-    let (open, after) = tokens.expect(at, Terminal::LeftParen)?;
-    let (expression, after) = read_expression(alloc, tokens, after, depth)?;
-    let (close, after) = tokens.expect(after, Terminal::RightParen)?;
-    let inner = Box::new(alloc, expression)?;
-    Ok((Factor::Paren(open, inner, close), after))
-}
-
-#[cycle(expressions)]
-#[tactic(auto, using(pas_phrases::proofs::ReadLists::list_reading, pas_tree::proofs::Parts::parts))]
+#[tactic(auto, using(pas_phrases::proofs::ReadLists::pair_list_reading, pas_tree::proofs::Parts::parts), unfolding(pas_tree::specs::Rules::next_expression_rule))]
 fn read_next_expressions(
     alloc: Global,
     tokens: &TerminalList,
@@ -268,28 +222,12 @@ fn read_next_expressions(
     let mut others = Vec::new(alloc);
     let mut next = at;
     'expressions: while tokens.is_next(next, Terminal::Comma) {
-        let (other, after) = read_next_expression(alloc, tokens, next, depth)?;
-        others.push(other)?;
+        let (comma, after) = tokens.expect(next, Terminal::Comma)?;
+        let (expression, after) = read_expression(alloc, tokens, after, depth)?;
+        others.push(NextExpression { comma, expression })?;
         next = after;
     }
     Ok((others, next))
-}
-
-#[cycle(expressions)]
-#[tactic(auto, unfolding(grammar::specs::Reading::read, pas_tree::specs::Rules::next_expression_rule))]
-fn read_next_expression(
-    alloc: Global,
-    tokens: &TerminalList,
-    at: u32,
-    depth: u32,
-) -> Result<(NextExpression, u32), ParseFault>
-    ensures gives { ReadsAs tokens.now next_expression_node result
-        (read pascal depth next_expression_rule (items_from tokens.now at)) }
-    ensures forward { IfOk result (λ x. at < x.1) }
-{
-    let (comma, after) = tokens.expect(at, Terminal::Comma)?;
-    let (expression, after) = read_expression(alloc, tokens, after, depth)?;
-    Ok((NextExpression { comma, expression }, after))
 }
 
 /// Reads the indices, fields and dereferences of an access.
@@ -378,7 +316,7 @@ fn read_members(
 }
 
 #[cycle(expressions)]
-#[tactic(auto, using(pas_phrases::proofs::ReadLists::list_reading, pas_tree::proofs::Parts::parts))]
+#[tactic(auto, using(pas_phrases::proofs::ReadLists::pair_list_reading, pas_tree::proofs::Parts::parts), unfolding(pas_tree::specs::Rules::next_member_rule))]
 fn read_next_members(
     alloc: Global,
     tokens: &TerminalList,
@@ -392,28 +330,12 @@ fn read_next_members(
     let mut others = Vec::new(alloc);
     let mut next = at;
     'members: while tokens.is_next(next, Terminal::Comma) {
-        let (other, after) = read_next_member(alloc, tokens, next, depth)?;
-        others.push(other)?;
+        let (comma, after) = tokens.expect(next, Terminal::Comma)?;
+        let (member, after) = read_member(alloc, tokens, after, depth)?;
+        others.push(NextMember { comma, member })?;
         next = after;
     }
     Ok((others, next))
-}
-
-#[cycle(expressions)]
-#[tactic(auto, unfolding(grammar::specs::Reading::read, pas_tree::specs::Rules::next_member_rule))]
-fn read_next_member(
-    alloc: Global,
-    tokens: &TerminalList,
-    at: u32,
-    depth: u32,
-) -> Result<(NextMember, u32), ParseFault>
-    ensures gives { ReadsAs tokens.now next_member_node result
-        (read pascal depth next_member_rule (items_from tokens.now at)) }
-    ensures forward { IfOk result (λ x. at < x.1) }
-{
-    let (comma, after) = tokens.expect(at, Terminal::Comma)?;
-    let (member, after) = read_member(alloc, tokens, after, depth)?;
-    Ok((NextMember { comma, member }, after))
 }
 
 #[cycle(expressions)]

@@ -68,14 +68,8 @@ decreases-read_members l = 32 * l.depth + 16
 abbrev pub decreases-read_next_members : goal.decreases-read_next_members
 decreases-read_next_members l = 32 * l.depth + 15
 
-abbrev pub decreases-read_next_member : goal.decreases-read_next_member
-decreases-read_next_member l = 32 * l.depth + 14
-
 abbrev pub decreases-read_member : goal.decreases-read_member
 decreases-read_member l = 32 * l.depth + 13
-
-abbrev pub decreases-read_paren : goal.decreases-read_paren
-decreases-read_paren l = 32 * l.depth + 12
 
 abbrev pub decreases-read_selectors : goal.decreases-read_selectors
 decreases-read_selectors l = 32 * l.depth + 11
@@ -86,9 +80,6 @@ decreases-read_selector l = 32 * l.depth + 10
 abbrev pub decreases-read_next_expressions : goal.decreases-read_next_expressions
 decreases-read_next_expressions l = 32 * l.depth + 9
 
-abbrev pub decreases-read_next_expression : goal.decreases-read_next_expression
-decreases-read_next_expression l = 32 * l.depth + 8
-
 abbrev pub decreases-read_expression : goal.decreases-read_expression
 decreases-read_expression l = 32 * l.depth + 7
 
@@ -98,17 +89,11 @@ decreases-read_simple l = 32 * l.depth + 6
 abbrev pub decreases-read_next_terms : goal.decreases-read_next_terms
 decreases-read_next_terms l = 32 * l.depth + 5
 
-abbrev pub decreases-read_next_term : goal.decreases-read_next_term
-decreases-read_next_term l = 32 * l.depth + 4
-
 abbrev pub decreases-read_term : goal.decreases-read_term
 decreases-read_term l = 32 * l.depth + 3
 
 abbrev pub decreases-read_next_factors : goal.decreases-read_next_factors
 decreases-read_next_factors l = 32 * l.depth + 2
-
-abbrev pub decreases-read_next_factor : goal.decreases-read_next_factor
-decreases-read_next_factor l = 32 * l.depth + 1
 
 abbrev pub decreases-read_factor : goal.decreases-read_factor
 decreases-read_factor l = 32 * l.depth
