@@ -13,6 +13,7 @@ use Rattle.pas_tree.specs.declared.expressions.Simple.{Simple, out-Simple, is-Si
 use Rattle.pas_tree.specs.declared.expressions.Simple.{items-the_row-NextTerm, items_hidden-the_row-NextTerm-2}
 use Rattle.pas_tree.specs.declared.expressions.NextTerm.{NextTerm, out-NextTerm, is-NextTerm'}
 use Rattle.pas_tree.specs.declared.expressions.Term.{Term, out-Term, is-Term', Row_of-NextFactor, end_of-NextFactor, more_of-NextFactor}
+use Rattle.pas_tree.specs.declared.expressions.NextFactor.{NextFactor}
 use Rattle.pas_tree.specs.declared.expressions.Term.{items-the_row-NextFactor, items_hidden-the_row-NextFactor-4}
 use Rattle.check_steps.specs.Steps.{Step, give, ◌>>=◌, each}
 use Rattle.check_steps.proofs.Runs.{bind-assoc}
@@ -57,6 +58,11 @@ pub next_term_out : (frame : ℕ) (t : Typed) (n : NextTerm) → next_term frame
     >>= λ u. operated (adding_operator (out-NextTerm n).operator) (adding_token (out-NextTerm n).operator) t u)
 next_term_out frame t n = ap (next_term frame t) (is-NextTerm' n)
 
+pub next_factor_out : (frame : ℕ) (f : Typed) (n : NextFactor) → next_factor frame f n
+    ≡ (factor frame n.factor >>= λ g. operated (multiplying_operator n.operator) (multiplying_token n.operator) f g)
+unfolding next_factor
+next_factor_out frame f n = refl
+
 pub related_out : (frame : ℕ) (l : Typed) (r : Relation) → related frame l r ≡ (simple frame (out-Relation r).right
     >>= λ x. operated (relational_operator (out-Relation r).operator) (relational_token (out-Relation r).operator) l x)
 related_out frame l r = ap (related frame l) (is-Relation' r)
@@ -89,5 +95,3 @@ access_factor frame a =
     ∙ ap (λ (h : Typed → Step Typed). root frame (nat_eq (length a.selectors.items) 0) a.name >>= h)
     (λ i p. (selected_each frame _ (hidden-the_row-Selector-0 a.selectors) p
     ∙ ap (each (selector frame) p) (items_hidden-the_row-Selector-0 a.selectors)) i)
-
-pub ruleset outs = (term_out, simple_out, next_term_out, related_out, expression_out)

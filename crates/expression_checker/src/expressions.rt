@@ -6,9 +6,7 @@ ghost use Rattle.pas_places.specs.Expressions.{first_of_expression};
 ghost use Rattle.expression_checker.specs.Actuals.{argued_as};
 ghost use Rattle.expression_checker.specs.Expressions.{access, actual, call, constructor, count_of, designator};
 ghost use Rattle.expression_checker.specs.Expressions.{expression, factor, index_at, member, name_factor, named_as};
-ghost use Rattle.expression_checker.specs.Expressions.{next_argument, next_factor, next_index, next_member, next_term};
-ghost use Rattle.expression_checker.specs.Expressions.{passing_to, range, related, root, selector, simple};
-ghost use Rattle.expression_checker.specs.Expressions.{some_members, term};
+ghost use Rattle.expression_checker.specs.Expressions.{passing_to, root, selector, simple, term};
 
 use crate::actuals::{
     Argument, Formal, Lone, Passing, check_argued, check_closed, check_file, check_passed,
@@ -30,8 +28,7 @@ use operand_checker::typed::{
 };
 use pas_places::{adding_token, first_of_expression, multiplying_token, relational_token};
 use pas_tree::expressions::{
-    Access, Arguments, Expression, Factor, Index, Member, Members, NextExpression, NextFactor,
-    NextMember, NextTerm, RangeEnd, Relation, Selector, Simple, SomeMembers, Term,
+    Access, Arguments, Expression, Factor, Index, Member, Members, Selector, Simple, Term,
 };
 
 /// A function designator without actual parameters.
@@ -93,88 +90,51 @@ fn count_of(arguments: &Arguments) -> usize
 
 /// An expression, seen from a frame.
 #[cycle(expressions)]
-#[tactic(auto, using(check_steps::proofs::Runs::steps, crate::proofs::Operands::outs))]
+#[tactic(auto, using(check_steps::proofs::Runs::steps, crate::proofs::Operands::expression_out, crate::proofs::Operands::related_out))]
 pub fn check_expression(work: &mut Work, e: &Expression, frame: u32) -> Typed
     ensures { Does (expression frame e.now) result work.old work.new }
 {
     let left = check_simple(work, &e.left, frame);
     match &e.relation {
         None => left,
-        Some(relation) => check_relation(work, relation, frame, left),
+        Some(relation) => {
+            let right = check_simple(work, &relation.right, frame);
+            let operator = relational_operator(&relation.operator);
+            let token = relational_token(&relation.operator);
+            check_operated(work, operator, token, left, right)
+        }
     }
 }
 
 #[cycle(expressions)]
-#[tactic(auto, using(check_steps::proofs::Runs::steps, crate::proofs::Operands::outs))]
-fn check_relation(work: &mut Work, r: &Relation, frame: u32, left: Typed) -> Typed
-    ensures { Does (related frame left r.now) result work.old work.new }
-{
-    let right = check_simple(work, &r.right, frame);
-    let operator = relational_operator(&r.operator);
-    check_operated(work, operator, relational_token(&r.operator), left, right)
-}
-
-#[cycle(expressions)]
-#[tactic(auto, using(check_steps::proofs::Runs::steps, crate::proofs::Operands::outs))]
+#[tactic(auto, using(check_steps::proofs::Runs::steps, check_steps::proofs::Runs::loops, crate::proofs::Operands::simple_out, crate::proofs::Operands::next_term_out))]
 fn check_simple(work: &mut Work, s: &Simple, frame: u32) -> Typed
     ensures { Does (simple frame s.now) result work.old work.new }
 {
     let first = check_term(work, &s.first, frame);
-    let first = check_signed(work, &s.sign, first);
-    check_terms(work, &s.others, frame, first)
-}
-
-#[cycle(expressions)]
-#[tactic(auto, using(check_steps::proofs::Runs::loops))]
-fn check_terms(work: &mut Work, others: &[NextTerm], frame: u32, first: Typed) -> Typed
-    ensures { Does (each (next_term frame) first others.now) result work.old work.new }
-{
-    let mut value = first;
-    'others: for other in others {
-        value = check_next_term(work, other, frame, value);
+    let mut value = check_signed(work, &s.sign, first);
+    'others: for other in &s.others {
+        let right = check_term(work, &other.term, frame);
+        let operator = adding_operator(&other.operator);
+        let token = adding_token(&other.operator);
+        value = check_operated(work, operator, token, value, right);
     }
     value
 }
 
 #[cycle(expressions)]
-#[tactic(auto, using(check_steps::proofs::Runs::steps, crate::proofs::Operands::outs))]
-fn check_next_term(work: &mut Work, n: &NextTerm, frame: u32, left: Typed) -> Typed
-    ensures { Does (next_term frame left n.now) result work.old work.new }
-{
-    let right = check_term(work, &n.term, frame);
-    let operator = adding_operator(&n.operator);
-    check_operated(work, operator, adding_token(&n.operator), left, right)
-}
-
-#[cycle(expressions)]
-#[tactic(auto, using(check_steps::proofs::Runs::steps, crate::proofs::Operands::outs))]
+#[tactic(auto, using(check_steps::proofs::Runs::steps, check_steps::proofs::Runs::loops, crate::proofs::Operands::term_out, crate::proofs::Operands::next_factor_out))]
 fn check_term(work: &mut Work, t: &Term, frame: u32) -> Typed
     ensures { Does (term frame t.now) result work.old work.new }
 {
-    let first = check_factor(work, &t.first, frame);
-    check_factors(work, &t.others, frame, first)
-}
-
-#[cycle(expressions)]
-#[tactic(auto, using(check_steps::proofs::Runs::loops))]
-fn check_factors(work: &mut Work, others: &[NextFactor], frame: u32, first: Typed) -> Typed
-    ensures { Does (each (next_factor frame) first others.now) result work.old work.new }
-{
-    let mut value = first;
-    'others: for other in others {
-        value = check_next_factor(work, other, frame, value);
+    let mut value = check_factor(work, &t.first, frame);
+    'others: for other in &t.others {
+        let right = check_factor(work, &other.factor, frame);
+        let operator = multiplying_operator(&other.operator);
+        let token = multiplying_token(&other.operator);
+        value = check_operated(work, operator, token, value, right);
     }
     value
-}
-
-#[cycle(expressions)]
-#[tactic(auto, using(check_steps::proofs::Runs::steps), unfolding(crate::specs::Expressions::next_factor))]
-fn check_next_factor(work: &mut Work, n: &NextFactor, frame: u32, left: Typed) -> Typed
-    ensures { Does (next_factor frame left n.now) result work.old work.new }
-{
-    let right = check_factor(work, &n.factor, frame);
-    let operator = multiplying_operator(&n.operator);
-    check_operated(work, operator, multiplying_token(&n.operator), left, right)
 }
 
 #[cycle(expressions)]
@@ -207,41 +167,18 @@ fn check_factor(work: &mut Work, f: &Factor, frame: u32) -> Typed
 
 /// A function designator with so many actual parameters.
 #[cycle(expressions)]
-#[tactic(auto, using(check_steps::proofs::Runs::steps, crate::proofs::Parts::call_out))]
+#[tactic(auto, using(check_steps::proofs::Runs::steps, check_steps::proofs::Runs::loops, crate::proofs::Parts::call_out, crate::proofs::Parts::next_argument_out))]
 fn check_call(work: &mut Work, a: &Arguments, name: u32, frame: u32, count: usize) -> Typed
     ensures { Does (call frame name count a.now) result work.old work.new }
 {
     let called = check_called(work, name, frame, count);
     let passing = passing_to(called, name);
-    let passing = check_actual(work, &a.first, frame, passing, a.open);
-    let passing = check_arguments(work, &a.others, frame, passing);
+    let mut passing = check_actual(work, &a.first, frame, passing, a.open);
+    'others: for other in &a.others {
+        passing = check_actual(work, &other.expression, frame, passing, other.comma);
+    }
     let last = check_closed(work, passing, a.close);
     check_applied(work, name, called.callee, last, a.open)
-}
-
-#[cycle(expressions)]
-#[tactic(auto, using(check_steps::proofs::Runs::loops))]
-fn check_arguments(
-    work: &mut Work,
-    others: &[NextExpression],
-    frame: u32,
-    first: Passing,
-) -> Passing
-    ensures { Does (each (next_argument frame) first others.now) result work.old work.new }
-{
-    let mut passing = first;
-    'others: for other in others {
-        passing = check_next_argument(work, other, frame, passing);
-    }
-    passing
-}
-
-#[cycle(expressions)]
-#[tactic(auto, using(check_steps::proofs::Runs::steps, crate::proofs::Parts::next_argument_out))]
-fn check_next_argument(work: &mut Work, n: &NextExpression, frame: u32, passing: Passing) -> Passing
-    ensures { Does (next_argument frame passing n.now) result work.old work.new }
-{
-    check_actual(work, &n.expression, frame, passing, n.comma)
 }
 
 /// One more actual parameter of a list, at the parenthesis or comma before it.
@@ -320,85 +257,40 @@ fn check_selector(work: &mut Work, s: &Selector, frame: u32, place: Typed) -> Ty
 }
 
 #[cycle(expressions)]
-#[tactic(auto, using(check_steps::proofs::Runs::steps, crate::proofs::Parts::index_out))]
+#[tactic(auto, using(check_steps::proofs::Runs::steps, check_steps::proofs::Runs::loops, crate::proofs::Parts::index_out, crate::proofs::Parts::next_index_out))]
 fn check_index(work: &mut Work, x: &Index, frame: u32, place: Typed) -> Typed
     ensures { Does (index_at frame place x.now) result work.old work.new }
 {
     let index = check_expression(work, &x.first, frame);
-    let component = check_indexed(work, place, x.open, first_of_expression(&x.first), index);
-    check_indexes(work, &x.others, frame, component)
-}
-
-#[cycle(expressions)]
-#[tactic(auto, using(check_steps::proofs::Runs::loops))]
-fn check_indexes(work: &mut Work, others: &[NextExpression], frame: u32, first: Typed) -> Typed
-    ensures { Does (each (next_index frame) first others.now) result work.old work.new }
-{
-    let mut place = first;
-    'others: for other in others {
-        place = check_next_index(work, other, frame, place);
+    let mut part = check_indexed(work, place, x.open, first_of_expression(&x.first), index);
+    'others: for other in &x.others {
+        let index = check_expression(work, &other.expression, frame);
+        let first = first_of_expression(&other.expression);
+        part = check_indexed(work, part, other.comma, first, index);
     }
-    place
+    part
 }
 
 #[cycle(expressions)]
-#[tactic(auto, using(check_steps::proofs::Runs::steps, crate::proofs::Parts::next_index_out))]
-fn check_next_index(work: &mut Work, n: &NextExpression, frame: u32, place: Typed) -> Typed
-    ensures { Does (next_index frame place n.now) result work.old work.new }
-{
-    let index = check_expression(work, &n.expression, frame);
-    check_indexed(
-        work,
-        place,
-        n.comma,
-        first_of_expression(&n.expression),
-        index,
-    )
-}
-
-#[cycle(expressions)]
-#[tactic(auto, using(check_steps::proofs::Runs::steps))]
+#[tactic(auto, using(check_steps::proofs::Runs::steps, check_steps::proofs::Runs::loops, crate::proofs::Parts::some_members_out, crate::proofs::Parts::next_member_out))]
 fn check_constructor(work: &mut Work, m: &Members, frame: u32) -> Typed
     ensures { Does (constructor frame m.now) result work.old work.new }
 {
     match m {
         Members::Empty(open, close) => { check_set(work, nothing_gathered(*close), *open, *close) }
-        Members::Some(members) => check_some_members(work, members, frame),
+        Members::Some(members) => {
+            let none = nothing_gathered(members.close);
+            let mut gathered = check_member(work, &members.first, frame, none, members.open);
+            'others: for other in &members.others {
+                gathered = check_member(work, &other.member, frame, gathered, other.comma);
+            }
+            check_set(work, gathered, members.open, members.close)
+        }
     }
 }
 
 #[cycle(expressions)]
-#[tactic(auto, using(check_steps::proofs::Runs::steps, crate::proofs::Parts::some_members_out))]
-fn check_some_members(work: &mut Work, m: &SomeMembers, frame: u32) -> Typed
-    ensures { Does (some_members frame m.now) result work.old work.new }
-{
-    let first = check_member(work, &m.first, frame, nothing_gathered(m.close), m.open);
-    let all = check_members(work, &m.others, frame, first);
-    check_set(work, all, m.open, m.close)
-}
-
-#[cycle(expressions)]
-#[tactic(auto, using(check_steps::proofs::Runs::loops))]
-fn check_members(work: &mut Work, others: &[NextMember], frame: u32, first: Gathered) -> Gathered
-    ensures { Does (each (next_member frame) first others.now) result work.old work.new }
-{
-    let mut gathered = first;
-    'others: for other in others {
-        gathered = check_next_member(work, other, frame, gathered);
-    }
-    gathered
-}
-
-#[cycle(expressions)]
-#[tactic(auto, using(check_steps::proofs::Runs::steps, crate::proofs::Parts::next_member_out))]
-fn check_next_member(work: &mut Work, n: &NextMember, frame: u32, gathered: Gathered) -> Gathered
-    ensures { Does (next_member frame gathered n.now) result work.old work.new }
-{
-    check_member(work, &n.member, frame, gathered, n.comma)
-}
-
-#[cycle(expressions)]
-#[tactic(auto, using(check_steps::proofs::Runs::steps, crate::proofs::Parts::member_out))]
+#[tactic(auto, using(check_steps::proofs::Runs::steps, crate::proofs::Parts::member_out, crate::proofs::Parts::range_out))]
 fn check_member(work: &mut Work, m: &Member, frame: u32, gathered: Gathered, slot: u32) -> Gathered
     ensures { Does (member frame gathered slot m.now) result work.old work.new }
 {
@@ -410,21 +302,9 @@ fn check_member(work: &mut Work, m: &Member, frame: u32, gathered: Gathered, slo
     };
     match &m.last {
         None => check_one_member(work, gathered, begun),
-        Some(end) => check_range(work, end, frame, gathered, begun),
+        Some(end) => {
+            let last = check_expression(work, &end.last, frame);
+            check_member_range(work, gathered, begun, last)
+        }
     }
-}
-
-#[cycle(expressions)]
-#[tactic(auto, using(check_steps::proofs::Runs::steps, crate::proofs::Parts::range_out))]
-fn check_range(
-    work: &mut Work,
-    r: &RangeEnd,
-    frame: u32,
-    gathered: Gathered,
-    begun: Begun,
-) -> Gathered
-    ensures { Does (range frame gathered begun r.now) result work.old work.new }
-{
-    let end = check_expression(work, &r.last, frame);
-    check_member_range(work, gathered, begun, end)
 }
