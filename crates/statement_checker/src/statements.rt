@@ -117,7 +117,7 @@ fn check_sequence(
 }
 
 #[cycle(statements)]
-#[tactic(auto, using(check_steps::proofs::Runs::loops))]
+#[tactic(auto, using(check_steps::proofs::Runs::loops, check_steps::proofs::Runs::steps), unfolding(crate::specs::Statements::next_statement))]
 fn check_more_statements(
     work: &mut Work,
     others: &[NextStatement],
@@ -128,23 +128,10 @@ fn check_more_statements(
 {
     let mut last = first;
     'others: for other in others {
-        last = check_next_statement(work, other, frame, last)?;
+        let number = check_statement(work, &other.statement, frame)?;
+        last = add_element(work, last, other.semicolon, number);
     }
     Ok(last)
-}
-
-#[cycle(statements)]
-#[tactic(auto, using(check_steps::proofs::Runs::steps), unfolding(crate::specs::Statements::next_statement))]
-fn check_next_statement(
-    work: &mut Work,
-    n: &NextStatement,
-    frame: u32,
-    last: Element,
-) -> Result<Element, AllocError>
-    ensures { IfOk result (λ e. Does (next_statement frame last n.now) e work.old work.new) }
-{
-    let number = check_statement(work, &n.statement, frame)?;
-    Ok(add_element(work, last, n.semicolon, number))
 }
 
 #[cycle(statements)]
@@ -183,7 +170,7 @@ fn check_case(work: &mut Work, x: &Case, frame: u32, label: Option<u32>) -> Resu
 }
 
 #[cycle(statements)]
-#[tactic(auto, using(check_steps::proofs::Runs::loops))]
+#[tactic(auto, using(check_steps::proofs::Runs::loops, check_steps::proofs::Runs::steps), unfolding(crate::specs::Statements::next_branch))]
 fn check_more_branches(
     work: &mut Work,
     others: &[NextBranch],
@@ -195,25 +182,11 @@ fn check_more_branches(
 {
     let mut last = first;
     'others: for other in others {
-        last = check_next_branch(work, other, frame, choosing, last)?;
+        let number = check_statement(work, &other.branch.statement, frame)?;
+        let constants = &other.branch.constants;
+        last = check_choices(work, choosing, number, last, other.semicolon, constants)?;
     }
     Ok(last)
-}
-
-#[cycle(statements)]
-#[tactic(auto, using(check_steps::proofs::Runs::steps), unfolding(crate::specs::Statements::next_branch))]
-fn check_next_branch(
-    work: &mut Work,
-    n: &NextBranch,
-    frame: u32,
-    choosing: Choosing,
-    last: u32,
-) -> Result<u32, AllocError>
-    ensures { IfOk result (λ e. Does (next_branch frame choosing last n.now) e work.old work.new) }
-{
-    let number = check_statement(work, &n.branch.statement, frame)?;
-    let constants = &n.branch.constants;
-    check_choices(work, choosing, number, last, n.semicolon, constants)
 }
 
 #[cycle(statements)]
