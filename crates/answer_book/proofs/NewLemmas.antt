@@ -1,54 +1,77 @@
--- A new book is kept.
-use Rattle.std.proofs.Common.{◌≡◌, ℕ, ◌<◌, ◌≤◌, Bool, false, List, [], Option, get_or, Some, None, length, set, replicate, get_or-set_other, get_or-set_same}
-use Rattle.std.proofs.Common.{refl, sym, ap, ◌∙◌, inl, inr, arith}
-use Rattle.std.specs.Prelude.{All}
-use Rattle.std.proofs.lemmas.Bool.{cases_eq}
-use Rattle.std.proofs.lemmas.List.{get_or-replicate, length-map, length-replicate, length-set}
-use Rattle.std.proofs.lemmas.List.Elements.{All-map, All-nil, All-push}
+-- A new book is kept, and one with an entry more.
+use Rattle.std.proofs.Common.{◌≡◌, ℕ, ◌<◌, ◌≤◌, Bool, true, false, List, [], ◌∷◌, ◌++◌, Option, Some, None, length, replicate, set, sym, ap, subst, ◌∙◌}
+use Rattle.std.proofs.Common.{append-nil}
+use Rattle.std.specs.Prelude.{All, map}
+use Rattle.std.proofs.lemmas.Bool.{cond-false}
+use Rattle.std.proofs.lemmas.List.{get_or-replicate, length-replicate}
+use Rattle.std.proofs.lemmas.List.Elements.{All-map, All-nil, All-push, filter_map-append}
 use Rattle.std.proofs.lemmas.List.FromFn.{fill_by_all}
 use Rattle.call_tree.specs.Recording.{Recording, routines_of}
 use Rattle.call_tree.specs.declared.records.Call.{Call}
 use Rattle.answer_book.specs.declared.entries.Entry.{Entry}
 use Rattle.answer_book.specs.declared.entries.Judgement.{Judgement}
-use Rattle.answer_book.specs.declared.entries.Judgement.TheVariants.{Wrong}
-use Rattle.answer_book.specs.declared.entries.What.TheVariants.{Judged}
-use Rattle.answer_book.specs.Answers.{new_book}
-use Rattle.answer_book.specs.Entries.{entry_saying, first_entries, standing_answers}
+use Rattle.answer_book.specs.declared.entries.What.{What}
+use Rattle.answer_book.specs.declared.entries.What.TheVariants.{Judged, Trusted}
+use Rattle.answer_book.specs.Answers.{Answers, book_with, with_entry}
+use Rattle.answer_book.specs.Entries.{entry_saying, said_by, standing_answers}
 use Rattle.answer_book.specs.InRange.{IsInRange}
 use Rattle.answer_book.specs.Kept.{AreKept}
 use Rattle.answer_book.specs.Marks.{is_trusted, last_judgement}
-use Rattle.answer_book.proofs.EntryLemmas.{last_with_other, on_another}
+use Rattle.answer_book.specs.Numbers.{numbers_below}
+use Rattle.answer_book.proofs.FilterMaps.{gives_none}
+use Rattle.answer_book.proofs.KeptLemmas.{judged_is_kept, trusted_is_kept}
 
-first_judged : (n : ℕ) → 0 < n → (k : ℕ) → k < n
-    → get_or (set (replicate n None) 0 (Some Wrong)) k None ≡ last_judgement (standing_answers first_entries) k
-first_judged n some k inside = elim (cases_eq k 0) [
-  | inl same ↦
-      ap (λ i. get_or (set (replicate n None) 0 (Some Wrong)) i None) same
-      ∙ get_or-set_same (replicate n None) 0 (Some Wrong) None (omega (arith, some, length-replicate {A = Option Judgement} n None))
-      ∙ ap (last_judgement (standing_answers first_entries)) (sym same)
-  | inr differs ↦
-      get_or-set_other (replicate n None) 0 k (Some Wrong) None differs ∙ get_or-replicate n k None None inside
-      ∙ sym (last_with_other [] (Judged 0 Wrong) k (on_another 0 k Wrong differs))
-]
-
-pub new_is_kept : (run : Recording) (judged : List (Option Judgement)) (trusted : List Bool) → 0 < length run.calls → length (routines_of run.calls) ≤ 500000
-    → All (λ (call : Call). call.routine < run.routines) run.calls → judged ≡ set (replicate (length (routines_of run.calls)) None) 0 (Some Wrong)
-    → trusted ≡ replicate run.routines false → AreKept (new_book run) judged trusted
-new_is_kept run judged trusted some few known is none =
+pub empty_is_kept : (run : Recording) (judged : List (Option Judgement)) (trusted : List Bool) → length (routines_of run.calls) ≤ 500000
+    → All (λ (call : Call). call.routine < run.routines) run.calls → judged ≡ replicate (length (routines_of run.calls)) None
+    → trusted ≡ replicate run.routines false → AreKept (book_with run []) judged trusted
+empty_is_kept run judged trusted few known unjudged untrusted =
     let n = length (routines_of run.calls) in
-    let long : 0 < n = omega (arith, some, length-map run.calls (λ (call : Call). call.routine)) in
     record {
       few = few;
       known = All-map (λ routine. routine < run.routines) (λ (call : Call). call.routine) run.calls known;
-      named =
-          All-push (λ (entry : Entry). IsInRange n run.routines entry.what) [] (entry_saying (Judged 0 Wrong))
-          (All-nil (λ (entry : Entry). IsInRange n run.routines entry.what)) long;
+      named = All-nil (λ (entry : Entry). IsInRange n run.routines entry.what);
       judged_calls =
-          is ∙ fill_by_all (last_judgement (standing_answers first_entries)) (set (replicate n None) 0 (Some Wrong)) n None
-          (length-set (replicate n None) 0 (Some Wrong) ∙ length-replicate n None) (first_judged n long);
+          unjudged ∙ fill_by_all (last_judgement []) (replicate n None) n None (length-replicate n None)
+          (λ k inside. get_or-replicate n k None None inside);
       trusted_routines =
-          none
-          ∙ fill_by_all (is_trusted (standing_answers first_entries)) (replicate run.routines false) run.routines false
-          (length-replicate run.routines false)
+          untrusted ∙ fill_by_all (is_trusted []) (replicate run.routines false) run.routines false (length-replicate run.routines false)
           (λ k inside. get_or-replicate run.routines k false false inside);
+    }
+
+-- an entry that stands and says this
+saying_is : (entry : Entry) (what : What) → entry.standing ≡ true → entry.what ≡ what → entry_saying what ≡ entry
+saying_is entry what stands is = sym (λ i. record { what = is i; standing = stands i })
+
+pub judgement_put : (book : Answers) (judged : List (Option Judgement)) (trusted : List Bool) (entry : Entry) (call : ℕ) (judgement : Judgement)
+    → entry.standing ≡ true → entry.what ≡ Judged call judgement → call < length book.routine → AreKept book judged trusted
+    → AreKept (with_entry book entry) (set judged call (Some judgement)) trusted
+judgement_put book judged trusted entry call judgement stands is inside kept =
+    subst (λ (e : Entry). AreKept (with_entry book e) (set judged call (Some judgement)) trusted) (saying_is entry (Judged call judgement) stands is)
+    (judged_is_kept book judged trusted call judgement inside kept)
+
+pub trust_put : (book : Answers) (judged : List (Option Judgement)) (trusted : List Bool) (entry : Entry) (routine : ℕ)
+    → entry.standing ≡ true → entry.what ≡ Trusted routine → routine < book.routines → AreKept book judged trusted
+    → AreKept (with_entry book entry) judged (set trusted routine true)
+trust_put book judged trusted entry routine stands is inside kept =
+    subst (λ (e : Entry). AreKept (with_entry book e) judged (set trusted routine true)) (saying_is entry (Trusted routine) stands is)
+    (trusted_is_kept book judged trusted routine inside kept)
+
+-- an entry that was taken back says nothing
+says_nothing : (entries : List Entry) (entry : Entry) → entry.standing ≡ false
+    → standing_answers entries ≡ standing_answers (entries ++ entry ∷ [])
+says_nothing entries entry off =
+    sym (filter_map-append said_by entries (entry ∷ [])
+    ∙ ap (λ l. standing_answers entries ++ l) (gives_none said_by entry (cond-false entry.standing (Some entry.what) None off))
+    ∙ append-nil (standing_answers entries))
+
+pub taken_back_put : (book : Answers) (judged : List (Option Judgement)) (trusted : List Bool) (entry : Entry) → entry.standing ≡ false
+    → IsInRange (length book.routine) book.routines entry.what → AreKept book judged trusted → AreKept (with_entry book entry) judged trusted
+taken_back_put book judged trusted entry off named kept =
+    let same = says_nothing book.entries entry off in
+    record {
+      few = kept.few;
+      known = kept.known;
+      named = All-push (λ (e : Entry). IsInRange (length book.routine) book.routines e.what) book.entries entry kept.named named;
+      judged_calls = kept.judged_calls ∙ ap (λ l. map (last_judgement l) (numbers_below (length book.routine))) same;
+      trusted_routines = kept.trusted_routines ∙ ap (λ l. map (is_trusted l) (numbers_below book.routines)) same;
     }

@@ -1,5 +1,6 @@
 -- What a book holds: the calls that it is about, and the entries; and what it answers to a change.
-use Rattle.std.specs.Prelude.{ℕ, ◌+◌, ◌==◌, nat_le, if◌then◌else◌, List, Option, Some, None, Result, Ok, Err, length}
+use Rattle.std.specs.Prelude.{ℕ, ◌+◌, nat_le, if◌then◌else◌, List, [], ◌∷◌, ◌++◌, Option, Some, None}
+use Rattle.std.specs.Prelude.{Result, Ok, Err, length}
 use Rattle.answer_book.specs.declared.entries.BookFault.{BookFault}
 use Rattle.answer_book.specs.declared.entries.BookFault.TheVariants as fault
 use Rattle.answer_book.specs.declared.entries.Entry.{Entry}
@@ -39,6 +40,10 @@ number_or_fault None = Err fault.NothingStanding
 abbrev pub take_back_last_answer : Answers → Result ℕ BookFault
 take_back_last_answer book = number_or_fault (last_standing book.entries)
 
+-- the book with one more entry, as one that stands or was taken back
+abbrev pub with_entry : Answers → Entry → Answers
+with_entry book entry = record book { entries = book.entries ++ entry ∷ [] }
+
 -- the book with one more entry, which says this
 abbrev pub with_answer : Answers → What → Answers
 with_answer book what = record book { entries = entries_with book.entries what }
@@ -47,6 +52,10 @@ with_answer book what = record book { entries = entries_with book.entries what }
 abbrev pub without_answer : Answers → ℕ → Answers
 without_answer book number = record book { entries = entries_without book.entries number }
 
+-- the book of a run with these entries
+abbrev pub book_with : Recording → List Entry → Answers
+book_with run entries = record { routine = routines_of run.calls; routines = run.routines; entries = entries }
+
 -- the book of a run before anything is said
 abbrev pub new_book : Recording → Answers
-new_book run = record { routine = routines_of run.calls; routines = run.routines; entries = first_entries }
+new_book run = book_with run first_entries

@@ -1,8 +1,9 @@
 //! The book of a search.
-ghost use Rattle.std.specs.Prelude.{◌≡◌, ◌<◌, ◌≤◌, [], true, IfOk, OnErr, OnOk, Some, length};
+ghost use Rattle.std.specs.Prelude.{◌≡◌, ◌<◌, ◌≤◌, [], true, All, IfOk, OnErr, OnOk, Some, length};
 ghost use Rattle.answer_book.specs.Accused.{accused_of};
-ghost use Rattle.answer_book.specs.Answers.{judge_answer, new_book, take_back_answer, take_back_last_answer};
-ghost use Rattle.answer_book.specs.Answers.{trust_answer, with_answer, without_answer};
+ghost use Rattle.answer_book.specs.Answers.{book_with, judge_answer, new_book, take_back_answer};
+ghost use Rattle.answer_book.specs.Answers.{take_back_last_answer, trust_answer, with_answer, with_entry};
+ghost use Rattle.answer_book.specs.Answers.{without_answer};
 ghost use Rattle.answer_book.specs.Entries.{entry_at, is_standing, standing_answers};
 ghost use Rattle.answer_book.specs.InRange.{IsInRange};
 ghost use Rattle.answer_book.specs.Marks.{mark_of};
@@ -21,8 +22,8 @@ use std::snapshot::Snapshot;
 /// The book of one run: its entries, numbered from 1. Clauses see the routine of each call, the
 /// number of routines, and the list of the entries.
 ///
-/// A book has room for 100,000 entries from the start, so that no call but `new` takes memory. A
-/// change that is refused leaves the book as it was.
+/// A book has room for 100,000 entries from the start, so that no call but `new` and `with_entries`
+/// takes memory. A change that is refused leaves the book as it was.
 #[derive(Drop)]
 pub struct Book {
     calls: Snapshot<Calls>,
@@ -44,17 +45,14 @@ impl Model for Book {
 }
 
 impl Book {
-    /// The book of these calls, of which there is one at least and all were left. Its first entry
-    /// says that call 0 is wrong.
-    pub fn new(alloc: Global, calls: &Calls) -> Result<Book, Memory>
-        requires a_call { 0 < length calls.now.calls }
+    /// The book of these calls with no entry.
+    fn empty(alloc: Global, calls: &Calls) -> Result<Book, Memory>
         requires all_left { calls.now.open_calls ≡ [] }
-        ensures { IfOk result (λ book. book ≡ new_book calls.now) }
+        ensures { IfOk result (λ book. book ≡ book_with calls.now []) }
     {
         calls.are_numbered();
-        let entries = EntryList::new(alloc)?;
-        let mut judged = JudgedCalls::new(alloc, calls.len())?;
-        judged.set(0, Some(Judgement::Wrong));
+        let entries = EntryList::empty(alloc)?;
+        let judged = JudgedCalls::new(alloc, calls.len())?;
         let trusted = vec![in alloc; false; calls.routines() as usize]?;
         Ok(Book {
             calls: Snapshot::of(calls),
@@ -62,6 +60,51 @@ impl Book {
             judged,
             trusted,
         })
+    }
+
+    /// Puts an entry at the end, as one that stands or was taken back.
+    fn put(&mut self, entry: Entry)
+        requires room { length self.old.entries < 100000 }
+        requires named { IsInRange (length self.old.routine) self.old.routines entry.what }
+        ensures { self.new ≡ with_entry self.old entry }
+    {
+        self.entries.put(entry);
+        if entry.standing {
+            match entry.what {
+                What::Judged(call, judgement) => self.judged.set(call, Some(judgement)),
+                What::Trusted(routine) => self.trusted[routine as usize] = true,
+            }
+        }
+    }
+
+    /// The book of these calls, of which there is one at least and all were left. Its first entry
+    /// says that call 0 is wrong.
+    pub fn new(alloc: Global, calls: &Calls) -> Result<Book, Memory>
+        requires a_call { 0 < length calls.now.calls }
+        requires all_left { calls.now.open_calls ≡ [] }
+        ensures { IfOk result (λ book. book ≡ new_book calls.now) }
+    {
+        let mut book = Book::empty(alloc, calls)?;
+        book.put(Entry {
+            what: What::Judged(0, Judgement::Wrong),
+            standing: true,
+        });
+        Ok(book)
+    }
+
+    /// The book of these calls, which all were left, with these entries: at most 100,000, which name
+    /// calls and routines that there are. It looks at each call and each entry once.
+    pub fn with_entries(alloc: Global, calls: &Calls, entries: &[Entry]) -> Result<Book, Memory>
+        requires all_left { calls.now.open_calls ≡ [] }
+        requires few { length entries.now ≤ 100000 }
+        requires named { All (λ entry. IsInRange (length calls.now.calls) calls.now.routines entry.what) entries.now }
+        ensures { IfOk result (λ book. book ≡ book_with calls.now entries.now) }
+    {
+        let mut book = Book::empty(alloc, calls)?;
+        'places: for place in 0..entries.len() {
+            book.put(entries[place]);
+        }
+        Ok(book)
     }
 
     /// Adds a judgement on the call, and answers the number of the entry: `NoCall` where there is no

@@ -1,5 +1,5 @@
 //! The list of the entries of a book.
-ghost use Rattle.std.specs.Prelude.{◌≡◌, ℕ, ◌<◌, ◌≤◌, true, IfOk, OnErr, OnOk, Some, length};
+ghost use Rattle.std.specs.Prelude.{◌≡◌, ℕ, ◌<◌, ◌≤◌, [], ◌∷◌, ◌++◌, true, IfOk, OnErr, OnOk, Some, length};
 ghost use Rattle.std.specs.List.{filter_map, list_any};
 ghost use Rattle.answer_book.specs.Entries.{entries_with, entries_without, entry_at, entry_saying, first_entries};
 ghost use Rattle.answer_book.specs.Entries.{is_standing, last_standing};
@@ -54,16 +54,24 @@ fn is_trust(entry: Entry, routine: u32) -> bool
 }
 
 impl EntryList {
+    /// No entries.
+    pub(crate) fn empty(alloc: Global) -> Result<EntryList, Memory>
+        ensures { IfOk result (λ entries. entries ≡ []) }
+    {
+        let items = Vec::with_capacity(alloc, MOST_ENTRIES)?;
+        Ok(EntryList { items })
+    }
+
     /// The entries of a new book.
     pub fn new(alloc: Global) -> Result<EntryList, Memory>
         ensures { IfOk result (λ entries. entries ≡ first_entries) }
     {
-        let mut items = Vec::with_capacity(alloc, MOST_ENTRIES)?;
-        items.push(Entry {
+        let mut entries = EntryList::empty(alloc)?;
+        entries.put(Entry {
             what: What::Judged(0, Judgement::Wrong),
             standing: true,
-        })?;
-        Ok(EntryList { items })
+        });
+        Ok(entries)
     }
 
     /// The number of entries.
@@ -91,6 +99,17 @@ impl EntryList {
         number > 0 && number <= self.items.len() && self.items[number - 1].standing
     }
 
+    /// Puts an entry at the end, as one that stands or was taken back.
+    pub(crate) fn put(&mut self, entry: Entry)
+        requires room { length self.old < 100000 }
+        ensures { self.new ≡ self.old ++ entry ∷ [] }
+    {
+        match self.items.push(entry) {
+            Ok(()) => {}
+            Err(_) => unreachable!(),
+        }
+    }
+
     /// Adds an entry that says this, and answers its number.
     pub fn add(&mut self, what: What) -> Result<u32, BookFault>
         ensures answer { result ≡ next_number self.old }
@@ -100,14 +119,11 @@ impl EntryList {
         if self.items.len() >= MOST_ENTRIES {
             return Err(BookFault::Full);
         }
-        let entry = Entry {
+        self.put(Entry {
             what,
             standing: true,
-        };
-        match self.items.push(entry) {
-            Ok(()) => Ok(self.items.len() as u32),
-            Err(_) => unreachable!(),
-        }
+        });
+        Ok(self.len())
     }
 
     /// Takes back the entry of this number, and answers what it said.

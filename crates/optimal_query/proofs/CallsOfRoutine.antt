@@ -69,6 +69,32 @@ up_to_all {book} {marks} {routine} {from} up last =
       | inr later ↦ up.others call within (λ e. last.none.0 refl call later (record { inside = within; same = e }))
     ])
 
+-- each call before `from` has its mark
+pub record AreBefore (book : Answers) (marks : List Mark) (from : ℕ) : Type 0 where
+  pub each : length marks ≡ length book.routine
+  pub before : (call : ℕ) → call < from → mark_at marks call ≡ mark_of book.routine (standing_answers book.entries) call
+
+-- the next call gets its mark
+pub before_next : {book : Answers} {marks : List Mark} {from : ℕ} (mark : Mark) → AreBefore book marks from → from < length marks
+    → mark ≡ mark_of book.routine (standing_answers book.entries) from → AreBefore book (slice_set marks from mark) (from + 1)
+before_next {book} {marks} {from} mark are inside is =
+    let own = mark_of book.routine (standing_answers book.entries) in
+    record {
+      each = length-set marks from mark ∙ are.each;
+      before = λ call early. elim (cases_eq call from) [
+        | inl same ↦
+            ap (mark_at (slice_set marks from mark)) same ∙ get_or-set_same marks from mark Unjudged inside ∙ is ∙ ap own (sym same)
+        | inr differs ↦ get_or-set_other marks from call mark Unjudged differs ∙ are.before call (omega arith)
+      ];
+    }
+
+-- after the last one all have theirs
+pub before_all : {book : Answers} {marks : List Mark} {from : ℕ} → AreBefore book marks from → length marks ≤ from
+    → marks ≡ marks_of book.routine (standing_answers book.entries)
+before_all {book} {marks} {from} are end =
+    fill_by_all (mark_of book.routine (standing_answers book.entries)) marks (length book.routine) Unjudged are.each
+    (λ call within. are.before call (omega (arith, are.each)))
+
 sum_more : (f : ℕ → ℕ) (n : ℕ) → sum_by f (numbers_below (suc n)) ≡ sum_by f (numbers_below n) + f n
 sum_more f n = ap (λ (l : List ℕ). sum_by f l) (numbers_suc n) ∙ sum_by_push f (numbers_below n) n
 

@@ -1,10 +1,11 @@
 -- A search as clauses see it: the last call of each call's subtree, the depth of each call, and the book, which has the
 -- routine of each call.
 use Rattle.std.specs.Prelude.{ℕ, List, Option}
+use Rattle.answer_book.specs.declared.entries.Entry.{Entry}
 use Rattle.answer_book.specs.declared.entries.What.{What}
 use Rattle.answer_book.specs.Accused.{accused_of}
-use Rattle.answer_book.specs.Answers.{Answers, new_book, with_answer, without_answer}
-use Rattle.answer_book.specs.Entries.{standing_answers}
+use Rattle.answer_book.specs.Answers.{Answers, book_with, with_answer, without_answer}
+use Rattle.answer_book.specs.Entries.{first_entries, standing_answers}
 use Rattle.answer_book.specs.Marks.{mark_of, marks_of}
 use Rattle.call_tree.specs.Recording.{Recording, depths_of, lasts_of}
 use Rattle.call_tree.specs.declared.records.Mark.{Mark}
@@ -17,9 +18,14 @@ pub record Search : Type 0 where
   pub depth : List ℕ
   pub book : Answers
 
+-- the search over a run with these entries
+abbrev pub search_over : Recording → List Entry → Search
+search_over run entries =
+    record { last = lasts_of run.calls; depth = depths_of run.calls; book = book_with run entries }
+
 -- the search over a run before anything is said
 abbrev pub new_search : Recording → Search
-new_search run = record { last = lasts_of run.calls; depth = depths_of run.calls; book = new_book run }
+new_search run = search_over run first_entries
 
 -- the search with one more entry, which says this, and where the entry of this number was taken back
 abbrev pub search_with : Search → What → Search

@@ -98,6 +98,30 @@ fn look_up<L>(
     }
 }
 
+/// Looks up the marks of all calls in the book, with a step for each of them.
+fn look_up_each<L>(
+    calls: &Calls,
+    book: &Book,
+    marks: &mut [Mark],
+    askable: &mut [u8],
+    steps: &mut Steps<L>,
+)
+    requires those_calls { routines_of calls.now.calls ≡ book.now.routine }
+    requires each { length marks.old ≡ length book.now.routine }
+    requires flags { askable.old ≡ map askable_flag marks.old }
+    requires few { length calls.now.calls ≤ 500000 }
+    ensures marks { marks.new ≡ marks_of book.now.routine (standing_answers book.now.entries) }
+    ensures askable { askable.new ≡ map askable_flag marks.new }
+    ensures cost { steps.new ≡ steps.old + length book.now.routine }
+{
+    'calls: for place in 0..marks.len() {
+        let mark = book.mark(calls, place as u32);
+        marks[place] = mark;
+        askable[place] = flag(mark);
+        steps.tick();
+    }
+}
+
 /// With no suspect left, what the search has come to.
 fn verdict(accused: Option<u32>, doubt: Option<u32>) -> State
     ensures { result ≡ verdict_from accused doubt }
@@ -211,6 +235,21 @@ impl Markings {
         } else {
             self.set_all(calls, book, routine, steps);
         }
+    }
+
+    /// Looks up the marks of all calls in the book.
+    pub fn look_up_all<L>(&mut self, calls: &Calls, book: &Book, steps: &mut Steps<L>)
+        requires those_calls { columns_of calls.now.calls ≡ self.old.columns }
+        requires the_book { routines_of calls.now.calls ≡ book.now.routine }
+        requires all_left { calls.now.open_calls ≡ [] }
+        ensures looked_up { self.new ≡ with_marks self.old
+            (marks_of book.now.routine (standing_answers book.now.entries)) }
+        ensures not_fallen { steps.old ≤ steps.new }
+        ensures cost { steps.new ≤ steps.old + 4 * calls_in self.old }
+    {
+        calls.are_numbered();
+        look_up_each(calls, book, &mut self.marks, &mut self.askable, steps);
+        self.weights.recount(calls, &self.marks, steps);
     }
 
     /// How many suspects there are.

@@ -1,20 +1,22 @@
 //! A search over the calls of one run.
-ghost use Rattle.std.specs.Prelude.{◌≡◌, ◌+◌, ◌<◌, ◌≤◌, [], Contains, IfOk, OnErr, OnOk, length};
+ghost use Rattle.std.specs.Prelude.{◌≡◌, ◌+◌, ◌*◌, ◌<◌, ◌≤◌, [], All, Contains, IfOk, OnErr, OnOk, length};
 ghost use Rattle.std.specs.Option.{ForSome};
 ghost use Rattle.answer_book.specs.Accused.{accused_of};
 ghost use Rattle.answer_book.specs.Answers.{judge_answer, take_back_answer, take_back_last_answer, trust_answer};
 ghost use Rattle.answer_book.specs.Entries.{entry_at, standing_answers};
+ghost use Rattle.answer_book.specs.InRange.{IsInRange};
 ghost use Rattle.answer_book.specs.Marks.{marks_of};
 ghost use Rattle.answer_book.specs.declared.entries.What.TheVariants as what;
 ghost use Rattle.call_tree.specs.Recording.{routines_of};
 ghost use Rattle.optimal_query.specs.Changed.{WereMarks, most_steps, most_steps_at};
-ghost use Rattle.optimal_query.specs.Search.{mark_now, new_search, next_doubt, search_with, search_without, state_now};
+ghost use Rattle.optimal_query.specs.Search.{mark_now, new_search, next_doubt, search_over, search_with};
+ghost use Rattle.optimal_query.specs.Search.{search_without, state_now};
 ghost use Rattle.subtree_weights.specs.RunColumns.{columns_of};
 ghost use Rattle.subtree_weights.specs.Weighed.{with_marks};
 
 use crate::markings::Markings;
 use crate::state::State;
-use answer_book::{Book, BookFault, Judgement, What};
+use answer_book::{Book, BookFault, Entry, Judgement, What};
 use call_tree::{Calls, Mark};
 use cell_value::{Memory, Steps};
 use std::alloc::Global;
@@ -22,8 +24,8 @@ use std::marker::Model;
 
 /// A search over these calls. Clauses see the columns of the calls, and the book.
 ///
-/// No call but `new` takes memory. A change that is refused leaves the search as it was. A step is
-/// one visit of the columns of weights and marks at one call.
+/// No call but `new` and `with_entries` takes memory. A change that is refused leaves the search as
+/// it was. A step is one visit of the columns of weights and marks at one call.
 #[derive(Drop)]
 pub struct Debug<'a> {
     calls: &'a Calls,
@@ -76,6 +78,34 @@ impl<'a> Debug<'a> {
         let mut steps: Steps<()> = Steps::new();
         let first = What::Judged(0, Judgement::Wrong);
         follow(calls, &book, &mut markings, first, &mut steps);
+        Ok(Debug {
+            calls,
+            book,
+            markings,
+        })
+    }
+
+    /// The search over these calls, of which there is one at least and all were left, with these
+    /// entries: at most 100,000, which name calls and routines that there are. Beside what `new`
+    /// takes, it looks at each entry once, and takes at most four steps for each call, however many
+    /// entries there are.
+    pub fn with_entries<L>(
+        alloc: Global,
+        calls: &'a Calls,
+        entries: &[Entry],
+        steps: &mut Steps<L>,
+    ) -> Result<Debug<'a>, Memory>
+        requires a_call { 0 < length calls.now.calls }
+        requires all_left { calls.now.open_calls ≡ [] }
+        requires few { length entries.now ≤ 100000 }
+        requires named { All (λ entry. IsInRange (length calls.now.calls) calls.now.routines entry.what) entries.now }
+        ensures search { IfOk result (λ search. search ≡ search_over calls.now entries.now) }
+        ensures not_fallen { steps.old ≤ steps.new }
+        ensures cost { steps.new ≤ steps.old + 4 * length calls.now.calls }
+    {
+        let book = Book::with_entries(alloc, calls, entries)?;
+        let mut markings = Markings::new(alloc, calls)?;
+        markings.look_up_all(calls, &book, steps);
         Ok(Debug {
             calls,
             book,

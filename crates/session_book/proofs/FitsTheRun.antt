@@ -1,4 +1,4 @@
--- The entries of a session that fits a run name what there is, and the search stays one over the run.
+-- The entries of a session that fits a run name what there is, and the search with them is one over the run.
 use Rattle.std.proofs.Common.{◌≡◌, ℕ, ◌+◌, ◌<◌, ◌==◌, Bool, true, false, List, [], ◌∷◌, Option, Some, None, length, nat_lt, not, if◌then◌else◌}
 use Rattle.std.proofs.Common.{ap, sym, ◌∙◌, subst, refl, ltb-true}
 use Rattle.std.specs.Prelude.{All}
@@ -9,15 +9,16 @@ use Rattle.answer_book.specs.declared.entries.Entry.{Entry}
 use Rattle.answer_book.specs.declared.entries.What.{What}
 use Rattle.answer_book.specs.declared.entries.What.TheVariants.{Judged, Trusted}
 use Rattle.answer_book.specs.InRange.{IsInRange}
-use Rattle.dialog_replies.specs.Kept.{IsSearchOf}
+use Rattle.call_tree.specs.Recording.{Recording}
+use Rattle.dialog_replies.specs.Kept.{AreCallsOf, IsSearchOf}
 use Rattle.dialog_replies.specs.Subject.{Subject, calls_of}
-use Rattle.optimal_query.specs.Search.{Search}
+use Rattle.dialog_replies.proofs.ColumnsOfCalls.{calls_counted, new_is_search}
+use Rattle.optimal_query.specs.Search.{search_over}
 use Rattle.session_file.specs.declared.session.Session.{Session}
 use Rattle.session_book.specs.declared.misfits.Misfit.{Misfit}
 use Rattle.session_book.specs.declared.misfits.Misfit.TheVariants.{Source, Input, Budget, Call, Routine}
 use Rattle.session_book.specs.declared.start.Start.{Start}
 use Rattle.session_book.specs.Fit.{entries_misfit, misfit, named_beyond, saved_misfit, session_misfit}
-use Rattle.session_book.specs.Having.{search_having}
 
 -- they name calls and routines that there are
 abbrev pub AreNamed : ℕ → ℕ → List Entry → Type 0
@@ -54,25 +55,26 @@ session_named s start session none =
     let entries = same (start.budget == session.budget) (Budget start.budget session.budget) _ budget in
     all_named s 1 session.entries entries
 
-in_book : (s : Subject) (search : Search) (entries : List Entry) → IsSearchOf s search → AreNamed (calls_of s) s.routines entries
-    → AreNamed (length search.book.routine) search.book.routines entries
-in_book s search entries h all =
-    let calls : calls_of s ≡ length search.book.routine = ap length (sym h.last) ∙ sym h.of_routines in
-    subst (λ n. AreNamed n search.book.routines entries) calls (subst (λ n. AreNamed (calls_of s) n entries) (sym h.routines) all)
-
 -- the entries of the session that is gone on with
-pub entries_named : (s : Subject) (start : Start) (session : Session) (search : Search) → IsSearchOf s search → start.saved ≡ Some session
-    → misfit s start ≡ None → AreNamed (length search.book.routine) search.book.routines session.entries
+pub entries_named : (s : Subject) (start : Start) (session : Session) → start.saved ≡ Some session → misfit s start ≡ None
+    → AreNamed (calls_of s) s.routines session.entries
 unfolding misfit
-entries_named s start session search h is fits =
-    in_book s search session.entries h (session_named s start session (sym (ap (saved_misfit s start) is) ∙ fits))
+entries_named s start session is fits = session_named s start session (sym (ap (saved_misfit s start) is) ∙ fits)
 
--- other entries change nothing of that
-pub still_search : (s : Subject) (search : Search) (entries : List Entry) → IsSearchOf s search → IsSearchOf s (search_having search entries)
-still_search s search entries h = record {
-  last = h.last;
-  routine = h.routine;
-  routines = h.routines;
-  of_routines = h.of_routines;
-  some = h.some;
-}
+-- the calls and routines that there are are those of the run
+pub named_in_run : (s : Subject) (run : Recording) (entries : List Entry) → AreCallsOf s run → AreNamed (calls_of s) s.routines entries
+    → AreNamed (length run.calls) run.routines entries
+named_in_run s run entries h all =
+    subst (λ n. AreNamed n run.routines entries) (calls_counted s run h) (subst (λ n. AreNamed (calls_of s) n entries) h.routines all)
+
+-- whatever its entries are, a search over the calls of a run is one over them
+pub over_the_run : (s : Subject) (run : Recording) (entries : List Entry) → AreCallsOf s run → IsSearchOf s (search_over run entries)
+over_the_run s run entries h =
+    let new = new_is_search s run h in
+    record {
+      last = new.last;
+      routine = new.routine;
+      routines = new.routines;
+      of_routines = new.of_routines;
+      some = new.some;
+    }

@@ -1,4 +1,3 @@
 pub mod Start
 pub mod Fit
 pub mod Lines
-pub mod Having

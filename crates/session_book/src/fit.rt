@@ -13,7 +13,7 @@ use session_file::Session;
 use std::alloc::Global;
 
 /// The entry at a place, counted from 0.
-pub(crate) fn entry_at(entries: &[Entry], place: usize) -> Entry
+fn entry_at(entries: &[Entry], place: usize) -> Entry
     requires { place < length entries.now }
     ensures { slice_get entries.now place ≡ Some result }
 {

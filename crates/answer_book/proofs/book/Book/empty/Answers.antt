@@ -1,0 +1,18 @@
+use Rattle.std.proofs.Common.{◌≡◌, ◌≤◌, None, false, length, replicate, ap, sym, ◌∙◌, rules, arith}
+use Rattle.std.proofs.lemmas.List.{length-map}
+use Rattle.call_tree.specs.declared.records.Call.{Call}
+use Rattle.call_tree.specs.Recording.{routines_of}
+use Rattle.answer_book.proofs.NewLemmas.{empty_is_kept}
+use Rattle.answer_book.proofs.book.Book.empty.Goals as goal
+
+pub invariant_of-result : goal.invariant_of-result
+invariant_of-result c =
+    let run = c.args.calls.now in
+    let long = length-map run.calls (λ (call : Call). call.routine) in
+    let few : length (routines_of run.calls) ≤ 500000 = omega (arith, c.are_numbered.ensures.few) in
+    let judged : c.in_ok-judged.judged ≡ replicate (length (routines_of run.calls)) None =
+    c.in_ok-judged.ensures ∙ ap (λ n. replicate n None) (c.len.ensures ∙ sym long) in
+    let trusted : c.in_ok-trusted.trusted.items ≡ replicate run.routines false =
+    (let all : c.in_ok-trusted.trusted.items ≡ replicate c.routines.result false = search rules in all) ∙ ap (λ n. replicate n false) c.routines.ensures in
+    rw (c.of.ensures, c.in_ok-entries.ensures)
+    (empty_is_kept run c.in_ok-judged.judged c.in_ok-trusted.trusted.items few c.are_numbered.ensures.known judged trusted)

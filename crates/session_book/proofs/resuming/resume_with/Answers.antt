@@ -1,0 +1,21 @@
+use Rattle.std.proofs.Common.{arith, sym, subst}
+use Rattle.optimal_query.specs.Search.{Search}
+use Rattle.dialog_replies.specs.Kept.{IsSearchOf}
+use Rattle.dialog_replies.proofs.ColumnsOfCalls.{calls_counted}
+use Rattle.session_book.proofs.FitsTheRun.{named_in_run, over_the_run}
+use Rattle.session_book.proofs.resuming.resume_with.Goals as goal
+
+pub with_entries-requires-clause-a_call : goal.with_entries-requires-clause-a_call
+with_entries-requires-clause-a_call g c =
+    let counted = calls_counted (g.D.Debugged.subject c.args.run.now) c.calls.result.now c.calls.ensures in
+    omega (arith, c.calls.ensures.some)
+
+pub with_entries-requires-clause-named : goal.with_entries-requires-clause-named
+with_entries-requires-clause-named g c =
+    named_in_run (g.D.Debugged.subject c.args.run.now) c.calls.result.now c.args.entries.now c.calls.ensures c.requires.named
+
+pub returns-in-Ok-clause-search : goal.returns-in-Ok-clause-search
+returns-in-Ok-clause-search g c =
+    let s = g.D.Debugged.subject c.args.run.now in
+    subst (λ (search : Search). IsSearchOf s search) (sym c.in-Ok.ensures.search)
+    (over_the_run s c.calls.result.now c.args.entries.now c.calls.ensures)
