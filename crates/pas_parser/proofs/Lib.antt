@@ -1,4 +1,3 @@
 mod FirstRefusedToken
-pub mod StatementLists
 mod TerminalsOfTokens
 mod WholePrograms

@@ -1,4 +1,3 @@
-pub mod Closers
 pub mod Exact
 pub mod Formed
 pub mod Kinds

@@ -19,13 +19,13 @@ ghost use Rattle.pas_tree.specs.FirstFollow.{first_of, pascal};
 ghost use Rattle.pas_tree.proofs.Parts.{parts};
 ghost use Rattle.pas_phrases.specs.Items.{ReadsAs, items_from};
 
-use crate::statements::read_compound;
 use grammar::Terminal;
 use pas_denoters::{read_denoter, read_heading};
 use pas_phrases::ParseFault;
 use pas_phrases::constants::{read_constant, read_names};
 use pas_phrases::lists::{Part, read_list};
 use pas_phrases::looking::TerminalList;
+use pas_statements::read_compound;
 use pas_tree::blocks::{
     Block, Body, ConstantDefinition, ConstantPart, LabelPart, NextLabel, Parameters, Routine, Tree,
     TypeDefinition, TypePart, VariableDeclaration, VariablePart,

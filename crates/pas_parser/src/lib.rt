@@ -6,7 +6,6 @@ mod blocks;
 mod kinds;
 mod laws;
 mod parsing;
-mod statements;
 
 pub use laws::one_formed_tree;
 pub use parsing::{MAX_NESTING, parse};

@@ -1,33 +1,31 @@
-//! Reading statements.
+//! Reading statements (6.8).
 
 ghost use Rattle.std.specs.Prelude.{◌≡◌, ◌≤◌, ◌<◌, [], ◌∷◌, false, map, IfOk};
 ghost use Rattle.grammar.specs.declared.terminals.Terminal.TheVariants as k;
 ghost use Rattle.grammar.specs.Terminals.{passes};
-ghost use Rattle.grammar.specs.Nodes.{Pair, chain, leaf, next, row, step_node};
-ghost use Rattle.grammar.specs.Grammars.{by_end, by_until, many, nothing, seq, series, statement, word};
+ghost use Rattle.grammar.specs.Nodes.{chain, next};
+ghost use Rattle.grammar.specs.Grammars.{by_end, nothing, series, statement};
 ghost use Rattle.grammar.specs.Reading.{levels, read};
 ghost use Rattle.grammar.specs.Deciding.{expects};
 ghost use Rattle.pas_tree.specs.Denoters.{last_semicolon_node};
-ghost use Rattle.pas_tree.specs.Statements.{actual_node, actuals_node, alternative_node, branch_node, branch_step};
-ghost use Rattle.pas_tree.specs.Statements.{case_node, compound_node, for_node, if_node, label_node, next_access_node};
-ghost use Rattle.pas_tree.specs.Statements.{next_actual_node, next_statement_node, plain_node, repeat_node};
-ghost use Rattle.pas_tree.specs.Statements.{statement_node, statements_node, while_node, with_node};
-ghost use Rattle.pas_tree.specs.Rules.{actual_rule, actuals_rule, alternative_rule, assignment_starts, branch_rule};
-ghost use Rattle.pas_tree.specs.Rules.{case_rule, compound_rule, constant_starts, counted_rule, for_rule, if_rule};
-ghost use Rattle.pas_tree.specs.Rules.{label_rule, named_statement_rule, next_access_rule, next_actual_rule};
-ghost use Rattle.pas_tree.specs.Rules.{next_statement_rule, plain_rule, repeat_rule, statement_rule, statements_rule};
-ghost use Rattle.pas_tree.specs.Rules.{while_rule, with_rule};
+ghost use Rattle.pas_tree.specs.Statements.{actual_node, actuals_node, branch_node, branch_step, compound_node};
+ghost use Rattle.pas_tree.specs.Statements.{label_node, next_access_node, next_actual_node, plain_node, statement_node};
+ghost use Rattle.pas_tree.specs.Statements.{statements_node};
+ghost use Rattle.pas_tree.specs.Rules.{actual_rule, actuals_rule, assignment_starts, branch_rule, case_rule};
+ghost use Rattle.pas_tree.specs.Rules.{compound_rule, constant_starts, for_rule, if_rule, label_rule};
+ghost use Rattle.pas_tree.specs.Rules.{named_statement_rule, next_access_rule, next_actual_rule, plain_rule};
+ghost use Rattle.pas_tree.specs.Rules.{repeat_rule, statements_rule, while_rule, with_rule};
 ghost use Rattle.pas_tree.specs.FirstFollow.{first_of, follow_of, pascal};
 ghost use Rattle.pas_tree.proofs.Parts.{parts};
 ghost use Rattle.pas_phrases.specs.Items.{ReadsAs, items_from};
-ghost use Rattle.pas_parser.specs.Closers.{closer_of};
+ghost use Rattle.pas_statements.specs.Closers.{closer_of};
 
 use grammar::Terminal;
 use pas_expressions::{read_access, read_expression, read_selectors};
 use pas_phrases::ParseFault;
 use pas_phrases::constants::read_constants;
 use pas_phrases::lists::{Part, read_list};
-use pas_phrases::looking::TerminalList;
+use pas_phrases::looking::{TerminalList, is_one_of};
 use pas_phrases::operators::expect_direction;
 use pas_phrases::separators::{expect_else, is_next_case, read_last_semicolon};
 use pas_tree::expressions::Access;
@@ -45,7 +43,7 @@ pub enum ClosingWord {
     Until,
 }
 
-/// Reads a compound statement.
+/// Reads a compound statement, in which `depth` levels may be nested (6.8.3.2).
 #[cycle(statements)]
 #[tactic(auto, unfolding(grammar::specs::Reading::read, pas_tree::specs::Rules::compound_rule))]
 pub fn read_compound(
@@ -69,8 +67,8 @@ pub fn read_compound(
     Ok((compound, after))
 }
 
+/// Reads statements with semicolons between them (6.8.3.1).
 #[cycle(statements)]
-#[tactic(auto, using(pas_tree::proofs::StatementRolls::statements_rolled), unfolding(grammar::specs::Reading::read, pas_tree::specs::Rules::statements_rule))]
 fn read_statements(
     alloc: Global,
     tokens: &TerminalList,
@@ -82,57 +80,22 @@ fn read_statements(
         (read pascal depth (statements_rule (closer_of closer)) (items_from tokens.now at)) }
     ensures forward { IfOk result (λ x. at ≤ x.1) }
 {
-    let (first, after) = read_statement(alloc, tokens, at, depth, false, closer)?;
-    let (others, after) = read_next_statements(alloc, tokens, after, depth, closer)?;
-    Ok((Statements { first, others }, after))
-}
-
-#[cycle(statements)]
-#[tactic(auto, using(pas_phrases::proofs::ReadLists::list_reading, crate::proofs::StatementLists::next_statement_repeats))]
-fn read_next_statements(
-    alloc: Global,
-    tokens: &TerminalList,
-    at: u32,
-    depth: u32,
-    closer: ClosingWord,
-) -> Result<(Vec<NextStatement>, u32), ParseFault>
-    ensures gives { ReadsAs tokens.now (λ v. row (map next_statement_node v.items)) result
-        (read pascal depth (many (k.Semicolon ∷ []) (next_statement_rule (closer_of closer)))
-        (items_from tokens.now at)) }
-    ensures forward { IfOk result (λ x. at ≤ x.1) }
-{
+    let (first, start) = read_statement(alloc, tokens, at, depth, false, closer)?;
     let mut others = Vec::new(alloc);
-    let mut next = at;
+    let mut next = start;
     'statements: while tokens.is_next(next, Terminal::Semicolon) {
-        let (other, after) = read_next_statement(alloc, tokens, next, depth, closer)?;
-        others.push(other)?;
+        let (semicolon, after) = tokens.expect(next, Terminal::Semicolon)?;
+        let (statement, after) = read_statement(alloc, tokens, after, depth, false, closer)?;
+        others.push(NextStatement {
+            semicolon,
+            statement,
+        })?;
         next = after;
     }
-    Ok((others, next))
+    Ok((Statements { first, others }, next))
 }
 
-#[cycle(statements)]
-#[tactic(auto, unfolding(grammar::specs::Reading::read, pas_tree::specs::Rules::next_statement_rule))]
-fn read_next_statement(
-    alloc: Global,
-    tokens: &TerminalList,
-    at: u32,
-    depth: u32,
-    closer: ClosingWord,
-) -> Result<(NextStatement, u32), ParseFault>
-    ensures gives { ReadsAs tokens.now next_statement_node result
-        (read pascal depth (next_statement_rule (closer_of closer)) (items_from tokens.now at)) }
-    ensures forward { IfOk result (λ x. at < x.1) }
-{
-    let (semicolon, after) = tokens.expect(at, Terminal::Semicolon)?;
-    let (statement, after) = read_statement(alloc, tokens, after, depth, false, closer)?;
-    let next = NextStatement {
-        semicolon,
-        statement,
-    };
-    Ok((next, after))
-}
-
+/// Reads a statement, in which `depth` levels may be nested (6.8.1).
 #[cycle(statements)]
 #[tactic(auto, unfolding(grammar::specs::Reading::read, grammar::specs::Reading::levels, pas_tree::specs::Rules::statement_rule))]
 fn read_statement(
@@ -176,8 +139,9 @@ fn read_label(
     Ok((Some(Label { number, colon }), after))
 }
 
+/// Reads a statement without its label (6.8.2, 6.8.3).
 #[cycle(statements)]
-#[tactic(auto, unfolding(grammar::specs::Reading::read, pas_tree::specs::Rules::plain_rule, pas_tree::specs::Rules::goto_rule))]
+#[tactic(auto, unfolding(grammar::specs::Reading::read, pas_tree::specs::Rules::plain_rule, pas_tree::specs::Rules::goto_rule, pas_tree::specs::Rules::counted_rule))]
 fn read_plain(
     alloc: Global,
     tokens: &TerminalList,
@@ -190,60 +154,25 @@ fn read_plain(
         (read pascal depth (plain_rule inner (closer_of closer)) (items_from tokens.now at)) }
     ensures forward { IfOk result (λ x. at ≤ x.1) }
 {
-    if tokens.is_next(at, Terminal::Name) {
-        return read_named(alloc, tokens, at, depth);
+    match tokens.get(at) {
+        Some(Terminal::Name) => read_named(alloc, tokens, at, depth),
+        Some(Terminal::WGoto) => {
+            let (word, after) = tokens.expect(at, Terminal::WGoto)?;
+            let (label, after) = tokens.expect(after, Terminal::Number)?;
+            Ok((Plain::Goto(word, label), after))
+        }
+        Some(Terminal::WBegin) => {
+            let (compound, after) = read_compound(alloc, tokens, at, depth)?;
+            Ok((Plain::Compound(Box::new(alloc, compound)?), after))
+        }
+        Some(Terminal::WIf) => read_if(alloc, tokens, at, depth, inner, closer),
+        Some(Terminal::WCase) => read_case(alloc, tokens, at, depth),
+        Some(Terminal::WRepeat) => read_repeat(alloc, tokens, at, depth),
+        Some(Terminal::WWhile) => read_while(alloc, tokens, at, depth, inner, closer),
+        Some(Terminal::WFor) => read_for(alloc, tokens, at, depth, inner, closer),
+        Some(Terminal::WWith) => read_with(alloc, tokens, at, depth, inner, closer),
+        _ => Ok((Plain::Empty, at)),
     }
-    if tokens.is_next(at, Terminal::WGoto) {
-        let (word, after) = tokens.expect(at, Terminal::WGoto)?;
-        let (label, after) = tokens.expect(after, Terminal::Number)?;
-        return Ok((Plain::Goto(word, label), after));
-    }
-    if tokens.is_next(at, Terminal::WBegin) {
-        let (compound, after) = read_compound(alloc, tokens, at, depth)?;
-        return Ok((Plain::Compound(Box::new(alloc, compound)?), after));
-    }
-    if tokens.is_next(at, Terminal::WIf) {
-        let (statement, after) = read_if(alloc, tokens, at, depth, inner, closer)?;
-        return Ok((Plain::If(Box::new(alloc, statement)?), after));
-    }
-    if tokens.is_next(at, Terminal::WCase) {
-        let (statement, after) = read_case(alloc, tokens, at, depth)?;
-        return Ok((Plain::Case(Box::new(alloc, statement)?), after));
-    }
-    if tokens.is_next(at, Terminal::WRepeat) {
-        let (statement, after) = read_repeat(alloc, tokens, at, depth)?;
-        return Ok((Plain::Repeat(Box::new(alloc, statement)?), after));
-    }
-    read_counted(alloc, tokens, at, depth, inner, closer)
-}
-
-#[cycle(statements)]
-#[tactic(auto, unfolding(grammar::specs::Reading::read, pas_tree::specs::Rules::counted_rule))]
-fn read_counted(
-    alloc: Global,
-    tokens: &TerminalList,
-    at: u32,
-    depth: u32,
-    inner: bool,
-    closer: ClosingWord,
-) -> Result<(Plain, u32), ParseFault>
-    ensures gives { ReadsAs tokens.now plain_node result
-        (read pascal depth (counted_rule inner (closer_of closer)) (items_from tokens.now at)) }
-    ensures forward { IfOk result (λ x. at ≤ x.1) }
-{
-    if tokens.is_next(at, Terminal::WWhile) {
-        let (statement, after) = read_while(alloc, tokens, at, depth, inner, closer)?;
-        return Ok((Plain::While(Box::new(alloc, statement)?), after));
-    }
-    if tokens.is_next(at, Terminal::WFor) {
-        let (statement, after) = read_for(alloc, tokens, at, depth, inner, closer)?;
-        return Ok((Plain::For(Box::new(alloc, statement)?), after));
-    }
-    if tokens.is_next(at, Terminal::WWith) {
-        let (statement, after) = read_with(alloc, tokens, at, depth, inner, closer)?;
-        return Ok((Plain::With(Box::new(alloc, statement)?), after));
-    }
-    Ok((Plain::Empty, at))
 }
 
 #[tactic(auto, unfolding(grammar::specs::Reading::read, pas_tree::specs::Rules::named_statement_rule, pas_tree::specs::Rules::assignment_rule))]
@@ -352,6 +281,7 @@ fn read_actual(
     Ok((Actual { expression, width }, after))
 }
 
+/// Reads an if statement (6.8.3.4).
 #[cycle(statements)]
 #[tactic(auto, unfolding(grammar::specs::Reading::read, pas_tree::specs::Rules::if_rule, pas_tree::specs::Rules::else_rule, pas_tree::specs::Rules::alternative_rule))]
 fn read_if(
@@ -361,8 +291,8 @@ fn read_if(
     depth: u32,
     inner: bool,
     closer: ClosingWord,
-) -> Result<(If, u32), ParseFault>
-    ensures gives { ReadsAs tokens.now if_node result
+) -> Result<(Plain, u32), ParseFault>
+    ensures gives { ReadsAs tokens.now plain_node result
         (read pascal depth (if_rule inner (closer_of closer)) (items_from tokens.now at)) }
     ensures forward { IfOk result (λ x. at < x.1) }
 {
@@ -371,8 +301,12 @@ fn read_if(
     let (then, after) = tokens.expect(after, Terminal::WThen)?;
     let (statement, after) = read_statement(alloc, tokens, after, depth, true, closer)?;
     if tokens.is_next(after, Terminal::WElse) {
-        let (other, after) = read_else(alloc, tokens, after, depth, inner, closer)?;
-        let alternative = Some(other);
+        let (else_word, after) = expect_else(tokens, after)?;
+        let (other, after) = read_statement(alloc, tokens, after, depth, inner, closer)?;
+        let alternative = Some(Else {
+            word: else_word,
+            statement: other,
+        });
         let statement = If {
             word,
             condition,
@@ -380,7 +314,7 @@ fn read_if(
             statement,
             alternative,
         };
-        return Ok((statement, after));
+        return Ok((Plain::If(Box::new(alloc, statement)?), after));
     }
     let alternative = None;
     let statement = If {
@@ -390,28 +324,10 @@ fn read_if(
         statement,
         alternative,
     };
-    Ok((statement, after))
+    Ok((Plain::If(Box::new(alloc, statement)?), after))
 }
 
-#[cycle(statements)]
-#[tactic(auto, unfolding(grammar::specs::Reading::read, pas_tree::specs::Rules::alternative_rule))]
-fn read_else(
-    alloc: Global,
-    tokens: &TerminalList,
-    at: u32,
-    depth: u32,
-    inner: bool,
-    closer: ClosingWord,
-) -> Result<(Else, u32), ParseFault>
-    ensures gives { ReadsAs tokens.now alternative_node result
-        (read pascal depth (alternative_rule inner (closer_of closer)) (items_from tokens.now at)) }
-    ensures forward { IfOk result (λ x. at < x.1) }
-{
-    let (word, after) = expect_else(tokens, at)?;
-    let (statement, after) = read_statement(alloc, tokens, after, depth, inner, closer)?;
-    Ok((Else { word, statement }, after))
-}
-
+/// Reads a case statement (6.8.3.5).
 #[cycle(statements)]
 #[tactic(auto, using(pas_tree::proofs::StatementRolls::case_rolled), unfolding(grammar::specs::Reading::read, pas_tree::specs::Rules::case_rule))]
 fn read_case(
@@ -419,15 +335,16 @@ fn read_case(
     tokens: &TerminalList,
     at: u32,
     depth: u32,
-) -> Result<(Case, u32), ParseFault>
-    ensures gives { ReadsAs tokens.now case_node result (read pascal depth case_rule (items_from tokens.now at)) }
+) -> Result<(Plain, u32), ParseFault>
+    ensures gives { ReadsAs tokens.now plain_node result (read pascal depth case_rule (items_from tokens.now at)) }
     ensures forward { IfOk result (λ x. at < x.1) }
 {
     let (word, after) = tokens.expect(at, Terminal::WCase)?;
     let (selector, after) = read_expression(alloc, tokens, after, depth)?;
     let (of, after) = tokens.expect(after, Terminal::WOf)?;
     let (first, after) = read_branch(alloc, tokens, after, depth)?;
-    let ((others, semicolon, end), after) = read_case_end(alloc, tokens, after, depth)?;
+    let ((others, semicolon), after) = read_next_branches(alloc, tokens, after, depth)?;
+    let (end, after) = tokens.expect(after, Terminal::WEnd)?;
     let statement = Case {
         word,
         selector,
@@ -437,30 +354,12 @@ fn read_case(
         semicolon,
         end,
     };
-    Ok((statement, after))
+    Ok((Plain::Case(Box::new(alloc, statement)?), after))
 }
 
-/// Reads the branches after the first one, and the end of the case statement.
+/// Reads the branches after the first one, and a semicolon after the last one.
 #[cycle(statements)]
-#[tactic(auto, unfolding(grammar::specs::Reading::read))]
-fn read_case_end(
-    alloc: Global,
-    tokens: &TerminalList,
-    at: u32,
-    depth: u32,
-) -> Result<((Vec<NextBranch>, Option<u32>, u32), u32), ParseFault>
-    ensures gives { ReadsAs tokens.now (λ p. Pair (chain (map branch_step p.0.items) (last_semicolon_node p.1))
-        (leaf k.WEnd p.2)) result (read pascal depth
-        (seq (series k.Semicolon constant_starts branch_rule nothing) (word k.WEnd)) (items_from tokens.now at)) }
-    ensures forward { IfOk result (λ x. at < x.1) }
-{
-    let ((others, semicolon), after) = read_branches(alloc, tokens, at, depth)?;
-    let (end, after) = tokens.expect(after, Terminal::WEnd)?;
-    Ok(((others, semicolon, end), after))
-}
-
-#[cycle(statements)]
-fn read_branches(
+fn read_next_branches(
     alloc: Global,
     tokens: &TerminalList,
     at: u32,
@@ -473,31 +372,16 @@ fn read_branches(
     let mut others = Vec::new(alloc);
     let mut next = at;
     'branches: while is_next_case(tokens, next) {
-        let (other, after) = read_next_branch(alloc, tokens, next, depth)?;
-        others.push(other)?;
+        let (semicolon, after) = tokens.expect(next, Terminal::Semicolon)?;
+        let (branch, after) = read_branch(alloc, tokens, after, depth)?;
+        others.push(NextBranch { semicolon, branch })?;
         next = after;
     }
     let (end, after) = read_last_semicolon(tokens, next, depth)?;
     Ok(((others, end), after))
 }
 
-#[cycle(statements)]
-#[tactic(auto, unfolding(grammar::specs::Reading::read))]
-fn read_next_branch(
-    alloc: Global,
-    tokens: &TerminalList,
-    at: u32,
-    depth: u32,
-) -> Result<(NextBranch, u32), ParseFault>
-    ensures gives { ReadsAs tokens.now (λ n. step_node (branch_step n)) result
-        (read pascal depth (seq (word k.Semicolon) branch_rule) (items_from tokens.now at)) }
-    ensures forward { IfOk result (λ x. at < x.1) }
-{
-    let (semicolon, after) = tokens.expect(at, Terminal::Semicolon)?;
-    let (branch, after) = read_branch(alloc, tokens, after, depth)?;
-    Ok((NextBranch { semicolon, branch }, after))
-}
-
+/// Reads a case list element (6.8.3.5).
 #[cycle(statements)]
 #[tactic(auto, unfolding(grammar::specs::Reading::read, pas_tree::specs::Rules::branch_rule))]
 fn read_branch(
@@ -520,6 +404,7 @@ fn read_branch(
     Ok((branch, after))
 }
 
+/// Reads a repeat statement (6.8.3.7).
 #[cycle(statements)]
 #[tactic(auto, unfolding(grammar::specs::Reading::read, pas_tree::specs::Rules::repeat_rule))]
 fn read_repeat(
@@ -527,8 +412,8 @@ fn read_repeat(
     tokens: &TerminalList,
     at: u32,
     depth: u32,
-) -> Result<(Repeat, u32), ParseFault>
-    ensures gives { ReadsAs tokens.now repeat_node result (read pascal depth repeat_rule (items_from tokens.now at)) }
+) -> Result<(Plain, u32), ParseFault>
+    ensures gives { ReadsAs tokens.now plain_node result (read pascal depth repeat_rule (items_from tokens.now at)) }
     ensures forward { IfOk result (λ x. at < x.1) }
 {
     let (word, after) = tokens.expect(at, Terminal::WRepeat)?;
@@ -541,9 +426,10 @@ fn read_repeat(
         until,
         condition,
     };
-    Ok((statement, after))
+    Ok((Plain::Repeat(Box::new(alloc, statement)?), after))
 }
 
+/// Reads a while statement (6.8.3.8).
 #[cycle(statements)]
 #[tactic(auto, unfolding(grammar::specs::Reading::read, pas_tree::specs::Rules::while_rule))]
 fn read_while(
@@ -553,8 +439,8 @@ fn read_while(
     depth: u32,
     inner: bool,
     closer: ClosingWord,
-) -> Result<(While, u32), ParseFault>
-    ensures gives { ReadsAs tokens.now while_node result
+) -> Result<(Plain, u32), ParseFault>
+    ensures gives { ReadsAs tokens.now plain_node result
         (read pascal depth (while_rule inner (closer_of closer)) (items_from tokens.now at)) }
     ensures forward { IfOk result (λ x. at < x.1) }
 {
@@ -568,9 +454,10 @@ fn read_while(
         do_word,
         statement,
     };
-    Ok((statement, after))
+    Ok((Plain::While(Box::new(alloc, statement)?), after))
 }
 
+/// Reads a for statement (6.8.3.9).
 #[cycle(statements)]
 #[tactic(auto, unfolding(grammar::specs::Reading::read, pas_tree::specs::Rules::for_rule))]
 fn read_for(
@@ -580,8 +467,8 @@ fn read_for(
     depth: u32,
     inner: bool,
     closer: ClosingWord,
-) -> Result<(For, u32), ParseFault>
-    ensures gives { ReadsAs tokens.now for_node result
+) -> Result<(Plain, u32), ParseFault>
+    ensures gives { ReadsAs tokens.now plain_node result
         (read pascal depth (for_rule inner (closer_of closer)) (items_from tokens.now at)) }
     ensures forward { IfOk result (λ x. at < x.1) }
 {
@@ -603,9 +490,10 @@ fn read_for(
         do_word,
         statement,
     };
-    Ok((statement, after))
+    Ok((Plain::For(Box::new(alloc, statement)?), after))
 }
 
+/// Reads a with statement (6.8.3.10).
 #[cycle(statements)]
 #[tactic(auto, unfolding(grammar::specs::Reading::read, pas_tree::specs::Rules::with_rule))]
 fn read_with(
@@ -615,8 +503,8 @@ fn read_with(
     depth: u32,
     inner: bool,
     closer: ClosingWord,
-) -> Result<(With, u32), ParseFault>
-    ensures gives { ReadsAs tokens.now with_node result
+) -> Result<(Plain, u32), ParseFault>
+    ensures gives { ReadsAs tokens.now plain_node result
         (read pascal depth (with_rule inner (closer_of closer)) (items_from tokens.now at)) }
     ensures forward { IfOk result (λ x. at < x.1) }
 {
@@ -632,7 +520,7 @@ fn read_with(
         do_word,
         statement,
     };
-    Ok((statement, after))
+    Ok((Plain::With(Box::new(alloc, statement)?), after))
 }
 
 /// The accesses of a with statement after the first one.
@@ -694,34 +582,29 @@ fn expects_statement(tokens: &TerminalList, at: u32, inner: bool, closer: Closin
 fn is_statement_start(kind: Terminal) -> bool
     ensures { result ≡ first_of (statement false by_end) kind }
 {
-    matches!(
+    is_one_of(
         kind,
-        Terminal::Number
-            | Terminal::Name
-            | Terminal::WGoto
-            | Terminal::WBegin
-            | Terminal::WIf
-            | Terminal::WCase
-            | Terminal::WRepeat
-            | Terminal::WWhile
-            | Terminal::WFor
-            | Terminal::WWith
+        &[
+            Terminal::Number,
+            Terminal::Name,
+            Terminal::WGoto,
+            Terminal::WBegin,
+            Terminal::WIf,
+            Terminal::WCase,
+            Terminal::WRepeat,
+            Terminal::WWhile,
+            Terminal::WFor,
+            Terminal::WWith,
+        ],
     )
 }
 
 fn is_statement_follower(kind: Terminal, inner: bool, closer: ClosingWord) -> bool
     ensures { result ≡ follow_of (statement inner (closer_of closer)) kind }
 {
-    match closer {
-        ClosingWord::End => match kind {
-            Terminal::Semicolon | Terminal::WEnd => true,
-            Terminal::WElse => inner,
-            _ => false,
-        },
-        ClosingWord::Until => match kind {
-            Terminal::Semicolon | Terminal::WUntil => true,
-            Terminal::WElse => inner,
-            _ => false,
-        },
-    }
+    let closing = match closer {
+        ClosingWord::End => Terminal::WEnd,
+        ClosingWord::Until => Terminal::WUntil,
+    };
+    is_one_of(kind, &[Terminal::Semicolon, closing]) || (kind.is(Terminal::WElse) && inner)
 }
