@@ -7,11 +7,11 @@ ghost use Rattle.grammar.specs.Grammars.{factor, many};
 ghost use Rattle.grammar.specs.Reading.{levels, read};
 ghost use Rattle.grammar.specs.Deciding.{expects};
 ghost use Rattle.pas_tree.specs.Expressions.{access_node, arguments_node, expression_node, factor_node, index_node};
-ghost use Rattle.pas_tree.specs.Expressions.{member_node, members_node, next_expression_node, next_factor_node};
-ghost use Rattle.pas_tree.specs.Expressions.{next_member_node, next_term_node, selector_node, simple_node, term_node};
-ghost use Rattle.pas_tree.specs.Rules.{access_rule, adding, arguments_rule, expression_rule, factor_rule, index_rule};
-ghost use Rattle.pas_tree.specs.Rules.{member_rule, members_rule, multiplying, named_factor_rule, next_expression_rule};
-ghost use Rattle.pas_tree.specs.Rules.{next_factor_rule, next_member_rule, next_term_rule, selector_rule};
+ghost use Rattle.pas_tree.specs.Expressions.{member_node, members_node, next_expression_node};
+ghost use Rattle.pas_tree.specs.Expressions.{next_member_node, selector_node, simple_node, term_node};
+ghost use Rattle.pas_tree.specs.Rules.{access_rule, arguments_rule, expression_rule, factor_rule, index_rule};
+ghost use Rattle.pas_tree.specs.Rules.{member_rule, members_rule, named_factor_rule, next_expression_rule};
+ghost use Rattle.pas_tree.specs.Rules.{next_member_rule, selector_rule};
 ghost use Rattle.pas_tree.specs.Rules.{selector_starts, selectors_rule, simple_rule, term_rule};
 ghost use Rattle.pas_tree.specs.FirstFollow.{first_of, pascal};
 ghost use Rattle.pas_phrases.specs.Items.{ReadsAs, items_from};
@@ -54,7 +54,6 @@ pub fn read_expression(
 }
 
 #[cycle(expressions)]
-#[tactic(auto, using(pas_tree::proofs::ExpressionRolls::simple_rolled), unfolding(grammar::specs::Reading::read, pas_tree::specs::Rules::simple_rule, pas_tree::specs::Rules::sign_rule))]
 fn read_simple(
     alloc: Global,
     tokens: &TerminalList,
@@ -65,41 +64,24 @@ fn read_simple(
     ensures forward { IfOk result (λ x. at ≤ x.1) }
 {
     let (sign, after) = read_sign(tokens, at)?;
-    let (first, after) = read_term(alloc, tokens, after, depth)?;
-    let (others, after) = read_next_terms(alloc, tokens, after, depth)?;
-    let simple = Simple {
-        sign,
-        first,
-        others,
-    };
-    Ok((simple, after))
-}
-
-#[cycle(expressions)]
-#[tactic(auto, using(pas_phrases::proofs::ReadLists::pair_list_reading, pas_tree::proofs::Parts::parts), unfolding(pas_tree::specs::Rules::next_term_rule))]
-fn read_next_terms(
-    alloc: Global,
-    tokens: &TerminalList,
-    at: u32,
-    depth: u32,
-) -> Result<(Vec<NextTerm>, u32), ParseFault>
-    ensures gives { ReadsAs tokens.now (λ v. row (map next_term_node v.items)) result
-        (read pascal depth (many adding next_term_rule) (items_from tokens.now at)) }
-    ensures forward { IfOk result (λ x. at ≤ x.1) }
-{
+    let (first, start) = read_term(alloc, tokens, after, depth)?;
     let mut others = Vec::new(alloc);
-    let mut next = at;
+    let mut next = start;
     'terms: while is_next_adding(tokens, next) {
         let (operator, after) = expect_adding(tokens, next)?;
         let (term, after) = read_term(alloc, tokens, after, depth)?;
         others.push(NextTerm { operator, term })?;
         next = after;
     }
-    Ok((others, next))
+    let simple = Simple {
+        sign,
+        first,
+        others,
+    };
+    Ok((simple, next))
 }
 
 #[cycle(expressions)]
-#[tactic(auto, using(pas_tree::proofs::ExpressionRolls::term_rolled), unfolding(grammar::specs::Reading::read, pas_tree::specs::Rules::term_rule))]
 fn read_term(
     alloc: Global,
     tokens: &TerminalList,
@@ -109,32 +91,16 @@ fn read_term(
     ensures gives { ReadsAs tokens.now term_node result (read pascal depth term_rule (items_from tokens.now at)) }
     ensures forward { IfOk result (λ x. at ≤ x.1) }
 {
-    let (first, after) = read_factor(alloc, tokens, at, depth)?;
-    let (others, after) = read_next_factors(alloc, tokens, after, depth)?;
-    Ok((Term { first, others }, after))
-}
-
-#[cycle(expressions)]
-#[tactic(auto, using(pas_phrases::proofs::ReadLists::pair_list_reading, pas_tree::proofs::Parts::parts), unfolding(pas_tree::specs::Rules::next_factor_rule))]
-fn read_next_factors(
-    alloc: Global,
-    tokens: &TerminalList,
-    at: u32,
-    depth: u32,
-) -> Result<(Vec<NextFactor>, u32), ParseFault>
-    ensures gives { ReadsAs tokens.now (λ v. row (map next_factor_node v.items)) result
-        (read pascal depth (many multiplying next_factor_rule) (items_from tokens.now at)) }
-    ensures forward { IfOk result (λ x. at ≤ x.1) }
-{
+    let (first, start) = read_factor(alloc, tokens, at, depth)?;
     let mut others = Vec::new(alloc);
-    let mut next = at;
+    let mut next = start;
     'factors: while is_next_multiplying(tokens, next) {
         let (operator, after) = expect_multiplying(tokens, next)?;
         let (factor, after) = read_factor(alloc, tokens, after, depth)?;
         others.push(NextFactor { operator, factor })?;
         next = after;
     }
-    Ok((others, next))
+    Ok((Term { first, others }, next))
 }
 
 #[cycle(expressions)]
@@ -208,7 +174,6 @@ fn read_named_factor(
 }
 
 #[cycle(expressions)]
-#[tactic(auto, using(pas_phrases::proofs::ReadLists::pair_list_reading, pas_tree::proofs::Parts::parts), unfolding(pas_tree::specs::Rules::next_expression_rule))]
 fn read_next_expressions(
     alloc: Global,
     tokens: &TerminalList,
@@ -316,7 +281,6 @@ fn read_members(
 }
 
 #[cycle(expressions)]
-#[tactic(auto, using(pas_phrases::proofs::ReadLists::pair_list_reading, pas_tree::proofs::Parts::parts), unfolding(pas_tree::specs::Rules::next_member_rule))]
 fn read_next_members(
     alloc: Global,
     tokens: &TerminalList,

@@ -1,32 +1,109 @@
-use Rattle.std.proofs.Common.{refl, arith}
+use Rattle.std.proofs.Common.{◌≡◌, ℕ, List, Ok, refl, sym, ap, ◌∙◌, arith}
 use denote.Hole.Carrier.{roll}
 use Rattle.pas_tree.specs.declared.expressions.NextTerm.{roll-NextTerm}
 use Rattle.pas_tree.specs.declared.expressions.NextExpression.{roll-NextExpression}
 use Rattle.pas_tree.specs.declared.expressions.NextMember.{roll-NextMember}
+use Rattle.grammar.specs.Nodes.{Item, Node, Pair}
+use Rattle.grammar.specs.Grammars.{Grammar, factor, level, many, seq}
+use Rattle.grammar.specs.Reading.{Read, read, then_pair}
+use Rattle.pas_tree.specs.FirstFollow.{pascal}
+use Rattle.pas_phrases.specs.Items.{items_from}
+use Rattle.pas_phrases.proofs.Failures.{after_first, first_fails, second_fails, handed_on}
+use Rattle.pas_tree.proofs.ExpressionRolls.{simple_rolled, term_rolled}
+use Rattle.pas_tree.specs.Rules.{adding, multiplying, simple_rule, sign_rule, term_rule}
 use Rattle.pas_tree.specs.Rules.{next_term_rule, next_factor_rule, next_expression_rule, next_member_rule}
 use Rattle.pas_tree.proofs.Parts.{parts}
-use Rattle.pas_phrases.proofs.ReadLists.{pair_more, level_more, list_read}
+use Rattle.pas_phrases.proofs.ReadLists.{pair_more, level_more, token_fails, pair_fails, level_fails, list_read}
 use Rattle.pas_expressions.proofs.expressions.+expressions.Goals as goal
 
-pub read_next_terms-terms-preserved : goal.read_next_terms-terms-preserved
+abbrev next_terms : Grammar
+next_terms = many adding next_term_rule
+
+abbrev next_factors : Grammar
+next_factors = many multiplying next_factor_rule
+
+seq_read : (n : ℕ) (a b : Grammar) (l : List Item) {m rest : List Item} {x y : Node} → read pascal n a l ≡ Ok (x, m) → read pascal n b m ≡ Ok (y, rest)
+    → read pascal n (seq a b) l ≡ Ok (Pair x y, rest)
+unfolding read
+seq_read n a b l {x = x} h e = ap (λ (z : Read). then_pair z (read pascal n b)) h ∙ ap (after_first x) e
+
+pub read_simple-terms-preserved : goal.read_simple-terms-preserved
 unfolding next_term_rule roll-NextTerm roll
-read_next_terms-terms-preserved t c = record {
+read_simple-terms-preserved t c = record {
   so_far = pair_more parts.next_term c.terms.invariant.so_far c.in_ok-operator.ensures.gives c.in_ok-term.ensures.gives c.in_ok-push.ensures.items refl;
   forward = omega (arith, c.terms.invariant.forward, c.in_ok-operator.ensures.forward, c.in_ok-term.ensures.forward);
 }
 
-pub read_next_terms-returns-clause-gives : goal.read_next_terms-returns-clause-gives
-read_next_terms-returns-clause-gives t c = list_read parts.next_term c.terms.invariant.so_far (cc)
+pub read_simple-returns-in_err-sign-clause-gives : goal.read_simple-returns-in_err-sign-clause-gives
+unfolding read simple_rule sign_rule
+read_simple-returns-in_err-sign-clause-gives t c =
+    handed_on _ _ _ _ _ c.from_residual.ensures.1
+    (first_fails c.args.depth sign_rule (seq term_rule next_terms) (items_from c.args.tokens.now c.args.at) _ _ c.in_err-sign.ensures.gives)
 
-pub read_next_factors-factors-preserved : goal.read_next_factors-factors-preserved
+pub read_simple-returns-in_err-first-clause-gives : goal.read_simple-returns-in_err-first-clause-gives
+unfolding read simple_rule sign_rule
+read_simple-returns-in_err-first-clause-gives t c =
+    handed_on _ _ _ _ _ c.from_residual-in_err-first.ensures.1
+    (second_fails c.args.depth sign_rule (seq term_rule next_terms) (items_from c.args.tokens.now c.args.at) _ _ c.in_ok-sign.ensures.gives
+    (first_fails c.args.depth term_rule next_terms (items_from c.args.tokens.now c.in_ok-sign.after) _ _ c.in_err-first.ensures.gives))
+
+pub read_simple-returns-in_err-operator-clause-gives : goal.read_simple-returns-in_err-operator-clause-gives
+unfolding read simple_rule sign_rule next_term_rule
+read_simple-returns-in_err-operator-clause-gives t c =
+    handed_on _ _ _ _ _ c.from_residual-in_err-operator.ensures.1
+    (second_fails c.args.depth sign_rule (seq term_rule next_terms) (items_from c.args.tokens.now c.args.at) _ _ c.in_ok-sign.ensures.gives
+    (second_fails c.args.depth term_rule next_terms (items_from c.args.tokens.now c.in_ok-sign.after) _ _ c.in_ok-first.ensures.gives
+    (token_fails _ _ parts.next_term c.terms.invariant.so_far (cc) c.in_err-operator.ensures.gives)))
+
+pub read_simple-returns-in_err-term-clause-gives : goal.read_simple-returns-in_err-term-clause-gives
+unfolding read simple_rule sign_rule next_term_rule
+read_simple-returns-in_err-term-clause-gives t c =
+    handed_on _ _ _ _ _ c.from_residual-in_err-term.ensures.1
+    (second_fails c.args.depth sign_rule (seq term_rule next_terms) (items_from c.args.tokens.now c.args.at) _ _ c.in_ok-sign.ensures.gives
+    (second_fails c.args.depth term_rule next_terms (items_from c.args.tokens.now c.in_ok-sign.after) _ _ c.in_ok-first.ensures.gives
+    (pair_fails _ _ parts.next_term c.terms.invariant.so_far c.in_ok-operator.ensures.gives c.in_err-term.ensures.gives)))
+
+pub read_simple-returns-clause-gives : goal.read_simple-returns-clause-gives
+unfolding read simple_rule sign_rule
+read_simple-returns-clause-gives t c =
+    let others = list_read parts.next_term c.terms.invariant.so_far (cc) in
+    seq_read c.args.depth sign_rule (seq term_rule next_terms) (items_from c.args.tokens.now c.args.at) c.in_ok-sign.ensures.gives
+    (seq_read c.args.depth term_rule next_terms (items_from c.args.tokens.now c.in_ok-sign.after) c.in_ok-first.ensures.gives others)
+    ∙ ap (λ (y : Node). Ok (y, items_from c.args.tokens.now c.terms.next)) (sym (simple_rolled _ _ _))
+
+pub read_term-factors-preserved : goal.read_term-factors-preserved
 unfolding next_factor_rule
-read_next_factors-factors-preserved t c = record {
+read_term-factors-preserved t c = record {
   so_far = level_more parts.next_factor c.factors.invariant.so_far c.in_ok-operator.ensures.gives c.in_ok-factor.ensures.gives c.in_ok-push.ensures.items refl;
+  begun = c.factors.invariant.begun;
   forward = omega (arith, c.factors.invariant.forward, c.in_ok-operator.ensures.forward, c.in_ok-factor.ensures.forward);
 }
 
-pub read_next_factors-returns-clause-gives : goal.read_next_factors-returns-clause-gives
-read_next_factors-returns-clause-gives t c = list_read parts.next_factor c.factors.invariant.so_far (cc)
+pub read_term-returns-in_err-first-clause-gives : goal.read_term-returns-in_err-first-clause-gives
+unfolding read term_rule
+read_term-returns-in_err-first-clause-gives t c =
+    handed_on _ _ _ _ _ c.from_residual.ensures.1 (first_fails c.args.depth (level factor) next_factors _ _ _ c.in_err-first.ensures.gives)
+
+pub read_term-returns-in_err-operator-clause-gives : goal.read_term-returns-in_err-operator-clause-gives
+unfolding read term_rule next_factor_rule
+read_term-returns-in_err-operator-clause-gives t c =
+    handed_on _ _ _ _ _ c.from_residual-in_err-operator.ensures.1
+    (second_fails c.args.depth (level factor) next_factors _ _ _ c.in_ok-first.ensures.gives
+    (token_fails _ _ parts.next_factor c.factors.invariant.so_far (cc) c.in_err-operator.ensures.gives))
+
+pub read_term-returns-in_err-factor-clause-gives : goal.read_term-returns-in_err-factor-clause-gives
+unfolding read term_rule next_factor_rule
+read_term-returns-in_err-factor-clause-gives t c =
+    handed_on _ _ _ _ _ c.from_residual-in_err-factor.ensures.1
+    (second_fails c.args.depth (level factor) next_factors _ _ _ c.in_ok-first.ensures.gives
+    (level_fails _ _ parts.next_factor c.factors.invariant.so_far c.in_ok-operator.ensures.gives c.in_err-factor.ensures.gives))
+
+pub read_term-returns-clause-gives : goal.read_term-returns-clause-gives
+unfolding read term_rule
+read_term-returns-clause-gives t c =
+    let others = list_read parts.next_factor c.factors.invariant.so_far (cc) in
+    seq_read c.args.depth (level factor) next_factors (items_from c.args.tokens.now c.args.at) c.factors.invariant.begun others
+    ∙ ap (λ (y : Node). Ok (y, items_from c.args.tokens.now c.factors.next)) (sym (term_rolled _ _))
 
 pub read_next_expressions-expressions-preserved : goal.read_next_expressions-expressions-preserved
 unfolding next_expression_rule roll-NextExpression roll
@@ -35,6 +112,18 @@ read_next_expressions-expressions-preserved t c = record {
       c.in_ok-push.ensures.items refl;
   forward = omega (arith, c.expressions.invariant.forward, c.in_ok-comma.ensures.forward, c.in_ok-expression.ensures.forward);
 }
+
+pub read_next_expressions-returns-in_err-comma-clause-gives : goal.read_next_expressions-returns-in_err-comma-clause-gives
+unfolding next_expression_rule
+read_next_expressions-returns-in_err-comma-clause-gives t c =
+    handed_on _ _ _ _ _ c.from_residual.ensures.1
+    (token_fails _ _ parts.next_expression c.expressions.invariant.so_far (cc) c.in_err-comma.ensures.gives)
+
+pub read_next_expressions-returns-in_err-expression-clause-gives : goal.read_next_expressions-returns-in_err-expression-clause-gives
+unfolding next_expression_rule
+read_next_expressions-returns-in_err-expression-clause-gives t c =
+    handed_on _ _ _ _ _ c.from_residual-in_err-expression.ensures.1
+    (pair_fails _ _ parts.next_expression c.expressions.invariant.so_far c.in_ok-comma.ensures.gives c.in_err-expression.ensures.gives)
 
 pub read_next_expressions-returns-clause-gives : goal.read_next_expressions-returns-clause-gives
 read_next_expressions-returns-clause-gives t c = list_read parts.next_expression c.expressions.invariant.so_far (cc)
@@ -45,6 +134,18 @@ read_next_members-members-preserved t c = record {
   so_far = pair_more parts.next_member c.members.invariant.so_far c.in_ok-comma.ensures.gives c.in_ok-member.ensures.gives c.in_ok-push.ensures.items refl;
   forward = omega (arith, c.members.invariant.forward, c.in_ok-comma.ensures.forward, c.in_ok-member.ensures.forward);
 }
+
+pub read_next_members-returns-in_err-comma-clause-gives : goal.read_next_members-returns-in_err-comma-clause-gives
+unfolding next_member_rule
+read_next_members-returns-in_err-comma-clause-gives t c =
+    handed_on _ _ _ _ _ c.from_residual.ensures.1
+    (token_fails _ _ parts.next_member c.members.invariant.so_far (cc) c.in_err-comma.ensures.gives)
+
+pub read_next_members-returns-in_err-member-clause-gives : goal.read_next_members-returns-in_err-member-clause-gives
+unfolding next_member_rule
+read_next_members-returns-in_err-member-clause-gives t c =
+    handed_on _ _ _ _ _ c.from_residual-in_err-member.ensures.1
+    (pair_fails _ _ parts.next_member c.members.invariant.so_far c.in_ok-comma.ensures.gives c.in_err-member.ensures.gives)
 
 pub read_next_members-returns-clause-gives : goal.read_next_members-returns-clause-gives
 read_next_members-returns-clause-gives t c = list_read parts.next_member c.members.invariant.so_far (cc)

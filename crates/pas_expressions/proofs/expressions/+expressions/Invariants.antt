@@ -1,33 +1,34 @@
-use Rattle.std.proofs.Common.{◌≤◌, ◌+◌, ◌∷◌, [], length, ◌-◌, ◌*◌}
+use Rattle.std.proofs.Common.{◌≡◌, Ok, ◌≤◌, ◌+◌, ◌∷◌, [], length, ◌-◌, ◌*◌}
 use Rattle.grammar.specs.declared.terminals.Terminal.TheVariants as k
-use Rattle.grammar.specs.Grammars.{many}
-use Rattle.grammar.specs.Reading.{read}
+use Rattle.grammar.specs.Grammars.{factor, many}
+use Rattle.grammar.specs.Reading.{levels, read}
 use Rattle.pas_tree.specs.FirstFollow.{pascal}
-use Rattle.pas_tree.specs.Expressions.{next_term_node, next_factor_node, next_expression_node, selector_node, next_member_node}
+use Rattle.pas_tree.specs.Expressions.{factor_node, next_term_node, next_factor_node, next_expression_node, selector_node, next_member_node}
 use Rattle.pas_tree.specs.Rules.{adding, multiplying, selector_starts, next_term_rule, next_factor_rule, next_expression_rule, selector_rule, next_member_rule}
 use Rattle.pas_phrases.specs.Items.{items_from}
 use Rattle.pas_phrases.proofs.ReadLists.{ListSoFar}
 use Rattle.pas_expressions.proofs.expressions.+expressions.Given as goal
 
-abbrev pub invariant-read_next_terms-terms : goal.invariant-read_next_terms-terms
-invariant-read_next_terms-terms l = record {
+abbrev pub invariant-read_simple-terms : goal.invariant-read_simple-terms
+invariant-read_simple-terms l = record {
   so_far : ListSoFar next_term_node l.depth adding next_term_rule l.others.items (items_from l.tokens l.next)
-      (read pascal l.depth (many adding next_term_rule) (items_from l.tokens l.at));
-  forward : l.at ≤ l.next;
+      (read pascal l.depth (many adding next_term_rule) (items_from l.tokens l.start));
+  forward : l.start ≤ l.next;
 }
 
-abbrev pub decreases-read_next_terms-terms : goal.decreases-read_next_terms-terms
-decreases-read_next_terms-terms l = length l.tokens - l.next
+abbrev pub decreases-read_simple-terms : goal.decreases-read_simple-terms
+decreases-read_simple-terms l = length l.tokens - l.next
 
-abbrev pub invariant-read_next_factors-factors : goal.invariant-read_next_factors-factors
-invariant-read_next_factors-factors l = record {
+abbrev pub invariant-read_term-factors : goal.invariant-read_term-factors
+invariant-read_term-factors l = record {
   so_far : ListSoFar next_factor_node l.depth multiplying next_factor_rule l.others.items (items_from l.tokens l.next)
-      (read pascal l.depth (many multiplying next_factor_rule) (items_from l.tokens l.at));
-  forward : l.at ≤ l.next;
+      (read pascal l.depth (many multiplying next_factor_rule) (items_from l.tokens l.start));
+  begun : levels pascal l.depth factor (items_from l.tokens l.at) ≡ Ok (factor_node l.first, items_from l.tokens l.start);
+  forward : l.start ≤ l.next;
 }
 
-abbrev pub decreases-read_next_factors-factors : goal.decreases-read_next_factors-factors
-decreases-read_next_factors-factors l = length l.tokens - l.next
+abbrev pub decreases-read_term-factors : goal.decreases-read_term-factors
+decreases-read_term-factors l = length l.tokens - l.next
 
 abbrev pub invariant-read_next_expressions-expressions : goal.invariant-read_next_expressions-expressions
 invariant-read_next_expressions-expressions l = record {
@@ -86,14 +87,8 @@ decreases-read_expression l = 32 * l.depth + 7
 abbrev pub decreases-read_simple : goal.decreases-read_simple
 decreases-read_simple l = 32 * l.depth + 6
 
-abbrev pub decreases-read_next_terms : goal.decreases-read_next_terms
-decreases-read_next_terms l = 32 * l.depth + 5
-
 abbrev pub decreases-read_term : goal.decreases-read_term
 decreases-read_term l = 32 * l.depth + 3
-
-abbrev pub decreases-read_next_factors : goal.decreases-read_next_factors
-decreases-read_next_factors l = 32 * l.depth + 2
 
 abbrev pub decreases-read_factor : goal.decreases-read_factor
 decreases-read_factor l = 32 * l.depth
