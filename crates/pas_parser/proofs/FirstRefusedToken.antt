@@ -3,11 +3,9 @@ use Rattle.std.proofs.Common.{◌≡◌, ℕ, zero, suc, ◌+◌, ◌<◌, ◌�
 use Rattle.std.proofs.lemmas.List.{length-map}
 use Rattle.grammar.specs.declared.terminals.Terminal.{Terminal}
 use Rattle.grammar.specs.Nodes.{Item, Node}
-use Rattle.grammar.specs.Reading.{Unfit, Deep, read}
+use Rattle.grammar.specs.Reading.{Unfit, Deep}
 use Rattle.pas_lexer.specs.declared.kinds.Token.{Token}
 use Rattle.pas_lexer.specs.Lexed.{EndsOnce}
-use Rattle.pas_tree.specs.Rules.{program_rule}
-use Rattle.pas_tree.specs.FirstFollow.{pascal}
 use Rattle.pas_phrases.specs.declared.fault.ParseFault.{ParseFault}
 use Rattle.pas_phrases.specs.declared.fault.ParseFault.TheVariants as faults
 use Rattle.pas_phrases.specs.Items.{numbered, items_from, Fails}
