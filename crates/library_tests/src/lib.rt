@@ -1,11 +1,9 @@
-//! Tests of the libraries of values, stores, logs and calls: that each call that takes memory answers with ample
-//! memory, and results found by hand. They stand here together, since a crate with tests of its own is proved twice.
+//! Tests of the libraries of values, stores and calls: that each call that takes memory answers with ample memory, and
+//! results found by hand. They stand here together, since a crate with tests of its own is proved twice.
 #![tactic(auto)]
 
 #[cfg(test)]
 mod calls;
-#[cfg(test)]
-mod log;
 #[cfg(test)]
 mod store;
 #[cfg(test)]

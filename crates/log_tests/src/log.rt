@@ -1,7 +1,7 @@
 //! The effect of touches before and after one another, by hand.
 ghost use Rattle.std.specs.Prelude.{◌<◌, ◌≤◌, IfOk, length};
 ghost use Rattle.cell_value.specs.Effects.{IsCountable, made_by, taken_by};
-ghost use Rattle.library_tests.specs.Logs.{IsLogOf};
+ghost use Rattle.log_tests.specs.Logs.{IsLogOf};
 
 use cell_value::{Change, Memory, Seen, SetBits, Touch, Value};
 use effect_log::{Changes, Footprint, Log, Reads, effect};
