@@ -7,7 +7,7 @@ use Rattle.cell_value.specs.declared.entries.Seen.{Seen}
 use Rattle.cell_value.specs.declared.entries.Seen.TheVariants.{Held, There, Absent}
 use Rattle.cell_value.specs.declared.entries.Change.{Change}
 use Rattle.cell_value.specs.Effects.{changed_block, is_shared}
-use Rattle.effect_log.specs.Passing.{ChangesBy, Sees, found_at, later, seen_next}
+use Rattle.effect_log.specs.Passing.{ChangesBy, found_at, later, seen_next}
 
 pub either : {X : Type 0} (b : Bool) (x : X) → x ≡ cond b x x
 either true x = refl
@@ -19,13 +19,6 @@ nothing_seen None (Some (Held value)) = refl
 nothing_seen None (Some There) = refl
 nothing_seen None (Some Absent) = refl
 nothing_seen None None = refl
-
--- a touch that neither reads nor asks leaves what is seen
-pub sees_nothing : (base : ℕ) (changes : BTreeMap ℕ Change) (reads : BTreeMap ℕ Seen) → Sees base (λ at. None) (λ at. None) changes reads reads
-sees_nothing base changes reads = record {
-  at = λ addr. either (is_shared base addr) (found_at reads addr)
-      ∙ ap (λ o. cond (is_shared base addr) o (found_at reads addr)) (nothing_seen (found_at changes addr) (found_at reads addr));
-}
 
 -- a touch that changes no cell leaves what is changed
 pub changes_nothing : (base : ℕ) (changes : BTreeMap ℕ Change) → ChangesBy base (λ at. None) changes changes

@@ -1,5 +1,6 @@
 mod AsideTouchesStay
 mod BlocksChange
+pub mod OneMoreTouch
 mod RisingEntriesAreListed
-mod SlicesGoOn
+pub mod SlicesGoOn
 mod TouchesAddUp

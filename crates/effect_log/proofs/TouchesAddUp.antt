@@ -15,77 +15,9 @@ use Rattle.cell_value.specs.declared.entries.Change.{Change}
 use Rattle.cell_value.specs.Effects.{asked_by, byte_by, change_at, change_by, first_of, given_of, is_shared, last_of, looked_by, looked_of, made_by, read_by}
 use Rattle.cell_value.specs.Effects.{seen_at, seen_by, shown_by, taken_by}
 use Rattle.effect_log.specs.declared.found.Found.{Found}
+use Rattle.effect_log.proofs.OneMoreTouch.{all_before, before_changing, before_none, before_other, before_some, change_more, changes, first_more}
+use Rattle.effect_log.proofs.OneMoreTouch.{looked_more, one_option, option_cases, sooner, sum_more}
 use Rattle.effect_log.specs.Passing.{IsFound, TakesIn, found_at, later, seen_next}
-
--- ---- the last and the first of a list with one more element, or none more
-last_snoc : {X : Type 0} (xs : List X) (y : X) → last_of (xs ++ y ∷ []) ≡ Some y
-last_snoc [] y = refl
-last_snoc (x ∷ []) y = refl
-last_snoc (x ∷ z ∷ xs) y = last_snoc (z ∷ xs) y
-
-last_more : {X : Type 0} (xs : List X) (o : Option X) → last_of (xs ++ cons_option o []) ≡ later o (last_of xs)
-last_more xs (Some y) = last_snoc xs y
-last_more xs None = ap last_of (append-nil xs)
-
-abbrev sooner : {X : Type 0} → Option X → Option X → Option X
-sooner (Some x) o = Some x
-sooner None o = o
-
-first_more : {X : Type 0} (xs : List X) (o : Option X) → first_of (xs ++ cons_option o []) ≡ sooner (first_of xs) o
-first_more [] (Some y) = refl
-first_more [] None = refl
-first_more (x ∷ xs) o = refl
-
-last_there : {X : Type 0} (x : X) (xs : List X) → last_of (x ∷ xs) ≡ None → ⊥
-last_there x [] e = cc
-last_there x (y ∷ ys) e = last_there y ys e
-
--- the touches before the first that changes, where the first of all changes or not
-module _ {T C : Type 0} (h : T → Option C) where
-  abbrev changes : T → Bool
-  changes t = is_some (h t)
-
-  before_changing : (t : T) (ts : List T) (c : C) → h t ≡ Some c → before_first changes (t ∷ ts) ≡ []
-  before_changing t ts c e = ap (λ o. take (cond (not (is_some o)) (1 + prefix_len (λ x. not (changes x)) ts) 0) (t ∷ ts)) e
-
-  before_other : (t : T) (ts : List T) → h t ≡ None → before_first changes (t ∷ ts) ≡ t ∷ before_first changes ts
-  before_other t ts e =
-      ap (λ o. take (cond (not (is_some o)) (1 + prefix_len (λ x. not (changes x)) ts) 0) (t ∷ ts)) e
-      ∙ ap (λ n. take n (t ∷ ts)) (one-add (prefix_len (λ x. not (changes x)) ts))
-
-  kept_other : (t : T) (ts : List T) → h t ≡ None → filter_map h (t ∷ ts) ≡ filter_map h ts
-  kept_other t ts e = ap (λ o. cons_option o (filter_map h ts)) e
-
-  kept_changing : (t : T) (ts : List T) (c : C) → h t ≡ Some c → filter_map h (t ∷ ts) ≡ c ∷ filter_map h ts
-  kept_changing t ts c e = ap (λ o. cons_option o (filter_map h ts)) e
-
-  option_cases : (o : Option C) → ((c : C) × (o ≡ Some c)) ⊎ (o ≡ None)
-  option_cases (Some c) = inl (c, refl)
-  option_cases None = inr refl
-
-  -- with no change so far all touches count, and so does one more that does not change
-  all_before : (ts : List T) → last_of (filter_map h ts) ≡ None → before_first changes ts ≡ ts
-  all_before [] e = refl
-  all_before (t ∷ ts) e = elim (option_cases (h t)) [
-    | inl w ↦ absurd (last_there w.0 (filter_map h ts) (ap last_of (sym (kept_changing t ts w.0 w.1)) ∙ e))
-    | inr none ↦ before_other t ts none ∙ ap (λ xs. t ∷ xs) (all_before ts (ap last_of (sym (kept_other t ts none)) ∙ e))
-  ]
-
-  before_none : (ts : List T) (t : T) → last_of (filter_map h ts) ≡ None → before_first changes (ts ++ t ∷ []) ≡ ts ++ before_first changes (t ∷ [])
-  before_none [] t e = refl
-  before_none (s ∷ ts) t e = elim (option_cases (h s)) [
-    | inl w ↦ absurd (last_there w.0 (filter_map h ts) (ap last_of (sym (kept_changing s ts w.0 w.1)) ∙ e))
-    | inr none ↦ before_other s (ts ++ t ∷ []) none ∙ ap (λ xs. s ∷ xs) (before_none ts t (ap last_of (sym (kept_other s ts none)) ∙ e))
-  ]
-
-  -- after a change no more counts
-  before_some : (ts : List T) (t : T) (c : C) → last_of (filter_map h ts) ≡ Some c → before_first changes (ts ++ t ∷ []) ≡ before_first changes ts
-  before_some [] t c e = cc
-  before_some (s ∷ ts) t c e = elim (option_cases (h s)) [
-    | inl w ↦ before_changing s (ts ++ t ∷ []) w.0 w.1 ∙ sym (before_changing s ts w.0 w.1)
-    | inr none ↦ before_other s (ts ++ t ∷ []) none ∙ ap (λ xs. s ∷ xs) (before_some ts t c (ap last_of (sym (kept_other s ts none)) ∙ e))
-        ∙ sym (before_other s ts none)
-  ]
 
 -- ---- one address
 
@@ -121,10 +53,6 @@ shown_more addr ts t =
     ∙ ap (seen_by (sooner (first_of (filter_map (read_by addr) ts)) (read_by addr t))) asks
     ∙ seen_more (first_of (filter_map (read_by addr) ts)) (first_of (filter_map (asked_by addr) ts)) (read_by addr t) (asked_by addr t)
 
-change_more : (addr : ℕ) (ts : List Touch) (t : Touch) → change_at addr (ts ++ t ∷ []) ≡ later (change_by addr t) (change_at addr ts)
-unfolding change_at
-change_more addr ts t = ap last_of (filter_map-append (change_by addr) ts (t ∷ [])) ∙ last_more (filter_map (change_by addr) ts) (change_by addr t)
-
 seen_at_more : (addr : ℕ) (ts : List Touch) (t : Touch) → seen_at addr (ts ++ t ∷ [])
     ≡ seen_next (change_at addr ts) (seen_at addr ts) (read_by addr t) (asked_by addr t)
 unfolding seen_at change_at
@@ -159,16 +87,6 @@ under_both : {X Y : Type 0} (b : Bool) (other other_now : Option Y) (was now : O
     → other ≡ cond b other_now None → was ≡ cond b now None → cond b (step other was) was ≡ cond b (step other_now now) None
 under_both true other other_now was now step d e = ap (λ o. step o was) d ∙ ap (step other_now) e
 under_both false other other_now was now step d e = e
-
-looked_more : (place : ℕ) (ts : List Touch) (t : Touch) → looked_of place (ts ++ t ∷ []) ≡ max (looked_of place ts) (looked_by place t)
-looked_more place ts t = ap (fold max 0) (map-append (looked_by place) ts (t ∷ [])) ∙ fold-append max 0 (map (looked_by place) ts) (looked_by place t ∷ [])
-
-pub sum_more : (f : Touch → ℕ) (ts : List Touch) (t : Touch) → sum_by f (ts ++ t ∷ []) ≡ sum_by f ts + f t
-sum_more f ts t = sum_by-append f ts (t ∷ []) ∙ ap (λ n. sum_by f ts + n) (zero-add (f t))
-
-one_option : {X : Type 0} (o : Option X) → cons_option o [] ≡ option_to_list o
-one_option (Some x) = refl
-one_option None = refl
 
 pub one_more_found : (base place : ℕ) (ts : List Touch) (t : Touch) (old new : Found) → IsFound base place ts old → TakesIn base place t old new
     → IsFound base place (ts ++ t ∷ []) new

@@ -36,11 +36,10 @@ seen_next None (Some There) None asked = Some There
 seen_next None (Some Absent) None asked = Some Absent
 seen_next None None None asked = seen_by None asked
 
--- the map of what is seen takes in a touch that reads and answers so
-pub record Sees (base : ℕ) (read : ℕ → Option Value) (asked : ℕ → Option Bool) (changes : BTreeMap ℕ Change)
-    (old new : BTreeMap ℕ Seen) : Type 0 where
+-- the map of what is seen takes in a touch
+pub record Sees (base : ℕ) (touch : Touch) (changes : BTreeMap ℕ Change) (old new : BTreeMap ℕ Seen) : Type 0 where
   pub at : (addr : ℕ) → found_at new addr ≡ (if is_shared base addr then seen_next (found_at changes addr)
-      (found_at old addr) (read addr) (asked addr) else found_at old addr)
+      (found_at old addr) (read_by addr touch) (asked_by addr touch) else found_at old addr)
 
 -- the map of what is changed takes in a touch that changes each address so
 pub record ChangesBy (base : ℕ) (change : ℕ → Option Change) (old new : BTreeMap ℕ Change) : Type 0 where
@@ -49,7 +48,7 @@ pub record ChangesBy (base : ℕ) (change : ℕ → Option Change) (old new : BT
 
 -- one more touch is taken in
 pub record TakesIn (base place : ℕ) (touch : Touch) (old new : Found) : Type 0 where
-  pub reads : Sees base (λ addr. read_by addr touch) (λ addr. asked_by addr touch) old.changes old.reads new.reads
+  pub reads : Sees base touch old.changes old.reads new.reads
   pub changes : ChangesBy base (λ addr. change_by addr touch) old.changes new.changes
   pub made : new.made ≡ old.made + made_by touch
   pub looked : new.looked ≡ max old.looked (looked_by place touch)

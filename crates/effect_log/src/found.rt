@@ -38,8 +38,7 @@ fn see_value(
     addr: u32,
     value: Value,
 ) -> Result<(), Memory>
-    ensures { OnOk result (Sees base (λ at. read_by at (touch.Read addr value)) (λ at. None) changes.now reads.old
-        reads.new) }
+    ensures { OnOk result (Sees base (touch.Read addr value) changes.now reads.old reads.new) }
 {
     if !is_shared_cell(base, addr) || find(changes, addr).is_some() || was_read(find(reads, addr)) {
         return Ok(());
@@ -55,8 +54,7 @@ fn see_answer(
     addr: u32,
     there: bool,
 ) -> Result<(), Memory>
-    ensures { OnOk result (Sees base (λ at. None) (λ at. asked_by at (touch.Has addr there)) changes.now reads.old
-        reads.new) }
+    ensures { OnOk result (Sees base (touch.Has addr there) changes.now reads.old reads.new) }
 {
     if !is_shared_cell(base, addr) || find(changes, addr).is_some() || find(reads, addr).is_some() {
         return Ok(());

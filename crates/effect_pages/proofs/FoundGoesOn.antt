@@ -12,7 +12,7 @@ use Rattle.effect_pages.proofs.AddressesAreListed.{all_listed, listed_same}
 use Rattle.effect_pages.proofs.TouchesAddUp.{cell_marked, one_more_counted}
 
 pub one_more_found : (base place : ℕ) (log ts : List Touch) (number : ℕ) (t : Touch) → slice_get log number ≡ Some t → (old new : Found)
-    → IsFound base place log ts old → TakesIn base place number t old new → IsFound base place log (ts ++ t ∷ []) new
+    → IsFound base place log ts old → TakesIn base place (record { number = number; touch = t }) old new → IsFound base place log (ts ++ t ∷ []) new
 one_more_found base place log ts number t is old new found takes = record {
   cells = λ addr inside.
       let same : cell_at new.pages addr ≡ cell_after number t addr (cell_at old.pages addr) =

@@ -3,5 +3,4 @@ mod BlocksAreMarked
 mod FoundGoesOn
 mod ListsGoOn
 mod PagesKeepCells
-mod SlicesGoOn
 mod TouchesAddUp

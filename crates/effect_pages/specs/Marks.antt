@@ -56,13 +56,18 @@ pub record Marks (base : ℕ) (mark : ℕ → Cell → Cell) (old new : Pages) :
   pub at : (addr : ℕ) → cell_at new addr ≡ (if is_shared base addr then mark addr (cell_at old addr) else
       cell_at old addr)
 
--- the touch with the number is taken in
-pub record TakesIn (base place number : ℕ) (touch : Touch) (old new : Found) : Type 0 where
-  pub cells : Marks base (cell_after number touch) old.pages new.pages
-  pub made : new.made ≡ old.made + made_by touch
-  pub looked : new.looked ≡ max old.looked (looked_by place touch)
-  pub taken : new.taken ≡ old.taken + taken_by touch
-  pub given : new.given ≡ old.given ++ option_to_list (byte_by touch)
+-- an entry of the log: its number and its touch
+pub record Entry : Type 0 where
+  pub number : ℕ
+  pub touch : Touch
+
+-- the entry is taken in
+pub record TakesIn (base place : ℕ) (entry : Entry) (old new : Found) : Type 0 where
+  pub cells : Marks base (cell_after entry.number entry.touch) old.pages new.pages
+  pub made : new.made ≡ old.made + made_by entry.touch
+  pub looked : new.looked ≡ max old.looked (looked_by place entry.touch)
+  pub taken : new.taken ≡ old.taken + taken_by entry.touch
+  pub given : new.given ≡ old.given ++ option_to_list (byte_by entry.touch)
 
 -- the entry of the log that a number stands for, and what a function says of an entry
 abbrev pub entry_of : List Touch → Option ℕ → Option Touch

@@ -133,7 +133,7 @@ impl Found {
         requires countable { IsCountable touch }
         requires made_fits { self.old.made + made_by touch < 2 ^ 32 }
         requires taken_fits { self.old.taken + taken_by touch < 2 ^ 32 }
-        ensures { OnOk result (TakesIn base place number touch self.old self.new) }
+        ensures { OnOk result (TakesIn base place (record { number = number; touch = touch }) self.old self.new) }
     {
         match touch {
             Touch::Read(addr, _) => read_cell(&mut self.pages, base, addr, number)?,

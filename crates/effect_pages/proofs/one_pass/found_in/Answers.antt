@@ -1,7 +1,7 @@
 use Rattle.std.proofs.Common.{◌≡◌, [], ap, arith, take, drop, ◌-◌}
 use Rattle.std.specs.Prelude.{slice_range}
 use Rattle.cell_value.specs.Effects.{IsCountable, made_by, taken_by}
-use Rattle.effect_pages.proofs.SlicesGoOn.{slice_has, slice_more, slice_sum}
+use Rattle.effect_log.proofs.SlicesGoOn.{slice_has, slice_more, slice_sum}
 use Rattle.effect_pages.proofs.FoundGoesOn.{one_more_found}
 use Rattle.effect_pages.proofs.one_pass.found_in.Goals as goal
 
