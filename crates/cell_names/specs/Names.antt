@@ -230,11 +230,6 @@ cell_text s wanted r = origin_text s.program r.origin ++ (way_down s wanted r.sp
 abbrev pub cell_held : Scene → (wanted : Option ℕ) → Root → Held
 cell_held s wanted r = (way_down s wanted r.spot).end.held
 
--- the name of a cell was written, and this is what the cell is
-pub record IsNamed (s : Scene) (wanted : Option ℕ) (r : Root) (before after : List ℕ) (h : Held) : Type 0 where
-  pub writes : after ≡ before ++ cell_text s wanted r
-  pub is : h ≡ cell_held s wanted r
-
 abbrev pub root_text : Scene → (wanted : Option ℕ) → Option Root → List ℕ
 root_text s wanted None = []
 root_text s wanted (Some r) = cell_text s wanted r

@@ -2,11 +2,11 @@
 
 ghost use Rattle.std.specs.Prelude.{◌≡◌, ◌++◌, IfOk, OnOk, Some, slice_get};
 ghost use Rattle.program_tables.specs.ProgramRows.{type_at};
-ghost use Rattle.cell_names.specs.Names.{IsNamed, WentDown, component_step, field_step, heap_root, is_of_type};
-ghost use Rattle.cell_names.specs.Names.{is_result, is_wanted, least_in, local_at, local_in, local_root, named_local};
-ghost use Rattle.cell_names.specs.Names.{next_step, origin_text, part_local, record_step, result_local, result_of};
-ghost use Rattle.cell_names.specs.Names.{root_at, root_in, scene_in, selector_text, stack_root, step_down, typed_step};
-ghost use Rattle.cell_names.specs.Names.{way_down, whose_text};
+ghost use Rattle.cell_names.specs.Names.{WentDown, cell_held, cell_text, component_step, field_step, heap_root};
+ghost use Rattle.cell_names.specs.Names.{is_of_type, is_result, is_wanted, least_in, local_at, local_in, local_root};
+ghost use Rattle.cell_names.specs.Names.{named_local, next_step, origin_text, part_local, record_step, result_local};
+ghost use Rattle.cell_names.specs.Names.{result_of, root_at, root_in, scene_in, selector_text, stack_root, step_down};
+ghost use Rattle.cell_names.specs.Names.{typed_step, way_down, whose_text};
 
 use crate::finding::Names;
 use crate::pieces::write_number;
@@ -503,7 +503,8 @@ pub fn write_root(
     wanted: Option<u32>,
     root: Root,
 ) -> Result<Held, AllocError>
-    ensures { IfOk result (λ held. IsNamed (scene_in scene.now) wanted root out.old out.new held) }
+    ensures writes { OnOk result (out.new ≡ out.old ++ cell_text (scene_in scene.now) wanted root) }
+    ensures is { IfOk result (λ held. held ≡ cell_held (scene_in scene.now) wanted root) }
 {
     write_origin(out, scene.program, root.origin)?;
     let end = write_way(out, scene, wanted, root.spot)?;
