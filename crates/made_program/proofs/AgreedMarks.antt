@@ -1,12 +1,10 @@
 -- The marks that the answers give: what is said of each call is what was agreed on.
-use Rattle.std.proofs.Common.{◌≡◌, ℕ, zero, suc, ◌+◌, Bool, true, false, List, [], ◌∷◌, ◌++◌, Some, inl, inr, refl, sym, ap, subst}
-use Rattle.std.proofs.Common.{◌∙◌, append-nil, arith}
+use Rattle.std.proofs.Common.{◌≡◌, ℕ, zero, suc, Bool, true, false, List, [], ◌∷◌, inl, inr, refl, sym, ap, subst}
+use Rattle.std.proofs.Common.{◌∙◌, arith}
 use Rattle.std.specs.Prelude.{if◌then◌else◌, slice_index}
-use Rattle.std.specs.List.{filter_map}
-use Rattle.std.proofs.lemmas.Bool.{and_from, cases_eq, cond-false, cond-true, eq-eqb, le-leb, ne_eqb}
+use Rattle.std.proofs.lemmas.Bool.{and_from, cases_eq, le-leb}
 use Rattle.std.proofs.lemmas.List.Elements.{filter_map-append}
-use Rattle.std.proofs.lemmas.List.Folds.{list_any-append}
-use Rattle.std.specs.Prelude.{nat_le, ◌||◌}
+use Rattle.std.specs.Prelude.{nat_le}
 use Rattle.call_tree.specs.Clear.{is_clear, is_unknown}
 use Rattle.call_tree.specs.declared.records.Mark.{Mark}
 use Rattle.call_tree.specs.declared.records.Mark.TheVariants.{Unjudged, Right, Wrong, Unknown, Trusted}
@@ -16,50 +14,15 @@ use Rattle.answer_book.specs.declared.entries.Judgement.TheVariants as judged_to
 use Rattle.answer_book.specs.declared.entries.What.{What}
 use Rattle.answer_book.specs.declared.entries.What.TheVariants.{Judged}
 use Rattle.answer_book.specs.Entries.{entries_with, entry_saying, said_by, standing_answers}
-use Rattle.answer_book.specs.Marks.{is_trusted, judgement_on, last_judgement, mark_by, mark_given, mark_of, trusts}
-use Rattle.answer_book.specs.Numbers.{last_of}
-use Rattle.answer_book.proofs.FilterMaps.{gives_none, gives_one}
-use Rattle.answer_book.proofs.LastWhere.{last_of_more}
+use Rattle.answer_book.specs.Marks.{mark_by, mark_of}
 use Rattle.subtree_weights.specs.Searched.{is_in}
 use Rattle.optimal_query.specs.declared.state.State.{State}
 use Rattle.optimal_query.specs.declared.state.State.TheVariants.{Ask, Found, Narrowed, NothingWrong, Unclear}
 use Rattle.optimal_query.specs.Laws.{judged, mark_in}
+use Rattle.optimal_query.proofs.OneMoreAnswer.{new_mark, old_mark}
 use Rattle.dialog_replies.specs.Subject.{Subject, state_after}
 use Rattle.made_program.specs.Answering.{answered_to, entries_after, fault_of, judgement_of}
 use Rattle.made_program.specs.Laws.{IsSmallTree}
-
-last_more : (answers : List What) (what : What) (call : ℕ)
-    → last_judgement (answers ++ what ∷ []) call ≡ last_of (filter_map (judgement_on call) answers ++ filter_map (judgement_on call) (what ∷ []))
-last_more answers what call = ap last_of (filter_map-append (judgement_on call) answers (what ∷ []))
-
-or_false : (b : Bool) → (b || false) ≡ b
-or_false true = refl
-or_false false = refl
-
-new_mark : (routine : List ℕ) (answers : List What) (call : ℕ) (answer : Judgement) → mark_of routine (judged answers call answer) call ≡ mark_by answer
-unfolding mark_of
-new_mark routine answers call answer =
-    let said = filter_map (judgement_on call) answers in
-    let last : last_judgement (judged answers call answer) call ≡ Some answer =
-    last_more answers (Judged call answer) call
-    ∙ ap (λ l. last_of (said ++ l)) (gives_one (judgement_on call) (Judged call answer) answer (cond-true _ _ _ (eq-eqb call call refl)))
-    ∙ last_of_more said answer in
-    ap (λ o. mark_given o (is_trusted (judged answers call answer) (slice_index routine call))) last
-
-old_mark : (routine : List ℕ) (answers : List What) (call : ℕ) (answer : Judgement) (other : ℕ) → (other ≡ call → ⊥)
-    → mark_of routine (judged answers call answer) other ≡ mark_of routine answers other
-unfolding mark_of
-old_mark routine answers call answer other differs =
-    let said = filter_map (judgement_on other) answers in
-    let last : last_judgement (judged answers call answer) other ≡ last_judgement answers other =
-    last_more answers (Judged call answer) other
-    ∙ ap (λ l. last_of (said ++ l)) (gives_none (judgement_on other) (Judged call answer) (cond-false _ _ _ (ne_eqb call other (λ e. differs (sym e)))))
-    ∙ ap last_of (append-nil said) in
-    let trust : is_trusted (judged answers call answer) (slice_index routine other) ≡ is_trusted answers (slice_index routine other) =
-    list_any-append (trusts (slice_index routine other)) answers (Judged call answer ∷ [])
-    ∙ or_false (is_trusted answers (slice_index routine other)) in
-    ap (λ o. mark_given o (is_trusted (judged answers call answer) (slice_index routine other))) last
-    ∙ ap (mark_given (last_judgement answers other)) trust
 
 -- a mark that says nothing, or whether the call at fault stands in the call's subtree
 abbrev pub IsFair : Mark → Bool → Type 0

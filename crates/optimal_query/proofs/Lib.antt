@@ -2,7 +2,7 @@ mod Passed
 mod PassingNumbers
 mod LeastExists
 mod Searched
-mod OneMoreAnswer
+pub mod OneMoreAnswer
 mod AnswersLeave
 mod StatesSay
 mod AtFault
