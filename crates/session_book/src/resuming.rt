@@ -27,10 +27,7 @@ fn resume_with<'a, D: Debugged>(
     ensures entries { IfOk result (λ debug. debug.book.entries ≡ entries.now) }
 {
     let mut steps: Steps<()> = Steps::new();
-    match Debug::with_entries(alloc, run.calls(), entries, &mut steps) {
-        Ok(debug) => Ok(debug),
-        Err(memory) => Err(memory),
-    }
+    Debug::with_entries(alloc, run.calls(), entries, &mut steps)
 }
 
 /// The search over the run with the entries of the saved session, which fits the run; with no saved session, with the

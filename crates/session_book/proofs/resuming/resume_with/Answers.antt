@@ -1,4 +1,5 @@
 use Rattle.std.proofs.Common.{arith, sym, subst}
+use Rattle.std.proofs.lemmas.Result.{IfOk-weaker}
 use Rattle.optimal_query.specs.Search.{Search}
 use Rattle.dialog_replies.specs.Kept.{IsSearchOf}
 use Rattle.dialog_replies.proofs.ColumnsOfCalls.{calls_counted}
@@ -14,8 +15,8 @@ pub with_entries-requires-clause-named : goal.with_entries-requires-clause-named
 with_entries-requires-clause-named g c =
     named_in_run (g.D.Debugged.subject c.args.run.now) c.calls.result.now c.args.entries.now c.calls.ensures c.requires.named
 
-pub returns-in-Ok-clause-search : goal.returns-in-Ok-clause-search
-returns-in-Ok-clause-search g c =
+pub returns-clause-search : goal.returns-clause-search
+returns-clause-search g c =
     let s = g.D.Debugged.subject c.args.run.now in
-    subst (λ (search : Search). IsSearchOf s search) (sym c.in-Ok.ensures.search)
-    (over_the_run s c.calls.result.now c.args.entries.now c.calls.ensures)
+    IfOk-weaker c.with_entries.result _ _ (λ debug search. subst (λ (d : Search). IsSearchOf s d) (sym search)
+    (over_the_run s c.calls.result.now c.args.entries.now c.calls.ensures)) c.with_entries.ensures.search
