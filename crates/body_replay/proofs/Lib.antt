@@ -2,7 +2,6 @@ pub mod ChangesOneByOne
 mod ExitsAreGiven
 pub mod FramesAgain
 pub mod RecordsOfRuns
-pub mod RowsTellTheStates
 pub mod StepsAreCounted
 pub mod StopsAgain
 pub mod WorkBegins

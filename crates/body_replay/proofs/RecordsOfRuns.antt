@@ -29,7 +29,7 @@ use Rattle.program_run.proofs.CallsTold.{calls_told}
 use Rattle.program_run.proofs.RowsInParts.{rows_whole}
 use Rattle.body_replay.specs.Records.{HasRoomFor, IsRecordOf}
 use Rattle.body_replay.specs.Replays.{before_of, work_at, work_in, work_of}
-use Rattle.body_replay.proofs.RowsTellTheStates.{Tells, AllTell, ran_told, tells_at, each_at}
+use Rattle.program_run.proofs.RowsTellTheStates.{Tells, AllTell, ran_told, tells_at, each_at}
 
 below_at : (ms : List (Marked Call)) (k : ℕ) (m : Marked Call) → slice_get ms k ≡ Some m → slice_index (belows ms) k ≡ m.event.below
 below_at [] k m e = absurd (none_some e)

@@ -20,6 +20,7 @@ use Rattle.run_laws.specs.Laws.{IsMet}
 use Rattle.run_laws.proofs.Events.{unmarked, events_append}
 use Rattle.eval_machine.specs.Machines.{Moment}
 use Rattle.eval_tasks.specs.Stops.{Stop, AtLine, AtCall, AtEnd, at_call, on_act, next_stop}
+use Rattle.program_run.specs.Tower.{stage_after}
 use Rattle.body_replay.specs.Again.{Past, Goes, Over, Meeting, Stands, with_state, Resumed, after_child, Met}
 
 pub past_then : {told more : List Event} {r s t : Result Replaying Event} → Past told r s → Past more s t → Past (told ++ more) r t
@@ -155,7 +156,7 @@ module _ (p : ProgramRows) (told : List Event) (next : Out → Tree) (n : ℕ) (
         call = c;
         others = cs;
         calls = q;
-        goes = subst (λ d. Resumed p (told ++ met_now ∷ []) next d (after_child c cs s) r) (sym d)
+        goes = subst (λ d. Resumed p (told ++ met_now ∷ []) (stage_after next d) (after_child c cs s) r) (sym d)
             (record { depth = n; rest = y.rest; is = y.is; past = k });
         later = unmarked y.rest.events;
         among = k.events ∙ append_assoc told (met_now ∷ []) (unmarked y.rest.events);
@@ -164,7 +165,7 @@ module _ (p : ProgramRows) (told : List Event) (next : Out → Tree) (n : ℕ) (
     call = c;
     others = cs;
     calls = q;
-    goes = subst (λ d. Resumed p (told ++ met_now ∷ []) next d (after_child c cs s) r) (sym d) (record {
+    goes = subst (λ d. Resumed p (told ++ met_now ∷ []) (stage_after next d) (after_child c cs s) r) (sym d) (record {
       ends = g.end ∙ ap (λ z. z.end) (sym (some_same e)) ∙ d;
       after = g.after ∙ ap (λ z. z.after) (sym (some_same e));
       events = g.events ∙ ap (λ z. told ++ unmarked z.events) (sym (some_same e));
@@ -185,7 +186,7 @@ module _ (p : ProgramRows) (told : List Event) (next : Out → Tree) (n : ℕ) (
 
 -- the call is the next one of the run
 pub meets_next : {p : ProgramRows} {told : List Event} {f : ℕ} {args : List Value} {next : Out → Tree} {s : Replaying} {r : Result Replaying Event}
-    → Meeting p told f args next s r → Met p told next s r
+    → Meeting p told (record { routine = f; args = args; next = next }) s r → Met p told next s r
 meets_next {p = p} {told = told} {f = f} {args = args} {next = next} {s = s} {r = r} h =
     met_first p told next (suc h.depth) s r h.rest h.past f args s.calls refl h.is
 

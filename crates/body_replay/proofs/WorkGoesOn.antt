@@ -27,6 +27,7 @@ use Rattle.program_run.proofs.ActsKeepCalls.{onward}
 use Rattle.program_run.proofs.LinesTakeSteps.{LeftAt, left_at_stop}
 use Rattle.body_replay.specs.Records.{HasRoomFor, IsRecordOf}
 use Rattle.body_replay.specs.Replays.{kept_event}
+use Rattle.program_run.specs.Tower.{stage_after}
 use Rattle.body_replay.specs.Again.{Goes, Over, Met, Resumed, after_child, Known, Job, View, Reached}
 use Rattle.body_replay.proofs.StopsAgain.{AllMet, all_met, meets_next, met_among, stops_again}
 
@@ -98,7 +99,7 @@ module _ {p : ProgramRows} {h : History} {j : Job h} {next : Out → Tree} {v : 
   room = subst (HasRoomFor child) entry known.room
 
   pub goes_on : (v' : View) (w : WayOut) (answer : Option Value) → Applied child v v' w answer
-      → Reached h j (λ told s. Resumed p told next (turns.end_of w answer) s j.work) v'
+      → Reached h j (λ told s. Resumed p told (stage_after next (turns.end_of w answer)) s j.work) v'
   goes_on v' w answer b =
       let met_now : Event = ChildOf v.next v.state in
       let n = a.next in
@@ -119,13 +120,13 @@ module _ {p : ProgramRows} {h : History} {j : Job h} {next : Out → Tree} {v : 
         next = omega (arith, n, n');
         few = omega (arith, long, steps, calls, few);
         calls = omega (arith, calls, most);
-        stands = subst (λ s. Resumed p (a.told ++ met_now ∷ []) next (turns.end_of w answer) s j.work)
+        stands = subst (λ s. Resumed p (a.told ++ met_now ∷ []) (stage_after next (turns.end_of w answer)) s j.work)
             (λ i. record {
               state = sym b.state i;
               number = (let e : v.next + (child.below + 1) ≡ v'.next = omega (arith, n') in e) i;
               calls = rest i;
             })
-            (subst (λ e. Resumed p (a.told ++ met_now ∷ []) next e (after_child child a.stands.others (record {
+            (subst (λ e. Resumed p (a.told ++ met_now ∷ []) (stage_after next e) (after_child child a.stands.others (record {
               state = v.state;
               number = v.next;
               calls = drop so_far j.below;

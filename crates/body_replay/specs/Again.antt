@@ -10,7 +10,7 @@ use Rattle.call_tree.specs.declared.events.Event as kept
 use Rattle.program_tables.specs.ProgramRows.{ProgramRows}
 use Rattle.program_meaning.specs.State.{State, most_calls}
 use Rattle.program_meaning.specs.Tree.{Out, Tree}
-use Rattle.program_meaning.specs.Run.{End, Ended, Halted, Marked, Result, Call, joined}
+use Rattle.program_meaning.specs.Run.{End, Marked, Result, Call, joined}
 use Rattle.program_meaning.specs.Apply.{apply}
 use Rattle.program_meaning.specs.Replay.{Event, LineOf, ChildOf, Replaying, end_of, next_call, replay_of}
 use Rattle.run_laws.specs.Laws.{IsMet}
@@ -19,6 +19,7 @@ use Rattle.eval_tasks.specs.Stops.{Stop, AtLine, AtCall, AtEnd}
 use Rattle.eval_tasks.specs.Rest.{rest_of, waiting}
 use Rattle.eval_tasks.specs.Turns as turns
 use Rattle.program_run.specs.declared.history.History.{History}
+use Rattle.program_run.specs.Tower.{Stage, Rests, Calls, Ends, stage_after}
 use Rattle.body_replay.specs.Records.{HasRoomFor, IsRecordOf}
 use Rattle.body_replay.specs.Replays.{kept_event}
 use Rattle.body_replay.specs.declared.replayer.Replayer.{Replayer}
@@ -48,28 +49,35 @@ pub record Over (told : List Event) (end : End) (s : Replaying) (r : Result Repl
   pub after : r.after ≡ s
   pub events : happened r.events ≡ told
 
+-- a call that is to be entered, and what its caller does after it
+pub record Pending : Type 0 where
+  pub routine : ℕ
+  pub args : List Value
+  pub next : Out → Tree
+
 -- a call is to be met
-pub record Meeting (p : ProgramRows) (told : List Event) (f : ℕ) (args : List Value) (next : Out → Tree)
-    (s : Replaying) (r : Result Replaying Event) : Type 0
+pub record Meeting (p : ProgramRows) (told : List Event) (c : Pending) (s : Replaying) (r : Result Replaying Event) :
+    Type 0
   where
     pub depth : ℕ
     pub rest : Result Replaying Event
-    pub is : joined (next_call f args s.state s.number s.calls) (λ out τ. replay_of p (suc depth) (next out) τ)
-        ≡ Some rest
+    pub is : joined (next_call c.routine c.args s.state s.number s.calls) (λ out τ. replay_of p (suc depth)
+        (c.next out) τ) ≡ Some rest
     pub past : Past told r rest
 
 abbrev pub Stands : ProgramRows → List Event → Stop → Replaying → Result Replaying Event → Type 0
 Stands p told (AtLine line rest) s r = Goes p (told ++ LineOf line ∷ []) rest s r
-Stands p told (AtCall f args next) s r = Meeting p told f args next s r
+Stands p told (AtCall f args next) s r = Meeting p told (record { routine = f; args = args; next = next }) s r
 Stands p told (AtEnd end) s r = Over told end s r
 
 abbrev pub with_state : Replaying → State → Replaying
 with_state s σ = record s { state = σ }
 
--- how it goes on after a call that ended so
-abbrev pub Resumed : ProgramRows → List Event → (Out → Tree) → End → Replaying → Result Replaying Event → Type 0
-Resumed p told next (Ended out) s r = Goes p told (next out) s r
-Resumed p told next (Halted way) s r = Over told (Halted way) s r
+-- how it goes on from a stage
+abbrev pub Resumed : ProgramRows → List Event → Stage → Replaying → Result Replaying Event → Type 0
+Resumed p told (Rests t) s r = Goes p told t s r
+Resumed p told (Calls f args next) s r = Meeting p told (record { routine = f; args = args; next = next }) s r
+Resumed p told (Ends end) s r = Over told end s r
 
 -- what is left after the effect of a call
 abbrev pub after_child : Call → List Call → Replaying → Replaying
@@ -81,7 +89,7 @@ pub record Met (p : ProgramRows) (told : List Event) (next : Out → Tree) (s : 
     pub call : Call
     pub others : List Call
     pub calls : s.calls ≡ call ∷ others
-    pub goes : Resumed p (told ++ ChildOf s.number s.state ∷ []) next (end_of call.way call.result)
+    pub goes : Resumed p (told ++ ChildOf s.number s.state ∷ []) (stage_after next (end_of call.way call.result))
         (after_child call others s) r
     pub later : List Event
     pub among : happened r.events ≡ told ++ ChildOf s.number s.state ∷ later
@@ -135,9 +143,9 @@ abbrev pub AtChild : ProgramRows → (h : History) → Job h → Replayer → Ty
 AtChild p h j r = Reached h j (λ told s. Met p told (waiting p r.body) s j.work) (view_of r)
 
 -- it is after a call that ended so
-abbrev pub AfterChild : ProgramRows → (h : History) → Job h → WayOut → Option Value → Replayer → Type 0
-AfterChild p h j way answer r =
-    Reached h j (λ told s. Resumed p told (waiting p r.body) (turns.end_of way answer) s j.work) (view_of r)
+abbrev pub AfterChild : ProgramRows → (h : History) → Job h → WayOut × Option Value → Replayer → Type 0
+AfterChild p h j end r = Reached h j
+    (λ told s. Resumed p told (stage_after (waiting p r.body) (turns.end_of end.0 end.1)) s j.work) (view_of r)
 
 -- it goes on, or the body has ended so
 abbrev pub Turned : ProgramRows → (h : History) → Job h → Option (WayOut × Option Value) → Replayer → Type 0

@@ -41,7 +41,7 @@ impl Replayer {
         requires ready { IsReady self.old.machine }
         requires child { (p : ProgramRows) × (j : Job run.now) × AtChild p run.now j self.old }
         ensures met { (p : ProgramRows) (j : Job run.now) → AtChild p run.now j self.old
-            → IfOk result (λ e. AfterChild p run.now j e.0 e.1 self.new) }
+            → IfOk result (λ end. AfterChild p run.now j end self.new) }
         ensures ready { OnOk result (IsReady self.new.machine) }
         ensures less { OnOk result (work_left self.new < work_left self.old) }
         ensures counts { (first : Tally) → Counts run.now first (tally_of steps.old self.old)
@@ -57,8 +57,8 @@ impl Replayer {
 
     /// Goes on after a call that ended so, or gives how the body ended.
     fn resume(&mut self, way: WayOut, answer: Option<Value>) -> Option<(WayOut, Option<Value>)>
-        ensures turned { (p : ProgramRows) (h : kept.History) (j : Job h) → AfterChild p h j way answer self.old
-            → Turned p h j result self.new }
+        ensures turned { (p : ProgramRows) (h : kept.History) (j : Job h)
+            → AfterChild p h j (way, answer) self.old → Turned p h j result self.new }
         ensures machine { self.new.machine ≡ self.old.machine }
         ensures events { self.new.events ≡ self.old.events }
     {

@@ -8,7 +8,7 @@ ghost use Rattle.program_meaning.specs.Tree.{bind, doing};
 ghost use Rattle.program_meaning.specs.Expressions as expressions;
 ghost use Rattle.eval_tasks.specs.Rest.{below, declared, from, from_under, here, lists_of, pass, resume, tasks_of};
 ghost use Rattle.eval_tasks.specs.Rest.{top_list, values_of};
-ghost use Rattle.eval_tasks.specs.Turns.{Turns};
+ghost use Rattle.eval_tasks.specs.Turns.{Turns, configuration};
 ghost use Rattle.eval_tasks.specs.Weight.{Falls, body_weight, come, left_of, left_with, part_weight, task_weight};
 ghost use Rattle.eval_tasks.specs.Weight.{now_weight, tasks_weight};
 
@@ -31,8 +31,8 @@ pub fn pass_actuals(
     line: u32,
 ) -> Turned
     requires ready { IsReady machine.old }
-    ensures turns { Turns program.now (from program.now body.old (Now.Begin (Part.Pass at line)))
-        (moment_of machine.old) result body.new (moment_of machine.new) }
+    ensures turns { Turns program.now (configuration (from program.now body.old (Now.Begin (Part.Pass at line)))
+        (moment_of machine.old)) result body.new (moment_of machine.new) }
     ensures falls { Falls result (left_of body.new machine.new)
         (left_with machine.old.steps (now_weight (Now.Begin (Part.Pass at line)) + tasks_weight body.old)) }
     ensures home { body.new.home ≡ body.old.home }
@@ -54,9 +54,10 @@ fn pass_actual(
     line: u32,
 ) -> Turned
     requires ready { IsReady machine.old }
-    ensures turns { Turns program.now (bind (expressions.of_actual program.now (top_list (lists_of body.old))
+    ensures turns { Turns program.now (configuration (bind (expressions.of_actual program.now
+        (top_list (lists_of body.old))
         (here body.old.home line) (Row.Item item)) (resume program.now body.old.home (tasks_of body.old)
-        (values_of body.old) (below (lists_of body.old)))) (moment_of machine.old) result body.new
+        (values_of body.old) (below (lists_of body.old)))) (moment_of machine.old)) result body.new
         (moment_of machine.new) }
     ensures falls { Falls result (left_of body.new machine.new)
         (left_with machine.old.steps (come + 1 + tasks_weight body.old)) }
@@ -112,9 +113,9 @@ fn add_routine(
     line: u32,
 ) -> Turned
     ensures turns { (a : Action (ℕ × ℕ)) (m m' : Moment) → DoesAll (λ x. x) (performs a m.state) found m m'
-        → Turns program.now (bind (doing line a (λ (routine, frame). pass body.old.home next line
+        → Turns program.now (configuration (bind (doing line a (λ (routine, frame). pass body.old.home next line
         (top_list (lists_of body.old) ++ CellValue.Routine routine frame ∷ []))) (resume program.now body.old.home
-        (tasks_of body.old) (values_of body.old) (below (lists_of body.old)))) m result body.new m' }
+        (tasks_of body.old) (values_of body.old) (below (lists_of body.old)))) m) result body.new m' }
     ensures less { (a : Action (ℕ × ℕ)) (m m' : Moment) → DoesAll (λ x. x) (performs a m.state) found m m'
         → Falls result (left_with m'.state.steps (body_weight body.new))
         (left_with m.state.steps (part_weight (Part.Pass next line) + 1 + tasks_weight body.old)) }
@@ -143,8 +144,8 @@ pub fn add_actual(
     line: u32,
     value: Value,
 ) -> Turned
-    ensures turns { (m : Moment) → Turns program.now (from_under program.now body.old
-        (Now.Came (Way.Scalar value)) (Task.Actual of next line)) m
+    ensures turns { (m : Moment) → Turns program.now (configuration (from_under program.now body.old
+        (Now.Came (Way.Scalar value)) (Task.Actual of next line)) m)
         result body.new m }
     ensures falls { Falls result (body_weight body.new) (come + task_weight (Task.Actual of next line)
         + tasks_weight body.old) }
@@ -165,9 +166,9 @@ pub fn add_cell(
     next: u32,
     line: u32,
 ) -> Turned
-    ensures turns { (m : Moment) → Turns program.now (bind (pass body.old.home next line
+    ensures turns { (m : Moment) → Turns program.now (configuration (bind (pass body.old.home next line
         (top_list (lists_of body.old) ++ value ∷ [])) (resume program.now body.old.home (tasks_of body.old)
-        (values_of body.old) (below (lists_of body.old)))) m result body.new m }
+        (values_of body.old) (below (lists_of body.old)))) m) result body.new m }
     ensures falls { Falls result (body_weight body.new)
         (part_weight (Part.Pass next line) + 1 + tasks_weight body.old) }
     ensures home { body.new.home ≡ body.old.home }
@@ -188,8 +189,8 @@ pub fn add_actual_cells(
     next: u32,
     line: u32,
 ) -> Turned
-    ensures turns { (m : Moment) → Turns program.now (from_under program.now body.old
-        (Now.Came Way.Cells) (Task.Actual of next line)) m
+    ensures turns { (m : Moment) → Turns program.now (configuration (from_under program.now body.old
+        (Now.Came Way.Cells) (Task.Actual of next line)) m)
         result body.new m }
     ensures falls { Falls result (body_weight body.new) (come + task_weight (Task.Actual of next line)
         + tasks_weight body.old) }

@@ -9,7 +9,7 @@ ghost use Rattle.program_meaning.specs.Acts.{limit_passed};
 ghost use Rattle.program_meaning.specs.Tree.{Enter, bind};
 ghost use Rattle.eval_tasks.specs.Rest.{at_work, below, from_under, lists_of, resume, returned, tasks_of, top_list};
 ghost use Rattle.eval_tasks.specs.Rest.{values_of};
-ghost use Rattle.eval_tasks.specs.Turns.{Entered, Turns};
+ghost use Rattle.eval_tasks.specs.Turns.{Entered, Turns, configuration};
 ghost use Rattle.eval_tasks.specs.Weight.{Falls, body_weight, come, left_of, left_with, part_weight, task_weight};
 ghost use Rattle.eval_tasks.specs.Weight.{tasks_weight};
 
@@ -23,9 +23,9 @@ use std::alloc::Global;
 
 /// A call begins with its actual parameters, and the task is to go on with them.
 pub fn begin_call(body: &mut Body, alloc: Global, task: Task, actuals: u32, line: u32) -> Turned
-    ensures turns { (p : ProgramRows) (m : Moment) → Turns p (at_work p body.old.home
+    ensures turns { (p : ProgramRows) (m : Moment) → Turns p (configuration (at_work p body.old.home
         (Now.Begin (Part.Pass actuals line)) (task ∷ tasks_of body.old) (values_of body.old)
-        ([] ∷ lists_of body.old)) m result body.new m }
+        ([] ∷ lists_of body.old)) m) result body.new m }
     ensures falls { Falls result (body_weight body.new)
         (part_weight (Part.Pass actuals line) + task_weight task + tasks_weight body.old + 1) }
     ensures home { body.new.home ≡ body.old.home }
@@ -48,9 +48,9 @@ pub fn call(
     line: u32,
 ) -> Turned
     requires ready { IsReady machine.old }
-    ensures turns { Turns program.now (from_under program.now body.old (Now.Came Way.Cells)
+    ensures turns { Turns program.now (configuration (from_under program.now body.old (Now.Came Way.Cells)
         (Task.Call procedure routine levels line))
-        (moment_of machine.old) result body.new (moment_of machine.new) }
+        (moment_of machine.old)) result body.new (moment_of machine.new) }
     ensures falls { Falls result (left_of body.new machine.new)
         (left_with machine.old.steps (come + task_weight (Task.Call procedure routine levels line)
         + tasks_weight body.old)) }
@@ -89,9 +89,9 @@ pub fn call_formal(
     line: u32,
 ) -> Turned
     requires ready { IsReady machine.old }
-    ensures turns { Turns program.now (from_under program.now body.old (Now.Came Way.Cells)
+    ensures turns { Turns program.now (configuration (from_under program.now body.old (Now.Came Way.Cells)
         (Task.CallFormal procedure place levels line))
-        (moment_of machine.old) result body.new (moment_of machine.new) }
+        (moment_of machine.old)) result body.new (moment_of machine.new) }
     ensures falls { Falls result (left_of body.new machine.new)
         (left_with machine.old.steps (come + task_weight (Task.CallFormal procedure place levels line)
         + tasks_weight body.old)) }
@@ -132,9 +132,9 @@ fn enter(
 ) -> Turned
     requires ready { IsReady machine.now }
     ensures turns { (p : ProgramRows) (r : RoutineRow) → routine_at p routine ≡ Some r → r.cells ≡ cells
-        → Turns p (bind (Enter routine cells (CellValue.Frame frame ∷ top_list (lists_of body.old))
+        → Turns p (configuration (bind (Enter routine cells (CellValue.Frame frame ∷ top_list (lists_of body.old))
         (returned procedure)) (resume p body.old.home (tasks_of body.old) (values_of body.old)
-        (below (lists_of body.old)))) (moment_of machine.now) result body.new (moment_of machine.now) }
+        (below (lists_of body.old)))) (moment_of machine.now)) result body.new (moment_of machine.now) }
     ensures falls { (left before : ℕ) → Falls result left before }
     ensures home { body.new.home ≡ body.old.home }
 {
@@ -147,8 +147,9 @@ fn enter(
 /// A call that passes no limit is to be entered.
 fn stop_at_call(body: &mut Body, alloc: Global, procedure: bool, routine: u32, frame: u32) -> Turned
     ensures entered { (p : ProgramRows) (m : Moment) (cells : ℕ) → limit_passed m.state cells ≡ None → Entered p
-        (bind (Enter routine cells (CellValue.Frame frame ∷ top_list (lists_of body.old)) (returned procedure))
-        (resume p body.old.home (tasks_of body.old) (values_of body.old) (below (lists_of body.old)))) m
+        (configuration (bind (Enter routine cells (CellValue.Frame frame ∷ top_list (lists_of body.old))
+        (returned procedure))
+        (resume p body.old.home (tasks_of body.old) (values_of body.old) (below (lists_of body.old)))) m)
         routine result body.new }
     ensures falls { (left before : ℕ) → Falls result left before }
     ensures home { body.new.home ≡ body.old.home }

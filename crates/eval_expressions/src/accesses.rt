@@ -11,7 +11,7 @@ ghost use Rattle.program_meaning.specs.Accesses.{address, cells_at, of_access, o
 ghost use Rattle.program_meaning.specs.Accesses.{locate_field as field_in, with_record};
 ghost use Rattle.program_meaning.specs.Accesses.{locate_before, with_bounds, with_components, spend as spend_in};
 ghost use Rattle.eval_tasks.specs.Rest.{from, from_under, here, waiting};
-ghost use Rattle.eval_tasks.specs.Turns.{Turns};
+ghost use Rattle.eval_tasks.specs.Turns.{Turns, configuration};
 ghost use Rattle.eval_tasks.specs.Weight.{Falls, body_weight, come, left_of, left_with, part_weight, task_weight};
 ghost use Rattle.eval_tasks.specs.Weight.{now_weight, tasks_weight};
 
@@ -38,8 +38,8 @@ pub fn locate(
     line: u32,
 ) -> Turned
     requires ready { IsReady machine.old }
-    ensures turns { Turns program.now (from program.now body.old (Now.Begin (Part.Locate row target line)))
-        (moment_of machine.old) result body.new
+    ensures turns { Turns program.now (configuration (from program.now body.old
+        (Now.Begin (Part.Locate row target line))) (moment_of machine.old)) result body.new
         (moment_of machine.new) }
     ensures falls { Falls result (left_of body.new machine.new)
         (left_with machine.old.steps (now_weight (Now.Begin (Part.Locate row target line)) + tasks_weight body.old)) }
@@ -66,8 +66,8 @@ fn begin_access(
     line: u32,
 ) -> Turned
     requires ready { IsReady machine.old }
-    ensures turns { Turns program.now (bind (of_access program.now row target (here body.old.home line) access)
-        (waiting program.now body.old)) (moment_of machine.old) result body.new (moment_of machine.new) }
+    ensures turns { Turns program.now (configuration (bind (of_access program.now row target (here body.old.home line)
+        access) (waiting program.now body.old)) (moment_of machine.old)) result body.new (moment_of machine.new) }
     ensures falls { Falls result (left_of body.new machine.new)
         (left_with machine.old.steps (part_weight (Part.Locate row target line) + tasks_weight body.old)) }
     ensures home { body.new.home ≡ body.old.home }
@@ -118,8 +118,8 @@ fn variable(
     line: u32,
 ) -> Turned
     requires ready { IsReady machine.old }
-    ensures turns { Turns program.now (bind (spend_in (here body.old.home line) (doing line
-        (cell_out levels body.old.home.base place) address)) (waiting program.now body.old)) (moment_of machine.old)
+    ensures turns { Turns program.now (configuration (bind (spend_in (here body.old.home line) (doing line
+        (cell_out levels body.old.home.base place) address)) (waiting program.now body.old)) (moment_of machine.old))
         result body.new (moment_of machine.new) }
     ensures falls { Falls result (left_of body.new machine.new)
         (left_with machine.old.steps (tasks_weight body.old)) }
@@ -142,9 +142,9 @@ fn reference(
     line: u32,
 ) -> Turned
     requires ready { IsReady machine.old }
-    ensures turns { Turns program.now (bind (spend_in (here body.old.home line) (doing line
+    ensures turns { Turns program.now (configuration (bind (spend_in (here body.old.home line) (doing line
         (reference_out levels body.old.home.base place) address)) (waiting program.now body.old))
-        (moment_of machine.old) result body.new (moment_of machine.new) }
+        (moment_of machine.old)) result body.new (moment_of machine.new) }
     ensures falls { Falls result (left_of body.new machine.new)
         (left_with machine.old.steps (tasks_weight body.old)) }
     ensures home { body.new.home ≡ body.old.home }
@@ -166,9 +166,9 @@ pub fn continue_access(
     addr: u32,
 ) -> Turned
     requires ready { IsReady machine.old }
-    ensures turns { Turns program.now (from_under program.now body.old (Now.Came (Way.Address addr))
+    ensures turns { Turns program.now (configuration (from_under program.now body.old (Now.Came (Way.Address addr))
         (Task.Located located))
-        (moment_of machine.old) result body.new (moment_of machine.new) }
+        (moment_of machine.old)) result body.new (moment_of machine.new) }
     ensures falls { Falls result (left_of body.new machine.new)
         (left_with machine.old.steps (come + task_weight (Task.Located located) + tasks_weight body.old)) }
     ensures home { body.new.home ≡ body.old.home }
@@ -225,8 +225,8 @@ fn locate_first(
     ensures turns { (p : ProgramRows) (go : ℕ → Tree) (m : Moment)
         → from_under p body.old (Now.Begin (Part.Locate access target line)) (Task.Located located)
         ≡ bind (Sub (Locate access target (here body.old.home line)) (on_address go)) (waiting p body.old)
-        → Turns p (bind (locate_before row access target (here body.old.home line) go) (waiting p body.old)) m result
-        body.new m }
+        → Turns p (configuration (bind (locate_before row access target (here body.old.home line) go)
+        (waiting p body.old)) m) result body.new m }
     ensures falls { Falls result (body_weight body.new)
         (part_weight (Part.Locate row target line) + tasks_weight body.old) }
     ensures home { body.new.home ≡ body.old.home }
@@ -248,8 +248,8 @@ fn locate_first(
 /// The variable to which the pointer at an address points (6.5.4).
 fn follow_pointer(body: &mut Body, machine: &mut Machine, line: u32, addr: u32) -> Turned
     requires ready { IsReady machine.old }
-    ensures turns { (p : ProgramRows) → Turns p (bind (spend_in (here body.old.home line)
-        (doing line (pointed_at_in addr) address)) (waiting p body.old)) (moment_of machine.old)
+    ensures turns { (p : ProgramRows) → Turns p (configuration (bind (spend_in (here body.old.home line)
+        (doing line (pointed_at_in addr) address)) (waiting p body.old)) (moment_of machine.old))
         result body.new (moment_of machine.new) }
     ensures falls { Falls result (left_of body.new machine.new)
         (left_with machine.old.steps (tasks_weight body.old)) }
@@ -273,8 +273,8 @@ fn variable_value(
     addr: u32,
 ) -> Turned
     requires ready { IsReady machine.old }
-    ensures turns { Turns program.now (bind (value_at line addr kind)
-        (waiting program.now body.old)) (moment_of machine.old) result body.new (moment_of machine.new) }
+    ensures turns { Turns program.now (configuration (bind (value_at line addr kind)
+        (waiting program.now body.old)) (moment_of machine.old)) result body.new (moment_of machine.new) }
     ensures falls { Falls result (left_of body.new machine.new)
         (left_with machine.old.steps (come + 1 + tasks_weight body.old)) }
     ensures home { body.new.home ≡ body.old.home }
@@ -314,8 +314,8 @@ fn variable_cells(
     addr: u32,
 ) -> Turned
     requires ready { IsReady machine.old }
-    ensures turns { Turns program.now (bind (cells_at line addr cells) (waiting program.now body.old))
-        (moment_of machine.old) result body.new (moment_of machine.new) }
+    ensures turns { Turns program.now (configuration (bind (cells_at line addr cells) (waiting program.now body.old))
+        (moment_of machine.old)) result body.new (moment_of machine.new) }
     ensures falls { Falls result (left_of body.new machine.new)
         (left_with machine.old.steps (come + 1 + tasks_weight body.old)) }
     ensures home { body.new.home ≡ body.old.home }
@@ -339,8 +339,8 @@ fn locate_field(
     field: u32,
 ) -> Turned
     requires ready { IsReady machine.old }
-    ensures turns { Turns program.now (bind (field_in program.now target line addr field)
-        (waiting program.now body.old)) (moment_of machine.old) result body.new (moment_of machine.new) }
+    ensures turns { Turns program.now (configuration (bind (field_in program.now target line addr field)
+        (waiting program.now body.old)) (moment_of machine.old)) result body.new (moment_of machine.new) }
     ensures falls { Falls result (left_of body.new machine.new)
         (left_with machine.old.steps (come + 1 + tasks_weight body.old)) }
     ensures home { body.new.home ≡ body.old.home }
@@ -362,9 +362,9 @@ fn within(
     line: u32,
 ) -> Turned
     requires ready { IsReady machine.old }
-    ensures turns { Turns program.now (bind (spend_in (here body.old.home line) (with_record
+    ensures turns { Turns program.now (configuration (bind (spend_in (here body.old.home line) (with_record
         (slice_get body.old.home.records place) (λ addr. field_in program.now target line addr field)))
-        (waiting program.now body.old)) (moment_of machine.old) result body.new (moment_of machine.new) }
+        (waiting program.now body.old)) (moment_of machine.old)) result body.new (moment_of machine.new) }
     ensures falls { Falls result (left_of body.new machine.new)
         (left_with machine.old.steps (tasks_weight body.old)) }
     ensures home { body.new.home ≡ body.old.home }
@@ -388,9 +388,9 @@ pub(crate) fn locate_component(
     line: u32,
     value: Value,
 ) -> Turned
-    ensures turns { (m : Moment) → Turns program.now (bind (with_components program.now array (λ a.
+    ensures turns { (m : Moment) → Turns program.now (configuration (bind (with_components program.now array (λ a.
         doing line (action.component a addr value) address))
-        (waiting program.now body.old)) m result body.new m }
+        (waiting program.now body.old)) m) result body.new m }
     ensures falls { Falls result (body_weight body.new) (come + 1 + tasks_weight body.old) }
     ensures home { body.new.home ≡ body.old.home }
 {
@@ -426,9 +426,10 @@ fn locate_component_in(
     line: u32,
     value: Value,
 ) -> Turned
-    ensures turns { (m : Moment) → Turns program.now (bind (with_bounds index (λ least greatest. doing line
+    ensures turns { (m : Moment) → Turns program.now (configuration
+        (bind (with_bounds index (λ least greatest. doing line
         (action.component (record { least = least; greatest = greatest; size = size }) addr value) address))
-        (waiting program.now body.old)) m result body.new m }
+        (waiting program.now body.old)) m) result body.new m }
     ensures falls { Falls result (body_weight body.new) (come + 1 + tasks_weight body.old) }
     ensures home { body.new.home ≡ body.old.home }
 {

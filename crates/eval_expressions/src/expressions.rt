@@ -8,7 +8,7 @@ ghost use Rattle.program_meaning.specs.Expressions.{of_expression};
 ghost use Rattle.eval_rules.specs.Operators.{dyadic_of};
 ghost use Rattle.eval_expressions.specs.Families.{of_designator, of_monadic, of_operation, of_other};
 ghost use Rattle.eval_tasks.specs.Rest.{from, from_under, here, waiting};
-ghost use Rattle.eval_tasks.specs.Turns.{Turns};
+ghost use Rattle.eval_tasks.specs.Turns.{Turns, configuration};
 ghost use Rattle.eval_tasks.specs.Weight.{Falls, body_weight, come, left_of, left_with, task_weight, now_weight};
 ghost use Rattle.eval_tasks.specs.Weight.{tasks_weight};
 
@@ -54,8 +54,8 @@ pub fn evaluate(
     line: u32,
 ) -> Turned
     requires ready { IsReady machine.old }
-    ensures turns { Turns program.now (from program.now body.old (Now.Begin (Part.Eval row line)))
-        (moment_of machine.old) result body.new (moment_of machine.new) }
+    ensures turns { Turns program.now (configuration (from program.now body.old (Now.Begin (Part.Eval row line)))
+        (moment_of machine.old)) result body.new (moment_of machine.new) }
     ensures falls { Falls result (left_of body.new machine.new)
         (left_with machine.old.steps (now_weight (Now.Begin (Part.Eval row line)) + tasks_weight body.old)) }
     ensures home { body.new.home ≡ body.old.home }
@@ -91,8 +91,8 @@ fn begin_stepped(
     line: u32,
 ) -> Turned
     requires ready { IsReady machine.old }
-    ensures turns { Turns program.now (bind (of_expression program.now (here body.old.home line) expression)
-        (waiting program.now body.old)) (moment_of machine.old) result body.new (moment_of machine.new) }
+    ensures turns { Turns program.now (configuration (bind (of_expression program.now (here body.old.home line)
+        expression) (waiting program.now body.old)) (moment_of machine.old)) result body.new (moment_of machine.new) }
     ensures falls { Falls result (left_of body.new machine.new)
         (left_with machine.old.steps (2 * come + tasks_weight body.old)) }
     ensures home { body.new.home ≡ body.old.home }
@@ -119,8 +119,9 @@ fn begin_expression(
     expression: ExpressionRow,
     line: u32,
 ) -> Turned
-    ensures turns { (m : Moment) → Turns program.now (bind (of_operation program.now (here body.old.home line)
-        expression) (waiting program.now body.old)) m result body.new m }
+    ensures turns { (m : Moment) → Turns program.now (configuration
+        (bind (of_operation program.now (here body.old.home line)
+        expression) (waiting program.now body.old)) m) result body.new m }
     ensures falls { Falls result (body_weight body.new) (2 * come + tasks_weight body.old) }
     ensures home { body.new.home ≡ body.old.home }
 {
@@ -145,8 +146,9 @@ fn other_expression(
     expression: ExpressionRow,
     line: u32,
 ) -> Turned
-    ensures turns { (m : Moment) → Turns program.now (bind (of_other program.now (here body.old.home line)
-        expression) (waiting program.now body.old)) m result body.new m }
+    ensures turns { (m : Moment) → Turns program.now (configuration
+        (bind (of_other program.now (here body.old.home line)
+        expression) (waiting program.now body.old)) m) result body.new m }
     ensures falls { Falls result (body_weight body.new) (2 * come + tasks_weight body.old) }
     ensures home { body.new.home ≡ body.old.home }
 {
@@ -171,8 +173,8 @@ fn other_expression(
 /// An expression whose step is taken, with a sign, `not` or a required function of an ordinal (6.7.2.2, 6.7.2.3,
 /// 6.6.6): its operand begins.
 fn monadic(body: &mut Body, expression: ExpressionRow, line: u32) -> Turned
-    ensures turns { (p : ProgramRows) (m : Moment) → Turns p (bind (of_monadic p (here body.old.home line)
-        expression) (waiting p body.old)) m result body.new m }
+    ensures turns { (p : ProgramRows) (m : Moment) → Turns p (configuration
+        (bind (of_monadic p (here body.old.home line) expression) (waiting p body.old)) m) result body.new m }
     ensures falls { Falls result (body_weight body.new) (2 * come + tasks_weight body.old) }
     ensures home { body.new.home ≡ body.old.home }
 {
@@ -205,8 +207,8 @@ fn monadic(body: &mut Body, expression: ExpressionRow, line: u32) -> Turned
 
 /// A function designator (6.7.3) whose step is taken: its actual parameters begin.
 fn designator(body: &mut Body, alloc: Global, expression: ExpressionRow, line: u32) -> Turned
-    ensures turns { (p : ProgramRows) (m : Moment) → Turns p (bind (of_designator p (here body.old.home line)
-        expression) (waiting p body.old)) m result body.new m }
+    ensures turns { (p : ProgramRows) (m : Moment) → Turns p (configuration
+        (bind (of_designator p (here body.old.home line) expression) (waiting p body.old)) m) result body.new m }
     ensures falls { Falls result (body_weight body.new) (2 * come + tasks_weight body.old) }
     ensures home { body.new.home ≡ body.old.home }
 {
@@ -254,8 +256,8 @@ pub fn continue_expression(
     operand: Operand,
     value: Value,
 ) -> Turned
-    ensures turns { (m : Moment) → Turns program.now (from_under program.now body.old
-        (Now.Came (Way.Scalar value)) (Task.Operand operand)) m
+    ensures turns { (m : Moment) → Turns program.now (configuration (from_under program.now body.old
+        (Now.Came (Way.Scalar value)) (Task.Operand operand)) m)
         result body.new m }
     ensures falls { Falls result (body_weight body.new) (come + task_weight (Task.Operand operand)
         + tasks_weight body.old) }

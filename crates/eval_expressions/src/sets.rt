@@ -9,7 +9,7 @@ ghost use Rattle.program_meaning.specs.Values as values;
 ghost use Rattle.program_meaning.specs.Expressions as expressions;
 ghost use Rattle.eval_tasks.specs.Rest.{below, from, from_under, here, lists_of, resume, tasks_of, top, values_of};
 ghost use Rattle.eval_tasks.specs.Rest.{waiting};
-ghost use Rattle.eval_tasks.specs.Turns.{Turns};
+ghost use Rattle.eval_tasks.specs.Turns.{Turns, configuration};
 ghost use Rattle.eval_tasks.specs.Weight.{Falls, body_weight, come, part_weight, task_weight, tasks_weight};
 
 use cell_value::{OpFault, Order, Value};
@@ -22,8 +22,8 @@ use std::alloc::Global;
 
 /// A string: the values of its components.
 pub(crate) fn give_string(body: &mut Body, alloc: Global, program: &Program, token: u32) -> Turned
-    ensures turns { (p : ProgramRows) (m : Moment) → Turns p (bind (Ret (CellsOf (values.string_of
-        (text_at program.now token)))) (waiting p body.old)) m result body.new m }
+    ensures turns { (p : ProgramRows) (m : Moment) → Turns p (configuration (bind (Ret (CellsOf (values.string_of
+        (text_at program.now token)))) (waiting p body.old)) m) result body.new m }
     ensures falls { Falls result (body_weight body.new) (come + 1 + tasks_weight body.old) }
     ensures home { body.new.home ≡ body.old.home }
 {
@@ -33,8 +33,8 @@ pub(crate) fn give_string(body: &mut Body, alloc: Global, program: &Program, tok
 
 /// The left one of two strings has its values, which wait: the right one begins.
 pub fn begin_right_text(body: &mut Body, order: Order, right: u32, line: u32) -> Turned
-    ensures turns { (p : ProgramRows) (m : Moment) → Turns p (from_under p body.old (Now.Came Way.Cells)
-        (Task.TextRight order right line)) m result body.new m }
+    ensures turns { (p : ProgramRows) (m : Moment) → Turns p (configuration (from_under p body.old (Now.Came Way.Cells)
+        (Task.TextRight order right line)) m) result body.new m }
     ensures falls { Falls result (body_weight body.new)
         (come + task_weight (Task.TextRight order right line) + tasks_weight body.old) }
     ensures home { body.new.home ≡ body.old.home }
@@ -47,8 +47,8 @@ pub fn begin_right_text(body: &mut Body, order: Order, right: u32, line: u32) ->
 
 /// Both of two strings have their values.
 pub fn end_texts(body: &mut Body, alloc: Global, order: Order, line: u32) -> Turned
-    ensures turns { (p : ProgramRows) (m : Moment) → Turns p (from_under p body.old (Now.Came Way.Cells)
-        (Task.Texts order line)) m result body.new m }
+    ensures turns { (p : ProgramRows) (m : Moment) → Turns p (configuration (from_under p body.old (Now.Came Way.Cells)
+        (Task.Texts order line)) m) result body.new m }
     ensures falls { Falls result (body_weight body.new)
         (come + task_weight (Task.Texts order line) + tasks_weight body.old) }
     ensures home { body.new.home ≡ body.old.home }
@@ -60,8 +60,8 @@ pub fn end_texts(body: &mut Body, alloc: Global, order: Order, line: u32) -> Tur
 
 /// The members of a set constructor from an item on begin, where those before it made this set.
 pub(crate) fn gather_from(body: &mut Body, set: Value, at: u32, line: u32) -> Turned
-    ensures turns { (p : ProgramRows) (m : Moment) → Turns p (bind (Sub (parts.Gather at set
-        (here body.old.home line)) Ret) (waiting p body.old)) m result body.new m }
+    ensures turns { (p : ProgramRows) (m : Moment) → Turns p (configuration (bind (Sub (parts.Gather at set
+        (here body.old.home line)) Ret) (waiting p body.old)) m) result body.new m }
     ensures falls { Falls result (body_weight body.new)
         (part_weight (Part.Gather at line) + 1 + tasks_weight body.old) }
     ensures home { body.new.home ≡ body.old.home }
@@ -73,8 +73,8 @@ pub(crate) fn gather_from(body: &mut Body, set: Value, at: u32, line: u32) -> Tu
 
 /// The members of a set constructor from an item on (6.7.1).
 pub fn gather(body: &mut Body, program: &Program, at: u32, line: u32) -> Turned
-    ensures turns { (m : Moment) → Turns program.now (from program.now body.old (Now.Begin (Part.Gather at line))) m
-        result body.new m }
+    ensures turns { (m : Moment) → Turns program.now (configuration
+        (from program.now body.old (Now.Begin (Part.Gather at line))) m) result body.new m }
     ensures falls { Falls result (body_weight body.new)
         (part_weight (Part.Gather at line) + tasks_weight body.old) }
     ensures home { body.new.home ≡ body.old.home }
@@ -87,9 +87,9 @@ pub fn gather(body: &mut Body, program: &Program, at: u32, line: u32) -> Turned
 
 /// The same, by what kind of item it is.
 fn gather_item(body: &mut Body, item: ItemRow, line: u32) -> Turned
-    ensures turns { (p : ProgramRows) (m : Moment) → Turns p (bind (expressions.of_members
+    ensures turns { (p : ProgramRows) (m : Moment) → Turns p (configuration (bind (expressions.of_members
         (top (values_of body.old)) (here body.old.home line) (Row.Item item)) (resume p body.old.home
-        (tasks_of body.old) (below (values_of body.old)) (lists_of body.old))) m result body.new m }
+        (tasks_of body.old) (below (values_of body.old)) (lists_of body.old))) m) result body.new m }
     ensures falls { Falls result (body_weight body.new) (come + 1 + tasks_weight body.old) }
     ensures home { body.new.home ≡ body.old.home }
 {
@@ -108,8 +108,8 @@ fn gather_item(body: &mut Body, item: ItemRow, line: u32) -> Turned
 
 /// The members of a set constructor are all known: the set that waited is its value.
 fn give_set(body: &mut Body) -> Turned
-    ensures turns { (p : ProgramRows) (m : Moment) → Turns p (resume p body.old.home (tasks_of body.old)
-        (below (values_of body.old)) (lists_of body.old) (Scalar (top (values_of body.old)))) m result body.new m }
+    ensures turns { (p : ProgramRows) (m : Moment) → Turns p (configuration (resume p body.old.home (tasks_of body.old)
+        (below (values_of body.old)) (lists_of body.old) (Scalar (top (values_of body.old)))) m) result body.new m }
     ensures falls { Falls result (body_weight body.new) (come + 1 + tasks_weight body.old) }
     ensures home { body.new.home ≡ body.old.home }
 {
@@ -124,8 +124,8 @@ pub(crate) fn gathered(
     next: u32,
     line: u32,
 ) -> Turned
-    ensures turns { (p : ProgramRows) (m : Moment) → Turns p (bind (expressions.gather (here body.old.home line)
-        next done) (waiting p body.old)) m result body.new m }
+    ensures turns { (p : ProgramRows) (m : Moment) → Turns p (configuration
+        (bind (expressions.gather (here body.old.home line) next done) (waiting p body.old)) m) result body.new m }
     ensures falls { Falls result (body_weight body.new)
         (part_weight (Part.Gather next line) + 1 + tasks_weight body.old) }
     ensures home { body.new.home ≡ body.old.home }
@@ -138,8 +138,9 @@ pub(crate) fn gathered(
 
 /// A member of a set constructor is known.
 pub(crate) fn gather_member(body: &mut Body, next: u32, line: u32, value: Value) -> Turned
-    ensures turns { (p : ProgramRows) (m : Moment) → Turns p (from_under p body.old (Now.Came (Way.Scalar value))
-        (Task.Operand (Operand.Member next line))) m result body.new m }
+    ensures turns { (p : ProgramRows) (m : Moment) → Turns p (configuration
+        (from_under p body.old (Now.Came (Way.Scalar value))
+        (Task.Operand (Operand.Member next line))) m) result body.new m }
     ensures falls { Falls result (body_weight body.new)
         (come + task_weight (Task.Operand (Operand.Member next line)) + tasks_weight body.old) }
     ensures home { body.new.home ≡ body.old.home }
@@ -150,8 +151,8 @@ pub(crate) fn gather_member(body: &mut Body, next: u32, line: u32, value: Value)
 
 /// Both ends of a range of members are known.
 pub fn gather_range(body: &mut Body, next: u32, line: u32, value: Value) -> Turned
-    ensures turns { (p : ProgramRows) (m : Moment) → Turns p (from_under p body.old (Now.Came (Way.Scalar value))
-        (Task.Range next line)) m result body.new m }
+    ensures turns { (p : ProgramRows) (m : Moment) → Turns p (configuration
+        (from_under p body.old (Now.Came (Way.Scalar value)) (Task.Range next line)) m) result body.new m }
     ensures falls { Falls result (body_weight body.new) (come + task_weight (Task.Range next line)
         + tasks_weight body.old) }
     ensures home { body.new.home ≡ body.old.home }

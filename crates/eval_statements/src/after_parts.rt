@@ -6,7 +6,7 @@ ghost use Rattle.program_meaning.specs.Tree.{bind};
 ghost use Rattle.program_meaning.specs.Statements as statements;
 ghost use Rattle.eval_machine.specs.Machines.{IsReady, Moment, moment_of};
 ghost use Rattle.eval_tasks.specs.Rest.{from, from_under, here, waiting};
-ghost use Rattle.eval_tasks.specs.Turns.{Turns};
+ghost use Rattle.eval_tasks.specs.Turns.{Turns, configuration};
 ghost use Rattle.eval_tasks.specs.Weight.{Falls, body_weight, come, left_of, left_with, task_weight, tasks_weight};
 
 use crate::counting::{first_turn, turn_ended};
@@ -31,8 +31,8 @@ pub fn continue_statement(
 ) -> Turned
     requires ready { IsReady machine.old }
     ensures turns { Turns program.now
-        (from_under program.now body.old (Now.Came (Way.Scalar value)) (Task.Choice choice))
-        (moment_of machine.old) result body.new (moment_of machine.new) }
+        (configuration (from_under program.now body.old (Now.Came (Way.Scalar value)) (Task.Choice choice))
+        (moment_of machine.old)) result body.new (moment_of machine.new) }
     ensures falls { Falls result (left_of body.new machine.new)
         (left_with machine.old.steps (come + task_weight (Task.Choice choice) + tasks_weight body.old)) }
     ensures home { body.new.home ≡ body.old.home }
@@ -83,8 +83,8 @@ pub fn continue_statement(
 #[inline(always)]
 fn again(body: &mut Body, taken: bool, row: u32, inner: u32, line: u32) -> Turned
     ensures turns { (p : ProgramRows) (m : Moment) → Turns p
-        (if taken then from_under p body.old (Now.Begin (Part.Exec inner line)) (Task.Next (Next.Again row line))
-        else from p body.old (Now.Came Way.Nothing)) m result body.new m }
+        (configuration (if taken then from_under p body.old (Now.Begin (Part.Exec inner line))
+        (Task.Next (Next.Again row line)) else from p body.old (Now.Came Way.Nothing)) m) result body.new m }
     ensures falls { Falls result (body_weight body.new) (come + 1 + tasks_weight body.old) }
     ensures home { body.new.home ≡ body.old.home }
 {
@@ -101,8 +101,8 @@ fn again(body: &mut Body, taken: bool, row: u32, inner: u32, line: u32) -> Turne
 /// A case statement goes on by the value of its index: with the statement that it chooses, if there is one.
 fn choose_case(body: &mut Body, program: &Program, choices: u32, line: u32, value: Value) -> Turned
     ensures turns { (m : Moment) → Turns program.now
-        (bind (statements.chosen_by program.now (here body.old.home line) choices value)
-        (waiting program.now body.old)) m result body.new m }
+        (configuration (bind (statements.chosen_by program.now (here body.old.home line) choices value)
+        (waiting program.now body.old)) m) result body.new m }
     ensures falls { Falls result (body_weight body.new) (come + 1 + tasks_weight body.old) }
     ensures home { body.new.home ≡ body.old.home }
 {
@@ -122,8 +122,8 @@ pub fn follow_statement(
     next: Next,
 ) -> Turned
     requires ready { IsReady machine.old }
-    ensures turns { Turns program.now (from_under program.now body.old (Now.Came Way.Nothing) (Task.Next next))
-        (moment_of machine.old) result body.new (moment_of machine.new) }
+    ensures turns { Turns program.now (configuration (from_under program.now body.old (Now.Came Way.Nothing)
+        (Task.Next next)) (moment_of machine.old)) result body.new (moment_of machine.new) }
     ensures falls { Falls result (left_of body.new machine.new)
         (left_with machine.old.steps (come + task_weight (Task.Next next) + tasks_weight body.old)) }
     ensures home { body.new.home ≡ body.old.home }

@@ -3,7 +3,7 @@
 ghost use Rattle.std.specs.Prelude.{◌≡◌, ◌+◌};
 ghost use Rattle.eval_machine.specs.Machines.{IsReady, Moment, moment_of};
 ghost use Rattle.eval_tasks.specs.Rest.{from_under};
-ghost use Rattle.eval_tasks.specs.Turns.{Turns};
+ghost use Rattle.eval_tasks.specs.Turns.{Turns, configuration};
 ghost use Rattle.eval_tasks.specs.Weight.{Falls, body_weight, come, left_of, left_with, task_weight, tasks_weight};
 
 use cell_value::Value;
@@ -24,8 +24,8 @@ pub fn locate_target(
     value: Value,
 ) -> Turned
     ensures turns { (m : Moment) → Turns program.now
-        (from_under program.now body.old (Now.Came (Way.Scalar value)) (Task.Target target of line)) m result
-        body.new m }
+        (configuration (from_under program.now body.old (Now.Came (Way.Scalar value)) (Task.Target target of line)) m)
+        result body.new m }
     ensures falls { Falls result (body_weight body.new)
         (come + task_weight (Task.Target target of line) + tasks_weight body.old) }
     ensures home { body.new.home ≡ body.old.home }
@@ -50,7 +50,8 @@ pub fn locate_target_cells(
     line: u32,
 ) -> Turned
     ensures turns { (m : Moment) → Turns program.now
-        (from_under program.now body.old (Now.Came Way.Cells) (Task.Target target of line)) m result body.new m }
+        (configuration (from_under program.now body.old (Now.Came Way.Cells) (Task.Target target of line)) m) result
+        body.new m }
     ensures falls { Falls result (body_weight body.new)
         (come + task_weight (Task.Target target of line) + tasks_weight body.old) }
     ensures home { body.new.home ≡ body.old.home }
@@ -78,8 +79,8 @@ pub fn put(
 ) -> Turned
     requires ready { IsReady machine.old }
     ensures turns { Turns program.now
-        (from_under program.now body.old (Now.Came (Way.Address addr)) (Task.Put target of line))
-        (moment_of machine.old) result body.new (moment_of machine.new) }
+        (configuration (from_under program.now body.old (Now.Came (Way.Address addr)) (Task.Put target of line))
+        (moment_of machine.old)) result body.new (moment_of machine.new) }
     ensures falls { Falls result (left_of body.new machine.new)
         (left_with machine.old.steps (come + task_weight (Task.Put target of line) + tasks_weight body.old)) }
     ensures home { body.new.home ≡ body.old.home }
@@ -110,8 +111,8 @@ pub fn put_cells(
 ) -> Turned
     requires ready { IsReady machine.old }
     ensures turns { Turns program.now
-        (from_under program.now body.old (Now.Came (Way.Address addr)) (Task.PutCells line))
-        (moment_of machine.old) result body.new (moment_of machine.new) }
+        (configuration (from_under program.now body.old (Now.Came (Way.Address addr)) (Task.PutCells line))
+        (moment_of machine.old)) result body.new (moment_of machine.new) }
     ensures falls { Falls result (left_of body.new machine.new)
         (left_with machine.old.steps (come + task_weight (Task.PutCells line) + tasks_weight body.old)) }
     ensures home { body.new.home ≡ body.old.home }

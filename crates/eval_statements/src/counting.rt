@@ -8,7 +8,7 @@ ghost use Rattle.program_meaning.specs.Statements as statements;
 ghost use Rattle.eval_machine.specs.Machines.{Gives, IsReady, Moment, moment_of};
 ghost use Rattle.eval_tasks.specs.Rest.{counted, here, waiting, with_numbers};
 ghost use Rattle.eval_rules.specs.Counting.{turns_row};
-ghost use Rattle.eval_tasks.specs.Turns.{Turns};
+ghost use Rattle.eval_tasks.specs.Turns.{Turns, configuration};
 ghost use Rattle.eval_tasks.specs.Weight.{Falls, body_weight, come, left_of, left_with, tasks_weight};
 
 use cell_value::Value;
@@ -43,9 +43,9 @@ pub(crate) fn first_turn(
     last: Value,
 ) -> Turned
     requires ready { IsReady machine.old }
-    ensures turns { Turns program.now (bind
+    ensures turns { Turns program.now (configuration (bind
         (statements.first_turn program.now (here body.old.home line) turns (row_at program.now turns) first last)
-        (waiting program.now body.old)) (moment_of machine.old) result body.new (moment_of machine.new) }
+        (waiting program.now body.old)) (moment_of machine.old)) result body.new (moment_of machine.new) }
     ensures falls { Falls result (left_of body.new machine.new)
         (left_with machine.old.steps (come + 1 + tasks_weight body.old)) }
     ensures home { body.new.home ≡ body.old.home }
@@ -72,9 +72,9 @@ fn begin_turns(
 ) -> Turned
     requires ready { IsReady machine.old }
     requires row { row_at program.now turns ≡ turns_row counting }
-    ensures turns { Turns program.now (bind (statements.first_turn program.now (here body.old.home line) turns
-        (turns_row counting) (CellValue.Number span.value) (CellValue.Number span.last))
-        (waiting program.now body.old)) (moment_of machine.old) result body.new (moment_of machine.new) }
+    ensures turns { Turns program.now (configuration (bind (statements.first_turn program.now (here body.old.home line)
+        turns (turns_row counting) (CellValue.Number span.value) (CellValue.Number span.last))
+        (waiting program.now body.old)) (moment_of machine.old)) result body.new (moment_of machine.new) }
     ensures falls { Falls result (left_of body.new machine.new)
         (left_with machine.old.steps (come + 1 + tasks_weight body.old)) }
     ensures home { body.new.home ≡ body.old.home }
@@ -93,8 +93,8 @@ fn begin_turns(
 fn undefine(body: &mut Body, alloc: Global, machine: &mut Machine, place: u32, line: u32) -> Turned
     requires ready { IsReady machine.old }
     ensures turns { (p : ProgramRows) → Turns p
-        (bind (statements.undefine (here body.old.home line) place) (waiting p body.old))
-        (moment_of machine.old) result body.new (moment_of machine.new) }
+        (configuration (bind (statements.undefine (here body.old.home line) place) (waiting p body.old))
+        (moment_of machine.old)) result body.new (moment_of machine.new) }
     ensures falls { Falls result (left_of body.new machine.new)
         (left_with machine.old.steps (come + 1 + tasks_weight body.old)) }
     ensures home { body.new.home ≡ body.old.home }
@@ -122,8 +122,8 @@ fn count(
     requires ready { IsReady machine.old }
     requires turn { statements.has_turn counting.direction span.value span.last ≡ true }
     ensures turns { (p : ProgramRows) → row_at p row ≡ turns_row counting → Turns p
-        (Sub (Count row span.value span.last (here body.old.home line)) (waiting p body.old))
-        (moment_of machine.old) result body.new (moment_of machine.new) }
+        (configuration (Sub (Count row span.value span.last (here body.old.home line)) (waiting p body.old))
+        (moment_of machine.old)) result body.new (moment_of machine.new) }
     ensures falls { Falls result (left_of body.new machine.new)
         (left_with machine.old.steps (come + tasks_weight body.old)) }
     ensures home { body.new.home ≡ body.old.home }
@@ -138,9 +138,10 @@ fn count(
 
 /// The body of a for statement begins, in a turn whose value the control variable has.
 fn do_body(body: &mut Body, row: u32, line: u32, inner: u32, span: Span) -> Turned
-    ensures turns { (p : ProgramRows) (m : Moment) → Turns p (Sub (Exec inner (here body.old.home line)) (λ out. bind
+    ensures turns { (p : ProgramRows) (m : Moment) → Turns p (configuration
+        (Sub (Exec inner (here body.old.home line)) (λ out. bind
         (statements.on_normal (counted body.old.home row line span.value span.last (row_at p row)) out)
-        (waiting p body.old))) m result body.new m }
+        (waiting p body.old))) m) result body.new m }
     ensures falls { Falls result (body_weight body.new) (come + tasks_weight body.old) }
     ensures home { body.new.home ≡ body.old.home }
 {
@@ -164,9 +165,9 @@ pub(crate) fn turn_ended(
     last: Value,
 ) -> Turned
     requires ready { IsReady machine.old }
-    ensures turns { Turns program.now (bind
+    ensures turns { Turns program.now (configuration (bind
         (with_numbers value last (λ i last. counted body.old.home row line i last (row_at program.now row)))
-        (waiting program.now body.old)) (moment_of machine.old) result body.new (moment_of machine.new) }
+        (waiting program.now body.old)) (moment_of machine.old)) result body.new (moment_of machine.new) }
     ensures falls { Falls result (left_of body.new machine.new)
         (left_with machine.old.steps (come + 1 + tasks_weight body.old)) }
     ensures home { body.new.home ≡ body.old.home }
@@ -190,8 +191,8 @@ fn next_turn(
 ) -> Turned
     requires ready { IsReady machine.old }
     ensures turns { (p : ProgramRows) → row_at p row ≡ turns_row counting → Turns p
-        (bind (counted body.old.home row line span.value span.last (turns_row counting)) (waiting p body.old))
-        (moment_of machine.old) result body.new (moment_of machine.new) }
+        (configuration (bind (counted body.old.home row line span.value span.last (turns_row counting))
+        (waiting p body.old)) (moment_of machine.old)) result body.new (moment_of machine.new) }
     ensures falls { Falls result (left_of body.new machine.new)
         (left_with machine.old.steps (come + 1 + tasks_weight body.old)) }
     ensures home { body.new.home ≡ body.old.home }

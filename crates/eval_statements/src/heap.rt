@@ -8,7 +8,7 @@ ghost use Rattle.program_meaning.specs.Statements.{point};
 ghost use Rattle.eval_machine.specs.Machines.{IsReady, moment_of};
 ghost use Rattle.eval_statements.specs.Families.{of_heap};
 ghost use Rattle.eval_tasks.specs.Rest.{from_under, here, waiting};
-ghost use Rattle.eval_tasks.specs.Turns.{Turns};
+ghost use Rattle.eval_tasks.specs.Turns.{Turns, configuration};
 ghost use Rattle.eval_tasks.specs.Weight.{Falls, come, left_of, left_with, task_weight, tasks_weight};
 
 use cell_value::Value;
@@ -28,8 +28,8 @@ pub(crate) fn heap_statement(
     statement: StatementRow,
 ) -> Turned
     requires ready { IsReady machine.old }
-    ensures turns { (row : ℕ) → Turns program.now (bind (of_heap program.now body.old.home row statement)
-        (waiting program.now body.old)) (moment_of machine.old) result body.new (moment_of machine.new) }
+    ensures turns { (row : ℕ) → Turns program.now (configuration (bind (of_heap program.now body.old.home row statement)
+        (waiting program.now body.old)) (moment_of machine.old)) result body.new (moment_of machine.new) }
     ensures falls { Falls result (left_of body.new machine.new)
         (left_with machine.old.steps (come + 10 + tasks_weight body.old)) }
     ensures home { body.new.home ≡ body.old.home }
@@ -58,8 +58,9 @@ fn make(
     line: u32,
 ) -> Turned
     requires ready { IsReady machine.old }
-    ensures turns { Turns program.now (bind (doing line (action.made_variable (size_of program.now of) of)
-        (point (here body.old.home line) access)) (waiting program.now body.old)) (moment_of machine.old) result
+    ensures turns { Turns program.now (configuration (bind (doing line
+        (action.made_variable (size_of program.now of) of)
+        (point (here body.old.home line) access)) (waiting program.now body.old)) (moment_of machine.old)) result
         body.new (moment_of machine.new) }
     ensures falls { Falls result (left_of body.new machine.new)
         (left_with machine.old.steps (come + tasks_weight body.old)) }
@@ -91,8 +92,8 @@ pub fn put_pointer(
 ) -> Turned
     requires ready { IsReady machine.old }
     ensures turns { Turns program.now
-        (from_under program.now body.old (Now.Came (Way.Address addr)) (Task.Point line))
-        (moment_of machine.old) result body.new (moment_of machine.new) }
+        (configuration (from_under program.now body.old (Now.Came (Way.Address addr)) (Task.Point line))
+        (moment_of machine.old)) result body.new (moment_of machine.new) }
     ensures falls { Falls result (left_of body.new machine.new)
         (left_with machine.old.steps (come + task_weight (Task.Point line) + tasks_weight body.old)) }
     ensures home { body.new.home ≡ body.old.home }
@@ -115,8 +116,8 @@ pub fn dispose_of(
 ) -> Turned
     requires ready { IsReady machine.old }
     ensures turns { Turns program.now
-        (from_under program.now body.old (Now.Came (Way.Scalar value)) (Task.Dispose of line))
-        (moment_of machine.old) result body.new (moment_of machine.new) }
+        (configuration (from_under program.now body.old (Now.Came (Way.Scalar value)) (Task.Dispose of line))
+        (moment_of machine.old)) result body.new (moment_of machine.new) }
     ensures falls { Falls result (left_of body.new machine.new)
         (left_with machine.old.steps (come + task_weight (Task.Dispose of line) + tasks_weight body.old)) }
     ensures home { body.new.home ≡ body.old.home }

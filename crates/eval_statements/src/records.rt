@@ -5,7 +5,7 @@ ghost use Rattle.program_tables.specs.ProgramRows.{ProgramRows};
 ghost use Rattle.eval_machine.specs.Machines.{Moment};
 ghost use Rattle.eval_tasks.specs.Records.{SameFrame};
 ghost use Rattle.eval_tasks.specs.Rest.{from, from_under};
-ghost use Rattle.eval_tasks.specs.Turns.{Turns};
+ghost use Rattle.eval_tasks.specs.Turns.{Turns, configuration};
 ghost use Rattle.eval_tasks.specs.Weight.{Falls, body_weight, come, part_weight, task_weight, tasks_weight};
 
 use eval_rules::element_of;
@@ -15,7 +15,7 @@ use program_tables::Program;
 /// The records of a with statement from an item on begin, or its body where there is no further one (6.8.3.10).
 pub fn begin_record(body: &mut Body, program: &Program, at: u32, inner: u32, line: u32) -> Turned
     ensures turns { (m : Moment) → Turns program.now
-        (from program.now body.old (Now.Begin (Part.Establish at inner line))) m result body.new m }
+        (configuration (from program.now body.old (Now.Begin (Part.Establish at inner line))) m) result body.new m }
     ensures falls { Falls result (body_weight body.new)
         (part_weight (Part.Establish at inner line) + tasks_weight body.old) }
     ensures home { body.new.home ≡ body.old.home }
@@ -40,7 +40,8 @@ pub fn begin_record(body: &mut Body, program: &Program, at: u32, inner: u32, lin
 /// A record of a with statement is established: what follows is inside of it.
 pub fn establish(body: &mut Body, next: u32, inner: u32, line: u32, addr: u32) -> Turned
     ensures turns { (p : ProgramRows) (m : Moment) → Turns p
-        (from_under p body.old (Now.Came (Way.Address addr)) (Task.Record next inner line)) m result body.new m }
+        (configuration (from_under p body.old (Now.Came (Way.Address addr)) (Task.Record next inner line)) m) result
+        body.new m }
     ensures falls { Falls result (body_weight body.new)
         (come + task_weight (Task.Record next inner line) + tasks_weight body.old) }
     ensures frame { SameFrame body.new.home body.old.home }
@@ -58,8 +59,8 @@ pub fn establish(body: &mut Body, next: u32, inner: u32, line: u32, addr: u32) -
 
 /// What is inside of the last record of a with statement has ended in some way, and ends what is around it likewise.
 pub fn leave(body: &mut Body, way: Way) -> Turned
-    ensures turns { (p : ProgramRows) (m : Moment) → Turns p (from_under p body.old (Now.Came way) Task.Leave) m result
-        body.new m }
+    ensures turns { (p : ProgramRows) (m : Moment) → Turns p (configuration
+        (from_under p body.old (Now.Came way) Task.Leave) m) result body.new m }
     ensures falls { Falls result (body_weight body.new) (come + task_weight Task.Leave + tasks_weight body.old) }
     ensures frame { SameFrame body.new.home body.old.home }
 {

@@ -9,7 +9,7 @@ ghost use Rattle.program_meaning.specs.Statements as statements;
 ghost use Rattle.eval_machine.specs.Machines.{IsReady, Moment, moment_of};
 ghost use Rattle.eval_statements.specs.Families.{of_conditional, of_procedure, of_repetitive};
 ghost use Rattle.eval_tasks.specs.Rest.{carry_with, from, from_under, here, waiting};
-ghost use Rattle.eval_tasks.specs.Turns.{Turns};
+ghost use Rattle.eval_tasks.specs.Turns.{Turns, configuration};
 ghost use Rattle.eval_tasks.specs.Weight.{Falls, body_weight, come, left_of, left_with, now_weight, operand_most};
 ghost use Rattle.eval_tasks.specs.Weight.{part_weight, task_weight, tasks_weight};
 
@@ -29,8 +29,8 @@ use std::alloc::Global;
 #[inline(always)]
 fn step(body: &mut Body, machine: &mut Machine, line: u32, now: Now) -> Turned
     requires ready { IsReady machine.old }
-    ensures turns { (p : ProgramRows) → Turns p (Do line (Spend 1) (λ _. from p body.old now))
-        (moment_of machine.old) result body.new (moment_of machine.new) }
+    ensures turns { (p : ProgramRows) → Turns p (configuration (Do line (Spend 1) (λ _. from p body.old now))
+        (moment_of machine.old)) result body.new (moment_of machine.new) }
     ensures falls { Falls result (left_with 1 (left_of body.new machine.new))
         (left_with machine.old.steps (now_weight now + tasks_weight body.old + 1)) }
     ensures home { body.new.home ≡ body.old.home }
@@ -45,8 +45,8 @@ fn step(body: &mut Body, machine: &mut Machine, line: u32, now: Now) -> Turned
 /// A statement that is neither compound nor empty takes its step and tells its line.
 fn tell(body: &mut Body, machine: &mut Machine, line: u32, row: u32) -> Turned
     requires ready { IsReady machine.old }
-    ensures turns { (p : ProgramRows) → Turns p (Line line (from p body.old (Now.Carry row)))
-        (moment_of machine.old) result body.new (moment_of machine.new) }
+    ensures turns { (p : ProgramRows) → Turns p (configuration (Line line (from p body.old (Now.Carry row)))
+        (moment_of machine.old)) result body.new (moment_of machine.new) }
     ensures falls { Falls result (left_of body.new machine.new) 0 }
     ensures home { body.new.home ≡ body.old.home }
     ensures ready { IsReady machine.new }
@@ -69,8 +69,8 @@ pub fn execute(
     line: u32,
 ) -> Turned
     requires ready { IsReady machine.old }
-    ensures turns { Turns program.now (from program.now body.old (Now.Begin (Part.Exec row line)))
-        (moment_of machine.old) result body.new (moment_of machine.new) }
+    ensures turns { Turns program.now (configuration (from program.now body.old (Now.Begin (Part.Exec row line)))
+        (moment_of machine.old)) result body.new (moment_of machine.new) }
     ensures falls { Falls result (left_of body.new machine.new)
         (left_with machine.old.steps (now_weight (Now.Begin (Part.Exec row line)) + tasks_weight body.old)) }
     ensures home { body.new.home ≡ body.old.home }
@@ -92,8 +92,8 @@ fn begin_statement(
 ) -> Turned
     requires ready { IsReady machine.old }
     ensures turns { (p : ProgramRows) → row_at p row ≡ Row.Statement statement
-        → Turns p (bind (statements.statement p row (here body.old.home line) statement) (waiting p body.old))
-        (moment_of machine.old) result body.new (moment_of machine.new) }
+        → Turns p (configuration (bind (statements.statement p row (here body.old.home line) statement)
+        (waiting p body.old)) (moment_of machine.old)) result body.new (moment_of machine.new) }
     ensures falls { Falls result (left_of body.new machine.new)
         (left_with machine.old.steps (part_weight (Part.Exec row line) + tasks_weight body.old)) }
     ensures home { body.new.home ≡ body.old.home }
@@ -138,8 +138,8 @@ pub fn carry(
     row: u32,
 ) -> Turned
     requires ready { IsReady machine.old }
-    ensures turns { Turns program.now (from program.now body.old (Now.Carry row)) (moment_of machine.old) result
-        body.new (moment_of machine.new) }
+    ensures turns { Turns program.now (configuration (from program.now body.old (Now.Carry row))
+        (moment_of machine.old)) result body.new (moment_of machine.new) }
     ensures falls { Falls result (left_of body.new machine.new)
         (left_with machine.old.steps (now_weight (Now.Carry row) + tasks_weight body.old)) }
     ensures home { body.new.home ≡ body.old.home }
@@ -161,9 +161,9 @@ fn carry_on(
     statement: StatementRow,
 ) -> Turned
     requires ready { IsReady machine.old }
-    ensures turns { Turns program.now (bind
+    ensures turns { Turns program.now (configuration (bind
         (carry_with program.now body.old.home row statement (statements.line_of statement))
-        (waiting program.now body.old)) (moment_of machine.old) result body.new (moment_of machine.new) }
+        (waiting program.now body.old)) (moment_of machine.old)) result body.new (moment_of machine.new) }
     ensures falls { Falls result (left_of body.new machine.new)
         (left_with machine.old.steps (now_weight (Now.Carry row) + tasks_weight body.old)) }
     ensures home { body.new.home ≡ body.old.home }
@@ -210,8 +210,9 @@ fn carry_on(
 /// A goto statement (6.8.2.4): the links lead to the frame of its label.
 fn jump(body: &mut Body, machine: &mut Machine, label: u32, levels: u32, line: u32) -> Turned
     requires ready { IsReady machine.old }
-    ensures turns { (p : ProgramRows) → Turns p (bind (doing line (frame_out levels body.old.home.base) (λ base.
-        Ret (Jump label base))) (waiting p body.old)) (moment_of machine.old) result body.new
+    ensures turns { (p : ProgramRows) → Turns p (configuration (bind
+        (doing line (frame_out levels body.old.home.base) (λ base.
+        Ret (Jump label base))) (waiting p body.old)) (moment_of machine.old)) result body.new
         (moment_of machine.new) }
     ensures falls { Falls result (left_of body.new machine.new)
         (left_with machine.old.steps (come + 1 + tasks_weight body.old)) }
@@ -227,7 +228,7 @@ fn jump(body: &mut Body, machine: &mut Machine, label: u32, levels: u32, line: u
 /// A procedure statement (6.8.2.3) whose line is told: its actual parameters begin.
 fn procedure_statement(body: &mut Body, alloc: Global, statement: StatementRow) -> Turned
     ensures turns { (p : ProgramRows) (row : ℕ) (m : Moment) → Turns p
-        (bind (of_procedure p body.old.home row statement) (waiting p body.old)) m result body.new m }
+        (configuration (bind (of_procedure p body.old.home row statement) (waiting p body.old)) m) result body.new m }
     ensures falls { Falls result (body_weight body.new) (come + 10 + tasks_weight body.old) }
     ensures home { body.new.home ≡ body.old.home }
 {
@@ -273,7 +274,7 @@ fn procedure_statement(body: &mut Body, alloc: Global, statement: StatementRow) 
 /// A conditional statement (6.8.3.3) whose line is told: its condition or index begins.
 fn conditional(body: &mut Body, statement: StatementRow) -> Turned
     ensures turns { (p : ProgramRows) (row : ℕ) (m : Moment) → Turns p
-        (bind (of_conditional p body.old.home row statement) (waiting p body.old)) m result body.new m }
+        (configuration (bind (of_conditional p body.old.home row statement) (waiting p body.old)) m) result body.new m }
     ensures falls { Falls result (body_weight body.new) (come + 10 + tasks_weight body.old) }
     ensures home { body.new.home ≡ body.old.home }
 {
@@ -313,7 +314,8 @@ fn conditional(body: &mut Body, statement: StatementRow) -> Turned
 #[inline(always)]
 pub(crate) fn by_value(body: &mut Body, line: u32, expression: u32, choice: Choice) -> Turned
     ensures turns { (p : ProgramRows) (m : Moment) → Turns p
-        (from_under p body.old (Now.Begin (Part.Eval expression line)) (Task.Choice choice)) m result body.new m }
+        (configuration (from_under p body.old (Now.Begin (Part.Eval expression line)) (Task.Choice choice)) m) result
+        body.new m }
     ensures falls { Falls result (body_weight body.new) (operand_most + task_weight (Task.Choice choice)
         + tasks_weight body.old) }
     ensures home { body.new.home ≡ body.old.home }
@@ -328,8 +330,8 @@ pub(crate) fn by_value(body: &mut Body, line: u32, expression: u32, choice: Choi
 /// A repetitive statement (6.8.3.6) whose line is told: its first turn begins, or the bounds of a for statement.
 fn repetitive(body: &mut Body, program: &Program, row: u32, statement: StatementRow) -> Turned
     ensures turns { (m : Moment) → Turns program.now
-        (bind (of_repetitive program.now body.old.home row statement) (waiting program.now body.old)) m result
-        body.new m }
+        (configuration (bind (of_repetitive program.now body.old.home row statement) (waiting program.now body.old)) m)
+        result body.new m }
     ensures falls { Falls result (body_weight body.new) (come + 10 + tasks_weight body.old) }
     ensures home { body.new.home ≡ body.old.home }
 {
@@ -348,8 +350,8 @@ fn repetitive(body: &mut Body, program: &Program, row: u32, statement: Statement
 /// A for statement begins: both bounds are evaluated before the first turn.
 fn begin_for(body: &mut Body, program: &Program, line: u32, initial: u32, turns: u32) -> Turned
     ensures turns { (m : Moment) → Turns program.now
-        (bind (statements.bounds program.now (here body.old.home line) initial turns (row_at program.now turns))
-        (waiting program.now body.old)) m result body.new m }
+        (configuration (bind (statements.bounds program.now (here body.old.home line) initial turns
+        (row_at program.now turns)) (waiting program.now body.old)) m) result body.new m }
     ensures falls { Falls result (body_weight body.new) (come + tasks_weight body.old) }
     ensures home { body.new.home ≡ body.old.home }
 {
@@ -369,7 +371,7 @@ fn begin_for(body: &mut Body, program: &Program, line: u32, initial: u32, turns:
 /// The statements from an item on, of the sequence that begins with the first item.
 pub fn sequence(body: &mut Body, program: &Program, first: u32, at: u32, line: u32) -> Turned
     ensures turns { (m : Moment) → Turns program.now
-        (from program.now body.old (Now.Begin (Part.Sequence first at line))) m result body.new m }
+        (configuration (from program.now body.old (Now.Begin (Part.Sequence first at line))) m) result body.new m }
     ensures falls { Falls result (body_weight body.new)
         (now_weight (Now.Begin (Part.Sequence first at line)) + tasks_weight body.old) }
     ensures home { body.new.home ≡ body.old.home }
@@ -390,7 +392,7 @@ pub fn sequence(body: &mut Body, program: &Program, first: u32, at: u32, line: u
 /// A turn of a while or repeat statement.
 pub fn turn_again(body: &mut Body, program: &Program, row: u32, line: u32) -> Turned
     ensures turns { (m : Moment) → Turns program.now
-        (from program.now body.old (Now.Begin (Part.Turn row line))) m result body.new m }
+        (configuration (from program.now body.old (Now.Begin (Part.Turn row line))) m) result body.new m }
     ensures falls { Falls result (body_weight body.new)
         (now_weight (Now.Begin (Part.Turn row line)) + tasks_weight body.old) }
     ensures home { body.new.home ≡ body.old.home }
@@ -404,8 +406,8 @@ pub fn turn_again(body: &mut Body, program: &Program, row: u32, line: u32) -> Tu
 /// A turn of a while or repeat statement, by its row.
 fn turn_of(body: &mut Body, row: u32, line: u32, statement: StatementRow) -> Turned
     ensures turns { (p : ProgramRows) (m : Moment) → Turns p
-        (bind (statements.of_turn row (here body.old.home line) (Row.Statement statement)) (waiting p body.old))
-        m result body.new m }
+        (configuration (bind (statements.of_turn row (here body.old.home line) (Row.Statement statement))
+        (waiting p body.old)) m) result body.new m }
     ensures falls { Falls result (body_weight body.new) (come + 4 + tasks_weight body.old) }
     ensures home { body.new.home ≡ body.old.home }
 {

@@ -21,7 +21,7 @@ use Rattle.eval_tasks.specs.Rest.{below, lists_of, resume, tasks_of, top_list, v
 use Rattle.cell_value.specs.declared.values.Value.{Value}
 use Rattle.program_tables.specs.declared.program.Routine.{Routine}
 use Rattle.program_meaning.specs.Acts.{limit_passed}
-use Rattle.eval_tasks.specs.Turns.{Turns, Fails, Entered, pause_of}
+use Rattle.eval_tasks.specs.Turns.{Entered, Fails, Turns, configuration, pause_of}
 use Rattle.eval_tasks.specs.declared.tasks.Pause.TheVariants as pauses
 use Rattle.eval_tasks.specs.Weight.{Falls}
 use Rattle.eval_tasks.specs.declared.body.Body.{Body}
@@ -32,22 +32,25 @@ use Rattle.eval_tasks.proofs.Moves.{bind_doing, call_here, comes_same, comes_the
 pub reverse_pushed : {A : Type 0} (xs ys : List A) (x : A) → ys ≡ xs ++ x ∷ [] → reverse ys ≡ x ∷ reverse xs
 reverse_pushed xs ys x h = ap reverse h ∙ reverse-append xs (x ∷ [])
 
-pub fails_after : (p : ProgramRows) (t t' : Tree) (m m' m'' : Moment) (line : ℕ) (e : Halt) → Comes p t m t' m' → Fails p t' m' line e m'' → Fails p t
-    m line e m''
+pub fails_after : (p : ProgramRows) (t t' : Tree) (m m' m'' : Moment) (line : ℕ) (e : Halt) → Comes p t m t' m' → Fails p (configuration t' m') line e m''
+    → Fails p (configuration t
+    m) line e m''
 fails_after p t t' m m' m'' line (Fault kind) f h = stops_then f h
 fails_after p t t' m m' m'' line OutOfSteps f h = stops_then f h
 fails_after p t t' m m' m'' line (Limited which) f h = stops_then f h
 fails_after p t t' m m' m'' line Memory f h = tt
 
-pub turns_after : (p : ProgramRows) (t t' : Tree) (m m' m'' : Moment) (r : Result (Option Pause) Halt) (a : Body) → Comes p t m t' m' → Turns p t'
-    m' r a m'' → Turns p t m r a m''
+pub turns_after : (p : ProgramRows) (t t' : Tree) (m m' m'' : Moment) (r : Result (Option Pause) Halt) (a : Body) → Comes p t m t' m'
+    → Turns p (configuration t'
+    m') r a m'' → Turns p (configuration t m) r a m''
 turns_after p t t' m m' m'' (Ok None) a f h = comes_then f h
 turns_after p t t' m m' m'' (Ok (Some s)) a f h = (stops_then f h.0, h.1)
 turns_after p t t' m m' m'' (Err e) a f h = fails_after p t t' m m' m'' a.line e f h
 
-pub turns_same : (p : ProgramRows) (t t' : Tree) (m m' : Moment) (r : Result (Option Pause) Halt) (a : Body) → t ≡ t' → Turns p t' m r a m' → Turns
-    p t m r a m'
-turns_same p t t' m m' r a e h = subst (λ t. Turns p t m r a m') (sym e) h
+pub turns_same : (p : ProgramRows) (t t' : Tree) (m m' : Moment) (r : Result (Option Pause) Halt) (a : Body) → t ≡ t' → Turns p (configuration t' m) r a m'
+    → Turns
+    p (configuration t m) r a m'
+turns_same p t t' m m' r a e h = subst (λ t. Turns p (configuration t m) r a m') (sym e) h
 
 -- an action was done
 pub did : {A X : Type 0} (p : ProgramRows) (line : ℕ) (a : Action A) (k : A → Tree) (K : Out → Tree) (seen : X → A) (x : X) (m m' : Moment)
@@ -60,7 +63,7 @@ stopped_in p line a k K why m m' h = stops_then (comes_same (bind_doing line a k
 
 -- an action was not done
 pub fails : {A X : Type 0} (p : ProgramRows) (line : ℕ) (a : Action A) (k : A → Tree) (K : Out → Tree) (seen : X → A) (e : Halt) (m m' : Moment)
-    → DoesAll seen (performs a m.state) (Err e) m m' → Fails p (bind (doing line a k) K) m line e m'
+    → DoesAll seen (performs a m.state) (Err e) m m' → Fails p (configuration (bind (doing line a k) K) m) line e m'
 fails p line a k K seen (Fault kind) m m' h = stopped_in p line a k K _ m m' h
 fails p line a k K seen OutOfSteps m m' h = stopped_in p line a k K _ m m' h
 fails p line a k K seen (Limited which) m m' h = stopped_in p line a k K _ m m' h
@@ -68,8 +71,8 @@ fails p line a k K seen Memory m m' h = tt
 
 -- and so the body has failed
 pub turns_failed : (p : ProgramRows) (t : Tree) (m m' : Moment) (line : ℕ) (e : Halt) (a : Body) (r : Result (Option Pause) Halt) → a.line ≡ line → r ≡ Err e
-    → Fails p t m line e m' → Turns p t m r a m'
-turns_failed p t m m' line e a r g f h = subst (λ r. Turns p t m r a m') (sym f) (subst (λ l. Fails p t m l e m') (sym g) h)
+    → Fails p (configuration t m) line e m' → Turns p (configuration t m) r a m'
+turns_failed p t m m' line e a r g f h = subst (λ r. Turns p (configuration t m) r a m') (sym f) (subst (λ l. Fails p (configuration t m) l e m') (sym g) h)
 
 -- a part begins, by its row
 pub part_comes : (p : ProgramRows) (part : Part) (K : Out → Tree) (m : Moment) (t : Tree) → layer p part ≡ t → Comes p (Sub part K) m (bind t K) m
@@ -82,13 +85,13 @@ spent p h t K m m' w = did {X = Unit {0}} p h.line (act (Spend 1)) (λ _. t) K (
 
 -- no step was left
 pub not_spent : (p : ProgramRows) (h : Here) (t : Tree) (K : Out → Tree) (e : Halt) (m m' : Moment)
-    → Does {X = Unit {0}} (λ _. tt) (perform (Spend 1) m.state) (Err e) m m' → Fails p (bind (spend h t) K) m h.line e m'
+    → Does {X = Unit {0}} (λ _. tt) (perform (Spend 1) m.state) (Err e) m m' → Fails p (configuration (bind (spend h t) K) m) h.line e m'
 not_spent p h t K e m m' w = fails {X = Unit {0}} p h.line (act (Spend 1)) (λ _. t) K (λ _. tt) e m m'
     (does_act {X = Unit {0}} (Spend 1) (λ _. tt) m m' (Err e) w)
 
 -- a statement did not begin, since no step was left
 pub line_fails : (p : ProgramRows) (line : ℕ) (t : Tree) (e : Halt) (m m' : Moment)
-    → Does {X = Unit {0}} (λ _. tt) (perform (Spend 1) m.state) (Err e) m m' → Fails p (Line line t) m line e m'
+    → Does {X = Unit {0}} (λ _. tt) (perform (Spend 1) m.state) (Err e) m m' → Fails p (configuration (Line line t) m) line e m'
 line_fails p line t (Fault kind) m m' w = line_stopped line t _ m m' w
 line_fails p line t OutOfSteps m m' w = line_stopped line t _ m m' w
 line_fails p line t (Limited which) m m' w = line_stopped line t _ m m' w
@@ -135,8 +138,8 @@ call_pauses {p = p} {m = m} {K = K} {args = args} {ls = ls} f cells a h l w =
     (subst (λ k. StopsAt p (Enter f cells args K) m (AtCall f args k) m) w (call_here f cells args K m h))
 
 -- a call was reached, with room for it
-pub entered_turns : (p : ProgramRows) (t : Tree) (m : Moment) (f : ℕ) (r : Result (Option Pause) Halt) (a : Body) → Entered p t m f r a
-    → (x : Routine) → routine_at p f ≡ Some x → limit_passed m.state x.cells ≡ None → Turns p t m r a m
+pub entered_turns : (p : ProgramRows) (t : Tree) (m : Moment) (f : ℕ) (r : Result (Option Pause) Halt) (a : Body) → Entered p (configuration t m) f r a
+    → (x : Routine) → routine_at p f ≡ Some x → limit_passed m.state x.cells ≡ None → Turns p (configuration t m) r a m
 entered_turns p t m f (Ok None) a h x e l = absurd h
 entered_turns p t m f (Ok (Some (pauses.Line n))) a h x e l = absurd h
 entered_turns p t m f (Ok (Some (pauses.Enter g))) a h x e l = (h.0, (x, ap (routine_at p) h.1 ∙ e, l))
@@ -146,7 +149,8 @@ entered_turns p t m f (Err OutOfSteps) a h x e l = absurd h
 entered_turns p t m f (Err (Limited which)) a h x e l = absurd h
 entered_turns p t m f (Err Memory) a h x e l = tt
 
-pub entered_falls : (p : ProgramRows) (t : Tree) (m : Moment) (f : ℕ) (r : Result (Option Pause) Halt) (a : Body) (left before : ℕ) → Entered p t m
+pub entered_falls : (p : ProgramRows) (t : Tree) (m : Moment) (f : ℕ) (r : Result (Option Pause) Halt) (a : Body) (left before : ℕ)
+    → Entered p (configuration t m)
     f r a → Falls r left before
 entered_falls p t m f (Ok None) a left before h = absurd h
 entered_falls p t m f (Ok (Some s)) a left before h = tt

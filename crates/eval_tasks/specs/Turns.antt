@@ -50,12 +50,20 @@ pause_of p a (pauses.Enter f) =
     AtCall f (top_list (lists_of a)) (resume p a.home (tasks_of a) (values_of a) (below (lists_of a)))
 pause_of p a pauses.Ended = AtEnd (Ended (ended_by a.now))
 
--- from a tree it stops for good, unless memory ran out
-abbrev pub Fails : ProgramRows → Tree → Moment → (line : ℕ) → Halt → Moment → Type 0
-Fails p t m line (halts.Fault kind) m' = StopsAt p t m (AtEnd (Halted (way.Faulted kind line))) m'
-Fails p t m line halts.OutOfSteps m' = StopsAt p t m (AtEnd (Halted way.OutOfSteps)) m'
-Fails p t m line (halts.Limited which) m' = StopsAt p t m (AtEnd (Halted (way.Limited which))) m'
-Fails p t m line halts.Memory m' = Unit {0}
+-- a point of a run, as a configuration of structural operational semantics: what is still to be done, and the moment
+pub record Configuration : Type 0 where
+  pub tree : Tree
+  pub moment : Moment
+
+abbrev pub configuration : Tree → Moment → Configuration
+configuration t m = record { tree = t; moment = m }
+
+-- it stops for good there, unless memory ran out
+abbrev pub Fails : ProgramRows → Configuration → (line : ℕ) → Halt → Moment → Type 0
+Fails p c line (halts.Fault kind) m = StopsAt p c.tree c.moment (AtEnd (Halted (way.Faulted kind line))) m
+Fails p c line halts.OutOfSteps m = StopsAt p c.tree c.moment (AtEnd (Halted way.OutOfSteps)) m
+Fails p c line (halts.Limited which) m = StopsAt p c.tree c.moment (AtEnd (Halted (way.Limited which))) m
+Fails p c line halts.Memory m = Unit {0}
 
 -- the routine is one of the program, and no limit forbids a call of it
 abbrev pub MayEnter : ProgramRows → (routine : ℕ) → State → Type 0
@@ -71,15 +79,15 @@ abbrev pub PausesInRoom : ProgramRows → Pause → State → Type 0
 PausesInRoom p (pauses.Enter f) σ = MayEnter p f σ
 PausesInRoom p pause σ = Unit {0}
 
--- from a tree it comes to a stop, or to what the body has now to do
-abbrev pub Turns : ProgramRows → Tree → Moment → Result (Option Pause) Halt → Body → Moment → Type 0
-Turns p t m (Ok None) a m' = Comes p t m (rest_of p a) m'
-Turns p t m (Ok (Some pause)) a m' = StopsAt p t m (pause_of p a pause) m' × PausesInRoom p pause m'.state
-Turns p t m (Err e) a m' = Fails p t m a.line e m'
+-- it comes from there to a stop, or to what the body has now to do
+abbrev pub Turns : ProgramRows → Configuration → Result (Option Pause) Halt → Body → Moment → Type 0
+Turns p c (Ok None) a m = Comes p c.tree c.moment (rest_of p a) m
+Turns p c (Ok (Some pause)) a m = StopsAt p c.tree c.moment (pause_of p a pause) m × PausesInRoom p pause m.state
+Turns p c (Err e) a m = Fails p c a.line e m
 
--- a call of a routine is to be entered, unless memory ran out
-abbrev pub Entered : ProgramRows → Tree → Moment → (routine : ℕ) → Result (Option Pause) Halt → Body → Type 0
-Entered p t m routine (Ok (Some (pauses.Enter f))) a =
-    StopsAt p t m (pause_of p a (pauses.Enter f)) m × (f ≡ routine)
-Entered p t m routine (Err halts.Memory) a = Unit {0}
-Entered p t m routine r a = ⊥
+-- a call of a routine is to be entered there, unless memory ran out
+abbrev pub Entered : ProgramRows → Configuration → (routine : ℕ) → Result (Option Pause) Halt → Body → Type 0
+Entered p c routine (Ok (Some (pauses.Enter f))) a =
+    StopsAt p c.tree c.moment (pause_of p a (pauses.Enter f)) c.moment × (f ≡ routine)
+Entered p c routine (Err halts.Memory) a = Unit {0}
+Entered p c routine r a = ⊥

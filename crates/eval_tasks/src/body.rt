@@ -13,7 +13,7 @@ ghost use Rattle.eval_machine.specs.Machines.{DoesAll, Moment};
 ghost use Rattle.eval_tasks.specs.Rest.{at_work, below, from, from_under, home_below, lists_of, lists_below};
 ghost use Rattle.eval_tasks.specs.Rest.{rest_of, resume};
 ghost use Rattle.eval_tasks.specs.Rest.{tasks_of, top, top_list, values_below, values_of, waiting};
-ghost use Rattle.eval_tasks.specs.Turns.{Turns, end_of};
+ghost use Rattle.eval_tasks.specs.Turns.{Turns, configuration, end_of};
 ghost use Rattle.eval_tasks.specs.Weight.{Falls, body_weight, come, left_with, now_weight, task_weight, tasks_weight};
 
 use crate::records::Records;
@@ -82,7 +82,8 @@ impl Body {
     /// Puts a task on top of those that wait, and sets what is now at work.
     #[inline(always)]
     pub fn wait(&mut self, task: Task, now: Now) -> Turned
-        ensures turns { (p : ProgramRows) (m : Moment) → Turns p (from_under p self.old now task) m result self.new m }
+        ensures turns { (p : ProgramRows) (m : Moment) → Turns p (configuration (from_under p self.old now task) m)
+            result self.new m }
         ensures home { self.new.home ≡ self.old.home }
         ensures falls { Falls result (body_weight self.new)
             (now_weight now + task_weight task + tasks_weight self.old + 1) }
@@ -95,8 +96,9 @@ impl Body {
     /// Lets a value wait, which the task holds that is put on top, and sets what is now at work.
     #[inline(always)]
     pub fn hold(&mut self, value: Value, task: Task, now: Now) -> Turned
-        ensures turns { (p : ProgramRows) (m : Moment) → Turns p (at_work p self.old.home now (task ∷ tasks_of self.old)
-            (value ∷ values_of self.old) (lists_of self.old)) m result self.new m }
+        ensures turns { (p : ProgramRows) (m : Moment) → Turns p (configuration
+            (at_work p self.old.home now (task ∷ tasks_of self.old)
+            (value ∷ values_of self.old) (lists_of self.old)) m) result self.new m }
         ensures home { self.new.home ≡ self.old.home }
         ensures falls { Falls result (body_weight self.new)
             (now_weight now + task_weight task + tasks_weight self.old + 1) }
@@ -110,7 +112,8 @@ impl Body {
     /// Sets what is now at work.
     #[inline(always)]
     pub fn go(&mut self, now: Now) -> Turned
-        ensures turns { (p : ProgramRows) (m : Moment) → Turns p (from p self.old now) m result self.new m }
+        ensures turns { (p : ProgramRows) (m : Moment) → Turns p (configuration (from p self.old now) m) result self.new
+            m }
         ensures home { self.new.home ≡ self.old.home }
         ensures falls { Falls result (body_weight self.new) (now_weight now + tasks_weight self.old + 1) }
     {
@@ -132,7 +135,7 @@ impl Body {
     /// Stops for good, since the tables name a row that they do not have.
     #[inline(always)]
     pub fn no_row(&mut self) -> Turned
-        ensures turns { (p : ProgramRows) (m : Moment) → Turns p no_row m result self.new m }
+        ensures turns { (p : ProgramRows) (m : Moment) → Turns p (configuration no_row m) result self.new m }
         ensures home { self.new.home ≡ self.old.home }
         ensures falls { Falls result (body_weight self.new) 0 }
     {
@@ -144,7 +147,7 @@ impl Body {
     pub fn scalar(&mut self, line: u32, done: Result<Value, Halt>) -> Turned
         ensures turns { (p : ProgramRows) (a : Action CellValue) (m m' : Moment)
             → DoesAll (λ v. v) (performs a m.state) done m m'
-            → Turns p (bind (doing line a scalar) (waiting p self.old)) m result self.new m' }
+            → Turns p (configuration (bind (doing line a scalar) (waiting p self.old)) m) result self.new m' }
         ensures home { self.new.home ≡ self.old.home }
         ensures falls { Falls result (body_weight self.new) (come + tasks_weight self.old + 1) }
         ensures less { (a : Action CellValue) (m m' : Moment) → DoesAll (λ v. v) (performs a m.state) done m m'
@@ -162,7 +165,7 @@ impl Body {
     pub fn address(&mut self, line: u32, done: Result<u32, Halt>) -> Turned
         ensures turns { (p : ProgramRows) (a : Action ℕ) (m m' : Moment)
             → DoesAll (λ n. n) (performs a m.state) done m m'
-            → Turns p (bind (doing line a address) (waiting p self.old)) m result self.new m' }
+            → Turns p (configuration (bind (doing line a address) (waiting p self.old)) m) result self.new m' }
         ensures home { self.new.home ≡ self.old.home }
         ensures falls { Falls result (body_weight self.new) (come + tasks_weight self.old + 1) }
         ensures less { (a : Action ℕ) (m m' : Moment) → DoesAll (λ n. n) (performs a m.state) done m m'
@@ -180,7 +183,7 @@ impl Body {
     pub fn finally(&mut self, line: u32, done: Result<(), Halt>) -> Turned
         ensures turns { (p : ProgramRows) (a : Action (Unit {0})) (m m' : Moment)
             → DoesAll (λ _. tt) (performs a m.state) done m m'
-            → Turns p (bind (doing line a (λ _. nothing)) (waiting p self.old)) m result self.new m' }
+            → Turns p (configuration (bind (doing line a (λ _. nothing)) (waiting p self.old)) m) result self.new m' }
         ensures home { self.new.home ≡ self.old.home }
         ensures falls { Falls result (body_weight self.new) (come + tasks_weight self.old + 1) }
         ensures less { (a : Action (Unit {0})) (m m' : Moment) → DoesAll (λ _. tt) (performs a m.state) done m m'
@@ -195,8 +198,8 @@ impl Body {
 
     /// The values of cells are what came.
     pub fn give_cells(&mut self, values: Cells) -> Turned
-        ensures turns { (p : ProgramRows) (m : Moment) → Turns p (waiting p self.old (CellsOut values)) m result
-            self.new m }
+        ensures turns { (p : ProgramRows) (m : Moment) → Turns p (configuration (waiting p self.old (CellsOut values))
+            m) result self.new m }
         ensures falls { Falls result (body_weight self.new) (come + 1 + tasks_weight self.old) }
         ensures home { self.new.home ≡ self.old.home }
     {
@@ -209,7 +212,7 @@ impl Body {
     #[inline(always)]
     pub fn either(&mut self, taken: bool, now: Now, otherwise: Now) -> Turned
         ensures turns { (p : ProgramRows) (m : Moment) → Turns p
-            (if taken then from p self.old now else from p self.old otherwise) m result self.new m }
+            (configuration (if taken then from p self.old now else from p self.old otherwise) m) result self.new m }
         ensures falls { Falls result (body_weight self.new)
             (max (now_weight now) (now_weight otherwise) + tasks_weight self.old + 1) }
         ensures home { self.new.home ≡ self.old.home }

@@ -7,7 +7,7 @@ ghost use Rattle.program_meaning.specs.Statements as meaning;
 ghost use Rattle.program_meaning.specs.Tree.{bind, doing};
 ghost use Rattle.eval_machine.specs.Machines.{IsReady, Moment, moment_of};
 ghost use Rattle.eval_tasks.specs.Rest.{from_under, here, waiting};
-ghost use Rattle.eval_tasks.specs.Turns.{Turns};
+ghost use Rattle.eval_tasks.specs.Turns.{Turns, configuration};
 ghost use Rattle.eval_tasks.specs.Weight.{Falls, body_weight, come, left_of, left_with, tasks_weight};
 
 use cell_value::Value;
@@ -29,8 +29,9 @@ pub fn locate_second(
     line: u32,
     addr: u32,
 ) -> Turned
-    ensures turns { (p : ProgramRows) (m : Moment) → Turns p (from_under p body.old (Now.Came (Way.Address addr))
-        (Task.PackFirst packing unpacked index packed line)) m result body.new m }
+    ensures turns { (p : ProgramRows) (m : Moment) → Turns p (configuration
+        (from_under p body.old (Now.Came (Way.Address addr))
+        (Task.PackFirst packing unpacked index packed line)) m) result body.new m }
     ensures falls { Falls result (body_weight body.new) (come + 1 + tasks_weight body.old) }
     ensures home { body.new.home ≡ body.old.home }
 {
@@ -74,8 +75,9 @@ pub fn pack_by_index(
     line: u32,
     addr: u32,
 ) -> Turned
-    ensures turns { (p : ProgramRows) (m : Moment) → Turns p (from_under p body.old (Now.Came (Way.Address addr))
-        (Task.PackSecond packing unpacked index packed first line)) m result body.new m }
+    ensures turns { (p : ProgramRows) (m : Moment) → Turns p (configuration
+        (from_under p body.old (Now.Came (Way.Address addr))
+        (Task.PackSecond packing unpacked index packed first line)) m) result body.new m }
     ensures falls { Falls result (body_weight body.new) (come + 1 + tasks_weight body.old) }
     ensures home { body.new.home ≡ body.old.home }
 {
@@ -123,8 +125,8 @@ pub fn move_arrays(
     value: Value,
 ) -> Turned
     requires ready { IsReady machine.old }
-    ensures turns { Turns program.now (from_under program.now body.old (Now.Came (Way.Scalar value))
-        (Task.PackIndex packing unpacked packed wide close line)) (moment_of machine.old) result body.new
+    ensures turns { Turns program.now (configuration (from_under program.now body.old (Now.Came (Way.Scalar value))
+        (Task.PackIndex packing unpacked packed wide close line)) (moment_of machine.old)) result body.new
         (moment_of machine.new) }
     ensures falls { Falls result (left_of body.new machine.new)
         (left_with machine.old.steps (come + 1 + tasks_weight body.old)) }
@@ -154,10 +156,11 @@ fn move_by(
     value: Value,
 ) -> Turned
     requires ready { IsReady machine.old }
-    ensures turns { Turns program.now (bind (arrays.with_array program.now (row_at program.now packed) (λ cells small.
+    ensures turns { Turns program.now (configuration (bind (arrays.with_array program.now (row_at program.now packed)
+        (λ cells small.
         doing line (arrays.first_moved unpacked small wide value) (λ at. meaning.finally (here body.old.home line)
         (if packing then arrays.copies at close cells else arrays.copies close at cells))))
-        (waiting program.now body.old)) (moment_of machine.old) result body.new (moment_of machine.new) }
+        (waiting program.now body.old)) (moment_of machine.old)) result body.new (moment_of machine.new) }
     ensures falls { Falls result (left_of body.new machine.new)
         (left_with machine.old.steps (come + 1 + tasks_weight body.old)) }
     ensures home { body.new.home ≡ body.old.home }
@@ -186,10 +189,10 @@ fn move_cells(
     value: Value,
 ) -> Turned
     requires ready { IsReady machine.old }
-    ensures turns { (p : ProgramRows) → Turns p (bind (doing line (arrays.first_moved unpacked packed wide value)
-        (λ at. meaning.finally (here body.old.home line)
+    ensures turns { (p : ProgramRows) → Turns p (configuration (bind
+        (doing line (arrays.first_moved unpacked packed wide value) (λ at. meaning.finally (here body.old.home line)
         (if packing then arrays.copies at close cells else arrays.copies close at cells))) (waiting p body.old))
-        (moment_of machine.old) result body.new (moment_of machine.new) }
+        (moment_of machine.old)) result body.new (moment_of machine.new) }
     ensures falls { Falls result (left_of body.new machine.new)
         (left_with machine.old.steps (come + 1 + tasks_weight body.old)) }
     ensures home { body.new.home ≡ body.old.home }
@@ -213,9 +216,9 @@ fn copy(
     line: u32,
 ) -> Turned
     requires ready { IsReady machine.old }
-    ensures turns { (p : ProgramRows) → Turns p (bind (meaning.finally (here body.old.home line)
+    ensures turns { (p : ProgramRows) → Turns p (configuration (bind (meaning.finally (here body.old.home line)
         (if packing then arrays.copies at close cells else arrays.copies close at cells)) (waiting p body.old))
-        (moment_of machine.old) result body.new (moment_of machine.new) }
+        (moment_of machine.old)) result body.new (moment_of machine.new) }
     ensures falls { Falls result (left_of body.new machine.new)
         (left_with machine.old.steps (come + 1 + tasks_weight body.old)) }
     ensures home { body.new.home ≡ body.old.home }

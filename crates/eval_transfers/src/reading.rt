@@ -8,7 +8,7 @@ ghost use Rattle.program_meaning.specs.Transfers as transfers;
 ghost use Rattle.program_meaning.specs.Tree.{bind, doing};
 ghost use Rattle.eval_machine.specs.Machines.{IsReady, Moment, moment_of};
 ghost use Rattle.eval_tasks.specs.Rest.{from, from_under, here, waiting};
-ghost use Rattle.eval_tasks.specs.Turns.{Turns};
+ghost use Rattle.eval_tasks.specs.Turns.{Turns, configuration};
 ghost use Rattle.eval_tasks.specs.Weight.{Falls, body_weight, come, left_of, left_with, part_weight, tasks_weight};
 ghost use Rattle.eval_tasks.specs.Weight.{task_weight};
 
@@ -33,8 +33,8 @@ pub fn receive(
     line: u32,
 ) -> Turned
     requires ready { IsReady machine.old }
-    ensures turns { Turns program.now (from program.now body.old (Now.Begin (Part.Receive at line)))
-        (moment_of machine.old) result body.new (moment_of machine.new) }
+    ensures turns { Turns program.now (configuration (from program.now body.old (Now.Begin (Part.Receive at line)))
+        (moment_of machine.old)) result body.new (moment_of machine.new) }
     ensures falls { Falls result (left_of body.new machine.new)
         (left_with machine.old.steps (part_weight (Part.Receive at line) + tasks_weight body.old)) }
     ensures home { body.new.home ≡ body.old.home }
@@ -56,8 +56,9 @@ fn receive_actual(
     line: u32,
 ) -> Turned
     requires ready { IsReady machine.old }
-    ensures turns { Turns program.now (bind (transfers.received program.now (here body.old.home line) access next
-        (row_at program.now access)) (waiting program.now body.old)) (moment_of machine.old) result body.new
+    ensures turns { Turns program.now (configuration (bind (transfers.received program.now (here body.old.home line)
+        access next
+        (row_at program.now access)) (waiting program.now body.old)) (moment_of machine.old)) result body.new
         (moment_of machine.new) }
     ensures falls { Falls result (left_of body.new machine.new)
         (left_with machine.old.steps (come + 1 + tasks_weight body.old)) }
@@ -91,9 +92,9 @@ fn read_for(
     line: u32,
 ) -> Turned
     requires ready { IsReady machine.old }
-    ensures turns { Turns program.now (bind (transfers.read_for (here body.old.home line)
+    ensures turns { Turns program.now (configuration (bind (transfers.read_for (here body.old.home line)
         (output.host_at program.now of) (transfers.into program.now (here body.old.home line) access of next))
-        (waiting program.now body.old)) (moment_of machine.old) result body.new (moment_of machine.new) }
+        (waiting program.now body.old)) (moment_of machine.old)) result body.new (moment_of machine.new) }
     ensures falls { Falls result (left_of body.new machine.new)
         (left_with machine.old.steps (come + 1 + tasks_weight body.old)) }
     ensures home { body.new.home ≡ body.old.home }
@@ -127,8 +128,8 @@ fn read_char(
     line: u32,
 ) -> Turned
     requires ready { IsReady machine.old }
-    ensures turns { (p : ProgramRows) → Turns p (bind (doing line input.next_char
-        (transfers.into p (here body.old.home line) access of next)) (waiting p body.old)) (moment_of machine.old)
+    ensures turns { (p : ProgramRows) → Turns p (configuration (bind (doing line input.next_char
+        (transfers.into p (here body.old.home line) access of next)) (waiting p body.old)) (moment_of machine.old))
         result body.new (moment_of machine.new) }
     ensures falls { Falls result (left_of body.new machine.new)
         (left_with machine.old.steps (come + 1 + tasks_weight body.old)) }
@@ -151,8 +152,8 @@ pub(crate) fn locate_read(
     value: Value,
 ) -> Turned
     ensures turns { (p : ProgramRows) (m : Moment) → Turns p
-        (bind (transfers.into p (here body.old.home line) access of next value) (waiting p body.old)) m result
-        body.new m }
+        (configuration (bind (transfers.into p (here body.old.home line) access of next value) (waiting p body.old)) m)
+        result body.new m }
     ensures falls { Falls result (body_weight body.new) (come + tasks_weight body.old) }
     ensures home { body.new.home ≡ body.old.home }
 {
@@ -175,8 +176,8 @@ pub(crate) fn locate_read(
 /// A turn of the reading of an integer.
 pub fn scan(body: &mut Body, machine: &mut Machine, scan: Scan, line: u32) -> Turned
     requires ready { IsReady machine.old }
-    ensures turns { (p : ProgramRows) → Turns p (from p body.old (Now.Begin (Part.Scanning scan line)))
-        (moment_of machine.old) result body.new (moment_of machine.new) }
+    ensures turns { (p : ProgramRows) → Turns p (configuration (from p body.old (Now.Begin (Part.Scanning scan line)))
+        (moment_of machine.old)) result body.new (moment_of machine.new) }
     ensures falls { Falls result (left_of body.new machine.new)
         (left_with machine.old.steps (part_weight (Part.Scanning scan line) + tasks_weight body.old)) }
     ensures home { body.new.home ≡ body.old.home }
@@ -190,8 +191,8 @@ pub fn scan(body: &mut Body, machine: &mut Machine, scan: Scan, line: u32) -> Tu
 
 /// After a turn of the reading of an integer.
 fn after_scan(body: &mut Body, scanned: Scanned, line: u32) -> Turned
-    ensures turns { (p : ProgramRows) (m : Moment) → Turns p (bind (transfers.on_scanned (here body.old.home line)
-        scanned) (waiting p body.old)) m result body.new m }
+    ensures turns { (p : ProgramRows) (m : Moment) → Turns p (configuration
+        (bind (transfers.on_scanned (here body.old.home line) scanned) (waiting p body.old)) m) result body.new m }
     ensures falls { Falls result (body_weight body.new) (come + 1 + tasks_weight body.old) }
     ensures home { body.new.home ≡ body.old.home }
 {
@@ -204,8 +205,8 @@ fn after_scan(body: &mut Body, scanned: Scanned, line: u32) -> Turned
 /// An item of the rest of a line, and those after it.
 pub fn pass_line(body: &mut Body, machine: &mut Machine, line: u32) -> Turned
     requires ready { IsReady machine.old }
-    ensures turns { (p : ProgramRows) → Turns p (from p body.old (Now.Begin (Part.RestOfLine line)))
-        (moment_of machine.old) result body.new (moment_of machine.new) }
+    ensures turns { (p : ProgramRows) → Turns p (configuration (from p body.old (Now.Begin (Part.RestOfLine line)))
+        (moment_of machine.old)) result body.new (moment_of machine.new) }
     ensures falls { Falls result (left_of body.new machine.new)
         (left_with machine.old.steps (part_weight (Part.RestOfLine line) + tasks_weight body.old)) }
     ensures home { body.new.home ≡ body.old.home }
@@ -232,8 +233,8 @@ pub fn store_read(
 ) -> Turned
     requires ready { IsReady machine.old }
     ensures turns { Turns program.now
-        (from_under program.now body.old (Now.Came (Way.Address addr)) (Task.Transfer transfer))
-        (moment_of machine.old) result body.new (moment_of machine.new) }
+        (configuration (from_under program.now body.old (Now.Came (Way.Address addr)) (Task.Transfer transfer))
+        (moment_of machine.old)) result body.new (moment_of machine.new) }
     ensures falls { Falls result (left_of body.new machine.new)
         (left_with machine.old.steps (come + task_weight (Task.Transfer transfer) + tasks_weight body.old)) }
     ensures home { body.new.home ≡ body.old.home }
@@ -267,8 +268,8 @@ fn store(
     addr: u32,
 ) -> Turned
     requires ready { IsReady machine.old }
-    ensures turns { Turns program.now (from_under program.now body.old (Now.Came (Way.Address addr))
-        (Task.Transfer (Transfer.Into access of next line))) (moment_of machine.old) result body.new
+    ensures turns { Turns program.now (configuration (from_under program.now body.old (Now.Came (Way.Address addr))
+        (Task.Transfer (Transfer.Into access of next line))) (moment_of machine.old)) result body.new
         (moment_of machine.new) }
     ensures falls { Falls result (left_of body.new machine.new)
         (left_with machine.old.steps (come + 2 + tasks_weight body.old)) }

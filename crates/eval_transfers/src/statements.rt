@@ -9,7 +9,7 @@ ghost use Rattle.program_meaning.specs.Tree as parts;
 ghost use Rattle.program_meaning.specs.Tree.{Ret, Sub, bind};
 ghost use Rattle.eval_machine.specs.Machines.{IsReady, Moment, moment_of};
 ghost use Rattle.eval_tasks.specs.Rest.{here, waiting};
-ghost use Rattle.eval_tasks.specs.Turns.{Turns};
+ghost use Rattle.eval_tasks.specs.Turns.{Turns, configuration};
 ghost use Rattle.eval_tasks.specs.Weight.{Falls, body_weight, come, left_of, left_with, tasks_weight};
 ghost use Rattle.eval_transfers.specs.Families.{of_transfer};
 
@@ -22,8 +22,8 @@ use program_tables::rows::StatementRow;
 pub fn transfer_statement(body: &mut Body, machine: &mut Machine, statement: StatementRow) -> Turned
     requires ready { IsReady machine.old }
     ensures turns { (p : ProgramRows) (row : ℕ) → Turns p
-        (bind (of_transfer p body.old.home row statement) (waiting p body.old)) (moment_of machine.old) result
-        body.new (moment_of machine.new) }
+        (configuration (bind (of_transfer p body.old.home row statement) (waiting p body.old)) (moment_of machine.old))
+        result body.new (moment_of machine.new) }
     ensures falls { Falls result (left_of body.new machine.new)
         (left_with machine.old.steps (come + 10 + tasks_weight body.old)) }
     ensures home { body.new.home ≡ body.old.home }
@@ -57,9 +57,9 @@ pub fn transfer_statement(body: &mut Body, machine: &mut Machine, statement: Sta
 
 /// The actuals of a read statement begin. After them comes the rest of the line, if it ends one.
 fn begin_read(body: &mut Body, ends_line: bool, actuals: u32, line: u32) -> Turned
-    ensures turns { (p : ProgramRows) (m : Moment) → Turns p (bind (Sub (parts.Receive actuals
+    ensures turns { (p : ProgramRows) (m : Moment) → Turns p (configuration (bind (Sub (parts.Receive actuals
         (here body.old.home line)) (meaning.on_normal (if ends_line
-        then Sub (parts.RestOfLine (here body.old.home line)) Ret else meaning.nothing))) (waiting p body.old)) m
+        then Sub (parts.RestOfLine (here body.old.home line)) Ret else meaning.nothing))) (waiting p body.old)) m)
         result body.new m }
     ensures falls { Falls result (body_weight body.new) (come + 10 + tasks_weight body.old) }
     ensures home { body.new.home ≡ body.old.home }
@@ -74,9 +74,9 @@ fn begin_read(body: &mut Body, ends_line: bool, actuals: u32, line: u32) -> Turn
 
 /// The actuals of a write statement begin. After them comes the end of the line, if it ends one.
 fn begin_write(body: &mut Body, ends_line: bool, actuals: u32, line: u32) -> Turned
-    ensures turns { (p : ProgramRows) (m : Moment) → Turns p (bind (Sub (parts.Print actuals
+    ensures turns { (p : ProgramRows) (m : Moment) → Turns p (configuration (bind (Sub (parts.Print actuals
         (here body.old.home line)) (meaning.on_normal (if ends_line
-        then meaning.finally (here body.old.home line) end_line else meaning.nothing))) (waiting p body.old)) m
+        then meaning.finally (here body.old.home line) end_line else meaning.nothing))) (waiting p body.old)) m)
         result body.new m }
     ensures falls { Falls result (body_weight body.new) (come + 10 + tasks_weight body.old) }
     ensures home { body.new.home ≡ body.old.home }
@@ -98,8 +98,9 @@ fn begin_pack(
     packed: u32,
     line: u32,
 ) -> Turned
-    ensures turns { (p : ProgramRows) (m : Moment) → Turns p (bind (arrays.pack p (here body.old.home line) packing
-        unpacked index packed (meaning.finally (here body.old.home line))) (waiting p body.old)) m result body.new m }
+    ensures turns { (p : ProgramRows) (m : Moment) → Turns p (configuration
+        (bind (arrays.pack p (here body.old.home line) packing
+        unpacked index packed (meaning.finally (here body.old.home line))) (waiting p body.old)) m) result body.new m }
     ensures falls { Falls result (body_weight body.new) (come + 10 + tasks_weight body.old) }
     ensures home { body.new.home ≡ body.old.home }
 {

@@ -9,7 +9,7 @@ ghost use Rattle.program_meaning.specs.Tree.{Tree, bind, doing};
 ghost use Rattle.eval_machine.specs.Machines.{DoesAll, IsReady, Moment, moment_of};
 ghost use Rattle.eval_tasks.specs.Rest.{below, from, from_under, here, lists_of, resume, tasks_of, top_list};
 ghost use Rattle.eval_tasks.specs.Rest.{values_of, waiting};
-ghost use Rattle.eval_tasks.specs.Turns.{Turns};
+ghost use Rattle.eval_tasks.specs.Turns.{Turns, configuration};
 ghost use Rattle.eval_tasks.specs.Weight.{Falls, body_weight, come, left_of, left_with, now_weight, part_weight};
 ghost use Rattle.eval_tasks.specs.Weight.{task_weight, tasks_weight};
 
@@ -36,7 +36,7 @@ pub(crate) fn host_of(program: &Program, of: u32) -> u32
 pub(crate) fn go_after(body: &mut Body, line: u32, done: Result<(), Halt>, now: Now) -> Turned
     ensures turns { (p : ProgramRows) (a : Action (Unit {0})) (t : Tree) (m m' : Moment)
         → bind t (waiting p body.old) ≡ from p body.old now → DoesAll (λ _. tt) (performs a m.state) done m m'
-        → Turns p (bind (doing line a (λ _. t)) (waiting p body.old)) m result body.new m' }
+        → Turns p (configuration (bind (doing line a (λ _. t)) (waiting p body.old)) m) result body.new m' }
     ensures less { (a : Action (Unit {0})) (m m' : Moment) → DoesAll (λ _. tt) (performs a m.state) done m m'
         → Falls result (left_with m'.state.steps (body_weight body.new))
         (left_with m.state.steps (now_weight now + tasks_weight body.old + 1)) }
@@ -50,8 +50,8 @@ pub(crate) fn go_after(body: &mut Body, line: u32, done: Result<(), Halt>, now: 
 
 /// The actuals of a write statement from an item on.
 pub fn print(body: &mut Body, program: &Program, at: u32, line: u32) -> Turned
-    ensures turns { (m : Moment) → Turns program.now (from program.now body.old (Now.Begin (Part.Print at line))) m
-        result body.new m }
+    ensures turns { (m : Moment) → Turns program.now (configuration
+        (from program.now body.old (Now.Begin (Part.Print at line))) m) result body.new m }
     ensures falls { Falls result (body_weight body.new)
         (part_weight (Part.Print at line) + tasks_weight body.old) }
     ensures home { body.new.home ≡ body.old.home }
@@ -64,8 +64,8 @@ pub fn print(body: &mut Body, program: &Program, at: u32, line: u32) -> Turned
 
 /// The same, by what kind of item it is.
 fn print_item(body: &mut Body, item: ItemRow, line: u32) -> Turned
-    ensures turns { (p : ProgramRows) (m : Moment) → Turns p (bind (transfers.of_printed p
-        (here body.old.home line) (Row.Item item)) (waiting p body.old)) m result body.new m }
+    ensures turns { (p : ProgramRows) (m : Moment) → Turns p (configuration (bind (transfers.of_printed p
+        (here body.old.home line) (Row.Item item)) (waiting p body.old)) m) result body.new m }
     ensures falls { Falls result (body_weight body.new) (come + 1 + tasks_weight body.old) }
     ensures home { body.new.home ≡ body.old.home }
 {
@@ -95,7 +95,8 @@ fn print_item(body: &mut Body, item: ItemRow, line: u32) -> Turned
 #[inline(always)]
 fn evaluate(body: &mut Body, expression: u32, transfer: Transfer, line: u32) -> Turned
     ensures turns { (p : ProgramRows) (m : Moment) → Turns p
-        (from_under p body.old (Now.Begin (Part.Eval expression line)) (Task.Transfer transfer)) m result body.new m }
+        (configuration (from_under p body.old (Now.Begin (Part.Eval expression line)) (Task.Transfer transfer)) m)
+        result body.new m }
     ensures falls { Falls result (body_weight body.new) (come + tasks_weight body.old) }
     ensures home { body.new.home ≡ body.old.home }
 {
@@ -118,9 +119,9 @@ fn write(
     width: Option<Value>,
 ) -> Turned
     requires ready { IsReady machine.old }
-    ensures turns { Turns program.now (bind (transfers.print (here body.old.home line) next
+    ensures turns { Turns program.now (configuration (bind (transfers.print (here body.old.home line) next
         (output.scalar_text (output.host_at program.now of) value) width) (waiting program.now body.old))
-        (moment_of machine.old) result body.new (moment_of machine.new) }
+        (moment_of machine.old)) result body.new (moment_of machine.new) }
     ensures falls { Falls result (left_of body.new machine.new)
         (left_with machine.old.steps (come + 2 + tasks_weight body.old)) }
     ensures home { body.new.home ≡ body.old.home }
@@ -143,8 +144,9 @@ fn write_waiting(
 ) -> Turned
     requires ready { IsReady machine.old }
     ensures turns { Turns program.now
-        (from_under program.now body.old (Now.Came (Way.Scalar width)) (Task.Transfer (Transfer.Width of next line)))
-        (moment_of machine.old) result body.new (moment_of machine.new) }
+        (configuration (from_under program.now body.old (Now.Came (Way.Scalar width))
+        (Task.Transfer (Transfer.Width of next line)))
+        (moment_of machine.old)) result body.new (moment_of machine.new) }
     ensures falls { Falls result (left_of body.new machine.new)
         (left_with machine.old.steps (come + 2 + tasks_weight body.old)) }
     ensures home { body.new.home ≡ body.old.home }
@@ -164,9 +166,9 @@ fn write_text(
     width: Option<Value>,
 ) -> Turned
     requires ready { IsReady machine.old }
-    ensures turns { (p : ProgramRows) → Turns p (bind (transfers.print (here body.old.home line) next
+    ensures turns { (p : ProgramRows) → Turns p (configuration (bind (transfers.print (here body.old.home line) next
         (output.string_text (top_list (lists_of body.old))) width) (resume p body.old.home (tasks_of body.old)
-        (values_of body.old) (below (lists_of body.old)))) (moment_of machine.old) result body.new
+        (values_of body.old) (below (lists_of body.old)))) (moment_of machine.old)) result body.new
         (moment_of machine.new) }
     ensures falls { Falls result (left_of body.new machine.new)
         (left_with machine.old.steps (come + 2 + tasks_weight body.old)) }
@@ -190,8 +192,8 @@ pub fn continue_transfer(
 ) -> Turned
     requires ready { IsReady machine.old }
     ensures turns { Turns program.now
-        (from_under program.now body.old (Now.Came (Way.Scalar value)) (Task.Transfer transfer))
-        (moment_of machine.old) result body.new (moment_of machine.new) }
+        (configuration (from_under program.now body.old (Now.Came (Way.Scalar value)) (Task.Transfer transfer))
+        (moment_of machine.old)) result body.new (moment_of machine.new) }
     ensures falls { Falls result (left_of body.new machine.new)
         (left_with machine.old.steps (come + task_weight (Task.Transfer transfer) + tasks_weight body.old)) }
     ensures home { body.new.home ≡ body.old.home }
@@ -236,8 +238,8 @@ pub fn continue_with_text(
 ) -> Turned
     requires ready { IsReady machine.old }
     ensures turns { (p : ProgramRows) → Turns p
-        (from_under p body.old (Now.Came Way.Cells) (Task.Transfer transfer))
-        (moment_of machine.old) result body.new (moment_of machine.new) }
+        (configuration (from_under p body.old (Now.Came Way.Cells) (Task.Transfer transfer))
+        (moment_of machine.old)) result body.new (moment_of machine.new) }
     ensures falls { Falls result (left_of body.new machine.new)
         (left_with machine.old.steps (come + task_weight (Task.Transfer transfer) + tasks_weight body.old)) }
     ensures home { body.new.home ≡ body.old.home }

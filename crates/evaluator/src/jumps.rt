@@ -4,7 +4,7 @@ ghost use Rattle.std.specs.Prelude.{◌≡◌, ◌==◌, ◌&&◌, ◌+◌, None
 ghost use Rattle.eval_machine.specs.Machines.{Moment};
 ghost use Rattle.eval_tasks.specs.Records.{SameFrame};
 ghost use Rattle.eval_tasks.specs.Rest.{from_under};
-ghost use Rattle.eval_tasks.specs.Turns.{Turns};
+ghost use Rattle.eval_tasks.specs.Turns.{Turns, configuration};
 ghost use Rattle.eval_tasks.specs.Weight.{Falls, body_weight, come, task_weight, tasks_weight};
 
 use eval_rules::labelled_in;
@@ -29,7 +29,7 @@ pub(crate) fn leap(
     base: u32,
 ) -> Turned
     ensures turns { (m : Moment) → Turns program.now
-        (from_under program.now body.old (Now.Came (Way.Jump label base)) task) m result body.new m }
+        (configuration (from_under program.now body.old (Now.Came (Way.Jump label base)) task) m) result body.new m }
     ensures falls { Falls result (body_weight body.new) (come + task_weight task + tasks_weight body.old) }
     ensures frame { SameFrame body.new.home body.old.home }
 {
@@ -53,7 +53,8 @@ fn land(
     base: u32,
 ) -> Turned
     ensures turns { (m : Moment) → Turns program.now
-        (from_under program.now body.old (Now.Came (Way.Jump label base)) (Task.Next next)) m result body.new m }
+        (configuration (from_under program.now body.old (Now.Came (Way.Jump label base)) (Task.Next next)) m) result
+        body.new m }
     ensures falls { Falls result (body_weight body.new)
         (come + task_weight (Task.Next next) + tasks_weight body.old) }
     ensures home { body.new.home ≡ body.old.home }

@@ -11,7 +11,7 @@ ghost use Rattle.program_meaning.specs.Run as action;
 ghost use Rattle.program_meaning.specs.State as state;
 ghost use Rattle.eval_machine.specs.Machines.{DoesAll, IsReady, Moment, moment_of};
 ghost use Rattle.eval_tasks.specs.Rest.{from, returns};
-ghost use Rattle.eval_tasks.specs.Turns.{Turns};
+ghost use Rattle.eval_tasks.specs.Turns.{Turns, configuration};
 
 use cell_value::Value;
 use eval_cells::{moved, result_at};
@@ -25,8 +25,8 @@ use program_tables::rows::{PartRow, Row, TypeRow};
 pub(crate) fn end(body: &mut Body, program: &Program, machine: &mut Machine, way: Way) -> Turned
     requires ready { IsReady machine.old }
     requires done { body.old.tasks.items ≡ [] }
-    ensures turns { Turns program.now (from program.now body.old (Now.Came way)) (moment_of machine.old) result
-        body.new (moment_of machine.new) }
+    ensures turns { Turns program.now (configuration (from program.now body.old (Now.Came way)) (moment_of machine.old))
+        result body.new (moment_of machine.new) }
     ensures stops { IfOk result (λ s. s ≡ None → ⊥) }
     ensures home { body.new.home ≡ body.old.home }
     ensures ready { IsReady machine.new }
@@ -46,8 +46,8 @@ pub(crate) fn end(body: &mut Body, program: &Program, machine: &mut Machine, way
 /// The routine returns.
 fn returned(body: &mut Body, program: &Program, machine: &mut Machine) -> Turned
     requires ready { IsReady machine.old }
-    ensures turns { Turns program.now (returns program.now body.old.home
-        (routine_at program.now body.old.home.routine)) (moment_of machine.old) result body.new
+    ensures turns { Turns program.now (configuration (returns program.now body.old.home
+        (routine_at program.now body.old.home.routine)) (moment_of machine.old)) result body.new
         (moment_of machine.new) }
     ensures stops { IfOk result (λ s. s ≡ None → ⊥) }
     ensures home { body.new.home ≡ body.old.home }
@@ -84,8 +84,8 @@ fn give_result(
     place: u32,
 ) -> Turned
     requires ready { IsReady machine.old }
-    ensures turns { Turns program.now (action.result_of_type line (state.moved body.old.home.base place)
-        (type_in_heading program.now heading)) (moment_of machine.old) result body.new (moment_of machine.new) }
+    ensures turns { Turns program.now (configuration (action.result_of_type line (state.moved body.old.home.base place)
+        (type_in_heading program.now heading)) (moment_of machine.old)) result body.new (moment_of machine.new) }
     ensures stops { IfOk result (λ s. s ≡ None → ⊥) }
     ensures home { body.new.home ≡ body.old.home }
     ensures ready { IsReady machine.new }
@@ -111,8 +111,8 @@ fn give_result_of(
     place: u32,
 ) -> Turned
     requires ready { IsReady machine.old }
-    ensures turns { Turns program.now (action.result_of_type line (state.moved body.old.home.base place) kind)
-        (moment_of machine.old) result body.new (moment_of machine.new) }
+    ensures turns { Turns program.now (configuration (action.result_of_type line (state.moved body.old.home.base place)
+        kind) (moment_of machine.old)) result body.new (moment_of machine.new) }
     ensures stops { IfOk result (λ s. s ≡ None → ⊥) }
     ensures home { body.new.home ≡ body.old.home }
     ensures ready { IsReady machine.new }
@@ -149,7 +149,8 @@ fn give_result_of(
 /// An action on a line gave the result of a function, or it was not done.
 fn give(body: &mut Body, line: u32, done: Result<Value, Halt>) -> Turned
     ensures turns { (p : ProgramRows) (a : Action CellValue) (m m' : Moment)
-        → DoesAll (λ v. v) (performs a m.state) done m m' → Turns p (doing line a scalar) m result body.new m' }
+        → DoesAll (λ v. v) (performs a m.state) done m m' → Turns p (configuration (doing line a scalar) m) result
+        body.new m' }
     ensures stops { IfOk result (λ s. s ≡ None → ⊥) }
     ensures home { body.new.home ≡ body.old.home }
 {

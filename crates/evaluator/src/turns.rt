@@ -8,7 +8,16 @@ ghost use Rattle.eval_machine.specs.Machines.{IsReady, machine_state, moment_of}
 ghost use Rattle.eval_tasks.specs.Records.{SameFrame};
 ghost use Rattle.eval_tasks.specs.Stops.{StopsAt};
 ghost use Rattle.eval_tasks.specs.Rest.{from, from_under, rest_of};
-ghost use Rattle.eval_tasks.specs.Turns.{HasRoom, PausesInRoom, Turns, end_of, ended_by, pause_of, stop_of};
+ghost use Rattle.eval_tasks.specs.Turns.{
+  configuration,
+  HasRoom,
+  PausesInRoom,
+  Turns,
+  end_of,
+  ended_by,
+  pause_of,
+  stop_of,
+};
 ghost use Rattle.eval_tasks.specs.Weight.{Falls, come, left_of, left_with, part_weight, task_weight, tasks_weight};
 
 use crate::jumps::leap;
@@ -91,8 +100,8 @@ fn way_ended(now: Now) -> (WayOut, Option<Value>)
 /// A turn: a part begins, or a task goes on after one.
 fn turn(body: &mut Body, alloc: Global, program: &Program, machine: &mut Machine) -> Turned
     requires ready { IsReady machine.old }
-    ensures turns { Turns program.now (rest_of program.now body.old) (moment_of machine.old) result body.new
-        (moment_of machine.new) }
+    ensures turns { Turns program.now (configuration (rest_of program.now body.old) (moment_of machine.old)) result
+        body.new (moment_of machine.new) }
     ensures falls { Falls result (left_of body.new machine.new) (left_of body.old machine.old) }
     ensures frame { SameFrame body.new.home body.old.home }
     ensures ready { IsReady machine.new }
@@ -113,8 +122,8 @@ fn begin(
     part: Part,
 ) -> Turned
     requires ready { IsReady machine.old }
-    ensures turns { Turns program.now (from program.now body.old (Now.Begin part)) (moment_of machine.old) result
-        body.new (moment_of machine.new) }
+    ensures turns { Turns program.now (configuration (from program.now body.old (Now.Begin part))
+        (moment_of machine.old)) result body.new (moment_of machine.new) }
     ensures falls { Falls result (left_of body.new machine.new)
         (left_with machine.old.steps (part_weight part + tasks_weight body.old)) }
     ensures frame { SameFrame body.new.home body.old.home }
@@ -146,8 +155,8 @@ fn begin(
 /// The statement part of the body's routine begins.
 fn block(body: &mut Body, program: &Program, machine: &mut Machine) -> Turned
     requires ready { IsReady machine.old }
-    ensures turns { Turns program.now (from program.now body.old (Now.Begin Part.Block)) (moment_of machine.old)
-        result body.new (moment_of machine.new) }
+    ensures turns { Turns program.now (configuration (from program.now body.old (Now.Begin Part.Block))
+        (moment_of machine.old)) result body.new (moment_of machine.new) }
     ensures falls { Falls result (left_of body.new machine.new)
         (left_with machine.old.steps (part_weight Part.Block + tasks_weight body.old)) }
     ensures frame { SameFrame body.new.home body.old.home }
@@ -176,8 +185,8 @@ fn came(
     way: Way,
 ) -> Turned
     requires ready { IsReady machine.old }
-    ensures turns { Turns program.now (from program.now body.old (Now.Came way)) (moment_of machine.old) result
-        body.new (moment_of machine.new) }
+    ensures turns { Turns program.now (configuration (from program.now body.old (Now.Came way)) (moment_of machine.old))
+        result body.new (moment_of machine.new) }
     ensures falls { Falls result (left_of body.new machine.new)
         (left_with machine.old.steps (come + tasks_weight body.old)) }
     ensures frame { SameFrame body.new.home body.old.home }
@@ -199,8 +208,8 @@ fn work(
     way: Way,
 ) -> Turned
     requires ready { IsReady machine.old }
-    ensures turns { Turns program.now (from_under program.now body.old (Now.Came way) task)
-        (moment_of machine.old) result body.new (moment_of machine.new) }
+    ensures turns { Turns program.now (configuration (from_under program.now body.old (Now.Came way) task)
+        (moment_of machine.old)) result body.new (moment_of machine.new) }
     ensures falls { Falls result (left_of body.new machine.new)
         (left_with machine.old.steps (come + task_weight task + tasks_weight body.old)) }
     ensures frame { SameFrame body.new.home body.old.home }
@@ -224,8 +233,8 @@ fn after_nothing(
     task: Task,
 ) -> Turned
     requires ready { IsReady machine.old }
-    ensures turns { Turns program.now (from_under program.now body.old (Now.Came Way.Nothing) task)
-        (moment_of machine.old) result body.new (moment_of machine.new) }
+    ensures turns { Turns program.now (configuration (from_under program.now body.old (Now.Came Way.Nothing) task)
+        (moment_of machine.old)) result body.new (moment_of machine.new) }
     ensures falls { Falls result (left_of body.new machine.new)
         (left_with machine.old.steps (come + task_weight task + tasks_weight body.old)) }
     ensures frame { SameFrame body.new.home body.old.home }
@@ -248,8 +257,8 @@ fn after_scalar(
     value: Value,
 ) -> Turned
     requires ready { IsReady machine.old }
-    ensures turns { Turns program.now (from_under program.now body.old (Now.Came (Way.Scalar value)) task)
-        (moment_of machine.old) result body.new (moment_of machine.new) }
+    ensures turns { Turns program.now (configuration (from_under program.now body.old (Now.Came (Way.Scalar value))
+        task) (moment_of machine.old)) result body.new (moment_of machine.new) }
     ensures falls { Falls result (left_of body.new machine.new)
         (left_with machine.old.steps (come + task_weight task + tasks_weight body.old)) }
     ensures frame { SameFrame body.new.home body.old.home }
@@ -291,8 +300,8 @@ fn after_address(
     addr: u32,
 ) -> Turned
     requires ready { IsReady machine.old }
-    ensures turns { Turns program.now (from_under program.now body.old (Now.Came (Way.Address addr)) task)
-        (moment_of machine.old) result body.new (moment_of machine.new) }
+    ensures turns { Turns program.now (configuration (from_under program.now body.old (Now.Came (Way.Address addr))
+        task) (moment_of machine.old)) result body.new (moment_of machine.new) }
     ensures falls { Falls result (left_of body.new machine.new)
         (left_with machine.old.steps (come + task_weight task + tasks_weight body.old)) }
     ensures frame { SameFrame body.new.home body.old.home }
@@ -341,8 +350,8 @@ fn after_cells(
     task: Task,
 ) -> Turned
     requires ready { IsReady machine.old }
-    ensures turns { Turns program.now (from_under program.now body.old (Now.Came Way.Cells) task)
-        (moment_of machine.old) result body.new (moment_of machine.new) }
+    ensures turns { Turns program.now (configuration (from_under program.now body.old (Now.Came Way.Cells) task)
+        (moment_of machine.old)) result body.new (moment_of machine.new) }
     ensures falls { Falls result (left_of body.new machine.new)
         (left_with machine.old.steps (come + task_weight task + tasks_weight body.old)) }
     ensures frame { SameFrame body.new.home body.old.home }

@@ -40,7 +40,7 @@ module _ {p : ProgramRows} {first : State} where
 module _ (p : ProgramRows) (first : State) where
   pub record Left (r : Runner) (w : WayOut) (answer : Option Value) : Type 0 where
     pub out : Out
-    pub ending : Ending p first (Ended out) r w answer
+    pub ending : Ending p first (Ended out) r (w, answer)
     pub is : end_of w answer ≡ Ended out
 
   pub by_return : (r : Runner) (w : WayOut) (answer : Option Value) → w ≡ way.Returned → At p first (Ends (end_of w answer)) r → Left r w answer

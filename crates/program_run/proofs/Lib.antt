@@ -6,6 +6,7 @@ pub mod ItemsOfInput
 pub mod LinesTakeSteps
 pub mod OpenCalls
 pub mod RowsInParts
+pub mod RowsTellTheStates
 pub mod RunnerSteps
 pub mod RunsAreRuns
 pub mod StepsLeadToTheRun

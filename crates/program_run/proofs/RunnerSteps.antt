@@ -6,16 +6,15 @@ use Rattle.std.proofs.lemmas.List.{reverse-append}
 use Rattle.cell_value.specs.declared.values.Value.{Value}
 use Rattle.cell_value.specs.declared.ways_out.WayOut.{WayOut}
 use Rattle.call_tree.specs.Recording.{Recording, entered}
-use Rattle.program_tables.specs.declared.program.Routine.{Routine}
 use Rattle.program_tables.specs.ProgramRows.{ProgramRows}
 use Rattle.program_meaning.specs.State.{State}
-use Rattle.program_meaning.specs.Tree.{Tree}
+use Rattle.program_meaning.specs.Tree.{Out, Tree}
 use Rattle.eval_machine.specs.Machines.{Moment}
 use Rattle.eval_tasks.specs.Stops.{Stop, StopsAt}
 use Rattle.program_run.specs.declared.open_call.OpenCall.{OpenCall}
 use Rattle.program_run.specs.Table.{side_of}
-use Rattle.program_run.specs.Tower.{Stage, Calls, Open, View, TowerAt, Begins}
-use Rattle.program_run.specs.Runners.{Begun, open_in}
+use Rattle.program_run.specs.Tower.{Entry, Calls, View, TowerAt, Begins}
+use Rattle.program_run.specs.Runners.{Begun, Invocation, open_in}
 use Rattle.program_run.proofs.ActsKeepCalls.{onward}
 use Rattle.program_run.proofs.LinesTakeSteps.{LeftAt, left_at_stop}
 use Rattle.program_run.proofs.StepsLeadToTheRun.{climb_enter}
@@ -26,25 +25,24 @@ pub pushed : (p : ProgramRows) (xs ys : List OpenCall) (o : OpenCall) → ys ≡
 pushed p xs ys o e = ap (λ os. map (open_in p) (reverse os)) e ∙ ap (map (open_in p)) (reverse-append xs (o ∷ []))
 
 -- what is known of a call that was entered
-pub record Entered (p : ProgramRows) (f : ℕ) (args : List Value) (o : Open) (stage : Stage) (v v' : View) : Type 0 where
-  pub begins : Begins p f args o.cells stage v.moment v'.moment
-  pub base : o.base ≡ v.moment.state.top
-  pub recording : v'.recording ≡ entered v.recording f args (side_of (length v.moment.log) v.moment.state)
-  pub opens : v'.opens ≡ o ∷ v.opens
+pub record Entered (p : ProgramRows) (e : Entry) (rest : Out → Tree) (v v' : View) : Type 0 where
+  pub begins : Begins p e v.moment v'.moment
+  pub recording : v'.recording ≡ entered v.recording e.routine e.args (side_of (length v.moment.log) v.moment.state)
+  pub opens : v'.opens ≡ record { base = v.moment.state.top; cells = e.cells; rest = rest } ∷ v.opens
 
-pub entered_stands : {p : ProgramRows} {first : State} {f : ℕ} {args : List Value} {stage : Stage} (o : Open) (v v' : View) → Entered p f args o stage v v'
-    → TowerAt p first (Calls f args o.rest) v → TowerAt p first stage v'
-entered_stands {p = p} {first = first} {f = f} {args = args} {stage = stage} o v v' e t =
-    subst (λ w. TowerAt p first stage w) (λ i. record {
-      opens = sym (e.opens ∙ ap (λ b. record { base = b; cells = o.cells; rest = o.rest } ∷ v.opens) e.base) i;
+pub entered_stands : {p : ProgramRows} {first : State} (e : Entry) (rest : Out → Tree) (v v' : View) → Entered p e rest v v'
+    → TowerAt p first (Calls e.routine e.args rest) v → TowerAt p first e.stage v'
+entered_stands {p = p} {first = first} e rest v v' known t =
+    subst (λ w. TowerAt p first e.stage w) (λ i. record {
+      opens = sym known.opens i;
       moment = v'.moment;
-      recording = sym e.recording i;
-    }) (climb_enter v v'.moment f args o.rest o.cells stage t e.begins)
+      recording = sym known.recording i;
+    }) (climb_enter v v'.moment rest e t known.begins)
 
-pub few_begun : (p : ProgramRows) (f : ℕ) (args : List Value) (r : Routine) (halted : Option WayOut) (m m' : Moment) → Begun p f args r halted m m'
+pub few_begun : (p : ProgramRows) (call : Invocation) (halted : Option WayOut) (m m' : Moment) → Begun p call halted m m'
     → length m.state.output + m.state.steps < 4294967296 → length m'.state.output + m'.state.steps < 4294967296
-few_begun p f args r None m m' b h = let e = ap length b.output in let l = b.steps in omega (arith, e, l, h)
-few_begun p f args r (Some way) m m' b h = let e = ap length b.output in let l = b.steps in omega (arith, e, l, h)
+few_begun p call None m m' b h = let e = ap length b.output in let l = b.steps in omega (arith, e, l, h)
+few_begun p call (Some way) m m' b h = let e = ap length b.output in let l = b.steps in omega (arith, e, l, h)
 
 pub few_onward : {p : ProgramRows} {t : Tree} {m : Moment} {stop : Stop} {m' : Moment} → StopsAt p t m stop m'
     → length m.state.output + m.state.steps < 4294967296 → length m'.state.output + m'.state.steps < 4294967296
@@ -63,10 +61,10 @@ steps_onward {p = p} {t = t} {m = m} {stop = stop} {m' = m'} s = left_at_stop p 
 pub calls_onward : {p : ProgramRows} {t : Tree} {m : Moment} {stop : Stop} {m' : Moment} → StopsAt p t m stop m' → m'.state.calls ≡ m.state.calls
 calls_onward {p = p} {t = t} {m = m} {stop = stop} {m' = m'} s = (onward p s.moves t m stop m' s.is).same.calls
 
-pub begun_calls : (p : ProgramRows) (f : ℕ) (args : List Value) (r : Routine) (halted : Option WayOut) (m m' : Moment) → Begun p f args r halted m m'
+pub begun_calls : (p : ProgramRows) (call : Invocation) (halted : Option WayOut) (m m' : Moment) → Begun p call halted m m'
     → m'.state.calls ≡ m.state.calls + 1
-begun_calls p f args r None m m' b = b.calls
-begun_calls p f args r (Some way) m m' b = b.calls
+begun_calls p call None m m' b = b.calls
+begun_calls p call (Some way) m m' b = b.calls
 
 -- what holds after a success, from what else does
 pub on_ok : {X E : Type 0} (r : Result X E) (A B : Type 0) → (A → B) → OnOk r A → OnOk r B

@@ -1,6 +1,5 @@
 -- How the open calls change, from stop to stop.
 use Rattle.std.proofs.Common.{◌≡◌, ℕ, suc, ◌-◌, List, [], ◌∷◌, ◌++◌, Some, None, length, refl, sym, ap, subst, ◌∙◌, append-nil, arith}
-use Rattle.cell_value.specs.declared.values.Value.{Value}
 use Rattle.cell_value.specs.declared.values.Value.TheVariants.{Nil}
 use Rattle.cell_value.specs.declared.entries.Touch.{Touch}
 use Rattle.program_tables.specs.ProgramRows.{ProgramRows}
@@ -18,7 +17,7 @@ use Rattle.eval_tasks.specs.Stops.{Stop, AtLine, AtCall, AtEnd, StopsAt}
 use Rattle.program_run.specs.Table.{side_of}
 use Rattle.program_run.specs.Tower.{Level, Levels, Bottom, Push, called, followed, whole_from, Stage, Rests, Calls, Ends, stage_of, stage_after}
 use Rattle.program_run.specs.Tower.{left_at, Leads}
-use Rattle.program_run.specs.Tower.{size, numbers_of, logs_of, rows_of, recording_at, Fits, Open, open_of, opens_of, View, TowerAt, Begins, IsOver}
+use Rattle.program_run.specs.Tower.{size, numbers_of, logs_of, rows_of, recording_at, Fits, Open, open_of, opens_of, View, TowerAt, Entry, Begins, IsOver}
 use Rattle.program_run.proofs.RowsInParts.{rows_whole}
 use Rattle.program_run.proofs.StopsLeadOn.{finish, IsLens, runs}
 use Rattle.program_run.proofs.ActsKeepCalls.{onward}
@@ -115,23 +114,23 @@ module _ {p : ProgramRows} {first : State} where
           )
 
   -- a call is entered
-  pub climb_enter : (v : View) (m' : Moment) (f : ℕ) (args : List Value) (rest : Out → Tree) (cells : ℕ) (stage : Stage)
-      → TowerAt p first (Calls f args rest) v → Begins p f args cells stage v.moment m'
-      → TowerAt p first stage (record {
-        opens = (record { base = v.moment.state.top; cells = cells; rest = rest }) ∷ v.opens;
+  pub climb_enter : (v : View) (m' : Moment) (rest : Out → Tree) (e : Entry)
+      → TowerAt p first (Calls e.routine e.args rest) v → Begins p e v.moment m'
+      → TowerAt p first e.stage (record {
+        opens = (record { base = v.moment.state.top; cells = e.cells; rest = rest }) ∷ v.opens;
         moment = m';
-        recording = entered v.recording f args (side_of (length v.moment.log) v.moment.state);
+        recording = entered v.recording e.routine e.args (side_of (length v.moment.log) v.moment.state);
       })
-  climb_enter v m' f args rest cells stage h b =
+  climb_enter v m' rest e h b =
       let ls = h.levels in
       let σ = v.moment.state in
-      let l : Level = record { routine = f; args = args; entry = σ; cells = cells; rest = rest } in
+      let l : Level = record { routine = e.routine; args = e.args; entry = σ; cells = e.cells; rest = rest } in
       record {
         levels = Push ls l (record { log = []; events = [] });
         opens = ap (λ os. open_of l ∷ os) h.opens;
         fits = (record { inside = λ k x. absurd (omega arith) }, h.depth, h.fits);
-        recording = ap (λ (r : Recording). entered r f args (side_of (length v.moment.log) σ)) h.recording ∙ (λ i. record {
-          calls = rows_of ls ++ new_call (rows_length ls i) (numbers_of ls) f args (side_of (length (h.log i)) σ) ∷ [];
+        recording = ap (λ (r : Recording). entered r e.routine e.args (side_of (length v.moment.log) σ)) h.recording ∙ (λ i. record {
+          calls = rows_of ls ++ new_call (rows_length ls i) (numbers_of ls) e.routine e.args (side_of (length (h.log i)) σ) ∷ [];
           open_calls = rows_length ls i ∷ numbers_of ls;
           routines = length p.routines;
         });
@@ -139,14 +138,14 @@ module _ {p : ProgramRows} {first : State} where
         calls = let a = b.calls in let c = h.calls in omega (arith, a, c);
         depth = let a = b.depth in let c = h.depth in omega (arith, a, c);
         items = b.items ∙ h.items;
-        leads = leads_from h.leads (λ n r e. (n, ap (whole_from p n ls) (enters n) ∙ e));
+        leads = leads_from h.leads (λ n r is. (n, ap (whole_from p n ls) (enters n) ∙ is));
       }
     where
-      enters : (n : ℕ) → followed p n rest (call_of p (run_of p n) f args v.moment.state)
-          ≡ followed p n rest (called (record { routine = f; args = args; entry = v.moment.state; cells = cells; rest = rest })
-          (in_front [] [] (left_at p n stage m'.state)))
-      enters n = ap (λ x. followed p n rest (recorded f args v.moment.state (after_all (closed v.moment.state.depth) x)))
-          (b.is n ∙ ap (after_all (without_frame v.moment.state.top cells)) (sym (front_nothing (left_at p n stage m'.state))))
+      enters : (n : ℕ) → followed p n rest (call_of p (run_of p n) e.routine e.args v.moment.state)
+          ≡ followed p n rest (called (record { routine = e.routine; args = e.args; entry = v.moment.state; cells = e.cells; rest = rest })
+          (in_front [] [] (left_at p n e.stage m'.state)))
+      enters n = ap (λ x. followed p n rest (recorded e.routine e.args v.moment.state (after_all (closed v.moment.state.depth) x)))
+          (b.is n ∙ ap (after_all (without_frame v.moment.state.top e.cells)) (sym (front_nothing (left_at p n e.stage m'.state))))
 
   -- a call ends
   pub climb_leave : (v : View) (m' : Moment) (outer : List Open) (o : Open) (depth : ℕ) (e : End) → TowerAt p first (Ends e) v

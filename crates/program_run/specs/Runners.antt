@@ -12,7 +12,7 @@ use Rattle.eval_tasks.specs.declared.body.Body.{Body}
 use Rattle.eval_tasks.specs.Rest.{rest_of, waiting}
 use Rattle.program_run.specs.declared.open_call.OpenCall.{OpenCall}
 use Rattle.program_run.specs.declared.runner.Runner.{Runner}
-use Rattle.program_run.specs.Tower.{Stage, Rests, Ends, Open, View, TowerAt, Begins, IsOver}
+use Rattle.program_run.specs.Tower.{Stage, Rests, Ends, Open, View, TowerAt, Begins, IsOver, entry}
 
 -- what is done after a call, by its caller
 abbrev pub rest_in : ProgramRows → Option Body → Out → Tree
@@ -60,15 +60,23 @@ pub record IsWell (r : Runner) : Type 0 where
 abbrev pub work_left : Runner → ℕ
 work_left r = r.machine.steps + 2 * (500000 - r.machine.calls) + length r.opens.items
 
--- the frame of a call was made, and else the call ends in this way
-abbrev pub Begun : ProgramRows → ℕ → List Value → Routine → Option WayOut → Moment → Moment → Type 0
-Begun p f args r None m m' = Begins p f args r.cells (Rests (whole p f m.state.top r)) m m'
-Begun p f args r (Some way) m m' = Begins p f args 0 (Ends (Halted way)) m m'
+-- a call of a routine that has this row, with its link and arguments
+pub record Invocation : Type 0 where
+  pub routine : ℕ
+  pub row : Routine
+  pub args : List Value
 
--- an open call is innermost, and ends so
-pub record Ending (p : ProgramRows) (first : State) (e : End) (r : Runner) (way : WayOut) (answer : Option Value) :
-    Type 0
-  where
-    pub ends : At p first (Ends e) r
-    pub goes_out : way_out e ≡ way
-    pub gives : result_in e ≡ answer
+abbrev pub invocation : (routine : ℕ) → Routine → List Value → Invocation
+invocation f r args = record { routine = f; row = r; args = args }
+
+-- the frame of a call was made, and else the call ends in this way
+abbrev pub Begun : ProgramRows → Invocation → Option WayOut → Moment → Moment → Type 0
+Begun p i None m m' =
+    Begins p (entry i.routine i.args i.row.cells (Rests (whole p i.routine m.state.top i.row))) m m'
+Begun p i (Some way) m m' = Begins p (entry i.routine i.args 0 (Ends (Halted way))) m m'
+
+-- an open call is innermost, and ends so, by this way out and with this result
+pub record Ending (p : ProgramRows) (first : State) (e : End) (r : Runner) (out : WayOut × Option Value) : Type 0 where
+  pub ends : At p first (Ends e) r
+  pub goes_out : way_out e ≡ out.0
+  pub gives : result_in e ≡ out.1

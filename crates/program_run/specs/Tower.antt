@@ -216,8 +216,18 @@ pub record TowerAt (p : ProgramRows) (first : State) (stage : Stage) (v : View) 
   pub items : v.moment.state.items ≡ first.items
   pub leads : Leads p first (λ n. whole_from p n levels (left_at p n stage v.moment.state))
 
--- a call was entered, and its body is at this stage
-pub record Begins (p : ProgramRows) (f : ℕ) (args : List Value) (cells : ℕ) (stage : Stage) (m m' : Moment) : Type 0
+-- a call that is entered: its routine, its link and arguments, the cells of its frame, and where its body is then
+pub record Entry : Type 0 where
+  pub routine : ℕ
+  pub args : List Value
+  pub cells : ℕ
+  pub stage : Stage
+
+abbrev pub entry : (routine : ℕ) → List Value → (cells : ℕ) → Stage → Entry
+entry f args cells stage = record { routine = f; args = args; cells = cells; stage = stage }
+
+-- a call was entered so
+pub record Begins (p : ProgramRows) (e : Entry) (m m' : Moment) : Type 0
   where
     pub log : m'.log ≡ m.log
     pub calls : m'.state.calls ≡ m.state.calls + 1
@@ -225,8 +235,8 @@ pub record Begins (p : ProgramRows) (f : ℕ) (args : List Value) (cells : ℕ) 
     pub steps : m'.state.steps ≤ m.state.steps
     pub output : m'.state.output ≡ m.state.output
     pub items : m'.state.items ≡ m.state.items
-    pub is : (n : ℕ) → in_frame (at_work p (run_of p n) f) args (opened m.state) (routine_at p f)
-        ≡ after_all (without_frame m.state.top cells) (left_at p n stage m'.state)
+    pub is : (n : ℕ) → in_frame (at_work p (run_of p n) e.routine) e.args (opened m.state) (routine_at p e.routine)
+        ≡ after_all (without_frame m.state.top e.cells) (left_at p n e.stage m'.state)
 
 -- the run from a first state is over, and this is what it left
 pub record IsOver (p : ProgramRows) (first : State) (m : Moment) (kept : Recording) : Type 0 where

@@ -11,7 +11,8 @@ ghost use Rattle.eval_tasks.specs.declared.body.Body as bodies;
 ghost use Rattle.eval_tasks.specs.Turns.{end_of};
 ghost use Rattle.program_run.specs.Table.{side_of};
 ghost use Rattle.program_run.specs.Tower.{Calls as Calling, Ends, IsOver, stage_after};
-ghost use Rattle.program_run.specs.Runners.{At, AtRest, Begun, Chain, Ending, IsWell, opens_in, rest_in, work_left};
+ghost use Rattle.program_run.specs.Runners.{At, AtRest, Begun, Chain, Ending, IsWell, invocation, opens_in, rest_in};
+ghost use Rattle.program_run.specs.Runners.{work_left};
 
 use crate::open_call::OpenCall;
 use call_tree::{Calls, Side};
@@ -62,7 +63,8 @@ fn begin(
     requires ready { IsReady machine.old }
     requires room { HasRoom machine.old }
     ensures begins { IfOk result (λ halted. (p : ProgramRows) (f : ℕ) (r : table.Routine) → routine_at p f ≡ Some r
-        → r.cells ≡ cells → Begun p f args.now r halted (moment_of machine.old) (moment_of machine.new)) }
+        → r.cells ≡ cells
+        → Begun p (invocation f r args.now) halted (moment_of machine.old) (moment_of machine.new)) }
     ensures fits { IfOk result (λ halted. halted ≡ None → machine.old.top + cells ≤ stack_end) }
     ensures spent { OnOk result (machine.new.steps ≤ machine.old.steps) }
     ensures ready { OnOk result (IsReady machine.new) }
@@ -88,7 +90,7 @@ impl Runner {
         requires well { IsWell self.old }
         requires open { 0 < length self.old.opens.items }
         ensures left { IfOk result (λ caller. (p : ProgramRows) (first : State) (e : End)
-            → Ending p first e self.old way answer → At p first (stage_after (rest_in p caller) e) self.new) }
+            → Ending p first e self.old (way, answer) → At p first (stage_after (rest_in p caller) e) self.new) }
         ensures chain { IfOk result (λ caller. (body : bodies.Body) → Chain (Some body) (opens_in self.old)
             → Chain caller (opens_in self.new)) }
         ensures fewer { OnOk result (length self.new.opens.items < length self.old.opens.items) }
@@ -126,8 +128,9 @@ impl Runner {
         requires well { IsWell self.old }
         requires open { 0 < length self.old.opens.items }
         requires chain { (body : bodies.Body) × Chain (Some body) (opens_in self.old) }
-        ensures rests { (p : ProgramRows) (first : State) (out : Out) → Ending p first (Ended out) self.old way answer
-            → end_of way answer ≡ Ended out → OnOk result (AtRest p first self.new.body self.new) }
+        ensures rests { (p : ProgramRows) (first : State) (out : Out)
+            → Ending p first (Ended out) self.old (way, answer) → end_of way answer ≡ Ended out
+            → OnOk result (AtRest p first self.new.body self.new) }
         ensures less { OnOk result (work_left self.new < work_left self.old) }
         ensures chain { OnOk result (Chain self.new.body (opens_in self.new)) }
         ensures well { OnOk result (IsWell self.new) }

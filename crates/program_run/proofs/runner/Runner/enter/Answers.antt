@@ -5,8 +5,9 @@ use Rattle.std.proofs.lemmas.Option.{slice_get_within}
 use Rattle.call_tree.specs.Recording.{entered}
 use Rattle.program_tables.specs.ProgramRows.{routine_at}
 use Rattle.eval_machine.specs.Machines.{moment_of}
-use Rattle.program_run.specs.Tower.{Rests, TowerAt, View}
-use Rattle.program_run.specs.Runners.{Begun, open_in, rest_in, view_of, work_left}
+use Rattle.program_meaning.specs.Run.{Halted, whole}
+use Rattle.program_run.specs.Tower.{Ends, Rests, TowerAt, View, entry}
+use Rattle.program_run.specs.Runners.{Begun, invocation, open_in, rest_in, view_of, work_left}
 use Rattle.program_run.proofs.RunnerSteps.{begun_calls, counted_entered, entered_stands, few_begun, on_ok, pushed}
 use Rattle.program_run.proofs.StepsLeadToTheRun.{calls_same, routines_same}
 use Rattle.program_run.proofs.runner.Runner.enter.Goals as goal
@@ -31,7 +32,7 @@ halt-requires c =
     record {
       well = record {
         ready = c.in_ok-halted.ensures.ready;
-        few = few_begun p c.args.routine c.args.args row c.in_ok-halted.halted (moment_of c.args.self.now.machine) (moment_of c.begin.new.machine)
+        few = few_begun p (invocation c.args.routine row c.args.args) c.in_ok-halted.halted (moment_of c.args.self.now.machine) (moment_of c.begin.new.machine)
             (c.in_ok-halted.ensures.begins p c.args.routine row found refl) c.requires.well.few;
         counted = counted_entered c.args.self.now.calls c.enter.new.self c.args.self.now.opens.items c.push-in-Some.new.self.items _ c.args.routine c.args.args
             c.in_ok-entry.entry c.in_ok-enter.ensures.entered c.in_ok-push-in-Some.ensures.items c.requires.well.counted;
@@ -45,7 +46,7 @@ returns-in_ok-push-in-None-clause-well c =
     let found : routine_at p c.args.routine ≡ Some row = sym c.routine.ensures ∙ c.unwrap-row.ensures in
     record {
       ready = c.in_ok-halted.ensures.ready;
-      few = few_begun p c.args.routine c.args.args row c.in_ok-halted.halted (moment_of c.args.self.now.machine) (moment_of c.begin.new.machine)
+      few = few_begun p (invocation c.args.routine row c.args.args) c.in_ok-halted.halted (moment_of c.args.self.now.machine) (moment_of c.begin.new.machine)
           (c.in_ok-halted.ensures.begins p c.args.routine row found refl) c.requires.well.few;
       counted = counted_entered c.args.self.now.calls c.enter.new.self c.args.self.now.opens.items c.push.new.self.items _ c.args.routine c.args.args
           c.in_ok-entry.entry c.in_ok-enter.ensures.entered c.in_ok-push-in-None.ensures.items c.requires.well.counted;
@@ -57,7 +58,7 @@ returns-in_ok-push-in-None-clause-rests c first t =
     let row = c.unwrap-row.result in
     let old = view_of p c.args.self.now in
     let found : routine_at p c.args.routine ≡ Some row = sym c.routine.ensures ∙ c.unwrap-row.ensures in
-    let begun = subst (λ h. Begun p c.args.routine c.args.args row h old.moment (moment_of c.begin.new.machine)) c.in-None.is
+    let begun = subst (λ h. Begun p (invocation c.args.routine row c.args.args) h old.moment (moment_of c.begin.new.machine)) c.in-None.is
     (c.in_ok-halted.ensures.begins p c.args.routine row found refl) in
     let new : View = record {
       opens = map (open_in p) (reverse c.push.new.self.items);
@@ -65,9 +66,9 @@ returns-in_ok-push-in-None-clause-rests c first t =
       recording = c.enter.new.self;
     } in
     subst (λ tree. TowerAt p first (Rests tree) new) (sym (c.new.ensures.begins p row found))
-    (entered_stands (record { base = c.args.self.now.machine.top; cells = row.cells; rest = rest_in p c.args.caller }) old new (record {
+    (entered_stands (entry c.args.routine c.args.args row.cells (Rests (whole p c.args.routine c.args.self.now.machine.top row))) (rest_in p c.args.caller)
+    old new (record {
       begins = begun;
-      base = refl;
       recording = c.in_ok-enter.ensures.entered ∙ ap (entered c.args.self.now.calls c.args.routine c.args.args) c.in_ok-entry.ensures;
       opens = pushed p c.args.self.now.opens.items c.push.new.self.items _ c.in_ok-push-in-None.ensures.items;
     }) t)
@@ -78,12 +79,11 @@ returns-in_ok-push-in-Some-clause-rests c first t =
     let row = c.unwrap-row.result in
     let old = view_of p c.args.self.now in
     let found : routine_at p c.args.routine ≡ Some row = sym c.routine.ensures ∙ c.unwrap-row.ensures in
-    let begun = subst (λ h. Begun p c.args.routine c.args.args row h old.moment (moment_of c.begin.new.machine)) c.in-Some.is
+    let begun = subst (λ h. Begun p (invocation c.args.routine row c.args.args) h old.moment (moment_of c.begin.new.machine)) c.in-Some.is
     (c.in_ok-halted.ensures.begins p c.args.routine row found refl) in
     c.halt.ensures.over p first
-    (entered_stands (record { base = c.args.self.now.machine.top; cells = 0; rest = rest_in p c.args.caller }) old _ (record {
+    (entered_stands (entry c.args.routine c.args.args 0 (Ends (Halted _))) (rest_in p c.args.caller) old _ (record {
       begins = begun;
-      base = refl;
       recording = c.in_ok-enter.ensures.entered ∙ ap (entered c.args.self.now.calls c.args.routine c.args.args) c.in_ok-entry.ensures;
       opens = pushed p c.args.self.now.opens.items c.push-in-Some.new.self.items _ c.in_ok-push-in-Some.ensures.items;
     }) t)
@@ -93,7 +93,7 @@ returns-in_ok-push-in-None-clause-less c =
     let p = c.args.program.now in
     let row = c.unwrap-row.result in
     let found : routine_at p c.args.routine ≡ Some row = sym c.routine.ensures ∙ c.unwrap-row.ensures in
-    let calls : c.begin.new.machine.calls ≡ c.args.self.now.machine.calls + 1 = begun_calls p c.args.routine c.args.args row c.in_ok-halted.halted
+    let calls : c.begin.new.machine.calls ≡ c.args.self.now.machine.calls + 1 = begun_calls p (invocation c.args.routine row c.args.args) c.in_ok-halted.halted
     (moment_of c.args.self.now.machine) (moment_of c.begin.new.machine) (c.in_ok-halted.ensures.begins p c.args.routine row found refl) in
     let spent = c.in_ok-halted.ensures.spent in
     let room = c.requires.room.calls in
@@ -105,7 +105,7 @@ returns-in_ok-push-in-Some-clause-less c =
     let p = c.args.program.now in
     let row = c.unwrap-row.result in
     let found : routine_at p c.args.routine ≡ Some row = sym c.routine.ensures ∙ c.unwrap-row.ensures in
-    let calls : c.begin.new.machine.calls ≡ c.args.self.now.machine.calls + 1 = begun_calls p c.args.routine c.args.args row c.in_ok-halted.halted
+    let calls : c.begin.new.machine.calls ≡ c.args.self.now.machine.calls + 1 = begun_calls p (invocation c.args.routine row c.args.args) c.in_ok-halted.halted
     (moment_of c.args.self.now.machine) (moment_of c.begin.new.machine) (c.in_ok-halted.ensures.begins p c.args.routine row found refl) in
     let spent = c.in_ok-halted.ensures.spent in
     let room = c.requires.room.calls in
