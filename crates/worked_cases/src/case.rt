@@ -13,23 +13,30 @@ pub(crate) struct File {
     pub(crate) bytes: Vec<u8>,
 }
 
+/// How a text is to stand on the screen.
+#[derive(Clone, Copy)]
+pub(crate) enum Part {
+    /// It is the whole screen.
+    Whole,
+    /// The screen begins with it.
+    Beginning,
+    /// The screen does not begin with it.
+    OtherBeginning,
+    /// The screen ends with it.
+    End,
+    /// The screen has its lines, in this order, others among them or not.
+    Lines,
+    /// The screen has each of its lines once.
+    Once,
+}
+
 /// What is wanted.
 #[derive(Drop)]
 pub(crate) enum Wanted {
     /// The exit status.
     Status(u8),
-    /// The whole screen.
-    Whole(Vec<u8>),
-    /// How the screen begins.
-    Beginning(Vec<u8>),
-    /// How the screen does not begin.
-    OtherBeginning(Vec<u8>),
-    /// How the screen ends.
-    End(Vec<u8>),
-    /// Lines that the screen has, in this order, others among them or not.
-    Lines(Vec<u8>),
-    /// Lines that the screen has once.
-    Once(Vec<u8>),
+    /// A text on the screen.
+    Screen(Part, Vec<u8>),
     /// What a file of the keeper holds afterwards.
     File(File),
 }
@@ -50,14 +57,21 @@ pub(crate) struct Case {
     pub(crate) wanted: Vec<Wanted>,
 }
 
+/// The words of a case that names none.
+fn usual_words(alloc: Global) -> Result<Vec<String>> {
+    let mut words = Vec::new(alloc);
+    words.push("pasask".to_string(alloc)?)?;
+    words.push("F".to_string(alloc)?)?;
+    Ok(words)
+}
+
 impl Case {
     /// A case of the words `pasask F` in which nothing else is given or wanted yet.
     pub(crate) fn new(alloc: Global, name: &str) -> Result<Case> {
-        let mut words = Vec::new(alloc);
-        words.push("pasask".to_string(alloc)?)?;
-        words.push("F".to_string(alloc)?)?;
+        let name = name.to_string(alloc)?;
+        let words = usual_words(alloc)?;
         Ok(Case {
-            name: name.to_string(alloc)?,
+            name,
             words,
             files: Vec::new(alloc),
             console: Vec::new(alloc),
@@ -76,20 +90,23 @@ impl Case {
             .wanted
             .iter()
             .any(|wanted| matches!(wanted, Wanted::Status(_)));
-        let has_screen = self.wanted.iter().any(|wanted| !matches!(
-            wanted,
-            Wanted::Status(_) | Wanted::File(_)
-        ));
+        let has_screen = self
+            .wanted
+            .iter()
+            .any(|wanted| matches!(wanted, Wanted::Screen(_, _)));
         has_status && has_screen
     }
 
     /// The bytes of a file up to this length, if it is the one that is cut, or else all.
     pub(crate) fn bytes_within<'a>(&self, file: &'a File, length: usize) -> &'a [u8] {
-        match &self.prefixes_of {
-            Some(name) if name.as_str() == file.name.as_str() => {
-                &file.bytes[..length.min(file.bytes.len())]
-            }
-            _ => &file.bytes,
+        let is_cut = self
+            .prefixes_of
+            .as_ref()
+            .is_some_and(|name| name.as_str() == file.name.as_str());
+        if is_cut {
+            &file.bytes[..length.min(file.bytes.len())]
+        } else {
+            &file.bytes
         }
     }
 

@@ -1,9 +1,9 @@
 //! Comparing what came of a case with what it wants.
 
-use crate::case::{Case, File, Wanted};
+use crate::case::{Case, File, Part, Wanted};
 use crate::running::{Outcome, run};
 use anyhow::Result;
-use edge_ports::{Keeper, Shelf};
+use edge_ports::{FetchFault, Keeper, Shelf};
 use std::alloc::Global;
 
 /// What differs, in full: nothing where all is as it is wanted.
@@ -44,55 +44,78 @@ fn compare_one(
     outcome: &mut Outcome,
     text: &mut Vec<u8>,
 ) -> Result<()> {
-    let screen = outcome.screen.given();
     match wanted {
-        Wanted::Status(status) => {
-            let got = outcome.status;
-            if *status != got {
-                let line = format!(in alloc; "  the status is to be {status} and is {got}\n")?;
-                append(text, line.as_bytes(), b"")?;
-            }
-        }
-        Wanted::Whole(whole) if whole.as_slice() != screen => {
-            append(text, b"  the screen is to get:\n", whole)?
-        }
-        Wanted::Beginning(beginning) if !screen.starts_with(beginning) => {
-            append(text, b"  the screen is to begin:\n", beginning)?
-        }
-        Wanted::OtherBeginning(other) if screen.starts_with(other) => {
-            append(text, b"  the screen is not to begin:\n", other)?
-        }
-        Wanted::End(end) if !screen.ends_with(end) => {
-            append(text, b"  the screen is to end:\n", end)?
-        }
-        Wanted::Lines(lines) if !has_in_order(screen, lines) => {
-            append(text, b"  the screen is to have, in this order:\n", lines)?
-        }
-        Wanted::Once(lines) if !has_once(screen, lines) => {
-            append(text, b"  the screen is to have once:\n", lines)?
-        }
-        Wanted::File(file) => compare_file(alloc, file, &mut outcome.keeper, text)?,
-        _ => {}
+        Wanted::Status(status) => compare_status(alloc, *status, outcome.status, text),
+        Wanted::Screen(part, shown) => compare_screen(*part, shown, outcome.screen.given(), text),
+        Wanted::File(file) => compare_file(alloc, file, &mut outcome.keeper, text),
+    }
+}
+
+/// Appends what differs from the status that is wanted.
+fn compare_status(alloc: Global, wanted: u8, got: u8, text: &mut Vec<u8>) -> Result<()> {
+    if wanted != got {
+        let line = format!(in alloc; "  the status is to be {wanted} and is {got}\n")?;
+        text.extend_from_slice(line.as_bytes())?;
     }
     Ok(())
 }
 
+/// Whether a text stands on the screen so.
+fn stands(part: Part, shown: &[u8], screen: &[u8]) -> bool {
+    match part {
+        Part::Whole => shown == screen,
+        Part::Beginning => screen.starts_with(shown),
+        Part::OtherBeginning => !screen.starts_with(shown),
+        Part::End => screen.ends_with(shown),
+        Part::Lines => has_in_order(screen, shown),
+        Part::Once => has_once(screen, shown),
+    }
+}
+
+/// How a text is to stand on the screen, as a line.
+fn line_of(part: Part) -> &'static [u8] {
+    match part {
+        Part::Whole => b"  the screen is to get:\n",
+        Part::Beginning => b"  the screen is to begin:\n",
+        Part::OtherBeginning => b"  the screen is not to begin:\n",
+        Part::End => b"  the screen is to end:\n",
+        Part::Lines => b"  the screen is to have, in this order:\n",
+        Part::Once => b"  the screen is to have once:\n",
+    }
+}
+
+/// Appends a text that is not on the screen as it is wanted.
+fn compare_screen(part: Part, shown: &[u8], screen: &[u8], text: &mut Vec<u8>) -> Result<()> {
+    if stands(part, shown, screen) {
+        return Ok(());
+    }
+    append(text, line_of(part), shown)
+}
+
 /// Appends what differs from what a file is to hold.
 fn compare_file(alloc: Global, file: &File, keeper: &mut Shelf, text: &mut Vec<u8>) -> Result<()> {
-    let name = file.name.as_str();
-    match keeper.fetch(alloc, name, u64::MAX) {
-        Ok(bytes) if bytes.as_slice() == file.bytes.as_slice() => {}
-        Ok(bytes) => {
-            let line = format!(in alloc; "  the file {name} is to hold:\n")?;
-            append(text, line.as_bytes(), &file.bytes)?;
-            append(text, b"  it holds:\n", bytes.as_slice())?;
-        }
-        Err(fault) => {
-            let line = format!(in alloc; "  the file {name}: {fault}. It is to hold:\n")?;
-            append(text, line.as_bytes(), &file.bytes)?;
-        }
+    match keeper.fetch(alloc, file.name.as_str(), u64::MAX) {
+        Ok(bytes) => compare_bytes(alloc, file, bytes.as_slice(), text),
+        Err(fault) => append_absent(alloc, file, fault, text),
     }
-    Ok(())
+}
+
+/// Appends what differs from what a file is to hold, by what it holds.
+fn compare_bytes(alloc: Global, file: &File, bytes: &[u8], text: &mut Vec<u8>) -> Result<()> {
+    if bytes == file.bytes.as_slice() {
+        return Ok(());
+    }
+    let name = file.name.as_str();
+    let line = format!(in alloc; "  the file {name} is to hold:\n")?;
+    append(text, line.as_bytes(), &file.bytes)?;
+    append(text, b"  it holds:\n", bytes)
+}
+
+/// Appends that a file is not there, and what it is to hold.
+fn append_absent(alloc: Global, file: &File, fault: FetchFault, text: &mut Vec<u8>) -> Result<()> {
+    let name = file.name.as_str();
+    let line = format!(in alloc; "  the file {name}: {fault}. It is to hold:\n")?;
+    append(text, line.as_bytes(), &file.bytes)
 }
 
 /// Appends a line, and below it these bytes.

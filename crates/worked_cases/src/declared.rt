@@ -20,11 +20,25 @@ pub(crate) const SOURCE_BYTES: usize = 1_048_576;
 pub(crate) fn what_it_comes_to(alloc: Global, source: &[u8]) -> Result<String> {
     ensure!(source.len() <= SOURCE_BYTES, "the source is too long");
     match declare_source(alloc, source) {
-        Ok(_) => Ok("taken".to_string(alloc)?),
-        Err(DeclarationFault::Rule { rule, line, byte }) => {
+        Ok(scopes) => {
+            drop(scopes);
+            taken(alloc)
+        }
+        Err(fault) => fault_text(alloc, &fault),
+    }
+}
+
+fn taken(alloc: Global) -> Result<String> {
+    Ok("taken".to_string(alloc)?)
+}
+
+/// Why a source is refused.
+fn fault_text(alloc: Global, fault: &DeclarationFault) -> Result<String> {
+    match fault {
+        DeclarationFault::Rule { rule, line, byte } => {
             Ok(format!(in alloc; "Rule {rule}, line {line}, byte {byte}")?)
         }
-        Err(fault) => Ok(format!(in alloc; "{fault}")?),
+        fault => Ok(format!(in alloc; "{fault}")?),
     }
 }
 

@@ -69,18 +69,14 @@ fn append_escape(bytes: &mut Vec<u8>, part: &str) -> Result<()> {
 /// The number of two hexadecimal digits.
 fn two_digits(high: Option<char>, low: Option<char>) -> Result<u8> {
     match (hex_digit(high), hex_digit(low)) {
-        (Some(high), Some(low)) => Ok(high << 4 | low),
+        (Some(high), Some(low)) => Ok((high << 4 | low) as u8),
         _ => bail!("two hexadecimal digits are wanted after \\x"),
     }
 }
 
 /// The number of a hexadecimal digit.
-fn hex_digit(digit: Option<char>) -> Option<u8>
+fn hex_digit(digit: Option<char>) -> Option<u32>
     ensures { IfSome result (λ n. n < 16) }
 {
-    match digit? {
-        digit @ '0'..='9' => Some(digit as u8 - b'0'),
-        digit @ 'a'..='f' => Some(digit as u8 - b'a' + 10),
-        _ => None,
-    }
+    digit?.to_digit(16)
 }

@@ -1,6 +1,6 @@
 //! Reading cases.
 
-use crate::case::{Case, File, Wanted};
+use crate::case::{Case, File, Part, Wanted};
 use crate::escapes::unescaped;
 use crate::folder::Folder;
 use crate::sections::{Section, sections};
@@ -95,30 +95,44 @@ fn take_setting(alloc: Global, case: &mut Case, heading: &[&str]) -> Result<bool
     Ok(true)
 }
 
+/// How the text below a heading is to stand on the screen, if the heading says it.
+fn part_of(setting: &[&str]) -> Option<Part> {
+    match setting {
+        ["screen"] => Some(Part::Whole),
+        ["screen", "begins"] => Some(Part::Beginning),
+        ["screen", "begins", "otherwise"] => Some(Part::OtherBeginning),
+        ["screen", "ends"] => Some(Part::End),
+        ["screen", "has"] => Some(Part::Lines),
+        ["screen", "has", "once"] => Some(Part::Once),
+        _ => None,
+    }
+}
+
+/// The file of this name and text.
+fn named(alloc: Global, name: &str, bytes: Vec<u8>) -> Result<File> {
+    let name = name.to_string(alloc)?;
+    Ok(File { name, bytes })
+}
+
 /// Adds a text to a case, by the words of its heading.
 fn add_text(alloc: Global, case: &mut Case, setting: &[&str], text: Vec<u8>) -> Result<()> {
+    if let Some(part) = part_of(setting) {
+        case.wanted.push(Wanted::Screen(part, text))?;
+        return Ok(());
+    }
     match setting {
-        ["file", name] => {
-            let name = name.to_string(alloc)?;
-            case.files.push(File { name, bytes: text })?;
-        }
-        ["console"] => {
-            ensure!(case.console.is_empty(), "a second console");
-            case.console = text;
-        }
-        ["screen"] => case.wanted.push(Wanted::Whole(text))?,
-        ["screen", "begins"] => case.wanted.push(Wanted::Beginning(text))?,
-        ["screen", "begins", "otherwise"] => case.wanted.push(Wanted::OtherBeginning(text))?,
-        ["screen", "ends"] => case.wanted.push(Wanted::End(text))?,
-        ["screen", "has"] => case.wanted.push(Wanted::Lines(text))?,
-        ["note"] => {}
-        ["screen", "has", "once"] => case.wanted.push(Wanted::Once(text))?,
-        ["after", name] => {
-            let name = name.to_string(alloc)?;
-            case.wanted.push(Wanted::File(File { name, bytes: text }))?;
-        }
+        ["file", name] => Ok(case.files.push(named(alloc, name, text)?)?),
+        ["after", name] => Ok(case.wanted.push(Wanted::File(named(alloc, name, text)?))?),
+        ["console"] => put_console(case, text),
+        ["note"] => Ok(()),
         _ => bail!("no heading of a case"),
     }
+}
+
+/// Puts the console of a case.
+fn put_console(case: &mut Case, text: Vec<u8>) -> Result<()> {
+    ensure!(case.console.is_empty(), "a second console");
+    case.console = text;
     Ok(())
 }
 
@@ -139,7 +153,10 @@ fn read_words(alloc: Global, written: &[&str]) -> Result<Vec<String>> {
 fn read_calls(alloc: Global, written: &[&str]) -> Result<Vec<u64>> {
     let mut calls = Vec::new(alloc);
     for call in written {
-        calls.push(call.parse().context("the number of a call")?)?;
+        let Ok(call) = call.parse() else {
+            bail!("the number of a call");
+        };
+        calls.push(call)?;
     }
     Ok(calls)
 }

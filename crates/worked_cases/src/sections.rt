@@ -1,6 +1,6 @@
 //! Files of sections.
 
-use anyhow::{Result, bail, ensure};
+use anyhow::{Result, bail};
 use std::alloc::Global;
 use std::str;
 
@@ -36,15 +36,20 @@ pub(crate) fn sections(alloc: Global, bytes: &[u8]) -> Result<Vec<Section>> {
     Ok(sections)
 }
 
+/// The words of a heading: what comes after `==`, which begins with a blank.
+fn words_of(line: u32, heading: &[u8]) -> Result<&str> {
+    match str::from_utf8(heading) {
+        Ok(words) if words.starts_with(' ') => Ok(words),
+        _ => bail!("line {line}: after == a blank and words are wanted"),
+    }
+}
+
 /// A section with nothing below its heading yet.
 fn opened(alloc: Global, line: u32, heading: &[u8]) -> Result<Section> {
-    let Ok(heading) = str::from_utf8(heading) else {
-        bail!("line {line}: the heading is no UTF-8 text");
-    };
-    ensure!(heading.starts_with(' '), "line {line}: == and no blank");
+    let heading = words_of(line, heading)?.to_string(alloc)?;
     Ok(Section {
         line,
-        heading: heading.to_string(alloc)?,
+        heading,
         text: Vec::new(alloc),
     })
 }

@@ -1,6 +1,6 @@
 //! Sources with the places where they are refused.
 
-use crate::case::{Case, File, Wanted};
+use crate::case::{Case, File, Part, Wanted};
 use crate::comparing::differences;
 use crate::declared::{SOURCE_BYTES, what_it_comes_to};
 use crate::escapes::unescaped;
@@ -203,13 +203,15 @@ fn command_case(alloc: Global, row: Row) -> Result<Case> {
     if row.why.as_str() == "taken" {
         for why in &REASONS {
             let beginning = format!(in alloc; "refused: {why}")?.into_bytes();
-            case.wanted.push(Wanted::OtherBeginning(beginning))?;
+            case.wanted
+                .push(Wanted::Screen(Part::OtherBeginning, beginning))?;
         }
     } else {
         let (why, line, byte) = (row.why.as_str(), row.line, row.byte);
         let refused = format!(in alloc; "refused: {why}, line {line}, byte {byte}\n")?;
         case.wanted.push(Wanted::Status(REFUSED))?;
-        case.wanted.push(Wanted::Whole(refused.into_bytes()))?;
+        case.wanted
+            .push(Wanted::Screen(Part::Whole, refused.into_bytes()))?;
     }
     case.files.push(File {
         name: "F".to_string(alloc)?,
