@@ -57,12 +57,12 @@ pub record Marks (base : ℕ) (mark : ℕ → Cell → Cell) (old new : Pages) :
       cell_at old addr)
 
 -- an entry of the log: its number and its touch
-pub record Entry : Type 0 where
+pub record Logged : Type 0 where
   pub number : ℕ
   pub touch : Touch
 
 -- the entry is taken in
-pub record TakesIn (base place : ℕ) (entry : Entry) (old new : Found) : Type 0 where
+pub record TakesIn (base place : ℕ) (entry : Logged) (old new : Found) : Type 0 where
   pub cells : Marks base (cell_after entry.number entry.touch) old.pages new.pages
   pub made : new.made ≡ old.made + made_by entry.touch
   pub looked : new.looked ≡ max old.looked (looked_by place entry.touch)

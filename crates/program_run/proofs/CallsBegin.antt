@@ -12,7 +12,7 @@ use Rattle.program_meaning.specs.Run.{Halted, ends, after_all, opened, with_fram
 use Rattle.eval_machine.specs.Machines.{Moment}
 use Rattle.eval_machine.specs.Frames.{framing}
 use Rattle.eval_machine.proofs.CallsInFrames.{on_framing, in_frame_made}
-use Rattle.program_run.specs.Tower.{Rests, Ends, Begins, entry}
+use Rattle.program_run.specs.Tower.{Rests, Ends, Begins, activation}
 
 -- a frame is made or not: no call is entered or left
 record Framed (σ : State) (w : List Touch) (τ : State) : Type 0 where
@@ -79,7 +79,7 @@ refused_is n args σ τ why w false false e = absurd (let z : ⊥ = cc in z)
 
 module _ (p : ProgramRows) (f : ℕ) (args : List Value) (r : Routine) (m m' : Moment) where
   pub begins_made : (w : List Touch) → routine_at p f ≡ Some r → framing r.cells args (opened m.state) ≡ Went tt w m'.state → m'.log ≡ m.log ++ w
-      → Begins p (entry f args r.cells (Rests (whole p f m.state.top r))) m m'
+      → Begins p (activation f args r.cells (Rests (whole p f m.state.top r))) m m'
   begins_made w found e l =
       let h = made_is r.cells args (opened m.state) m'.state w (nat_lt stack_end (m.state.top + r.cells)) (nat_lt m.state.steps r.cells) e in
       record {
@@ -96,7 +96,7 @@ module _ (p : ProgramRows) (f : ℕ) (args : List Value) (r : Routine) (m m' : M
 
   pub begins_refused : (why : Trouble) (w : List Touch) → routine_at p f ≡ Some r → framing r.cells args (opened m.state) ≡ Stops why w m'.state
       → m'.log ≡ m.log ++ w
-      → Begins p (entry f args 0 (Ends (Halted (way_of 0 why)))) m m'
+      → Begins p (activation f args 0 (Ends (Halted (way_of 0 why)))) m m'
   begins_refused why w found e l =
       let h = refused_is r.cells args (opened m.state) m'.state why w (nat_lt stack_end (m.state.top + r.cells)) (nat_lt m.state.steps r.cells) e in
       record {

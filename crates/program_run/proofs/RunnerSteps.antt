@@ -13,7 +13,7 @@ use Rattle.eval_machine.specs.Machines.{Moment}
 use Rattle.eval_tasks.specs.Stops.{Stop, StopsAt}
 use Rattle.program_run.specs.declared.open_call.OpenCall.{OpenCall}
 use Rattle.program_run.specs.Table.{side_of}
-use Rattle.program_run.specs.Tower.{Entry, Calls, View, TowerAt, Begins}
+use Rattle.program_run.specs.Tower.{Activation, Calls, View, TowerAt, Begins}
 use Rattle.program_run.specs.Runners.{Begun, Invocation, open_in}
 use Rattle.program_run.proofs.ActsKeepCalls.{onward}
 use Rattle.program_run.proofs.LinesTakeSteps.{LeftAt, left_at_stop}
@@ -25,12 +25,12 @@ pub pushed : (p : ProgramRows) (xs ys : List OpenCall) (o : OpenCall) → ys ≡
 pushed p xs ys o e = ap (λ os. map (open_in p) (reverse os)) e ∙ ap (map (open_in p)) (reverse-append xs (o ∷ []))
 
 -- what is known of a call that was entered
-pub record Entered (p : ProgramRows) (e : Entry) (rest : Out → Tree) (v v' : View) : Type 0 where
+pub record Entered (p : ProgramRows) (e : Activation) (rest : Out → Tree) (v v' : View) : Type 0 where
   pub begins : Begins p e v.moment v'.moment
   pub recording : v'.recording ≡ entered v.recording e.routine e.args (side_of (length v.moment.log) v.moment.state)
   pub opens : v'.opens ≡ record { base = v.moment.state.top; cells = e.cells; rest = rest } ∷ v.opens
 
-pub entered_stands : {p : ProgramRows} {first : State} (e : Entry) (rest : Out → Tree) (v v' : View) → Entered p e rest v v'
+pub entered_stands : {p : ProgramRows} {first : State} (e : Activation) (rest : Out → Tree) (v v' : View) → Entered p e rest v v'
     → TowerAt p first (Calls e.routine e.args rest) v → TowerAt p first e.stage v'
 entered_stands {p = p} {first = first} e rest v v' known t =
     subst (λ w. TowerAt p first e.stage w) (λ i. record {

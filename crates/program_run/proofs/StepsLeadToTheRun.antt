@@ -17,7 +17,7 @@ use Rattle.eval_tasks.specs.Stops.{Stop, AtLine, AtCall, AtEnd, StopsAt}
 use Rattle.program_run.specs.Table.{side_of}
 use Rattle.program_run.specs.Tower.{Level, Levels, Bottom, Push, called, followed, whole_from, Stage, Rests, Calls, Ends, stage_of, stage_after}
 use Rattle.program_run.specs.Tower.{left_at, Leads}
-use Rattle.program_run.specs.Tower.{size, numbers_of, logs_of, rows_of, recording_at, Fits, Open, open_of, opens_of, View, TowerAt, Entry, Begins, IsOver}
+use Rattle.program_run.specs.Tower.{size, numbers_of, logs_of, rows_of, recording_at, Fits, Open, open_of, opens_of, View, TowerAt, Activation, Begins, IsOver}
 use Rattle.program_run.proofs.RowsInParts.{rows_whole}
 use Rattle.program_run.proofs.StopsLeadOn.{finish, IsLens, runs}
 use Rattle.program_run.proofs.ActsKeepCalls.{onward}
@@ -114,7 +114,7 @@ module _ {p : ProgramRows} {first : State} where
           )
 
   -- a call is entered
-  pub climb_enter : (v : View) (m' : Moment) (rest : Out → Tree) (e : Entry)
+  pub climb_enter : (v : View) (m' : Moment) (rest : Out → Tree) (e : Activation)
       → TowerAt p first (Calls e.routine e.args rest) v → Begins p e v.moment m'
       → TowerAt p first e.stage (record {
         opens = (record { base = v.moment.state.top; cells = e.cells; rest = rest }) ∷ v.opens;

@@ -216,18 +216,18 @@ pub record TowerAt (p : ProgramRows) (first : State) (stage : Stage) (v : View) 
   pub items : v.moment.state.items ≡ first.items
   pub leads : Leads p first (λ n. whole_from p n levels (left_at p n stage v.moment.state))
 
--- a call that is entered: its routine, its link and arguments, the cells of its frame, and where its body is then
-pub record Entry : Type 0 where
+-- an activation that begins (6.2.3): its routine, its link and arguments, the cells of its frame, and where its body is
+pub record Activation : Type 0 where
   pub routine : ℕ
   pub args : List Value
   pub cells : ℕ
   pub stage : Stage
 
-abbrev pub entry : (routine : ℕ) → List Value → (cells : ℕ) → Stage → Entry
-entry f args cells stage = record { routine = f; args = args; cells = cells; stage = stage }
+abbrev pub activation : (routine : ℕ) → List Value → (cells : ℕ) → Stage → Activation
+activation f args cells stage = record { routine = f; args = args; cells = cells; stage = stage }
 
 -- a call was entered so
-pub record Begins (p : ProgramRows) (e : Entry) (m m' : Moment) : Type 0
+pub record Begins (p : ProgramRows) (e : Activation) (m m' : Moment) : Type 0
   where
     pub log : m'.log ≡ m.log
     pub calls : m'.state.calls ≡ m.state.calls + 1

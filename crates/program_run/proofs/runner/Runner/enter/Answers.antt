@@ -6,7 +6,7 @@ use Rattle.call_tree.specs.Recording.{entered}
 use Rattle.program_tables.specs.ProgramRows.{routine_at}
 use Rattle.eval_machine.specs.Machines.{moment_of}
 use Rattle.program_meaning.specs.Run.{Halted, whole}
-use Rattle.program_run.specs.Tower.{Ends, Rests, TowerAt, View, entry}
+use Rattle.program_run.specs.Tower.{Ends, Rests, TowerAt, View, activation}
 use Rattle.program_run.specs.Runners.{Begun, invocation, open_in, rest_in, view_of, work_left}
 use Rattle.program_run.proofs.RunnerSteps.{begun_calls, counted_entered, entered_stands, few_begun, on_ok, pushed}
 use Rattle.program_run.proofs.StepsLeadToTheRun.{calls_same, routines_same}
@@ -66,7 +66,7 @@ returns-in_ok-push-in-None-clause-rests c first t =
       recording = c.enter.new.self;
     } in
     subst (λ tree. TowerAt p first (Rests tree) new) (sym (c.new.ensures.begins p row found))
-    (entered_stands (entry c.args.routine c.args.args row.cells (Rests (whole p c.args.routine c.args.self.now.machine.top row))) (rest_in p c.args.caller)
+    (entered_stands (activation c.args.routine c.args.args row.cells (Rests (whole p c.args.routine c.args.self.now.machine.top row))) (rest_in p c.args.caller)
     old new (record {
       begins = begun;
       recording = c.in_ok-enter.ensures.entered ∙ ap (entered c.args.self.now.calls c.args.routine c.args.args) c.in_ok-entry.ensures;
@@ -82,7 +82,7 @@ returns-in_ok-push-in-Some-clause-rests c first t =
     let begun = subst (λ h. Begun p (invocation c.args.routine row c.args.args) h old.moment (moment_of c.begin.new.machine)) c.in-Some.is
     (c.in_ok-halted.ensures.begins p c.args.routine row found refl) in
     c.halt.ensures.over p first
-    (entered_stands (entry c.args.routine c.args.args 0 (Ends (Halted _))) (rest_in p c.args.caller) old _ (record {
+    (entered_stands (activation c.args.routine c.args.args 0 (Ends (Halted _))) (rest_in p c.args.caller) old _ (record {
       begins = begun;
       recording = c.in_ok-enter.ensures.entered ∙ ap (entered c.args.self.now.calls c.args.routine c.args.args) c.in_ok-entry.ensures;
       opens = pushed p c.args.self.now.opens.items c.push-in-Some.new.self.items _ c.in_ok-push-in-Some.ensures.items;
