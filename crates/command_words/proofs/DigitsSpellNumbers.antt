@@ -1,6 +1,7 @@
 -- Digits spell a number as std parses them.
 use Rattle.std.proofs.Common.{◌≡◌, ℕ, ◌<◌, ◌≤◌, ◌^◌, Bool, true, false, List, [], ◌∷◌, length, nat_le, nat_eq, cond, if◌then◌else◌}
 use Rattle.std.proofs.Common.{refl, ap, sym, subst, ◌∙◌, arith}
+use Rattle.std.proofs.lemmas.Bool.{and_from}
 use Rattle.std.specs.Prelude.{◌&&◌, Some, None, not, drop, codes}
 use Rattle.std.proofs.lemmas.Bool.Decides.{nat_tests}
 use Rattle.std.specs.Char.{digit_value, is_ascii_digit}
@@ -20,9 +21,6 @@ and3 true true false h = absurd (let x : ⊥ = cc in x)
 
 all3 : (a b c : Bool) → a ≡ true → b ≡ true → c ≡ true → (a && b && c) ≡ true
 all3 a b c x y z = rw (x, y, z) refl
-
-and_true : (a b : Bool) → a ≡ true → b ≡ true → (a && b) ≡ true
-and_true a b x y = rw (x, y) refl
 
 -- ---- digits
 
@@ -101,7 +99,7 @@ module _ (text : List ℕ) (plain : starts_with nat_eq text (codes "+") ≡ fals
       → 1 ≤ n → n ≤ 14 → Some n ≡ number_spelled text
   spells_number n is first least most =
       let digits : is_plain text ≡ true =
-      and_true (list_all is_ascii_digit text) (not (starts_with nat_eq text (codes "0"))) (digits_are text (numeral n is).1) (ap not first) in
+      and_from (list_all is_ascii_digit text) (not (starts_with nat_eq text (codes "0"))) (digits_are text (numeral n is).1) (ap not first) in
       sym (ap (λ (n : ℕ). if is_plain text && nat_le 1 n && nat_le n 14 then Some n else None) (value n is)
       ∙ ap (λ (b : Bool). if b then Some n else None)
       (all3 (is_plain text) (nat_le 1 n) (nat_le n 14) digits (grind (arith, nat_tests)) (grind (arith, nat_tests))))

@@ -1,5 +1,6 @@
 -- What each answer on a suspect leaves.
 use Rattle.std.proofs.Common.{◌≡◌, ℕ, ◌+◌, ◌<◌, Bool, true, false, not, ◌&&◌, List, length, Option, Some, inl, inr, refl, sym, ap, ◌∙◌, arith}
+use Rattle.std.proofs.Math.Bool.{and-true}
 use Rattle.std.specs.Prelude.{◌==◌, Contains, filter}
 use Rattle.std.proofs.lemmas.Bool.{and_from, and_right, cases_eq, eq-eqb, ne_eqb, not_from_false, not_from_true}
 use Rattle.std.proofs.lemmas.List.Filters.{length-filter_both}
@@ -19,7 +20,7 @@ use Rattle.optimal_query.specs.Region.{suspects_of}
 use Rattle.subtree_weights.specs.Searched.{is_in, is_searched, mark_at}
 use Rattle.optimal_query.specs.State.{suspects_after}
 use Rattle.optimal_query.proofs.OneMoreAnswer.{Changes, accused_kept, accused_wrong, at_mark, changes, kept_test, right_test, weight_is, wrong_test}
-use Rattle.optimal_query.proofs.PassingNumbers.{and_true, filter_filter, filter_same, one_more}
+use Rattle.optimal_query.proofs.PassingNumbers.{filter_filter, filter_same, one_more}
 use Rattle.optimal_query.proofs.Searched.{Suspected, in_from, is_marked, searched_from, suspected_of, suspects_are}
 
 exchanged : (a k u : Bool) → ((a && k) && u) ≡ ((a && u) && k)
@@ -124,7 +125,7 @@ wrong_leaves parent last routine answers call asked =
     (and_from (p call) (is_in last call call) (passes parent last routine answers call asked) (is_itself parent last routine answers call asked))
     (and_right (p call) (keep call) (and_right (is_in last call call) (is_other call call) (not_other call)))
     (λ other within differs. ap (λ b. p other && b) (sym (ap (λ b. is_in last call other && b) (other_than call other differs)
-    ∙ and_true (is_in last call other)))) in
+    ∙ and-true (is_in last call other)))) in
     omega (arith, ap length left, weight, more)
 
 pub right_leaves : (parent : List (Option ℕ)) (last routine : List ℕ) (answers : List What) (call : ℕ) → Asked parent last routine answers call
@@ -174,11 +175,11 @@ unknown_leaves parent last routine answers call asked =
       elsewhere = ch.elsewhere;
       not_itself = not_other call;
       others = λ other inside differs. kept_test last old new accused call other (mark_by Unknown) refl ch
-          ∙ sym (ap (λ b. is_searched last old accused other && b) (other_than call other differs) ∙ and_true (is_searched last old accused other));
+          ∙ sym (ap (λ b. is_searched last old accused other && b) (other_than call other differs) ∙ and-true (is_searched last old accused other));
     }) in
     let more = one_more p (λ other. p other && is_other call other) call n asked.suspect.a_call (passes parent last routine answers call asked)
     (and_right (p call) (is_other call call) (not_other call))
-    (λ other within differs. sym (ap (λ b. p other && b) (other_than call other differs) ∙ and_true (p other))) in
+    (λ other within differs. sym (ap (λ b. p other && b) (other_than call other differs) ∙ and-true (p other))) in
     omega (arith, ap length left, ap length (suspects_are last old accused), more)
 
 pub asked_in : (calls : CallTree) (answers : List What) (call : ℕ) → IsCallTree calls → Contains (suspects_in calls answers) call

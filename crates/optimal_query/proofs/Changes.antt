@@ -1,6 +1,7 @@
 -- What an entry changes, when it is made and when it is taken back.
 use Rattle.std.proofs.Common.{◌≡◌, ℕ, zero, suc, ◌+◌, ◌-◌, ◌<◌, ◌≤◌, Bool, true, false, cond, ◌||◌, List, [], ◌∷◌, ◌++◌, length, Option, Some, None, Result}
 use Rattle.std.proofs.Common.{Ok, Err, inl, inr, replicate, refl, sym, ap, ◌∙◌, get_or-set_same, arith}
+use Rattle.std.proofs.Math.Bool.{or-false}
 use Rattle.std.specs.Prelude.{◌==◌, nat_le, slice_get, slice_index, slice_set}
 use Rattle.std.proofs.lemmas.Bool.{cases_eq, false≢true, leb-false}
 use Rattle.std.proofs.lemmas.List.{get_or-replicate, length-map, length-replicate, length-set}
@@ -30,7 +31,6 @@ use Rattle.answer_book.proofs.WithdrawnLemmas.{entry_is_withdrawn, same_judgemen
 use Rattle.optimal_query.specs.Changed.{ChangesCallsOf, ChangesOne, WereMarks}
 use Rattle.optimal_query.specs.DebugKept.{AreKept}
 use Rattle.optimal_query.proofs.OneMoreAnswer.{accused_is_last, at_mark, old_mark}
-use Rattle.optimal_query.proofs.PassingNumbers.{or_false}
 use Rattle.subtree_weights.specs.RunColumns.{Columns, columns_of}
 use Rattle.subtree_weights.specs.Searched.{mark_at}
 use Rattle.subtree_weights.specs.Weighed.{Weighed, calls_in, unjudged}
@@ -107,7 +107,7 @@ were_trusted run book weighed routine kept =
     (record {
       judged = λ call. sym (last_with_other book.entries (Trusted routine) call refl);
       trusted = λ other differs. sym (trusted_with book.entries (Trusted routine) other
-          ∙ ap (λ b. is_trusted old other || b) (in_another routine other differs) ∙ or_false (is_trusted old other));
+          ∙ ap (λ b. is_trusted old other || b) (in_another routine other differs) ∙ or-false (is_trusted old other));
     })
 
 -- and so when an entry is taken back

@@ -1,6 +1,7 @@
 -- How one more judgement on a suspect changes the marks, the accused and the suspects.
 use Rattle.std.proofs.Common.{◌≡◌, ℕ, ◌<◌, ◌≤◌, Bool, true, false, not, ◌&&◌, List, [], ◌∷◌, ◌++◌, length, Option, Some, None, inl, inr, refl, sym}
 use Rattle.std.proofs.Common.{ap, ◌∙◌, append-nil, arith}
+use Rattle.std.proofs.Math.Bool.{or-false}
 use Rattle.std.specs.Prelude.{◌==◌, filter, slice_index}
 use Rattle.std.specs.List.{filter_map}
 use Rattle.std.proofs.lemmas.Bool.{and_from, and_parts, both_ways, cases_eq, cases_order, cond-false, cond-true, eq-eqb, eqb-false}
@@ -25,7 +26,7 @@ use Rattle.answer_book.proofs.LastWhere.{last_of_more, last_where_from, last_whe
 use Rattle.optimal_query.specs.Laws.{judged}
 use Rattle.optimal_query.specs.Question.{weight_of}
 use Rattle.subtree_weights.specs.Searched.{is_below, is_in, is_searched, mark_at}
-use Rattle.optimal_query.proofs.PassingNumbers.{filter_filter, or_false, same_test}
+use Rattle.optimal_query.proofs.PassingNumbers.{filter_filter, same_test}
 use Rattle.optimal_query.proofs.Searched.{Covers, Searched, below_between, below_deeper, below_from, below_parts, in_from, in_parts}
 use Rattle.optimal_query.proofs.Searched.{searched_from, searched_parts}
 
@@ -59,7 +60,7 @@ old_mark routine answers call answer other differs =
     ∙ ap last_of (append-nil said) in
     let trust : is_trusted (judged answers call answer) (slice_index routine other) ≡ is_trusted answers (slice_index routine other) =
     list_any-append (trusts (slice_index routine other)) answers (Judged call answer ∷ [])
-    ∙ or_false (is_trusted answers (slice_index routine other)) in
+    ∙ or-false (is_trusted answers (slice_index routine other)) in
     ap (λ o. mark_given o (is_trusted (judged answers call answer) (slice_index routine other))) last
     ∙ ap (mark_given (last_judgement answers other)) trust
 

@@ -1,6 +1,7 @@
 -- The first numbers that pass a test: which they are, the first of them, whether there is one, and how many.
 use Rattle.std.proofs.Common.{◌≡◌, ℕ, zero, suc, ◌+◌, ◌<◌, ◌≤◌, Bool, true, false, cond, ◌&&◌, ◌||◌, List, [], ◌∷◌, ◌++◌, length, length-append, get_or}
 use Rattle.std.proofs.Common.{Option, Some, None, inl, inr, refl, sym, ap, ◌∙◌, append-nil, arith}
+use Rattle.std.proofs.Math.Bool.{or-false}
 use Rattle.std.specs.Prelude.{All, Contains, find, filter, count_by}
 use Rattle.std.specs.List.{list_any, range_with_len}
 use Rattle.std.proofs.lemmas.Bool.{cases_eq, cases_order, false≢true, true≢false}
@@ -17,14 +18,6 @@ range_more a (suc n) j e = ap (λ l. a ∷ l) (range_more (a + 1) n j (omega ari
 
 pub numbers_suc : (n : ℕ) → numbers_below (suc n) ≡ numbers_below n ++ n ∷ []
 numbers_suc n = range_more 0 n n (omega arith)
-
-pub and_true : (b : Bool) → (b && true) ≡ b
-and_true true = refl
-and_true false = refl
-
-pub or_false : (b : Bool) → (b || false) ≡ b
-or_false true = refl
-or_false false = refl
 
 -- tests that pass together are the same
 pub same_test : (a b : Bool) → (a ≡ true → b ≡ true) → (b ≡ true → a ≡ true) → a ≡ b
@@ -110,7 +103,7 @@ found_case : (p : ℕ → Bool) (n : ℕ) (b : Bool) → p n ≡ b → (list_any
     → (number : ℕ) × (number < suc n) × (p number ≡ true)
 found_case p n true is h before = (n, omega arith, is)
 found_case p n false is h before =
-    let there = before (sym (or_false (list_any p (numbers_below n))) ∙ h) in
+    let there = before (sym (or-false (list_any p (numbers_below n))) ∙ h) in
     (there.0, (let l : there.0 < n = there.1 in omega arith), there.2)
 
 -- some number passes
