@@ -1,5 +1,5 @@
 -- What a list of touches says, with one more touch: the first and the last that say something, sums, and what is changed.
-use Rattle.std.proofs.Common.{◌≡◌, ℕ, ◌+◌, List, [], ◌∷◌, ◌++◌, Option, Some, None, refl, ap, sym, ◌∙◌, true, false, cond, Bool, max, inl, inr, ◌⊎◌, take}
+use Rattle.std.proofs.Common.{◌≡◌, ℕ, ◌+◌, List, [], ◌∷◌, ◌++◌, Option, Some, None, refl, ap, sym, ◌∙◌, cond, Bool, max, inl, inr, ◌⊎◌, take}
 use Rattle.std.proofs.Common.{zero-add}
 use Rattle.std.proofs.Math.Numerals.{one-add}
 use Rattle.std.specs.Prelude.{is_some, not, fold, map, sum_by, option_to_list}
