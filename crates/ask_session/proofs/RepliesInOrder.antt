@@ -1,6 +1,7 @@
 -- What is replied to lines and to those after them, what they ask to save, and what becomes of the keeper.
 use Rattle.std.proofs.Common.{◌≡◌, ◌≤◌, ℕ, ◌+◌, Bool, true, false, ◌||◌, if◌then◌else◌, List, [], ◌∷◌, ◌++◌, Option, Some, None, Ok, Err, refl}
 use Rattle.std.proofs.Common.{sym, ap, subst, ◌∙◌, append_assoc, append-nil, arith, length}
+use Rattle.std.proofs.lemmas.Bool.{or_parts}
 use Rattle.std.proofs.lemmas.List.{length-append}
 use Rattle.edge_ports.specs.Counts.{KeeperCounts, counts_stored}
 use Rattle.edge_ports.specs.Files.{FileMap}
@@ -15,15 +16,11 @@ use Rattle.ask_session.specs.Turned.{Moment, Passes, Talk, entries_through}
 
 -- ---- lines that end the session, and lines that do not
 
-pub or_false : (a b : Bool) → a || b ≡ false → (a ≡ false) × (b ≡ false)
-or_false true b e = absurd (let x : ⊥ = cc in x)
-or_false false b e = (refl, e)
-
 -- lines that go on, and the lines after them
 pub on_append : (ls ms : List (List ℕ)) (b : Bool) → ends_among ls ≡ false → ends_among ms ≡ b → ends_among (ls ++ ms) ≡ b
 on_append [] ms b e f = f
 on_append (l ∷ ls) ms b e f =
-    let both = or_false (ends_session l) (ends_among ls) e in ap (λ (c : Bool). c || ends_among (ls ++ ms)) both.0 ∙ on_append ls ms b both.1 f
+    let both = or_parts (ends_session l) (ends_among ls) e in ap (λ (c : Bool). c || ends_among (ls ++ ms)) both.0 ∙ on_append ls ms b both.1 f
 
 pub ended_append : (ls ms : List (List ℕ)) → ends_among ls ≡ true → ends_among (ls ++ ms) ≡ true
 ended_append [] ms e = absurd (let x : ⊥ = cc in x)
@@ -38,7 +35,7 @@ one_on line true e = ap (λ (c : Bool). c || false) e
 one_on line false e = ap (λ (c : Bool). c || false) e
 
 pub on_of_one : (line : List ℕ) → ends_among (line ∷ []) ≡ false → ends_session line ≡ false
-on_of_one line e = (or_false (ends_session line) false e).0
+on_of_one line e = (or_parts (ends_session line) false e).0
 
 -- ---- answers to saves
 
@@ -155,7 +152,7 @@ module _ (s : Subject) where
         → saves_asked s start entries (ls ++ ms) ≡ saves_asked s start entries ls ++ saves_asked s start (entries_through s entries ls) ms
     asked_append entries [] ms e = refl
     asked_append entries (l ∷ ls) ms e =
-        let both = or_false (ends_session l) (ends_among ls) e in
+        let both = or_parts (ends_session l) (ends_among ls) e in
         let after : List Entry = entries_after_line s entries l in
         let first : List Save = save_of start entries (file_asked l) in
         asked_on entries l (ls ++ ms) both.0
@@ -218,7 +215,7 @@ module _ (s : Subject) where
           → replies s entries (saves ++ more) (ls ++ ms) ≡ replies s entries saves ls ++ replies s (entries_through s entries ls) more ms
       replies_append entries saves [] e each = ap (λ (answers : List Bool). replies s entries (answers ++ more) ms) (no_saves saves each)
       replies_append entries saves (l ∷ ls) e each =
-          let both = or_false (ends_session l) (ends_among ls) e in
+          let both = or_parts (ends_session l) (ends_among ls) e in
           let after : List Entry = entries_after_line s entries l in
           let file : Option (List ℕ) = file_asked l in
           let p = parted entries file saves (saves_asked s start after ls) (each ∙ ap length (asked_on entries l ls both.0)) in
