@@ -20,8 +20,9 @@ use Rattle.ask_session.specs.Dialog.{replies, reply_to, entries_after_line, ends
 use Rattle.ask_session.specs.Heard.{Heard, IsHeard, EndedBy, GaveBy, lines_in}
 use Rattle.ask_session.specs.Outside.{Outside}
 use Rattle.ask_session.specs.Saves.{AreAnswered, CountsAfter, FilesAfter, Save, counts_saved, saves_asked}
-use Rattle.ask_session.specs.Turned.{entries_through, one_line, Answered, BreaksOff, Hands, HandsNone, Moment, NextReply, Passes, Stage, Talk, Talked}
-use Rattle.ask_session.specs.Turned.{Turned}
+use Rattle.ask_session.specs.Turned.{entries_through, one_line, Answered, BreaksOff, Hands, HandsNone, DialogMoment, NextReply, Passes, DialogStage, Talk}
+use Rattle.ask_session.specs.Turned.{Talked}
+use Rattle.ask_session.specs.Turned.{ReplyGiven}
 use Rattle.ask_session.proofs.RepliesInOrder.{asked_append, asked_front, asked_quit, counts_append, files_append, files_longer, on_append, on_of_one}
 use Rattle.ask_session.proofs.RepliesInOrder.{passes_more}
 use Rattle.ask_session.proofs.RepliesInOrder.{Stored, quitted, replied, replies_append}
@@ -33,7 +34,7 @@ heard_by lines = record { bytes = lines.taken; ended = lines.ended }
 module _ (s : Subject) (start : Start) where
   -- ---- one line after another
 
-  pub answered_more : (first old new : Stage) (r : Unit {0}) → Answered s start first old → Turned s start old (Ok r) new → Answered s start first new
+  pub answered_more : (first old new : DialogStage) (r : Unit {0}) → Answered s start first old → ReplyGiven s start old (Ok r) new → Answered s start first new
   answered_more first old new r a t =
       let line : List ℕ = t.1.0 in
       let saves : List Bool = t.1.2.0 in
@@ -62,7 +63,7 @@ module _ (s : Subject) (start : Start) where
   -- ---- the end of the dialog
 
   -- what was said and saved, of all lines that were heard
-  pub record Ends (first : Stage) (e : Ending) (new : Stage) : Type 0 where
+  pub record Ends (first : DialogStage) (e : Ending) (new : DialogStage) : Type 0 where
     pub saves : List Bool
     pub not_refused : e ≡ ending.Refused → ⊥
     pub ended : EndedBy e (heard_by new.progress.lines)
@@ -73,14 +74,14 @@ module _ (s : Subject) (start : Start) where
     pub counts_are : CountsAfter e saves first.progress.moment.counts new.progress.moment.counts
 
   -- all of them were answered
-  record Through (first : Stage) (lines : List (List ℕ)) (new : Stage) : Type 0 where
+  record Through (first : DialogStage) (lines : List (List ℕ)) (new : DialogStage) : Type 0 where
     saves : List Bool
     answered : length saves ≡ length (saves_asked s start first.progress.moment.entries lines)
     gave : GaveAll first.given new.given (replies s first.progress.moment.entries saves lines)
     files_are : FilesAfter saves (saves_asked s start first.progress.moment.entries lines) first.progress.moment.files new.progress.moment.files
     counts_are : new.progress.moment.counts ≡ counts_saved saves first.progress.moment.counts
 
-  module _ (first old new : Stage) (a : Answered s start first old) (c : IsConsistent new.progress.lines) where
+  module _ (first old new : DialogStage) (a : Answered s start first old) (c : IsConsistent new.progress.lines) where
     abbrev reader : LinesState
     reader = new.progress.lines
 
@@ -124,8 +125,8 @@ module _ (s : Subject) (start : Start) where
       answered = a.passes.answered ∙ sym (ap length saved);
       gave = subst Gave (sym said) (subst (λ (g : Option (List ℕ)). GaveAll first.given g (replies s entries a.saves before)) (sym still.1) a.gave);
       files_are = subst (λ (saves : List Save). FilesAfter a.saves saves first.progress.moment.files new.progress.moment.files) (sym saved)
-          (subst (λ (m : Moment). FilesAfter a.saves (asked before) first.progress.moment.files m.files) (sym still.0) a.passes.files_are);
-      counts_are = ap (λ (m : Moment). m.counts) still.0 ∙ a.passes.counts_are;
+          (subst (λ (m : DialogMoment). FilesAfter a.saves (asked before) first.progress.moment.files m.files) (sym still.0) a.passes.files_are);
+      counts_are = ap (λ (m : DialogMoment). m.counts) still.0 ∙ a.passes.counts_are;
     }
 
     -- no further line
@@ -278,7 +279,7 @@ module _ (s : Subject) (start : Start) where
       counts_are = t.counts_are;
     }
 
-    pub talk_ends : (e : Ending) → Turned s start old (Err e) new → Ends first e new
+    pub talk_ends : (e : Ending) → ReplyGiven s start old (Err e) new → Ends first e new
     talk_ends ending.Done (inl q, e) = done (inr (quit_among q.0 q.1 q.2.0)) (quit q.0 q.1 q.2.0 (q.2.1, e))
     talk_ends ending.Done (inr end, e) = done (inl end.0) (none_more end.1 (end.2, e))
     talk_ends ending.Console (n, e) = console (n.0, goes_on n.1, n.2) (none_more n.1 (n.3, e))
@@ -299,14 +300,14 @@ heard_of taken new left left' none m c at_end = record {
 
 -- ---- from the entries at the start on
 
-abbrev pub stage : List Entry → Outside → LinesState → Stage
+abbrev pub stage : List Entry → Outside → LinesState → DialogStage
 stage entries outside lines = record {
   progress = record { moment = record { entries = entries; files = outside.files; counts = outside.counts }; lines = lines };
   given = outside.streams.given;
 }
 
 module _ (s : Subject) (start : Start) where
-  abbrev pub first_stage : Outside → LinesState → Stage
+  abbrev pub first_stage : Outside → LinesState → DialogStage
   first_stage outside lines = stage (entries_at_start start) outside lines
 
   -- before a line was handed out

@@ -11,7 +11,7 @@ use Rattle.answer_book.specs.declared.entries.Entry.{Entry}
 use Rattle.dialog_lines.specs.declared.instructions.Instruction.{Instruction}
 use Rattle.dialog_lines.specs.declared.instructions.Instruction.TheVariants as asks
 use Rattle.dialog_lines.specs.Instructions.{instruction_of}
-use Rattle.dialog_replies.specs.Replies.{Outcome, outcome, replied}
+use Rattle.dialog_replies.specs.Replies.{LineOutcome, outcome, replied}
 use Rattle.dialog_replies.specs.Subject.{Subject}
 use Rattle.session_book.specs.declared.start.Start.{Start}
 use Rattle.session_book.specs.Start.{saved_text}
@@ -20,7 +20,7 @@ use Rattle.ask_session.specs.declared.dialog.Ending.TheVariants as ending
 use Rattle.ask_session.specs.Dialog.{ends_session, entries_after_line, file_asked, file_in, is_quit, is_too_long, plain_reply, reply_or_save}
 use Rattle.ask_session.specs.Dialog.{save_reply}
 use Rattle.ask_session.specs.Saves.{FileAfter, FilesAfter, Save, counts_saved, saves_asked}
-use Rattle.ask_session.specs.Turned.{Answers, BreaksOff, Hands, LineAt, Moment, NextReply, Passes, Progress, SaveGoes, one_line}
+use Rattle.ask_session.specs.Turned.{AnswersLine, BreaksOff, Hands, LineAt, DialogMoment, NextReply, Passes, Progress, SaveGoes, one_line}
 use Rattle.ask_session.proofs.RepliesInOrder.{one_asked, one_on, plainly}
 
 -- an instruction, and the line that is not too long and asks for it
@@ -55,7 +55,7 @@ module _ (line : List ℕ) where
 -- ---- a line that does not ask to save
 
 -- a moment with other entries
-abbrev pub with_entries : Moment → List Entry → Moment
+abbrev pub with_entries : DialogMoment → List Entry → DialogMoment
 with_entries moment entries = record moment { entries = entries }
 
 module _ (s : Subject) (start : Start) (old : LineAt) where
@@ -76,16 +76,16 @@ module _ (s : Subject) (start : Start) (old : LineAt) where
   breaks_off entries = record { saves = []; answered = omega arith; files_are = refl; counts_are = inl refl }
 
   pub replies_so : (entries : List Entry) (reply : List ℕ) (i : Instruction) → Asks old.line i → (is_quit i ≡ false) × (file_in i ≡ None)
-      → replied entries reply ≡ outcome s old.moment.entries i → Answers s start old (Ok reply) (with_entries old.moment entries)
+      → replied entries reply ≡ outcome s old.moment.entries i → AnswersLine s start old (Ok reply) (with_entries old.moment entries)
   replies_so entries reply i a on is =
       let none : file_asked old.line ≡ None = asked_by old.line i a None on.1 in (
         [],
         passes_plain entries (ends_by old.line i a false on.0) none
-            (ap (λ (o : Outcome). o.entries) is ∙ sym (entries_by old.line i a s old.moment.entries)),
-        ap (λ (o : Outcome). o.reply) is ∙ sym (plain_by old.line i a s old.moment.entries) ∙ sym (plainly s start old.moment.entries old.line true none),
+            (ap (λ (o : LineOutcome). o.entries) is ∙ sym (entries_by old.line i a s old.moment.entries)),
+        ap (λ (o : LineOutcome). o.reply) is ∙ sym (plain_by old.line i a s old.moment.entries) ∙ sym (plainly s start old.moment.entries old.line true none),
       )
 
-  pub too_long_so : (reply : List ℕ) → line_bytes < length old.line → reply ≡ codes "line too long\n" → Answers s start old (Ok reply) old.moment
+  pub too_long_so : (reply : List ℕ) → line_bytes < length old.line → reply ≡ codes "line too long\n" → AnswersLine s start old (Ok reply) old.moment
   too_long_so reply long is =
       let e : is_too_long old.line ≡ true = lt-ltb line_bytes (length old.line) long in
       let none : file_asked old.line ≡ None = ap (λ (b : Bool). if b then None else file_in (instruction_of old.line)) e in (
@@ -129,13 +129,13 @@ goes_on asks.Quit file e = absurd (let x : ⊥ = cc in x)
 goes_on asks.Other file e = refl
 
 -- a save of the moment's session, and the same moment but for the keeper
-pub record Keeps (start : Start) (old new : Moment) (file : List ℕ) (r : Result (List ℕ) Ending) : Type 0 where
+pub record Keeps (start : Start) (old new : DialogMoment) (file : List ℕ) (r : Result (List ℕ) Ending) : Type 0 where
   pub goes : SaveGoes (record { file = file; text = saved_text start old.entries }) old r new
   pub entries : new.entries ≡ old.entries
 
 module _ (s : Subject) (start : Start) (old : LineAt) where
-  pub saves_so : (new : Moment) (r : Result (List ℕ) Ending) (i : Instruction) (file : List ℕ) → Asks old.line i × (file_in i ≡ Some file)
-      → Keeps start old.moment new file r → Answers s start old r new
+  pub saves_so : (new : DialogMoment) (r : Result (List ℕ) Ending) (i : Instruction) (file : List ℕ) → Asks old.line i × (file_in i ≡ Some file)
+      → Keeps start old.moment new file r → AnswersLine s start old r new
   saves_so new r i file names k = by r k.goes
     where
       entries : List Entry
@@ -153,7 +153,7 @@ module _ (s : Subject) (start : Start) (old : LineAt) where
       asked : saves_asked s start entries (old.line ∷ []) ≡ save ∷ []
       asked = one_asked s start entries old.line (Some file) on named
 
-      by : (r : Result (List ℕ) Ending) → SaveGoes save old.moment r new → Answers s start old r new
+      by : (r : Result (List ℕ) Ending) → SaveGoes save old.moment r new → AnswersLine s start old r new
       by (Ok reply) g = (
         g.0 ∷ [],
         record {
@@ -180,7 +180,7 @@ module _ (s : Subject) (start : Start) (old : LineAt) where
 -- ---- a save, by what was stored and replied
 
 -- a store answered so
-pub record StoreSays (save : Save) (stored : Bool) (old new : Moment) : Type 0 where
+pub record StoreSays (save : Save) (stored : Bool) (old new : DialogMoment) : Type 0 where
   pub file_is : FileAfter stored save old.files new.files
   pub counts_are : new.counts ≡ counts_saved (stored ∷ []) old.counts
 
@@ -189,7 +189,7 @@ pub record SaveSays (save : Save) (stored : Bool) (r : Result (List ℕ) Ending)
   pub text : IfOk r (λ (reply : List ℕ). reply ≡ save_reply stored save.file)
   pub memory : IfErr r (λ (e : Ending). e ≡ ending.Memory)
 
-pub save_said : (save : Save) (stored : Bool) (old new : Moment) (r : Result (List ℕ) Ending) → StoreSays save stored old new × SaveSays save stored r
+pub save_said : (save : Save) (stored : Bool) (old new : DialogMoment) (r : Result (List ℕ) Ending) → StoreSays save stored old new × SaveSays save stored r
     → SaveGoes save old r new
 save_said save stored old new (Ok reply) h = (stored, h.1.text, (new.files, h.0.file_is, refl), h.0.counts_are)
 save_said save stored old new (Err ending.Memory) h = (stored ∷ [], omega arith, (new.files, h.0.file_is, refl), inl h.0.counts_are)
@@ -200,7 +200,7 @@ save_said save stored old new (Err ending.Spent) h = let e : ending.Spent ≡ en
 save_said save stored old new (Err ending.Refused) h = let e : ending.Refused ≡ ending.Memory = h.1.memory in absurd (let x : ⊥ = cc in x)
 
 -- the store ran out of memory
-pub save_out : (save : Save) (old new : Moment) (e : Ending) → e ≡ ending.Memory
+pub save_out : (save : Save) (old new : DialogMoment) (e : Ending) → e ≡ ending.Memory
     → (new.files ≡ old.files) × (new.counts ≡ counts_stored (Err store.Memory) old.counts) → SaveGoes save old (Err e) new
 save_out save old new e is h = subst (λ (x : Ending). SaveGoes save old (Err x) new) (sym is) ([], omega arith, h.0, inr h.1)
 
@@ -208,7 +208,7 @@ save_out save old new e is h = subst (λ (x : Ending). SaveGoes save old (Err x)
 
 module _ (s : Subject) (start : Start) where
   pub next_of : (old new : Progress) (line : List ℕ) (r : Result (List ℕ) Ending)
-      → Hands old.lines new.lines line × Answers s start (record { line = line; moment = old.moment }) r new.moment → NextReply s start old r new
+      → Hands old.lines new.lines line × AnswersLine s start (record { line = line; moment = old.moment }) r new.moment → NextReply s start old r new
   next_of old new line (Ok reply) h = (line, h.0, h.1)
   next_of old new line (Err ending.Memory) h = (line, h.0, h.1)
   next_of old new line (Err ending.Done) h = inl (line, h.0, h.1)

@@ -12,7 +12,7 @@ use Rattle.session_book.specs.declared.start.Start.{Start}
 use Rattle.ask_session.specs.Dialog.{replies, reply_to, entries_after_line, ends_session, ends_among, file_asked, next_save, plain_reply, reply_or_save}
 use Rattle.ask_session.specs.Dialog.{saves_after_line}
 use Rattle.ask_session.specs.Saves.{FilesAfter, Save, counts_saved, save_of, saves_asked}
-use Rattle.ask_session.specs.Turned.{Moment, Passes, Talk, entries_through}
+use Rattle.ask_session.specs.Turned.{DialogMoment, Passes, Talk, entries_through}
 
 -- ---- lines that end the session, and lines that do not
 
@@ -231,7 +231,7 @@ module _ (s : Subject) where
 
     -- ---- lines that were answered, and then others
 
-    pub passes_more : {old between new : Moment} (talk more : Talk) → Passes s start old talk between → Passes s start between more new
+    pub passes_more : {old between new : DialogMoment} (talk more : Talk) → Passes s start old talk between → Passes s start between more new
         → Passes s start old (record { lines = talk.lines ++ more.lines; saves = talk.saves ++ more.saves }) new
     passes_more {old} {between} {new} talk more p q =
         let through : List Entry = entries_through s old.entries talk.lines in

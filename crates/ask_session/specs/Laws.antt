@@ -4,7 +4,7 @@ use Rattle.answer_book.specs.declared.entries.Entry.{Entry}
 use Rattle.answer_book.specs.Accused.{accused_of}
 use Rattle.answer_book.specs.Entries.{standing_answers}
 use Rattle.optimal_query.specs.declared.state.State.TheVariants.{Ask, Found, Narrowed}
-use Rattle.optimal_query.specs.Laws.{IsAsked, IsAtFault, IsCallTree, IsLeast}
+use Rattle.optimal_query.specs.Laws.{IsAsked, IsAtFault, IsCallTree, IsOptimal}
 use Rattle.optimal_query.specs.Narrowing.{AgreesWithMarks, IsBuggy, IsLeft, Truth}
 use Rattle.dialog_replies.specs.Subject.{Subject, state_after}
 
@@ -17,7 +17,7 @@ OfEachTree holds = (s : Subject) → IsCallTree s.tree → holds s
 abbrev pub AsksTheBest : Subject → Type 0
 AsksTheBest s =
     (entries : List Entry) (call weight suspects left : ℕ) → state_after s entries ≡ Ask call weight suspects left
-    → IsLeast s.tree (standing_answers entries) call left
+    → IsOptimal s.tree (standing_answers entries) call left
     × IsAsked s.tree (standing_answers entries) call weight suspects
 
 -- the call that is accused, if one is

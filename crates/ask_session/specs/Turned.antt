@@ -19,25 +19,25 @@ use Rattle.ask_session.specs.Outside.{Outside}
 use Rattle.ask_session.specs.Saves.{AreAnswered, CountsAfter, FilesAfter, Save, counts_saved, saves_asked, saves_in}
 
 -- the entries, and the keeper's files and counts, at one moment of a dialog
-pub record Moment : Type 0 where
+pub record DialogMoment : Type 0 where
   pub entries : List Entry
   pub files : Option FileMap
   pub counts : KeeperCounts
 
 -- how far a dialog has come: that, and the reader of the lines
 pub record Progress : Type 0 where
-  pub moment : Moment
+  pub moment : DialogMoment
   pub lines : LinesState
 
 -- how far it has come, and what the screen was given
-pub record Stage : Type 0 where
+pub record DialogStage : Type 0 where
   pub progress : Progress
   pub given : Option (List ℕ)
 
 -- a moment, and the line that is to be answered then
 pub record LineAt : Type 0 where
   pub line : List ℕ
-  pub moment : Moment
+  pub moment : DialogMoment
 
 -- some lines of a console, and of each save that they ask for whether its file was stored
 pub record Talk : Type 0 where
@@ -53,7 +53,7 @@ entries_through s entries [] = entries
 entries_through s entries (line ∷ lines) = entries_through s (entries_after_line s entries line) lines
 
 -- these lines were answered, and none of them ends the session
-pub record Passes (s : Subject) (start : Start) (old : Moment) (talk : Talk) (new : Moment) : Type 0 where
+pub record Passes (s : Subject) (start : Start) (old : DialogMoment) (talk : Talk) (new : DialogMoment) : Type 0 where
   pub on : ends_among talk.lines ≡ false
   pub entries_are : new.entries ≡ entries_through s old.entries talk.lines
   pub answered : length talk.saves ≡ length (saves_asked s start old.entries talk.lines)
@@ -61,14 +61,15 @@ pub record Passes (s : Subject) (start : Start) (old : Moment) (talk : Talk) (ne
   pub counts_are : new.counts ≡ counts_saved talk.saves old.counts
 
 -- memory ran out at this line, after the answer to its save or before
-pub record BreaksOff (s : Subject) (start : Start) (old : Moment) (line : List ℕ) (new : Moment) : Type 0 where
-  pub saves : List Bool
-  pub answered : length saves ≤ length (saves_asked s start old.entries (line ∷ []))
-  pub files_are : FilesAfter saves (saves_asked s start old.entries (line ∷ [])) old.files new.files
-  pub counts_are : CountsAfter ending.Memory saves old.counts new.counts
+pub record BreaksOff (s : Subject) (start : Start) (old : DialogMoment) (line : List ℕ) (new : DialogMoment) : Type 0
+  where
+    pub saves : List Bool
+    pub answered : length saves ≤ length (saves_asked s start old.entries (line ∷ []))
+    pub files_are : FilesAfter saves (saves_asked s start old.entries (line ∷ [])) old.files new.files
+    pub counts_are : CountsAfter ending.Memory saves old.counts new.counts
 
 -- the reply to a save, or that memory ran out
-abbrev pub SaveGoes : Save → Moment → Result (List ℕ) Ending → Moment → Type 0
+abbrev pub SaveGoes : Save → DialogMoment → Result (List ℕ) Ending → DialogMoment → Type 0
 SaveGoes save old (Ok reply) new =
     (stored : Bool) × (reply ≡ save_reply stored save.file)
     × FilesAfter (stored ∷ []) (save ∷ []) old.files new.files × (new.counts ≡ counts_saved (stored ∷ []) old.counts)
@@ -82,16 +83,16 @@ SaveGoes save old (Err ending.Spent) new = ⊥
 SaveGoes save old (Err ending.Refused) new = ⊥
 
 -- the reply to a line, or that it ends the session
-abbrev pub Answers : Subject → Start → LineAt → Result (List ℕ) Ending → Moment → Type 0
-Answers s start old (Ok reply) new =
+abbrev pub AnswersLine : Subject → Start → LineAt → Result (List ℕ) Ending → DialogMoment → Type 0
+AnswersLine s start old (Ok reply) new =
     (saves : List Bool) × Passes s start old.moment (one_line old.line saves) new
     × (reply ≡ reply_to s old.moment.entries (next_save saves) old.line)
-Answers s start old (Err ending.Memory) new = BreaksOff s start old.moment old.line new
-Answers s start old (Err ending.Done) new = (ends_session old.line ≡ true) × (new ≡ old.moment)
-Answers s start old (Err ending.Console) new = ⊥
-Answers s start old (Err ending.Screen) new = ⊥
-Answers s start old (Err ending.Spent) new = ⊥
-Answers s start old (Err ending.Refused) new = ⊥
+AnswersLine s start old (Err ending.Memory) new = BreaksOff s start old.moment old.line new
+AnswersLine s start old (Err ending.Done) new = (ends_session old.line ≡ true) × (new ≡ old.moment)
+AnswersLine s start old (Err ending.Console) new = ⊥
+AnswersLine s start old (Err ending.Screen) new = ⊥
+AnswersLine s start old (Err ending.Spent) new = ⊥
+AnswersLine s start old (Err ending.Refused) new = ⊥
 
 -- one more line was handed out
 abbrev pub Hands : LinesState → LinesState → List ℕ → Type 0
@@ -105,13 +106,13 @@ HandsNone old new = (handed_lines new ≡ handed_lines old) × (lines_heard new.
 abbrev pub NextReply : Subject → Start → Progress → Result (List ℕ) Ending → Progress → Type 0
 NextReply s start old (Ok reply) new =
     (line : List ℕ) × Hands old.lines new.lines line
-    × Answers s start (record { line = line; moment = old.moment }) (Ok reply) new.moment
+    × AnswersLine s start (record { line = line; moment = old.moment }) (Ok reply) new.moment
 NextReply s start old (Err ending.Memory) new =
     (line : List ℕ) × Hands old.lines new.lines line
-    × Answers s start (record { line = line; moment = old.moment }) (Err ending.Memory) new.moment
+    × AnswersLine s start (record { line = line; moment = old.moment }) (Err ending.Memory) new.moment
 NextReply s start old (Err ending.Done) new =
     ((line : List ℕ) × Hands old.lines new.lines line
-    × Answers s start (record { line = line; moment = old.moment }) (Err ending.Done) new.moment)
+    × AnswersLine s start (record { line = line; moment = old.moment }) (Err ending.Done) new.moment)
     ⊎ (IsTrue new.lines.ended × HandsNone old.lines new.lines × (new.moment ≡ old.moment))
 NextReply s start old (Err ending.Console) new =
     (new.lines.ended ≡ false) × HandsNone old.lines new.lines × (length new.lines.taken < console_bytes)
@@ -123,23 +124,23 @@ NextReply s start old (Err ending.Screen) new = ⊥
 NextReply s start old (Err ending.Refused) new = ⊥
 
 -- the reply was given, or how the dialog ends
-abbrev pub Turned : Subject → Start → Stage → Result (Unit {0}) Ending → Stage → Type 0
-Turned s start old (Ok _) new =
+abbrev pub ReplyGiven : Subject → Start → DialogStage → Result (Unit {0}) Ending → DialogStage → Type 0
+ReplyGiven s start old (Ok _) new =
     (reply : List ℕ) × NextReply s start old.progress (Ok reply) new.progress × GaveAll old.given new.given reply
-Turned s start old (Err ending.Screen) new =
+ReplyGiven s start old (Err ending.Screen) new =
     (reply : List ℕ) × NextReply s start old.progress (Ok reply) new.progress × GavePrefix old.given new.given reply
-Turned s start old (Err ending.Done) new =
+ReplyGiven s start old (Err ending.Done) new =
     NextReply s start old.progress (Err ending.Done) new.progress × (new.given ≡ old.given)
-Turned s start old (Err ending.Console) new =
+ReplyGiven s start old (Err ending.Console) new =
     NextReply s start old.progress (Err ending.Console) new.progress × (new.given ≡ old.given)
-Turned s start old (Err ending.Spent) new =
+ReplyGiven s start old (Err ending.Spent) new =
     NextReply s start old.progress (Err ending.Spent) new.progress × (new.given ≡ old.given)
-Turned s start old (Err ending.Memory) new =
+ReplyGiven s start old (Err ending.Memory) new =
     NextReply s start old.progress (Err ending.Memory) new.progress × (new.given ≡ old.given)
-Turned s start old (Err ending.Refused) new = ⊥
+ReplyGiven s start old (Err ending.Refused) new = ⊥
 
 -- the lines that were handed out since then were answered
-pub record Answered (s : Subject) (start : Start) (first now : Stage) : Type 0 where
+pub record Answered (s : Subject) (start : Start) (first now : DialogStage) : Type 0 where
   pub saves : List Bool
   pub passes : Passes s start first.progress.moment
       (record { lines = handed_lines now.progress.lines; saves = saves }) now.progress.moment

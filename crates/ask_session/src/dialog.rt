@@ -16,7 +16,8 @@ ghost use Rattle.session_book.specs.declared.start.Start.{Start as StartValue};
 ghost use Rattle.ask_session.specs.Dialog.{file_in, is_quit, save_reply};
 ghost use Rattle.ask_session.specs.Heard.{is_console, is_screen};
 ghost use Rattle.ask_session.specs.Saves.{FileAfter, counts_saved};
-ghost use Rattle.ask_session.specs.Turned.{Answers, LineAt, NextReply, SaveGoes, Talked, Turned, console_failed};
+ghost use Rattle.ask_session.specs.Turned.{AnswersLine, LineAt, NextReply, SaveGoes, Talked, ReplyGiven};
+ghost use Rattle.ask_session.specs.Turned.{console_failed};
 ghost use Rattle.ask_session.specs.Turned.{screen_failed};
 
 use dialog_lines::{FileName, Instruction, instruction_in};
@@ -170,7 +171,7 @@ fn answer_line<D: Debugged, K: Keeper>(
 ) -> Result<Bytes, Ending>
     requires search { IsSearchOf (D.subject run.now) debug.old }
     requires short { length line.now ≤ line_bytes }
-    ensures answers { Answers (D.subject run.now) start.now
+    ensures answers { AnswersLine (D.subject run.now) start.now
         (record {
           line = line.now;
           moment = record {
@@ -201,7 +202,7 @@ fn too_long(alloc: Global) -> Result<Bytes, Ending>
     ensures text { IfOk result (λ bytes. bytes ≡ codes "line too long\n") }
     ensures memory { IfErr result (λ e. e ≡ Ending.Memory) }
     ensures answers { (s : Subject) (start : StartValue) (asked : LineAt) → line_bytes < length asked.line
-        → Answers s start asked result asked.moment }
+        → AnswersLine s start asked result asked.moment }
 {
     let mut bytes = Bytes::new(alloc);
     match bytes.append(b"line too long\n") {
@@ -283,7 +284,7 @@ fn turn<D: Debugged, K: Keeper, I: Source, O: Sink>(
     screen: &mut O,
 ) -> Result<(), Ending>
     requires search { IsSearchOf (D.subject run.now) debug.old }
-    ensures turned { Turned (D.subject run.now) start.now
+    ensures turned { ReplyGiven (D.subject run.now) start.now
         (record {
           progress = record {
             moment = record {

@@ -9,7 +9,7 @@ use Rattle.cell_value.specs.declared.ways_out.Which.TheVariants.{Stack}
 use Rattle.program_tables.specs.declared.program.Routine.{Routine}
 use Rattle.program_tables.specs.ProgramRows.{ProgramRows, routine_at}
 use Rattle.program_meaning.specs.State.{State, stack_end}
-use Rattle.program_meaning.specs.Acts.{Trouble, OutOfSteps, Limited, Done, Went, Stops, spent}
+use Rattle.program_meaning.specs.Acts.{Trouble, OutOfSteps, Limited, ActResult, Went, Stops, spent}
 use Rattle.program_meaning.specs.Tree.{way_of}
 use Rattle.program_meaning.specs.Run.{Halted, ends, after_all, framed_run, at_work, whole, with_frame, without_frame}
 use Rattle.program_meaning.specs.Replay.{Replaying, Replayed, in_replaying, on_state, replay_of}
@@ -17,7 +17,7 @@ use Rattle.eval_machine.specs.Frames.{framing}
 use Rattle.body_replay.specs.Traces.{FrameMade}
 
 -- goes on in a frame that was made
-abbrev pub on_framing : Done (Unit {0}) → (State → Replaying) → (State → Replayed) → Replayed
+abbrev pub on_framing : ActResult (Unit {0}) → (State → Replaying) → (State → Replayed) → Replayed
 on_framing (Went x w τ) hold go = go τ
 on_framing (Stops why w τ) hold go = ends (Halted (way_of 0 why)) (hold τ)
 
@@ -42,7 +42,7 @@ framed_again p depth f args r s e = ap (framed_run in_replaying (at_work p (repl
     (nat_lt stack_end (s.state.top + r.cells)) (nat_lt s.state.steps r.cells)
 
 -- what is left of the steps
-abbrev Fell : Done (Unit {0}) → ℕ → Type 0
+abbrev Fell : ActResult (Unit {0}) → ℕ → Type 0
 Fell (Went x w τ) most = τ.steps ≤ most
 Fell (Stops why w τ) most = τ.steps ≤ most
 
@@ -67,7 +67,7 @@ pub record Fits (n : ℕ) (σ τ : State) : Type 0 where
   pub calls : τ.calls ≡ σ.calls
 
 fits_by : (n : ℕ) (args : List Value) (σ τ : State) (w : List Touch) (a b : Bool) → nat_lt stack_end (σ.top + n) ≡ a
-    → ◌≡◌ {A = Done (Unit {0})} (if a then Stops (Limited Stack) [] σ
+    → ◌≡◌ {A = ActResult (Unit {0})} (if a then Stops (Limited Stack) [] σ
     else if b then Stops OutOfSteps [] (spent σ) else Went tt [] (with_frame n args σ)) (Went tt w τ) → Fits n σ τ
 fits_by n args σ τ w true b t e = absurd (let z : ⊥ = cc in z)
 fits_by n args σ τ w false true t e = absurd (let z : ⊥ = cc in z)

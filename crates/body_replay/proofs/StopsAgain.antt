@@ -9,7 +9,7 @@ use Rattle.cell_value.specs.declared.ways_out.WayOut.TheVariants as way
 use Rattle.cell_value.specs.declared.ways_out.Which.{Which}
 use Rattle.program_tables.specs.ProgramRows.{ProgramRows}
 use Rattle.program_meaning.specs.State.{State}
-use Rattle.program_meaning.specs.Acts.{Answer, Spend, Done, Went, Stops, perform, limit_passed}
+use Rattle.program_meaning.specs.Acts.{Answer, Spend, ActResult, Went, Stops, perform, limit_passed}
 use Rattle.program_meaning.specs.Tree.{Out, Tree, Ret, Halt, Do, Sub, Enter, Line, way_of, bind}
 use Rattle.program_meaning.specs.Layer.{layer}
 use Rattle.program_meaning.specs.Run.{End, Ended, Halted, Marked, Result, Call, in_front, ends, on_end, joined, on_done, if_allowed}
@@ -21,7 +21,7 @@ use Rattle.run_laws.proofs.Events.{unmarked, events_append}
 use Rattle.eval_machine.specs.Machines.{Moment}
 use Rattle.eval_tasks.specs.Stops.{Stop, AtLine, AtCall, AtEnd, at_call, on_act, next_stop}
 use Rattle.program_run.specs.Tower.{stage_after}
-use Rattle.body_replay.specs.Again.{Past, Goes, Over, Meeting, Stands, with_state, Resumed, after_child, Met}
+use Rattle.body_replay.specs.Again.{Past, LeadsTo, Over, Meeting, Stands, with_state, Resumed, after_child, Met}
 
 pub past_then : {told more : List Event} {r s t : Result Replaying Event} → Past told r s → Past more s t → Past (told ++ more) r t
 past_then {told = told} {more = more} {t = t} f g = record {
@@ -72,7 +72,7 @@ module _ (p : ProgramRows) (told : List Event) (r : Result Replaying Event) (sto
       → Stands p told stop (with_state s m'.state) r
   at_once first m s e h = subst (λ (x : Stop × Moment). Stands p told x.0 (with_state s x.1.state) r) (some_same e) h
 
-  on_stop : (line : ℕ) (s : Replaying) (l : List Touch) (rest : Result Replaying Event) (A : Type 0) (d : Done A) (go : A → Moment → Found)
+  on_stop : (line : ℕ) (s : Replaying) (l : List Touch) (rest : Result Replaying Event) (A : Type 0) (d : ActResult A) (go : A → Moment → Found)
       (next : A → Replaying → Replayed)
       → ((x : A) (w : List Touch) (τ : State) (rest' : Result Replaying Event) → go x (record { state = τ; log = l ++ w }) ≡ Some (stop, m')
       → next x (with_state s τ) ≡ Some rest' → Past [] rest rest' → Stands p told stop (with_state s m'.state) r)
@@ -126,7 +126,7 @@ module _ (p : ProgramRows) (told : List Event) (r : Result Replaying Event) (sto
 
 -- from a stop of what has still to be done
 pub stops_again : {p : ProgramRows} {told : List Event} {t : Tree} {s : Replaying} {r : Result Replaying Event} (l : List Touch) (k : ℕ)
-    (stop : Stop) (m' : Moment) → Goes p told t s r
+    (stop : Stop) (m' : Moment) → LeadsTo p told t s r
     → next_stop p k t (record { state = s.state; log = l }) ≡ Some (stop, m') → Stands p told stop (with_state s m'.state) r
 stops_again {p = p} {told = told} {t = t} {s = s} {r = r} l k stop m' g h = onward p told r stop m' k g.depth t s l g.rest h g.is g.past
 

@@ -17,15 +17,15 @@ use Rattle.run_laws.specs.Laws.{calls_in, IsMet, IsBody}
 use Rattle.run_laws.proofs.LawsOfRuns.{begins_sound, body_is}
 use Rattle.run_laws.proofs.Ways.{run_gives}
 use Rattle.run_laws.proofs.RunsLeave.{ran_leaves}
-use Rattle.eval_machine.specs.Machines.{HasRoom, IsReady, machine_state}
+use Rattle.eval_machine.specs.Machines.{AllowsCall, IsReady, machine_state}
 use Rattle.eval_machine.specs.declared.machine.Machine.{Machine}
 use Rattle.program_run.specs.declared.history.History.{History}
 use Rattle.program_run.specs.History.{IsOfRun}
 use Rattle.program_run.specs.Table.{row_of}
-use Rattle.body_replay.specs.Again.{Job, Known}
-use Rattle.body_replay.specs.declared.framed.Ending.{Ending}
+use Rattle.body_replay.specs.Again.{Job, KnownCall}
+use Rattle.body_replay.specs.declared.framed.WorkEnd.{WorkEnd}
 use Rattle.body_replay.specs.Replays.{before_of, events_in, kept_event, work_in}
-use Rattle.body_replay.specs.Traces.{EndsAs, Entered, IsEndOf}
+use Rattle.body_replay.specs.Traces.{EndsAs, FrameToMake, IsEndOf}
 use Rattle.body_replay.proofs.RecordsOfRuns.{Kept, RunOf, RowOf, row_of_run, run_of_history, room_for, before_is, work_is}
 
 get_taken : {X : Type 0} (n i : ℕ) (xs : List X) (x : X) → slice_get (take n xs) i ≡ Some x → slice_get xs i ≡ Some x
@@ -71,7 +71,7 @@ module _ {p : ProgramRows} {input : List ℕ} {h : History} (g : RunOf p input h
       omega (arith, here, few)
 
   -- what the history tells of a call of the run
-  known_at : length h.input < 4294967296 → (n : ℕ) (c : Call) → slice_get (calls_in g.result) n ≡ Some c → Known h n c
+  known_at : length h.input < 4294967296 → (n : ℕ) (c : Call) → slice_get (calls_in g.result) n ≡ Some c → KnownCall h n c
   known_at items n c e =
       let ms = g.result.events in
       let s = source (λ (e : Marked Call). e.event) ms n c e in
@@ -85,7 +85,7 @@ module _ {p : ProgramRows} {input : List ℕ} {h : History} (g : RunOf p input h
       let here = slice_get_within (calls_in g.result) n c e in
       let few = few_calls in
       let last : n + r.call.below < 500000 = omega (arith, room, many, here, few) in
-      subst (Known h n) same (record {
+      subst (KnownCall h n) same (record {
         row = row;
         stands = there;
         recorded = r.recorded;
@@ -97,7 +97,7 @@ module _ {p : ProgramRows} {input : List ℕ} {h : History} (g : RunOf p input h
 
   -- and of those below one of its calls
   known_below : length h.input < 4294967296 → (number below i : ℕ) (c : Call) → slice_get (take below (drop (number + 1) (calls_in g.result))) i ≡ Some c
-      → Known h (number + 1 + i) c
+      → KnownCall h (number + 1 + i) c
   known_below items number below i c e = known_at items (number + 1 + i) c (get_dropped (number + 1) i (calls_in g.result) c
       (get_taken below i (drop (number + 1) (calls_in g.result)) c e))
 
@@ -182,7 +182,7 @@ module _ {p : ProgramRows} {input : List ℕ} {h : History} (g : RunOf p input h
           let none = ap length b.log in
           record { stack = omega (arith, top, fits); room = omega (arith, none, steps, few, budget) }
 
-      pub room_before : HasRoom m
+      pub room_before : AllowsCall m
       room_before =
           let calls = ap (λ (σ : State). σ.calls) at_entry in
           let depth = ap (λ (σ : State). σ.depth) at_entry in
@@ -191,14 +191,14 @@ module _ {p : ProgramRows} {input : List ℕ} {h : History} (g : RunOf p input h
           record { calls = omega (arith, calls, a); depth = omega (arith, depth, d) }
 
       -- once it is entered, its work is to be done
-      pub entered : (items : length h.input < 4294967296) (σ : State) → σ ≡ opened (machine_state m) → Entered p h (job items) row σ
+      pub entered : (items : length h.input < 4294967296) (σ : State) → σ ≡ opened (machine_state m) → FrameToMake p h (job items) row σ
       unfolding job in_call
       entered items σ e =
           let same : opened r.call.entry ≡ σ = sym (e ∙ ap opened at_entry) in
           let few = r.tells.steps in
           let budget = g.kept.budget in
           let a = r.made.limits.calls in
-          subst (Entered p h (job items) row) same (record {
+          subst (FrameToMake p h (job items) row) same (record {
             depth = depth;
             is = subst (λ (row : table.Call). framed_run in_replaying (at_work p (replay_of p depth) row.routine) row.args first (routine_at p row.routine)
                 ≡ Some in_call.rest) (sym r.recorded.is) in_call.is;
@@ -206,7 +206,7 @@ module _ {p : ProgramRows} {input : List ℕ} {h : History} (g : RunOf p input h
             calls = omega (arith, a);
           })
 
-    pub is_end : (items : length h.input < 4294967296) (e : Ending) → EndsAs (job items).work e → IsEndOf (work_in p input h number) row e
+    pub is_end : (items : length h.input < 4294967296) (e : WorkEnd) → EndsAs (job items).work e → IsEndOf (work_in p input h number) row e
     unfolding in_call job
     is_end items e d =
         let q : work_in p input h number ≡ Some the_body.run = work_is g r ∙ the_body.is in
@@ -227,7 +227,7 @@ pub items_few : (h : History) (row : table.Call) (m : Machine) → machine_state
 items_few h row m e few = subst (λ n. n < 4294967296) (ap (λ (σ : State). length σ.items) e) few
 
 -- a call's work was done from the state before it
-pub record Done (p : ProgramRows) (h : History) (number : ℕ) (row : table.Call) (e : Ending) : Type 0 where
+pub record Done (p : ProgramRows) (h : History) (number : ℕ) (row : table.Call) (e : WorkEnd) : Type 0 where
   pub at : slice_get h.calls.calls number ≡ Some row
   pub kept : Kept h
   pub items : length h.input < 4294967296
@@ -235,9 +235,9 @@ pub record Done (p : ProgramRows) (h : History) (number : ℕ) (row : table.Call
   pub before : IsBefore h row machine
   pub state : State
   pub entered : state ≡ opened (machine_state machine)
-  pub ends : (j : Job h) → j.number ≡ number → Entered p h j row state → EndsAs j.work e
+  pub ends : (j : Job h) → j.number ≡ number → FrameToMake p h j row state → EndsAs j.work e
 
-pub is_done : {p : ProgramRows} {input : List ℕ} {h : History} {number : ℕ} {row : table.Call} {e : Ending} → Done p h number row e
+pub is_done : {p : ProgramRows} {input : List ℕ} {h : History} {number : ℕ} {row : table.Call} {e : WorkEnd} → Done p h number row e
     → IsOfRun p input h.budget h → IsEndOf (work_in p input h number) row e
 is_done {number = number} {row = row} {e = e} d is =
     let g = run_of_history d.kept is in

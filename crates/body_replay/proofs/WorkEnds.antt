@@ -16,10 +16,10 @@ use Rattle.run_laws.specs.Laws.{IsMet}
 use Rattle.eval_machine.specs.Machines.{machine_state}
 use Rattle.eval_machine.specs.Frames.{framing}
 use Rattle.program_run.specs.declared.history.History.{History}
-use Rattle.body_replay.specs.declared.framed.Ending.{Ending}
+use Rattle.body_replay.specs.declared.framed.WorkEnd.{WorkEnd}
 use Rattle.body_replay.specs.Replays.{kept_event}
-use Rattle.body_replay.specs.Again.{Goes, Over, Job, View, Reached, happened}
-use Rattle.body_replay.specs.Traces.{EndsAs, Entered, FrameMade, changed_result}
+use Rattle.body_replay.specs.Again.{LeadsTo, Over, Job, ReplayView, Reached, happened}
+use Rattle.body_replay.specs.Traces.{EndsAs, FrameToMake, FrameMade, changed_result}
 use Rattle.body_replay.proofs.FramesAgain.{fits, framed_again, on_framing, went_fell, work_from}
 use Rattle.body_replay.proofs.WorkBegins.{Before, before_change}
 
@@ -28,7 +28,7 @@ kept_all [] = refl
 kept_all (e ∷ es) = ap (λ l. kept_event e.event ∷ l) (kept_all es)
 
 -- the work in a frame ended, and the frame was removed
-pub ends_so : {h : History} {j : Job h} {end : End} {v : View} (change : State → State) (e : Ending) → Reached h j (λ told s. Over told end s j.work) v
+pub ends_so : {h : History} {j : Job h} {end : End} {v : ReplayView} (change : State → State) (e : WorkEnd) → Reached h j (λ told s. Over told end s j.work) v
     → way_out end ≡ e.way → result_in end ≡ e.answer → machine_state e.machine ≡ change v.state → e.events ≡ v.events
     → EndsAs (changed_result change j.work) e
 ends_so {j = j} change e r w a s es = record {
@@ -43,13 +43,14 @@ none_there None h = refl
 none_there (Some x) h = absurd (h x refl)
 
 -- a call that did nothing, and ended so
-pub record DidNothing (out : WayOut) (σ : State) (e : Ending) : Type 0 where
+pub record DidNothing (out : WayOut) (σ : State) (e : WorkEnd) : Type 0 where
   pub way : e.way ≡ out
   pub answer : e.answer ≡ None
   pub machine : machine_state e.machine ≡ σ
   pub events : e.events ≡ []
 
-halts : {work : Result Replaying Event} (way : WayOut) (s : Replaying) (e : Ending) → ends (Halted way) s ≡ Some work → DidNothing way s.state e → EndsAs work e
+halts : {work : Result Replaying Event} (way : WayOut) (s : Replaying) (e : WorkEnd) → ends (Halted way) s ≡ Some work → DidNothing way s.state e
+    → EndsAs work e
 halts way s e q d =
     let same = sym (some_same q) in
     record {
@@ -59,17 +60,17 @@ halts way s e q d =
       events = ap (λ (z : Result Replaying Event). map (λ e. kept_event e.event) z.events) same ∙ sym d.events;
     }
 
-module _ {p : ProgramRows} {h : History} {j : Job h} {row : table.Call} {σ : State} (n : Entered p h j row σ) where
+module _ {p : ProgramRows} {h : History} {j : Job h} {row : table.Call} {σ : State} (n : FrameToMake p h j row σ) where
   abbrev first : Replaying
   first = record { state = σ; number = j.number + 1; calls = j.below }
 
   -- a routine that is not there
-  pub ends_without : (e : Ending) → routine_at p row.routine ≡ None → DidNothing (ways.Faulted kind.Undefined 0) σ e → EndsAs j.work e
+  pub ends_without : (e : WorkEnd) → routine_at p row.routine ≡ None → DidNothing (ways.Faulted kind.Undefined 0) σ e → EndsAs j.work e
   ends_without e none d = halts (ways.Faulted kind.Undefined 0) first e
       (sym (ap (framed_run in_replaying (at_work p (replay_of p n.depth) row.routine) row.args first) none) ∙ n.is) d
 
   -- a frame that was not made
-  pub ends_unframed : (r : Routine) (τ : State) (way : WayOut) (e : Ending) → routine_at p row.routine ≡ Some r
+  pub ends_unframed : (r : Routine) (τ : State) (way : WayOut) (e : WorkEnd) → routine_at p row.routine ≡ Some r
       → FrameMade (framing r.cells row.args σ) (Some way) τ → DidNothing way τ e → EndsAs j.work e
   ends_unframed r τ way e found m d = halts way (record first { state = τ }) e
       (ap (λ w. ends (Halted w) (record first { state = τ })) (sym m.3)
@@ -92,12 +93,12 @@ module _ {p : ProgramRows} {h : History} {j : Job h} {row : table.Call} {σ : St
       known = j.known;
     }
 
-    abbrev begun : View
+    abbrev begun : ReplayView
     begun = record { state = τ; events = []; next = j.number + 1 }
 
     -- at the beginning all of the routine is to be done
-    pub rests_at_first : (t : Tree) → t ≡ whole p row.routine σ.top r → (v : View) → v ≡ begun
-        → Reached h job_in_frame (λ told s. Goes p told t s job_in_frame.work) v
+    pub rests_at_first : (t : Tree) → t ≡ whole p row.routine σ.top r → (v : ReplayView) → v ≡ begun
+        → Reached h job_in_frame (λ told s. LeadsTo p told t s job_in_frame.work) v
     unfolding job_in_frame framed
     rests_at_first t e v same =
         let none : j.below ≡ drop (j.number + 1 - (j.number + 1)) j.below =
@@ -106,22 +107,26 @@ module _ {p : ProgramRows} {h : History} {j : Job h} {row : table.Call} {σ : St
         let calls_same = (fits r.cells row.args σ τ m.0 m.1).calls in
         let few = n.few in
         let calls = n.calls in
-        let goes : Goes p [] (whole p row.routine σ.top r) (record first { state = τ }) framed.rest =
+        let goes : LeadsTo p [] (whole p row.routine σ.top r) (record first { state = τ }) framed.rest =
         record { depth = n.depth; rest = framed.rest; is = framed.is; past = record { end = refl; after = refl; events = refl } } in
-        let from : Goes p [] (whole p row.routine σ.top r) (record { state = τ; number = j.number + 1; calls = drop (j.number + 1 - (j.number + 1)) j.below })
-        framed.rest = subst (λ l. Goes p [] (whole p row.routine σ.top r) (record { state = τ; number = j.number + 1; calls = l }) framed.rest) none goes in
-        subst (Reached h job_in_frame (λ told s. Goes p told t s job_in_frame.work)) (sym same) (record {
+        let from : LeadsTo p [] (whole p row.routine σ.top r) (record {
+          state = τ;
+          number = j.number + 1;
+          calls = drop (j.number + 1 - (j.number + 1)) j.below;
+        })
+        framed.rest = subst (λ l. LeadsTo p [] (whole p row.routine σ.top r) (record { state = τ; number = j.number + 1; calls = l }) framed.rest) none goes in
+        subst (Reached h job_in_frame (λ told s. LeadsTo p told t s job_in_frame.work)) (sym same) (record {
           told = [];
           events = refl;
           next = omega arith;
           few = omega (arith, few, fell);
           calls = omega (arith, calls_same, calls);
-          stands = subst (λ t. Goes p [] t (record { state = τ; number = j.number + 1; calls = drop (j.number + 1 - (j.number + 1)) j.below }) framed.rest)
+          stands = subst (λ t. LeadsTo p [] t (record { state = τ; number = j.number + 1; calls = drop (j.number + 1 - (j.number + 1)) j.below }) framed.rest)
               (sym e) from;
         })
 
     -- what is over in the frame is over
-    pub ends_framed : (e : Ending) → EndsAs (changed_result (without_frame σ.top r.cells) job_in_frame.work) e → EndsAs j.work e
+    pub ends_framed : (e : WorkEnd) → EndsAs (changed_result (without_frame σ.top r.cells) job_in_frame.work) e → EndsAs j.work e
     unfolding job_in_frame
     ends_framed e d = record {
       way = ap way_out framed.end ∙ d.way;

@@ -20,7 +20,7 @@ use Rattle.program_meaning.specs.Replay.{Event, LineOf, ChildOf, Replaying, end_
 use Rattle.program_meaning.proofs.OutcomesCompose.{some_same}
 use Rattle.run_laws.specs.Laws.{IsMet}
 use Rattle.eval_machine.specs.Machines.{Moment}
-use Rattle.eval_tasks.specs.Stops.{Stop, AtLine, AtCall, AtEnd, StopsAt, next_stop}
+use Rattle.eval_tasks.specs.Stops.{Stop, AtLine, AtCall, AtEnd, NextStopIs, next_stop}
 use Rattle.eval_tasks.specs.Turns as turns
 use Rattle.program_run.specs.declared.history.History.{History}
 use Rattle.program_run.proofs.ActsKeepCalls.{onward}
@@ -28,7 +28,7 @@ use Rattle.program_run.proofs.LinesTakeSteps.{LeftAt, left_at_stop}
 use Rattle.body_replay.specs.Records.{HasRoomFor, IsRecordOf}
 use Rattle.body_replay.specs.Replays.{kept_event}
 use Rattle.program_run.specs.Tower.{stage_after}
-use Rattle.body_replay.specs.Again.{Goes, Over, Met, Resumed, after_child, Known, Job, View, Reached}
+use Rattle.body_replay.specs.Again.{LeadsTo, Over, Met, Resumed, after_child, KnownCall, Job, ReplayView, Reached}
 use Rattle.body_replay.proofs.StopsAgain.{AllMet, all_met, meets_next, met_among, stops_again}
 
 get_dropped : (xs : List Call) (i : ℕ) (x : Call) (ys : List Call) → drop i xs ≡ x ∷ ys → slice_get xs i ≡ Some x
@@ -51,14 +51,14 @@ same_end way.OutOfSteps answer = refl
 same_end (way.Limited which) answer = refl
 
 -- the effect of a call was put in place of its run
-pub record Applied (c : Call) (v v' : View) (w : WayOut) (answer : Option Value) : Type 0 where
+pub record Applied (c : Call) (v v' : ReplayView) (w : WayOut) (answer : Option Value) : Type 0 where
   pub state : v'.state ≡ apply c v.state
   pub events : v'.events ≡ v.events ++ Child v.next ∷ []
   pub next : v'.next ≡ v.next + c.below + 1
   pub ended : w ≡ c.way
   pub gave : answer ≡ c.result
 
-module _ {p : ProgramRows} {h : History} {j : Job h} {next : Out → Tree} {v : View} (a : Reached h j (λ told s. Met p told next s j.work) v) where
+module _ {p : ProgramRows} {h : History} {j : Job h} {next : Out → Tree} {v : ReplayView} (a : Reached h j (λ told s. Met p told next s j.work) v) where
   abbrev so_far : ℕ
   so_far = v.next - (j.number + 1)
 
@@ -68,8 +68,8 @@ module _ {p : ProgramRows} {h : History} {j : Job h} {next : Out → Tree} {v : 
   here : slice_get j.below so_far ≡ Some child
   here = get_dropped j.below so_far child a.stands.others a.stands.calls
 
-  pub known : Known h v.next child
-  known = subst (λ n. Known h n child) (let n = a.next in let e : j.number + 1 + so_far ≡ v.next = omega (arith, n) in e) (j.known so_far child here)
+  pub known : KnownCall h v.next child
+  known = subst (λ n. KnownCall h n child) (let n = a.next in let e : j.number + 1 + so_far ≡ v.next = omega (arith, n) in e) (j.known so_far child here)
 
   met : IsMet (j.number + 1) j.below (ChildOf v.next v.state)
   met = met_among (j.number + 1) j.below a.told (ChildOf v.next v.state) a.stands.later
@@ -98,7 +98,7 @@ module _ {p : ProgramRows} {h : History} {j : Job h} {next : Out → Tree} {v : 
   pub room : HasRoomFor child v.state
   room = subst (HasRoomFor child) entry known.room
 
-  pub goes_on : (v' : View) (w : WayOut) (answer : Option Value) → Applied child v v' w answer
+  pub goes_on : (v' : ReplayView) (w : WayOut) (answer : Option Value) → Applied child v v' w answer
       → Reached h j (λ told s. Resumed p told (stage_after next (turns.end_of w answer)) s j.work) v'
   goes_on v' w answer b =
       let met_now : Event = ChildOf v.next v.state in
@@ -138,7 +138,8 @@ fell_at before (AtLine line rest) left h = omega (arith, h)
 fell_at before (AtCall f args rest) left h = h
 fell_at before (AtEnd end) left h = h
 
-module _ {p : ProgramRows} {h : History} {j : Job h} {t : Tree} {v : View} (a : Reached h j (λ told s. Goes p told t s j.work) v) (l : List Touch) (k : ℕ)
+module _ {p : ProgramRows} {h : History} {j : Job h} {t : Tree} {v : ReplayView} (a : Reached h j (λ told s. LeadsTo p told t s j.work) v) (l : List Touch)
+    (k : ℕ)
     (m' : Moment) where
   -- where it stops
   abbrev Stopped : Stop → Type 0
@@ -148,7 +149,7 @@ module _ {p : ProgramRows} {h : History} {j : Job h} {t : Tree} {v : View} (a : 
   same_calls stop e = (onward p k t (record { state = v.state; log = l }) stop m' e).same.calls
 
   pub line_told : (line : ℕ) (rest : Tree) (events : List kept.Event) → Stopped (AtLine line rest) → events ≡ v.events ++ Line line ∷ []
-      → Reached h j (λ told s. Goes p told rest s j.work) (record { state = m'.state; events = events; next = v.next })
+      → Reached h j (λ told s. LeadsTo p told rest s j.work) (record { state = m'.state; events = events; next = v.next })
   line_told line rest events e q =
       let less = left_at_stop p v.state.steps k t (record { state = v.state; log = l }) (AtLine line rest) m' (omega arith) e in
       let same = same_calls (AtLine line rest) e in
@@ -191,11 +192,11 @@ module _ {p : ProgramRows} {h : History} {j : Job h} {t : Tree} {v : View} (a : 
   end_come end e = still (λ told s. Over told end s j.work) (AtEnd end) e (stops_again l k (AtEnd end) m' a.stands e)
 
 -- what a stop leaves of the steps and the calls
-pub stop_steps : {p : ProgramRows} {t : Tree} {m : Moment} {stop : Stop} {m' : Moment} → StopsAt p t m stop m' → LeftAt m.state.steps stop m'.state.steps
+pub stop_steps : {p : ProgramRows} {t : Tree} {m : Moment} {stop : Stop} {m' : Moment} → NextStopIs p t m stop m' → LeftAt m.state.steps stop m'.state.steps
 stop_steps {p = p} {t = t} {m = m} {stop = stop} {m' = m'} s = left_at_stop p m.state.steps s.moves t m stop m' (omega arith) s.is
 
-pub stop_fell : {p : ProgramRows} {t : Tree} {m : Moment} {stop : Stop} {m' : Moment} → StopsAt p t m stop m' → m'.state.steps ≤ m.state.steps
+pub stop_fell : {p : ProgramRows} {t : Tree} {m : Moment} {stop : Stop} {m' : Moment} → NextStopIs p t m stop m' → m'.state.steps ≤ m.state.steps
 stop_fell {m = m} {stop = stop} {m' = m'} s = fell_at m.state.steps stop m'.state.steps (stop_steps s)
 
-pub stop_calls : {p : ProgramRows} {t : Tree} {m : Moment} {stop : Stop} {m' : Moment} → StopsAt p t m stop m' → m'.state.calls ≡ m.state.calls
+pub stop_calls : {p : ProgramRows} {t : Tree} {m : Moment} {stop : Stop} {m' : Moment} → NextStopIs p t m stop m' → m'.state.calls ≡ m.state.calls
 stop_calls {p = p} {t = t} {m = m} {stop = stop} {m' = m'} s = (onward p s.moves t m stop m' s.is).same.calls

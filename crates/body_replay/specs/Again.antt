@@ -35,7 +35,7 @@ pub record Past (told : List Event) (r rest : Result Replaying Event) : Type 0 w
   pub events : happened r.events ≡ told ++ happened rest.events
 
 -- what has still to be done again, after these events, gives the result
-pub record Goes (p : ProgramRows) (told : List Event) (t : Tree) (s : Replaying) (r : Result Replaying Event) :
+pub record LeadsTo (p : ProgramRows) (told : List Event) (t : Tree) (s : Replaying) (r : Result Replaying Event) :
     Type 0
   where
     pub depth : ℕ
@@ -66,7 +66,7 @@ pub record Meeting (p : ProgramRows) (told : List Event) (c : Pending) (s : Repl
     pub past : Past told r rest
 
 abbrev pub Stands : ProgramRows → List Event → Stop → Replaying → Result Replaying Event → Type 0
-Stands p told (AtLine line rest) s r = Goes p (told ++ LineOf line ∷ []) rest s r
+Stands p told (AtLine line rest) s r = LeadsTo p (told ++ LineOf line ∷ []) rest s r
 Stands p told (AtCall f args next) s r = Meeting p told (record { routine = f; args = args; next = next }) s r
 Stands p told (AtEnd end) s r = Over told end s r
 
@@ -75,7 +75,7 @@ with_state s σ = record s { state = σ }
 
 -- how it goes on from a stage
 abbrev pub Resumed : ProgramRows → List Event → Stage → Replaying → Result Replaying Event → Type 0
-Resumed p told (Rests t) s r = Goes p told t s r
+Resumed p told (Rests t) s r = LeadsTo p told t s r
 Resumed p told (Calls f args next) s r = Meeting p told (record { routine = f; args = args; next = next }) s r
 Resumed p told (Ends end) s r = Over told end s r
 
@@ -97,7 +97,7 @@ pub record Met (p : ProgramRows) (told : List Event) (next : Out → Tree) (s : 
 -- ---- at work
 
 -- what the history tells of a call of this number
-pub record Known (h : History) (number : ℕ) (c : Call) : Type 0 where
+pub record KnownCall (h : History) (number : ℕ) (c : Call) : Type 0 where
   pub row : table.Call
   pub stands : slice_get h.calls.calls number ≡ Some row
   pub recorded : IsRecordOf h.log number row c
@@ -113,19 +113,19 @@ pub record Job (h : History) : Type 0 where
   pub below : List Call
   pub work : Result Replaying Event
   pub met : All (λ e. IsMet (number + 1) below e.event) work.events
-  pub known : (i : ℕ) (c : Call) → slice_get below i ≡ Some c → Known h (number + 1 + i) c
+  pub known : (i : ℕ) (c : Call) → slice_get below i ≡ Some c → KnownCall h (number + 1 + i) c
 
 -- what is at work: its state, the events so far, and the number of the next call
-pub record View : Type 0 where
+pub record ReplayView : Type 0 where
   pub state : State
   pub events : List kept.Event
   pub next : ℕ
 
-abbrev pub view_of : Replayer → View
+abbrev pub view_of : Replayer → ReplayView
 view_of r = record { state = machine_state r.machine; events = r.events; next = r.next }
 
 -- how far the work is
-pub record Reached (h : History) (j : Job h) (stage : List Event → Replaying → Type 0) (v : View) : Type 0 where
+pub record Reached (h : History) (j : Job h) (stage : List Event → Replaying → Type 0) (v : ReplayView) : Type 0 where
   pub told : List Event
   pub events : v.events ≡ map kept_event told
   pub next : j.number + 1 ≤ v.next
@@ -135,8 +135,8 @@ pub record Reached (h : History) (j : Job h) (stage : List Event → Replaying �
   pub stands : stage told (record { state = v.state; number = v.next; calls = drop (v.next - (j.number + 1)) j.below })
 
 -- it goes on with what the body has still to do
-abbrev pub AtRest : ProgramRows → (h : History) → Job h → Replayer → Type 0
-AtRest p h j r = Reached h j (λ told s. Goes p told (rest_of p r.body) s j.work) (view_of r)
+abbrev pub AtBody : ProgramRows → (h : History) → Job h → Replayer → Type 0
+AtBody p h j r = Reached h j (λ told s. LeadsTo p told (rest_of p r.body) s j.work) (view_of r)
 
 -- it is before a call
 abbrev pub AtChild : ProgramRows → (h : History) → Job h → Replayer → Type 0
@@ -148,9 +148,9 @@ AfterChild p h j end r = Reached h j
     (λ told s. Resumed p told (stage_after (waiting p r.body) (turns.end_of end.0 end.1)) s j.work) (view_of r)
 
 -- it goes on, or the body has ended so
-abbrev pub Turned : ProgramRows → (h : History) → Job h → Option (WayOut × Option Value) → Replayer → Type 0
-Turned p h j None r = AtRest p h j r
-Turned p h j (Some end) r = Reached h j (λ told s. Over told (turns.end_of end.0 end.1) s j.work) (view_of r)
+abbrev pub AfterTurn : ProgramRows → (h : History) → Job h → Option (WayOut × Option Value) → Replayer → Type 0
+AfterTurn p h j None r = AtBody p h j r
+AfterTurn p h j (Some end) r = Reached h j (λ told s. Over told (turns.end_of end.0 end.1) s j.work) (view_of r)
 
 -- a measure of what is still to be done
 abbrev pub work_left : Replayer → ℕ

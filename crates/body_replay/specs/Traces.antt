@@ -7,7 +7,7 @@ use Rattle.call_tree.specs.declared.records.Call as table
 use Rattle.call_tree.specs.declared.events.Event as kept
 use Rattle.program_tables.specs.ProgramRows.{ProgramRows, routine_at}
 use Rattle.program_meaning.specs.State.{State, most_calls}
-use Rattle.program_meaning.specs.Acts.{Trouble, Done, Went, Stops}
+use Rattle.program_meaning.specs.Acts.{Trouble, ActResult, Went, Stops}
 use Rattle.program_meaning.specs.Tree.{way_of}
 use Rattle.program_meaning.specs.Run.{Result, at_work, closed, framed_run, way_out, result_in}
 use Rattle.program_meaning.specs.Replay.{Event, Replayed, Replaying, in_replaying, on_state, replay_of}
@@ -17,12 +17,12 @@ use Rattle.program_run.specs.declared.history.History.{History}
 use Rattle.body_replay.specs.Again.{Job}
 use Rattle.body_replay.specs.Counting.{Tally}
 use Rattle.body_replay.specs.Replays.{events_in, kept_event}
-use Rattle.body_replay.specs.declared.framed.Ending.{Ending}
-use Rattle.body_replay.specs.declared.moment.Moment.{Moment}
+use Rattle.body_replay.specs.declared.framed.WorkEnd.{WorkEnd}
+use Rattle.body_replay.specs.declared.kept_state.KeptState.{KeptState}
 use Rattle.body_replay.specs.declared.replayer.Replayer.{Replayer}
 
 -- a call was entered, and from this state its frame is to be made, and its routine to be at work in it
-pub record Entered (p : ProgramRows) (h : History) (j : Job h) (row : table.Call) (σ : State) : Type 0 where
+pub record FrameToMake (p : ProgramRows) (h : History) (j : Job h) (row : table.Call) (σ : State) : Type 0 where
   pub depth : ℕ
   pub is : framed_run in_replaying (at_work p (replay_of p depth) row.routine) row.args
       (record { state = σ; number = j.number + 1; calls = j.below }) (routine_at p row.routine) ≡ Some j.work
@@ -30,19 +30,19 @@ pub record Entered (p : ProgramRows) (h : History) (j : Job h) (row : table.Call
   pub calls : σ.calls ≤ most_calls
 
 -- a frame was made, or it was not, and the call ends so
-abbrev pub FrameMade : Done (Unit {0}) → Option WayOut → State → Type 0
+abbrev pub FrameMade : ActResult (Unit {0}) → Option WayOut → State → Type 0
 FrameMade did None τ = (w : List Touch) × (did ≡ Went tt w τ)
 FrameMade did (Some way) τ = (w : List Touch) × (why : Trouble) × (did ≡ Stops why w τ) × (way_of 0 why ≡ way)
 
 -- the work ended so
-pub record EndsAs (work : Result Replaying Event) (e : Ending) : Type 0 where
+pub record EndsAs (work : Result Replaying Event) (e : WorkEnd) : Type 0 where
   pub way : way_out work.end ≡ e.way
   pub result : result_in work.end ≡ e.answer
   pub after : work.after.state ≡ machine_state e.machine
   pub events : map (λ e. kept_event e.event) work.events ≡ e.events
 
 -- the end is that of a call's work, once the call is closed, and the call's row has the steps that are left
-pub record IsEndOf (work : Replayed) (row : table.Call) (e : Ending) : Type 0 where
+pub record IsEndOf (work : Replayed) (row : table.Call) (e : WorkEnd) : Type 0 where
   pub events : e.events ≡ events_in work
   pub way : option_map (λ w. way_out w.end) work ≡ Some e.way
   pub result : option_map (λ w. result_in w.end) work ≡ Some e.answer
@@ -54,17 +54,17 @@ abbrev pub changed_result : (State → State) → Result Replaying Event → Res
 changed_result change r = record r { after = on_state change r.after }
 
 -- the state that is kept whole
-abbrev pub moment_state : Moment → State
-moment_state m = record {
-  cells = m.store;
-  top = m.top;
-  fresh = m.fresh;
-  items = m.input;
-  place = m.place;
-  output = m.output;
-  steps = m.steps;
-  calls = m.calls;
-  depth = m.depth;
+abbrev pub kept_state : KeptState → State
+kept_state k = record {
+  cells = k.store;
+  top = k.top;
+  fresh = k.fresh;
+  items = k.input;
+  place = k.place;
+  output = k.output;
+  steps = k.steps;
+  calls = k.calls;
+  depth = k.depth;
 }
 
 -- the tally of a machine before which so many steps were counted

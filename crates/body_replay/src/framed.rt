@@ -6,9 +6,9 @@ ghost use Rattle.program_meaning.specs.Run.{result_in, way_out, without_frame};
 ghost use Rattle.eval_machine.specs.Frames.{framing};
 ghost use Rattle.eval_machine.specs.Machines.{IsReady, machine_state};
 ghost use Rattle.eval_tasks.specs.Turns.{end_of};
-ghost use Rattle.body_replay.specs.Again.{AtRest, Job};
+ghost use Rattle.body_replay.specs.Again.{AtBody, Job};
 ghost use Rattle.body_replay.specs.Counting.{Counts, Tally};
-ghost use Rattle.body_replay.specs.Traces.{EndsAs, Entered, FrameMade, changed_result, tally, tally_of};
+ghost use Rattle.body_replay.specs.Traces.{EndsAs, FrameToMake, FrameMade, changed_result, tally, tally_of};
 
 use crate::counted::count_steps;
 use crate::replayer::Replayer;
@@ -22,7 +22,7 @@ use std::alloc::{AllocError, Global};
 
 /// What is left once a call's work has ended.
 #[derive(Drop)]
-pub struct Ending {
+pub struct WorkEnd {
     pub machine: Machine,
     /// What happened, in order.
     pub events: Events,
@@ -72,11 +72,11 @@ fn in_frame<L>(
     base: u32,
     cells: u32,
     steps: &mut Steps<L>,
-) -> Result<Ending, Memory>
+) -> Result<WorkEnd, Memory>
     requires ready { IsReady replayer.machine }
     requires fits { base + cells ≤ stack_end }
-    requires rests { (j : Job run.now) × AtRest program.now run.now j replayer }
-    ensures ends { (j : Job run.now) → AtRest program.now run.now j replayer
+    requires rests { (j : Job run.now) × AtBody program.now run.now j replayer }
+    ensures ends { (j : Job run.now) → AtBody program.now run.now j replayer
         → IfOk result (λ e. EndsAs (changed_result (without_frame base cells) j.work) e) }
     ensures ready { IfOk result (λ e. IsReady e.machine) }
     ensures counts { (first : Tally) → Counts run.now first (tally_of steps.old replayer)
@@ -90,7 +90,7 @@ fn in_frame<L>(
         ..
     } = replayer;
     remove_frame(alloc, &mut machine, base, cells)?;
-    Ok(Ending {
+    Ok(WorkEnd {
         machine,
         events,
         way,
@@ -108,13 +108,13 @@ pub(crate) fn work<L>(
     row: &Call,
     machine: Machine,
     steps: &mut Steps<L>,
-) -> Result<Ending, Memory>
+) -> Result<WorkEnd, Memory>
     requires ready { IsReady machine }
     requires few { number < 500000 }
     requires entered { (j : Job run.now) × (j.number ≡ number)
-        × Entered program.now run.now j row.now (machine_state machine) }
+        × FrameToMake program.now run.now j row.now (machine_state machine) }
     ensures ends { (j : Job run.now) → j.number ≡ number
-        → Entered program.now run.now j row.now (machine_state machine) → IfOk result (λ e. EndsAs j.work e) }
+        → FrameToMake program.now run.now j row.now (machine_state machine) → IfOk result (λ e. EndsAs j.work e) }
     ensures ready { IfOk result (λ e. IsReady e.machine) }
     ensures counts { (first : Tally) → Counts run.now first (tally steps.old machine [])
         → IfOk result (λ e. Counts run.now first (tally steps.new e.machine e.events)) }
@@ -146,13 +146,13 @@ pub(crate) fn work<L>(
 }
 
 /// The end of a call whose frame was not made.
-fn refused(alloc: Global, machine: Machine, way: WayOut) -> Ending
+fn refused(alloc: Global, machine: Machine, way: WayOut) -> WorkEnd
     ensures machine { result.machine ≡ machine }
     ensures events { result.events ≡ [] }
     ensures way { result.way ≡ way }
     ensures answer { result.answer ≡ None }
 {
-    Ending {
+    WorkEnd {
         machine,
         events: Events::new(alloc),
         way,

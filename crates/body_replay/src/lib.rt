@@ -5,12 +5,12 @@
 mod applied;
 mod counted;
 mod framed;
+mod kept_state;
 mod laws;
-mod moment;
 mod replayer;
 mod replays;
 
 pub use applied::apply;
+pub use kept_state::KeptState;
 pub use laws::bodies_give_their_exits;
-pub use moment::Moment;
 pub use replays::{Trace, replay};

@@ -4,7 +4,7 @@ ghost use Rattle.std.specs.Prelude.{◌≡◌, ◌+◌, ◌<◌, IfOk, OnOk, Non
 ghost use Rattle.program_tables.specs.ProgramRows.{ProgramRows};
 ghost use Rattle.eval_machine.specs.Machines.{IsReady};
 ghost use Rattle.program_run.specs.declared.history.History as kept;
-ghost use Rattle.body_replay.specs.Again.{AfterChild, AtChild, AtRest, Job, Turned, work_left};
+ghost use Rattle.body_replay.specs.Again.{AfterChild, AtChild, AtBody, Job, AfterTurn, work_left};
 ghost use Rattle.body_replay.specs.Counting.{Counts, Tally};
 ghost use Rattle.body_replay.specs.Traces.{tally_of};
 
@@ -58,7 +58,7 @@ impl Replayer {
     /// Goes on after a call that ended so, or gives how the body ended.
     fn resume(&mut self, way: WayOut, answer: Option<Value>) -> Option<(WayOut, Option<Value>)>
         ensures turned { (p : ProgramRows) (h : kept.History) (j : Job h)
-            → AfterChild p h j (way, answer) self.old → Turned p h j result self.new }
+            → AfterChild p h j (way, answer) self.old → AfterTurn p h j result self.new }
         ensures machine { self.new.machine ≡ self.old.machine }
         ensures events { self.new.events ≡ self.old.events }
     {
@@ -84,9 +84,9 @@ impl Replayer {
         steps: &mut Steps<L>,
     ) -> Result<Option<(WayOut, Option<Value>)>, Memory>
         requires ready { IsReady self.old.machine }
-        requires rests { (j : Job run.now) × AtRest program.now run.now j self.old }
-        ensures turned { (j : Job run.now) → AtRest program.now run.now j self.old
-            → IfOk result (λ end. Turned program.now run.now j end self.new) }
+        requires rests { (j : Job run.now) × AtBody program.now run.now j self.old }
+        ensures turned { (j : Job run.now) → AtBody program.now run.now j self.old
+            → IfOk result (λ end. AfterTurn program.now run.now j end self.new) }
         ensures ready { OnOk result (IsReady self.new.machine) }
         ensures less { IfOk result (λ end. end ≡ None → work_left self.new < work_left self.old) }
         ensures counts { (first : Tally) → Counts run.now first (tally_of steps.old self.old)
@@ -120,9 +120,9 @@ impl Replayer {
         steps: &mut Steps<L>,
     ) -> Result<(WayOut, Option<Value>), Memory>
         requires ready { IsReady self.old.machine }
-        requires rests { (j : Job run.now) × AtRest program.now run.now j self.old }
-        ensures over { (j : Job run.now) → AtRest program.now run.now j self.old
-            → IfOk result (λ end. Turned program.now run.now j (Some end) self.new) }
+        requires rests { (j : Job run.now) × AtBody program.now run.now j self.old }
+        ensures over { (j : Job run.now) → AtBody program.now run.now j self.old
+            → IfOk result (λ end. AfterTurn program.now run.now j (Some end) self.new) }
         ensures ready { OnOk result (IsReady self.new.machine) }
         ensures counts { (first : Tally) → Counts run.now first (tally_of steps.old self.old)
             → OnOk result (Counts run.now first (tally_of steps.new self.new)) }

@@ -9,10 +9,10 @@ ghost use Rattle.run_laws.specs.Laws.{most_bytes};
 ghost use Rattle.program_run.specs.History.{IsOfRun};
 ghost use Rattle.body_replay.specs.Counting.{Counts, at_entry, changes_met, own_steps};
 ghost use Rattle.body_replay.specs.Replays.{events_in, work_in};
-ghost use Rattle.body_replay.specs.Traces.{IsEndOf, moment_state, tally};
+ghost use Rattle.body_replay.specs.Traces.{IsEndOf, kept_state, tally};
 
-use crate::framed::{Ending, work};
-use crate::moment::{Moment, machine_before, moment_of};
+use crate::framed::{WorkEnd, work};
+use crate::kept_state::{KeptState, keep_state, machine_before};
 use call_tree::{Call, Events};
 use cell_value::{Memory, Steps, Value, WayOut};
 use eval_machine::{close_call, open_call};
@@ -29,7 +29,7 @@ pub struct Trace {
     /// The value of a function that returned.
     pub result: Option<Value>,
     /// The state after it.
-    pub exit: Moment,
+    pub exit: KeptState,
 }
 
 /// Enters a call of a run again, by its number and its row, from the state before it, and does its work.
@@ -40,7 +40,7 @@ fn work_again<L>(
     number: u32,
     row: &Call,
     steps: &mut Steps<L>,
-) -> Result<Ending, Memory>
+) -> Result<WorkEnd, Memory>
     requires run { (input : List ℕ) × (length input ≤ most_bytes)
         × IsOfRun program.now input run.now.budget run.now }
     requires budget { run.now.budget ≤ 4000000 }
@@ -81,7 +81,7 @@ pub fn replay<L>(
     ensures result { IfOk result (λ t. (input : List ℕ) → IsOfRun program.now input run.now.budget run.now
         → option_map (λ w. result_in w.end) (work_in program.now input run.now call) ≡ Some t.result) }
     ensures exit { IfOk result (λ t. (input : List ℕ) → IsOfRun program.now input run.now.budget run.now
-        → option_map (λ w. w.after.state) (work_in program.now input run.now call) ≡ Some (moment_state t.exit)) }
+        → option_map (λ w. w.after.state) (work_in program.now input run.now call) ≡ Some (kept_state t.exit)) }
 
     // The steps that were counted are the call's own, and one for each change by the calls that it made.
     ensures counted { (row : table.Call) → slice_get run.now.calls.calls call ≡ Some row
@@ -90,7 +90,7 @@ pub fn replay<L>(
 {
     let row = run.calls.call(call);
     let ending = work_again(alloc, program, run, call, row, steps)?;
-    let Ending {
+    let WorkEnd {
         mut machine,
         events,
         way,
@@ -101,6 +101,6 @@ pub fn replay<L>(
         events,
         way,
         result: answer,
-        exit: moment_of(machine),
+        exit: keep_state(machine),
     })
 }

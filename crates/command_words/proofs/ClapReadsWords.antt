@@ -9,7 +9,7 @@ use Rattle.clap.specs.declared.error.kind.ErrorKind.{ErrorKind}
 use Rattle.clap.specs.declared.error.kind.ErrorKind.TheVariants as kind
 use Rattle.clap.specs.declared.parser.matches.ArgMatches.{ArgMatches}
 use Rattle.command_words.specs.CommandLine.{command_line}
-use Rattle.command_words.specs.Meaning.{IsInRange, meant, meant_by, unless_fault, value_at}
+use Rattle.command_words.specs.Meaning.{IsWithinLimits, meant, meant_by, unless_fault, value_at}
 use Rattle.command_words.specs.Reading.{asked_by}
 use Rattle.command_words.specs.declared.request.Asked.{Asked}
 use Rattle.command_words.specs.declared.request.WordFault.{WordFault}
@@ -32,7 +32,7 @@ module _ (words : List Text) (x : Result Asked WordFault) where
   refuses None e h refused = h
   refuses (Some r) e h refused = absurd (let same : ◌≡◌ {A = Result Asked WordFault} (Ok r) (Err Refused) = sym e ∙ refused in let y : ⊥ = cc in y)
 
-  pub allows : (r : Option Asked) → x ≡ ok_or r Refused → IfSome r (λ q. IsInRange (asked_by q)) → IfOk x (λ q. IsInRange (asked_by q))
+  pub allows : (r : Option Asked) → x ≡ ok_or r Refused → IfSome r (λ q. IsWithinLimits (asked_by q)) → IfOk x (λ q. IsWithinLimits (asked_by q))
   allows None e h = rw e tt
   allows (Some r) e h = rw e h
 

@@ -63,9 +63,9 @@ IsBudget steps = (1 ≤ steps) × (steps ≤ 4000000)
 abbrev pub IsMadeNumber : ℕ → Type 0
 IsMadeNumber number = (1 ≤ number) × (number ≤ 14)
 
-abbrev pub IsInRange : Meant → Type 0
-IsInRange (Source request) = IsBudget request.budget
-IsInRange (Made number) = IsMadeNumber number
+abbrev pub IsWithinLimits : Meant → Type 0
+IsWithinLimits (Source request) = IsBudget request.budget
+IsWithinLimits (Made number) = IsMadeNumber number
 
 -- ---- the values of the arguments
 

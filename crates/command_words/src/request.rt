@@ -4,7 +4,7 @@ ghost use Rattle.std.specs.Option.{option_map};
 ghost use Rattle.std.specs.String.{string_bytes};
 ghost use Rattle.clap.specs.Words.{found_of, kind_of, rows_of};
 ghost use Rattle.clap.specs.declared.error.kind.ErrorKind.TheVariants as kind;
-ghost use Rattle.command_words.specs.Meaning.{IsInRange, made_meant, meant, meant_by, source_meant, value_at};
+ghost use Rattle.command_words.specs.Meaning.{IsWithinLimits, made_meant, meant, meant_by, source_meant, value_at};
 ghost use Rattle.command_words.specs.Reading.{asked_by};
 ghost use Rattle.command_words.specs.declared.request.WordFault.TheVariants as fault;
 
@@ -71,7 +71,7 @@ fn source_in<'a>(matches: &ArgMatches<'a>, source: &'a str) -> Option<Asked<'a>>
         (value_at (rows_of (found_of matches.now)) (codes "input"))
         (value_at (rows_of (found_of matches.now)) (codes "budget"))
         (value_at (rows_of (found_of matches.now)) (codes "load")) }
-    ensures range { IfSome result (λ a. IsInRange (asked_by a)) }
+    ensures range { IfSome result (λ a. IsWithinLimits (asked_by a)) }
 {
     let budget = steps_asked(value_of(matches, "budget"))?;
     Some(Asked::Source(Request {
@@ -88,7 +88,7 @@ fn made_in<'a>(matches: &ArgMatches<'a>, text: &str) -> Option<Asked<'a>>
         (value_at (rows_of (found_of matches.now)) (codes "input"))
         (value_at (rows_of (found_of matches.now)) (codes "budget"))
         (value_at (rows_of (found_of matches.now)) (codes "load")) }
-    ensures range { IfSome result (λ a. IsInRange (asked_by a)) }
+    ensures range { IfSome result (λ a. IsWithinLimits (asked_by a)) }
 {
     if value_of(matches, "input").is_some()
         || value_of(matches, "budget").is_some()
@@ -105,7 +105,7 @@ fn made_in<'a>(matches: &ArgMatches<'a>, text: &str) -> Option<Asked<'a>>
 /// What the values of the arguments ask for.
 fn asked_in<'a>(matches: &ArgMatches<'a>) -> Option<Asked<'a>>
     ensures meant { option_map asked_by result ≡ meant_by (value_at (rows_of (found_of matches.now))) }
-    ensures range { IfSome result (λ a. IsInRange (asked_by a)) }
+    ensures range { IfSome result (λ a. IsWithinLimits (asked_by a)) }
 {
     let source = value_of(matches, "source")?;
     match after_make(source) {
@@ -132,7 +132,7 @@ fn fault_of(error: &Error) -> WordFault
 pub fn read_words<'a>(alloc: Global, words: &'a [String]) -> Result<Asked<'a>, WordFault>
     ensures meant { IfOk result (λ a. meant (map string_bytes words.entry.now) ≡ Some (asked_by a)) }
     ensures refused { result ≡ Err fault.Refused → meant (map string_bytes words.entry.now) ≡ None }
-    ensures range { IfOk result (λ a. IsInRange (asked_by a)) }
+    ensures range { IfOk result (λ a. IsWithinLimits (asked_by a)) }
 {
     let command = command_line(alloc)?;
     match command.try_get_matches_from(words) {

@@ -17,7 +17,7 @@ use Rattle.debuggee.specs.Limits.{most_steps}
 use Rattle.made_program.specs.Lines.{made_lines}
 use Rattle.made_program.specs.Source.{made_source}
 use Rattle.debug_cli.specs.Laws.{OneRun}
-use Rattle.debug_cli.specs.Named.{Begun, Checked, FileSought, IsFault, IsFetched, IsInput, IsSaved, IsSought, MadeProgram, NotFetched, SessionRefused}
+use Rattle.debug_cli.specs.Named.{Begun, Checked, FileSought, IsFetchFault, IsFetched, IsInput, IsSaved, IsSought, MadeProgram, NotFetched, SessionRefused}
 use Rattle.debug_cli.specs.Named.{SourceRefused, Supplied, made_text, session_bytes, start_in, subject_in}
 use Rattle.debug_cli.specs.Outside.{NoFetchFailed}
 
@@ -140,7 +140,7 @@ module _ (r : Requested) (files : Option FileMap) (told : IsSome files) where
       failed (inl stayed) counts = stayed (ap (λ (c : KeeperCounts). c.faults) counts)
       failed (inr stored) counts = stored (ap (λ (c : KeeperCounts). c.stores) counts)
 
-      by : (why : FetchFault) → IsFault why x.file files → CountsFetch (Err why) before now → ⊥
+      by : (why : FetchFault) → IsFetchFault why x.file files → CountsFetch (Err why) before now → ⊥
       by fetch.Absent cause counts = no_lack x.file.name f.0 x.file.limit f.1 cause
       by fetch.Failed cause counts = failed well counts
       by (fetch.TooLong limit) cause counts = no_longer x.file.name f.0 x.file.limit f.1 cause

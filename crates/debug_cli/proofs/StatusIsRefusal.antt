@@ -16,7 +16,7 @@ use Rattle.debug_cli.specs.declared.status.Status.{Status}
 use Rattle.debug_cli.specs.declared.status.Status.TheVariants as status
 use Rattle.debug_cli.specs.Goes.{Goes, Owes, Talks}
 use Rattle.debug_cli.specs.Laws.{OneRun}
-use Rattle.debug_cli.specs.Named.{Begun, Checked, FileSought, IsFault, IsSource, IsSought, MadeProgram, NotFetched, start_in, subject_in}
+use Rattle.debug_cli.specs.Named.{Begun, Checked, FileSought, IsFetchFault, IsSource, IsSought, MadeProgram, NotFetched, start_in, subject_in}
 use Rattle.debug_cli.specs.Outside.{NoFetchFailed, NoneRisen}
 use Rattle.debug_cli.specs.Status.{code_of}
 use Rattle.debug_cli.specs.Setting.{MeansNoProgram, MeansNoSession}
@@ -126,8 +126,8 @@ module _ (before after : Outside) where
   not_fetched none (fetch.TooLong limit) counts other = none.overs (ap (λ (c : KeeperCounts). c.overs) counts)
   not_fetched none fetch.Memory counts other = other refl
 
-  no_memory : (why : FetchFault) (file : FileSought) (files : Option FileMap) → IsFault why file files → why ≡ fetch.Memory → ⊥
-  no_memory why file files cause is = subst (λ (w : FetchFault). IsFault w file files) is cause
+  no_memory : (why : FetchFault) (file : FileSought) (files : Option FileMap) → IsFetchFault why file files → why ≡ fetch.Memory → ⊥
+  no_memory why file files cause is = subst (λ (w : FetchFault). IsFetchFault w file files) is cause
 
   abbrev Expected : Status → Type 0
   Expected s = (code_of s ≡ 0) ⊎ (code_of s ≡ 3) ⊎ (code_of s ≡ 7) ⊎ (code_of s ≡ 8) ⊎ (code_of s ≡ 9)

@@ -17,7 +17,7 @@ use Rattle.debug_cli.specs.declared.status.Status.{Status}
 use Rattle.debug_cli.specs.declared.status.Status.TheVariants as status
 use Rattle.debug_cli.specs.Given.{GivesText, GivesNothing}
 use Rattle.debug_cli.specs.Goes.{Goes, Owes, Says}
-use Rattle.debug_cli.specs.Named.{Begun, FileSought, IsFault, IsSought, MadeProgram, NotFetched, SessionRefused, SourceRefused}
+use Rattle.debug_cli.specs.Named.{Begun, FileSought, IsFetchFault, IsSought, MadeProgram, NotFetched, SessionRefused, SourceRefused}
 use Rattle.debug_cli.specs.Named.{made_text, start_in, subject_in}
 use Rattle.debug_cli.specs.Outside.{CountsOneFault, LeavesAlone}
 use Rattle.debug_cli.specs.Status.{session_status}
@@ -33,7 +33,8 @@ pub record Tells (fault : FetchFault) (file : FileSought) (files : Option FileMa
   pub absent : fault ≡ fetch.Absent → LacksFile files file.name
   pub longer : (bound : ℕ) → fault ≡ fetch.TooLong bound → HoldsLonger files file.name file.limit
 
-fault_of : (fault : FetchFault) (file : FileSought) (files : Option FileMap) → Tells fault file files → (fault ≡ fetch.Memory → ⊥) → IsFault fault file files
+fault_of : (fault : FetchFault) (file : FileSought) (files : Option FileMap) → Tells fault file files → (fault ≡ fetch.Memory → ⊥)
+    → IsFetchFault fault file files
 fault_of fetch.Absent file files tells other = tells.absent refl
 fault_of fetch.Failed file files tells other = tt
 fault_of (fetch.TooLong bound) file files tells other = tells.longer bound refl

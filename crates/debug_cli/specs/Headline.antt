@@ -39,7 +39,7 @@ work_in e call = work_of e.recorded.program (run e.recorded.program e.supply.inp
 
 -- What a verdict on a call is worth: the call is judged wrong, and each call that it made is right or trusted; and its
 -- own work gives exactly its recorded way out, its recorded result and its recorded exit.
-pub record IsFound (e : Execution) (entries : List Entry) (call : ℕ) : Type 0 where
+pub record VerdictHolds (e : Execution) (entries : List Entry) (call : ℕ) : Type 0 where
   pub at_fault : IsAtFault (subject_of e).tree (standing_answers entries) call
   pub row : Call
   pub recorded : slice_get (records_in e) call ≡ Some row
@@ -48,7 +48,7 @@ pub record IsFound (e : Execution) (entries : List Entry) (call : ℕ) : Type 0 
 -- so it is with each call that is found, whatever the entries are
 abbrev pub EachVerdictIsFound : Execution → Type 0
 EachVerdictIsFound e =
-    (entries : List Entry) (call : ℕ) → state_after (subject_of e) entries ≡ Found call → IsFound e entries call
+    (entries : List Entry) (call : ℕ) → state_after (subject_of e) entries ≡ Found call → VerdictHolds e entries call
 
 -- and in the run of each program, with each input and budget
 abbrev pub VerdictsAreFound : Type 0

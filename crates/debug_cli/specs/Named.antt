@@ -143,15 +143,15 @@ IsSought r files file =
     ⊎ (Supplied r files × (r.load ≡ Some file.name) × (file.limit ≡ session_bytes))
 
 -- why a file was not fetched: what is known of it, where files are told
-abbrev pub IsFault : FetchFault → FileSought → Option FileMap → Type 0
-IsFault fetch.Absent file files = LacksFile files file.name
-IsFault fetch.Failed file files = Unit {0}
-IsFault (fetch.TooLong limit) file files = HoldsLonger files file.name file.limit
-IsFault fetch.Memory file files = ⊥
+abbrev pub IsFetchFault : FetchFault → FileSought → Option FileMap → Type 0
+IsFetchFault fetch.Absent file files = LacksFile files file.name
+IsFetchFault fetch.Failed file files = Unit {0}
+IsFetchFault (fetch.TooLong limit) file files = HoldsLonger files file.name file.limit
+IsFetchFault fetch.Memory file files = ⊥
 
 -- a file that was not fetched
 pub record NotFetched (r : Requested) (files : Option FileMap) : Type 0 where
   pub file : FileSought
   pub sought : IsSought r files file
   pub why : FetchFault
-  pub cause : IsFault why file files
+  pub cause : IsFetchFault why file files

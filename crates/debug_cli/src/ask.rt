@@ -2,7 +2,7 @@
 ghost use Rattle.std.specs.Prelude.{◌≡◌, ◌⊎◌, ◌≤◌, ◌==◌, Bool, List, Some, None, false, IsTrue, IsSome, length};
 ghost use Rattle.edge_ports.specs.Counts.{Counted};
 ghost use Rattle.edge_ports.specs.Told.{GaveAll, GavePrefix};
-ghost use Rattle.command_words.specs.Meaning.{IsInRange, Requested};
+ghost use Rattle.command_words.specs.Meaning.{IsWithinLimits, Requested};
 ghost use Rattle.command_words.specs.Meaning as meant;
 ghost use Rattle.command_words.specs.Reading.{asked_by};
 ghost use Rattle.body_replay.specs.Laws.{BodiesGiveTheirExits};
@@ -38,7 +38,7 @@ fn ask_for<K: Keeper, I: Source, O: Sink>(
     console: &mut I,
     screen: &mut O,
 ) -> Status
-    requires range { IsInRange (asked_by asked.now) }
+    requires range { IsWithinLimits (asked_by asked.now) }
     ensures goes { Goes (Some (asked_by asked.now))
         (record {
           files = K.files keeper.old;

@@ -12,7 +12,7 @@ use Rattle.check_steps.specs.declared.breaks.CheckFault.TheVariants as fault
 use Rattle.source_checker.specs.declared.programs.ProgramFault.{ProgramFault}
 use Rattle.source_checker.specs.declared.programs.ProgramFault.TheVariants as refused
 use Rattle.source_checker.specs.Declarations.{IsTextOf}
-use Rattle.source_checker.specs.Places.{StandsAt}
+use Rattle.source_checker.specs.Places.{TokenBegins}
 use Rattle.source_checker.specs.Programs.{IsBrokenAt, IsChecked, IsUnchecked}
 use Rattle.debuggee.specs.declared.refusal.Refusal.{Refusal}
 use Rattle.debuggee.specs.declared.refusal.Refusal.TheVariants as refusal
@@ -39,19 +39,19 @@ NoProgram source = (t : Lexed) (p : ProgramRows) → IsProgram source t p → �
 -- ---- why and where a source is refused
 
 -- its first piece that does not fit, which begins at this byte, fails for this reason
-abbrev pub FailsFor : List ℕ → Refusal → (byte : ℕ) → Type 0
-FailsFor source refusal.BadByte byte = IsFault source (lexis.BadByte byte)
-FailsFor source refusal.OpenComment byte = IsFault source (lexis.OpenComment byte)
-FailsFor source refusal.OpenString byte = IsFault source (lexis.OpenString byte)
-FailsFor source refusal.EmptyString byte = IsFault source (lexis.EmptyString byte)
-FailsFor source refusal.RealWord byte = IsFault source (lexis.RealWord byte)
-FailsFor source refusal.TooLarge byte = IsFault source (lexis.TooLarge byte)
-FailsFor source refusal.Joined byte = IsFault source (lexis.Joined byte)
-FailsFor source _ byte = ⊥
+abbrev pub PieceFailsFor : List ℕ → Refusal → (byte : ℕ) → Type 0
+PieceFailsFor source refusal.BadByte byte = IsFault source (lexis.BadByte byte)
+PieceFailsFor source refusal.OpenComment byte = IsFault source (lexis.OpenComment byte)
+PieceFailsFor source refusal.OpenString byte = IsFault source (lexis.OpenString byte)
+PieceFailsFor source refusal.EmptyString byte = IsFault source (lexis.EmptyString byte)
+PieceFailsFor source refusal.RealWord byte = IsFault source (lexis.RealWord byte)
+PieceFailsFor source refusal.TooLarge byte = IsFault source (lexis.TooLarge byte)
+PieceFailsFor source refusal.Joined byte = IsFault source (lexis.Joined byte)
+PieceFailsFor source _ byte = ⊥
 
 -- a piece does not fit
 abbrev pub RefusesPiece : List ℕ → Refusal → (line byte : ℕ) → Type 0
-RefusesPiece source why line byte = FailsFor source why byte × (line ≡ line_at source byte)
+RefusesPiece source why line byte = PieceFailsFor source why byte × (line ≡ line_at source byte)
 
 -- Tokens are refused at this one: it is the first that is too deep, or else the first with which no tree of the grammar
 -- goes on.
@@ -62,7 +62,7 @@ RefusesAt t _ number = ⊥
 
 -- they are refused at a token that stands there
 abbrev pub RefusesToken : Lexed → Refusal → (line byte : ℕ) → Type 0
-RefusesToken t why line byte = (number : ℕ) × StandsAt t number line byte × RefusesAt t why number
+RefusesToken t why line byte = (number : ℕ) × TokenBegins t number line byte × RefusesAt t why number
 
 -- They are the text of a tree in which this is the first broken rule, or the first that is too big where no rule is
 -- broken; and what is broken stands at this byte, on this line.

@@ -17,11 +17,11 @@ use Rattle.dialog_replies.specs.Subject.{Subject, book_of, calls_of, routine_nam
 use Rattle.dialog_replies.specs.Texts.{report, tree_text}
 
 -- the entries after a line, and its reply
-pub record Outcome : Type 0 where
+pub record LineOutcome : Type 0 where
   pub entries : List Entry
   pub reply : List ℕ
 
-abbrev pub replied : List Entry → List ℕ → Outcome
+abbrev pub replied : List Entry → List ℕ → LineOutcome
 replied entries reply = record { entries = entries; reply = reply }
 
 -- ---- refusals, which change nothing
@@ -41,23 +41,23 @@ refusal_text fault.Full = codes "book is full\n"
 abbrev pub entry_text : Subject → List Entry → ℕ → List ℕ
 entry_text s entries number = codes "entry " ++ decimal number ++ codes "\n" ++ report s entries
 
-abbrev pub adds : Subject → List Entry → What → Result ℕ BookFault → Outcome
+abbrev pub adds : Subject → List Entry → What → Result ℕ BookFault → LineOutcome
 adds s entries what (Ok number) =
     replied (entries_with entries what) (entry_text s (entries_with entries what) number)
 adds s entries what (Err why) = replied entries (refusal_text why)
 
-abbrev pub judges : Subject → List Entry → Judgement → ℕ → Outcome
+abbrev pub judges : Subject → List Entry → Judgement → ℕ → LineOutcome
 judges s entries judgement call = adds s entries (Judged call judgement) (judge_answer (book_of s entries) call)
 
 -- a judgement on the call that is asked about
-abbrev pub judges_asked : Subject → List Entry → Judgement → State → Outcome
+abbrev pub judges_asked : Subject → List Entry → Judgement → State → LineOutcome
 judges_asked s entries judgement (Ask call weight suspects left) = judges s entries judgement call
 judges_asked s entries judgement state = replied entries (codes "no question\n")
 
-abbrev pub trusts : Subject → List Entry → ℕ → Outcome
+abbrev pub trusts : Subject → List Entry → ℕ → LineOutcome
 trusts s entries routine = adds s entries (Trusted routine) (trust_answer (book_of s entries) routine)
 
-abbrev pub trusts_named : Subject → List Entry → List ℕ → Option ℕ → Outcome
+abbrev pub trusts_named : Subject → List Entry → List ℕ → Option ℕ → LineOutcome
 trusts_named s entries name (Some routine) = trusts s entries routine
 trusts_named s entries name None = replied entries (codes "no routine " ++ name ++ codes "\n")
 
@@ -66,15 +66,15 @@ trusts_named s entries name None = replied entries (codes "no routine " ++ name 
 abbrev pub back_text : Subject → List Entry → ℕ → List ℕ
 back_text s entries number = codes "back " ++ decimal number ++ codes "\n" ++ report s entries
 
-abbrev pub without : Subject → List Entry → ℕ → Outcome
+abbrev pub without : Subject → List Entry → ℕ → LineOutcome
 without s entries number =
     replied (entries_without entries number) (back_text s (entries_without entries number) number)
 
-abbrev pub takes_back : Subject → List Entry → ℕ → Result (Unit {0}) BookFault → Outcome
+abbrev pub takes_back : Subject → List Entry → ℕ → Result (Unit {0}) BookFault → LineOutcome
 takes_back s entries number (Ok done) = without s entries number
 takes_back s entries number (Err why) = replied entries (refusal_text why)
 
-abbrev pub takes_back_last : Subject → List Entry → Result ℕ BookFault → Outcome
+abbrev pub takes_back_last : Subject → List Entry → Result ℕ BookFault → LineOutcome
 takes_back_last s entries (Ok number) = without s entries number
 takes_back_last s entries (Err why) = replied entries (refusal_text why)
 
@@ -87,7 +87,7 @@ abbrev pub trace_or_none : Subject → ℕ → List ℕ
 trace_or_none s call = if nat_lt call (calls_of s) then s.trace call else no_call call
 
 -- What a line that saves is replied depends on the keeper, and is said where the session is held.
-unfoldable pub outcome : Subject → List Entry → Instruction → Outcome
+unfoldable pub outcome : Subject → List Entry → Instruction → LineOutcome
 outcome s entries asked.Nothing = replied entries []
 outcome s entries (asked.Judge judgement None) = judges_asked s entries judgement (state_after s entries)
 outcome s entries (asked.Judge judgement (Some call)) = judges s entries judgement call

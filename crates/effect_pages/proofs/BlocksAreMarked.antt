@@ -6,14 +6,14 @@ use Rattle.cell_value.specs.Effects.{is_shared}
 use Rattle.effect_pages.specs.declared.cells.Cell.{Cell}
 use Rattle.effect_pages.specs.declared.cells.Pages.{Pages}
 use Rattle.effect_pages.specs.Pages.{cell_at}
-use Rattle.effect_pages.specs.Marks.{Marks, block_mark, change_mark}
+use Rattle.effect_pages.specs.Marks.{MarksCells, block_mark, change_mark}
 
 either : {X : Type 0} (b : Bool) (x y : X) → x ≡ y → x ≡ cond b y x
 either true x y e = e
 either false x y e = refl
 
 module _ (number first addr : ℕ) where
-  pub block_begins : (base : ℕ) (pages : Pages) → Marks base (block_mark number first first) pages pages
+  pub block_begins : (base : ℕ) (pages : Pages) → MarksCells base (block_mark number first first) pages pages
   block_begins base pages = record {
     at = λ q.
         let out : (nat_le first q && nat_lt q first) ≡ false = grind (arith, nat_tests) in
@@ -43,8 +43,8 @@ module _ (number first addr : ℕ) where
   on_shared true q was mid next from so_far last = one_more q was mid next from so_far last
   on_shared false q was mid next from so_far last = last ∙ so_far
 
-  pub block_goes_on : (base : ℕ) (old mid new : Pages) → first ≤ addr → Marks base (block_mark number first addr) old mid
-      → Marks base (λ q cell. cond (addr == q) (change_mark number cell) cell) mid new → Marks base (block_mark number first (addr + 1)) old new
+  pub block_goes_on : (base : ℕ) (old mid new : Pages) → first ≤ addr → MarksCells base (block_mark number first addr) old mid
+      → MarksCells base (λ q cell. cond (addr == q) (change_mark number cell) cell) mid new → MarksCells base (block_mark number first (addr + 1)) old new
   block_goes_on base old mid new from so_far last = record {
     at = λ q. on_shared (is_shared base q) q (cell_at old q) (cell_at mid q) (cell_at new q) from (so_far.at q) (last.at q);
   }

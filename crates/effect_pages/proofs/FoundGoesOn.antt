@@ -5,14 +5,14 @@ use Rattle.cell_value.specs.declared.entries.Touch.{Touch}
 use Rattle.cell_value.specs.Effects.{asked_by, change_at, changes_of, is_shared, read_by, reads_of, seen_at, seen_by, shared}
 use Rattle.effect_pages.specs.declared.found.Found.{Found}
 use Rattle.effect_pages.specs.declared.lists.Lists.{Lists}
-use Rattle.effect_pages.specs.Lists.{IsListed}
-use Rattle.effect_pages.specs.Marks.{IsFound, IsMarked, TakesIn, cell_after, changed_in, entry_of, first_before, seen_in, shown}
+use Rattle.effect_pages.specs.Lists.{ListsReach}
+use Rattle.effect_pages.specs.Marks.{PagesHold, IsMarked, PagesTakeIn, cell_after, changed_in, entry_of, first_before, seen_in, shown}
 use Rattle.effect_pages.specs.Pages.{cell_at}
 use Rattle.effect_pages.proofs.AddressesAreListed.{all_listed, listed_same}
 use Rattle.effect_pages.proofs.TouchesAddUp.{cell_marked, one_more_counted}
 
 pub one_more_found : (base place : ℕ) (log ts : List Touch) (number : ℕ) (t : Touch) → slice_get log number ≡ Some t → (old new : Found)
-    → IsFound base place log ts old → TakesIn base place (record { number = number; touch = t }) old new → IsFound base place log (ts ++ t ∷ []) new
+    → PagesHold base place log ts old → PagesTakeIn base place (record { number = number; touch = t }) old new → PagesHold base place log (ts ++ t ∷ []) new
 one_more_found base place log ts number t is old new found takes = record {
   cells = λ addr inside.
       let same : cell_at new.pages addr ≡ cell_after number t addr (cell_at old.pages addr) =
@@ -27,7 +27,7 @@ bool_cases : (b : Bool) → (b ≡ true) ⊎ (b ≡ false)
 bool_cases true = inl refl
 bool_cases false = inr refl
 
-module _ (base place : ℕ) (log ts : List Touch) (found : Found) (all : IsFound base place log ts found) where
+module _ (base place : ℕ) (log ts : List Touch) (found : Found) (all : PagesHold base place log ts found) where
   seen_is : (addr : ℕ) → seen_in log addr (cell_at found.pages addr) ≡ shared base (λ a. seen_at a ts) addr
   unfolding seen_at
   seen_is addr = elim (bool_cases (is_shared base addr)) [
@@ -44,12 +44,12 @@ module _ (base place : ℕ) (log ts : List Touch) (found : Found) (all : IsFound
     | inr outside ↦ ap (changed_in log addr) (all.others addr outside) ∙ ap (λ b. cond b (change_at addr ts) None) (sym outside)
   ]
 
-  pub reads_are : (lists : Lists) → IsListed log found.pages 1048576 lists → lists.reads ≡ reads_of base ts
+  pub reads_are : (lists : Lists) → ListsReach log found.pages 1048576 lists → lists.reads ≡ reads_of base ts
   reads_are lists done = done.reads
       ∙ listed_same (λ addr. seen_in log addr (cell_at found.pages addr)) (shared base (λ addr. seen_at addr ts)) 1048576 (λ q l. seen_is q)
       ∙ all_listed (shared base (λ addr. seen_at addr ts))
 
-  pub changes_are : (lists : Lists) → IsListed log found.pages 1048576 lists → lists.changes ≡ changes_of base ts
+  pub changes_are : (lists : Lists) → ListsReach log found.pages 1048576 lists → lists.changes ≡ changes_of base ts
   changes_are lists done = done.changes
       ∙ listed_same (λ addr. changed_in log addr (cell_at found.pages addr)) (shared base (λ addr. change_at addr ts)) 1048576 (λ q l. change_is q)
       ∙ all_listed (shared base (λ addr. change_at addr ts))

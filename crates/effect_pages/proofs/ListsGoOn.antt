@@ -5,7 +5,7 @@ use Rattle.std.specs.Option.{option_map}
 use Rattle.cell_value.specs.declared.entries.Touch.{Touch}
 use Rattle.effect_pages.specs.declared.cells.Pages.{Pages}
 use Rattle.effect_pages.specs.declared.lists.Lists.{Lists}
-use Rattle.effect_pages.specs.Lists.{IsListed, listed_to}
+use Rattle.effect_pages.specs.Lists.{ListsReach, listed_to}
 use Rattle.effect_pages.specs.Marks.{changed_in, seen_in}
 use Rattle.effect_pages.specs.Pages.{cell_at}
 use Rattle.effect_pages.specs.Paging.{nothing}
@@ -17,19 +17,19 @@ grows f n old new found so_far added is =
     added ∙ ap (λ xs. xs ++ option_to_list (option_map (λ x. (n, x)) found)) so_far
     ∙ ap (λ o. listed_to f n ++ option_to_list (option_map (λ x. (n, x)) o)) is ∙ sym (listed_more f n)
 
-pub skips : (log : List Touch) (pages : Pages) (n : ℕ) (lists : Lists) → IsListed log pages n lists
-    → ((place : ℕ) → place < 32 → cell_at pages (n + place) ≡ nothing) → IsListed log pages (n + 32) lists
+pub skips : (log : List Touch) (pages : Pages) (n : ℕ) (lists : Lists) → ListsReach log pages n lists
+    → ((place : ℕ) → place < 32 → cell_at pages (n + place) ≡ nothing) → ListsReach log pages (n + 32) lists
 skips log pages n lists so_far none = record {
   reads = so_far.reads ∙ sym (listed_skip (λ addr. seen_in log addr (cell_at pages addr)) 32 n (λ place l. ap (seen_in log (n + place)) (none place l)));
   changes = so_far.changes
       ∙ sym (listed_skip (λ addr. changed_in log addr (cell_at pages addr)) 32 n (λ place l. ap (changed_in log (n + place)) (none place l)));
 }
 
-pub none_yet : (log : List Touch) (pages : Pages) (lists : Lists) → lists.reads ≡ [] → lists.changes ≡ [] → IsListed log pages 0 lists
+pub none_yet : (log : List Touch) (pages : Pages) (lists : Lists) → lists.reads ≡ [] → lists.changes ≡ [] → ListsReach log pages 0 lists
 none_yet log pages lists reads changes = record {
   reads = reads ∙ none_listed (λ addr. seen_in log addr (cell_at pages addr));
   changes = changes ∙ none_listed (λ addr. changed_in log addr (cell_at pages addr));
 }
 
-pub up_to : (log : List Touch) (pages : Pages) (m n : ℕ) (lists : Lists) → m ≡ n → IsListed log pages m lists → IsListed log pages n lists
-up_to log pages m n lists same listed = subst (λ k. IsListed log pages k lists) same listed
+pub up_to : (log : List Touch) (pages : Pages) (m n : ℕ) (lists : Lists) → m ≡ n → ListsReach log pages m lists → ListsReach log pages n lists
+up_to log pages m n lists same listed = subst (λ k. ListsReach log pages k lists) same listed

@@ -15,7 +15,7 @@ use Rattle.effect_log.proofs.OneMoreTouch.{all_before, before_changing, before_n
 use Rattle.effect_log.proofs.OneMoreTouch.{looked_more, one_option, option_cases, sooner, sum_more}
 use Rattle.effect_pages.specs.declared.found.Found.{Found}
 use Rattle.effect_pages.specs.declared.cells.Cell.{Cell}
-use Rattle.effect_pages.specs.Marks.{IsCounted, IsMarked, StandsFor, TakesIn, answer_mark, cell_after, change_mark, first_before}
+use Rattle.effect_pages.specs.Marks.{HasCounts, IsMarked, IsNumberOf, PagesTakeIn, answer_mark, cell_after, change_mark, first_before}
 use Rattle.effect_pages.specs.Marks.{first_mark, read_mark, shown}
 
 -- ---- one address
@@ -64,23 +64,23 @@ module _ {X : Type 0} (f : Touch → Option X) (addr : ℕ) (ts : List Touch) (t
 
 -- ---- what numbers stand for
 module _ {X : Type 0} (log : List Touch) (f : Touch → Option X) where
-  stays : (n : Option ℕ) (v w : Option X) → StandsFor log f n v → w ≡ v → StandsFor log f n w
+  stays : (n : Option ℕ) (v w : Option X) → IsNumberOf log f n v → w ≡ v → IsNumberOf log f n w
   stays n v w stands e = record { there = stands.there ∙ ap is_some (sym e); says = stands.says ∙ sym e }
 
-  now : (n : ℕ) (t : Touch) (x : X) → slice_get log n ≡ Some t → f t ≡ Some x → StandsFor log f (Some n) (Some x)
+  now : (n : ℕ) (t : Touch) (x : X) → slice_get log n ≡ Some t → f t ≡ Some x → IsNumberOf log f (Some n) (Some x)
   now n t x is says = record { there = refl; says = ap (shown f) is ∙ says }
 
   -- the first number, where nothing was changed yet and where something was
-  first_yet : (m : Option ℕ) (n : ℕ) (v : Option X) (t : Touch) (x : X) → slice_get log n ≡ Some t → f t ≡ Some x → StandsFor log f m v
-      → StandsFor log f (first_mark None m n) (sooner v (Some x))
+  first_yet : (m : Option ℕ) (n : ℕ) (v : Option X) (t : Touch) (x : X) → slice_get log n ≡ Some t → f t ≡ Some x → IsNumberOf log f m v
+      → IsNumberOf log f (first_mark None m n) (sooner v (Some x))
   first_yet (Some m) n (Some y) t x is says stands = stands
   first_yet (Some m) n None t x is says stands = absurd (let e = stands.there in cc)
   first_yet None n (Some y) t x is says stands = absurd (let e = stands.there in cc)
   first_yet None n None t x is says stands = now n t x is says
 
   first_marked : (c m : Option ℕ) (n addr : ℕ) (ts : List Touch) (t : Touch) (x : X) → slice_get log n ≡ Some t → f t ≡ Some x → change_by addr t ≡ None
-      → is_some c ≡ is_some (change_at addr ts) → StandsFor log f m (first_before f addr ts)
-      → StandsFor log f (first_mark c m n) (first_before f addr (ts ++ t ∷ []))
+      → is_some c ≡ is_some (change_at addr ts) → IsNumberOf log f m (first_before f addr ts)
+      → IsNumberOf log f (first_mark c m n) (first_before f addr (ts ++ t ∷ []))
   first_marked (Some c) m n addr ts t x is says other there stands = by_change f addr ts t
       (λ (d : Change) (some : change_at addr ts ≡ Some d). stays m (first_before f addr ts) (first_before f addr (ts ++ t ∷ [])) stands
       (first_stays f addr ts t d some))
@@ -96,16 +96,16 @@ module _ (log ts : List Touch) (addr number : ℕ) (t : Touch) (cell : Cell) (is
   abbrev Next : Cell → Type 0
   Next = IsMarked log (ts ++ t ∷ []) addr
 
-  read_stays : read_by addr t ≡ None → StandsFor log (read_by addr) cell.read (first_before (read_by addr) addr (ts ++ t ∷ []))
+  read_stays : read_by addr t ≡ None → IsNumberOf log (read_by addr) cell.read (first_before (read_by addr) addr (ts ++ t ∷ []))
   read_stays none = stays log (read_by addr) cell.read (first_before (read_by addr) addr ts) (first_before (read_by addr) addr (ts ++ t ∷ [])) marked.read
       (first_same (read_by addr) addr ts t none)
 
-  answer_stays : asked_by addr t ≡ None → StandsFor log (asked_by addr) cell.answer (first_before (asked_by addr) addr (ts ++ t ∷ []))
+  answer_stays : asked_by addr t ≡ None → IsNumberOf log (asked_by addr) cell.answer (first_before (asked_by addr) addr (ts ++ t ∷ []))
   answer_stays none = stays log (asked_by addr) cell.answer (first_before (asked_by addr) addr ts) (first_before (asked_by addr) addr (ts ++ t ∷ []))
       marked.answer
       (first_same (asked_by addr) addr ts t none)
 
-  change_stays : change_by addr t ≡ None → StandsFor log (change_by addr) cell.change (change_at addr (ts ++ t ∷ []))
+  change_stays : change_by addr t ≡ None → IsNumberOf log (change_by addr) cell.change (change_at addr (ts ++ t ∷ []))
   change_stays none = stays log (change_by addr) cell.change (change_at addr ts) (change_at addr (ts ++ t ∷ [])) marked.change
       (change_more addr ts t ∙ ap (λ o. later o (change_at addr ts)) none)
 
@@ -169,9 +169,9 @@ cell_marked log ts addr number (Give byte) cell is marked = not_here log ts addr
 
 -- ---- the counts
 
-pub one_more_counted : (base place number : ℕ) (ts : List Touch) (t : Touch) (old new : Found) → IsCounted place ts old
-    → TakesIn base place (record { number = number; touch = t }) old new
-    → IsCounted place (ts ++ t ∷ []) new
+pub one_more_counted : (base place number : ℕ) (ts : List Touch) (t : Touch) (old new : Found) → HasCounts place ts old
+    → PagesTakeIn base place (record { number = number; touch = t }) old new
+    → HasCounts place (ts ++ t ∷ []) new
 one_more_counted base place number ts t old new found takes = record {
   made = takes.made ∙ ap (λ n. n + made_by t) found.made ∙ sym (sum_more made_by ts t);
   looked = takes.looked ∙ ap (λ n. max n (looked_by place t)) found.looked ∙ sym (looked_more place ts t);

@@ -13,6 +13,6 @@ unfoldable pub listed_to : {X : Type 0} → (ℕ → Option X) → ℕ → List 
 listed_to f end = filter_map (λ addr. option_map (λ x. (addr, x)) (f addr)) (range_with_len 0 end)
 
 -- the lists have all of the addresses below this one
-pub record IsListed (log : List Touch) (pages : Pages) (end : ℕ) (lists : Lists) : Type 0 where
+pub record ListsReach (log : List Touch) (pages : Pages) (end : ℕ) (lists : Lists) : Type 0 where
   pub reads : lists.reads ≡ listed_to (λ addr. seen_in log addr (cell_at pages addr)) end
   pub changes : lists.changes ≡ listed_to (λ addr. changed_in log addr (cell_at pages addr)) end

@@ -52,7 +52,7 @@ cell_after number (Drop first cells) addr cell = block_mark number first (first 
 cell_after number _ addr cell = cell
 
 -- the cells of the addresses that a call shares are changed so, and no others
-pub record Marks (base : ℕ) (mark : ℕ → Cell → Cell) (old new : Pages) : Type 0 where
+pub record MarksCells (base : ℕ) (mark : ℕ → Cell → Cell) (old new : Pages) : Type 0 where
   pub at : (addr : ℕ) → cell_at new addr ≡ (if is_shared base addr then mark addr (cell_at old addr) else
       cell_at old addr)
 
@@ -62,8 +62,8 @@ pub record Logged : Type 0 where
   pub touch : Touch
 
 -- the entry is taken in
-pub record TakesIn (base place : ℕ) (entry : Logged) (old new : Found) : Type 0 where
-  pub cells : Marks base (cell_after entry.number entry.touch) old.pages new.pages
+pub record PagesTakeIn (base place : ℕ) (entry : Logged) (old new : Found) : Type 0 where
+  pub cells : MarksCells base (cell_after entry.number entry.touch) old.pages new.pages
   pub made : new.made ≡ old.made + made_by entry.touch
   pub looked : new.looked ≡ max old.looked (looked_by place entry.touch)
   pub taken : new.taken ≡ old.taken + taken_by entry.touch
@@ -91,26 +91,26 @@ abbrev pub first_before : {X : Type 0} → (Touch → Option X) → ℕ → List
 first_before f addr touches = first_of (filter_map f (before_first (λ touch. is_some (change_by addr touch)) touches))
 
 -- the number is that of the entry that says this, if there is anything to say
-pub record StandsFor {X : Type 0} (log : List Touch) (f : Touch → Option X) (number : Option ℕ) (said : Option X)
+pub record IsNumberOf {X : Type 0} (log : List Touch) (f : Touch → Option X) (number : Option ℕ) (said : Option X)
     : Type 0 where
   pub there : is_some number ≡ is_some said
   pub says : shown f (entry_of log number) ≡ said
 
 -- the cell has all that these touches have of the address
 pub record IsMarked (log touches : List Touch) (addr : ℕ) (cell : Cell) : Type 0 where
-  pub read : StandsFor log (read_by addr) cell.read (first_before (read_by addr) addr touches)
-  pub answer : StandsFor log (asked_by addr) cell.answer (first_before (asked_by addr) addr touches)
-  pub change : StandsFor log (change_by addr) cell.change (change_at addr touches)
+  pub read : IsNumberOf log (read_by addr) cell.read (first_before (read_by addr) addr touches)
+  pub answer : IsNumberOf log (asked_by addr) cell.answer (first_before (asked_by addr) addr touches)
+  pub change : IsNumberOf log (change_by addr) cell.change (change_at addr touches)
 
 -- the counts and the bytes that these touches have, with the items that are looked at counted from `place`
-pub record IsCounted (place : ℕ) (touches : List Touch) (found : Found) : Type 0 where
+pub record HasCounts (place : ℕ) (touches : List Touch) (found : Found) : Type 0 where
   pub made : found.made ≡ made_of touches
   pub looked : found.looked ≡ looked_of place touches
   pub taken : found.taken ≡ taken_of touches
   pub given : found.given ≡ given_of touches
 
 -- all that these touches have for a call whose frame begins at `base`
-pub record IsFound (base place : ℕ) (log touches : List Touch) (found : Found) : Type 0 where
+pub record PagesHold (base place : ℕ) (log touches : List Touch) (found : Found) : Type 0 where
   pub cells : (addr : ℕ) → is_shared base addr ≡ true → IsMarked log touches addr (cell_at found.pages addr)
   pub others : (addr : ℕ) → is_shared base addr ≡ false → cell_at found.pages addr ≡ nothing
-  pub counts : IsCounted place touches found
+  pub counts : HasCounts place touches found

@@ -2,7 +2,8 @@
 ghost use Rattle.std.specs.Prelude.{◌≡◌, ◌<◌, ◌≤◌, ◌+◌, ◌^◌, ◌==◌, IfOk, OnOk, [], ℕ, List, if◌then◌else◌};
 ghost use Rattle.cell_value.specs.declared.entries.Touch.{Touch as LogTouch};
 ghost use Rattle.cell_value.specs.Effects.{IsCountable, is_shared, made_by, taken_by};
-ghost use Rattle.effect_pages.specs.Marks.{IsFound, Marks, TakesIn, answer_mark, block_mark, change_mark, read_mark};
+ghost use Rattle.effect_pages.specs.Marks.{PagesHold, MarksCells, PagesTakeIn, answer_mark, block_mark, change_mark};
+ghost use Rattle.effect_pages.specs.Marks.{read_mark};
 
 use crate::cells::{Cell, Pages};
 use cell_value::{Memory, Touch};
@@ -33,7 +34,7 @@ fn is_shared_cell(base: u32, addr: u32) -> bool
 
 /// Takes in that the entry with the number read the cell.
 fn read_cell(pages: &mut Pages, base: u32, addr: u32, number: u32) -> Result<(), Memory>
-    ensures { OnOk result (Marks base (λ q cell. if addr == q then read_mark number cell else cell) pages.old
+    ensures { OnOk result (MarksCells base (λ q cell. if addr == q then read_mark number cell else cell) pages.old
         pages.new) }
 {
     if !is_shared_cell(base, addr) {
@@ -54,7 +55,7 @@ fn read_cell(pages: &mut Pages, base: u32, addr: u32, number: u32) -> Result<(),
 
 /// Takes in that the entry with the number asked whether the cell is there.
 fn ask_cell(pages: &mut Pages, base: u32, addr: u32, number: u32) -> Result<(), Memory>
-    ensures { OnOk result (Marks base (λ q cell. if addr == q then answer_mark number cell else cell) pages.old
+    ensures { OnOk result (MarksCells base (λ q cell. if addr == q then answer_mark number cell else cell) pages.old
         pages.new) }
 {
     if !is_shared_cell(base, addr) {
@@ -75,7 +76,7 @@ fn ask_cell(pages: &mut Pages, base: u32, addr: u32, number: u32) -> Result<(), 
 
 /// Takes in that the entry with the number changed the cell.
 fn change_cell(pages: &mut Pages, base: u32, addr: u32, number: u32) -> Result<(), Memory>
-    ensures { OnOk result (Marks base (λ q cell. if addr == q then change_mark number cell else cell) pages.old
+    ensures { OnOk result (MarksCells base (λ q cell. if addr == q then change_mark number cell else cell) pages.old
         pages.new) }
 {
     if !is_shared_cell(base, addr) {
@@ -100,7 +101,7 @@ fn change_block(
     number: u32,
 ) -> Result<(), Memory>
     requires { first ≤ end }
-    ensures { OnOk result (Marks base (block_mark number first end) pages.old pages.new) }
+    ensures { OnOk result (MarksCells base (block_mark number first end) pages.old pages.new) }
 {
     for addr in first..end {
         change_cell(pages, base, addr, number)?;
@@ -111,7 +112,7 @@ fn change_block(
 impl Found {
     /// Nothing found yet.
     pub(crate) fn new(alloc: Global) -> Result<Found, Memory>
-        ensures { IfOk result (λ found. (base place : ℕ) (log : List LogTouch) → IsFound base place log [] found) }
+        ensures { IfOk result (λ found. (base place : ℕ) (log : List LogTouch) → PagesHold base place log [] found) }
     {
         Ok(Found {
             pages: Pages::new(alloc)?,
@@ -133,7 +134,7 @@ impl Found {
         requires countable { IsCountable touch }
         requires made_fits { self.old.made + made_by touch < 2 ^ 32 }
         requires taken_fits { self.old.taken + taken_by touch < 2 ^ 32 }
-        ensures { OnOk result (TakesIn base place (record { number = number; touch = touch }) self.old self.new) }
+        ensures { OnOk result (PagesTakeIn base place (record { number = number; touch = touch }) self.old self.new) }
     {
         match touch {
             Touch::Read(addr, _) => read_cell(&mut self.pages, base, addr, number)?,

@@ -1,7 +1,7 @@
 //! The lists of an effect, out of the cells.
 ghost use Rattle.std.specs.Prelude.{◌≡◌, ◌<◌, ◌+◌, ◌*◌, ◌++◌, IfOk, OnOk, length, option_to_list};
 ghost use Rattle.std.specs.Option.{option_map};
-ghost use Rattle.effect_pages.specs.Lists.{IsListed};
+ghost use Rattle.effect_pages.specs.Lists.{ListsReach};
 
 use crate::cells::Pages;
 use crate::entries::{change_of, seen_of};
@@ -42,8 +42,8 @@ impl Lists {
     /// Goes on with an address.
     fn add(&mut self, log: &Log, pages: &Pages, addr: u32) -> Result<(), Memory>
         requires inside { addr < 1048576 }
-        requires so_far { IsListed log.now pages.now addr self.old }
-        ensures { OnOk result (IsListed log.now pages.now (addr + 1) self.new) }
+        requires so_far { ListsReach log.now pages.now addr self.old }
+        ensures { OnOk result (ListsReach log.now pages.now (addr + 1) self.new) }
     {
         let cell = pages.at(addr);
         add_seen(&mut self.reads, addr, seen_of(log, addr, cell))?;
@@ -54,8 +54,8 @@ impl Lists {
     /// Goes on with the addresses of a page.
     fn add_page(&mut self, log: &Log, pages: &Pages, page: u32) -> Result<(), Memory>
         requires inside { page < 32768 }
-        requires so_far { IsListed log.now pages.now (page * 32) self.old }
-        ensures { OnOk result (IsListed log.now pages.now (page * 32 + 32) self.new) }
+        requires so_far { ListsReach log.now pages.now (page * 32) self.old }
+        ensures { OnOk result (ListsReach log.now pages.now (page * 32 + 32) self.new) }
     {
         for place in 0..32 {
             self.add(log, pages, page * 32 + place)?;
@@ -66,8 +66,8 @@ impl Lists {
     /// Goes on with a page, of whose addresses nothing was found if it was not made.
     fn pass(&mut self, log: &Log, pages: &Pages, page: u32) -> Result<(), Memory>
         requires inside { page < 32768 }
-        requires so_far { IsListed log.now pages.now (page * 32) self.old }
-        ensures { OnOk result (IsListed log.now pages.now (page * 32 + 32) self.new) }
+        requires so_far { ListsReach log.now pages.now (page * 32) self.old }
+        ensures { OnOk result (ListsReach log.now pages.now (page * 32 + 32) self.new) }
     {
         if pages.has(page) {
             self.add_page(log, pages, page)
@@ -79,7 +79,7 @@ impl Lists {
 
 /// The lists of all addresses.
 pub(crate) fn lists_of(alloc: Global, log: &Log, pages: &Pages) -> Result<Lists, Memory>
-    ensures { IfOk result (IsListed log.now pages.now 1048576) }
+    ensures { IfOk result (ListsReach log.now pages.now 1048576) }
 {
     let mut lists = Lists {
         reads: Reads::new(alloc),

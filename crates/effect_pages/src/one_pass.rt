@@ -1,7 +1,7 @@
 //! The effect of a part of the log.
 ghost use Rattle.std.specs.Prelude.{◌≡◌, ◌<◌, ◌≤◌, ◌^◌, All, IfOk, length, slice_range};
 ghost use Rattle.cell_value.specs.Effects.{IsCountable, changes_of, given_of, looked_of, made_of, reads_of, taken_of};
-ghost use Rattle.effect_pages.specs.Marks.{IsFound};
+ghost use Rattle.effect_pages.specs.Marks.{PagesHold};
 
 use crate::found::Found;
 use crate::lists::{Lists, lists_of};
@@ -26,7 +26,7 @@ fn found_in(
     requires countable { All IsCountable (slice_range log.now from to) }
     requires made_fits { made_of (slice_range log.now from to) < 2 ^ 32 }
     requires taken_fits { taken_of (slice_range log.now from to) < 2 ^ 32 }
-    ensures { IfOk result (IsFound base place log.now (slice_range log.now from to)) }
+    ensures { IfOk result (PagesHold base place log.now (slice_range log.now from to)) }
 {
     let mut found = Found::new(alloc)?;
     for i in from..to {

@@ -9,7 +9,7 @@ ghost use Rattle.program_meaning.specs.Acts.{limit_passed};
 ghost use Rattle.program_meaning.specs.Tree.{Enter, bind};
 ghost use Rattle.eval_tasks.specs.Rest.{at_work, below, from_under, lists_of, resume, returned, tasks_of, top_list};
 ghost use Rattle.eval_tasks.specs.Rest.{values_of};
-ghost use Rattle.eval_tasks.specs.Turns.{Entered, Turns, configuration};
+ghost use Rattle.eval_tasks.specs.Turns.{EntersRoutine, Turns, configuration};
 ghost use Rattle.eval_tasks.specs.Weight.{Falls, body_weight, come, left_of, left_with, part_weight, task_weight};
 ghost use Rattle.eval_tasks.specs.Weight.{tasks_weight};
 
@@ -146,7 +146,7 @@ fn enter(
 
 /// A call that passes no limit is to be entered.
 fn stop_at_call(body: &mut Body, alloc: Global, procedure: bool, routine: u32, frame: u32) -> Turned
-    ensures entered { (p : ProgramRows) (m : Moment) (cells : ℕ) → limit_passed m.state cells ≡ None → Entered p
+    ensures entered { (p : ProgramRows) (m : Moment) (cells : ℕ) → limit_passed m.state cells ≡ None → EntersRoutine p
         (configuration (bind (Enter routine cells (CellValue.Frame frame ∷ top_list (lists_of body.old))
         (returned procedure))
         (resume p body.old.home (tasks_of body.old) (values_of body.old) (below (lists_of body.old)))) m)

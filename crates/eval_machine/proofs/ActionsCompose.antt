@@ -2,7 +2,7 @@
 use Rattle.std.proofs.Common.{◌≡◌, List, [], ◌++◌, Result, Ok, Err, refl, sym, ap, ◌∙◌, append_assoc, append-nil}
 use Rattle.cell_value.specs.declared.entries.Touch.{Touch}
 use Rattle.program_meaning.specs.State.{State}
-use Rattle.program_meaning.specs.Acts.{Act, Answer, Done, Went, Stops, perform}
+use Rattle.program_meaning.specs.Acts.{Act, Answer, ActResult, Went, Stops, perform}
 use Rattle.program_meaning.specs.Actions.{
   Action,
   Give,
@@ -19,7 +19,7 @@ use Rattle.program_meaning.specs.Actions.{
 }
 use Rattle.eval_machine.specs.declared.halt.Halt.{Halt}
 use Rattle.eval_machine.specs.declared.halt.Halt.TheVariants.{Fault, OutOfSteps, Limited, Memory}
-use Rattle.eval_machine.specs.Machines.{Moment, ActionFinished, Does, DoesAll, Gives}
+use Rattle.eval_machine.specs.Machines.{Moment, ActionFinished, DoesAct, DoesAll, Gives}
 
 before_nothing : {A : Type 0} (x : Performed A) → before [] x ≡ x
 before_nothing (Finished x w σ) = refl
@@ -38,7 +38,7 @@ before_then : {A B : Type 0} (w : List Touch) (d : Performed A) (f : A → Actio
 before_then w (Finished x v σ) f = before_before w v (performs (f x) σ)
 before_then w (Stopped why v σ) f = refl
 
-follow_then : {A B C : Type 0} (d : Done A) (g : A → State → Performed B) (h : A → State → Performed C) (f : B → Action C)
+follow_then : {A B C : Type 0} (d : ActResult A) (g : A → State → Performed B) (h : A → State → Performed C) (f : B → Action C)
     → ((x : A) (σ : State) → h x σ ≡ then_performs (g x σ) f) → follow d h ≡ then_performs (follow d g) f
 follow_then (Went x w σ) g h f e = ap (before w) (e x σ) ∙ before_then w (g x σ) f
 follow_then (Stops why w σ) g h f e = refl
@@ -125,7 +125,7 @@ pub does_stop : {A B X Y : Type 0} (seen : X → A) (seen' : Y → B) (a : Actio
 does_stop seen seen' a f old new e h = came_stop seen seen' a f e old new (came_start (a >>= f) old) h
 
 -- an act is an action
-pub does_act : {X : Type 0} (a : Act) (seen : X → Answer a) (old new : Moment) (r : Result X Halt) → Does seen (perform a old.state) r old new
+pub does_act : {X : Type 0} (a : Act) (seen : X → Answer a) (old new : Moment) (r : Result X Halt) → DoesAct seen (perform a old.state) r old new
     → DoesAll seen (performs (act a) old.state) r old new
 does_act a seen old new (Ok x) w = (w.0, ap (λ d. follow d (λ x τ. Finished x [] τ)) w.1 ∙ ap (λ l. Finished (seen x) l new.state) (append-nil w.0), w.2)
 does_act a seen old new (Err (Fault kind)) w = (w.0, ap (λ d. follow d (λ x τ. Finished x [] τ)) w.1, w.2)

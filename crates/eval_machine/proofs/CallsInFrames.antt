@@ -5,15 +5,15 @@ use Rattle.cell_value.specs.declared.values.Value.{Value}
 use Rattle.cell_value.specs.declared.ways_out.Which.TheVariants.{Stack}
 use Rattle.program_tables.specs.declared.program.Routine.{Routine}
 use Rattle.program_meaning.specs.State.{State, stack_end}
-use Rattle.program_meaning.specs.Acts.{OutOfSteps, Limited, Done, Went, Stops, spent, limit_passed}
+use Rattle.program_meaning.specs.Acts.{OutOfSteps, Limited, ActResult, Went, Stops, spent, limit_passed}
 use Rattle.program_meaning.specs.Tree.{way_of}
 use Rattle.program_meaning.specs.Run.{Outcome, Halted, ends, after_all, with_frame, without_frame, in_frame}
 use Rattle.eval_machine.specs.declared.machine.Machine.{Machine}
-use Rattle.eval_machine.specs.Machines.{HasRoom, machine_state}
+use Rattle.eval_machine.specs.Machines.{AllowsCall, machine_state}
 use Rattle.eval_machine.specs.Frames.{framing}
 
 -- goes on in a frame that was made
-abbrev pub on_framing : Done (Unit {0}) → (State → Outcome) → Outcome
+abbrev pub on_framing : ActResult (Unit {0}) → (State → Outcome) → Outcome
 on_framing (Went x w τ) go = go τ
 on_framing (Stops why w τ) go = ends (Halted (way_of 0 why)) τ
 
@@ -30,7 +30,7 @@ in_frame_made work args σ r = by_tests (λ τ. after_all (without_frame σ.top 
     (nat_lt stack_end (σ.top + r.cells)) (nat_lt σ.steps r.cells)
 
 -- where no limit is passed, there is room for a call
-pub room_for_call : (m : Machine) (cells : ℕ) → limit_passed (machine_state m) cells ≡ None → HasRoom m
+pub room_for_call : (m : Machine) (cells : ℕ) → limit_passed (machine_state m) cells ≡ None → AllowsCall m
 room_for_call m cells h = record {
   calls = grind (arith, nat_tests, h);
   depth = grind (arith, nat_tests, h);

@@ -6,7 +6,7 @@ use Rattle.cell_value.specs.declared.values.Value.{Value}
 use Rattle.cell_value.specs.declared.entries.Touch.TheVariants as touch
 use Rattle.cell_value.specs.declared.ways_out.Kind.TheVariants as kind
 use Rattle.program_meaning.specs.State.{State, stack_end, is_in_reach}
-use Rattle.program_meaning.specs.Acts.{Fault, OutOfSteps, Done, Went, Stops, HasCell, WriteCell, spent, with_steps, on_cell, perform}
+use Rattle.program_meaning.specs.Acts.{Fault, OutOfSteps, ActResult, Went, Stops, HasCell, WriteCell, spent, with_steps, on_cell, perform}
 use Rattle.program_meaning.specs.Acts.{put, put_asked, after_touches}
 
 -- in the stack it does not ask
@@ -14,7 +14,7 @@ pub in_stack : (addr : ℕ) (v : Value) (σ : State) → addr < stack_end → pe
 in_stack addr v σ h =
     ap (λ b. on_cell addr σ (λ τ. if b then put addr v τ else put_asked (is_some (get τ.cells addr)) addr v τ)) (lt-ltb addr stack_end h)
 
-abbrev after_answer : ℕ → Value → Done Bool → Done Bool
+abbrev after_answer : ℕ → Value → ActResult Bool → ActResult Bool
 after_answer addr v (Went true w σ) = after_touches w (on_cell addr σ (put addr v))
 after_answer addr v (Went false w σ) = Went false w σ
 after_answer addr v (Stops why w σ) = Stops why w σ
@@ -24,7 +24,7 @@ pub in_heap : (addr : ℕ) (v : Value) (σ : State) → stack_end ≤ addr → p
 in_heap addr v σ h = ap (λ b. on_cell addr σ (λ τ. if b then put addr v τ else put_asked (is_some (get τ.cells addr)) addr v τ)) (le-ltb addr stack_end h)
     ∙ by (is_in_reach σ addr) (nat_lt σ.steps 1) refl
   where
-    asked : Bool → State → Done Bool
+    asked : Bool → State → ActResult Bool
     asked there τ = Went there (touch.Has addr there ∷ []) τ
 
     there : (b r : Bool) → is_in_reach σ addr ≡ r → r ≡ true → put_asked b addr v (record σ { steps = σ.steps - 1 })

@@ -2,7 +2,7 @@
 use Rattle.std.specs.Prelude.{◌≡◌, ◌≤◌, ◌<◌, ◌+◌, List, ◌++◌, Result, Ok, Err, length}
 use Rattle.cell_value.specs.declared.entries.Touch.{Touch}
 use Rattle.program_meaning.specs.State.{State, stack_end, most_calls, most_depth}
-use Rattle.program_meaning.specs.Acts.{Trouble, Done, Went, Stops}
+use Rattle.program_meaning.specs.Acts.{Trouble, ActResult, Went, Stops}
 use Rattle.program_meaning.specs.Acts as trouble
 use Rattle.program_meaning.specs.Actions.{Action, Give, Fail, Performed, Finished, Stopped}
 use Rattle.eval_machine.specs.declared.machine.Machine.{Machine}
@@ -42,25 +42,25 @@ pub record IsReady (m : Machine) : Type 0 where
   pub room : length m.log + m.steps ≤ 8000000
 
 -- a machine on which one call more may be entered
-pub record HasRoom (m : Machine) : Type 0 where
+pub record AllowsCall (m : Machine) : Type 0 where
   pub calls : m.calls < most_calls
   pub depth : m.depth ≤ most_depth
 
 -- the act was done, with this answer
-abbrev pub ActDone : {A : Type 0} → Done A → A → Moment → Moment → Type 0
+abbrev pub ActDone : {A : Type 0} → ActResult A → A → Moment → Moment → Type 0
 ActDone {A} did x old new = (w : List Touch) × (did ≡ Went x w new.state) × (new.log ≡ old.log ++ w)
 
 -- the act was not done, or not whole, for this reason
-abbrev pub ActRefused : {A : Type 0} → Done A → Trouble → Moment → Moment → Type 0
+abbrev pub ActRefused : {A : Type 0} → ActResult A → Trouble → Moment → Moment → Type 0
 ActRefused did why old new = (w : List Touch) × (did ≡ Stops why w new.state) × (new.log ≡ old.log ++ w)
 
 -- a call on the machine is the act, unless memory runs out
-abbrev pub Does : {A X : Type 0} → (X → A) → Done A → Result X Halt → Moment → Moment → Type 0
-Does seen did (Ok x) old new = ActDone did (seen x) old new
-Does seen did (Err (Fault kind)) old new = ActRefused did (trouble.Fault kind) old new
-Does seen did (Err OutOfSteps) old new = ActRefused did trouble.OutOfSteps old new
-Does seen did (Err (Limited which)) old new = ActRefused did (trouble.Limited which) old new
-Does seen did (Err Memory) old new = Unit {0}
+abbrev pub DoesAct : {A X : Type 0} → (X → A) → ActResult A → Result X Halt → Moment → Moment → Type 0
+DoesAct seen did (Ok x) old new = ActDone did (seen x) old new
+DoesAct seen did (Err (Fault kind)) old new = ActRefused did (trouble.Fault kind) old new
+DoesAct seen did (Err OutOfSteps) old new = ActRefused did trouble.OutOfSteps old new
+DoesAct seen did (Err (Limited which)) old new = ActRefused did (trouble.Limited which) old new
+DoesAct seen did (Err Memory) old new = Unit {0}
 
 -- the action was done, with this answer
 abbrev pub ActionFinished : {A : Type 0} → Performed A → A → Moment → Moment → Type 0

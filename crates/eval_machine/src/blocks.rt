@@ -5,7 +5,7 @@ ghost use Rattle.cell_value.specs.declared.values.Value.TheVariants as value;
 ghost use Rattle.program_meaning.specs.State.{heap_end};
 ghost use Rattle.program_meaning.specs.Blocks as blocks;
 ghost use Rattle.program_meaning.specs.Acts.{DropBlock, MakeBlock, perform};
-ghost use Rattle.eval_machine.specs.Machines.{Does, IsReady, machine_state, moment_of};
+ghost use Rattle.eval_machine.specs.Machines.{DoesAct, IsReady, machine_state, moment_of};
 
 use crate::calls::remove_cells;
 use crate::halt::Halt;
@@ -46,7 +46,7 @@ fn put_undefined(alloc: Global, store: &mut Store, first: u32, cells: u32) -> Re
 /// none are left.
 pub fn make_block(alloc: Global, machine: &mut Machine, cells: u32, of: u32) -> Result<u32, Halt>
     requires ready { IsReady machine.old }
-    ensures act { Does (λ first. first) (perform (MakeBlock cells of) (machine_state machine.old)) result
+    ensures act { DoesAct (λ first. first) (perform (MakeBlock cells of) (machine_state machine.old)) result
         (moment_of machine.old) (moment_of machine.new) }
     ensures ready { IsReady machine.new }
 {
@@ -71,7 +71,7 @@ pub fn make_block(alloc: Global, machine: &mut Machine, cells: u32, of: u32) -> 
 /// left it answers `OutOfSteps`, and none are left.
 pub fn drop_block(alloc: Global, machine: &mut Machine, addr: u32, cells: u32) -> Result<(), Halt>
     requires ready { IsReady machine.old }
-    ensures act { Does (λ _. tt) (perform (DropBlock addr cells) (machine_state machine.old)) result
+    ensures act { DoesAct (λ _. tt) (perform (DropBlock addr cells) (machine_state machine.old)) result
         (moment_of machine.old) (moment_of machine.new) }
     ensures ready { IsReady machine.new }
 {

@@ -4,7 +4,7 @@ ghost use Rattle.std.specs.Prelude.{◌≡◌, ℕ, ◌≤◌, ◌<◌, ◌+◌,
 ghost use Rattle.program_meaning.specs.State.{heap_end, stack_end};
 ghost use Rattle.program_meaning.specs.Blocks.{cleared, filled};
 ghost use Rattle.program_meaning.specs.Run as calls;
-ghost use Rattle.eval_machine.specs.Machines.{Does, HasRoom, IsReady, changed, machine_state, moment_of};
+ghost use Rattle.eval_machine.specs.Machines.{DoesAct, AllowsCall, IsReady, changed, machine_state, moment_of};
 ghost use Rattle.eval_machine.specs.Frames.{framing};
 
 use crate::halt::Halt;
@@ -17,7 +17,7 @@ use std::alloc::Global;
 /// below 100,000.
 pub fn open_call(machine: &mut Machine)
     requires ready { IsReady machine.old }
-    requires room { HasRoom machine.old }
+    requires room { AllowsCall machine.old }
     ensures opened { moment_of machine.new ≡ changed calls.opened (moment_of machine.old) }
     ensures ready { IsReady machine.new }
 {
@@ -91,7 +91,7 @@ pub fn make_frame(
     cells: u32,
 ) -> Result<(), Halt>
     requires ready { IsReady machine.old }
-    ensures made { Does (λ _. tt) (framing cells args.now (machine_state machine.old)) result (moment_of machine.old)
+    ensures made { DoesAct (λ _. tt) (framing cells args.now (machine_state machine.old)) result (moment_of machine.old)
         (moment_of machine.new) }
     ensures ready { IsReady machine.new }
 {

@@ -6,7 +6,7 @@ ghost use Rattle.program_meaning.specs.Acts as acts;
 ghost use Rattle.program_meaning.specs.Acts.{HasCell, Spend, WriteCell, on_cell, perform, put};
 ghost use Rattle.program_meaning.specs.Actions.{performs};
 ghost use Rattle.program_meaning.specs.Cells.{read, write};
-ghost use Rattle.eval_machine.specs.Machines.{Does, DoesAll, IsReady, machine_state, moment_of};
+ghost use Rattle.eval_machine.specs.Machines.{DoesAct, DoesAll, IsReady, machine_state, moment_of};
 
 use crate::halt::Halt;
 use cell_value::{Items, Kind, Steps, Touch, Value, Which};
@@ -67,7 +67,7 @@ fn reaches(machine: &Machine, addr: u32) -> bool
 #[inline(always)]
 pub fn spend(machine: &mut Machine, steps: u32) -> Result<(), Halt>
     requires ready { IsReady machine.old }
-    ensures act { Does (λ _. tt) (perform (Spend steps) (machine_state machine.old)) result (moment_of machine.old)
+    ensures act { DoesAct (λ _. tt) (perform (Spend steps) (machine_state machine.old)) result (moment_of machine.old)
         (moment_of machine.new) }
     ensures ready { IsReady machine.new }
     ensures no_memory { result ≡ Err Halt.Memory → ⊥ }
@@ -130,7 +130,7 @@ pub fn read_cell(machine: &mut Machine, addr: u32) -> Result<Value, Halt>
 /// `top` nor one of the heap's range it is the fault `Undefined`, and no step is taken.
 pub fn has_cell(machine: &mut Machine, addr: u32) -> Result<bool, Halt>
     requires ready { IsReady machine.old }
-    ensures act { Does (λ there. there) (perform (HasCell addr) (machine_state machine.old)) result
+    ensures act { DoesAct (λ there. there) (perform (HasCell addr) (machine_state machine.old)) result
         (moment_of machine.old) (moment_of machine.new) }
     ensures ready { IsReady machine.new }
 {
@@ -149,7 +149,7 @@ pub fn has_cell(machine: &mut Machine, addr: u32) -> Result<bool, Halt>
 /// Puts a value into the cell at an address, which takes a step.
 fn put_cell(alloc: Global, machine: &mut Machine, addr: u32, value: Value) -> Result<(), Halt>
     requires ready { IsReady machine.old }
-    ensures act { Does (λ _. true) (on_cell addr (machine_state machine.old) (put addr value)) result
+    ensures act { DoesAct (λ _. true) (on_cell addr (machine_state machine.old) (put addr value)) result
         (moment_of machine.old) (moment_of machine.new) }
     ensures ready { IsReady machine.new }
 {
@@ -170,7 +170,7 @@ fn put_cell(alloc: Global, machine: &mut Machine, addr: u32, value: Value) -> Re
 /// the answer.
 fn put_if_there(alloc: Global, machine: &mut Machine, addr: u32, value: Value) -> Result<bool, Halt>
     requires ready { IsReady machine.old }
-    ensures act { Does (λ there. there) (perform (WriteCell addr value) (machine_state machine.old)) result
+    ensures act { DoesAct (λ there. there) (perform (WriteCell addr value) (machine_state machine.old)) result
         (moment_of machine.old) (moment_of machine.new) }
     ensures ready { IsReady machine.new }
 {

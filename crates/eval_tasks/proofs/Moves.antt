@@ -6,13 +6,13 @@ use Rattle.cell_value.specs.declared.ways_out.WayOut.TheVariants as way
 use Rattle.cell_value.specs.declared.ways_out.Which.{Which}
 use Rattle.program_tables.specs.ProgramRows.{ProgramRows}
 use Rattle.program_meaning.specs.State.{State}
-use Rattle.program_meaning.specs.Acts.{Trouble, Act, Answer, Spend, Done, Went, Stops, perform, limit_passed}
+use Rattle.program_meaning.specs.Acts.{Trouble, Act, Answer, Spend, ActResult, Went, Stops, perform, limit_passed}
 use Rattle.program_meaning.specs.Actions.{Action, Give, Fail, Perform, Performed, Finished, Stopped, before, follow, performs}
 use Rattle.program_meaning.specs.Tree.{Out, Part, Tree, Ret, Halt, Do, Sub, Enter, Line, way_of, bind, doing}
 use Rattle.program_meaning.specs.Layer.{layer}
 use Rattle.program_meaning.specs.Run.{Ended, Halted}
 use Rattle.eval_machine.specs.Machines.{Moment, ActDone, ActRefused, ActionFinished, ActionStopped}
-use Rattle.eval_tasks.specs.Stops.{Stop, AtLine, AtCall, AtEnd, at_call, on_act, next_stop, Comes, StopsAt}
+use Rattle.eval_tasks.specs.Stops.{Stop, AtLine, AtCall, AtEnd, at_call, on_act, next_stop, Comes, NextStopIs}
 
 pub bind_ret : (t : Tree) → bind t Ret ≡ t
 bind_ret (Ret out) = refl
@@ -48,7 +48,7 @@ module _ {p : ProgramRows} where
   pub comes_then : {a b c : Tree} {m m' m'' : Moment} → Comes p a m b m' → Comes p b m' c m'' → Comes p a m c m''
   comes_then f g = record { each = λ n. let y = g.each n in let x = f.each y.0 in (x.0, x.1 ∙ y.1) }
 
-  pub stops_then : {a b : Tree} {s : Stop} {m m' m'' : Moment} → Comes p a m b m' → StopsAt p b m' s m'' → StopsAt p a m s m''
+  pub stops_then : {a b : Tree} {s : Stop} {m m' m'' : Moment} → Comes p a m b m' → NextStopIs p b m' s m'' → NextStopIs p a m s m''
   stops_then f g = let x = f.each g.moves in record { moves = x.0; is = x.1 ∙ g.is }
 
   -- a part begins
@@ -56,7 +56,7 @@ module _ {p : ProgramRows} where
   begins part k m = record { each = λ n. (suc n, refl) }
 
   -- a statement begins, where there is a step for it, and where there is none
-  pub line_here : (line : ℕ) (t : Tree) (m m' : Moment) → ActDone (perform (Spend 1) m.state) tt m m' → StopsAt p (Line line t) m (AtLine line t) m'
+  pub line_here : (line : ℕ) (t : Tree) (m m' : Moment) → ActDone (perform (Spend 1) m.state) tt m m' → NextStopIs p (Line line t) m (AtLine line t) m'
   line_here line t m m' h = record {
     moves = suc zero;
     is = ap (λ d. on_act line m.log d (λ _ m1. Some (AtLine line t, m1))) h.1
@@ -64,7 +64,7 @@ module _ {p : ProgramRows} where
   }
 
   pub line_stopped : (line : ℕ) (t : Tree) (why : Trouble) (m m' : Moment) → ActRefused (perform (Spend 1) m.state) why m m'
-      → StopsAt p (Line line t) m (AtEnd (Halted (way_of line why))) m'
+      → NextStopIs p (Line line t) m (AtEnd (Halted (way_of line why))) m'
   line_stopped line t why m m' h = record {
     moves = suc zero;
     is = ap (λ d. on_act line m.log d (λ _ m1. Some (AtLine line t, m1))) h.1
@@ -73,14 +73,14 @@ module _ {p : ProgramRows} where
 
   -- a call that passes no limit, and one that would
   pub call_here : (f cells : ℕ) (args : List Value) (k : Out → Tree) (m : Moment) → limit_passed m.state cells ≡ None
-      → StopsAt p (Enter f cells args k) m (AtCall f args k) m
+      → NextStopIs p (Enter f cells args k) m (AtCall f args k) m
   call_here f cells args k m h = record { moves = suc zero; is = ap (λ o. Some (at_call o f args k, m)) h }
 
   pub limit_here : (f cells : ℕ) (args : List Value) (k : Out → Tree) (which : Which) (m : Moment) → limit_passed m.state cells ≡ Some which
-      → StopsAt p (Enter f cells args k) m (AtEnd (Halted (way.Limited which))) m
+      → NextStopIs p (Enter f cells args k) m (AtEnd (Halted (way.Limited which))) m
   limit_here f cells args k which m h = record { moves = suc zero; is = ap (λ o. Some (at_call o f args k, m)) h }
 
-  pub end_here : (out : Out) (m : Moment) → StopsAt p (Ret out) m (AtEnd (Ended out)) m
+  pub end_here : (out : Out) (m : Moment) → NextStopIs p (Ret out) m (AtEnd (Ended out)) m
   end_here out m = record { moves = suc zero; is = refl }
 
 module _ (p : ProgramRows) where
@@ -99,7 +99,7 @@ module _ (p : ProgramRows) where
 
   acted_act : {A : Type 0} (line : ℕ) (act : Act) (next : Answer act → Action A) (k : A → Tree) (σ : State) (l : List Touch) (n : ℕ)
       → ((x : Answer act) (τ : State) (w : List Touch) → Acted line k (doing line (next x) k) τ (l ++ w) n (performs (next x) τ))
-      → (d : Done (Answer act)) → perform act σ ≡ d
+      → (d : ActResult (Answer act)) → perform act σ ≡ d
       → Acted line k (Do line act (λ x. doing line (next x) k)) σ l n (follow (perform act σ) (λ x τ. performs (next x) τ))
   acted_act line act next k σ l n ih (Went x w τ) e = let y = ih x τ w in (
     suc y.0,
@@ -128,7 +128,7 @@ module _ {p : ProgramRows} where
 
   -- an action stopped in the code: so the tree ends
   pub stopped : {A : Type 0} (line : ℕ) (a : Action A) (k : A → Tree) (why : Trouble) (m m' : Moment) → ActionStopped (performs a m.state) why m m'
-      → StopsAt p (doing line a k) m (AtEnd (Halted (way_of line why))) m'
+      → NextStopIs p (doing line a k) m (AtEnd (Halted (way_of line why))) m'
   stopped line a k why m m' h = let y = acted p line a k m.state m.log zero in record {
     moves = y.0;
     is = y.1 ∙ ap (stop_after p line zero k m.log) h.1

@@ -2,7 +2,7 @@
 use Rattle.std.proofs.Common.{ℕ, ◌+◌, ◌<◌, ◌≤◌, Result, Err, List, Option, Some, None, Ok, subst, arith}
 use Rattle.cell_value.specs.declared.entries.Touch.{Touch}
 use Rattle.program_meaning.specs.State.{State}
-use Rattle.program_meaning.specs.Acts.{Act, Answer, Done, Went, Stops, perform}
+use Rattle.program_meaning.specs.Acts.{Act, Answer, ActResult, Went, Stops, perform}
 use Rattle.program_meaning.specs.Actions.{Action, Give, Fail, Perform, Performed, Finished, Stopped, before, follow, performs}
 use Rattle.program_meaning.proofs.ActsTakeSteps.{Acted, acted, cost}
 use Rattle.eval_machine.specs.declared.halt.Halt.{Halt}
@@ -18,7 +18,7 @@ before_took : {A : Type 0} (w : List Touch) (n k : ℕ) (d : Performed A) → n 
 before_took w n k (Finished x v τ) h t = omega arith
 before_took w n k (Stopped why v τ) h t = tt
 
-follow_took : {A B : Type 0} (cost : ℕ) (σ : State) (d : Done A) (go : A → State → Performed B) → Acted cost σ d
+follow_took : {A B : Type 0} (cost : ℕ) (σ : State) (d : ActResult A) (go : A → State → Performed B) → Acted cost σ d
     → ((x : A) (τ : State) → TookAll τ.steps (go x τ)) → TookAll σ.steps (follow d go)
 follow_took cost σ (Went x w τ) go h t = before_took w τ.steps σ.steps (go x τ) (omega (arith, h)) (t x τ)
 follow_took cost σ (Stops why w τ) go h t = tt
@@ -43,7 +43,7 @@ before_some : {A : Type 0} (w : List Touch) (cost n k : ℕ) (d : Performed A) �
 before_some w cost n k (Finished x v τ) h t = omega (arith, h, t)
 before_some w cost n k (Stopped why v τ) h t = tt
 
-follow_some : {A B : Type 0} (cost : ℕ) (σ : State) (d : Done A) (go : A → State → Performed B) → Acted cost σ d
+follow_some : {A B : Type 0} (cost : ℕ) (σ : State) (d : ActResult A) (go : A → State → Performed B) → Acted cost σ d
     → ((x : A) (τ : State) → TookAll τ.steps (go x τ)) → TookSome cost σ.steps (follow d go)
 follow_some cost σ (Went x w τ) go h t = before_some w cost σ.steps τ.steps (go x τ) h (t x τ)
 follow_some cost σ (Stops why w τ) go h t = tt

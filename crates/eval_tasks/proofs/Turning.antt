@@ -14,14 +14,14 @@ use Rattle.program_meaning.proofs.ActsTakeSteps.{Acted, acted}
 use Rattle.program_meaning.specs.Run.{Halted}
 use Rattle.eval_machine.specs.declared.halt.Halt.{Halt}
 use Rattle.eval_machine.specs.declared.halt.Halt.TheVariants.{Fault, OutOfSteps, Limited, Memory}
-use Rattle.eval_machine.specs.Machines.{Moment, ActionStopped, Does, DoesAll, Gives}
+use Rattle.eval_machine.specs.Machines.{Moment, ActionStopped, DoesAct, DoesAll, Gives}
 use Rattle.eval_machine.proofs.ActionsCompose.{does_act}
-use Rattle.eval_tasks.specs.Stops.{AtCall, AtEnd, Comes, StopsAt}
+use Rattle.eval_tasks.specs.Stops.{AtCall, AtEnd, Comes, NextStopIs}
 use Rattle.eval_tasks.specs.Rest.{below, lists_of, resume, tasks_of, top_list, values_of}
 use Rattle.cell_value.specs.declared.values.Value.{Value}
 use Rattle.program_tables.specs.declared.program.Routine.{Routine}
 use Rattle.program_meaning.specs.Acts.{limit_passed}
-use Rattle.eval_tasks.specs.Turns.{Entered, Fails, Turns, configuration, pause_of}
+use Rattle.eval_tasks.specs.Turns.{EntersRoutine, StopsForGood, Turns, configuration, pause_of}
 use Rattle.eval_tasks.specs.declared.tasks.Pause.TheVariants as pauses
 use Rattle.eval_tasks.specs.Weight.{Falls}
 use Rattle.eval_tasks.specs.declared.body.Body.{Body}
@@ -32,8 +32,9 @@ use Rattle.eval_tasks.proofs.Moves.{bind_doing, call_here, comes_same, comes_the
 pub reverse_pushed : {A : Type 0} (xs ys : List A) (x : A) → ys ≡ xs ++ x ∷ [] → reverse ys ≡ x ∷ reverse xs
 reverse_pushed xs ys x h = ap reverse h ∙ reverse-append xs (x ∷ [])
 
-pub fails_after : (p : ProgramRows) (t t' : Tree) (m m' m'' : Moment) (line : ℕ) (e : Halt) → Comes p t m t' m' → Fails p (configuration t' m') line e m''
-    → Fails p (configuration t
+pub fails_after : (p : ProgramRows) (t t' : Tree) (m m' m'' : Moment) (line : ℕ) (e : Halt) → Comes p t m t' m'
+    → StopsForGood p (configuration t' m') line e m''
+    → StopsForGood p (configuration t
     m) line e m''
 fails_after p t t' m m' m'' line (Fault kind) f h = stops_then f h
 fails_after p t t' m m' m'' line OutOfSteps f h = stops_then f h
@@ -58,12 +59,12 @@ pub did : {A X : Type 0} (p : ProgramRows) (line : ℕ) (a : Action A) (k : A �
 did p line a k K seen x m m' h = comes_then (comes_same (bind_doing line a k K)) (finished line a (λ x. bind (k x) K) (seen x) m m' h)
 
 stopped_in : {A : Type 0} (p : ProgramRows) (line : ℕ) (a : Action A) (k : A → Tree) (K : Out → Tree) (why : Trouble) (m m' : Moment)
-    → ActionStopped (performs a m.state) why m m' → StopsAt p (bind (doing line a k) K) m (AtEnd (Halted (way_of line why))) m'
+    → ActionStopped (performs a m.state) why m m' → NextStopIs p (bind (doing line a k) K) m (AtEnd (Halted (way_of line why))) m'
 stopped_in p line a k K why m m' h = stops_then (comes_same (bind_doing line a k K)) (stopped line a (λ x. bind (k x) K) why m m' h)
 
 -- an action was not done
 pub fails : {A X : Type 0} (p : ProgramRows) (line : ℕ) (a : Action A) (k : A → Tree) (K : Out → Tree) (seen : X → A) (e : Halt) (m m' : Moment)
-    → DoesAll seen (performs a m.state) (Err e) m m' → Fails p (configuration (bind (doing line a k) K) m) line e m'
+    → DoesAll seen (performs a m.state) (Err e) m m' → StopsForGood p (configuration (bind (doing line a k) K) m) line e m'
 fails p line a k K seen (Fault kind) m m' h = stopped_in p line a k K _ m m' h
 fails p line a k K seen OutOfSteps m m' h = stopped_in p line a k K _ m m' h
 fails p line a k K seen (Limited which) m m' h = stopped_in p line a k K _ m m' h
@@ -71,8 +72,9 @@ fails p line a k K seen Memory m m' h = tt
 
 -- and so the body has failed
 pub turns_failed : (p : ProgramRows) (t : Tree) (m m' : Moment) (line : ℕ) (e : Halt) (a : Body) (r : Result (Option Pause) Halt) → a.line ≡ line → r ≡ Err e
-    → Fails p (configuration t m) line e m' → Turns p (configuration t m) r a m'
-turns_failed p t m m' line e a r g f h = subst (λ r. Turns p (configuration t m) r a m') (sym f) (subst (λ l. Fails p (configuration t m) l e m') (sym g) h)
+    → StopsForGood p (configuration t m) line e m' → Turns p (configuration t m) r a m'
+turns_failed p t m m' line e a r g f h = subst (λ r. Turns p (configuration t m) r a m') (sym f)
+    (subst (λ l. StopsForGood p (configuration t m) l e m') (sym g) h)
 
 -- a part begins, by its row
 pub part_comes : (p : ProgramRows) (part : Part) (K : Out → Tree) (m : Moment) (t : Tree) → layer p part ≡ t → Comes p (Sub part K) m (bind t K) m
@@ -80,25 +82,25 @@ part_comes p part K m t e = comes_then (begins part K m) (comes_same (ap (λ t. 
 
 -- a step was taken
 pub spent : (p : ProgramRows) (h : Here) (t : Tree) (K : Out → Tree) (m m' : Moment)
-    → Does {X = Unit {0}} (λ _. tt) (perform (Spend 1) m.state) (Ok tt) m m' → Comes p (bind (spend h t) K) m (bind t K) m'
+    → DoesAct {X = Unit {0}} (λ _. tt) (perform (Spend 1) m.state) (Ok tt) m m' → Comes p (bind (spend h t) K) m (bind t K) m'
 spent p h t K m m' w = did {X = Unit {0}} p h.line (act (Spend 1)) (λ _. t) K (λ _. tt) tt m m' (does_act {X = Unit {0}} (Spend 1) (λ _. tt) m m' (Ok tt) w)
 
 -- no step was left
 pub not_spent : (p : ProgramRows) (h : Here) (t : Tree) (K : Out → Tree) (e : Halt) (m m' : Moment)
-    → Does {X = Unit {0}} (λ _. tt) (perform (Spend 1) m.state) (Err e) m m' → Fails p (configuration (bind (spend h t) K) m) h.line e m'
+    → DoesAct {X = Unit {0}} (λ _. tt) (perform (Spend 1) m.state) (Err e) m m' → StopsForGood p (configuration (bind (spend h t) K) m) h.line e m'
 not_spent p h t K e m m' w = fails {X = Unit {0}} p h.line (act (Spend 1)) (λ _. t) K (λ _. tt) e m m'
     (does_act {X = Unit {0}} (Spend 1) (λ _. tt) m m' (Err e) w)
 
 -- a statement did not begin, since no step was left
 pub line_fails : (p : ProgramRows) (line : ℕ) (t : Tree) (e : Halt) (m m' : Moment)
-    → Does {X = Unit {0}} (λ _. tt) (perform (Spend 1) m.state) (Err e) m m' → Fails p (configuration (Line line t) m) line e m'
+    → DoesAct {X = Unit {0}} (λ _. tt) (perform (Spend 1) m.state) (Err e) m m' → StopsForGood p (configuration (Line line t) m) line e m'
 line_fails p line t (Fault kind) m m' w = line_stopped line t _ m m' w
 line_fails p line t OutOfSteps m m' w = line_stopped line t _ m m' w
 line_fails p line t (Limited which) m m' w = line_stopped line t _ m m' w
 line_fails p line t Memory m m' w = tt
 
 -- a step fewer is left where one was taken
-pub spent_less : (m m' : Moment) → Does {X = Unit {0}} (λ _. tt) (perform (Spend 1) m.state) (Ok tt) m m' → m'.state.steps + 1 ≤ m.state.steps
+pub spent_less : (m m' : Moment) → DoesAct {X = Unit {0}} (λ _. tt) (perform (Spend 1) m.state) (Ok tt) m m' → m'.state.steps + 1 ≤ m.state.steps
 spent_less m m' w = subst (Acted 1 m.state) w.1 (acted (Spend 1) m.state)
 
 -- what needs no machine
@@ -132,13 +134,13 @@ not_after_it a b t K l = ap (λ x. bind (if x then t else no_row) K) (le-ltb a b
 -- a call is to be entered, whose link and cells are the last list that waits
 pub call_pauses : {p : ProgramRows} {m : Moment} {K : Out → Tree} {args : List Value} {ls : List (List Value)} (f cells : ℕ) (a : Body)
     → limit_passed m.state cells ≡ None → lists_of a ≡ args ∷ ls → K ≡ resume p a.home (tasks_of a) (values_of a) ls
-    → StopsAt p (Enter f cells args K) m (pause_of p a (pauses.Enter f)) m
+    → NextStopIs p (Enter f cells args K) m (pause_of p a (pauses.Enter f)) m
 call_pauses {p = p} {m = m} {K = K} {args = args} {ls = ls} f cells a h l w =
-    subst (λ l. StopsAt p (Enter f cells args K) m (AtCall f (top_list l) (resume p a.home (tasks_of a) (values_of a) (below l))) m) (sym l)
-    (subst (λ k. StopsAt p (Enter f cells args K) m (AtCall f args k) m) w (call_here f cells args K m h))
+    subst (λ l. NextStopIs p (Enter f cells args K) m (AtCall f (top_list l) (resume p a.home (tasks_of a) (values_of a) (below l))) m) (sym l)
+    (subst (λ k. NextStopIs p (Enter f cells args K) m (AtCall f args k) m) w (call_here f cells args K m h))
 
 -- a call was reached, with room for it
-pub entered_turns : (p : ProgramRows) (t : Tree) (m : Moment) (f : ℕ) (r : Result (Option Pause) Halt) (a : Body) → Entered p (configuration t m) f r a
+pub entered_turns : (p : ProgramRows) (t : Tree) (m : Moment) (f : ℕ) (r : Result (Option Pause) Halt) (a : Body) → EntersRoutine p (configuration t m) f r a
     → (x : Routine) → routine_at p f ≡ Some x → limit_passed m.state x.cells ≡ None → Turns p (configuration t m) r a m
 entered_turns p t m f (Ok None) a h x e l = absurd h
 entered_turns p t m f (Ok (Some (pauses.Line n))) a h x e l = absurd h
@@ -150,7 +152,7 @@ entered_turns p t m f (Err (Limited which)) a h x e l = absurd h
 entered_turns p t m f (Err Memory) a h x e l = tt
 
 pub entered_falls : (p : ProgramRows) (t : Tree) (m : Moment) (f : ℕ) (r : Result (Option Pause) Halt) (a : Body) (left before : ℕ)
-    → Entered p (configuration t m)
+    → EntersRoutine p (configuration t m)
     f r a → Falls r left before
 entered_falls p t m f (Ok None) a left before h = absurd h
 entered_falls p t m f (Ok (Some s)) a left before h = tt

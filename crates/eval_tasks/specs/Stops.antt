@@ -5,7 +5,7 @@ use Rattle.cell_value.specs.declared.entries.Touch.{Touch}
 use Rattle.cell_value.specs.declared.ways_out.WayOut.TheVariants as way
 use Rattle.cell_value.specs.declared.ways_out.Which.{Which}
 use Rattle.program_tables.specs.ProgramRows.{ProgramRows}
-use Rattle.program_meaning.specs.Acts.{Spend, Done, Went, Stops, perform, limit_passed}
+use Rattle.program_meaning.specs.Acts.{Spend, ActResult, Went, Stops, perform, limit_passed}
 use Rattle.program_meaning.specs.Tree.{Out, Tree, Ret, Halt, Do, Sub, Enter, Line, way_of, bind}
 use Rattle.program_meaning.specs.Layer.{layer}
 use Rattle.program_meaning.specs.Run.{End, Ended, Halted}
@@ -19,7 +19,7 @@ pub data Stop : Type 0 where
   AtCall : (routine : ℕ) (args : List Value) (rest : Out → Tree) → Stop
   AtEnd : (end : End) → Stop
 
-abbrev pub on_act : {A : Type 0} → (line : ℕ) → List Touch → Done A → (A → Moment → Option (Stop × Moment))
+abbrev pub on_act : {A : Type 0} → (line : ℕ) → List Touch → ActResult A → (A → Moment → Option (Stop × Moment))
     → Option (Stop × Moment)
 on_act line log (Went x touches σ) go = go x (record { state = σ; log = log ++ touches })
 on_act line log (Stops why touches σ) go =
@@ -47,6 +47,6 @@ pub record Comes (p : ProgramRows) (t : Tree) (m : Moment) (t' : Tree) (m' : Mom
   pub each : (n : ℕ) → (k : ℕ) × (next_stop p k t m ≡ next_stop p n t' m')
 
 -- its next stop is this one
-pub record StopsAt (p : ProgramRows) (t : Tree) (m : Moment) (stop : Stop) (m' : Moment) : Type 0 where
+pub record NextStopIs (p : ProgramRows) (t : Tree) (m : Moment) (stop : Stop) (m' : Moment) : Type 0 where
   pub moves : ℕ
   pub is : next_stop p moves t m ≡ Some (stop, m')

@@ -12,7 +12,7 @@ use Rattle.program_meaning.specs.Run.{End, Ended, Halted}
 use Rattle.eval_machine.specs.Machines.{Moment}
 use Rattle.eval_machine.specs.declared.halt.Halt.{Halt}
 use Rattle.eval_machine.specs.declared.halt.Halt.TheVariants as halts
-use Rattle.eval_tasks.specs.Stops.{Stop, AtLine, AtCall, AtEnd, Comes, StopsAt}
+use Rattle.eval_tasks.specs.Stops.{Stop, AtLine, AtCall, AtEnd, Comes, NextStopIs}
 use Rattle.eval_tasks.specs.Rest.{below, lists_of, rest_of, resume, tasks_of, top_list, values_of, waiting}
 use Rattle.eval_tasks.specs.declared.body.Body.{Body}
 use Rattle.eval_tasks.specs.declared.tasks.Now.{Now}
@@ -59,20 +59,20 @@ abbrev pub configuration : Tree → Moment → Configuration
 configuration t m = record { tree = t; moment = m }
 
 -- it stops for good there, unless memory ran out
-abbrev pub Fails : ProgramRows → Configuration → (line : ℕ) → Halt → Moment → Type 0
-Fails p c line (halts.Fault kind) m = StopsAt p c.tree c.moment (AtEnd (Halted (way.Faulted kind line))) m
-Fails p c line halts.OutOfSteps m = StopsAt p c.tree c.moment (AtEnd (Halted way.OutOfSteps)) m
-Fails p c line (halts.Limited which) m = StopsAt p c.tree c.moment (AtEnd (Halted (way.Limited which))) m
-Fails p c line halts.Memory m = Unit {0}
+abbrev pub StopsForGood : ProgramRows → Configuration → (line : ℕ) → Halt → Moment → Type 0
+StopsForGood p c line (halts.Fault kind) m = NextStopIs p c.tree c.moment (AtEnd (Halted (way.Faulted kind line))) m
+StopsForGood p c line halts.OutOfSteps m = NextStopIs p c.tree c.moment (AtEnd (Halted way.OutOfSteps)) m
+StopsForGood p c line (halts.Limited which) m = NextStopIs p c.tree c.moment (AtEnd (Halted (way.Limited which))) m
+StopsForGood p c line halts.Memory m = Unit {0}
 
 -- the routine is one of the program, and no limit forbids a call of it
 abbrev pub MayEnter : ProgramRows → (routine : ℕ) → State → Type 0
 MayEnter p f σ = (r : Routine) × (routine_at p f ≡ Some r) × (limit_passed σ r.cells ≡ None)
 
 -- a call at which a body stops may be entered
-abbrev pub HasRoom : ProgramRows → stop.Stop → State → Type 0
-HasRoom p (stops.Enter f args) σ = MayEnter p f σ
-HasRoom p s σ = Unit {0}
+abbrev pub MayGoOn : ProgramRows → stop.Stop → State → Type 0
+MayGoOn p (stops.Enter f args) σ = MayEnter p f σ
+MayGoOn p s σ = Unit {0}
 
 -- a call at which a turn pauses may be entered
 abbrev pub PausesInRoom : ProgramRows → Pause → State → Type 0
@@ -82,12 +82,12 @@ PausesInRoom p pause σ = Unit {0}
 -- it comes from there to a stop, or to what the body has now to do
 abbrev pub Turns : ProgramRows → Configuration → Result (Option Pause) Halt → Body → Moment → Type 0
 Turns p c (Ok None) a m = Comes p c.tree c.moment (rest_of p a) m
-Turns p c (Ok (Some pause)) a m = StopsAt p c.tree c.moment (pause_of p a pause) m × PausesInRoom p pause m.state
-Turns p c (Err e) a m = Fails p c a.line e m
+Turns p c (Ok (Some pause)) a m = NextStopIs p c.tree c.moment (pause_of p a pause) m × PausesInRoom p pause m.state
+Turns p c (Err e) a m = StopsForGood p c a.line e m
 
 -- a call of a routine is to be entered there, unless memory ran out
-abbrev pub Entered : ProgramRows → Configuration → (routine : ℕ) → Result (Option Pause) Halt → Body → Type 0
-Entered p c routine (Ok (Some (pauses.Enter f))) a =
-    StopsAt p c.tree c.moment (pause_of p a (pauses.Enter f)) c.moment × (f ≡ routine)
-Entered p c routine (Err halts.Memory) a = Unit {0}
-Entered p c routine r a = ⊥
+abbrev pub EntersRoutine : ProgramRows → Configuration → (routine : ℕ) → Result (Option Pause) Halt → Body → Type 0
+EntersRoutine p c routine (Ok (Some (pauses.Enter f))) a =
+    NextStopIs p c.tree c.moment (pause_of p a (pauses.Enter f)) c.moment × (f ≡ routine)
+EntersRoutine p c routine (Err halts.Memory) a = Unit {0}
+EntersRoutine p c routine r a = ⊥

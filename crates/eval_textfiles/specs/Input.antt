@@ -3,7 +3,7 @@ use Rattle.std.specs.Prelude.{ℕ, Bool, [], ◌∷◌, Option, slice_get}
 use Rattle.cell_value.specs.declared.entries.Touch.TheVariants as touch
 use Rattle.program_meaning.specs.declared.scan.Scanned.{Scanned}
 use Rattle.program_meaning.specs.State.{State}
-use Rattle.program_meaning.specs.Acts.{Done, Went, TakeIf, with_steps}
+use Rattle.program_meaning.specs.Acts.{ActResult, Went, TakeIf, with_steps}
 use Rattle.program_meaning.specs.Actions.{Action, ◌>>=◌, act}
 use Rattle.program_meaning.specs.Input.{any_item, no_item, leads_on, is_digit, first_digit}
 use Rattle.eval_textfiles.specs.declared.input.Wanted.{Wanted}
@@ -17,7 +17,7 @@ wants Lead = leads_on
 wants Digit = is_digit
 
 -- the item at the place is looked at
-abbrev pub looked_at : State → Done (Option ℕ)
+abbrev pub looked_at : State → ActResult (Option ℕ)
 looked_at σ = with_steps 1 σ (λ τ. Went (slice_get τ.items τ.place) (touch.Look τ.place ∷ []) τ)
 
 -- what comes after the sign of an integer

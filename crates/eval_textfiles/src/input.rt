@@ -6,7 +6,7 @@ ghost use Rattle.program_meaning.specs.Actions.{act, performs};
 ghost use Rattle.program_meaning.specs.declared.scan.Scan.TheVariants.{Blanks, Digits};
 ghost use Rattle.program_meaning.specs.Input as input;
 ghost use Rattle.eval_textfiles.specs.Input.{after_sign, looked_at, wants};
-ghost use Rattle.eval_machine.specs.Machines.{Does, DoesAll, Gives, IsReady, machine_state, moment_of};
+ghost use Rattle.eval_machine.specs.Machines.{DoesAct, DoesAll, Gives, IsReady, machine_state, moment_of};
 
 use cell_value::{Kind, Touch, Value};
 use eval_machine::{Halt, Machine, note};
@@ -73,7 +73,7 @@ fn item_at(machine: &Machine) -> Option<u16>
 #[inline(always)]
 fn look(machine: &mut Machine) -> Result<Option<u16>, Halt>
     requires ready { IsReady machine.old }
-    ensures act { Does (λ item. item) (looked_at (machine_state machine.old)) result (moment_of machine.old)
+    ensures act { DoesAct (λ item. item) (looked_at (machine_state machine.old)) result (moment_of machine.old)
         (moment_of machine.new) }
     ensures ready { IsReady machine.new }
     ensures found { IfOk result (λ item. item ≡ slice_get machine.new.items machine.new.place) }
@@ -92,7 +92,7 @@ fn look(machine: &mut Machine) -> Result<Option<u16>, Halt>
 fn take(machine: &mut Machine, item: u16, wanted: bool) -> Result<Option<u16>, Halt>
     requires ready { IsReady machine.old }
     requires there { slice_get machine.old.items machine.old.place ≡ Some item }
-    ensures act { Does (λ item. item) (take_item wanted item (machine_state machine.old)) result
+    ensures act { DoesAct (λ item. item) (take_item wanted item (machine_state machine.old)) result
         (moment_of machine.old) (moment_of machine.new) }
     ensures ready { IsReady machine.new }
 {

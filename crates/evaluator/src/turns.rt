@@ -6,11 +6,11 @@ ghost use Rattle.program_meaning.specs.Run.{Ended};
 ghost use Rattle.program_meaning.specs.State.{State};
 ghost use Rattle.eval_machine.specs.Machines.{IsReady, machine_state, moment_of};
 ghost use Rattle.eval_tasks.specs.Records.{SameFrame};
-ghost use Rattle.eval_tasks.specs.Stops.{StopsAt};
+ghost use Rattle.eval_tasks.specs.Stops.{NextStopIs};
 ghost use Rattle.eval_tasks.specs.Rest.{from, from_under, rest_of};
 ghost use Rattle.eval_tasks.specs.Turns.{
   configuration,
-  HasRoom,
+  MayGoOn,
   PausesInRoom,
   Turns,
   end_of,
@@ -49,9 +49,9 @@ pub fn go_on(
     machine: &mut Machine,
 ) -> Result<Stop, Memory>
     requires ready { IsReady machine.old }
-    ensures stops { IfOk result (λ s. StopsAt program.now (rest_of program.now body.old) (moment_of machine.old)
+    ensures stops { IfOk result (λ s. NextStopIs program.now (rest_of program.now body.old) (moment_of machine.old)
         (stop_of program.now body.new s) (moment_of machine.new)) }
-    ensures room { IfOk result (λ s. HasRoom program.now s (machine_state machine.new)) }
+    ensures room { IfOk result (λ s. MayGoOn program.now s (machine_state machine.new)) }
     ensures frame { SameFrame body.new.home body.old.home }
     ensures ready { IsReady machine.new }
 {
@@ -73,7 +73,7 @@ pub fn go_on(
 /// The stop that a pause is.
 fn stop_at(body: &mut Body, alloc: Global, pause: Pause) -> Stop
     ensures stop { (p : ProgramRows) → stop_of p body.new result ≡ pause_of p body.old pause }
-    ensures room { (p : ProgramRows) (σ : State) → PausesInRoom p pause σ → HasRoom p result σ }
+    ensures room { (p : ProgramRows) (σ : State) → PausesInRoom p pause σ → MayGoOn p result σ }
     ensures frame { SameFrame body.new.home body.old.home }
 {
     match pause {

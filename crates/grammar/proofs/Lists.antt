@@ -2,7 +2,7 @@
 use Rattle.std.proofs.Common.{◌≡◌, ℕ, Bool, true, false, cond, if◌then◌else◌, List, [], ◌∷◌, ◌++◌, Ok, Err, refl, sym, ap, ◌∙◌, inl, inr}
 use Rattle.grammar.specs.declared.terminals.Terminal.{Terminal}
 use Rattle.grammar.specs.Terminals.{is, passes}
-use Rattle.grammar.specs.Nodes.{Item, Node, Leaf, Nothing, Pair, row, Step, chain, next, second}
+use Rattle.grammar.specs.Nodes.{Item, Node, Leaf, Nothing, Pair, row, SeriesPart, chain, next, second}
 use Rattle.grammar.specs.Grammars.{Level, Grammar, nothing, seq, choice, again, word, many, series}
 use Rattle.grammar.specs.Tested.{Within}
 use Rattle.grammar.specs.Deciding.{closed, solid, guarded, sane, LevelTables}
@@ -25,7 +25,7 @@ prepend (n ∷ ns) x = Pair n (prepend ns x)
 abbrev pub with_front : List Node → Read → Read
 with_front front r = r >>= λ x. Ok (prepend front x.0, x.1)
 
-abbrev pub with_steps : List Step → Read → Read
+abbrev pub with_steps : List SeriesPart → Read → Read
 with_steps front r = r >>= λ x. Ok (chain front x.0, x.1)
 
 prepend_row : (front : List Node) → prepend front Nothing ≡ row front
@@ -40,11 +40,12 @@ front_one : (front : List Node) (x : Node) (r : Read) → with_front front (r >>
 front_one front x (Ok y) = ap (λ (z : Node). Ok (z, y.1)) (prepend_one front x y.0)
 front_one front x (Err r) = refl
 
-chain_one : (front : List Step) (x : Step) (y : Node) → chain front (Pair x.separator (Pair x.part y)) ≡ chain (front ++ x ∷ []) y
+chain_one : (front : List SeriesPart) (x : SeriesPart) (y : Node) → chain front (Pair x.separator (Pair x.part y)) ≡ chain (front ++ x ∷ []) y
 chain_one [] x y = refl
 chain_one (n ∷ ns) x y = ap (λ (z : Node). Pair n.separator (Pair n.part z)) (chain_one ns x y)
 
-step_one : (front : List Step) (x : Step) (r : Read) → with_steps front ((r >>= λ y. Ok (Pair x.part y.0, y.1)) >>= λ y. Ok (Pair x.separator y.0, y.1))
+step_one : (front : List SeriesPart) (x : SeriesPart) (r : Read)
+    → with_steps front ((r >>= λ y. Ok (Pair x.part y.0, y.1)) >>= λ y. Ok (Pair x.separator y.0, y.1))
     ≡ with_steps (front ++ x ∷ []) r
 step_one front x (Ok y) = ap (λ (z : Node). Ok (z, y.1)) (chain_one front x y.0)
 step_one front x (Err r) = refl
@@ -155,7 +156,7 @@ module _ (t : LevelTables) (sane_rule : (l : Level) → sane (t.rule l) ≡ true
     led_part m h r e = ap (λ (b : Bool). cond b (then_pair (read t n g m) (read t n (series separator ks g z))) (read t n z m)) h ∙ ap
         (λ (r : Read). then_pair r (read t n (series separator ks g z))) e
 
-    pub steps_on : (front : List Step) (l : List Item) (x : Step) (rest : List Item) (total : Read) → goes_further l ≡ true
+    pub steps_on : (front : List SeriesPart) (l : List Item) (x : SeriesPart) (rest : List Item) (total : Read) → goes_further l ≡ true
         → read t n step_rule l ≡ Ok (Pair x.separator x.part, rest)
         → with_steps front (read t n (series separator ks g z) l) ≡ total → with_steps (front ++ x ∷ []) (read t n (series separator ks g z) rest) ≡ total
     unfolding behind read
@@ -176,7 +177,7 @@ module _ (t : LevelTables) (sane_rule : (l : Level) → sane (t.rule l) ≡ true
         sym (step_one front x (read t n (series separator ks g z) rest))
         ∙ sym (ap (with_steps front) (turn ∙ ap (λ (r : Read). r >>= λ y. Ok (Pair x.separator y.0, y.1)) behind_is)) ∙ so_far
 
-    pub steps_stop : (front : List Step) (l : List Item) (r : Refusal) (total : Read) → goes_further l ≡ true → read t n step_rule l ≡ Err r
+    pub steps_stop : (front : List SeriesPart) (l : List Item) (r : Refusal) (total : Read) → goes_further l ≡ true → read t n step_rule l ≡ Err r
         → with_steps front (read t n (series separator ks g z) l) ≡ total → total ≡ Err r
     unfolding behind read
     steps_stop front l r total h e so_far =
@@ -211,11 +212,11 @@ module _ (t : LevelTables) (sane_rule : (l : Level) → sane (t.rule l) ≡ true
           left ∙ sym right
     ]
 
-    pub steps_done : (front : List Step) (l : List Item) (end : Node) (rest : List Item) (total : Read) → goes_further l ≡ false
+    pub steps_done : (front : List SeriesPart) (l : List Item) (end : Node) (rest : List Item) (total : Read) → goes_further l ≡ false
         → read t n end_rule l ≡ Ok (end, rest)
         → with_steps front (read t n (series separator ks g z) l) ≡ total → total ≡ Ok (chain front end, rest)
     steps_done front l end rest total h e so_far = sym so_far ∙ ap (with_steps front) (series_ends l h ∙ e)
 
-    pub steps_break : (front : List Step) (l : List Item) (r : Refusal) (total : Read) → goes_further l ≡ false → read t n end_rule l ≡ Err r
+    pub steps_break : (front : List SeriesPart) (l : List Item) (r : Refusal) (total : Read) → goes_further l ≡ false → read t n end_rule l ≡ Err r
         → with_steps front (read t n (series separator ks g z) l) ≡ total → total ≡ Err r
     steps_break front l r total h e so_far = sym so_far ∙ ap (with_steps front) (series_ends l h ∙ e)

@@ -41,14 +41,14 @@ row [] = Nothing
 row (x ∷ xs) = Pair x (row xs)
 
 -- a part of a series, after its separator
-pub record Step : Type 0 where
+pub record SeriesPart : Type 0 where
   pub separator : Node
   pub part : Node
 
-abbrev pub step_node : Step → Node
+abbrev pub step_node : SeriesPart → Node
 step_node s = Pair s.separator s.part
 
 -- a series of them, and what stands at its end
-abbrev pub chain : List Step → Node → Node
+abbrev pub chain : List SeriesPart → Node → Node
 chain [] end = end
 chain (s ∷ steps) end = Pair s.separator (Pair s.part (chain steps end))

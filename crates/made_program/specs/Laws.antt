@@ -12,9 +12,9 @@ pub record IsSmallTree (s : Subject) : Type 0 where
   pub few : calls_of s < 100000
 
 -- the call at fault is found
-abbrev pub FindsTheFault : Subject → Type 0
-FindsTheFault s = state_after s (entries_at_end s) ≡ Found (fault_of s)
+abbrev pub EndsAtTheFault : Subject → Type 0
+EndsAtTheFault s = state_after s (entries_at_end s) ≡ Found (fault_of s)
 
 -- of such calls it is
 abbrev pub FaultIsFound : Type 0
-FaultIsFound = (s : Subject) → IsSmallTree s → FindsTheFault s
+FaultIsFound = (s : Subject) → IsSmallTree s → EndsAtTheFault s

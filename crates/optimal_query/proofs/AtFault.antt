@@ -14,7 +14,7 @@ use Rattle.answer_book.specs.Marks.{mark_of, marks_of}
 use Rattle.answer_book.specs.Numbers.{last_where, numbers_below}
 use Rattle.answer_book.proofs.LastWhere.{IsLast, last_where_is, none_passes_where}
 use Rattle.optimal_query.specs.declared.state.State.TheVariants.{Found, NothingWrong}
-use Rattle.optimal_query.specs.Laws.{IsCallTree, CallTree, IsAtFault, IsNothing, doubts_in, mark_in, region_in, state_in, suspects_in}
+use Rattle.optimal_query.specs.Laws.{IsCallTree, CallTree, IsAtFault, NothingIsWrong, doubts_in, mark_in, region_in, state_in, suspects_in}
 use Rattle.optimal_query.specs.Narrowing.{AgreesWithMarks, IsBuggy, IsLeft, Truth}
 use Rattle.optimal_query.specs.Region.{doubts_of, suspects_of}
 use Rattle.subtree_weights.specs.Searched.{is_below, is_searched, mark_at}
@@ -206,7 +206,7 @@ found_is_at_fault calls answers call are h =
       no_doubt = is.no_doubt;
     }
 
-pub nothing_is_wrong : (calls : CallTree) (answers : List What) → IsCallTree calls → state_in calls answers ≡ NothingWrong → IsNothing calls answers
+pub nothing_is_wrong : (calls : CallTree) (answers : List What) → IsCallTree calls → state_in calls answers ≡ NothingWrong → NothingIsWrong calls answers
 nothing_is_wrong calls answers are h =
     let parts = ends calls answers NothingWrong (λ c w m l e. let x : ⊥ = cc in x) h in
     let verdict = verdict_nothing (accused_of calls.routine answers) (doubts_in calls answers) parts.verdict_is in

@@ -6,7 +6,7 @@ use Rattle.std.proofs.lemmas.Bool.{cases_order, ltb-false, ltb-true}
 use Rattle.std.proofs.lemmas.List.{get_or-drop, get_or-take, length-take-le}
 use Rattle.weight_lanes.specs.declared.choice.Choice.{Choice}
 use Rattle.weight_lanes.specs.Places.{IsSet, left_at}
-use Rattle.optimal_query.specs.Runs.{Field, IsBestAmong, IsBestFrom, IsField, IsOpen, better_of}
+use Rattle.optimal_query.specs.Runs.{Field, IsBestAmong, IsBestFrom, IsField, MayBeAsked, better_of}
 
 pub cases_lt : (k b : ℕ) → (k < b) ⊎ (b ≤ k)
 cases_lt k b = elim (cases_order k b) [
@@ -107,7 +107,7 @@ pub record Seen (field : Field) (from : ℕ) (best : Option Choice) : Type 0 whe
   pub start : field.start ≤ from
   pub end : from ≤ field.end
   pub ended : (above : ℕ) → field.start ≤ above → above < from → slice_index field.weights above ≡ 0 → slice_index field.last above < from
-  pub best_is : IsBestAmong (IsOpen field) (left_at field.weights field.total) field.start from best
+  pub best_is : IsBestAmong (MayBeAsked field) (left_at field.weights field.total) field.start from best
 
 pub seen_none : (field : Field) → IsField field → Seen field field.start None
 seen_none field is = record {
@@ -125,7 +125,7 @@ pub record IsRun (field : Field) (from to : ℕ) : Type 0 where
 
 -- in a run what nothing is said of is open
 open_in_run : (field : Field) (from to call : ℕ) (best : Option Choice) → Seen field from best → IsRun field from to → from ≤ call → call < to
-    → slice_index field.askable call ≢ 0 → IsOpen field call
+    → slice_index field.askable call ≢ 0 → MayBeAsked field call
 open_in_run field from to call best seen run h i unsaid = record {
   unsaid = unsaid;
   free = λ above s below zero. elim (cases_lt above from) [
@@ -147,10 +147,10 @@ run_at_most_total field from to best is seen run call h i unsaid =
 
 run_seen : (field : Field) (from to : ℕ) (best next : Option Choice) → Seen field from best → IsRun field from to
     → IsBestAmong (λ call. slice_index field.askable call ≢ 0) (left_at field.weights field.total) from to next
-    → IsBestAmong (IsOpen field) (left_at field.weights field.total) field.start to (better_of best next)
+    → IsBestAmong (MayBeAsked field) (left_at field.weights field.total) field.start to (better_of best next)
 run_seen field from to best next seen run is =
-    joined (IsOpen field) (left_at field.weights field.total) field.start from to best next seen.start run.order seen.best_is
-    (alike (λ call. slice_index field.askable call ≢ 0) (IsOpen field) (left_at field.weights field.total) from to next
+    joined (MayBeAsked field) (left_at field.weights field.total) field.start from to best next seen.start run.order seen.best_is
+    (alike (λ call. slice_index field.askable call ≢ 0) (MayBeAsked field) (left_at field.weights field.total) from to next
     (λ k h i unsaid. open_in_run field from to k best seen run h i unsaid) (λ k h i free. free.unsaid) is)
 
 -- the run goes on to the end
@@ -160,7 +160,7 @@ pub seen_to_end : (field : Field) (from to : ℕ) (best next : Option Choice) �
 seen_to_end field from to best next is seen run over among =
     let inside : to ≤ field.end = run.inside in
     let same : to ≡ field.end = omega arith in
-    let P : ℕ → Type 0 = λ n. IsBestAmong (IsOpen field) (left_at field.weights field.total) field.start n (better_of best next) in
+    let P : ℕ → Type 0 = λ n. IsBestAmong (MayBeAsked field) (left_at field.weights field.total) field.start n (better_of best next) in
     record {
       start = is.order;
       end = omega arith;
@@ -190,11 +190,11 @@ seen_past field from to best next is seen run inside zero among =
         ]
       ];
       best_is =
-          let none : IsBestAmong (IsOpen field) (left_at field.weights field.total) to (slice_index field.last to + 1) None =
+          let none : IsBestAmong (MayBeAsked field) (left_at field.weights field.total) to (slice_index field.last to + 1) None =
           λ k h i free. let l : slice_index field.last to < k = free.free to (omega arith) h zero in omega arith in
-          let all = joined (IsOpen field) (left_at field.weights field.total) field.start to (slice_index field.last to + 1) (better_of best next) None
+          let all = joined (MayBeAsked field) (left_at field.weights field.total) field.start to (slice_index field.last to + 1) (better_of best next) None
           (omega arith) (omega arith) (run_seen field from to best next seen run among) none in
-          kept (IsOpen field) (left_at field.weights field.total) field.start (slice_index field.last to + 1) (better_of best next) all;
+          kept (MayBeAsked field) (left_at field.weights field.total) field.start (slice_index field.last to + 1) (better_of best next) all;
     }
 
 -- a column from one place to another

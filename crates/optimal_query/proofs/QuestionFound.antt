@@ -13,17 +13,17 @@ use Rattle.weight_lanes.specs.declared.choice.Choice.{Choice}
 use Rattle.weight_lanes.specs.Places.{left_at}
 use Rattle.optimal_query.specs.Question.{leaves_least, left_of, question_of, weight_of}
 use Rattle.optimal_query.specs.Region.{suspects_of}
-use Rattle.optimal_query.specs.Runs.{Field, IsBestAmong, IsBestFrom, IsOpen}
+use Rattle.optimal_query.specs.Runs.{Field, IsBestAmong, IsBestFrom, MayBeAsked}
 use Rattle.optimal_query.proofs.PassingNumbers.{IsFirstFrom, find_filter, first_from, none_filtered}
 use Rattle.optimal_query.proofs.Searched.{is_marked, passes_of, suspect_contains, suspects_are}
 
 -- the field is that of the suspects: those of its calls that are open, with their weights
 pub record Describes (field : Field) (marks : List Mark) (accused : Option ℕ) : Type 0 where
-  pub suspected : (call : ℕ) → field.start ≤ call → call < field.end → IsOpen field call
+  pub suspected : (call : ℕ) → field.start ≤ call → call < field.end → MayBeAsked field call
       → is_marked is_unjudged field.last marks accused call ≡ true
   pub here : (call : ℕ) → call < length field.last → is_marked is_unjudged field.last marks accused call ≡ true
       → (field.start ≤ call) × (call < field.end)
-  pub opened : (call : ℕ) → call < length field.last → is_marked is_unjudged field.last marks accused call ≡ true → IsOpen field call
+  pub opened : (call : ℕ) → call < length field.last → is_marked is_unjudged field.last marks accused call ≡ true → MayBeAsked field call
   pub inside : field.end ≤ length field.last
   pub weight_is : (call : ℕ) → call < length field.last → is_marked is_unjudged field.last marks accused call ≡ true
       → slice_index field.weights call ≡ weight_of field.last (suspects_of field.last marks accused) call
@@ -51,7 +51,7 @@ pub record IsQuestion (field : Field) (marks : List Mark) (accused : Option ℕ)
   pub weight_is : slice_index field.weights choice.at ≡ weight_of field.last (suspects_of field.last marks accused) choice.at
 
 least_is : (field : Field) (marks : List Mark) (accused : Option ℕ) (choice : Choice) → Describes field marks accused
-    → IsBestFrom (IsOpen field) (left_at field.weights field.total) field.start field.end choice
+    → IsBestFrom (MayBeAsked field) (left_at field.weights field.total) field.start field.end choice
     → leaves_least field.last (suspects_of field.last marks accused) choice.at ≡ true
 least_is field marks accused choice d best =
     let last = field.last in
@@ -70,7 +70,7 @@ least_is field marks accused choice d best =
 
 -- a suspect before it leaves more
 not_least : (field : Field) (marks : List Mark) (accused : Option ℕ) (choice : Choice) → Describes field marks accused
-    → IsBestFrom (IsOpen field) (left_at field.weights field.total) field.start field.end choice
+    → IsBestFrom (MayBeAsked field) (left_at field.weights field.total) field.start field.end choice
     → (other : ℕ) → other < choice.at → is_marked is_unjudged field.last marks accused other ≡ true
     → leaves_least field.last (suspects_of field.last marks accused) other ≡ false
 not_least field marks accused choice d best other before p =
@@ -88,7 +88,7 @@ not_least field marks accused choice d best other before p =
     (omega (arith, best.left_is, itself, value_is field marks accused d other (omega arith) p)))
 
 earlier_fails : (field : Field) (marks : List Mark) (accused : Option ℕ) (choice : Choice) → Describes field marks accused
-    → IsBestFrom (IsOpen field) (left_at field.weights field.total) field.start field.end choice
+    → IsBestFrom (MayBeAsked field) (left_at field.weights field.total) field.start field.end choice
     → (other : ℕ) → other < choice.at → (b : Bool) → is_marked is_unjudged field.last marks accused other ≡ b
     → (is_marked is_unjudged field.last marks accused other && leaves_least field.last (suspects_of field.last marks accused) other) ≡ false
 earlier_fails field marks accused choice d best other before true p =
@@ -108,7 +108,7 @@ asks_first last marks accused call is =
     ∙ first_from (λ k. p k && test k) 0 (length last) call is
 
 pub question_is_best : (field : Field) (marks : List Mark) (accused : Option ℕ) (choice : Choice) → Describes field marks accused
-    → IsBestAmong (IsOpen field) (left_at field.weights field.total) field.start field.end (Some choice)
+    → IsBestAmong (MayBeAsked field) (left_at field.weights field.total) field.start field.end (Some choice)
     → IsQuestion field marks accused choice
 question_is_best field marks accused choice d best =
     let last = field.last in
@@ -134,7 +134,7 @@ no_suspects last [] h = refl
 no_suspects last (x ∷ xs) h = cc
 
 none_passes_at : (field : Field) (marks : List Mark) (accused : Option ℕ) → Describes field marks accused
-    → IsBestAmong (IsOpen field) (left_at field.weights field.total) field.start field.end None
+    → IsBestAmong (MayBeAsked field) (left_at field.weights field.total) field.start field.end None
     → (call : ℕ) → call < length field.last → (b : Bool) → is_marked is_unjudged field.last marks accused call ≡ b
     → is_marked is_unjudged field.last marks accused call ≡ false
 none_passes_at field marks accused d none call inside true p =
@@ -144,7 +144,7 @@ none_passes_at field marks accused d none call inside false p = p
 
 -- where none is open there is no question
 pub no_question_left : (field : Field) (marks : List Mark) (accused : Option ℕ) → Describes field marks accused
-    → IsBestAmong (IsOpen field) (left_at field.weights field.total) field.start field.end None
+    → IsBestAmong (MayBeAsked field) (left_at field.weights field.total) field.start field.end None
     → question_of field.last (suspects_of field.last marks accused) ≡ None
 no_question_left field marks accused d none =
     let p = is_marked is_unjudged field.last marks accused in

@@ -20,14 +20,14 @@ use Rattle.answer_book.specs.Numbers.{last_where, numbers_below}
 use Rattle.answer_book.proofs.LastWhere.{last_where_is}
 use Rattle.call_tree.specs.declared.records.Call.{Call}
 use Rattle.call_tree.specs.Recording.{routines_of}
-use Rattle.optimal_query.specs.Accepted.{Act, EntriesStandUnlessTakenBack, Made, TookBack, act_of, acts_after, acts_in, and_then, entries_after}
+use Rattle.optimal_query.specs.Accepted.{CommandAct, EntriesStandUnlessTakenBack, Made, TookBack, act_of, acts_after, acts_in, and_then, entries_after}
 use Rattle.optimal_query.specs.Accepted.{entry_unless, is_taken_back, made, number_made, said_unless, stands, took_back}
 use Rattle.optimal_query.specs.Search.{Search, new_search, search_with, search_without}
 use Rattle.optimal_query.specs.Standing.{Command, Judge, TakeBack, TakeBackLast, Trust, after_command, after_commands, if_accepted, without_last}
 use Rattle.optimal_query.proofs.WhatStands.{same_after_command}
 
 -- the entries are numbered from `from` on, in order
-abbrev AreNumbered : ℕ → List Act → Type 0
+abbrev AreNumbered : ℕ → List CommandAct → Type 0
 AreNumbered from [] = Unit {0}
 AreNumbered from (Made number what ∷ acts) = (number ≡ from) × AreNumbered (from + 1) acts
 AreNumbered from (TookBack number ∷ acts) = AreNumbered from acts
@@ -36,14 +36,14 @@ AreNumbered from (TookBack number ∷ acts) = AreNumbered from acts
 abbrev and_this : (ℕ → Bool) → ℕ → ℕ → Bool
 and_this taken_back number other = (number == other) || taken_back other
 
-abbrev entries_by : (ℕ → Bool) → List Act → List Entry
+abbrev entries_by : (ℕ → Bool) → List CommandAct → List Entry
 entries_by taken_back acts = filter_map (entry_unless taken_back) acts
 
 abbrev entry : What → Bool → Entry
 entry what standing = record { what = what; standing = standing }
 
 -- a number before the first one changes nothing
-same_below : (t : ℕ → Bool) (number from : ℕ) (acts : List Act) → AreNumbered from acts → number < from
+same_below : (t : ℕ → Bool) (number from : ℕ) (acts : List CommandAct) → AreNumbered from acts → number < from
     → entries_by (and_this t number) acts ≡ entries_by t acts
 same_below t number from [] h below = refl
 same_below t number from (Made m what ∷ acts) h below =
@@ -53,7 +53,7 @@ same_below t number from (Made m what ∷ acts) h below =
 same_below t number from (TookBack m ∷ acts) h below = same_below t number from acts h below
 
 -- the entry of this number is the one at this place
-record IsAt (from : ℕ) (acts : List Act) (number place : ℕ) : Type 0 where
+record IsAt (from : ℕ) (acts : List CommandAct) (number place : ℕ) : Type 0 where
   numbered : AreNumbered from acts
   at : number ≡ from + place
 
@@ -63,7 +63,7 @@ later_place entry entries place None = refl
 later_place entry entries place (Some other) = refl
 
 -- with one more number taken back the entry at its place no longer stands
-taken_back_at : (t : ℕ → Bool) (from : ℕ) (acts : List Act) (number place : ℕ) → IsAt from acts number place
+taken_back_at : (t : ℕ → Bool) (from : ℕ) (acts : List CommandAct) (number place : ℕ) → IsAt from acts number place
     → entries_by (and_this t number) acts ≡ with_taken_back (entries_by t acts) place (slice_get (entries_by t acts) place)
 taken_back_at t from [] number place is = refl
 taken_back_at t from (TookBack m ∷ acts) number place is =
@@ -84,7 +84,7 @@ taken_back_at t from (Made m what ∷ acts) number (suc place) is =
     ∙ sym (later_place (entry what (not (t m))) (entries_by t acts) place (slice_get (entries_by t acts) place))
 
 -- whether the entry at a place stands
-stands_at : (t : ℕ → Bool) (from : ℕ) (acts : List Act) (number place : ℕ) → IsAt from acts number place
+stands_at : (t : ℕ → Bool) (from : ℕ) (acts : List CommandAct) (number place : ℕ) → IsAt from acts number place
     → is_standing_entry (slice_get (entries_by t acts) place) ≡ (list_any (made number) acts && not (t number))
 stands_at t from [] number place is = refl
 stands_at t from (TookBack m ∷ acts) number place is =
@@ -102,14 +102,14 @@ stands_at t from (Made m what ∷ acts) number (suc place) is =
     stands_at t (from + 1) acts number place (record { numbered = is.numbered.1; at = omega arith })
     ∙ sym (ap (λ (b : Bool). (b || list_any (made number) acts) && not (t number)) apart)
 
-none_made : (number from : ℕ) (acts : List Act) → AreNumbered from acts → number < from → list_any (made number) acts ≡ false
+none_made : (number from : ℕ) (acts : List CommandAct) → AreNumbered from acts → number < from → list_any (made number) acts ≡ false
 none_made number from [] h below = refl
 none_made number from (TookBack m ∷ acts) h below = none_made number from acts h below
 none_made number from (Made m what ∷ acts) h below =
     let apart : (m == number) ≡ false = ne_eqb m number (λ e. let is = h.0 in omega arith) in
     ap (λ (b : Bool). b || list_any (made number) acts) apart ∙ none_made number (from + 1) acts h.1 (omega arith)
 
-made_within : (number from : ℕ) (acts : List Act) → AreNumbered from acts → list_any (made number) acts ≡ true → number < from + number_made acts
+made_within : (number from : ℕ) (acts : List CommandAct) → AreNumbered from acts → list_any (made number) acts ≡ true → number < from + number_made acts
 made_within number from [] h is = absurd (true≢false (sym is))
 made_within number from (TookBack m ∷ acts) h is = made_within number from acts h is
 made_within number from (Made m what ∷ acts) h is = elim (cases_eq m number) [
@@ -119,13 +119,13 @@ made_within number from (Made m what ∷ acts) h is = elim (cases_eq m number) [
       omega arith
 ]
 
-as_many : (t : ℕ → Bool) (acts : List Act) → length (entries_by t acts) ≡ number_made acts
+as_many : (t : ℕ → Bool) (acts : List CommandAct) → length (entries_by t acts) ≡ number_made acts
 as_many t [] = refl
 as_many t (Made m what ∷ acts) = ap (λ (n : ℕ). suc n) (as_many t acts)
 as_many t (TookBack m ∷ acts) = as_many t acts
 
 -- an entry stands in the list where it stands by the acts
-stand_alike : (acts : List Act) (number : ℕ) → AreNumbered 1 acts → is_standing (entries_after acts) number ≡ stands acts number
+stand_alike : (acts : List CommandAct) (number : ℕ) → AreNumbered 1 acts → is_standing (entries_after acts) number ≡ stands acts number
 stand_alike acts number h = elim (cases_eq number 0) [
   | inl none ↦
       ap (λ (b : Bool). is_standing_entry (cond b None (slice_get (entries_after acts) (number - 1)))) (eq-eqb number 0 none)
@@ -136,7 +136,7 @@ stand_alike acts number h = elim (cases_eq number 0) [
       ∙ stands_at (is_taken_back acts) 1 acts number (number - 1) (record { numbered = h; at = omega arith })
 ]
 
-last_alike : (acts : List Act) → AreNumbered 1 acts
+last_alike : (acts : List CommandAct) → AreNumbered 1 acts
     → last_standing (entries_after acts) ≡ last_where (stands acts) (numbers_below (number_made acts + 1))
 last_alike acts h =
     let alike : is_standing (entries_after acts) ≡ stands acts = (λ i number. stand_alike acts number h i) in
@@ -144,23 +144,23 @@ last_alike acts h =
     ∙ ap (λ (n : ℕ). last_where (stands acts) (numbers_below (n + 1))) (as_many (is_taken_back acts) acts)
 
 -- one act more
-numbered_made : (from : ℕ) (acts : List Act) (what : What) (number : ℕ) → AreNumbered from acts → number ≡ from + number_made acts
+numbered_made : (from : ℕ) (acts : List CommandAct) (what : What) (number : ℕ) → AreNumbered from acts → number ≡ from + number_made acts
     → AreNumbered from (acts ++ Made number what ∷ [])
 numbered_made from [] what number h next = ((omega arith), tt)
 numbered_made from (Made m other ∷ acts) what number h next = (h.0, numbered_made (from + 1) acts what number h.1 (omega arith))
 numbered_made from (TookBack m ∷ acts) what number h next = numbered_made from acts what number h next
 
-numbered_taken : (from : ℕ) (acts : List Act) (number : ℕ) → AreNumbered from acts → AreNumbered from (acts ++ TookBack number ∷ [])
+numbered_taken : (from : ℕ) (acts : List CommandAct) (number : ℕ) → AreNumbered from acts → AreNumbered from (acts ++ TookBack number ∷ [])
 numbered_taken from [] number h = tt
 numbered_taken from (Made m what ∷ acts) number h = (h.0, numbered_taken (from + 1) acts number h.1)
 numbered_taken from (TookBack m ∷ acts) number h = numbered_taken from acts number h
 
-one_more : (acts : List Act) (number : ℕ) (what : What) → number_made (acts ++ Made number what ∷ []) ≡ number_made acts + 1
+one_more : (acts : List CommandAct) (number : ℕ) (what : What) → number_made (acts ++ Made number what ∷ []) ≡ number_made acts + 1
 one_more [] number what = omega arith
 one_more (Made m other ∷ acts) number what = let rest = one_more acts number what in omega arith
 one_more (TookBack m ∷ acts) number what = one_more acts number what
 
-no_more : (acts : List Act) (number : ℕ) → number_made (acts ++ TookBack number ∷ []) ≡ number_made acts
+no_more : (acts : List CommandAct) (number : ℕ) → number_made (acts ++ TookBack number ∷ []) ≡ number_made acts
 no_more [] number = refl
 no_more (Made m what ∷ acts) number = ap (λ (n : ℕ). suc n) (no_more acts number)
 no_more (TookBack m ∷ acts) number = no_more acts number
@@ -175,23 +175,23 @@ or_turned true false = refl
 or_turned false true = refl
 or_turned false false = refl
 
-taken_as_before : (acts : List Act) (number : ℕ) (what : What) (other : ℕ)
+taken_as_before : (acts : List CommandAct) (number : ℕ) (what : What) (other : ℕ)
     → is_taken_back (acts ++ Made number what ∷ []) other ≡ is_taken_back acts other
 taken_as_before acts number what other =
     list_any-append (took_back other) acts (Made number what ∷ []) ∙ or_neither (is_taken_back acts other)
 
-taken_and_this : (acts : List Act) (number other : ℕ)
+taken_and_this : (acts : List CommandAct) (number other : ℕ)
     → is_taken_back (acts ++ TookBack number ∷ []) other ≡ and_this (is_taken_back acts) number other
 taken_and_this acts number other =
     list_any-append (took_back other) acts (TookBack number ∷ []) ∙ or_turned (is_taken_back acts other) (number == other)
 
 -- these are the entries after these acts
-record Follow (acts : List Act) (entries : List Entry) : Type 0 where
+record Follow (acts : List CommandAct) (entries : List Entry) : Type 0 where
   entries_are : entries ≡ entries_after acts
   numbered : AreNumbered 1 acts
   none_later : (number : ℕ) → number_made acts < number → is_taken_back acts number ≡ false
 
-follow_made : (acts : List Act) (entries : List Entry) (what : What) → Follow acts entries
+follow_made : (acts : List CommandAct) (entries : List Entry) (what : What) → Follow acts entries
     → Follow (acts ++ Made (number_made acts + 1) what ∷ []) (entries_with entries what)
 follow_made acts entries what before =
     let number : ℕ = number_made acts + 1 in
@@ -213,7 +213,7 @@ left_holds : (a b : Bool) → (a && b) ≡ true → a ≡ true
 left_holds true b h = refl
 left_holds false b h = h
 
-follow_taken : (acts : List Act) (entries : List Entry) (number : ℕ) → Follow acts entries → stands acts number ≡ true
+follow_taken : (acts : List CommandAct) (entries : List Entry) (number : ℕ) → Follow acts entries → stands acts number ≡ true
     → Follow (acts ++ TookBack number ∷ []) (entries_without entries number)
 follow_taken acts entries number before standing =
     let is_made = left_holds (list_any (made number) acts) (not (is_taken_back acts number)) standing in
@@ -237,30 +237,30 @@ follow_taken acts entries number before standing =
     }
 
 -- a command that says something, where it is refused or not, and where the book is full or not
-added : {acts : List Act} (search : Search) (what : What) (refused full : Bool) (refusal : BookFault) → Follow acts search.book.entries
+added : {acts : List CommandAct} (search : Search) (what : What) (refused full : Bool) (refusal : BookFault) → Follow acts search.book.entries
     → Follow (and_then acts (cond refused None (cond full None (Some (Made (number_made acts + 1) what)))))
     (if_accepted {X = ℕ} (cond refused (Err refusal) (cond full (Err fault.Full) (Ok (number_made acts + 1)))) (search_with search what) search).book.entries
 added search what true full refusal before = before
 added search what false true refusal before = before
 added {acts = acts} search what false false refusal before = follow_made acts search.book.entries what before
 
-taken : (acts : List Act) (search : Search) (number : ℕ) (standing : Bool) → stands acts number ≡ standing → Follow acts search.book.entries
+taken : (acts : List CommandAct) (search : Search) (number : ℕ) (standing : Bool) → stands acts number ≡ standing → Follow acts search.book.entries
     → Follow (and_then acts (cond standing (Some (TookBack number)) None))
     (if_accepted {X = Unit {0}} (cond standing (Ok tt) (Err (fault.NotStanding number))) (search_without search number) search).book.entries
 taken acts search number true is before = follow_taken acts search.book.entries number before is
 taken acts search number false is before = before
 
-last_taken : (acts : List Act) (search : Search) (last : Option ℕ) → last_where (stands acts) (numbers_below (number_made acts + 1)) ≡ last
+last_taken : (acts : List CommandAct) (search : Search) (last : Option ℕ) → last_where (stands acts) (numbers_below (number_made acts + 1)) ≡ last
     → Follow acts search.book.entries
     → Follow (and_then acts (option_map TookBack last)) (without_last (number_or_fault last) search).book.entries
 last_taken acts search None is before = before
 last_taken acts search (Some number) is before =
     follow_taken acts search.book.entries number before (last_where_is (stands acts) (number_made acts + 1) number is).passes
 
-as_many_entries : {acts : List Act} {entries : List Entry} → Follow acts entries → number_made acts ≡ length entries
+as_many_entries : {acts : List CommandAct} {entries : List Entry} → Follow acts entries → number_made acts ≡ length entries
 as_many_entries {acts = acts} before = sym (ap (λ (l : List Entry). length l) before.entries_are ∙ as_many (is_taken_back acts) acts)
 
-follow_command : (acts : List Act) (search : Search) (command : Command) → Follow acts search.book.entries
+follow_command : (acts : List CommandAct) (search : Search) (command : Command) → Follow acts search.book.entries
     → Follow (and_then acts (act_of (length search.book.routine) search.book.routines acts command)) (after_command search command).book.entries
 follow_command acts search (Judge call judgement) before =
     let what : What = Judged call judgement in
@@ -290,7 +290,7 @@ follow_command acts search TakeBackLast before =
     alike (last_taken acts search last refl before)
 
 -- and all of them
-follow_commands : {calls routines : ℕ} (acts : List Act) (search : Search) (commands : List Command)
+follow_commands : {calls routines : ℕ} (acts : List CommandAct) (search : Search) (commands : List Command)
     → length search.book.routine ≡ calls → search.book.routines ≡ routines → Follow acts search.book.entries
     → Follow (acts_after calls routines acts commands) (after_commands search commands).book.entries
 follow_commands acts search [] of_calls of_routines before = before
@@ -308,7 +308,7 @@ said_if : (b : Bool) (what : What) → cond (not b) (Some what) None ≡ cond b 
 said_if true what = refl
 said_if false what = refl
 
-said_alike : (t : ℕ → Bool) (acts : List Act) → filter_map said_by (entries_by t acts) ≡ filter_map (said_unless t) acts
+said_alike : (t : ℕ → Bool) (acts : List CommandAct) → filter_map said_by (entries_by t acts) ≡ filter_map (said_unless t) acts
 said_alike t [] = refl
 said_alike t (TookBack m ∷ acts) = said_alike t acts
 said_alike t (Made m what ∷ acts) =
@@ -317,7 +317,7 @@ said_alike t (Made m what ∷ acts) =
 
 pub stand_unless_taken_back : EntriesStandUnlessTakenBack
 stand_unless_taken_back run commands =
-    let first : List Act = Made 1 (Judged 0 Wrong) ∷ [] in
+    let first : List CommandAct = Made 1 (Judged 0 Wrong) ∷ [] in
     let start : Follow first first_entries = record { entries_are = refl; numbered = (refl, tt); none_later = λ number later. refl } in
     let long : length (routines_of run.calls) ≡ length run.calls = length-map run.calls (λ (call : Call). call.routine) in
     let all = follow_commands first (new_search run) commands long refl start in

@@ -15,7 +15,7 @@ use Rattle.answer_book.specs.Marks.{marks_of}
 use Rattle.answer_book.specs.Numbers.{numbers_below}
 use Rattle.optimal_query.specs.declared.state.State.{State}
 use Rattle.optimal_query.specs.declared.state.State.TheVariants.{Ask}
-use Rattle.optimal_query.specs.Laws.{IsCallTree, CallTree, IsAsked, IsLeast, doubts_in, left_after, state_in, suspects_in, worse_leaves}
+use Rattle.optimal_query.specs.Laws.{IsCallTree, CallTree, IsAsked, IsOptimal, doubts_in, left_after, state_in, suspects_in, worse_leaves}
 use Rattle.optimal_query.specs.Question.{leaves_least, left_of, question_of, weight_of}
 use Rattle.subtree_weights.specs.Searched.{is_in}
 use Rattle.optimal_query.specs.State.{state_by, state_with, verdict_by}
@@ -130,7 +130,7 @@ worse_is calls answers call are among =
     omega (arith, leave.wrong, leave.right)
 
 pub question_is_least : (calls : CallTree) (answers : List What) (call weight suspects left : ℕ) → IsCallTree calls
-    → state_in calls answers ≡ Ask call weight suspects left → IsLeast calls answers call left
+    → state_in calls answers ≡ Ask call weight suspects left → IsOptimal calls answers call left
 question_is_least calls answers call weight many left are h =
     let last = calls.last in
     let suspects = suspects_in calls answers in

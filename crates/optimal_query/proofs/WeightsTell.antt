@@ -22,7 +22,7 @@ use Rattle.optimal_query.specs.Nested.{end_below, start_below}
 use Rattle.optimal_query.specs.Question.{question_of, weight_of}
 use Rattle.optimal_query.specs.Region.{doubts_of, next_after, suspects_of}
 use Rattle.subtree_weights.specs.Searched.{is_below, is_in, is_searched, mark_at}
-use Rattle.optimal_query.specs.Runs.{Field, IsBestAmong, IsField, IsOpen, field_of}
+use Rattle.optimal_query.specs.Runs.{Field, IsBestAmong, IsField, MayBeAsked, field_of}
 use Rattle.optimal_query.specs.State.{state_by, state_with, verdict_by}
 use Rattle.optimal_query.proofs.BestOfRuns.{cases_lt}
 use Rattle.optimal_query.proofs.LeastExists.{at_most_all}
@@ -209,7 +209,7 @@ by_question last marks accused q is =
 -- the state where there is a question
 pub state_asks : (parent : List (Option ℕ)) (last : List ℕ) (marks : List Mark) (accused : Option ℕ) (total : ℕ) (choice : Choice)
     → Marked parent last marks accused → total ≡ suspects_below last marks accused
-    → IsBestAmong (IsOpen (field_by last marks accused total)) (left_at (weights_of last marks) total) (start_below accused) (end_below last accused)
+    → IsBestAmong (MayBeAsked (field_by last marks accused total)) (left_at (weights_of last marks) total) (start_below accused) (end_below last accused)
     (Some choice)
     → Ask choice.at (weight_in_tree last marks choice.at) total choice.left ≡ state_with last marks accused
 state_asks parent last marks accused total choice m is best =
@@ -225,7 +225,7 @@ state_asks parent last marks accused total choice m is best =
 -- and where there is none
 pub state_ends : (parent : List (Option ℕ)) (last : List ℕ) (marks : List Mark) (accused : Option ℕ) (total : ℕ)
     → Marked parent last marks accused → total ≡ suspects_below last marks accused
-    → IsBestAmong (IsOpen (field_by last marks accused total)) (left_at (weights_of last marks) total) (start_below accused) (end_below last accused) None
+    → IsBestAmong (MayBeAsked (field_by last marks accused total)) (left_at (weights_of last marks) total) (start_below accused) (end_below last accused) None
     → verdict_from accused (next_after (doubts_of last marks accused) None) ≡ state_with last marks accused
 state_ends parent last marks accused total m is none =
     let d = describes parent last marks accused total m is in

@@ -13,57 +13,57 @@ use Rattle.optimal_query.specs.Standing.{Command, Judge, Trust, TakeBack, TakeBa
 
 -- what an accepted command does: it makes the entry of this number, which says this, or takes back the entry of this
 -- number
-pub data Act : Type 0 where
-  Made : (number : ℕ) (what : What) → Act
-  TookBack : (number : ℕ) → Act
+pub data CommandAct : Type 0 where
+  Made : (number : ℕ) (what : What) → CommandAct
+  TookBack : (number : ℕ) → CommandAct
 
 -- whether it made an entry, the entry of this number, or took that one back
-abbrev pub makes : Act → Bool
+abbrev pub makes : CommandAct → Bool
 makes (Made number what) = true
 makes (TookBack number) = false
 
-abbrev pub made : ℕ → Act → Bool
+abbrev pub made : ℕ → CommandAct → Bool
 made number (Made other what) = other == number
 made number (TookBack other) = false
 
-abbrev pub took_back : ℕ → Act → Bool
+abbrev pub took_back : ℕ → CommandAct → Bool
 took_back number (Made other what) = false
 took_back number (TookBack other) = other == number
 
 -- whether one of these acts took back the entry of this number
-abbrev pub is_taken_back : List Act → ℕ → Bool
+abbrev pub is_taken_back : List CommandAct → ℕ → Bool
 is_taken_back acts number = list_any (took_back number) acts
 
 -- an entry stands if one of these acts made it and none took it back
-abbrev pub stands : List Act → ℕ → Bool
+abbrev pub stands : List CommandAct → ℕ → Bool
 stands acts number = list_any (made number) acts && not (is_taken_back acts number)
 
 -- how many entries they made
-abbrev pub number_made : List Act → ℕ
+abbrev pub number_made : List CommandAct → ℕ
 number_made acts = length (filter makes acts)
 
 -- what the entries that stand say, first to last
-abbrev pub said_unless : (ℕ → Bool) → Act → Option What
+abbrev pub said_unless : (ℕ → Bool) → CommandAct → Option What
 said_unless taken_back (Made number what) = if taken_back number then None else Some what
 said_unless taken_back (TookBack number) = None
 
-abbrev pub standing_after : List Act → List What
+abbrev pub standing_after : List CommandAct → List What
 standing_after acts = filter_map (said_unless (is_taken_back acts)) acts
 
 -- the entries, first to last, with whether they stand
-abbrev pub entry_unless : (ℕ → Bool) → Act → Option Entry
+abbrev pub entry_unless : (ℕ → Bool) → CommandAct → Option Entry
 entry_unless taken_back (Made number what) = Some (record { what = what; standing = not (taken_back number) })
 entry_unless taken_back (TookBack number) = None
 
-abbrev pub entries_after : List Act → List Entry
+abbrev pub entries_after : List CommandAct → List Entry
 entries_after acts = filter_map (entry_unless (is_taken_back acts)) acts
 
 -- a new entry, if there is room for it: there is room for 100,000 entries, counting those that were taken back
-abbrev pub new_entry : List Act → What → Option Act
+abbrev pub new_entry : List CommandAct → What → Option CommandAct
 new_entry acts what = if nat_le 100000 (number_made acts) then None else Some (Made (number_made acts + 1) what)
 
 -- what a command does after these acts, in a search over so many calls of so many routines; nothing where it is refused
-abbrev pub act_of : ℕ → ℕ → List Act → Command → Option Act
+abbrev pub act_of : ℕ → ℕ → List CommandAct → Command → Option CommandAct
 act_of calls routines acts (Judge call judgement) =
     if nat_le calls call then None else new_entry acts (Judged call judgement)
 act_of calls routines acts (Trust routine) = if nat_le routines routine then None else new_entry acts (Trusted routine)
@@ -71,18 +71,18 @@ act_of calls routines acts (TakeBack number) = if stands acts number then Some (
 act_of calls routines acts TakeBackLast =
     option_map TookBack (last_where (stands acts) (numbers_below (number_made acts + 1)))
 
-abbrev pub and_then : List Act → Option Act → List Act
+abbrev pub and_then : List CommandAct → Option CommandAct → List CommandAct
 and_then acts None = acts
 and_then acts (Some act) = acts ++ act ∷ []
 
 -- what the accepted ones of these commands do, first to last, after these acts
-abbrev pub acts_after : ℕ → ℕ → List Act → List Command → List Act
+abbrev pub acts_after : ℕ → ℕ → List CommandAct → List Command → List CommandAct
 acts_after calls routines acts [] = acts
 acts_after calls routines acts (command ∷ commands) =
     acts_after calls routines (and_then acts (act_of calls routines acts command)) commands
 
 -- and in a search over a run: entry 1 says that call 0 is wrong
-abbrev pub acts_in : Recording → List Command → List Act
+abbrev pub acts_in : Recording → List Command → List CommandAct
 acts_in run commands = acts_after (length run.calls) run.routines (Made 1 (Judged 0 Wrong) ∷ []) commands
 
 -- the entries of the search are those that these commands make, and the answers that stand are those which no accepted

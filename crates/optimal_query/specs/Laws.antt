@@ -77,7 +77,7 @@ AnswersLeaveWhatIsCounted =
 
 -- a suspect of which the worse answer leaves this many, and no other suspect's leaves fewer; of those that leave as
 -- many it has the least number
-pub record IsLeast (calls : CallTree) (answers : List What) (call left : ℕ) : Type 0 where
+pub record IsOptimal (calls : CallTree) (answers : List What) (call left : ℕ) : Type 0 where
   pub a_suspect : Contains (suspects_in calls answers) call
   pub its_own : left ≡ worse_leaves calls answers call
   pub none_leaves_fewer : All (λ other. left ≤ worse_leaves calls answers other) (suspects_in calls answers)
@@ -94,7 +94,7 @@ abbrev pub QuestionIsLeast : Type 0
 QuestionIsLeast =
     (calls : CallTree) (answers : List What) (call weight suspects left : ℕ) → IsCallTree calls
     → state_in calls answers ≡ Ask call weight suspects left
-    → IsLeast calls answers call left × IsAsked calls answers call weight suspects
+    → IsOptimal calls answers call left × IsAsked calls answers call weight suspects
 
 -- a call at fault: it is judged wrong, and each of its children is right or trusted (Shapiro 1983); nothing is left to
 -- ask, and nothing is in doubt
@@ -111,7 +111,7 @@ FoundIsAtFault =
     → IsAtFault calls answers call
 
 -- nothing is wrong: no call is judged wrong, nothing is left to ask, and nothing is in doubt
-pub record IsNothing (calls : CallTree) (answers : List What) : Type 0 where
+pub record NothingIsWrong (calls : CallTree) (answers : List What) : Type 0 where
   pub none_wrong : (call : ℕ) → call < length calls.last → mark_in calls answers call ≢ mark.Wrong
   pub no_suspect : suspects_in calls answers ≡ []
   pub no_doubt : doubts_in calls answers ≡ []
@@ -119,4 +119,4 @@ pub record IsNothing (calls : CallTree) (answers : List What) : Type 0 where
 abbrev pub NothingWrongIsNothing : Type 0
 NothingWrongIsNothing =
     (calls : CallTree) (answers : List What) → IsCallTree calls → state_in calls answers ≡ NothingWrong
-    → IsNothing calls answers
+    → NothingIsWrong calls answers

@@ -19,7 +19,7 @@ field_of last weights askable total start end =
     record { last = last; weights = weights; askable = askable; total = total; start = start; end = end }
 
 -- nothing is said of the call, and it stands in no subtree that weighs nothing
-pub record IsOpen (field : Field) (call : ℕ) : Type 0 where
+pub record MayBeAsked (field : Field) (call : ℕ) : Type 0 where
   pub unsaid : slice_index field.askable call ≢ 0
   pub free : (above : ℕ) → field.start ≤ above → above ≤ call → slice_index field.weights above ≡ 0
       → slice_index field.last above < call
@@ -35,7 +35,7 @@ pub record IsField (field : Field) : Type 0 where
   pub within : (call : ℕ) → field.start ≤ call → call < field.end → slice_index field.last call < field.end
   pub nested : (above call : ℕ) → above ≤ call → call ≤ slice_index field.last above
       → slice_index field.last call ≤ slice_index field.last above
-  pub few : (call : ℕ) → field.start ≤ call → call < field.end → IsOpen field call
+  pub few : (call : ℕ) → field.start ≤ call → call < field.end → MayBeAsked field call
       → slice_index field.weights call ≤ field.total
 
 -- of the calls from `from` up to `to` that have the property this is the first with the least value

@@ -1,7 +1,7 @@
 //! The question, found run by run: the kernel `best` looks at each run of calls between the subtrees
 //! in which no suspect stands.
 ghost use Rattle.std.specs.Prelude.{◌≡◌, ◌≢◌, ℕ, ◌+◌, ◌<◌, ◌≤◌, if◌then◌else◌, length, nat_lt, slice_index};
-ghost use Rattle.optimal_query.specs.Runs.{IsBestAmong, IsField, IsOpen, better_of, field_of};
+ghost use Rattle.optimal_query.specs.Runs.{IsBestAmong, IsField, MayBeAsked, better_of, field_of};
 ghost use Rattle.weight_lanes.specs.Places.{left_at};
 
 use weight_lanes::{Choice, best, next_of};
@@ -83,7 +83,7 @@ pub(crate) fn best_of_runs(
     end: usize,
 ) -> Option<Choice>
     requires a_field { IsField (field_of last.now weights.now askable.now total start end) }
-    ensures { IsBestAmong (IsOpen (field_of last.now weights.now askable.now total start end))
+    ensures { IsBestAmong (MayBeAsked (field_of last.now weights.now askable.now total start end))
         (left_at weights.now total) start end result }
 {
     let mut best = None;

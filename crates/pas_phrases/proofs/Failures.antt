@@ -1,4 +1,4 @@
--- A failure of a part is one of the whole.
+-- Two parts read in turn are read as one, and a failure of a part is one of the whole.
 use Rattle.std.proofs.Common.{◌≡◌, ℕ, List, Result, Ok, ap, ◌∙◌}
 use Rattle.std.specs.Prelude.{IsErrAnd}
 use Rattle.std.proofs.lemmas.Result.{err_from_is_err_and}
@@ -19,6 +19,12 @@ handed_on whole kinds view result e exit f = let p = err_from_is_err_and result 
 -- the pair of a tree and those of what is read after it
 abbrev pub after_first : Node → Read → Read
 after_first x r = r >>= λ y. Ok (Pair x y.0, y.1)
+
+-- both parts are read
+pub seq_read : (n : ℕ) (a b : Grammar) (l : List Item) {m rest : List Item} {x y : Node} → read pascal n a l ≡ Ok (x, m) → read pascal n b m ≡ Ok (y, rest)
+    → read pascal n (seq a b) l ≡ Ok (Pair x y, rest)
+unfolding read
+seq_read n a b l {x = x} h e = ap (λ (z : Read). then_pair z (read pascal n b)) h ∙ ap (after_first x) e
 
 -- a first part that fails
 pub first_fails : (n : ℕ) (a b : Grammar) (l : List Item) (kinds : List Terminal) (e : ParseFault)

@@ -5,14 +5,14 @@ use Rattle.grammar.specs.declared.terminals.Terminal.{Terminal}
 use Rattle.grammar.specs.Terminals.{one_of, passes}
 use Rattle.grammar.specs.Nodes.{Item, Node, Leaf, Pair, row, next}
 use Rattle.grammar.specs.Grammars.{Grammar, Level, token, seq, level, many}
-use Rattle.grammar.specs.Reading.{Refusal, Read, Unfit, Deep, token_at, then_pair, levels, read}
+use Rattle.grammar.specs.Reading.{Refusal, Read, Unfit, Deep, token_at, levels, read}
 use Rattle.grammar.proofs.Lists.{Repeats, with_front, goes_on, stops, is_done}
 use Rattle.pas_tree.specs.FirstFollow.{pascal}
 use Rattle.pas_tree.proofs.Decided.{pascal_sane}
 use Rattle.pas_phrases.specs.declared.fault.ParseFault.{ParseFault}
 use Rattle.pas_phrases.specs.declared.fault.ParseFault.TheVariants.{NotProgram, TooDeep, Memory}
 use Rattle.pas_phrases.specs.Items.{Fails}
-use Rattle.pas_phrases.proofs.Failures.{after_first, first_fails, second_fails, handed_on}
+use Rattle.pas_phrases.proofs.Failures.{seq_read, first_fails, second_fails, handed_on}
 
 -- the parts read so far, and what is still read from here, are the whole
 pub record ListSoFar {X : Type 0} (view : X → Node) (n : ℕ) (ks : List Terminal) (g : Grammar) (xs : List X) (l : List Item) (whole : Read) : Type 0 where
@@ -61,9 +61,9 @@ pub pair_more : {X : Type 0} {view : X → Node} {n : ℕ} {ks : List Terminal} 
     → Repeats (seq (token ks) b) → ListSoFar view n ks (seq (token ks) b) xs l whole → token_at ks l ≡ Ok (p, m) → read pascal n b m ≡ Ok (q, rest)
     → ys ≡ xs ++ x ∷ [] → view x ≡ Pair p q → ListSoFar view n ks (seq (token ks) b) ys rest whole
 unfolding read
-pair_more {n = n} {ks = ks} {b = b} {l = l} {rest = rest} {x = x} {p = p} r s h e more same =
+pair_more {n = n} {ks = ks} {b = b} {l = l} {rest = rest} {x = x} r s h e more same =
     list_more x r s (token_leads ks l h)
-    (ap (λ (z : Read). then_pair z (read pascal n b)) h ∙ ap (after_first p) e ∙ ap (λ (y : Node). Ok (y, rest)) (sym same)) more
+    (seq_read n (token ks) b l h e ∙ ap (λ (y : Node). Ok (y, rest)) (sym same)) more
 
 -- the same where the part is a level
 pub level_more : {X : Type 0} {view : X → Node} {n : ℕ} {ks : List Terminal} {w : Level} {xs : List X} {l m rest : List Item} {whole : Read} {ys : List X}

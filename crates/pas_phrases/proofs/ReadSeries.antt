@@ -2,17 +2,17 @@
 use Rattle.std.proofs.Common.{◌≡◌, ℕ, true, false, List, [], ◌∷◌, ◌++◌, map, Ok, sym, ap, ◌∙◌}
 use Rattle.std.proofs.lemmas.List.{map_push}
 use Rattle.grammar.specs.declared.terminals.Terminal.{Terminal}
-use Rattle.grammar.specs.Nodes.{Item, Node, Step, step_node, chain}
+use Rattle.grammar.specs.Nodes.{Item, Node, SeriesPart, step_node, chain}
 use Rattle.grammar.specs.Grammars.{Grammar, nothing, seq, choice, word, series}
 use Rattle.grammar.specs.Deciding.{closed}
-use Rattle.grammar.specs.Reading.{Read, Unfit, Deep, token_at, then_pair, read}
+use Rattle.grammar.specs.Reading.{Read, Unfit, Deep, token_at, read}
 use Rattle.grammar.proofs.Lists.{with_steps, steps_on, steps_stop, steps_done, steps_break}
 use Rattle.pas_tree.specs.FirstFollow.{pascal}
 use Rattle.pas_tree.proofs.Decided.{pascal_sane}
 use Rattle.pas_phrases.specs.declared.fault.ParseFault.{ParseFault}
 use Rattle.pas_phrases.specs.declared.fault.ParseFault.TheVariants.{NotProgram, TooDeep, Memory}
 use Rattle.pas_phrases.specs.Items.{Fails, goes_further}
-use Rattle.pas_phrases.proofs.Failures.{after_first, first_fails, second_fails, handed_on}
+use Rattle.pas_phrases.proofs.Failures.{seq_read, first_fails, second_fails, handed_on}
 
 -- parts g after separators that lead to one of ks, and an end z
 pub record Series : Type 0 where
@@ -30,20 +30,21 @@ abbrev pub end_of : Series → Grammar
 end_of q = choice (q.separator ∷ []) (seq (word q.separator) q.end) nothing
 
 -- the parts read so far, and what is still read from here, are the whole
-pub record SeriesSoFar {X : Type 0} (step : X → Step) (n : ℕ) (q : Series) (xs : List X) (l : List Item) (whole : Read) : Type 0 where
+pub record SeriesSoFar {X : Type 0} (step : X → SeriesPart) (n : ℕ) (q : Series) (xs : List X) (l : List Item) (whole : Read) : Type 0 where
   pub same : with_steps (map step xs) (read pascal n (series_of q) l) ≡ whole
 
-pub series_more : {X : Type 0} {step : X → Step} {n : ℕ} {q : Series} {xs : List X} {l rest : List Item} {whole : Read} {ys : List X} (x : X)
+pub series_more : {X : Type 0} {step : X → SeriesPart} {n : ℕ} {q : Series} {xs : List X} {l rest : List Item} {whole : Read} {ys : List X} (x : X)
     → SeriesSoFar step n q xs l whole → goes_further q.separator q.starts l ≡ true
     → read pascal n (seq (word q.separator) q.part) l ≡ Ok (step_node (step x), rest)
     → ys ≡ xs ++ x ∷ [] → SeriesSoFar step n q ys rest whole
 series_more {X} {step} {n} {q} {xs} {l} {rest} {whole} x s h e more = record {
-  same = ap (λ (front : List Step). with_steps front (read pascal n (series_of q) rest)) (ap (map step) more ∙ map_push step xs x)
+  same = ap (λ (front : List SeriesPart). with_steps front (read pascal n (series_of q) rest)) (ap (map step) more ∙ map_push step xs x)
       ∙ steps_on pascal pascal_sane n q.separator q.starts q.part q.end q.part_closed q.end_closed (map step xs) l (step x) rest whole h e s.same;
 }
 
 -- a part, and the end, that fails
-pub series_fails : {X : Type 0} {step : X → Step} {n : ℕ} {q : Series} {xs : List X} {l : List Item} {whole : Read} (kinds : List Terminal) (e : ParseFault)
+pub series_fails : {X : Type 0} {step : X → SeriesPart} {n : ℕ} {q : Series} {xs : List X} {l : List Item} {whole : Read} (kinds : List Terminal)
+    (e : ParseFault)
     → SeriesSoFar step n q xs l whole → goes_further q.separator q.starts l ≡ true → Fails kinds e (read pascal n (seq (word q.separator) q.part) l)
     → Fails kinds e whole
 series_fails {X} {step} {n} {q} {xs} {l} {whole} kinds (NotProgram i) s h f =
@@ -52,7 +53,8 @@ series_fails {X} {step} {n} {q} {xs} {l} {whole} kinds (TooDeep i) s h f =
     steps_stop pascal pascal_sane n q.separator q.starts q.part q.end q.part_closed q.end_closed (map step xs) l (Deep _) whole h f s.same
 series_fails kinds Memory s h f = tt
 
-pub series_end_fails : {X : Type 0} {step : X → Step} {n : ℕ} {q : Series} {xs : List X} {l : List Item} {whole : Read} (kinds : List Terminal) (e : ParseFault)
+pub series_end_fails : {X : Type 0} {step : X → SeriesPart} {n : ℕ} {q : Series} {xs : List X} {l : List Item} {whole : Read} (kinds : List Terminal)
+    (e : ParseFault)
     → SeriesSoFar step n q xs l whole → goes_further q.separator q.starts l ≡ false → Fails kinds e (read pascal n (end_of q) l) → Fails kinds e whole
 series_end_fails {X} {step} {n} {q} {xs} {l} {whole} kinds (NotProgram i) s h f =
     steps_break pascal pascal_sane n q.separator q.starts q.part q.end q.part_closed q.end_closed (map step xs) l (Unfit _) whole h f s.same
@@ -60,7 +62,7 @@ series_end_fails {X} {step} {n} {q} {xs} {l} {whole} kinds (TooDeep i) s h f =
     steps_break pascal pascal_sane n q.separator q.starts q.part q.end q.part_closed q.end_closed (map step xs) l (Deep _) whole h f s.same
 series_end_fails kinds Memory s h f = tt
 
-pub series_read : {X : Type 0} {step : X → Step} {n : ℕ} {q : Series} {xs : List X} {l rest : List Item} {whole : Read} {end : Node}
+pub series_read : {X : Type 0} {step : X → SeriesPart} {n : ℕ} {q : Series} {xs : List X} {l rest : List Item} {whole : Read} {end : Node}
     → SeriesSoFar step n q xs l whole → goes_further q.separator q.starts l ≡ false → read pascal n (end_of q) l ≡ Ok (end, rest)
     → whole ≡ Ok (chain (map step xs) end, rest)
 series_read {X} {step} {n} {q} {xs} {l} {rest} {whole} {end} s h e =
@@ -68,23 +70,23 @@ series_read {X} {step} {n} {q} {xs} {l} {rest} {whole} {end} s h e =
 
 -- ---- where a loop itself reads the separator, and the part after it
 
-pub series_pair_more : {X : Type 0} {step : X → Step} {n : ℕ} {q : Series} {xs : List X} {l m rest : List Item} {whole : Read} {ys : List X}
+pub series_pair_more : {X : Type 0} {step : X → SeriesPart} {n : ℕ} {q : Series} {xs : List X} {l m rest : List Item} {whole : Read} {ys : List X}
     {x : X} {a b : Node}
     → SeriesSoFar step n q xs l whole → goes_further q.separator q.starts l ≡ true → token_at (q.separator ∷ []) l ≡ Ok (a, m)
     → read pascal n q.part m ≡ Ok (b, rest) → ys ≡ xs ++ x ∷ [] → step x ≡ record { separator = a; part = b } → SeriesSoFar step n q ys rest whole
 unfolding read
-series_pair_more {n = n} {q = q} {rest = rest} {x = x} {a = a} s h t e more same =
+series_pair_more {n = n} {q = q} {l = l} {rest = rest} {x = x} s h t e more same =
     series_more x s h
-    (ap (λ (z : Read). then_pair z (read pascal n q.part)) t ∙ ap (after_first a) e ∙ ap (λ (y : Step). Ok (step_node y, rest)) (sym same)) more
+    (seq_read n (word q.separator) q.part l t e ∙ ap (λ (y : SeriesPart). Ok (step_node y, rest)) (sym same)) more
 
 -- a separator that fails, and a part after one
-pub series_token_fails : {X : Type 0} {step : X → Step} {n : ℕ} {q : Series} {xs : List X} {l : List Item} {whole : Read}
+pub series_token_fails : {X : Type 0} {step : X → SeriesPart} {n : ℕ} {q : Series} {xs : List X} {l : List Item} {whole : Read}
     (kinds : List Terminal) (e : ParseFault)
     → SeriesSoFar step n q xs l whole → goes_further q.separator q.starts l ≡ true → Fails kinds e (token_at (q.separator ∷ []) l) → Fails kinds e whole
 unfolding read
 series_token_fails {n = n} {q = q} {l = l} kinds e s h f = series_fails kinds e s h (first_fails n (word q.separator) q.part l kinds e f)
 
-pub series_pair_fails : {X : Type 0} {step : X → Step} {n : ℕ} {q : Series} {xs : List X} {l m : List Item} {whole : Read} {a : Node}
+pub series_pair_fails : {X : Type 0} {step : X → SeriesPart} {n : ℕ} {q : Series} {xs : List X} {l m : List Item} {whole : Read} {a : Node}
     (kinds : List Terminal) (e : ParseFault)
     → SeriesSoFar step n q xs l whole → goes_further q.separator q.starts l ≡ true → token_at (q.separator ∷ []) l ≡ Ok (a, m)
     → Fails kinds e (read pascal n q.part m) → Fails kinds e whole

@@ -4,7 +4,7 @@ use Rattle.grammar.specs.declared.terminals.Terminal.{Terminal}
 use Rattle.grammar.specs.declared.terminals.Terminal.TheVariants as k
 use Rattle.grammar.specs.Nodes.{Item, Node, row}
 use Rattle.grammar.specs.Grammars.{Closer, level, statement, many, nothing}
-use Rattle.grammar.specs.Reading.{Read, then_pair, levels, read}
+use Rattle.grammar.specs.Reading.{levels, read}
 use Rattle.grammar.proofs.Lists.{Repeats}
 use Rattle.pas_tree.specs.declared.statements.Statement.{Statement}
 use Rattle.pas_tree.specs.declared.statements.Statements.{roll-Statements}
@@ -16,7 +16,7 @@ use Rattle.pas_tree.proofs.Parts.{parts}
 use Rattle.pas_tree.proofs.StatementRolls.{statements_rolled}
 use Rattle.pas_phrases.specs.declared.fault.ParseFault.{ParseFault}
 use Rattle.pas_phrases.specs.Items.{Fails}
-use Rattle.pas_phrases.proofs.Failures.{after_first, first_fails, second_fails}
+use Rattle.pas_phrases.proofs.Failures.{seq_read, first_fails, second_fails}
 use Rattle.pas_phrases.proofs.ReadSeries.{Series}
 
 pub next_statement_repeats : (closer : Closer) → Repeats (next_statement_rule closer)
@@ -43,8 +43,8 @@ pub statements_read : (n : ℕ) (closer : Closer) (l : List Item) {m rest : List
     → read pascal n (statements_rule closer) l ≡ Ok (statements_node (roll-Statements (record { first = first; others = others })), rest)
 unfolding read statements_rule
 statements_read n closer l {rest = rest} first others h e =
-    ap (λ (z : Read). then_pair z (read pascal n (many (k.Semicolon ∷ []) (next_statement_rule closer)))) h
-    ∙ ap (after_first (statement_node first)) e ∙ ap (λ (y : Node). Ok (y, rest)) (sym (statements_rolled first others))
+    seq_read n (level (statement false closer)) (many (k.Semicolon ∷ []) (next_statement_rule closer)) l h e
+    ∙ ap (λ (y : Node). Ok (y, rest)) (sym (statements_rolled first others))
 
 abbrev pub branches : Series
 branches = record {

@@ -1,7 +1,7 @@
 -- Type denoters as nodes.
 use Rattle.std.specs.Prelude.{ℕ, Option, Some, None}
 use Rattle.grammar.specs.declared.terminals.Terminal.TheVariants as k
-use Rattle.grammar.specs.Nodes.{Node, Nothing, Pair, leaf, Step}
+use Rattle.grammar.specs.Nodes.{Node, Nothing, Pair, leaf, SeriesPart}
 use Rattle.pas_tree.specs.declared.denoters.Denoter.{Denoter, Name, Enumeration, Subrange, Pointer, Structure'}
 use Rattle.pas_tree.specs.declared.denoters.Structure.{Structure, Array, Record', Set'}
 use Rattle.pas_tree.specs.declared.denoters.Enumeration.{Enumeration as EnumerationTree}
@@ -113,10 +113,10 @@ next_denoter_node n = Pair (leaf k.Comma n.comma) (denoter_node n.denoter)
 abbrev pub section_node : Section → Node
 section_node s = Pair (names_node s.names) (Pair (leaf k.Colon s.colon) (denoter_node s.denoter))
 
-abbrev pub section_step : NextSection → Step
+abbrev pub section_step : NextSection → SeriesPart
 section_step n = record { separator = leaf k.Semicolon n.semicolon; part = section_node n.section }
 
-abbrev pub arm_step : NextArm → Step
+abbrev pub arm_step : NextArm → SeriesPart
 arm_step n = record { separator = leaf k.Semicolon n.semicolon; part = arm_node n.arm }
 
 abbrev pub some_variants_node : NextVariants → Option ℕ → Node

@@ -2,7 +2,7 @@
 use Rattle.std.specs.Prelude.{map, Option, Some, None}
 use Rattle.std.specs.Global.{Box}
 use Rattle.grammar.specs.declared.terminals.Terminal.TheVariants as k
-use Rattle.grammar.specs.Nodes.{Node, Nothing, Pair, leaf, row, Step}
+use Rattle.grammar.specs.Nodes.{Node, Nothing, Pair, leaf, row, SeriesPart}
 use Rattle.pas_tree.specs.declared.statements.Plain.{Plain, Empty, Assignment as Assignment', Call, Goto, Compound'}
 use Rattle.pas_tree.specs.declared.statements.Plain.{If', Case', Repeat', While', For', With'}
 use Rattle.pas_tree.specs.declared.statements.Compound.{Compound, Compound' as CompoundTree'}
@@ -134,7 +134,7 @@ next_statement_node n = Pair (leaf k.Semicolon n.semicolon) (statement_node n.st
 abbrev pub branch_node : Branch → Node
 branch_node b = Pair (constants_node b.constants) (Pair (leaf k.Colon b.colon) (statement_node b.statement))
 
-abbrev pub branch_step : NextBranch → Step
+abbrev pub branch_step : NextBranch → SeriesPart
 branch_step n = record { separator = leaf k.Semicolon n.semicolon; part = branch_node n.branch }
 
 abbrev pub alternative_node : Else → Node

@@ -36,7 +36,7 @@ use Rattle.program_meaning.specs.Acts.{
   OutOfSteps,
   Limited,
   Act,
-  Done,
+  ActResult,
   Went,
   Stops,
   Spend,
@@ -76,11 +76,11 @@ cost (MakeBlock cells of') = block_cells cells
 cost (DropBlock addr cells) = block_cells cells
 
 -- where an act is done this many steps fewer are left, and else no more than there were
-abbrev pub Acted : {A : Type 0} → ℕ → State → Done A → Type 0
+abbrev pub Acted : {A : Type 0} → ℕ → State → ActResult A → Type 0
 Acted n σ (Went x w τ) = τ.steps + n ≤ σ.steps
 Acted n σ (Stops why w τ) = τ.steps ≤ σ.steps
 
-stepped : {A : Type 0} (n : ℕ) (σ : State) (go : State → Done A) → ((τ : State) → τ.steps + n ≤ σ.steps → Acted n σ (go τ))
+stepped : {A : Type 0} (n : ℕ) (σ : State) (go : State → ActResult A) → ((τ : State) → τ.steps + n ≤ σ.steps → Acted n σ (go τ))
     → Acted n σ (with_steps n σ go)
 stepped {A} n σ go h = by (nat_lt σ.steps n) refl
   where
@@ -88,7 +88,8 @@ stepped {A} n σ go h = by (nat_lt σ.steps n) refl
     by true e = omega arith
     by false e = h (record σ { steps = σ.steps - n }) (let k = ltb-false σ.steps n e in omega arith)
 
-celled : {A : Type 0} (addr : ℕ) (σ : State) (go : State → Done A) → ((τ : State) → τ.steps + 1 ≤ σ.steps → Acted 1 σ (go τ)) → Acted 1 σ (on_cell addr σ go)
+celled : {A : Type 0} (addr : ℕ) (σ : State) (go : State → ActResult A) → ((τ : State) → τ.steps + 1 ≤ σ.steps → Acted 1 σ (go τ))
+    → Acted 1 σ (on_cell addr σ go)
 celled {A} addr σ go h = by (is_in_reach σ addr)
   where
     by : (b : Bool) → Acted 1 σ (if b then with_steps 1 σ go else Stops (Fault kind.Undefined) [] σ)
@@ -116,7 +117,7 @@ written addr value σ τ h = by (nat_lt addr stack_end)
     by true = h
     by false = asked (is_some (get τ.cells addr)) addr value σ τ h
 
-after : {A : Type 0} (w : List Touch) (n : ℕ) (σ : State) (d : Done A) → Acted n σ d → Acted n σ (after_touches w d)
+after : {A : Type 0} (w : List Touch) (n : ℕ) (σ : State) (d : ActResult A) → Acted n σ d → Acted n σ (after_touches w d)
 after w n σ (Went x v τ) h = h
 after w n σ (Stops why v τ) h = h
 

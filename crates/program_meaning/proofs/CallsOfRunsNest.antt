@@ -4,6 +4,7 @@ use Rattle.std.proofs.Common.{◌≡◌, ℕ, zero, suc, ◌+◌, ◌<◌, Bool,
 use Rattle.std.proofs.Common.{nat_lt, if◌then◌else◌, arith, ap, ◌∙◌, append_assoc, length-append}
 use Rattle.std.specs.List.{All}
 use Rattle.std.proofs.lemmas.List.{map-append, length-map}
+use Rattle.std.proofs.lemmas.Option.{same_Some}
 use Rattle.std.proofs.lemmas.List.Elements.{All-append, All-cons, All-map, All-nil, All-weaker}
 use Rattle.cell_value.specs.declared.values.Value.{Value}
 use Rattle.cell_value.specs.declared.values.Value.TheVariants.{Nil}
@@ -12,7 +13,7 @@ use Rattle.cell_value.specs.declared.ways_out.Which.{Which}
 use Rattle.program_tables.specs.declared.program.Routine.{Routine}
 use Rattle.program_tables.specs.ProgramRows.{ProgramRows, routine_at}
 use Rattle.program_meaning.specs.State.{State, stack_end}
-use Rattle.program_meaning.specs.Acts.{Done, Went, Stops, Spend, perform, spent, limit_passed}
+use Rattle.program_meaning.specs.Acts.{ActResult, Went, Stops, Spend, perform, spent, limit_passed}
 use Rattle.program_meaning.specs.Tree.{Out, Part, Tree, Ret, Halt, Do, Sub, Enter, Line, way_of}
 use Rattle.program_meaning.specs.Layer.{layer}
 use Rattle.program_meaning.specs.Run.{
@@ -92,14 +93,11 @@ record Fits (log : List Touch) (es : List (Marked Call)) : Type 0 where
 record Good (x : Outcome) : Type 0 where
   good : (r : Result State Call) → x ≡ Some r → Fits r.log r.events
 
-some_same : {A : Type 0} (x y : A) → Some x ≡ Some y → x ≡ y
-some_same x y e = cc
-
 good_none : Good None
 good_none = record { good = λ r e. absurd (let x : ⊥ = cc in x) }
 
 good_some : (r : Result State Call) → Fits r.log r.events → Good (Some r)
-good_some r f = record { good = λ s e. subst (λ q. Fits q.log q.events) (some_same r s e) f }
+good_some r f = record { good = λ s e. subst (λ q. Fits q.log q.events) (same_Some r s e) f }
 
 fits_none : (w : List Touch) → Fits w []
 fits_none w = record { forest = forest_none; stand = All-nil _ }
@@ -128,7 +126,7 @@ good_joined : (x : Outcome) (k : Out → State → Outcome) → Good x → ((out
 good_joined None k g h = good_none
 good_joined (Some r) k g h = good_end r.end r k (g.good r refl) h
 
-good_done : {A : Type 0} (p : ProgramRows) (line : ℕ) (σ : State) (d : Done A) (go : A → State → Outcome) → ((x : A) (τ : State) → Good (go x τ))
+good_done : {A : Type 0} (p : ProgramRows) (line : ℕ) (σ : State) (d : ActResult A) (go : A → State → Outcome) → ((x : A) (τ : State) → Good (go x τ))
     → Good (on_done (plain p) line σ d go)
 good_done p line σ (Went x w τ) go h = good_front w [] _ (fits_none w) (h x τ)
 good_done p line σ (Stops why w τ) go h = good_front w [] _ (fits_none w) (good_ends (Halted (way_of line why)) τ)
@@ -208,8 +206,8 @@ root_front args (Some q) σ r e = go q.end e
     root-nil = subst (λ es. Rooted (belows es)) (sym (append-nil (first_event args σ q ∷ q.events))) root
 
     go : (e : End) → on_end e (record q { events = first_event args σ q ∷ q.events }) (λ out τ. ends (Ended out) τ) ≡ Some r → Rooted (belows r.events)
-    go (Ended out) h = subst (λ s. Rooted (belows s.events)) (some_same _ r h) root-nil
-    go (Halted way) h = subst (λ s. Rooted (belows s.events)) (some_same _ r h) root
+    go (Ended out) h = subst (λ s. Rooted (belows s.events)) (same_Some _ r h) root-nil
+    go (Halted way) h = subst (λ s. Rooted (belows s.events)) (same_Some _ r h) root
 
 root_run : (p : ProgramRows) (n : ℕ) (input : List ℕ) (budget : ℕ) (r : Result State Call) → run_of p n block (start input budget) ≡ Some r
     → Rooted (belows r.events)

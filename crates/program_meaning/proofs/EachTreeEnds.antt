@@ -19,7 +19,7 @@ use Rattle.program_tables.specs.declared.rows.StatementRow.{StatementRow}
 use Rattle.program_tables.specs.declared.rows.StatementRow.TheVariants as statement
 use Rattle.program_tables.specs.ProgramRows.{ProgramRows, row_at, routine_at}
 use Rattle.program_meaning.specs.State.{State, stack_end}
-use Rattle.program_meaning.specs.Acts.{OutOfSteps, Limited, Act, Answer, Done, Went, Stops, Spend, perform, limit_passed, spent}
+use Rattle.program_meaning.specs.Acts.{OutOfSteps, Limited, Act, Answer, ActResult, Went, Stops, Spend, perform, limit_passed, spent}
 use Rattle.program_meaning.specs.Tree.{
   Out,
   Jump,
@@ -436,7 +436,7 @@ module _ (p : ProgramRows) where
       → Ends b σ.steps (on_done (plain p) line σ (perform act σ) next)
   act_ends b line act next σ h = go (perform act σ) (acted act σ)
     where
-      go : (d : Done (Answer act)) → Acted (cost act) σ d → Ends b σ.steps (on_done (plain p) line σ d next)
+      go : (d : ActResult (Answer act)) → Acted (cost act) σ d → Ends b σ.steps (on_done (plain p) line σ d next)
       go (Went x w τ) e = ends_front b σ.steps w [] _ (h x τ e)
       go (Stops why w τ) e = ends_front b σ.steps w [] _ (halts b σ.steps _ τ e)
 

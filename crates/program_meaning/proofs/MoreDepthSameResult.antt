@@ -28,7 +28,7 @@ use Rattle.cell_value.specs.declared.ways_out.Which.{Which}
 use Rattle.program_tables.specs.declared.program.Routine.{Routine}
 use Rattle.program_tables.specs.ProgramRows.{ProgramRows, routine_at}
 use Rattle.program_meaning.specs.State.{State, stack_end}
-use Rattle.program_meaning.specs.Acts.{Done, Went, Stops, Spend, perform, limit_passed}
+use Rattle.program_meaning.specs.Acts.{ActResult, Went, Stops, Spend, perform, limit_passed}
 use Rattle.program_meaning.specs.Tree.{Out, Part, Tree, Ret, Halt, Do, Sub, Enter, Line}
 use Rattle.program_meaning.specs.Layer.{layer}
 use Rattle.program_meaning.specs.Run.{
@@ -85,7 +85,8 @@ module _ {S E : Type 0} where
   joined_less None b f g h k = less_none _
   joined_less (Some x) b f g h k = record { gives = λ r e. ap (λ y. joined y g) (h.gives x refl) ∙ (on_end_less x.end x f g k).gives r e }
 
-  on_done_less : {A : Type 0} (rules : Rules S E) (line : ℕ) (σ : S) (d : Done A) (f g : A → S → Option (Result S E)) → ((x : A) (τ : S) → Less (f x τ) (g x τ))
+  on_done_less : {A : Type 0} (rules : Rules S E) (line : ℕ) (σ : S) (d : ActResult A) (f g : A → S → Option (Result S E))
+      → ((x : A) (τ : S) → Less (f x τ) (g x τ))
       → Less (on_done rules line σ d f) (on_done rules line σ d g)
   on_done_less rules line σ (Went x w τ) f g h = in_front_less w [] _ _ (h x _)
   on_done_less rules line σ (Stops why w τ) f g h = less_same _

@@ -4,7 +4,7 @@ use Rattle.std.proofs.lemmas.List.{map-append}
 use Rattle.cell_value.specs.declared.values.Value.{Value}
 use Rattle.cell_value.specs.declared.entries.Touch.{Touch}
 use Rattle.cell_value.specs.declared.ways_out.Which.{Which}
-use Rattle.program_meaning.specs.Acts.{Done, Went, Stops, Spend, perform, limit_passed}
+use Rattle.program_meaning.specs.Acts.{ActResult, Went, Stops, Spend, perform, limit_passed}
 use Rattle.program_meaning.specs.Tree.{Out, Part, Tree, Ret, Halt, Do, Sub, Enter, Line, bind, way_of}
 use Rattle.program_meaning.specs.Run.{End, Ended, Halted, Marked, Result, Rules, later_by, in_front, ends, on_end, joined, on_done, if_allowed, walk}
 use Rattle.program_meaning.proofs.MoreDepthSameResult.{Less}
@@ -69,7 +69,7 @@ module _ {S E : Type 0} where
   joined_joined None f g = refl
   joined_joined (Some r) f g = on_end_joined r.end r f g refl
 
-  on_done_joined : {A : Type 0} (rules : Rules S E) (line : ℕ) (σ : S) (d : Done A) (f h : A → S → Option (Result S E)) (g : Out → S → Option (Result S E))
+  on_done_joined : {A : Type 0} (rules : Rules S E) (line : ℕ) (σ : S) (d : ActResult A) (f h : A → S → Option (Result S E)) (g : Out → S → Option (Result S E))
       → ((x : A) (τ : S) → h x τ ≡ joined (f x τ) g) → on_done rules line σ d h ≡ joined (on_done rules line σ d f) g
   on_done_joined rules line σ (Went x w τ) f h g e = ap (in_front w []) (e x _) ∙ sym (front_joined w [] _ g)
   on_done_joined rules line σ (Stops why w τ) f h g e = sym (front_joined w [] (ends (Halted (way_of line why)) (rules.with_state σ τ)) g)

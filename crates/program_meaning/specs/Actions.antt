@@ -2,7 +2,7 @@
 use Rattle.std.specs.Prelude.{List, [], ◌++◌}
 use Rattle.cell_value.specs.declared.entries.Touch.{Touch}
 use Rattle.program_meaning.specs.State.{State}
-use Rattle.program_meaning.specs.Acts.{Trouble, Act, Answer, Done, Went, Stops, perform}
+use Rattle.program_meaning.specs.Acts.{Trouble, Act, Answer, ActResult, Went, Stops, perform}
 
 pub data Action (A : Type 0) : Type 0 where
   Give : (answer : A) → Action A
@@ -28,7 +28,7 @@ abbrev pub before : {A : Type 0} → List Touch → Performed A → Performed A
 before w (Finished x v σ) = Finished x (w ++ v) σ
 before w (Stopped why v σ) = Stopped why (w ++ v) σ
 
-abbrev pub follow : {A B : Type 0} → Done A → (A → State → Performed B) → Performed B
+abbrev pub follow : {A B : Type 0} → ActResult A → (A → State → Performed B) → Performed B
 follow (Went x w σ) go = before w (go x σ)
 follow (Stops why w σ) go = Stopped why w σ
 

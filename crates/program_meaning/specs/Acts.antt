@@ -68,23 +68,23 @@ Answer (DropBlock addr cells) = Unit {0}
 
 -- An act was done, with its answer, what it shows in the log and the state after it; or it was not done, or not
 -- whole, and the run stops.
-pub data Done (A : Type 0) : Type 0 where
-  Went : (answer : A) (log : List Touch) (after : State) → Done A
-  Stops : (why : Trouble) (log : List Touch) (after : State) → Done A
+pub data ActResult (A : Type 0) : Type 0 where
+  Went : (answer : A) (log : List Touch) (after : State) → ActResult A
+  Stops : (why : Trouble) (log : List Touch) (after : State) → ActResult A
 
 -- no steps are left
 abbrev pub spent : State → State
 spent σ = record σ { steps = 0 }
 
 -- An act that takes so many steps. Where fewer are left it is not done, and none are left then.
-abbrev pub with_steps : {A : Type 0} → ℕ → State → (State → Done A) → Done A
+abbrev pub with_steps : {A : Type 0} → ℕ → State → (State → ActResult A) → ActResult A
 with_steps n σ go = if nat_lt σ.steps n then Stops OutOfSteps [] (spent σ) else go (record σ { steps = σ.steps - n })
 
 -- An act of one step on a cell. At an address that is not in reach it is not done, and takes no step.
-abbrev pub on_cell : {A : Type 0} → ℕ → State → (State → Done A) → Done A
+abbrev pub on_cell : {A : Type 0} → ℕ → State → (State → ActResult A) → ActResult A
 on_cell addr σ go = if is_in_reach σ addr then with_steps 1 σ go else Stops (Fault kind.Undefined) [] σ
 
-abbrev pub read_as : ℕ → Option Value → State → Done (Option Value)
+abbrev pub read_as : ℕ → Option Value → State → ActResult (Option Value)
 read_as addr (Some v) σ = Went (Some v) (touch.Read addr v ∷ []) σ
 read_as addr None σ = Went None (touch.Has addr false ∷ []) σ
 
@@ -98,65 +98,65 @@ limit_passed σ cells =
     else None
 
 -- after what these touches show
-abbrev pub after_touches : {A : Type 0} → List Touch → Done A → Done A
+abbrev pub after_touches : {A : Type 0} → List Touch → ActResult A → ActResult A
 after_touches w (Went x v σ) = Went x (w ++ v) σ
 after_touches w (Stops why v σ) = Stops why (w ++ v) σ
 
 -- a value is put into a cell, once there is a step for it
-abbrev pub put : (addr : ℕ) → Value → State → Done Bool
+abbrev pub put : (addr : ℕ) → Value → State → ActResult Bool
 put addr value σ = Went true (touch.Write addr value ∷ []) (record σ { cells = insert σ.cells addr value })
 
 -- The same where it was asked whether the cell is there, and this was the answer: a cell that is not there gets no
 -- value, and one that is there takes a step more.
-abbrev pub put_if : Bool → (addr : ℕ) → Value → State → Done Bool
+abbrev pub put_if : Bool → (addr : ℕ) → Value → State → ActResult Bool
 put_if true addr value σ = with_steps 1 σ (put addr value)
 put_if false addr value σ = Went false [] σ
 
-abbrev pub put_asked : Bool → (addr : ℕ) → Value → State → Done Bool
+abbrev pub put_asked : Bool → (addr : ℕ) → Value → State → ActResult Bool
 put_asked there addr value σ = after_touches (touch.Has addr there ∷ []) (put_if there addr value σ)
 
 -- ---- items of the input
 
 -- an item that was looked at is taken, if it is wanted, which takes a step more
-abbrev pub take_item : Bool → (item : ℕ) → State → Done (Option ℕ)
+abbrev pub take_item : Bool → (item : ℕ) → State → ActResult (Option ℕ)
 take_item true item σ =
     with_steps 1 σ (λ τ. Went (Some item) (touch.Take 1 ∷ []) (record τ { place = τ.place + 1 }))
 take_item false item σ = Went (Some item) [] σ
 
-abbrev pub take_looked : (wanted : ℕ → Bool) → Option ℕ → State → Done (Option ℕ)
+abbrev pub take_looked : (wanted : ℕ → Bool) → Option ℕ → State → ActResult (Option ℕ)
 take_looked wanted None σ = Went None [] σ
 take_looked wanted (Some item) σ = take_item (wanted item) item σ
 
 -- the item at the place is looked at, once there is a step for it
-abbrev pub look : (wanted : ℕ → Bool) → State → Done (Option ℕ)
+abbrev pub look : (wanted : ℕ → Bool) → State → ActResult (Option ℕ)
 look wanted σ = after_touches (touch.Look σ.place ∷ []) (take_looked wanted (slice_get σ.items σ.place) σ)
 
 -- ---- blocks of the heap
 
 -- a block of so many cells is made where the heap is free, none of them with a value
-abbrev pub made_block : (cells of' : ℕ) → State → Done ℕ
+abbrev pub made_block : (cells of' : ℕ) → State → ActResult ℕ
 made_block n of' σ = Went σ.fresh (touch.Make σ.fresh n of' ∷ []) (record σ {
   cells = filled σ.fresh (replicate n Undefined) σ.cells;
   fresh = σ.fresh + n;
 })
 
 -- A block with a step for each cell. Where it does not fit into the heap it is not made, and takes no step.
-abbrev pub make_block : (cells of' : ℕ) → State → Done ℕ
+abbrev pub make_block : (cells of' : ℕ) → State → ActResult ℕ
 make_block n of' σ =
     if nat_lt heap_end (σ.fresh + n) then Stops (Limited Heap) [] σ
     else with_steps n σ (made_block n of')
 
 -- the block of so many cells at an address is dropped
-abbrev pub dropped_block : (addr cells : ℕ) → State → Done (Unit {0})
+abbrev pub dropped_block : (addr cells : ℕ) → State → ActResult (Unit {0})
 dropped_block addr n σ = Went tt (touch.Drop addr n ∷ []) (record σ { cells = cleared addr n σ.cells })
 
 -- The same with a step for each cell. Where they do not all lie in the heap it is not done, and takes no step.
-abbrev pub drop_block : (addr cells : ℕ) → State → Done (Unit {0})
+abbrev pub drop_block : (addr cells : ℕ) → State → ActResult (Unit {0})
 drop_block addr n σ =
     if lies_in_heap addr n then with_steps n σ (dropped_block addr n) else Stops (Fault kind.Undefined) [] σ
 
 -- what an act does
-abbrev pub perform : (act : Act) → State → Done (Answer act)
+abbrev pub perform : (act : Act) → State → ActResult (Answer act)
 perform (Spend steps) σ = with_steps steps σ (λ τ. Went tt [] τ)
 perform (ReadCell addr) σ = on_cell addr σ (λ τ. read_as addr (get σ.cells addr) τ)
 perform (HasCell addr) σ = on_cell addr σ (λ τ.

@@ -51,7 +51,7 @@ use Rattle.program_meaning.specs.Acts.{
   OutOfSteps,
   Limited,
   Spend,
-  Done,
+  ActResult,
   Went,
   Stops,
   perform,
@@ -135,7 +135,7 @@ pub record Rules (S E : Type 0) : Type 0 where
   pub call : (Tree → S → Option (Result S E)) → ℕ → List Value → S → Option (Result S E)
 
 module _ {S E : Type 0} where
-  abbrev pub on_done : {A : Type 0} → Rules S E → (line : ℕ) → S → Done A → (A → S → Option (Result S E))
+  abbrev pub on_done : {A : Type 0} → Rules S E → (line : ℕ) → S → ActResult A → (A → S → Option (Result S E))
       → Option (Result S E)
   on_done rules line σ (Went x log τ) go = in_front log [] (go x (rules.with_state σ τ))
   on_done rules line σ (Stops why log τ) go =

@@ -14,7 +14,7 @@ use Rattle.program_meaning.specs.State.{State, stack_end, heap_end, is_in_reach}
 use Rattle.program_meaning.specs.Blocks.{block_cells, lies_in_heap}
 use Rattle.program_meaning.specs.Acts.{
   Act,
-  Done,
+  ActResult,
   Went,
   Stops,
   Spend,
@@ -65,15 +65,15 @@ calls_then f g = record {
   items = g.items ∙ f.items;
 }
 
-abbrev Kept : {A : Type 0} → State → Done A → Type 0
+abbrev Kept : {A : Type 0} → State → ActResult A → Type 0
 Kept σ (Went x w τ) = SameCalls σ τ
 Kept σ (Stops why w τ) = SameCalls σ τ
 
-kept_if : {A : Type 0} (σ : State) (b : Bool) (d e : Done A) → Kept σ d → Kept σ e → Kept σ (if b then d else e)
+kept_if : {A : Type 0} (σ : State) (b : Bool) (d e : ActResult A) → Kept σ d → Kept σ e → Kept σ (if b then d else e)
 kept_if σ true d e f g = f
 kept_if σ false d e f g = g
 
-kept_steps : {A : Type 0} (n : ℕ) (σ : State) (go : State → Done A) → ((m : ℕ) → m + n ≤ σ.steps → Kept σ (go (record σ { steps = m })))
+kept_steps : {A : Type 0} (n : ℕ) (σ : State) (go : State → ActResult A) → ((m : ℕ) → m + n ≤ σ.steps → Kept σ (go (record σ { steps = m })))
     → Kept σ (with_steps n σ go)
 kept_steps {A} n σ go h = by (nat_lt σ.steps n) refl
   where
@@ -81,7 +81,7 @@ kept_steps {A} n σ go h = by (nat_lt σ.steps n) refl
     by true e = record { calls = refl; depth = refl; output = omega arith; items = refl }
     by false e = h (σ.steps - n) (let k = ltb-false σ.steps n e in omega arith)
 
-kept_cell : {A : Type 0} (addr : ℕ) (σ : State) (go : State → Done A) → ((m : ℕ) → m + 1 ≤ σ.steps → Kept σ (go (record σ { steps = m })))
+kept_cell : {A : Type 0} (addr : ℕ) (σ : State) (go : State → ActResult A) → ((m : ℕ) → m + 1 ≤ σ.steps → Kept σ (go (record σ { steps = m })))
     → Kept σ (on_cell addr σ go)
 kept_cell addr σ go h = kept_if σ (is_in_reach σ addr) _ _ (kept_steps 1 σ go h) (same_calls σ)
 
@@ -93,7 +93,7 @@ kept_read : (addr : ℕ) (o : Option Value) (σ τ : State) → SameCalls σ τ 
 kept_read addr (Some v) σ τ h = h
 kept_read addr None σ τ h = h
 
-kept_touched : {A : Type 0} (w : List Touch) (σ : State) (d : Done A) → Kept σ d → Kept σ (after_touches w d)
+kept_touched : {A : Type 0} (w : List Touch) (σ : State) (d : ActResult A) → Kept σ d → Kept σ (after_touches w d)
 kept_touched w σ (Went x v τ) h = h
 kept_touched w σ (Stops why v τ) h = h
 
@@ -149,7 +149,7 @@ pub record Onward (m m' : Moment) : Type 0 where
   pub grown : m'.log ≡ m.log ++ log
   pub same : SameCalls m.state m'.state
 
-onward_act : {A : Type 0} (line : ℕ) (m : Moment) (d : Done A) (go : A → Moment → Option (Stop × Moment)) (stop : Stop) (m' : Moment)
+onward_act : {A : Type 0} (line : ℕ) (m : Moment) (d : ActResult A) (go : A → Moment → Option (Stop × Moment)) (stop : Stop) (m' : Moment)
     → ((x : A) (m1 : Moment) → go x m1 ≡ Some (stop, m') → Onward m1 m') → Kept m.state d → on_act line m.log d go ≡ Some (stop, m') → Onward m m'
 onward_act line m (Went x w σ) go stop m' ih h e = let y = ih x (record { state = σ; log = m.log ++ w }) e in record {
   log = w ++ y.log;

@@ -6,13 +6,13 @@ use Rattle.cell_value.specs.declared.ways_out.Which.TheVariants.{Stack}
 use Rattle.program_tables.specs.declared.program.Routine.{Routine}
 use Rattle.program_tables.specs.ProgramRows.{ProgramRows, routine_at}
 use Rattle.program_meaning.specs.State.{State, stack_end}
-use Rattle.program_meaning.specs.Acts.{Trouble, OutOfSteps, Limited, Done, Went, Stops, spent}
+use Rattle.program_meaning.specs.Acts.{Trouble, OutOfSteps, Limited, ActResult, Went, Stops, spent}
 use Rattle.program_meaning.specs.Tree.{way_of}
 use Rattle.program_meaning.specs.Run.{Halted, ends, after_all, opened, with_frame, without_frame, whole, in_frame, at_work, run_of}
 use Rattle.eval_machine.specs.Machines.{Moment}
 use Rattle.eval_machine.specs.Frames.{framing}
 use Rattle.eval_machine.proofs.CallsInFrames.{on_framing, in_frame_made}
-use Rattle.program_run.specs.Tower.{Rests, Ends, Begins, activation}
+use Rattle.program_run.specs.Tower.{Rests, Ends, CallBegins, activation}
 
 -- a frame is made or not: no call is entered or left
 record Framed (σ : State) (w : List Touch) (τ : State) : Type 0 where
@@ -32,7 +32,7 @@ record Refused (σ : State) (w : List Touch) (τ : State) : Type 0 where
   output : τ.output ≡ σ.output
   items : τ.items ≡ σ.items
 
-made_is : (n : ℕ) (args : List Value) (σ τ : State) (w : List Touch) (a b : Bool) → ◌≡◌ {A = Done (Unit {0})} (if a then Stops (Limited Stack) [] σ
+made_is : (n : ℕ) (args : List Value) (σ τ : State) (w : List Touch) (a b : Bool) → ◌≡◌ {A = ActResult (Unit {0})} (if a then Stops (Limited Stack) [] σ
     else if b then Stops OutOfSteps [] (spent σ) else Went tt [] (with_frame n args σ)) (Went tt w τ) → Framed σ w τ
 made_is n args σ τ w true b e = absurd (let z : ⊥ = cc in z)
 made_is n args σ τ w false true e = absurd (let z : ⊥ = cc in z)
@@ -49,7 +49,7 @@ made_is n args σ τ w false false e =
     }
 
 refused_is : (n : ℕ) (args : List Value) (σ τ : State) (why : Trouble) (w : List Touch) (a b : Bool)
-    → ◌≡◌ {A = Done (Unit {0})} (if a then Stops (Limited Stack) [] σ
+    → ◌≡◌ {A = ActResult (Unit {0})} (if a then Stops (Limited Stack) [] σ
     else if b then Stops OutOfSteps [] (spent σ) else Went tt [] (with_frame n args σ)) (Stops why w τ) → Refused σ w τ
 refused_is n args σ τ why w true b e =
     let l : [] ≡ w = cc in
@@ -79,7 +79,7 @@ refused_is n args σ τ why w false false e = absurd (let z : ⊥ = cc in z)
 
 module _ (p : ProgramRows) (f : ℕ) (args : List Value) (r : Routine) (m m' : Moment) where
   pub begins_made : (w : List Touch) → routine_at p f ≡ Some r → framing r.cells args (opened m.state) ≡ Went tt w m'.state → m'.log ≡ m.log ++ w
-      → Begins p (activation f args r.cells (Rests (whole p f m.state.top r))) m m'
+      → CallBegins p (activation f args r.cells (Rests (whole p f m.state.top r))) m m'
   begins_made w found e l =
       let h = made_is r.cells args (opened m.state) m'.state w (nat_lt stack_end (m.state.top + r.cells)) (nat_lt m.state.steps r.cells) e in
       record {
@@ -96,7 +96,7 @@ module _ (p : ProgramRows) (f : ℕ) (args : List Value) (r : Routine) (m m' : M
 
   pub begins_refused : (why : Trouble) (w : List Touch) → routine_at p f ≡ Some r → framing r.cells args (opened m.state) ≡ Stops why w m'.state
       → m'.log ≡ m.log ++ w
-      → Begins p (activation f args 0 (Ends (Halted (way_of 0 why)))) m m'
+      → CallBegins p (activation f args 0 (Ends (Halted (way_of 0 why)))) m m'
   begins_refused why w found e l =
       let h = refused_is r.cells args (opened m.state) m'.state why w (nat_lt stack_end (m.state.top + r.cells)) (nat_lt m.state.steps r.cells) e in
       record {

@@ -14,7 +14,7 @@ use Rattle.eval_tasks.specs.Turns.{end_of}
 use Rattle.program_run.specs.declared.open_call.OpenCall.{OpenCall}
 use Rattle.program_run.specs.declared.runner.Runner.{Runner}
 use Rattle.program_run.specs.Tower.{Rests, Ends, IsOver, stage_after}
-use Rattle.program_run.specs.Runners.{At, Chain, Ending, open_in, opens_in, rest_in, view_of}
+use Rattle.program_run.specs.Runners.{At, Chain, InnermostEnds, open_in, opens_in, rest_in, view_of}
 use Rattle.program_run.proofs.StepsLeadToTheRun.{over}
 
 chain_none : (os : List OpenCall) → Chain None os → os ≡ []
@@ -40,7 +40,7 @@ module _ {p : ProgramRows} {first : State} where
 module _ (p : ProgramRows) (first : State) where
   pub record Left (r : Runner) (w : WayOut) (answer : Option Value) : Type 0 where
     pub out : Out
-    pub ending : Ending p first (Ended out) r (w, answer)
+    pub ending : InnermostEnds p first (Ended out) r (w, answer)
     pub is : end_of w answer ≡ Ended out
 
   pub by_return : (r : Runner) (w : WayOut) (answer : Option Value) → w ≡ way.Returned → At p first (Ends (end_of w answer)) r → Left r w answer

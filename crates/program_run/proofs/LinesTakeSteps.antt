@@ -5,7 +5,7 @@ use Rattle.cell_value.specs.declared.entries.Touch.{Touch}
 use Rattle.cell_value.specs.declared.ways_out.Which.{Which}
 use Rattle.program_tables.specs.ProgramRows.{ProgramRows}
 use Rattle.program_meaning.specs.State.{State}
-use Rattle.program_meaning.specs.Acts.{Spend, Done, Went, Stops, perform, limit_passed}
+use Rattle.program_meaning.specs.Acts.{Spend, ActResult, Went, Stops, perform, limit_passed}
 use Rattle.program_meaning.specs.Tree.{Out, Tree, Ret, Halt, Do, Sub, Enter, Line, way_of, bind}
 use Rattle.program_meaning.specs.Layer.{layer}
 use Rattle.program_meaning.specs.Run.{Ended, Halted}
@@ -24,7 +24,8 @@ at_once : (before : ℕ) (first stop : Stop) (m m' : Moment) → ◌≡◌ {A = 
     → LeftAt before first m.state.steps → LeftAt before stop m'.state.steps
 at_once before first stop m m' e h = subst (λ (x : Stop × Moment). LeftAt before x.0 x.1.state.steps) (some_same e) h
 
-after_act : {A : Type 0} (before n line : ℕ) (σ : State) (log : List Touch) (d : Done A) (go : A → Moment → Option (Stop × Moment)) (stop : Stop) (m' : Moment)
+after_act : {A : Type 0} (before n line : ℕ) (σ : State) (log : List Touch) (d : ActResult A) (go : A → Moment → Option (Stop × Moment)) (stop : Stop)
+    (m' : Moment)
     → σ.steps ≤ before → Acted n σ d → ((x : A) (m : Moment) → m.state.steps + n ≤ before → go x m ≡ Some (stop, m') → LeftAt before stop m'.state.steps)
     → on_act line log d go ≡ Some (stop, m') → LeftAt before stop m'.state.steps
 after_act before n line σ log (Went x w τ) go stop m' u h k e = k x (record { state = τ; log = log ++ w }) (omega (arith, u, h)) e

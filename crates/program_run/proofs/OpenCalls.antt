@@ -35,21 +35,22 @@ use Rattle.program_meaning.proofs.CallsOfRunsNest.{belows_later}
 use Rattle.program_meaning.proofs.OutcomesCompose.{front_twice, less_then, none_some}
 use Rattle.call_tree.specs.Recording.{left, leaving}
 use Rattle.program_run.specs.Table.{side_of}
-use Rattle.program_run.specs.Tower.{Own, Level, Levels, Bottom, Push, called, followed, whole_from, size, numbers_of, logs_of, spot_of, below, row_at, rows_at}
-use Rattle.program_run.specs.Tower.{opened_row, first_spot, rows_of, recording_at, Fits, Open, open_of, opens_of, left_at, stage_after}
+use Rattle.program_run.specs.Tower.{Own, OpenLevel, OpenLevels, Bottom, Push, called, followed, whole_from, size, numbers_of, logs_of, spot_of, below, row_at}
+use Rattle.program_run.specs.Tower.{rows_at}
+use Rattle.program_run.specs.Tower.{opened_row, first_spot, rows_of, recording_at, LevelsFit, Open, open_of, opens_of, left_at, stage_after}
 use Rattle.program_run.proofs.RowsInParts.{rows_append, rows_call, rows_moved, length_each, further}
 
 -- ---- what is left
 
-called_less : (l : Level) (x y : Outcome) → Less x y → Less (called l x) (called l y)
+called_less : (l : OpenLevel) (x y : Outcome) → Less x y → Less (called l x) (called l y)
 called_less l x y h = recorded_less l.routine l.args l.entry _ _ (after_less (closed l.entry.depth) _ _ (after_less (without_frame l.entry.top l.cells) _ _ h))
 
-whole_same : (p : ProgramRows) (n : ℕ) (ls : Levels) (x y : Outcome) → Less x y → Less (whole_from p n ls x) (whole_from p n ls y)
+whole_same : (p : ProgramRows) (n : ℕ) (ls : OpenLevels) (x y : Outcome) → Less x y → Less (whole_from p n ls x) (whole_from p n ls y)
 whole_same p n (Bottom own) x y h = in_front_less own.log own.events _ _ h
 whole_same p n (Push under l own) x y h =
     whole_same p n under _ _ (joined_less _ _ _ _ (called_less l _ _ (in_front_less own.log own.events _ _ h)) (λ out τ. less_same _))
 
-whole_less : (p : ProgramRows) (n : ℕ) (ls : Levels) (x y : Outcome) → Less x y → Less (whole_from p n ls x) (whole_from p (suc n) ls y)
+whole_less : (p : ProgramRows) (n : ℕ) (ls : OpenLevels) (x y : Outcome) → Less x y → Less (whole_from p n ls x) (whole_from p (suc n) ls y)
 whole_less p n (Bottom own) x y h = in_front_less own.log own.events _ _ h
 whole_less p n (Push under l own) x y h =
     whole_less p n under _ _ (joined_less _ _ _ _ (called_less l _ _ (in_front_less own.log own.events _ _ h))
@@ -73,16 +74,16 @@ pub run_more : (p : ProgramRows) (k n : ℕ) (t : Tree) (σ : State) → Less (r
 run_more p zero n t σ = less_same _
 run_more p (suc k) n t σ = less_then (run_more p k n t σ) (run_less (plain p) (plain_grows p) p (more k n) t σ)
 
-pub whole_more : (p : ProgramRows) (k n : ℕ) (ls : Levels) (x y : Outcome) → Less x y → Less (whole_from p n ls x) (whole_from p (more k n) ls y)
+pub whole_more : (p : ProgramRows) (k n : ℕ) (ls : OpenLevels) (x y : Outcome) → Less x y → Less (whole_from p n ls x) (whole_from p (more k n) ls y)
 whole_more p zero n ls x y h = whole_same p n ls x y h
 whole_more p (suc k) n ls x y h = less_then (whole_more p k n ls x x (less_same x)) (whole_less p (more k n) ls x y h)
 
 -- where nothing is known of what is left, nothing is known of the run
-whole_none : (p : ProgramRows) (n : ℕ) (ls : Levels) → whole_from p n ls None ≡ None
+whole_none : (p : ProgramRows) (n : ℕ) (ls : OpenLevels) → whole_from p n ls None ≡ None
 whole_none p n (Bottom own) = refl
 whole_none p n (Push under l own) = whole_none p n under
 
-pub whole_some : (p : ProgramRows) (n : ℕ) (ls : Levels) (x : Outcome) (r : Result State Call) → whole_from p n ls x ≡ Some r → (q : Result State Call)
+pub whole_some : (p : ProgramRows) (n : ℕ) (ls : OpenLevels) (x : Outcome) (r : Result State Call) → whole_from p n ls x ≡ Some r → (q : Result State Call)
     × (x ≡ Some q)
 whole_some p n ls None r e = absurd (none_some (sym (whole_none p n ls) ∙ e))
 whole_some p n ls (Some q) r e = (q, refl)
@@ -98,31 +99,31 @@ abbrev pub on_own : Own → List Touch → List (Marked Call) → Own
 on_own own w es = record { log = own.log ++ w; events = own.events ++ later_by (length own.log) es }
 
 -- the same levels where the innermost body has done more
-abbrev pub done : Levels → List Touch → List (Marked Call) → Levels
+abbrev pub done : OpenLevels → List Touch → List (Marked Call) → OpenLevels
 done (Bottom own) w es = Bottom (on_own own w es)
 done (Push under l own) w es = Push under l (on_own own w es)
 
-pub whole_done : (p : ProgramRows) (n : ℕ) (ls : Levels) (w : List Touch) (es : List (Marked Call)) (x : Outcome)
+pub whole_done : (p : ProgramRows) (n : ℕ) (ls : OpenLevels) (w : List Touch) (es : List (Marked Call)) (x : Outcome)
     → whole_from p n (done ls w es) x ≡ whole_from p n ls (in_front w es x)
 whole_done p n (Bottom own) w es x = front_twice own.log w own.events es x
 whole_done p n (Push under l own) w es x = ap (λ y. whole_from p n under (followed p n l.rest (called l y))) (front_twice own.log w own.events es x)
 
-pub logs_done : (ls : Levels) (w : List Touch) (es : List (Marked Call)) → logs_of (done ls w es) ≡ logs_of ls ++ w
+pub logs_done : (ls : OpenLevels) (w : List Touch) (es : List (Marked Call)) → logs_of (done ls w es) ≡ logs_of ls ++ w
 logs_done (Bottom own) w es = refl
 logs_done (Push under l own) w es = sym (append_assoc (logs_of under) own.log w)
 
-pub numbers_done : (ls : Levels) (w : List Touch) (es : List (Marked Call)) → numbers_of (done ls w es) ≡ numbers_of ls
+pub numbers_done : (ls : OpenLevels) (w : List Touch) (es : List (Marked Call)) → numbers_of (done ls w es) ≡ numbers_of ls
 numbers_done (Bottom own) w es = refl
 numbers_done (Push under l own) w es = refl
 
-pub opens_done : (ls : Levels) (w : List Touch) (es : List (Marked Call)) → opens_of (done ls w es) ≡ opens_of ls
+pub opens_done : (ls : OpenLevels) (w : List Touch) (es : List (Marked Call)) → opens_of (done ls w es) ≡ opens_of ls
 opens_done (Bottom own) w es = refl
 opens_done (Push under l own) w es = refl
 
 length_later : (n : ℕ) (ds es : List (Marked Call)) → length (ds ++ later_by n es) ≡ length ds + length es
 length_later n ds es = length-append ds (later_by n es) ∙ ap (λ k. length ds + k) (length-map es (λ e. record { mark = n + e.mark; event = e.event }))
 
-pub size_done : (ls : Levels) (w : List Touch) (es : List (Marked Call)) → size (done ls w es) ≡ size ls + length es
+pub size_done : (ls : OpenLevels) (w : List Touch) (es : List (Marked Call)) → size (done ls w es) ≡ size ls + length es
 size_done (Bottom own) w es = length_later (length own.log) own.events es
 size_done (Push under l own) w es = let e = length_later (length own.log) own.events es in omega (arith, e)
 
@@ -134,11 +135,11 @@ inside_later n ds es f g =
     subst (λ bs. Inside bs) (sym (map-append (λ c. c.event.below) ds (later_by n es) ∙ ap (λ bs. belows ds ++ bs) (belows_later n es)))
     (within_append (belows ds) (belows es) f g)
 
-pub fits_done : (ls : Levels) (w : List Touch) (es : List (Marked Call)) → Fits ls → Inside (belows es) → Fits (done ls w es)
+pub fits_done : (ls : OpenLevels) (w : List Touch) (es : List (Marked Call)) → LevelsFit ls → Inside (belows es) → LevelsFit (done ls w es)
 fits_done (Bottom own) w es f h = inside_later (length own.log) own.events es f h
 fits_done (Push under l own) w es f h = (inside_later (length own.log) own.events es f.0 h, f.1, f.2)
 
-pub fits_more : (ls : Levels) (w : List Touch) → Fits ls → Fits (done ls w [])
+pub fits_more : (ls : OpenLevels) (w : List Touch) → LevelsFit ls → LevelsFit (done ls w [])
 fits_more ls w f = fits_done ls w [] f inside_none
 
 inside_call : (c : Call) (es : List (Marked Call)) → c.below ≡ length es → Inside (belows es) → Inside (belows ((record { mark = 0; event = c }) ∷ es))
@@ -146,7 +147,7 @@ inside_call c es e f = within_call c.below (belows es) (e ∙ sym (length-map es
 
 -- ---- the rows
 
-pub rows_length : (ls : Levels) → length (rows_of ls) ≡ size ls
+pub rows_length : (ls : OpenLevels) → length (rows_of ls) ≡ size ls
 rows_length (Bottom own) = length_each (row_at first_spot (belows own.events)) 0 own.events
 rows_length (Push under l own) =
     let a = rows_length under in
@@ -155,7 +156,7 @@ rows_length (Push under l own) =
     omega (arith, a, b, c)
 
 -- the rows that calls of the innermost body add
-pub rows_done : (ls : Levels) (w : List Touch) (es : List (Marked Call)) → Fits ls → rows_of (done ls w es) ≡ rows_of ls ++ rows_at (spot_of ls) es
+pub rows_done : (ls : OpenLevels) (w : List Touch) (es : List (Marked Call)) → LevelsFit ls → rows_of (done ls w es) ≡ rows_of ls ++ rows_at (spot_of ls) es
 rows_done (Bottom own) w es f =
     rows_append first_spot own.events (later_by (length own.log) es) f
     ∙ ap (λ rs. rows_at first_spot own.events ++ rs)
@@ -181,18 +182,18 @@ rows_done (Push under l own) w es f =
 -- ---- a call ends
 
 -- its record
-abbrev pub ended_call : Level → Own → End → State → Call
+abbrev pub ended_call : OpenLevel → Own → End → State → Call
 ended_call l own e τ = record_of l.routine l.args l.entry (record { end = e; after = τ; log = own.log; events = own.events })
 
 -- the calls that its caller has made with it
-abbrev pub ended : Level → Own → End → State → List (Marked Call)
+abbrev pub ended : OpenLevel → Own → End → State → List (Marked Call)
 ended l own e τ = (record { mark = 0; event = ended_call l own e τ }) ∷ own.events
 
 front_ends : (own : Own) (e : End) (σ : State)
     → ◌≡◌ {A = Outcome} (in_front own.log own.events (ends e σ)) (Some (record { end = e; after = σ; log = own.log; events = own.events }))
 front_ends own e σ = λ i. Some (record { end = e; after = σ; log = append-nil own.log i; events = append-nil own.events i })
 
-pub call_ends : (p : ProgramRows) (n : ℕ) (l : Level) (own : Own) (e : End) (σ τ : State)
+pub call_ends : (p : ProgramRows) (n : ℕ) (l : OpenLevel) (own : Own) (e : End) (σ τ : State)
     → τ ≡ closed l.entry.depth (without_frame l.entry.top l.cells σ)
     → followed p n l.rest (called l (in_front own.log own.events (ends e σ)))
     ≡ in_front own.log (ended l own e τ) (left_at p n (stage_after l.rest e) τ)
@@ -218,7 +219,7 @@ seam xs y ys =
     omega (arith, s)) (sym (get_or-append_seam xs y ys y))
 
 -- the rows once it has ended
-rows_left : (under : Levels) (l : Level) (own : Own) (e : End) (τ : State) (w : List Touch) → Fits under → w ≡ logs_of (Push under l own)
+rows_left : (under : OpenLevels) (l : OpenLevel) (own : Own) (e : End) (τ : State) (w : List Touch) → LevelsFit under → w ≡ logs_of (Push under l own)
     → leaving (rows_of (Push under l own)) (size under) (slice_get (rows_of (Push under l own)) (size under)) (side_of (length w) τ) (way_out e) (result_in e)
     ≡ rows_of (done under own.log (ended l own e τ))
 rows_left under l own e τ w f h =
@@ -246,7 +247,7 @@ rows_left under l own e τ w f h =
     ∙ ap (λ rs. rows_of under ++ rs) (rows_call (spot_of under) (ended_call l own e τ) own.events refl))
 
 -- what is recorded once it has ended
-pub recording_left : (routines : ℕ) (under : Levels) (l : Level) (own : Own) (e : End) (τ : State) (w : List Touch) → Fits under
+pub recording_left : (routines : ℕ) (under : OpenLevels) (l : OpenLevel) (own : Own) (e : End) (τ : State) (w : List Touch) → LevelsFit under
     → w ≡ logs_of (Push under l own)
     → left (recording_at routines (Push under l own)) (side_of (length w) τ) (way_out e) (result_in e)
     ≡ recording_at routines (done under own.log (ended l own e τ))
@@ -256,20 +257,21 @@ recording_left routines under l own e τ w f h = λ i. record {
   routines = routines;
 }
 
-pub fits_ended : (under : Levels) (l : Level) (own : Own) (e : End) (τ : State) → Fits (Push under l own) → Fits (done under own.log (ended l own e τ))
+pub fits_ended : (under : OpenLevels) (l : OpenLevel) (own : Own) (e : End) (τ : State) → LevelsFit (Push under l own)
+    → LevelsFit (done under own.log (ended l own e τ))
 fits_ended under l own e τ f = fits_done under own.log (ended l own e τ) f.2 (inside_call (ended_call l own e τ) own.events refl f.0)
 
 -- ---- the innermost open call
 
-pub record Top (outer : List Open) (o : Open) (ls : Levels) : Type 0 where
-  pub under : Levels
-  pub l : Level
+pub record Top (outer : List Open) (o : Open) (ls : OpenLevels) : Type 0 where
+  pub under : OpenLevels
+  pub l : OpenLevel
   pub own : Own
   pub is : ls ≡ Push under l own
   pub opens : outer ≡ opens_of under
   pub one : o ≡ open_of l
 
-pub top_of : (outer : List Open) (o : Open) (ls : Levels) → o ∷ outer ≡ opens_of ls → Top outer o ls
+pub top_of : (outer : List Open) (o : Open) (ls : OpenLevels) → o ∷ outer ≡ opens_of ls → Top outer o ls
 top_of outer o (Bottom own) e = absurd (let z : ⊥ = cc in z)
 top_of outer o (Push under l own) e = record {
   under = under;
@@ -280,6 +282,6 @@ top_of outer o (Push under l own) e = record {
   one = let x : o ≡ open_of l = cc in x;
 }
 
-pub lengths_same : (ls : Levels) → length (numbers_of ls) ≡ length (opens_of ls)
+pub lengths_same : (ls : OpenLevels) → length (numbers_of ls) ≡ length (opens_of ls)
 lengths_same (Bottom own) = refl
 lengths_same (Push under l own) = ap suc (lengths_same under)

@@ -10,7 +10,7 @@ use Rattle.program_meaning.specs.Numbering.{greatest, count, belows, is_below, p
 use Rattle.program_meaning.proofs.NestedCallsAreIntervals.{same_test, count_same}
 use Rattle.program_meaning.proofs.CallsOfRunsNest.{belows_later}
 use Rattle.program_run.specs.Table.{row_with, numbered}
-use Rattle.program_run.specs.Tower.{Spot, below, first_spot, parent_at, row_at, rows_at}
+use Rattle.program_run.specs.Tower.{RowSpot, below, first_spot, parent_at, row_at, rows_at}
 
 pub greatest_same : (p q : ℕ → Bool) (n : ℕ) → ((j : ℕ) → j < n → p j ≡ q j) → greatest p n ≡ greatest q n
 greatest_same p q zero h = refl
@@ -103,11 +103,11 @@ pub length_belows : (es : List (Marked Call)) → length (belows es) ≡ length 
 length_belows es = length-map es (λ c. c.event.below)
 
 -- where the rows go on after so many
-abbrev pub further : Spot → ℕ → Spot
+abbrev pub further : RowSpot → ℕ → RowSpot
 further s n = record s { number = s.number + n }
 
 -- the same spot, so many entries later
-abbrev pub later : Spot → ℕ → Spot
+abbrev pub later : RowSpot → ℕ → RowSpot
 later s n = record s { mark = s.mark + n }
 
 each_marked : (f g : ℕ → Marked Call → table.Call) (n k : ℕ) (ms : List (Marked Call))
@@ -116,7 +116,7 @@ each_marked : (f g : ℕ → Marked Call → table.Call) (n k : ℕ) (ms : List 
 each_marked f g n k [] h = refl
 each_marked f g n k (m ∷ ms) h = λ i. h k m i ∷ each_marked f g n (suc k) ms h i
 
-module _ (s : Spot) where
+module _ (s : RowSpot) where
   left_row : (bs cs : List ℕ) (i : ℕ) (c : Marked Call) → i < length bs → row_at s (bs ++ cs) i c ≡ row_at s bs i c
   left_row bs cs i c h =
       row_is c.event _ _ _ _ _ _ _ _

@@ -21,7 +21,7 @@ use Rattle.run_laws.proofs.ActsLeave.{Leaves, MayEnter, leaves_same, limits_hold
 use Rattle.run_laws.proofs.Ways as ways
 use Rattle.run_laws.proofs.Ways.{of_call, Ran, RanFrame, RanCall}
 use Rattle.run_laws.proofs.RunsLeave.{act_left, sound_framed, sound_opened, ran_leaves, call_leaves}
-use Rattle.program_run.specs.Tower.{Spot, rows_at}
+use Rattle.program_run.specs.Tower.{RowSpot, rows_at}
 use Rattle.program_run.proofs.RowsInParts.{rows_append, rows_moved, rows_call, further, later}
 
 -- A row tells the depth at which its call was entered; and the call was entered with at most so many steps left, after
@@ -76,7 +76,7 @@ pub record Told (σ τ : State) (es : List (Marked Call)) : Type 0 where
   pub depth : τ.depth ≡ σ.depth
   pub steps : τ.steps ≤ σ.steps
   pub inside : Inside (belows es)
-  pub tell : (s : Spot) → s.depth ≡ σ.depth → AllTell σ.steps τ.output (rows_at s es) es
+  pub tell : (s : RowSpot) → s.depth ≡ σ.depth → AllTell σ.steps τ.output (rows_at s es) es
 
 told_none : {σ τ : State} → τ.depth ≡ σ.depth → τ.steps ≤ σ.steps → Told σ τ []
 told_none e l = record { depth = e; steps = l; inside = record { inside = λ k h. absurd (omega arith) }; tell = λ s d. tt }

@@ -10,11 +10,11 @@ use Rattle.program_tables.specs.ProgramRows.{ProgramRows}
 use Rattle.program_meaning.specs.State.{State}
 use Rattle.program_meaning.specs.Tree.{Out, Tree}
 use Rattle.eval_machine.specs.Machines.{Moment}
-use Rattle.eval_tasks.specs.Stops.{Stop, StopsAt}
+use Rattle.eval_tasks.specs.Stops.{Stop, NextStopIs}
 use Rattle.program_run.specs.declared.open_call.OpenCall.{OpenCall}
 use Rattle.program_run.specs.Table.{side_of}
-use Rattle.program_run.specs.Tower.{Activation, Calls, View, TowerAt, Begins}
-use Rattle.program_run.specs.Runners.{Begun, Invocation, open_in}
+use Rattle.program_run.specs.Tower.{Activation, Calls, View, TowerAt, CallBegins}
+use Rattle.program_run.specs.Runners.{CallBegun, Invocation, open_in}
 use Rattle.program_run.proofs.ActsKeepCalls.{onward}
 use Rattle.program_run.proofs.LinesTakeSteps.{LeftAt, left_at_stop}
 use Rattle.program_run.proofs.StepsLeadToTheRun.{climb_enter}
@@ -26,7 +26,7 @@ pushed p xs ys o e = ap (λ os. map (open_in p) (reverse os)) e ∙ ap (map (ope
 
 -- what is known of a call that was entered
 pub record Entered (p : ProgramRows) (e : Activation) (rest : Out → Tree) (v v' : View) : Type 0 where
-  pub begins : Begins p e v.moment v'.moment
+  pub begins : CallBegins p e v.moment v'.moment
   pub recording : v'.recording ≡ entered v.recording e.routine e.args (side_of (length v.moment.log) v.moment.state)
   pub opens : v'.opens ≡ record { base = v.moment.state.top; cells = e.cells; rest = rest } ∷ v.opens
 
@@ -39,12 +39,12 @@ entered_stands {p = p} {first = first} e rest v v' known t =
       recording = sym known.recording i;
     }) (climb_enter v v'.moment rest e t known.begins)
 
-pub few_begun : (p : ProgramRows) (call : Invocation) (halted : Option WayOut) (m m' : Moment) → Begun p call halted m m'
+pub few_begun : (p : ProgramRows) (call : Invocation) (halted : Option WayOut) (m m' : Moment) → CallBegun p call halted m m'
     → length m.state.output + m.state.steps < 4294967296 → length m'.state.output + m'.state.steps < 4294967296
 few_begun p call None m m' b h = let e = ap length b.output in let l = b.steps in omega (arith, e, l, h)
 few_begun p call (Some way) m m' b h = let e = ap length b.output in let l = b.steps in omega (arith, e, l, h)
 
-pub few_onward : {p : ProgramRows} {t : Tree} {m : Moment} {stop : Stop} {m' : Moment} → StopsAt p t m stop m'
+pub few_onward : {p : ProgramRows} {t : Tree} {m : Moment} {stop : Stop} {m' : Moment} → NextStopIs p t m stop m'
     → length m.state.output + m.state.steps < 4294967296 → length m'.state.output + m'.state.steps < 4294967296
 few_onward {p = p} {t = t} {m = m} {stop = stop} {m' = m'} s h = let l = (onward p s.moves t m stop m' s.is).same.output in omega (arith, l, h)
 
@@ -55,13 +55,13 @@ counted_entered r r' xs ys o f args side e k h = ap (λ (q : Recording). length 
     ∙ (let l = length-append xs (o ∷ []) in let m = ap length k in let n = h in omega (arith, l, m, n))
 
 -- from a stop on fewer steps are left, or no more
-pub steps_onward : {p : ProgramRows} {t : Tree} {m : Moment} {stop : Stop} {m' : Moment} → StopsAt p t m stop m' → LeftAt m.state.steps stop m'.state.steps
+pub steps_onward : {p : ProgramRows} {t : Tree} {m : Moment} {stop : Stop} {m' : Moment} → NextStopIs p t m stop m' → LeftAt m.state.steps stop m'.state.steps
 steps_onward {p = p} {t = t} {m = m} {stop = stop} {m' = m'} s = left_at_stop p m.state.steps s.moves t m stop m' (omega arith) s.is
 
-pub calls_onward : {p : ProgramRows} {t : Tree} {m : Moment} {stop : Stop} {m' : Moment} → StopsAt p t m stop m' → m'.state.calls ≡ m.state.calls
+pub calls_onward : {p : ProgramRows} {t : Tree} {m : Moment} {stop : Stop} {m' : Moment} → NextStopIs p t m stop m' → m'.state.calls ≡ m.state.calls
 calls_onward {p = p} {t = t} {m = m} {stop = stop} {m' = m'} s = (onward p s.moves t m stop m' s.is).same.calls
 
-pub begun_calls : (p : ProgramRows) (call : Invocation) (halted : Option WayOut) (m m' : Moment) → Begun p call halted m m'
+pub begun_calls : (p : ProgramRows) (call : Invocation) (halted : Option WayOut) (m m' : Moment) → CallBegun p call halted m m'
     → m'.state.calls ≡ m.state.calls + 1
 begun_calls p call None m m' b = b.calls
 begun_calls p call (Some way) m m' b = b.calls

@@ -13,11 +13,12 @@ use Rattle.program_meaning.proofs.MoreDepthSameResult.{Less, less_same, joined_l
 use Rattle.program_meaning.proofs.OutcomesCompose.{front_nothing, less_then, less_is}
 use Rattle.call_tree.specs.Recording.{Recording, nothing_entered, entered, left, new_call}
 use Rattle.eval_machine.specs.Machines.{Moment}
-use Rattle.eval_tasks.specs.Stops.{Stop, AtLine, AtCall, AtEnd, StopsAt}
+use Rattle.eval_tasks.specs.Stops.{Stop, AtLine, AtCall, AtEnd, NextStopIs}
 use Rattle.program_run.specs.Table.{side_of}
-use Rattle.program_run.specs.Tower.{Level, Levels, Bottom, Push, called, followed, whole_from, Stage, Rests, Calls, Ends, stage_of, stage_after}
+use Rattle.program_run.specs.Tower.{OpenLevel, OpenLevels, Bottom, Push, called, followed, whole_from, Stage, Rests, Calls, Ends, stage_of, stage_after}
 use Rattle.program_run.specs.Tower.{left_at, Leads}
-use Rattle.program_run.specs.Tower.{size, numbers_of, logs_of, rows_of, recording_at, Fits, Open, open_of, opens_of, View, TowerAt, Activation, Begins, IsOver}
+use Rattle.program_run.specs.Tower.{size, numbers_of, logs_of, rows_of, recording_at, LevelsFit, Open, open_of, opens_of, View, TowerAt, Activation, CallBegins}
+use Rattle.program_run.specs.Tower.{IsOver}
 use Rattle.program_run.proofs.RowsInParts.{rows_whole}
 use Rattle.program_run.proofs.StopsLeadOn.{finish, IsLens, runs}
 use Rattle.program_run.proofs.ActsKeepCalls.{onward}
@@ -64,12 +65,12 @@ left_finish p n (AtCall f args rest) σ =
     joined_less _ _ _ _ (less_same (call_of p (run_of p n) f args σ)) (λ out τ. run_less (plain p) (plain_grows p) p n (rest out) τ)
 left_finish p n (AtEnd end) σ = less_same _
 
-same_rows : (ls : Levels) (w : List Touch) → Fits ls → rows_of (done ls w []) ≡ rows_of ls
+same_rows : (ls : OpenLevels) (w : List Touch) → LevelsFit ls → rows_of (done ls w []) ≡ rows_of ls
 same_rows ls w f = rows_done ls w [] f ∙ append-nil (rows_of ls)
 
 module _ {p : ProgramRows} {first : State} where
   -- on to the innermost body's next stop
-  pub climb : (v : View) (t : Tree) (stop : Stop) (m' : Moment) → TowerAt p first (Rests t) v → StopsAt p t v.moment stop m'
+  pub climb : (v : View) (t : Tree) (stop : Stop) (m' : Moment) → TowerAt p first (Rests t) v → NextStopIs p t v.moment stop m'
       → TowerAt p first (stage_of stop) (record { opens = v.opens; moment = m'; recording = v.recording })
   climb v t stop m' h s =
       let ls = h.levels in
@@ -91,7 +92,7 @@ module _ {p : ProgramRows} {first : State} where
         leads = leads_from h.leads (go ls w o.grown);
       }
     where
-      go : (ls : Levels) (w : List Touch) → m'.log ≡ v.moment.log ++ w → (n : ℕ) (r : Result State Call)
+      go : (ls : OpenLevels) (w : List Touch) → m'.log ≡ v.moment.log ++ w → (n : ℕ) (r : Result State Call)
           → whole_from p n (done ls w []) (left_at p n (stage_of stop) m'.state) ≡ Some r
           → (k : ℕ) × (whole_from p k ls (run_of p k t v.moment.state) ≡ Some r)
       go ls w grown n r e =
@@ -115,7 +116,7 @@ module _ {p : ProgramRows} {first : State} where
 
   -- a call is entered
   pub climb_enter : (v : View) (m' : Moment) (rest : Out → Tree) (e : Activation)
-      → TowerAt p first (Calls e.routine e.args rest) v → Begins p e v.moment m'
+      → TowerAt p first (Calls e.routine e.args rest) v → CallBegins p e v.moment m'
       → TowerAt p first e.stage (record {
         opens = (record { base = v.moment.state.top; cells = e.cells; rest = rest }) ∷ v.opens;
         moment = m';
@@ -124,7 +125,7 @@ module _ {p : ProgramRows} {first : State} where
   climb_enter v m' rest e h b =
       let ls = h.levels in
       let σ = v.moment.state in
-      let l : Level = record { routine = e.routine; args = e.args; entry = σ; cells = e.cells; rest = rest } in
+      let l : OpenLevel = record { routine = e.routine; args = e.args; entry = σ; cells = e.cells; rest = rest } in
       record {
         levels = Push ls l (record { log = []; events = [] });
         opens = ap (λ os. open_of l ∷ os) h.opens;
@@ -167,7 +168,7 @@ module _ {p : ProgramRows} {first : State} where
           let under = y.under in
           let l = y.l in
           let own = y.own in
-          let fits : Fits (Push under l own) = subst Fits y.is h.fits in
+          let fits : LevelsFit (Push under l own) = subst LevelsFit y.is h.fits in
           let log : v.moment.log ≡ logs_of (Push under l own) = h.log ∙ ap logs_of y.is in
           let count : v.moment.state.calls ≡ size (Push under l own) = h.calls ∙ ap size y.is in
           let high : v.moment.state.depth ≡ length (numbers_of (Push under l own)) = h.depth ∙ ap (λ ls. length (numbers_of ls)) y.is in
@@ -201,7 +202,7 @@ module _ {p : ProgramRows} {first : State} where
       → ((n : ℕ) → left_at p (suc n) stage v.moment.state ≡ ends e v.moment.state) → IsOver p first v.moment v.recording
   over v stage e h eo is = go h.levels h.opens h.recording h.log h.leads
     where
-      go : (ls : Levels) → v.opens ≡ opens_of ls → v.recording ≡ recording_at (length p.routines) ls → v.moment.log ≡ logs_of ls
+      go : (ls : OpenLevels) → v.opens ≡ opens_of ls → v.recording ≡ recording_at (length p.routines) ls → v.moment.log ≡ logs_of ls
           → Leads p first (λ n. whole_from p n ls (left_at p n stage v.moment.state)) → IsOver p first v.moment v.recording
       go (Push under l own) x rec log f = absurd (let e : [] ≡ open_of l ∷ opens_of under = sym eo ∙ x in let z : ⊥ = cc in z)
       go (Bottom own) x rec log f =

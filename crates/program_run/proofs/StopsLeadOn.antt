@@ -6,7 +6,7 @@ use Rattle.cell_value.specs.declared.ways_out.WayOut.TheVariants as way
 use Rattle.cell_value.specs.declared.ways_out.Which.{Which}
 use Rattle.program_tables.specs.ProgramRows.{ProgramRows}
 use Rattle.program_meaning.specs.State.{State}
-use Rattle.program_meaning.specs.Acts.{Act, Answer, Spend, Done, Went, Stops, perform, limit_passed}
+use Rattle.program_meaning.specs.Acts.{Act, Answer, Spend, ActResult, Went, Stops, perform, limit_passed}
 use Rattle.program_meaning.specs.Tree.{Out, Tree, Ret, Halt, Do, Sub, Enter, Line, way_of, bind}
 use Rattle.program_meaning.specs.Layer.{layer}
 use Rattle.program_meaning.specs.Run.{Ended, Halted, Result, Rules, in_front, ends, joined, on_done, if_allowed, within}
@@ -65,7 +65,7 @@ module _ {S E : Type 0} (rules : Rules S E) (grows : Grows rules) (lens : IsLens
       (r : Result S E)
       → ((x : Answer act) (σ : State) (l1 : List Touch) → next_stop p k (next x) (record { state = σ; log = l1 }) ≡ Some (stop, m')
       → Runs p (next x) (rules.with_state s σ) l1 m'.log r)
-      → (d : Done (Answer act)) → perform act (rules.state_of s) ≡ d → on_act line l d (λ x m1. next_stop p k (next x) m1) ≡ Some (stop, m')
+      → (d : ActResult (Answer act)) → perform act (rules.state_of s) ≡ d → on_act line l d (λ x m1. next_stop p k (next x) m1) ≡ Some (stop, m')
       → finish rules p n stop (rules.with_state s m'.state) ≡ Some r → Runs p (Do line act next) s l m'.log r
   runs_act p line act next s l k n stop m' r ih (Went x w τ) e h f =
       let y = ih x τ (l ++ w) h in
@@ -89,7 +89,7 @@ module _ {S E : Type 0} (rules : Rules S E) (grows : Grows rules) (lens : IsLens
 
   -- a statement begins, or there is no step for it
   runs_line : (p : ProgramRows) (line : ℕ) (next : Tree) (s : S) (l : List Touch) (n : ℕ) (stop : Stop) (m' : Moment) (r : Result S E)
-      (d : Done (Unit {0})) → perform (Spend 1) (rules.state_of s) ≡ d → on_act line l d (λ x m1. Some (AtLine line next, m1)) ≡ Some (stop, m')
+      (d : ActResult (Unit {0})) → perform (Spend 1) (rules.state_of s) ≡ d → on_act line l d (λ x m1. Some (AtLine line next, m1)) ≡ Some (stop, m')
       → finish rules p n stop (rules.with_state s m'.state) ≡ Some r → Runs p (Line line next) s l m'.log r
   runs_line p line next s l n stop m' r (Went x w τ) e h f =
       let u = unpack (AtLine line next, record { state = τ; log = l ++ w }) (stop, m') h in

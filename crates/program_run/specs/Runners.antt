@@ -12,7 +12,7 @@ use Rattle.eval_tasks.specs.declared.body.Body.{Body}
 use Rattle.eval_tasks.specs.Rest.{rest_of, waiting}
 use Rattle.program_run.specs.declared.open_call.OpenCall.{OpenCall}
 use Rattle.program_run.specs.declared.runner.Runner.{Runner}
-use Rattle.program_run.specs.Tower.{Stage, Rests, Ends, Open, View, TowerAt, Begins, IsOver, activation}
+use Rattle.program_run.specs.Tower.{Stage, Rests, Ends, Open, View, TowerAt, CallBegins, IsOver, activation}
 
 -- what is done after a call, by its caller
 abbrev pub rest_in : ProgramRows → Option Body → Out → Tree
@@ -70,13 +70,14 @@ abbrev pub invocation : (routine : ℕ) → Routine → List Value → Invocatio
 invocation f r args = record { routine = f; row = r; args = args }
 
 -- the frame of a call was made, and else the call ends in this way
-abbrev pub Begun : ProgramRows → Invocation → Option WayOut → Moment → Moment → Type 0
-Begun p i None m m' =
-    Begins p (activation i.routine i.args i.row.cells (Rests (whole p i.routine m.state.top i.row))) m m'
-Begun p i (Some way) m m' = Begins p (activation i.routine i.args 0 (Ends (Halted way))) m m'
+abbrev pub CallBegun : ProgramRows → Invocation → Option WayOut → Moment → Moment → Type 0
+CallBegun p i None m m' =
+    CallBegins p (activation i.routine i.args i.row.cells (Rests (whole p i.routine m.state.top i.row))) m m'
+CallBegun p i (Some way) m m' = CallBegins p (activation i.routine i.args 0 (Ends (Halted way))) m m'
 
 -- an open call is innermost, and ends so, by this way out and with this result
-pub record Ending (p : ProgramRows) (first : State) (e : End) (r : Runner) (out : WayOut × Option Value) : Type 0 where
+pub record InnermostEnds (p : ProgramRows) (first : State) (e : End) (r : Runner) (out : WayOut × Option Value) : Type
+    0 where
   pub ends : At p first (Ends e) r
   pub goes_out : way_out e ≡ out.0
   pub gives : result_in e ≡ out.1

@@ -56,7 +56,7 @@ pub record Own : Type 0 where
   pub events : List (Marked Call)
 
 -- an open call: what was called from which state, the cells of its frame, and what is done after it
-pub record Level : Type 0 where
+pub record OpenLevel : Type 0 where
   pub routine : ℕ
   pub args : List Value
   pub entry : State
@@ -64,14 +64,14 @@ pub record Level : Type 0 where
   pub rest : Out → Tree
 
 -- the open calls: none, or one over the others
-pub data Levels : Type 0 where
-  Bottom : (own : Own) → Levels
-  Push : (under : Levels) (call : Level) (own : Own) → Levels
+pub data OpenLevels : Type 0 where
+  Bottom : (own : Own) → OpenLevels
+  Push : (under : OpenLevels) (call : OpenLevel) (own : Own) → OpenLevels
 
 -- ---- the run
 
 -- a call, from what its body gave
-abbrev pub called : Level → Outcome → Outcome
+abbrev pub called : OpenLevel → Outcome → Outcome
 called l x = recorded l.routine l.args l.entry (after_all (closed l.entry.depth)
     (after_all (without_frame l.entry.top l.cells) x))
 
@@ -80,7 +80,7 @@ abbrev pub followed : ProgramRows → ℕ → (Out → Tree) → Outcome → Out
 followed p n rest x = joined x (λ out τ. run_of p n (rest out) τ)
 
 -- the whole run, from what is left of the innermost body
-abbrev pub whole_from : ProgramRows → ℕ → Levels → Outcome → Outcome
+abbrev pub whole_from : ProgramRows → ℕ → OpenLevels → Outcome → Outcome
 whole_from p n (Bottom own) x = in_front own.log own.events x
 whole_from p n (Push under l own) x =
     whole_from p n under (followed p n l.rest (called l (in_front own.log own.events x)))
@@ -114,30 +114,30 @@ pub record Leads (p : ProgramRows) (first : State) (rest : ℕ → Outcome) : Ty
 -- ---- the table of calls
 
 -- the calls so far, the open ones too
-abbrev pub size : Levels → ℕ
+abbrev pub size : OpenLevels → ℕ
 size (Bottom own) = length own.events
 size (Push under l own) = size under + suc (length own.events)
 
 -- the numbers of the open calls, the innermost first
-abbrev pub numbers_of : Levels → List ℕ
+abbrev pub numbers_of : OpenLevels → List ℕ
 numbers_of (Bottom own) = []
 numbers_of (Push under l own) = size under ∷ numbers_of under
 
 -- the log so far
-abbrev pub logs_of : Levels → List Touch
+abbrev pub logs_of : OpenLevels → List Touch
 logs_of (Bottom own) = own.log
 logs_of (Push under l own) = logs_of under ++ own.log
 
 -- where the rows of calls stand that have a call above them in common: the first number, that call, its depth and one
 -- more, and the entries of the log before them
-pub record Spot : Type 0 where
+pub record RowSpot : Type 0 where
   pub number : ℕ
   pub parent : Option ℕ
   pub depth : ℕ
   pub mark : ℕ
 
 -- where a call would stand that is entered now
-abbrev pub spot_of : Levels → Spot
+abbrev pub spot_of : OpenLevels → RowSpot
 spot_of ls = record {
   number = size ls;
   parent = slice_get (numbers_of ls) 0;
@@ -146,41 +146,42 @@ spot_of ls = record {
 }
 
 -- where the calls stand that are below a call at a spot
-abbrev pub below : Spot → Spot
+abbrev pub below : RowSpot → RowSpot
 below s = record { number = suc s.number; parent = Some s.number; depth = s.depth + 1; mark = s.mark }
 
 abbrev pub parent_at : ℕ → Option ℕ → Option ℕ → Option ℕ
 parent_at number outer None = outer
 parent_at number outer (Some j) = Some (number + j)
 
-abbrev pub row_at : Spot → List ℕ → ℕ → Marked Call → table.Call
+abbrev pub row_at : RowSpot → List ℕ → ℕ → Marked Call → table.Call
 row_at s bs k m = row_with m.event (parent_at s.number s.parent (parent_of bs k)) (s.depth + depth_of bs k)
     (s.number + last_of bs k) (s.mark + m.mark)
 
-abbrev pub rows_at : Spot → List (Marked Call) → List table.Call
+abbrev pub rows_at : RowSpot → List (Marked Call) → List table.Call
 rows_at s ms = each_from (row_at s (belows ms)) 0 ms
 
 -- the row of a call that was just entered
-abbrev pub opened_row : Levels → Level → table.Call
+abbrev pub opened_row : OpenLevels → OpenLevel → table.Call
 opened_row under l =
     new_call (size under) (numbers_of under) l.routine l.args (side_of (length (logs_of under)) l.entry)
 
 -- the first spot of a run
-abbrev pub first_spot : Spot
+abbrev pub first_spot : RowSpot
 first_spot = record { number = 0; parent = None; depth = 0; mark = 0 }
 
 -- the rows of all calls so far; a call that is open has no end yet
-abbrev pub rows_of : Levels → List table.Call
+abbrev pub rows_of : OpenLevels → List table.Call
 rows_of (Bottom own) = rows_at first_spot own.events
 rows_of (Push under l own) = rows_of under ++ opened_row under l ∷ rows_at (below (spot_of under)) own.events
 
-abbrev pub recording_at : (routines : ℕ) → Levels → Recording
+abbrev pub recording_at : (routines : ℕ) → OpenLevels → Recording
 recording_at routines ls = record { calls = rows_of ls; open_calls = numbers_of ls; routines = routines }
 
 -- the calls below each call are among its body's calls, and the depth of each open call is the number of those above it
-abbrev pub Fits : Levels → Type 0
-Fits (Bottom own) = Inside (belows own.events)
-Fits (Push under l own) = Inside (belows own.events) × (l.entry.depth ≡ length (numbers_of under)) × Fits under
+abbrev pub LevelsFit : OpenLevels → Type 0
+LevelsFit (Bottom own) = Inside (belows own.events)
+LevelsFit (Push under l own) = Inside (belows own.events) × (l.entry.depth ≡ length (numbers_of under))
+    × LevelsFit under
 
 -- ---- the open calls in the code
 
@@ -190,11 +191,11 @@ pub record Open : Type 0 where
   pub cells : ℕ
   pub rest : Out → Tree
 
-abbrev pub open_of : Level → Open
+abbrev pub open_of : OpenLevel → Open
 open_of l = record { base = l.entry.top; cells = l.cells; rest = l.rest }
 
 -- the open calls, the innermost first
-abbrev pub opens_of : Levels → List Open
+abbrev pub opens_of : OpenLevels → List Open
 opens_of (Bottom own) = []
 opens_of (Push under l own) = open_of l ∷ opens_of under
 
@@ -206,9 +207,9 @@ pub record View : Type 0 where
 
 -- the open calls, with what is left inside the innermost, are on the way to the whole run from a first state
 pub record TowerAt (p : ProgramRows) (first : State) (stage : Stage) (v : View) : Type 0 where
-  pub levels : Levels
+  pub levels : OpenLevels
   pub opens : v.opens ≡ opens_of levels
-  pub fits : Fits levels
+  pub fits : LevelsFit levels
   pub recording : v.recording ≡ recording_at (length p.routines) levels
   pub log : v.moment.log ≡ logs_of levels
   pub calls : v.moment.state.calls ≡ size levels
@@ -227,7 +228,7 @@ abbrev pub activation : (routine : ℕ) → List Value → (cells : ℕ) → Sta
 activation f args cells stage = record { routine = f; args = args; cells = cells; stage = stage }
 
 -- a call was entered so
-pub record Begins (p : ProgramRows) (e : Activation) (m m' : Moment) : Type 0
+pub record CallBegins (p : ProgramRows) (e : Activation) (m m' : Moment) : Type 0
   where
     pub log : m'.log ≡ m.log
     pub calls : m'.state.calls ≡ m.state.calls + 1

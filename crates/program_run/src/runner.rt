@@ -6,12 +6,13 @@ ghost use Rattle.program_tables.specs.ProgramRows.{ProgramRows, routine_at};
 ghost use Rattle.program_meaning.specs.State.{State, stack_end};
 ghost use Rattle.program_meaning.specs.Run.{End, Ended, Halted};
 ghost use Rattle.program_meaning.specs.Tree.{Out};
-ghost use Rattle.eval_machine.specs.Machines.{HasRoom, IsReady, machine_state, moment_of};
+ghost use Rattle.eval_machine.specs.Machines.{AllowsCall, IsReady, machine_state, moment_of};
 ghost use Rattle.eval_tasks.specs.declared.body.Body as bodies;
 ghost use Rattle.eval_tasks.specs.Turns.{end_of};
 ghost use Rattle.program_run.specs.Table.{side_of};
 ghost use Rattle.program_run.specs.Tower.{Calls as Calling, Ends, IsOver, stage_after};
-ghost use Rattle.program_run.specs.Runners.{At, AtRest, Begun, Chain, Ending, IsWell, invocation, opens_in, rest_in};
+ghost use Rattle.program_run.specs.Runners.{At, AtRest, CallBegun, Chain, InnermostEnds, IsWell, invocation, opens_in};
+ghost use Rattle.program_run.specs.Runners.{rest_in};
 ghost use Rattle.program_run.specs.Runners.{work_left};
 
 use crate::open_call::OpenCall;
@@ -61,10 +62,10 @@ fn begin(
     cells: u32,
 ) -> Result<Option<WayOut>, Memory>
     requires ready { IsReady machine.old }
-    requires room { HasRoom machine.old }
+    requires room { AllowsCall machine.old }
     ensures begins { IfOk result (λ halted. (p : ProgramRows) (f : ℕ) (r : table.Routine) → routine_at p f ≡ Some r
         → r.cells ≡ cells
-        → Begun p (invocation f r args.now) halted (moment_of machine.old) (moment_of machine.new)) }
+        → CallBegun p (invocation f r args.now) halted (moment_of machine.old) (moment_of machine.new)) }
     ensures fits { IfOk result (λ halted. halted ≡ None → machine.old.top + cells ≤ stack_end) }
     ensures spent { OnOk result (machine.new.steps ≤ machine.old.steps) }
     ensures ready { OnOk result (IsReady machine.new) }
@@ -90,7 +91,7 @@ impl Runner {
         requires well { IsWell self.old }
         requires open { 0 < length self.old.opens.items }
         ensures left { IfOk result (λ caller. (p : ProgramRows) (first : State) (e : End)
-            → Ending p first e self.old (way, answer) → At p first (stage_after (rest_in p caller) e) self.new) }
+            → InnermostEnds p first e self.old (way, answer) → At p first (stage_after (rest_in p caller) e) self.new) }
         ensures chain { IfOk result (λ caller. (body : bodies.Body) → Chain (Some body) (opens_in self.old)
             → Chain caller (opens_in self.new)) }
         ensures fewer { OnOk result (length self.new.opens.items < length self.old.opens.items) }
@@ -129,7 +130,7 @@ impl Runner {
         requires open { 0 < length self.old.opens.items }
         requires chain { (body : bodies.Body) × Chain (Some body) (opens_in self.old) }
         ensures rests { (p : ProgramRows) (first : State) (out : Out)
-            → Ending p first (Ended out) self.old (way, answer) → end_of way answer ≡ Ended out
+            → InnermostEnds p first (Ended out) self.old (way, answer) → end_of way answer ≡ Ended out
             → OnOk result (AtRest p first self.new.body self.new) }
         ensures less { OnOk result (work_left self.new < work_left self.old) }
         ensures chain { OnOk result (Chain self.new.body (opens_in self.new)) }
@@ -178,7 +179,7 @@ impl Runner {
         args: Cells,
     ) -> Result<(), Memory>
         requires well { IsWell self.old }
-        requires room { HasRoom self.old.machine }
+        requires room { AllowsCall self.old.machine }
         requires there { IsSome (routine_at program.now routine) }
         requires under { 0 < length self.old.calls.calls → 0 < length self.old.opens.items }
         requires chain { Chain caller (opens_in self.old) }

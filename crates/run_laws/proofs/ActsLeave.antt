@@ -18,12 +18,13 @@ use Rattle.cell_value.specs.declared.ways_out.Kind.TheVariants as kind
 use Rattle.cell_value.specs.declared.ways_out.Which.TheVariants.{Calls, Depth, Stack, Heap}
 use Rattle.cell_value.specs.Effects.{IsCountable, is_shared, made_by, made_of, taken_by, taken_of, byte_by, given_of}
 use Rattle.program_meaning.specs.State.{State, IsSound, stack_end, heap_end, most_calls, most_depth, is_in_reach}
-use Rattle.program_meaning.specs.Acts.{Fault, OutOfSteps, Act, Spend, ReadCell, HasCell, WriteCell, TakeIf, GiveByte, Done, Went, Stops, perform, spent}
+use Rattle.program_meaning.specs.Acts.{Fault, OutOfSteps, Act, Spend, ReadCell, HasCell, WriteCell, TakeIf, GiveByte, ActResult, Went, Stops, perform, spent}
 use Rattle.program_meaning.specs.Acts.{with_steps, on_cell, read_as, put, put_asked, after_touches, take_item, take_looked, look, limit_passed}
 use Rattle.program_meaning.specs.Acts.{Limited, MakeBlock, DropBlock, make_block, made_block, drop_block, dropped_block}
 use Rattle.program_meaning.specs.Blocks.{filled, cleared, block_cells}
+use Rattle.program_meaning.proofs.OutcomesCompose.{none_some}
 use Rattle.run_laws.specs.Laws.{HasFewItems}
-use Rattle.run_laws.proofs.Touches.{written, written-append, left_with, left_same, Serves, serves_append, none_some}
+use Rattle.run_laws.proofs.Touches.{written, written-append, left_with, left_same, Serves, serves_append}
 use Rattle.run_laws.proofs.Cells.{got_same, got_other, filled_below, above_block, cleared_below, cleared_none, block_made, block_dropped}
 
 -- what a part of a run with these touches and so many calls leaves of a state: what it does to the cells that it shares
@@ -111,11 +112,11 @@ leaves_then {σ = σ} {τ = τ} {υ = υ} {v = v} {w = w} {n = n} {k = k} f g = 
 
 -- ---- acts
 
-abbrev pub DoneLeaves : {A : Type 0} → State → Done A → Type 0
+abbrev pub DoneLeaves : {A : Type 0} → State → ActResult A → Type 0
 DoneLeaves σ (Went x w τ) = Leaves σ w 0 τ
 DoneLeaves σ (Stops why w τ) = Leaves σ w 0 τ
 
-stepped : {A : Type 0} (σ : State) (n : ℕ) (go : State → Done A) → IsSound σ → ((k : ℕ) → k ≤ σ.steps → DoneLeaves σ (go (record σ { steps = k })))
+stepped : {A : Type 0} (σ : State) (n : ℕ) (go : State → ActResult A) → IsSound σ → ((k : ℕ) → k ≤ σ.steps → DoneLeaves σ (go (record σ { steps = k })))
     → DoneLeaves σ (with_steps n σ go)
 stepped {A} σ n go s h = by (nat_lt σ.steps n)
   where
@@ -123,7 +124,7 @@ stepped {A} σ n go s h = by (nat_lt σ.steps n)
     by true = leaves_steps σ 0 (omega arith) s
     by false = h (σ.steps - n) (omega arith)
 
-celled : {A : Type 0} (σ : State) (addr : ℕ) (go : State → Done A) → IsSound σ
+celled : {A : Type 0} (σ : State) (addr : ℕ) (go : State → ActResult A) → IsSound σ
     → (is_in_reach σ addr ≡ true → (k : ℕ) → k ≤ σ.steps → DoneLeaves σ (go (record σ { steps = k }))) → DoneLeaves σ (on_cell addr σ go)
 celled {A} σ addr go s h = by (is_in_reach σ addr) refl
   where
@@ -132,7 +133,7 @@ celled {A} σ addr go s h = by (is_in_reach σ addr) refl
     by false e = leaves_same σ s
 
 -- touches, and what was done after them
-touches_leave : {A : Type 0} (σ τ : State) (w : List Touch) (d : Done A) → Leaves σ w 0 τ → DoneLeaves τ d → DoneLeaves σ (after_touches w d)
+touches_leave : {A : Type 0} (σ τ : State) (w : List Touch) (d : ActResult A) → Leaves σ w 0 τ → DoneLeaves τ d → DoneLeaves σ (after_touches w d)
 touches_leave σ τ w (Went x v υ) h k = leaves_then h k
 touches_leave σ τ w (Stops why v υ) h k = leaves_then h k
 

@@ -16,12 +16,13 @@ use Rattle.cell_value.specs.declared.ways_out.Kind.TheVariants as kind
 use Rattle.cell_value.specs.declared.ways_out.Which.TheVariants.{Calls, Depth, Stack, Heap}
 use Rattle.cell_value.specs.Effects.{change_by, made_of, looked_by, looked_of}
 use Rattle.program_meaning.specs.State.{State, stack_end, heap_end, most_calls, most_depth, is_in_reach}
-use Rattle.program_meaning.specs.Acts.{Trouble, Fault, OutOfSteps, Act, Spend, ReadCell, HasCell, WriteCell, TakeIf, GiveByte, Done, Went, Stops}
+use Rattle.program_meaning.specs.Acts.{Trouble, Fault, OutOfSteps, Act, Spend, ReadCell, HasCell, WriteCell, TakeIf, GiveByte, ActResult, Went, Stops}
 use Rattle.program_meaning.specs.Acts.{perform, spent, with_steps, on_cell, read_as, put, put_if, put_asked, after_touches, take_item, take_looked, look}
 use Rattle.program_meaning.specs.Acts.{limit_passed}
 use Rattle.program_meaning.specs.Acts.{Limited, MakeBlock, DropBlock, make_block, made_block, drop_block, dropped_block}
 use Rattle.program_meaning.specs.Blocks.{filled, cleared, block_cells, lies_in_heap}
-use Rattle.run_laws.proofs.Touches.{Serves, left_with, none_some}
+use Rattle.program_meaning.proofs.OutcomesCompose.{none_some}
+use Rattle.run_laws.proofs.Touches.{Serves, left_with}
 use Rattle.run_laws.proofs.Cells.{Map, got_same, got_other, block_made, block_dropped}
 use Rattle.run_laws.proofs.ActsLeave.{MayEnter, made_append}
 use Rattle.run_laws.proofs.Effects.{SameLog, relative}
@@ -58,36 +59,36 @@ IsFault why = ⊥
 
 -- ---- what was done
 
-abbrev pub ByItself : {A : Type 0} → Done A → Type 0
+abbrev pub ByItself : {A : Type 0} → ActResult A → Type 0
 ByItself (Went x w σ) = Unit {0}
 ByItself (Stops why w σ) = IsFault why
 
-abbrev pub log_of : {A : Type 0} → Done A → List Touch
+abbrev pub log_of : {A : Type 0} → ActResult A → List Touch
 log_of (Went x w σ) = w
 log_of (Stops why w σ) = w
 
-abbrev pub state_of : {A : Type 0} → Done A → State
+abbrev pub state_of : {A : Type 0} → ActResult A → State
 state_of (Went x w σ) = σ
 state_of (Stops why w σ) = σ
 
 -- the same was done, with these touches and this state after it
-abbrev pub done_as : {A : Type 0} → Done A → List Touch → State → Done A
+abbrev pub done_as : {A : Type 0} → ActResult A → List Touch → State → ActResult A
 done_as (Went x w σ) v τ = Went x v τ
 done_as (Stops why w σ) v τ = Stops why v τ
 
-touches_after : {A : Type 0} (w : List Touch) (d : Done A) → log_of (after_touches w d) ≡ w ++ log_of d
+touches_after : {A : Type 0} (w : List Touch) (d : ActResult A) → log_of (after_touches w d) ≡ w ++ log_of d
 touches_after w (Went x v σ) = refl
 touches_after w (Stops why v σ) = refl
 
-state_after : {A : Type 0} (w : List Touch) (d : Done A) → state_of (after_touches w d) ≡ state_of d
+state_after : {A : Type 0} (w : List Touch) (d : ActResult A) → state_of (after_touches w d) ≡ state_of d
 state_after w (Went x v σ) = refl
 state_after w (Stops why v σ) = refl
 
-itself_after : {A : Type 0} (w : List Touch) (d : Done A) → ByItself (after_touches w d) → ByItself d
+itself_after : {A : Type 0} (w : List Touch) (d : ActResult A) → ByItself (after_touches w d) → ByItself d
 itself_after w (Went x v σ) h = h
 itself_after w (Stops why v σ) h = h
 
-done_after : {A : Type 0} (w x : List Touch) (d : Done A) (v : List Touch) (τ : State)
+done_after : {A : Type 0} (w x : List Touch) (d : ActResult A) (v : List Touch) (τ : State)
     → after_touches x (done_as d v τ) ≡ done_as (after_touches w d) (x ++ v) τ
 done_after w x (Went y u σ) v τ = refl
 done_after w x (Stops why u σ) v τ = refl
@@ -109,7 +110,7 @@ looked_first from t w = omega (arith, max_least (max 0 (looked_by from t)) (map 
 
 module _ (from to : ℕ) where
   -- `d` was done from the first state, and the second one does the same in `e`; `u` are the touches that are to come
-  pub record DidAgain {A : Type 0} (d e : Done A) (σ τ : State) (u : List Touch) : Type 0 where
+  pub record DidAgain {A : Type 0} (d e : ActResult A) (σ τ : State) (u : List Touch) : Type 0 where
     pub log : List Touch
     pub after : State
     pub is : e ≡ done_as d log after
@@ -118,18 +119,18 @@ module _ (from to : ℕ) where
     pub step : InStep σ τ (state_of d) after
 
   -- what was done by itself from the first state is done from the second, where that agrees and has steps enough
-  abbrev pub DoneAgain : {A : Type 0} → (d e : Done A) → (σ τ : State) → List Touch → Type 0
+  abbrev pub DoneAgain : {A : Type 0} → (d e : ActResult A) → (σ τ : State) → List Touch → Type 0
   DoneAgain d e σ τ u = Agree from to (log_of d ++ u) σ τ → σ.steps ≤ τ.steps + (state_of d).steps → ByItself d → DidAgain d e σ τ u
 
   agree_steps : (u : List Touch) (σ τ : State) (k l : ℕ) → Agree from to u σ τ → Agree from to u (record σ { steps = k }) (record τ { steps = l })
   agree_steps u σ τ k l h = record { top = h.top; fresh = h.fresh; cells = h.cells; place = h.place; items = h.items }
 
   -- an act goes on from what is left of the steps, and leaves no more of them
-  abbrev GoesOn : {A : Type 0} → (State → Done A) → (σ τ : State) → List Touch → Type 0
+  abbrev GoesOn : {A : Type 0} → (State → ActResult A) → (σ τ : State) → List Touch → Type 0
   GoesOn go σ τ u = (k l : ℕ) → ((state_of (go (record σ { steps = k }))).steps ≤ k)
       × DoneAgain (go (record σ { steps = k })) (go (record τ { steps = l })) (record σ { steps = k }) (record τ { steps = l }) u
 
-  stepped : {A : Type 0} (n : ℕ) (σ τ : State) (u : List Touch) (go : State → Done A) → GoesOn go σ τ u
+  stepped : {A : Type 0} (n : ℕ) (σ τ : State) (u : List Touch) (go : State → ActResult A) → GoesOn go σ τ u
       → DoneAgain (with_steps n σ go) (with_steps n τ go) σ τ u
   stepped {A} n σ τ u go h = by (nat_lt σ.steps n) (nat_lt τ.steps n) refl refl
     where
@@ -159,7 +160,7 @@ module _ (from to : ℕ) where
           λ g s i. absurd (let z = (h (σ.steps - n) 0).0 in omega (arith, s, z))
 
   -- under agreement the second may be told otherwise
-  told : {A : Type 0} (d a b : Done A) (σ τ : State) (u : List Touch) → (Agree from to (log_of d ++ u) σ τ → b ≡ a) → DoneAgain d a σ τ u
+  told : {A : Type 0} (d a b : ActResult A) (σ τ : State) (u : List Touch) → (Agree from to (log_of d ++ u) σ τ → b ≡ a) → DoneAgain d a σ τ u
       → DoneAgain d b σ τ u
   told d a b σ τ u e h = λ g s i.
       let r = h g s i in
@@ -168,11 +169,11 @@ module _ (from to : ℕ) where
   same_reach : (σ τ : State) (addr : ℕ) → σ.top ≡ τ.top → is_in_reach σ addr ≡ is_in_reach τ addr
   same_reach σ τ addr e = ap (λ t. nat_lt addr t || (nat_le stack_end addr && nat_lt addr heap_end)) e
 
-  celled : {A : Type 0} (addr : ℕ) (σ τ : State) (u : List Touch) (go : State → Done A) → GoesOn go σ τ u
+  celled : {A : Type 0} (addr : ℕ) (σ τ : State) (u : List Touch) (go : State → ActResult A) → GoesOn go σ τ u
       → DoneAgain (on_cell addr σ go) (on_cell addr τ go) σ τ u
   celled {A} addr σ τ u go h = by (is_in_reach σ addr) refl
     where
-      reach : Bool → Done A
+      reach : Bool → ActResult A
       reach b = if b then with_steps 1 τ go else Stops (Fault kind.Undefined) [] τ
 
       by : (b : Bool) → is_in_reach σ addr ≡ b
@@ -278,7 +279,7 @@ module _ (from to : ℕ) where
     same : relative from s ≡ relative to t
     agree : (w : List Touch) → Agree from to (s ∷ w) σ τ → Agree from to w σ τ
 
-  touched_first : {A : Type 0} (s t : Touch) (σ τ : State) (u : List Touch) (d e : Done A)
+  touched_first : {A : Type 0} (s t : Touch) (σ τ : State) (u : List Touch) (d e : ActResult A)
       → (Agree from to (log_of (after_touches (s ∷ []) d) ++ u) σ τ → SameTouch s t σ τ) → DoneAgain d e σ τ u
       → DoneAgain (after_touches (s ∷ []) d) (after_touches (t ∷ []) e) σ τ u
   touched_first s t σ τ u d e same h = λ g n i.
@@ -295,7 +296,7 @@ module _ (from to : ℕ) where
       }
 
   -- an answer, and what was done after it
-  asked_first : {A : Type 0} (addr : ℕ) (b : Bool) (σ τ : State) (u : List Touch) (d e : Done A) → DoneAgain d e σ τ u
+  asked_first : {A : Type 0} (addr : ℕ) (b : Bool) (σ τ : State) (u : List Touch) (d e : ActResult A) → DoneAgain d e σ τ u
       → DoneAgain (after_touches (touch.Has addr b ∷ []) d) (after_touches (touch.Has addr b ∷ []) e) σ τ u
   asked_first addr b σ τ u d e h = touched_first (touch.Has addr b) (touch.Has addr b) σ τ u d e
       (λ g. record { same = refl; agree = λ w k. after_has addr b w σ τ k }) h
@@ -331,7 +332,7 @@ module _ (from to : ℕ) where
       by false = omega arith
   put_no_more false addr v σ = omega arith
 
-  abbrev writing : ℕ → Value → State → Done Bool
+  abbrev writing : ℕ → Value → State → ActResult Bool
   writing addr v τ = if nat_lt addr stack_end then put addr v τ else put_asked (is_some (get τ.cells addr)) addr v τ
 
   write_again : (addr : ℕ) (v : Value) (σ τ : State) (u : List Touch) → ((state_of (writing addr v σ)).steps ≤ σ.steps)
@@ -425,7 +426,7 @@ module _ (from to : ℕ) where
       fits true g i = absurd i
       fits false g i = same_fresh n of' σ τ u l g
 
-      limited : Bool → Done ℕ
+      limited : Bool → ActResult ℕ
       limited b = if b then Stops (Limited Heap) [] τ else with_steps n τ (made_block n of')
 
       by : (b : Bool) → nat_lt heap_end (σ.fresh + n) ≡ b
@@ -473,7 +474,7 @@ module _ (from to : ℕ) where
   took_again wanted None σ τ u = λ g s i. record { log = []; after = τ; is = refl; same = refl; agree = g; step = step_same σ τ }
   took_again wanted (Some item) σ τ u = by (wanted item)
     where
-      taken : State → Done (Option ℕ)
+      taken : State → ActResult (Option ℕ)
       taken τ = Went (Some item) (touch.Take 1 ∷ []) (record τ { place = τ.place + 1 })
 
       once : (k l : ℕ) → DoneAgain (taken (record σ { steps = k })) (taken (record τ { steps = l })) (record σ { steps = k }) (record τ { steps = l }) u
@@ -515,7 +516,7 @@ module _ (from to : ℕ) where
         (took_again wanted (slice_get σ.items σ.place) σ τ u)),
   )
     where
-      looked : Done (Option ℕ)
+      looked : ActResult (Option ℕ)
       looked = take_looked wanted (slice_get σ.items σ.place) σ
 
       first : Agree from to (log_of (look wanted σ) ++ u) σ τ → Agree from to (touch.Look σ.place ∷ (log_of looked ++ u)) σ τ

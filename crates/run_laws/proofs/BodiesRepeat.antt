@@ -33,8 +33,8 @@ use Rattle.program_meaning.specs.Run.{with_frame, without_frame, opened, closed}
 use Rattle.program_meaning.specs.Apply.{apply}
 use Rattle.program_meaning.specs.Replay.{Event, LineOf, ChildOf, Replaying, Replayed, same_numbers, same_value, same_args, end_of, next_call, on_state}
 use Rattle.program_meaning.specs.Replay.{in_replaying, replaying, replay_of}
+use Rattle.program_meaning.proofs.OutcomesCompose.{none_some}
 use Rattle.run_laws.specs.Laws.{IsMet}
-use Rattle.run_laws.proofs.Touches.{none_some}
 use Rattle.run_laws.proofs.Events.{unmarked, events_append, events_length}
 use Rattle.run_laws.proofs.ActsLeave.{MayEnter, limits_hold}
 use Rattle.run_laws.proofs.Ways as ways

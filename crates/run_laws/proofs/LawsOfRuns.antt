@@ -9,14 +9,14 @@ use Rattle.cell_value.specs.declared.values.Value.{Value}
 use Rattle.cell_value.specs.Effects.{IsCountable}
 use Rattle.program_tables.specs.ProgramRows.{ProgramRows, routine_at}
 use Rattle.program_meaning.specs.State.{State, IsSound, most_calls, most_depth}
-use Rattle.program_meaning.specs.Acts.{Act, Done, Went, Stops, perform}
+use Rattle.program_meaning.specs.Acts.{Act, ActResult, Went, Stops, perform}
 use Rattle.program_meaning.specs.Tree.{Part}
 use Rattle.program_meaning.specs.Layer.{layer}
 use Rattle.program_meaning.specs.Run.{Marked, Result, Call, way_out, result_in, call_of, run_of, run, block, start, depth_enough, after_all, closed}
 use Rattle.program_meaning.specs.Run.{framed_run, at_work, items_of, opened}
 use Rattle.program_meaning.specs.Replay.{Event, body, on_state, in_replaying, replay_of}
+use Rattle.program_meaning.proofs.OutcomesCompose.{none_some, some_same}
 use Rattle.run_laws.specs.Laws.{calls_in, HasFewItems, IsSoundAfter, IsMet, IsBody, MeetsItems, ShowsCountable}
-use Rattle.run_laws.proofs.Touches.{none_some, some_same}
 use Rattle.run_laws.proofs.Events.{unmarked}
 use Rattle.run_laws.proofs.ActsLeave.{DoneLeaves, act_leaves}
 use Rattle.run_laws.proofs.Ways.{run_gives, gives_call, call_at}
@@ -39,7 +39,7 @@ begins_sound input budget = record {
   depth = omega arith;
 }
 
-after_done : {A : Type 0} (σ : State) (d : Done A) → DoneLeaves σ d → IsSoundAfter d
+after_done : {A : Type 0} (σ : State) (d : ActResult A) → DoneLeaves σ d → IsSoundAfter d
 after_done σ (Went x w τ) h = h.sound
 after_done σ (Stops why w τ) h = h.sound
 
@@ -92,7 +92,7 @@ runs_items p input budget r e = recorded_items p (items_of input) (calls_in r) (
 
 -- ---- what can be counted
 
-countable_after : {A : Type 0} (σ : State) (d : Done A) → DoneLeaves σ d → HasFewItems σ → ShowsCountable d
+countable_after : {A : Type 0} (σ : State) (d : ActResult A) → DoneLeaves σ d → HasFewItems σ → ShowsCountable d
 countable_after σ (Went x w τ) h m = h.countable m
 countable_after σ (Stops why w τ) h m = h.countable m
 

@@ -16,8 +16,9 @@ use Rattle.program_meaning.specs.State.{State, IsSound, most_depth}
 use Rattle.program_meaning.specs.Run.{End, Ended, Halted, Result, Call, way_out, result_in, record_of, recorded, call_of, run_of, depth_enough}
 use Rattle.program_meaning.proofs.RunAtAnyDepth.{call_deeper}
 use Rattle.program_meaning.specs.Agree.{Agrees, EndedByItself, Shows, deepest}
+use Rattle.program_meaning.proofs.OutcomesCompose.{none_some, some_same}
 use Rattle.run_laws.specs.Laws.{StandsFor}
-use Rattle.run_laws.proofs.Touches.{none_some, some_same, Serves, IsSeen, seen_serves}
+use Rattle.run_laws.proofs.Touches.{Serves, IsSeen, seen_serves}
 use Rattle.run_laws.proofs.Cells.{shared_in_heap}
 use Rattle.run_laws.proofs.Events.{unmarked}
 use Rattle.run_laws.proofs.ActsLeave.{MayEnter}

@@ -10,7 +10,7 @@ use Rattle.cell_value.specs.declared.ways_out.WayOut.TheVariants as way
 use Rattle.cell_value.specs.Effects.{is_shared, heap_start, heap_end}
 use Rattle.program_tables.specs.ProgramRows.{ProgramRows}
 use Rattle.program_meaning.specs.State.{State, IsSound, stack_end}
-use Rattle.program_meaning.specs.Acts.{Trouble, Fault, OutOfSteps, Limited, Act, Answer, Done, perform, Spend}
+use Rattle.program_meaning.specs.Acts.{Trouble, Fault, OutOfSteps, Limited, Act, Answer, ActResult, perform, Spend}
 use Rattle.program_meaning.specs.Tree.{Tree, way_of}
 use Rattle.program_meaning.specs.Run.{End, Ended, Halted, Marked, Result, Call, with_frame, without_frame, frame_cells, opened, closed}
 use Rattle.program_meaning.specs.Blocks.{filled, cleared}
@@ -49,7 +49,7 @@ pub left_ending : {e : End} (σ : State) → IsProper e → IsSound σ → Left 
 left_ending σ q s = record { leaves = leaves_same σ s; proper = q }
 
 -- what an act left that was done so
-pub act_left : (act : Act) {σ : State} {d : Done (Answer act)} → IsSound σ → perform act σ ≡ d → DoneLeaves σ d
+pub act_left : (act : Act) {σ : State} {d : ActResult (Answer act)} → IsSound σ → perform act σ ≡ d → DoneLeaves σ d
 act_left act {σ = σ} s q = subst (DoneLeaves σ) q (act_leaves act σ s)
 
 -- ---- calls

@@ -11,12 +11,7 @@ use Rattle.cell_value.specs.declared.entries.Change.{Change}
 use Rattle.cell_value.specs.declared.entries.Change.TheVariants.{Set, Gone}
 use Rattle.cell_value.specs.Effects.{change_by, change_at, last_of, first_of, read_by, asked_by, seen_by, seen_at}
 use Rattle.program_meaning.specs.Agree.{Shows}
-
-pub none_some : {A : Type 0} {x : A} → None ≡ Some x → ⊥
-none_some e = cc
-
-pub some_same : {A : Type 0} {x y : A} → Some x ≡ Some y → x ≡ y
-some_same e = cc
+use Rattle.program_meaning.proofs.OutcomesCompose.{none_some, some_same}
 
 -- ---- what touches leave a cell with
 

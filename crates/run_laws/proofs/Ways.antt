@@ -11,14 +11,14 @@ use Rattle.cell_value.specs.declared.ways_out.Which.TheVariants.{Stack}
 use Rattle.program_tables.specs.declared.program.Routine.{Routine}
 use Rattle.program_tables.specs.ProgramRows.{ProgramRows, routine_at}
 use Rattle.program_meaning.specs.State.{State, stack_end}
-use Rattle.program_meaning.specs.Acts.{Trouble, OutOfSteps, Limited, Act, Answer, Done, Went, Stops, perform, spent, limit_passed, Spend}
+use Rattle.program_meaning.specs.Acts.{Trouble, OutOfSteps, Limited, Act, Answer, ActResult, Went, Stops, perform, spent, limit_passed, Spend}
 use Rattle.program_meaning.specs.Tree.{Out, Part, Tree, Ret, Halt, Do, Sub, Enter, Line, way_of}
 use Rattle.program_meaning.specs.Layer.{layer}
 use Rattle.program_meaning.specs.Run.{End, Ended, Halted, Marked, Result, later_by, in_front, ends, on_end, joined, on_done, if_allowed, Call, Outcome}
 use Rattle.program_meaning.specs.Run.{record_of, recorded, after_all, in_frame, at_work, call_of, plain, run_of, depth_enough, whole, with_frame, without_frame}
 use Rattle.program_meaning.specs.Run.{opened, closed}
 use Rattle.program_meaning.proofs.RunAtAnyDepth.{call_deeper}
-use Rattle.run_laws.proofs.Touches.{none_some, some_same}
+use Rattle.program_meaning.proofs.OutcomesCompose.{none_some, some_same}
 
 -- a result with touches and events before it
 abbrev pub front : {S E : Type 0} → List Touch → List (Marked E) → Result S E → Result S E
@@ -151,7 +151,7 @@ module _ (p : ProgramRows) (n : ℕ) (R : (t : Tree) (σ : State) → Gives (Ran
   deeper (Halt line why) σ = gives_this (Ran p (suc n) (Halt line why) σ) _ Stopped
   deeper (Do line act next) σ = by (λ x τ. deeper (next x) τ) (perform act σ) refl
     where
-      by : ((x : Answer act) (τ : State) → Gives (Ran p (suc n) (next x) τ) (run_of p (suc n) (next x) τ)) → (d : Done (Answer act)) → perform act σ ≡ d
+      by : ((x : Answer act) (τ : State) → Gives (Ran p (suc n) (next x) τ) (run_of p (suc n) (next x) τ)) → (d : ActResult (Answer act)) → perform act σ ≡ d
           → Gives (Ran p (suc n) (Do line act next) σ) (on_done (plain p) line σ d (λ x τ. run_of p (suc n) (next x) τ))
       by k (Went x w τ) q = gives_front (Ran p (suc n) (Do line act next) σ) w [] (run_of p (suc n) (next x) τ) (λ s c. Acted q (k x τ s c))
       by k (Stops why w τ) q = gives_this (Ran p (suc n) (Do line act next) σ) _ (Refused q)
@@ -172,7 +172,7 @@ module _ (p : ProgramRows) (n : ℕ) (R : (t : Tree) (σ : State) → Gives (Ran
           (run_of p (suc n) (next out) s.after)) f args σ (λ y a h t g. CallEnded q a h (k out y.after t g)))
   deeper (Line line next) σ = by (λ τ. deeper next τ) (perform (Spend 1) σ) refl
     where
-      by : ((τ : State) → Gives (Ran p (suc n) next τ) (run_of p (suc n) next τ)) → (d : Done (Unit {0})) → perform (Spend 1) σ ≡ d
+      by : ((τ : State) → Gives (Ran p (suc n) next τ) (run_of p (suc n) next τ)) → (d : ActResult (Unit {0})) → perform (Spend 1) σ ≡ d
           → Gives (Ran p (suc n) (Line line next) σ) (on_done (plain p) line σ d (λ x τ. in_front [] [] (run_of p (suc n) next τ)))
       by k (Went x w τ) q = gives_front (Ran p (suc n) (Line line next) σ) w [] (in_front [] [] (run_of p (suc n) next τ))
           (gives_front (λ s. Ran p (suc n) (Line line next) σ (front w [] s)) [] [] (run_of p (suc n) next τ) (λ s c. Began q (k τ s c)))

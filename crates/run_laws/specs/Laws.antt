@@ -6,7 +6,7 @@ use Rattle.cell_value.specs.declared.entries.Touch.{Touch}
 use Rattle.cell_value.specs.Effects.{IsCountable, reads_of, changes_of, made_of, looked_of, taken_of, given_of}
 use Rattle.program_tables.specs.ProgramRows.{ProgramRows}
 use Rattle.program_meaning.specs.State.{State, IsSound, most_calls, most_depth}
-use Rattle.program_meaning.specs.Acts.{Act, Done, Went, Stops, perform}
+use Rattle.program_meaning.specs.Acts.{Act, ActResult, Went, Stops, perform}
 use Rattle.program_meaning.specs.Tree.{Part}
 use Rattle.program_meaning.specs.Layer.{layer}
 use Rattle.program_meaning.specs.Run.{Marked, Result, Call, Outcome, way_out, result_in, call_of, run_of, run, start}
@@ -31,7 +31,7 @@ OfEachCall P = (p : ProgramRows) (input : List ℕ) (budget : ℕ) (r : Result S
 abbrev pub RunsBeginSound : Type 0
 RunsBeginSound = (input : List ℕ) (budget : ℕ) → IsSound (start input budget)
 
-abbrev pub IsSoundAfter : {A : Type 0} → Done A → Type 0
+abbrev pub IsSoundAfter : {A : Type 0} → ActResult A → Type 0
 IsSoundAfter (Went answer log after) = IsSound after
 IsSoundAfter (Stops why log after) = IsSound after
 
@@ -70,7 +70,7 @@ RunsKeepItems = (p : ProgramRows) (input : List ℕ) (budget : ℕ) (r : Result 
 abbrev pub HasFewItems : State → Type 0
 HasFewItems σ = length σ.items < 4294967295
 
-abbrev pub ShowsCountable : {A : Type 0} → Done A → Type 0
+abbrev pub ShowsCountable : {A : Type 0} → ActResult A → Type 0
 ShowsCountable (Went answer log after) = All IsCountable log
 ShowsCountable (Stops why log after) = All IsCountable log
 

@@ -20,7 +20,7 @@ use Rattle.check_steps.specs.Breaks.{IsFirst, IsOfFirst, fault_of, group, is_bef
 use Rattle.source_checker.specs.declared.programs.ProgramFault.TheVariants as refused
 use Rattle.code_checker.specs.Programs.{broken}
 use Rattle.source_checker.specs.Declarations.{IsTextOf}
-use Rattle.source_checker.specs.Places.{StandsAt, StandsFor, token_or_last}
+use Rattle.source_checker.specs.Places.{TokenBegins, TokenOrLastBegins, token_or_last}
 use Rattle.same_programs.specs.Laws.{RefusedOnce}
 use Rattle.same_programs.proofs.Programs.{one_text}
 
@@ -58,13 +58,13 @@ abbrev token_in : Option Token → Token → Token
 token_in None t = t
 token_in (Some x) t = x
 
-at_once : (t : Lexed) (m n line byte line' byte' : ℕ) → m ≡ n → StandsAt t m line byte → StandsAt t n line' byte'
+at_once : (t : Lexed) (m n line byte line' byte' : ℕ) → m ≡ n → TokenBegins t m line byte → TokenBegins t n line' byte'
     → (line ≡ line') × (byte ≡ byte')
 at_once t m n line byte line' byte' e a b =
     let same : a.token ≡ b.token = ap (λ o. token_in o a.token) (sym a.there ∙ ap (slice_get t.tokens) e ∙ b.there) in
     (a.line_is ∙ ap (λ (x : Token). x.line) same ∙ sym b.line_is, a.byte_is ∙ ap (λ (x : Token). x.start) same ∙ sym b.byte_is)
 
-for_once : (t : Lexed) (m n line byte line' byte' : ℕ) → m ≡ n → StandsFor t m line byte → StandsFor t n line' byte'
+for_once : (t : Lexed) (m n line byte line' byte' : ℕ) → m ≡ n → TokenOrLastBegins t m line byte → TokenOrLastBegins t n line' byte'
     → (line ≡ line') × (byte ≡ byte')
 for_once t m n line byte line' byte' e a b =
     let same : a.token ≡ b.token = ap (λ o. token_in o a.token) (sym a.there ∙ ap (token_or_last t.tokens) e ∙ b.there) in

@@ -26,7 +26,7 @@ use Rattle.session_file.specs.Text.{this_version, word_of}
 use Rattle.session_file.specs.Reading.{only_if, whole_at, word_at, text_at, digest_at, said_as, entry_in, entries_in, are_few, begins_wrong}
 use Rattle.session_file.specs.Reading.{is_budget, budget_at, values_at, entries_at, with_field, fields_in, session_in, json_of, session_or_fault}
 use Rattle.session_file.specs.Reading.{session_of}
-use Rattle.session_file.specs.Whole.{IsDigest, IsNumbered, IsWhole}
+use Rattle.session_file.specs.Whole.{IsDigest, NumberFits, IsWhole}
 
 -- ---- what was found passed each test
 
@@ -63,46 +63,46 @@ either : {A : Type 0} (b : Bool) (x y : Option A) (a : A) (P : A → Type 0) →
 either true x y a P first second e = first e
 either false x y a P first second e = second e
 
-none_said : (what : What) → None ≡ Some what → IsNumbered what
+none_said : (what : What) → None ≡ Some what → NumberFits what
 none_said what e = absurd cc
 
 judged_small : (judgement : Judgement) (d : Data) (what : What)
-    → option_map (λ call. Judged call judgement) (word_at (codes "call") d) ≡ Some what → IsNumbered what
+    → option_map (λ call. Judged call judgement) (word_at (codes "call") d) ≡ Some what → NumberFits what
 judged_small judgement d what e =
     let m = mapped (λ call. Judged call judgement) (word_at (codes "call") d) what e in
-    subst IsNumbered m.2 (word_small (codes "call") d m.0 m.1)
+    subst NumberFits m.2 (word_small (codes "call") d m.0 m.1)
 
-trusted_small : (d : Data) (what : What) → option_map Trusted (word_at (codes "routine") d) ≡ Some what → IsNumbered what
+trusted_small : (d : Data) (what : What) → option_map Trusted (word_at (codes "routine") d) ≡ Some what → NumberFits what
 trusted_small d what e =
     let m = mapped Trusted (word_at (codes "routine") d) what e in
-    subst IsNumbered m.2 (word_small (codes "routine") d m.0 m.1)
+    subst NumberFits m.2 (word_small (codes "routine") d m.0 m.1)
 
-said_small : (kind : List ℕ) (d : Data) (what : What) → said_as kind d ≡ Some what → IsNumbered what
+said_small : (kind : List ℕ) (d : Data) (what : What) → said_as kind d ≡ Some what → NumberFits what
 said_small kind d what e =
-    either (bytes_eq kind (word_of Right)) _ _ what IsNumbered (judged_small Right d what)
-    (either (bytes_eq kind (word_of Wrong)) _ _ what IsNumbered (judged_small Wrong d what)
-    (either (bytes_eq kind (word_of Unknown)) _ _ what IsNumbered (judged_small Unknown d what)
-    (either (bytes_eq kind (codes "trust")) _ _ what IsNumbered (trusted_small d what) (none_said what)))) e
+    either (bytes_eq kind (word_of Right)) _ _ what NumberFits (judged_small Right d what)
+    (either (bytes_eq kind (word_of Wrong)) _ _ what NumberFits (judged_small Wrong d what)
+    (either (bytes_eq kind (word_of Unknown)) _ _ what NumberFits (judged_small Unknown d what)
+    (either (bytes_eq kind (codes "trust")) _ _ what NumberFits (trusted_small d what) (none_said what)))) e
 
-entry_small : (d : Data) (entry : Entry) → entry_in d ≡ Some entry → IsNumbered entry.what
+entry_small : (d : Data) (entry : Entry) → entry_in d ≡ Some entry → NumberFits entry.what
 entry_small d entry e =
     let a = followed _ (option_and_then (λ kind. said_as kind d) (text_at (codes "kind") d)) entry e in
     let b = followed (λ kind. said_as kind d) (text_at (codes "kind") d) a.0 a.1 in
     let c = mapped _ (option_and_then as_bool (get (codes "standing") d)) entry a.2 in
-    subst IsNumbered (ap (λ (x : Entry). x.what) c.2) (said_small b.0 d a.0 b.2)
+    subst NumberFits (ap (λ (x : Entry). x.what) c.2) (said_small b.0 d a.0 b.2)
 
 -- entries that are as many as their values, and numbered
 abbrev AreOf : Items → List Entry → Type 0
-AreOf ds entries = All (λ entry. IsNumbered entry.what) entries × (length entries ≡ items_len ds)
+AreOf ds entries = All (λ entry. NumberFits entry.what) entries × (length entries ≡ items_len ds)
 
 entries_small : (ds : Items) (entries : List Entry) → entries_in ds ≡ Some entries → AreOf ds entries
-entries_small no_items [] e = (All-nil (λ entry. IsNumbered entry.what), refl)
+entries_small no_items [] e = (All-nil (λ entry. NumberFits entry.what), refl)
 entries_small no_items (entry ∷ entries) e = absurd cc
 entries_small (item d ds) entries e =
     let a = followed (λ entry. option_map (λ rest. entry ∷ rest) (entries_in ds)) (entry_in d) entries e in
     let b = mapped (λ rest. a.0 ∷ rest) (entries_in ds) entries a.2 in
     let rest = entries_small ds b.0 b.1 in
-    subst (AreOf (item d ds)) b.2 (All-cons (λ entry. IsNumbered entry.what) a.0 b.0 (entry_small d a.0 a.1) rest.0, ap suc rest.1)
+    subst (AreOf (item d ds)) b.2 (All-cons (λ entry. NumberFits entry.what) a.0 b.0 (entry_small d a.0 a.1) rest.0, ap suc rest.1)
 
 -- ---- the session
 

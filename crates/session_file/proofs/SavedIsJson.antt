@@ -18,10 +18,10 @@ use Rattle.answer_book.specs.declared.entries.What.{What}
 use Rattle.answer_book.specs.declared.entries.What.TheVariants.{Judged, Trusted}
 use Rattle.session_file.specs.declared.session.Session.{Session}
 use Rattle.session_file.specs.Text.{said_data, entry_data, session_data, session_text}
-use Rattle.session_file.specs.Whole.{IsNumbered, IsWhole}
+use Rattle.session_file.specs.Whole.{NumberFits, IsWhole}
 
 abbrev AreNumbered : List Entry → Type 0
-AreNumbered entries = All (λ entry. IsNumbered entry.what) entries
+AreNumbered entries = All (λ entry. NumberFits entry.what) entries
 
 said_depth : (what : What) (standing : Bool) → tree.depth (outline (said_data what standing)) ≡ 1
 said_depth (Judged call judgement) standing = refl
@@ -34,20 +34,20 @@ entries_depth (entry ∷ entries) = omega (arith, said_depth entry.what entry.st
 session_depth : (s : Session) → tree.depth (outline (session_data s)) ≤ 127
 session_depth s = omega (arith, entries_depth s.entries)
 
-said_numbers : (what : What) (standing : Bool) → IsNumbered what → tree.HasNumbers (outline (said_data what standing))
+said_numbers : (what : What) (standing : Bool) → NumberFits what → tree.HasNumbers (outline (said_data what standing))
 said_numbers (Judged call judgement) standing small = (IsNumber-decimal call (omega (arith, small)), (tt, (tt, tt)))
 said_numbers (Trusted routine) standing small = (tt, (IsNumber-decimal routine (omega (arith, small)), (tt, tt)))
 
 entries_numbers : (entries : List Entry) → AreNumbered entries → tree.ItemsHaveNumbers (items_outline (items_of (map entry_data entries)))
 entries_numbers [] small = tt
 entries_numbers (entry ∷ entries) small =
-    (said_numbers entry.what entry.standing (small 0 entry (omega arith)), entries_numbers entries (All-tail (λ e. IsNumbered e.what) entry entries small))
+    (said_numbers entry.what entry.standing (small 0 entry (omega arith)), entries_numbers entries (All-tail (λ e. NumberFits e.what) entry entries small))
 
 session_numbers : (s : Session) → IsWhole s → tree.HasNumbers (outline (session_data s))
 session_numbers s w =
     (IsNumber-decimal s.budget (omega (arith, w.budget)), (entries_numbers s.entries w.numbered, (tt, (tt, (IsNumber-decimal 1 (omega arith), tt)))))
 
-said_back : (what : What) (standing : Bool) → IsNumbered what → of_json (outline (said_data what standing)) ≡ Some (said_data what standing)
+said_back : (what : What) (standing : Bool) → NumberFits what → of_json (outline (said_data what standing)) ≡ Some (said_data what standing)
 said_back (Judged call judgement) standing small = rw (number_of-decimal call (omega (arith, small)))
 said_back (Trusted routine) standing small = rw (number_of-decimal routine (omega (arith, small)))
 
@@ -55,7 +55,7 @@ entries_back : (entries : List Entry) → AreNumbered entries
     → of_items (items_outline (items_of (map entry_data entries))) ≡ Some (items_of (map entry_data entries))
 entries_back [] small = refl
 entries_back (entry ∷ entries) small =
-    rw (said_back entry.what entry.standing (small 0 entry (omega arith)), entries_back entries (All-tail (λ e. IsNumbered e.what) entry entries small))
+    rw (said_back entry.what entry.standing (small 0 entry (omega arith)), entries_back entries (All-tail (λ e. NumberFits e.what) entry entries small))
 
 session_back : (s : Session) → IsWhole s → of_json (outline (session_data s)) ≡ Some (session_data s)
 session_back s w = rw (number_of-decimal s.budget (omega (arith, w.budget)), entries_back s.entries w.numbered, number_of-decimal 1 (omega arith))

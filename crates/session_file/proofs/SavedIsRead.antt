@@ -13,20 +13,20 @@ use Rattle.answer_book.specs.declared.entries.What.TheVariants.{Judged, Trusted}
 use Rattle.session_file.specs.declared.session.Session.{Session}
 use Rattle.session_file.specs.Text.{said_data, entry_data, session_data, session_text}
 use Rattle.session_file.specs.Reading.{entry_in, entries_in, session_in, session_of}
-use Rattle.session_file.specs.Whole.{IsNumbered, IsDigest, IsWhole}
+use Rattle.session_file.specs.Whole.{NumberFits, IsDigest, IsWhole}
 use Rattle.session_file.proofs.SavedIsJson.{saved_json}
 use Rattle.session_file.proofs.SavedIsUtf8.{saved_utf8}
 
-said_read : (what : What) (standing : Bool) → IsNumbered what → entry_in (said_data what standing) ≡ Some (record { what = what; standing = standing })
+said_read : (what : What) (standing : Bool) → NumberFits what → entry_in (said_data what standing) ≡ Some (record { what = what; standing = standing })
 said_read (Judged call Right) standing small = rw (lt-ltb call (2 ^ 32) small)
 said_read (Judged call Wrong) standing small = rw (lt-ltb call (2 ^ 32) small)
 said_read (Judged call Unknown) standing small = rw (lt-ltb call (2 ^ 32) small)
 said_read (Trusted routine) standing small = rw (lt-ltb routine (2 ^ 32) small)
 
-entries_read : (entries : List Entry) → All (λ entry. IsNumbered entry.what) entries → entries_in (items_of (map entry_data entries)) ≡ Some entries
+entries_read : (entries : List Entry) → All (λ entry. NumberFits entry.what) entries → entries_in (items_of (map entry_data entries)) ≡ Some entries
 entries_read [] small = refl
 entries_read (entry ∷ entries) small =
-    rw (said_read entry.what entry.standing (small 0 entry (omega arith)), entries_read entries (All-tail (λ e. IsNumbered e.what) entry entries small))
+    rw (said_read entry.what entry.standing (small 0 entry (omega arith)), entries_read entries (All-tail (λ e. NumberFits e.what) entry entries small))
 
 digest_read : (bytes : List ℕ) → IsDigest bytes → decode_sized (encode_lower bytes) 32 ≡ Ok bytes
 digest_read bytes d = decode_sized-encode_lower bytes 32 d.size d.each

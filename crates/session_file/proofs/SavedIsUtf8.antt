@@ -21,7 +21,7 @@ use Rattle.answer_book.specs.declared.entries.What.{What}
 use Rattle.answer_book.specs.declared.entries.What.TheVariants.{Judged, Trusted}
 use Rattle.session_file.specs.declared.session.Session.{Session}
 use Rattle.session_file.specs.Text.{word_of, said_data, entry_data, session_data, session_text}
-use Rattle.session_file.specs.Whole.{IsNumbered, IsWhole}
+use Rattle.session_file.specs.Whole.{NumberFits, IsWhole}
 
 -- ---- a value whose numbers, strings and keys are UTF-8 has a text that is
 
@@ -81,7 +81,7 @@ word_utf8 Right = ascii (codes "right") refl
 word_utf8 Wrong = ascii (codes "wrong") refl
 word_utf8 Unknown = ascii (codes "unknown") refl
 
-said_utf8 : (what : What) (standing : Bool) → IsNumbered what → HasUtf8 (said_data what standing)
+said_utf8 : (what : What) (standing : Bool) → NumberFits what → HasUtf8 (said_data what standing)
 said_utf8 (Judged call judgement) standing small = (
   ascii (codes "call") refl,
   (number_utf8 call (omega (arith, small)), (ascii (codes "kind") refl, (word_utf8 judgement, (ascii (codes "standing") refl, (tt, tt))))),
@@ -91,10 +91,10 @@ said_utf8 (Trusted routine) standing small = (
   (ascii (codes "trust") refl, (ascii (codes "routine") refl, (number_utf8 routine (omega (arith, small)), (ascii (codes "standing") refl, (tt, tt))))),
 )
 
-entries_utf8 : (entries : List Entry) → All (λ entry. IsNumbered entry.what) entries → ItemsHaveUtf8 (items_of (map entry_data entries))
+entries_utf8 : (entries : List Entry) → All (λ entry. NumberFits entry.what) entries → ItemsHaveUtf8 (items_of (map entry_data entries))
 entries_utf8 [] small = tt
 entries_utf8 (entry ∷ entries) small =
-    (said_utf8 entry.what entry.standing (small 0 entry (omega arith)), entries_utf8 entries (All-tail (λ e. IsNumbered e.what) entry entries small))
+    (said_utf8 entry.what entry.standing (small 0 entry (omega arith)), entries_utf8 entries (All-tail (λ e. NumberFits e.what) entry entries small))
 
 ascii_by_test : (text : List ℕ) → are_ascii text ≡ true → IsAscii text
 ascii_by_test [] e = IsAscii-nil

@@ -12,9 +12,9 @@ pub record IsDigest (digest : List ℕ) : Type 0 where
   pub each : IsBytes digest
 
 -- a call or a routine has a number of 32 bits
-abbrev pub IsNumbered : What → Type 0
-IsNumbered (Judged call judgement) = call < 2 ^ 32
-IsNumbered (Trusted routine) = routine < 2 ^ 32
+abbrev pub NumberFits : What → Type 0
+NumberFits (Judged call judgement) = call < 2 ^ 32
+NumberFits (Trusted routine) = routine < 2 ^ 32
 
 -- two digests, a budget from 1 to 4,000,000, and 1 to 100,000 entries of which the first says that call 0 is wrong
 pub record IsWhole (s : Session) : Type 0 where
@@ -25,4 +25,4 @@ pub record IsWhole (s : Session) : Type 0 where
   pub some : 1 ≤ length s.entries
   pub few : length s.entries ≤ 100000
   pub first : IsTrue (begins_wrong s.entries)
-  pub numbered : All (λ entry. IsNumbered entry.what) s.entries
+  pub numbered : All (λ entry. NumberFits entry.what) s.entries

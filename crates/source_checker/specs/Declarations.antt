@@ -13,7 +13,7 @@ use Rattle.decl_checker.specs.Answers.{EarlyFaultIs, IsWithoutEarly}
 use Rattle.decl_checker.specs.Programs.{broken, tables_of}
 use Rattle.source_checker.specs.declared.declarations.DeclarationFault.{DeclarationFault}
 use Rattle.source_checker.specs.declared.declarations.DeclarationFault.TheVariants as declared
-use Rattle.source_checker.specs.Places.{StandsFor}
+use Rattle.source_checker.specs.Places.{TokenOrLastBegins}
 
 -- the source has these tokens
 pub record HasTokens (source : List ℕ) (t : Lexed) : Type 0 where
@@ -36,7 +36,7 @@ IsDeclared source known = (t : Lexed) × (x : Tree) × HasTokens source t × IsT
 -- this is the first of the broken rules, at a token that stands there
 abbrev pub BreaksFirst : Lexed → Tree → (rule line byte : ℕ) → Type 0
 BreaksFirst t x rule line byte =
-    (token : ℕ) × EarlyFaultIs (broken t x) (fault.Rule rule token) × StandsFor t token line byte
+    (token : ℕ) × EarlyFaultIs (broken t x) (fault.Rule rule token) × TokenOrLastBegins t token line byte
 
 -- why a tree gives no tables
 abbrev pub IsUndeclaredBy : Lexed → Tree → DeclarationFault → Type 0

@@ -4,7 +4,7 @@ use Rattle.pas_lexer.specs.declared.kinds.Token.{Token}
 use Rattle.pas_lexer.specs.Lexed.{Lexed}
 
 -- the token of this number begins at this byte, on this line
-pub record StandsAt (t : Lexed) (number line byte : ℕ) : Type 0 where
+pub record TokenBegins (t : Lexed) (number line byte : ℕ) : Type 0 where
   pub token : Token
   pub there : slice_get t.tokens number ≡ Some token
   pub line_is : line ≡ token.line
@@ -15,7 +15,7 @@ abbrev pub token_or_last : List Token → ℕ → Option Token
 token_or_last tokens number = slice_get tokens (min number (length tokens - 1))
 
 -- that token begins at this byte, on this line
-pub record StandsFor (t : Lexed) (number line byte : ℕ) : Type 0 where
+pub record TokenOrLastBegins (t : Lexed) (number line byte : ℕ) : Type 0 where
   pub token : Token
   pub there : token_or_last t.tokens number ≡ Some token
   pub line_is : line ≡ token.line

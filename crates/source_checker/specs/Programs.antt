@@ -14,7 +14,7 @@ use Rattle.code_checker.specs.Programs.{broken, program_of}
 use Rattle.source_checker.specs.declared.programs.ProgramFault.{ProgramFault}
 use Rattle.source_checker.specs.declared.programs.ProgramFault.TheVariants as refused
 use Rattle.source_checker.specs.Declarations.{IsTextOf}
-use Rattle.source_checker.specs.Places.{StandsAt, StandsFor}
+use Rattle.source_checker.specs.Places.{TokenBegins, TokenOrLastBegins}
 
 -- ---- programs
 
@@ -35,7 +35,7 @@ HasNoTree t f = (IsText t.tokens → ⊥) × IsExact t.tokens (Err f)
 
 -- the first of what is broken in the tree is at a token that stands there
 abbrev pub IsBrokenAt : Lexed → Tree → (ℕ → CheckFault) → (line byte : ℕ) → Type 0
-IsBrokenAt t x what line byte = (token : ℕ) × FaultIs (broken t x) (what token) × StandsFor t token line byte
+IsBrokenAt t x what line byte = (token : ℕ) × FaultIs (broken t x) (what token) × TokenOrLastBegins t token line byte
 
 -- why a tree denotes no program
 abbrev pub IsNotDenotedBy : Lexed → Tree → ProgramFault → Type 0
@@ -49,9 +49,9 @@ IsNotDenotedBy t x refused.Memory = Unit {0}
 -- is, and something is too big.
 abbrev pub IsUnchecked : Lexed → ProgramFault → Type 0
 IsUnchecked t (refused.NotProgram line byte) =
-    (number : ℕ) × HasNoTree t (parser.NotProgram number) × StandsAt t number line byte
+    (number : ℕ) × HasNoTree t (parser.NotProgram number) × TokenBegins t number line byte
 IsUnchecked t (refused.TooDeep line byte) =
-    (number : ℕ) × HasNoTree t (parser.TooDeep number) × StandsAt t number line byte
+    (number : ℕ) × HasNoTree t (parser.TooDeep number) × TokenBegins t number line byte
 IsUnchecked t (refused.Rule rule line byte) =
     (x : Tree) × IsTextOf t x × IsBrokenAt t x (fault.Rule rule) line byte
 IsUnchecked t (refused.TooBig line byte) =

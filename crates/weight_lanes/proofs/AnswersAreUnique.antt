@@ -2,7 +2,7 @@
 use Rattle.std.proofs.Common.{◌≡◌, ◌≢◌, ℕ, ◌<◌, ◌≤◌, List, refl, sym, ap, ◌∙◌, arith, ⊎_elim, Option, Some, None, All}
 use Rattle.std.proofs.lemmas.Bool.{cases_lt}
 use Rattle.weight_lanes.specs.declared.choice.Choice.{Choice}
-use Rattle.weight_lanes.specs.Answers.{IsBest, IsLast, IsNext}
+use Rattle.weight_lanes.specs.Answers.{IsBest, IsLastSet, IsNext}
 use Rattle.weight_lanes.specs.Places.{IsSet, left_at}
 
 pub one_next : (column : List ℕ) (from value : ℕ) (r s : Option ℕ) → IsNext column from value r → IsNext column from value s → r ≡ s
@@ -18,7 +18,7 @@ one_next column from value (Some p) (Some q) is is' =
 not_clear : (flags : List ℕ) (place : ℕ) → IsSet flags place → ¬ All (λ flag. flag ≡ 0) flags
 not_clear flags place set all = set.nonzero (all place 0 set.inside)
 
-pub one_last : (flags : List ℕ) (r s : Option ℕ) → IsLast flags r → IsLast flags s → r ≡ s
+pub one_last : (flags : List ℕ) (r s : Option ℕ) → IsLastSet flags r → IsLastSet flags s → r ≡ s
 one_last flags None None is is' = refl
 one_last flags None (Some q) is is' = absurd (not_clear flags q is'.set (is.none.0 refl))
 one_last flags (Some p) None is is' = absurd (not_clear flags p is.set (is'.none.0 refl))

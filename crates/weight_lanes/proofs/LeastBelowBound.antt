@@ -1,7 +1,7 @@
 -- The least of the numbers below a bound, in a variable and in the lanes of a vector.
 use Rattle.std.proofs.Common.{◌≡◌, ℕ, ◌+◌, ◌-◌, ◌<◌, ◌≤◌, inl, inr, List, length, get_or, min, sym, ap, subst, arith, ⊎_elim}
 use Rattle.std.proofs.lemmas.Bool.{cases_lt}
-use Rattle.weight_lanes.specs.Lanes.{HasLanes, IsLeast, IsTaken}
+use Rattle.weight_lanes.specs.Lanes.{HasLanes, IsLeastBelow, IsTaken}
 
 -- the least lane of a vector is the least of 2 ^ 32 - 1 and the numbers that f gives below `count`
 pub record HasLeast (f : ℕ → ℕ) (count : ℕ) (lanes : List ℕ) : Type 0 where
@@ -19,7 +19,8 @@ taken_min f count a b first second =
     (λ ge. let e : b ≡ min a b = omega arith in subst (IsTaken f count) e second) (cases_lt a b)
 
 -- with one number more
-pub IsLeast-more : (f : ℕ → ℕ) (count least next result : ℕ) → IsLeast f count least → next ≡ f count → result ≡ min least next → IsLeast f (count + 1) result
+pub IsLeast-more : (f : ℕ → ℕ) (count least next result : ℕ) → IsLeastBelow f count least → next ≡ f count → result ≡ min least next
+    → IsLeastBelow f (count + 1) result
 IsLeast-more f count least next result is here smaller = record {
   below = λ place l.
       ⊎_elim (λ lower. let b = is.below place lower in omega arith)
@@ -57,8 +58,8 @@ HasLeast-more f at lanes block result has numbers smaller = record {
 }
 
 -- the least lane
-pub IsLeast-lanes : (f : ℕ → ℕ) (count least : ℕ) (lanes : List ℕ) → HasLeast f count lanes → IsLeast (λ lane. get_or lanes lane 0) 16 least
-    → IsLeast f count least
+pub IsLeast-lanes : (f : ℕ → ℕ) (count least : ℕ) (lanes : List ℕ) → HasLeast f count lanes → IsLeastBelow (λ lane. get_or lanes lane 0) 16 least
+    → IsLeastBelow f count least
 IsLeast-lanes f count least lanes has is = record {
   below = λ place l.
       let low = has.below place l in

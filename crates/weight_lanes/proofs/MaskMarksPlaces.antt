@@ -34,7 +34,7 @@ use Rattle.std.proofs.lemmas.Simd.{bit_mask_l, mask_l-lt}
 use Rattle.std.proofs.lemmas.Bool.{cases_lt, eqb-true}
 use Rattle.std.proofs.lemmas.List.{get_or-map, length-map}
 use Rattle.std.proofs.lemmas.Nat.Bits.{bit_at_above, bit_at-zero}
-use Rattle.weight_lanes.specs.Lanes.{Marks, NoneIn}
+use Rattle.weight_lanes.specs.Lanes.{MarksLanes, NoneIn}
 
 pub NoneIn-join : (Q : ℕ → Type 0) (a b c : ℕ) → NoneIn Q a b → NoneIn Q b c → NoneIn Q a c
 NoneIn-join Q a b c first second = record {
@@ -63,7 +63,7 @@ set_passes p xs lane set = one_is_true _ (sym (bit_inside p xs lane (set_is_insi
 pub Marks-mask_l : (P : ℕ → Type 0) (p : ℕ → Bool) (xs : List ℕ) (n : ℕ) → length xs ≡ n
     → ((lane : ℕ) → lane < n → P lane → p (get_or xs lane 0) ≡ true)
     → ((lane : ℕ) → lane < n → p (get_or xs lane 0) ≡ true → P lane)
-    → Marks P n (mask_l (map p xs))
+    → MarksLanes P n (mask_l (map p xs))
 Marks-mask_l P p xs n long passes means =
     let inside = λ (lane : ℕ) (set : bit_at (mask_l (map p xs)) lane ≡ 1). subst (λ m. lane < m) long (set_is_inside p xs lane set) in
     record {
@@ -77,7 +77,7 @@ lane_of : (Q : ℕ → Type 0) (at place : ℕ) → at ≤ place → Q place →
 lane_of Q at place low h = let e : place ≡ at + (place - at) = omega arith in subst Q e h
 
 -- with no bit set
-pub none_marked : (Q : ℕ → Type 0) (at to n mask : ℕ) → to ≡ at + n → Marks (λ lane. Q (at + lane)) n mask → mask ≡ 0 → NoneIn Q at to
+pub none_marked : (Q : ℕ → Type 0) (at to n mask : ℕ) → to ≡ at + n → MarksLanes (λ lane. Q (at + lane)) n mask → mask ≡ 0 → NoneIn Q at to
 none_marked Q at to n mask ends marks zero = record {
   none = λ place low high h.
       let set : bit_at mask (place - at) ≡ 1 = marks.marked (place - at) (omega arith) (lane_of Q at place low h) in
@@ -86,7 +86,7 @@ none_marked Q at to n mask ends marks zero = record {
 }
 
 -- before the lowest set bit
-pub none_before : (Q : ℕ → Type 0) (at n mask bit : ℕ) → Marks (λ lane. Q (at + lane)) n mask → bit_at mask bit ≡ 1
+pub none_before : (Q : ℕ → Type 0) (at n mask bit : ℕ) → MarksLanes (λ lane. Q (at + lane)) n mask → bit_at mask bit ≡ 1
     → ((k : ℕ) → k < bit → bit_at mask k ≡ 0) → NoneIn Q at (at + bit)
 none_before Q at n mask bit marks set below = record {
   none = λ place low high h.
@@ -97,7 +97,7 @@ none_before Q at n mask bit marks set below = record {
 }
 
 -- after the highest set bit
-pub none_after : (Q : ℕ → Type 0) (at to n mask bit : ℕ) → to ≡ at + n → Marks (λ lane. Q (at + lane)) n mask
+pub none_after : (Q : ℕ → Type 0) (at to n mask bit : ℕ) → to ≡ at + n → MarksLanes (λ lane. Q (at + lane)) n mask
     → ((k : ℕ) → bit < k → bit_at mask k ≡ 0) → NoneIn Q (at + bit + 1) to
 none_after Q at to n mask bit ends marks above = record {
   none = λ place low high h.

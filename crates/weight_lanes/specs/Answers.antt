@@ -20,7 +20,7 @@ pub record IsNext (column : List ℕ) (from value : ℕ) (answer : Option ℕ) :
   pub least : IfSome answer (λ place. (other : ℕ) → from ≤ other → Holds column value other → place ≤ other)
 
 -- the greatest place whose flag is not 0
-pub record IsLast (flags : List ℕ) (answer : Option ℕ) : Type 0 where
+pub record IsLastSet (flags : List ℕ) (answer : Option ℕ) : Type 0 where
   pub none : IsNone answer ↔ All (λ flag. flag ≡ 0) flags
   pub set : IfSome answer (λ place. IsSet flags place)
   pub greatest : IfSome answer (λ place. (other : ℕ) → IsSet flags other → other ≤ place)

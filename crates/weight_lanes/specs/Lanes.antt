@@ -4,7 +4,7 @@ use Rattle.std.specs.Int.{bit_at}
 use Rattle.weight_lanes.specs.Places.{left_at}
 
 -- bit by bit, at which of the first `count` lanes P holds
-pub record Marks (P : ℕ → Type 0) (count mask : ℕ) : Type 0 where
+pub record MarksLanes (P : ℕ → Type 0) (count mask : ℕ) : Type 0 where
   pub marked : (lane : ℕ) → lane < count → P lane → bit_at mask lane ≡ 1
   pub inside : (lane : ℕ) → bit_at mask lane ≡ 1 → lane < count
   pub holds : (lane : ℕ) → bit_at mask lane ≡ 1 → P lane
@@ -19,7 +19,7 @@ pub record NoneIn (Q : ℕ → Type 0) (from to : ℕ) : Type 0 where
   pub none : (place : ℕ) → from ≤ place → place < to → ¬ Q place
 
 -- the first place below `count` at which Q holds
-pub record IsFirst (Q : ℕ → Type 0) (count place : ℕ) : Type 0 where
+pub record IsFirstBelow (Q : ℕ → Type 0) (count place : ℕ) : Type 0 where
   pub inside : place < count
   pub holds : Q place
   pub before : NoneIn Q 0 place
@@ -29,7 +29,7 @@ abbrev pub IsTaken : (ℕ → ℕ) → ℕ → ℕ → Type 0
 IsTaken f count number = (number ≡ 4294967295) ⊎ ((place : ℕ) × (place < count) × (f place ≡ number))
 
 -- the least of 2 ^ 32 - 1 and the numbers that f gives below `count`
-pub record IsLeast (f : ℕ → ℕ) (count least : ℕ) : Type 0 where
+pub record IsLeastBelow (f : ℕ → ℕ) (count least : ℕ) : Type 0 where
   pub below : (place : ℕ) → place < count → least ≤ f place
   pub taken : IsTaken f count least
 

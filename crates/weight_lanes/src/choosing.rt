@@ -2,7 +2,7 @@
 //! finds the least number, a second one the first place that has it.
 
 ghost use Rattle.std.specs.Prelude.{◌≡◌, ◌≢◌, ℕ, ◌<◌, ◌≤◌, ◌↔◌, All, IsNone, IfSome, length, slice_index};
-ghost use Rattle.weight_lanes.specs.Lanes.{HasNumber, IsFirst, IsLeast, NoneIn, number_at};
+ghost use Rattle.weight_lanes.specs.Lanes.{HasNumber, IsFirstBelow, IsLeastBelow, NoneIn, number_at};
 ghost use Rattle.weight_lanes.specs.Places.{AreWeighed, IsSet, left_at};
 
 use crate::bits::lowest;
@@ -26,7 +26,7 @@ fn number(weights: &[u32], askable: &[u8], total: u32, place: usize) -> u32
 
 /// The least lane.
 fn least_lane(lanes: u32x16) -> u32
-    ensures { IsLeast (slice_index lanes) 16 result }
+    ensures { IsLeastBelow (slice_index lanes) 16 result }
 {
     let numbers = lanes.to_array();
     let mut least = u32::MAX;
@@ -41,8 +41,8 @@ fn least_of_rest(weights: &[u32], askable: &[u8], total: u32, from: usize, so_fa
     requires inside { from ≤ length weights.now }
     requires same_length { length weights.now ≡ length askable.now }
     requires weighed { AreWeighed weights.now askable.now total }
-    requires before { IsLeast (number_at weights.now askable.now total) from so_far }
-    ensures { IsLeast (number_at weights.now askable.now total) (length weights.now) result }
+    requires before { IsLeastBelow (number_at weights.now askable.now total) from so_far }
+    ensures { IsLeastBelow (number_at weights.now askable.now total) (length weights.now) result }
 {
     let mut least = so_far;
     for place in from..weights.len() {
@@ -55,7 +55,7 @@ fn least_of_rest(weights: &[u32], askable: &[u8], total: u32, from: usize, so_fa
 fn least_number(weights: &[u32], askable: &[u8], total: u32) -> u32
     requires same_length { length weights.now ≡ length askable.now }
     requires weighed { AreWeighed weights.now askable.now total }
-    ensures { IsLeast (number_at weights.now askable.now total) (length weights.now) result }
+    ensures { IsLeastBelow (number_at weights.now askable.now total) (length weights.now) result }
 {
     let mut lanes = u32x16::splat(u32::MAX);
     let mut seen = 0;
@@ -82,7 +82,7 @@ fn first_of_rest(
     ensures none { IsNone result →
         NoneIn (HasNumber weights.now askable.now total sought) 0 (length weights.now) }
     ensures first { IfSome result
-        (IsFirst (HasNumber weights.now askable.now total sought) (length weights.now)) }
+        (IsFirstBelow (HasNumber weights.now askable.now total sought) (length weights.now)) }
 {
     for place in from..weights.len() {
         if number(weights, askable, total, place) == sought {
@@ -99,7 +99,7 @@ fn first_numbered(weights: &[u32], askable: &[u8], total: u32, sought: u32) -> O
     ensures none { IsNone result →
         NoneIn (HasNumber weights.now askable.now total sought) 0 (length weights.now) }
     ensures first { IfSome result
-        (IsFirst (HasNumber weights.now askable.now total sought) (length weights.now)) }
+        (IsFirstBelow (HasNumber weights.now askable.now total sought) (length weights.now)) }
 {
     let mut at = 0;
     'search: while NUMBERS <= weights.len() - at {

@@ -1,7 +1,7 @@
 //! One block of a column as a vector.
 
 ghost use Rattle.std.specs.Prelude.{◌≡◌, ◌≢◌, ◌+◌, ◌-◌, ◌%◌, ◌≤◌, ◌==◌, if◌then◌else◌, max, min, length, slice_index};
-ghost use Rattle.weight_lanes.specs.Lanes.{HasLanes, HasNumber, Marks, number_at};
+ghost use Rattle.weight_lanes.specs.Lanes.{HasLanes, HasNumber, MarksLanes, number_at};
 ghost use Rattle.weight_lanes.specs.Places.{AreWeighed};
 
 use std::simd::prelude::*;
@@ -16,7 +16,7 @@ pub(crate) const FLAGS: usize = 32;
 #[inline(always)]
 pub(crate) fn equal_at(column: &[u32], at: usize, value: u32) -> u64
     requires { at + 16 ≤ length column.now }
-    ensures { Marks (λ lane. slice_index column.now (at + lane) ≡ value) 16 result }
+    ensures { MarksLanes (λ lane. slice_index column.now (at + lane) ≡ value) 16 result }
 {
     u32x16::from_slice(&column[at..])
         .simd_eq(u32x16::splat(value))
@@ -27,7 +27,7 @@ pub(crate) fn equal_at(column: &[u32], at: usize, value: u32) -> u64
 #[inline(always)]
 pub(crate) fn set_at(flags: &[u8], at: usize) -> u64
     requires { at + 32 ≤ length flags.now }
-    ensures { Marks (λ lane. slice_index flags.now (at + lane) ≢ 0) 32 result }
+    ensures { MarksLanes (λ lane. slice_index flags.now (at + lane) ≢ 0) 32 result }
 {
     u8x32::from_slice(&flags[at..])
         .simd_ne(u8x32::splat(0))
@@ -126,7 +126,7 @@ pub(crate) fn numbered_at(
     requires in_weights { at + 16 ≤ length weights.now }
     requires same_length { length weights.now ≡ length askable.now }
     requires weighed { AreWeighed weights.now askable.now total }
-    ensures { Marks (λ lane. HasNumber weights.now askable.now total number (at + lane)) 16 result }
+    ensures { MarksLanes (λ lane. HasNumber weights.now askable.now total number (at + lane)) 16 result }
 {
     numbers_from(weights, askable, total, at)
         .simd_eq(u32x16::splat(number))

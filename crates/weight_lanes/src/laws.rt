@@ -1,7 +1,7 @@
 //! Each search and its plain loop give one answer.
 
 ghost use Rattle.std.specs.Prelude.{◌≡◌, length};
-ghost use Rattle.weight_lanes.specs.Answers.{IsBest, IsLast, IsNext};
+ghost use Rattle.weight_lanes.specs.Answers.{IsBest, IsLastSet, IsNext};
 ghost use Rattle.weight_lanes.specs.Places.{AreWeighed};
 
 use crate::choice::Choice;
@@ -37,7 +37,7 @@ pub fn next_of_both_ways(column: &[u32], from: usize, value: u32) -> (Option<usi
 
 /// What `last_set` and `plain::last_set` answer.
 pub fn last_set_both_ways(flags: &[u8]) -> (Option<usize>, Option<usize>)
-    ensures answer { IsLast flags.now result.0 }
+    ensures answer { IsLastSet flags.now result.0 }
     ensures same { result.0 ≡ result.1 }
 {
     let by_lanes = last_set(flags);

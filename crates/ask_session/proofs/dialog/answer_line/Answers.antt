@@ -1,6 +1,6 @@
 use Rattle.std.proofs.Common.{◌≡◌, true, false, refl, sym}
 use Rattle.ask_session.specs.Dialog.{is_quit}
-use Rattle.ask_session.specs.Turned.{Moment}
+use Rattle.ask_session.specs.Turned.{DialogMoment}
 use Rattle.ask_session.proofs.LineIsAnswered.{Asks, breaks_off, ends_by, replies_so, saves_so}
 use Rattle.ask_session.proofs.dialog.answer_line.Goals as goal
 
@@ -18,8 +18,8 @@ returns-in-Some-clause-answers g c =
     let i = c.instruction_in-instruction.result in
     let asks : Asks c.args.line.now i = record { short = c.requires.short; is = c.instruction_in-instruction.ensures } in
     let entries = c.args.debug.now.book.entries in
-    let old : Moment = record { entries = entries; files = files c.args.keeper.now; counts = counts c.args.keeper.now } in
-    let new : Moment = record { entries = entries; files = files c.save.new.keeper; counts = counts c.save.new.keeper } in
+    let old : DialogMoment = record { entries = entries; files = files c.args.keeper.now; counts = counts c.args.keeper.now } in
+    let new : DialogMoment = record { entries = entries; files = files c.save.new.keeper; counts = counts c.save.new.keeper } in
     saves_so (g.D.Debugged.subject c.args.run.now) c.args.start.now (record { line = c.args.line.now; moment = old }) new c.save.result i c.in-Some.file.now
     (asks, sym c.in-Some.ensures) (record { goes = c.save.ensures.goes; entries = refl })
 
@@ -30,13 +30,13 @@ returns-in-Ok-clause-answers g c =
     let i = c.instruction_in-instruction.result in
     let asks : Asks c.args.line.now i = record { short = c.requires.short; is = c.instruction_in-instruction.ensures } in
     let on : is_quit i ≡ false = cc in
-    let old : Moment = record { entries = c.args.debug.now.book.entries; files = files c.args.keeper.now; counts = counts c.args.keeper.now } in
+    let old : DialogMoment = record { entries = c.args.debug.now.book.entries; files = files c.args.keeper.now; counts = counts c.args.keeper.now } in
     replies_so (g.D.Debugged.subject c.args.run.now) c.args.start.now (record { line = c.args.line.now; moment = old }) c.answer.new.debug.book.entries
     c.in-Ok.reply i asks (on, sym c.in_default.ensures) c.in-Ok.ensures.outcome
 
 pub returns-in-Err-clause-answers : goal.returns-in-Err-clause-answers
 returns-in-Err-clause-answers g c =
-    let old : Moment = record {
+    let old : DialogMoment = record {
       entries = c.args.debug.now.book.entries;
       files = g.K.Keeper.files c.args.keeper.now;
       counts = g.K.Keeper.counts c.args.keeper.now;

@@ -2,7 +2,7 @@ use Rattle.std.proofs.Common.{◌≡◌, [], false, refl, ap, sym, ◌∙◌, ap
 use Rattle.edge_ports.specs.Lines.{handed_lines}
 use Rattle.edge_ports.proofs.PiecesAddUp.{moves_more, took_nothing}
 use Rattle.ask_session.specs.Outside.{Outside}
-use Rattle.ask_session.specs.Turned.{Stage}
+use Rattle.ask_session.specs.Turned.{DialogStage}
 use Rattle.ask_session.proofs.DialogEnds.{answered_more, first_stage, heard_of, none_answered, stage, talk_ends, talked_of}
 use Rattle.ask_session.proofs.dialog.answer_lines.Goals as goal
 
@@ -48,9 +48,9 @@ lines-preserved g c =
       counts = counts c.turn.new.keeper;
       streams = record { left = left c.turn.new.console; given = given c.turn.new.screen };
     } in
-    let first : Stage = first_stage s c.args.start.now before c.args.lines.now in
-    let old : Stage = stage c.lines.debug.book.entries between c.lines.lines in
-    let new : Stage = stage c.turn.new.debug.book.entries after c.turn.new.lines in
+    let first : DialogStage = first_stage s c.args.start.now before c.args.lines.now in
+    let old : DialogStage = stage c.lines.debug.book.entries between c.lines.lines in
+    let new : DialogStage = stage c.turn.new.debug.book.entries after c.turn.new.lines in
     record {
       answered = answered_more s c.args.start.now first old new tt c.lines.invariant.answered c.in-Ok.ensures.turned;
       moved = moves_more c.lines.invariant.moved c.turn.ensures.moved;
@@ -82,9 +82,9 @@ returns-in-Err-clause-goes g c =
       counts = counts c.turn.new.keeper;
       streams = record { left = left c.turn.new.console; given = given c.turn.new.screen };
     } in
-    let first : Stage = first_stage s c.args.start.now before c.args.lines.now in
-    let old : Stage = stage c.lines.debug.book.entries between c.lines.lines in
-    let new : Stage = stage c.turn.new.debug.book.entries after c.turn.new.lines in
+    let first : DialogStage = first_stage s c.args.start.now before c.args.lines.now in
+    let old : DialogStage = stage c.lines.debug.book.entries between c.lines.lines in
+    let new : DialogStage = stage c.turn.new.debug.book.entries after c.turn.new.lines in
     let ends = talk_ends s c.args.start.now first old new c.lines.invariant.answered c.turn.ensures.consistent c.in-Err.ending c.in-Err.ensures.turned in
     let moved = moves_more c.lines.invariant.moved c.turn.ensures.moved in
     talked_of s c.args.start.now before after ends

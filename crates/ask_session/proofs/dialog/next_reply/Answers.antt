@@ -3,7 +3,7 @@ use Rattle.edge_ports.specs.declared.lines.Turn.{Turn}
 use Rattle.edge_ports.specs.declared.lines.Turn.TheVariants.{Line, TooLong}
 use Rattle.edge_ports.specs.Lines.{handed_lines}
 use Rattle.edge_ports.specs.Turns.{HandedBy}
-use Rattle.ask_session.specs.Turned.{Answers, Moment}
+use Rattle.ask_session.specs.Turned.{AnswersLine, DialogMoment}
 use Rattle.ask_session.proofs.LineIsAnswered.{next_of}
 use Rattle.ask_session.proofs.dialog.next_reply.Goals as goal
 
@@ -12,8 +12,8 @@ returns-in-Ok-Line-clause-reply g c =
     let s = g.D.Debugged.subject c.args.run.now in
     let files = g.K.Keeper.files in
     let counts = g.K.Keeper.counts in
-    let old : Moment = record { entries = c.args.debug.now.book.entries; files = files c.args.keeper.now; counts = counts c.args.keeper.now } in
-    let new : Moment = record {
+    let old : DialogMoment = record { entries = c.args.debug.now.book.entries; files = files c.args.keeper.now; counts = counts c.args.keeper.now } in
+    let new : DialogMoment = record {
       entries = c.answer_line.new.debug.book.entries;
       files = files c.answer_line.new.keeper;
       counts = counts c.answer_line.new.keeper;
@@ -21,8 +21,8 @@ returns-in-Ok-Line-clause-reply g c =
     let handed : HandedBy (Ok Line) c.next.new.self.line (handed_lines c.args.lines.now) (handed_lines c.next.new.self) =
     subst (λ (turn : Turn). HandedBy (Ok turn) c.next.new.self.line (handed_lines c.args.lines.now) (handed_lines c.next.new.self)) c.in-Ok-Line.field-0-is
     c.in-Ok-Line.ensures.lines in
-    let answers : Answers s c.args.start.now (record { line = c.next.new.self.line; moment = old }) c.answer_line.result new =
-    subst (λ (line : List ℕ). Answers s c.args.start.now (record { line = line; moment = old }) c.answer_line.result new) c.line.ensures
+    let answers : AnswersLine s c.args.start.now (record { line = c.next.new.self.line; moment = old }) c.answer_line.result new =
+    subst (λ (line : List ℕ). AnswersLine s c.args.start.now (record { line = line; moment = old }) c.answer_line.result new) c.line.ensures
     c.answer_line.ensures.answers in
     next_of s c.args.start.now (record { moment = old; lines = c.args.lines.now }) (record { moment = new; lines = c.next.new.self }) c.next.new.self.line
     c.answer_line.result (handed, answers)
@@ -30,7 +30,7 @@ returns-in-Ok-Line-clause-reply g c =
 pub returns-in-Ok-TooLong-clause-reply : goal.returns-in-Ok-TooLong-clause-reply
 returns-in-Ok-TooLong-clause-reply g c =
     let s = g.D.Debugged.subject c.args.run.now in
-    let old : Moment = record {
+    let old : DialogMoment = record {
       entries = c.args.debug.now.book.entries;
       files = g.K.Keeper.files c.args.keeper.now;
       counts = g.K.Keeper.counts c.args.keeper.now;

@@ -1,7 +1,7 @@
 use Rattle.std.proofs.Common.{ℕ, List, [], inl, refl, arith, subst, ◌∙◌}
 use Rattle.session_book.specs.Start.{saved_text}
 use Rattle.ask_session.specs.Saves.{FileAfter, Save}
-use Rattle.ask_session.specs.Turned.{Moment}
+use Rattle.ask_session.specs.Turned.{DialogMoment}
 use Rattle.ask_session.proofs.LineIsAnswered.{save_out, save_said}
 use Rattle.ask_session.proofs.dialog.save.Goals as goal
 
@@ -14,8 +14,8 @@ returns-in-Ok-store_text g c =
     let counts = g.K.Keeper.counts in
     let entries = c.args.debug.now.book.entries in
     let stored = c.in-Ok-store_text.stored in
-    let old : Moment = record { entries = entries; files = files c.args.keeper.now; counts = counts c.args.keeper.now } in
-    let new : Moment = record { entries = entries; files = files c.store_text.new.keeper; counts = counts c.store_text.new.keeper } in
+    let old : DialogMoment = record { entries = entries; files = files c.args.keeper.now; counts = counts c.args.keeper.now } in
+    let new : DialogMoment = record { entries = entries; files = files c.store_text.new.keeper; counts = counts c.store_text.new.keeper } in
     let save : Save = record { file = c.args.file.now; text = saved_text c.args.start.now entries } in
     let named : FileAfter stored (record { file = c.args.file.now; text = c.as_slice.result.now }) old.files new.files =
     subst (λ (name : List ℕ). FileAfter stored (record { file = name; text = c.as_slice.result.now }) old.files new.files) c.as_str.ensures
@@ -35,7 +35,7 @@ returns g c =
     let files = g.K.Keeper.files in
     let counts = g.K.Keeper.counts in
     let entries = c.args.debug.now.book.entries in
-    let old : Moment = record { entries = entries; files = files c.args.keeper.now; counts = counts c.args.keeper.now } in
-    let new : Moment = record { entries = entries; files = files c.store_text.new.keeper; counts = counts c.store_text.new.keeper } in
+    let old : DialogMoment = record { entries = entries; files = files c.args.keeper.now; counts = counts c.args.keeper.now } in
+    let new : DialogMoment = record { entries = entries; files = files c.store_text.new.keeper; counts = counts c.store_text.new.keeper } in
     let save : Save = record { file = c.args.file.now; text = saved_text c.args.start.now entries } in
     record { goes = save_out save old new c.in-Err.ending c.in-Err.ensures.memory (c.in-Err.ensures.same_files, c.in-Err.ensures.one_store) }

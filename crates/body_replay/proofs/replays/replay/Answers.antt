@@ -17,7 +17,7 @@ returns-clause-result g c input is = (c.in_ok-ending.ensures.work input is).resu
 pub returns-clause-exit : goal.returns-clause-exit
 returns-clause-exit g c input is =
     (c.in_ok-ending.ensures.work input is).exit
-    ∙ ap Some (sym (c.moment_of.ensures ∙ ap (λ (m : Moment). m.state) c.close_call.ensures.closed))
+    ∙ ap Some (sym (c.keep_state.ensures ∙ ap (λ (m : Moment). m.state) c.close_call.ensures.closed))
 
 pub returns-clause-counted : goal.returns-clause-counted
 returns-clause-counted g c row at =

@@ -1,7 +1,7 @@
 use Rattle.std.proofs.Common.{refl, sym, subst, ◌∙◌}
 use Rattle.eval_machine.specs.Machines.{machine_state, moment_of}
 use Rattle.eval_tasks.specs.Rest.{rest_of}
-use Rattle.eval_tasks.specs.Stops.{StopsAt}
+use Rattle.eval_tasks.specs.Stops.{NextStopIs}
 use Rattle.eval_tasks.proofs.Moves.{comes_same, comes_then, stops_then}
 use Rattle.evaluator.proofs.turns.go_on.Goals as goal
 
@@ -24,7 +24,7 @@ turns-smaller c = rw c.in-Ok-None.field-0-is at c.in-Ok-None.ensures.falls
 pub returns-in-Ok-Some-clause-stops : goal.returns-in-Ok-Some-clause-stops
 returns-in-Ok-Some-clause-stops c =
     let p = c.args.program.now in
-    subst (λ s. StopsAt p (rest_of p c.args.body.now) (moment_of c.args.machine.now) s (moment_of c.turn.new.machine)) (sym (c.stop_at.ensures.stop p))
+    subst (λ s. NextStopIs p (rest_of p c.args.body.now) (moment_of c.args.machine.now) s (moment_of c.turn.new.machine)) (sym (c.stop_at.ensures.stop p))
     (stops_then c.turns.invariant.came (rw c.in-Ok-Some.field-0-is at c.in-Ok-Some.ensures.turns).0)
 
 pub returns-in-Ok-Some-clause-room : goal.returns-in-Ok-Some-clause-room

@@ -1,14 +1,13 @@
-use Rattle.std.proofs.Common.{◌≡◌, ℕ, List, Ok, refl, sym, ap, ◌∙◌, arith}
+use Rattle.std.proofs.Common.{Ok, refl, sym, ap, ◌∙◌, arith}
 use denote.Hole.Carrier.{roll}
 use Rattle.pas_tree.specs.declared.expressions.NextTerm.{roll-NextTerm}
 use Rattle.pas_tree.specs.declared.expressions.NextExpression.{roll-NextExpression}
 use Rattle.pas_tree.specs.declared.expressions.NextMember.{roll-NextMember}
-use Rattle.grammar.specs.Nodes.{Item, Node, Pair}
+use Rattle.grammar.specs.Nodes.{Node}
 use Rattle.grammar.specs.Grammars.{Grammar, factor, level, many, seq}
-use Rattle.grammar.specs.Reading.{Read, read, then_pair}
-use Rattle.pas_tree.specs.FirstFollow.{pascal}
+use Rattle.grammar.specs.Reading.{read}
 use Rattle.pas_phrases.specs.Items.{items_from}
-use Rattle.pas_phrases.proofs.Failures.{after_first, first_fails, second_fails, handed_on}
+use Rattle.pas_phrases.proofs.Failures.{seq_read, first_fails, second_fails, handed_on}
 use Rattle.pas_tree.proofs.ExpressionRolls.{simple_rolled, term_rolled}
 use Rattle.pas_tree.specs.Rules.{adding, multiplying, simple_rule, sign_rule, term_rule}
 use Rattle.pas_tree.specs.Rules.{next_term_rule, next_factor_rule, next_expression_rule, next_member_rule}
@@ -21,11 +20,6 @@ next_terms = many adding next_term_rule
 
 abbrev next_factors : Grammar
 next_factors = many multiplying next_factor_rule
-
-seq_read : (n : ℕ) (a b : Grammar) (l : List Item) {m rest : List Item} {x y : Node} → read pascal n a l ≡ Ok (x, m) → read pascal n b m ≡ Ok (y, rest)
-    → read pascal n (seq a b) l ≡ Ok (Pair x y, rest)
-unfolding read
-seq_read n a b l {x = x} h e = ap (λ (z : Read). then_pair z (read pascal n b)) h ∙ ap (after_first x) e
 
 pub read_simple-terms-preserved : goal.read_simple-terms-preserved
 unfolding next_term_rule roll-NextTerm roll

@@ -2,7 +2,7 @@ use Rattle.std.proofs.Common.{◌≡◌, ◌+◌, eqb, eq-eqb, get_or, sym, subs
 use Rattle.std.specs.Simd.Lanes.{chunk}
 use Rattle.std.proofs.lemmas.Bool.{eqb-true}
 use Rattle.std.proofs.lemmas.Simd.{length-chunk, get_or-chunk, bitmask_splat}
-use Rattle.weight_lanes.specs.Lanes.{Marks}
+use Rattle.weight_lanes.specs.Lanes.{MarksLanes}
 use Rattle.weight_lanes.proofs.MaskMarksPlaces.{Marks-mask_l}
 use Rattle.weight_lanes.proofs.lanes.equal_at.Goals as goal
 
@@ -13,7 +13,7 @@ returns c =
     let value = c.args.value in
     let lanes = chunk at 16 column in
     let long = length-chunk at 16 column c.requires in
-    subst (Marks (λ lane. get_or column (at + lane) 0 ≡ value) 16)
+    subst (MarksLanes (λ lane. get_or column (at + lane) 0 ≡ value) 16)
     (sym (bitmask_splat w32 eqb lanes 16 value long (omega arith)))
     (Marks-mask_l (λ lane. get_or column (at + lane) 0 ≡ value) (λ x. eqb x value) lanes 16 long
     (λ lane l h. eq-eqb (get_or lanes lane 0) value (get_or-chunk at 16 column lane 0 l ∙ h))

@@ -1,7 +1,7 @@
 use Rattle.std.proofs.Common.{◌≡◌, ◌+◌, eqb, eq-eqb, get_or, sym, subst, ◌∙◌, arith, w32}
 use Rattle.std.proofs.lemmas.Bool.{eqb-true}
 use Rattle.std.proofs.lemmas.Simd.{bitmask_splat}
-use Rattle.weight_lanes.specs.Lanes.{Marks, number_at}
+use Rattle.weight_lanes.specs.Lanes.{MarksLanes, number_at}
 use Rattle.weight_lanes.proofs.MaskMarksPlaces.{Marks-mask_l}
 use Rattle.weight_lanes.proofs.lanes.numbered_at.Goals as goal
 
@@ -11,7 +11,7 @@ returns c =
     let lanes = c.numbers_from.result in
     let has = c.numbers_from.ensures in
     let sought = c.args.number in
-    subst (Marks (λ lane. number lane ≡ sought) 16)
+    subst (MarksLanes (λ lane. number lane ≡ sought) 16)
     (sym (bitmask_splat w32 eqb lanes 16 sought has.long (omega arith)))
     (Marks-mask_l (λ lane. number lane ≡ sought) (λ x. eqb x sought) lanes 16 has.long
     (λ lane l h. eq-eqb (get_or lanes lane 0) sought (has.each lane l ∙ h))

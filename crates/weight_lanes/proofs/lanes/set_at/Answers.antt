@@ -1,7 +1,7 @@
 use Rattle.std.proofs.Common.{◌≢◌, ◌+◌, get_or, sym, subst, ◌∙◌, arith, w8}
 use Rattle.std.specs.Simd.Lanes.{chunk}
 use Rattle.std.proofs.lemmas.Simd.{length-chunk, get_or-chunk, bitmask_splat}
-use Rattle.weight_lanes.specs.Lanes.{Marks}
+use Rattle.weight_lanes.specs.Lanes.{MarksLanes}
 use Rattle.weight_lanes.proofs.MaskMarksPlaces.{Marks-mask_l, differs, differs-true}
 use Rattle.weight_lanes.proofs.lanes.set_at.Goals as goal
 
@@ -11,7 +11,7 @@ returns c =
     let at = c.args.at in
     let lanes = chunk at 32 flags in
     let long = length-chunk at 32 flags c.requires in
-    subst (Marks (λ lane. get_or flags (at + lane) 0 ≢ 0) 32)
+    subst (MarksLanes (λ lane. get_or flags (at + lane) 0 ≢ 0) 32)
     (sym (bitmask_splat w8 differs lanes 32 0 long (omega arith)))
     (Marks-mask_l (λ lane. get_or flags (at + lane) 0 ≢ 0) (λ x. differs x 0) lanes 32 long
     (λ lane l h. (differs-true (get_or lanes lane 0) 0).1 (λ e. h (sym (get_or-chunk at 32 flags lane 0 l) ∙ e)))

@@ -1,7 +1,7 @@
 use Rattle.std.proofs.Common.{ap, arith, subst, sym}
 use Rattle.eval_machine.specs.declared.machine.Machine.{Machine}
 use Rattle.eval_machine.specs.Machines.{moment_of}
-use Rattle.eval_tasks.specs.Stops.{AtCall, AtEnd, AtLine, StopsAt}
+use Rattle.eval_tasks.specs.Stops.{AtCall, AtEnd, AtLine, NextStopIs}
 use Rattle.eval_tasks.specs.Rest.{rest_of, waiting}
 use Rattle.eval_tasks.specs.Turns.{end_of, stop_of}
 use Rattle.body_replay.specs.Counting.{Counts, Tally}
@@ -19,8 +19,8 @@ meet-requires-clause-child g c =
     let old = moment_of c.args.self.now.machine in
     let new = moment_of c.go_on.new.machine in
     let tree = rest_of p c.args.self.now.body in
-    let s : StopsAt p tree old (AtCall c.in-Enter.field-0 c.in-Enter.args (waiting p c.go_on.new.body)) new =
-    subst (λ s. StopsAt p tree old (stop_of p c.go_on.new.body s) new) c.in-Enter.is c.in_ok-stop.ensures.stops in
+    let s : NextStopIs p tree old (AtCall c.in-Enter.field-0 c.in-Enter.args (waiting p c.go_on.new.body)) new =
+    subst (λ s. NextStopIs p tree old (stop_of p c.go_on.new.body s) new) c.in-Enter.is c.in_ok-stop.ensures.stops in
     (p, c.requires.rests.0, call_met c.requires.rests.1 old.log s.moves new _ _ _ s.is)
 
 pub returns-in_ok-push-in-Line-clause-turned : goal.returns-in_ok-push-in-Line-clause-turned
@@ -29,8 +29,8 @@ returns-in_ok-push-in-Line-clause-turned g c j a =
     let old = moment_of c.args.self.now.machine in
     let new = moment_of c.go_on.new.machine in
     let tree = rest_of p c.args.self.now.body in
-    let s : StopsAt p tree old (AtLine c.in-Line.line (rest_of p c.go_on.new.body)) new =
-    subst (λ s. StopsAt p tree old (stop_of p c.go_on.new.body s) new) c.in-Line.is c.in_ok-stop.ensures.stops in
+    let s : NextStopIs p tree old (AtLine c.in-Line.line (rest_of p c.go_on.new.body)) new =
+    subst (λ s. NextStopIs p tree old (stop_of p c.go_on.new.body s) new) c.in-Line.is c.in_ok-stop.ensures.stops in
     line_told a old.log s.moves new c.in-Line.line (rest_of p c.go_on.new.body) c.push.new.self s.is c.in_ok-push-in-Line.ensures.added
 
 pub returns-in_ok-push-in-Line-clause-less : goal.returns-in_ok-push-in-Line-clause-less
@@ -39,8 +39,8 @@ returns-in_ok-push-in-Line-clause-less g c e =
     let old = moment_of c.args.self.now.machine in
     let new = moment_of c.go_on.new.machine in
     let tree = rest_of p c.args.self.now.body in
-    let s : StopsAt p tree old (AtLine c.in-Line.line (rest_of p c.go_on.new.body)) new =
-    subst (λ s. StopsAt p tree old (stop_of p c.go_on.new.body s) new) c.in-Line.is c.in_ok-stop.ensures.stops in
+    let s : NextStopIs p tree old (AtLine c.in-Line.line (rest_of p c.go_on.new.body)) new =
+    subst (λ s. NextStopIs p tree old (stop_of p c.go_on.new.body s) new) c.in-Line.is c.in_ok-stop.ensures.stops in
     let steps = stop_steps s in
     let calls = stop_calls s in
     omega (arith, steps, calls)
@@ -51,8 +51,8 @@ returns-in_ok-way-in-Enter-clause-turned g c j a =
     let old = moment_of c.args.self.now.machine in
     let new = moment_of c.go_on.new.machine in
     let tree = rest_of p c.args.self.now.body in
-    let s : StopsAt p tree old (AtCall c.in-Enter.field-0 c.in-Enter.args (waiting p c.go_on.new.body)) new =
-    subst (λ s. StopsAt p tree old (stop_of p c.go_on.new.body s) new) c.in-Enter.is c.in_ok-stop.ensures.stops in
+    let s : NextStopIs p tree old (AtCall c.in-Enter.field-0 c.in-Enter.args (waiting p c.go_on.new.body)) new =
+    subst (λ s. NextStopIs p tree old (stop_of p c.go_on.new.body s) new) c.in-Enter.is c.in_ok-stop.ensures.stops in
     c.resume.ensures.turned p c.args.run.now j (c.in_ok-way-in-Enter.ensures.met p j (call_met a old.log s.moves new _ _ _ s.is))
 
 pub returns-in_ok-way-in-Enter-clause-less : goal.returns-in_ok-way-in-Enter-clause-less
@@ -61,8 +61,8 @@ returns-in_ok-way-in-Enter-clause-less g c e =
     let old = moment_of c.args.self.now.machine in
     let new = moment_of c.go_on.new.machine in
     let tree = rest_of p c.args.self.now.body in
-    let s : StopsAt p tree old (AtCall c.in-Enter.field-0 c.in-Enter.args (waiting p c.go_on.new.body)) new =
-    subst (λ s. StopsAt p tree old (stop_of p c.go_on.new.body s) new) c.in-Enter.is c.in_ok-stop.ensures.stops in
+    let s : NextStopIs p tree old (AtCall c.in-Enter.field-0 c.in-Enter.args (waiting p c.go_on.new.body)) new =
+    subst (λ s. NextStopIs p tree old (stop_of p c.go_on.new.body s) new) c.in-Enter.is c.in_ok-stop.ensures.stops in
     let steps = stop_steps s in
     let calls = stop_calls s in
     let same_steps = ap (λ (m : Machine). m.steps) c.resume.ensures.machine in
@@ -76,8 +76,8 @@ returns-in-Ended-clause-turned g c j a =
     let old = moment_of c.args.self.now.machine in
     let new = moment_of c.go_on.new.machine in
     let tree = rest_of p c.args.self.now.body in
-    let s : StopsAt p tree old (AtEnd (end_of c.in-Ended.way c.in-Ended.answer)) new =
-    subst (λ s. StopsAt p tree old (stop_of p c.go_on.new.body s) new) c.in-Ended.is c.in_ok-stop.ensures.stops in
+    let s : NextStopIs p tree old (AtEnd (end_of c.in-Ended.way c.in-Ended.answer)) new =
+    subst (λ s. NextStopIs p tree old (stop_of p c.go_on.new.body s) new) c.in-Ended.is c.in_ok-stop.ensures.stops in
     end_come a old.log s.moves new (end_of c.in-Ended.way c.in-Ended.answer) s.is
 
 pub returns-in_ok-push-in-Line-clause-counts : goal.returns-in_ok-push-in-Line-clause-counts

@@ -7,7 +7,7 @@ use Rattle.program_tables.specs.ProgramRows.{routine_at}
 use Rattle.eval_machine.specs.Machines.{moment_of}
 use Rattle.program_meaning.specs.Run.{Halted, whole}
 use Rattle.program_run.specs.Tower.{Ends, Rests, TowerAt, View, activation}
-use Rattle.program_run.specs.Runners.{Begun, invocation, open_in, rest_in, view_of, work_left}
+use Rattle.program_run.specs.Runners.{CallBegun, invocation, open_in, rest_in, view_of, work_left}
 use Rattle.program_run.proofs.RunnerSteps.{begun_calls, counted_entered, entered_stands, few_begun, on_ok, pushed}
 use Rattle.program_run.proofs.StepsLeadToTheRun.{calls_same, routines_same}
 use Rattle.program_run.proofs.runner.Runner.enter.Goals as goal
@@ -58,7 +58,7 @@ returns-in_ok-push-in-None-clause-rests c first t =
     let row = c.unwrap-row.result in
     let old = view_of p c.args.self.now in
     let found : routine_at p c.args.routine ≡ Some row = sym c.routine.ensures ∙ c.unwrap-row.ensures in
-    let begun = subst (λ h. Begun p (invocation c.args.routine row c.args.args) h old.moment (moment_of c.begin.new.machine)) c.in-None.is
+    let begun = subst (λ h. CallBegun p (invocation c.args.routine row c.args.args) h old.moment (moment_of c.begin.new.machine)) c.in-None.is
     (c.in_ok-halted.ensures.begins p c.args.routine row found refl) in
     let new : View = record {
       opens = map (open_in p) (reverse c.push.new.self.items);
@@ -79,7 +79,7 @@ returns-in_ok-push-in-Some-clause-rests c first t =
     let row = c.unwrap-row.result in
     let old = view_of p c.args.self.now in
     let found : routine_at p c.args.routine ≡ Some row = sym c.routine.ensures ∙ c.unwrap-row.ensures in
-    let begun = subst (λ h. Begun p (invocation c.args.routine row c.args.args) h old.moment (moment_of c.begin.new.machine)) c.in-Some.is
+    let begun = subst (λ h. CallBegun p (invocation c.args.routine row c.args.args) h old.moment (moment_of c.begin.new.machine)) c.in-Some.is
     (c.in_ok-halted.ensures.begins p c.args.routine row found refl) in
     c.halt.ensures.over p first
     (entered_stands (activation c.args.routine c.args.args 0 (Ends (Halted _))) (rest_in p c.args.caller) old _ (record {

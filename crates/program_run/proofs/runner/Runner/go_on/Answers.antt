@@ -1,7 +1,7 @@
 use Rattle.program_run.specs.declared.runner.Runner.{Runner}
 use Rattle.std.proofs.Common.{◌≡◌, ◌+◌, ◌<◌, ◌≤◌, arith, sym, subst}
 use Rattle.eval_machine.specs.Machines.{moment_of}
-use Rattle.eval_tasks.specs.Stops.{AtLine, AtCall, AtEnd, StopsAt}
+use Rattle.eval_tasks.specs.Stops.{AtLine, AtCall, AtEnd, NextStopIs}
 use Rattle.eval_tasks.specs.Rest.{rest_of, waiting}
 use Rattle.eval_tasks.specs.Turns.{end_of, stop_of}
 use Rattle.program_run.specs.Tower.{Calls, TowerAt}
@@ -30,7 +30,7 @@ enter-requires-clause-calls c =
       subst (λ b. TowerAt p first (Calls c.in-Enter.routine c.in-Enter.args (rest_in p b)) (record view { moment = new })) (sym c.take-caller.ensures.value)
           (climb view tree (AtCall c.in-Enter.routine c.in-Enter.args (waiting p c.go_on.new.body)) new
           (subst (λ b. AtRest p first b self) c.in-Some.is c.requires.rests.1)
-          (subst (λ s. StopsAt p tree old (stop_of p c.go_on.new.body s) new) c.in-Enter.is c.in_ok-go_on-in-Some.ensures.stops)),
+          (subst (λ s. NextStopIs p tree old (stop_of p c.go_on.new.body s) new) c.in-Enter.is c.in_ok-go_on-in-Some.ensures.stops)),
     )
 
 pub end-requires-clause-well : goal.end-requires-clause-well
@@ -48,7 +48,7 @@ returns-in-Line-clause-rests c first t =
     let new = moment_of c.go_on.new.machine in
     let tree = rest_of p c.in-Some.body in
     climb (view_of p self) tree (AtLine c.in-Line.field-0 (rest_of p c.go_on.new.body)) new (subst (λ b. AtRest p first b self) c.in-Some.is t)
-    (subst (λ s. StopsAt p tree old (stop_of p c.go_on.new.body s) new) c.in-Line.is c.in_ok-go_on-in-Some.ensures.stops)
+    (subst (λ s. NextStopIs p tree old (stop_of p c.go_on.new.body s) new) c.in-Line.is c.in_ok-go_on-in-Some.ensures.stops)
 
 pub returns-in-Line-clause-well : goal.returns-in-Line-clause-well
 returns-in-Line-clause-well c = record {
@@ -68,7 +68,7 @@ returns-in-Enter-clause-rests c first t =
     c.enter.ensures.rests first
     (subst (λ b. TowerAt p first (Calls c.in-Enter.routine c.in-Enter.args (rest_in p b)) (record view { moment = new })) (sym c.take-caller.ensures.value)
     (climb view tree (AtCall c.in-Enter.routine c.in-Enter.args (waiting p c.go_on.new.body)) new (subst (λ b. AtRest p first b self) c.in-Some.is t)
-    (subst (λ s. StopsAt p tree old (stop_of p c.go_on.new.body s) new) c.in-Enter.is c.in_ok-go_on-in-Some.ensures.stops)))
+    (subst (λ s. NextStopIs p tree old (stop_of p c.go_on.new.body s) new) c.in-Enter.is c.in_ok-go_on-in-Some.ensures.stops)))
 
 pub returns-in-Ended-clause-rests : goal.returns-in-Ended-clause-rests
 returns-in-Ended-clause-rests c first t =
@@ -79,7 +79,7 @@ returns-in-Ended-clause-rests c first t =
     let tree = rest_of p c.in-Some.body in
     c.end.ensures.rests p first
     (climb (view_of p self) tree (AtEnd (end_of c.in-Ended.way c.in-Ended.answer)) new (subst (λ b. AtRest p first b self) c.in-Some.is t)
-    (subst (λ s. StopsAt p tree old (stop_of p c.go_on.new.body s) new) c.in-Ended.is c.in_ok-go_on-in-Some.ensures.stops))
+    (subst (λ s. NextStopIs p tree old (stop_of p c.go_on.new.body s) new) c.in-Ended.is c.in_ok-go_on-in-Some.ensures.stops))
 
 pub returns-in-Line-clause-less : goal.returns-in-Line-clause-less
 returns-in-Line-clause-less c body is =
@@ -87,8 +87,8 @@ returns-in-Line-clause-less c body is =
     let old = moment_of c.args.self.now.machine in
     let new = moment_of c.go_on.new.machine in
     let tree = rest_of p c.in-Some.body in
-    let stops : StopsAt p tree old (AtLine c.in-Line.field-0 (rest_of p c.go_on.new.body)) new =
-    subst (λ s. StopsAt p tree old (stop_of p c.go_on.new.body s) new) c.in-Line.is c.in_ok-go_on-in-Some.ensures.stops in
+    let stops : NextStopIs p tree old (AtLine c.in-Line.field-0 (rest_of p c.go_on.new.body)) new =
+    subst (λ s. NextStopIs p tree old (stop_of p c.go_on.new.body s) new) c.in-Line.is c.in_ok-go_on-in-Some.ensures.stops in
     let calls : c.go_on.new.machine.calls ≡ c.args.self.now.machine.calls = calls_onward stops in
     let steps = steps_onward stops in
     omega (arith, calls, steps)
@@ -99,8 +99,8 @@ returns-in-Enter-clause-less c body is =
     let old = moment_of c.args.self.now.machine in
     let new = moment_of c.go_on.new.machine in
     let tree = rest_of p c.in-Some.body in
-    let stops : StopsAt p tree old (AtCall c.in-Enter.routine c.in-Enter.args (waiting p c.go_on.new.body)) new =
-    subst (λ s. StopsAt p tree old (stop_of p c.go_on.new.body s) new) c.in-Enter.is c.in_ok-go_on-in-Some.ensures.stops in
+    let stops : NextStopIs p tree old (AtCall c.in-Enter.routine c.in-Enter.args (waiting p c.go_on.new.body)) new =
+    subst (λ s. NextStopIs p tree old (stop_of p c.go_on.new.body s) new) c.in-Enter.is c.in_ok-go_on-in-Some.ensures.stops in
     let calls : c.go_on.new.machine.calls ≡ c.args.self.now.machine.calls = calls_onward stops in
     let steps = steps_onward stops in
     let mid : Runner = record { machine = c.go_on.new.machine; calls = c.args.self.now.calls; opens = c.args.self.now.opens; body = c.take-caller.new.self } in
@@ -113,8 +113,8 @@ returns-in-Ended-clause-less c body is =
     let old = moment_of c.args.self.now.machine in
     let new = moment_of c.go_on.new.machine in
     let tree = rest_of p c.in-Some.body in
-    let stops : StopsAt p tree old (AtEnd (end_of c.in-Ended.way c.in-Ended.answer)) new =
-    subst (λ s. StopsAt p tree old (stop_of p c.go_on.new.body s) new) c.in-Ended.is c.in_ok-go_on-in-Some.ensures.stops in
+    let stops : NextStopIs p tree old (AtEnd (end_of c.in-Ended.way c.in-Ended.answer)) new =
+    subst (λ s. NextStopIs p tree old (stop_of p c.go_on.new.body s) new) c.in-Ended.is c.in_ok-go_on-in-Some.ensures.stops in
     let calls : c.go_on.new.machine.calls ≡ c.args.self.now.machine.calls = calls_onward stops in
     let steps = steps_onward stops in
     let mid : Runner = record c.args.self.now { machine = c.go_on.new.machine } in

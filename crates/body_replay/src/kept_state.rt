@@ -3,7 +3,7 @@
 ghost use Rattle.std.specs.Prelude.{◌≡◌, ◌<◌, ◌≤◌, [], IfOk, length};
 ghost use Rattle.eval_machine.specs.Machines.{machine_state};
 ghost use Rattle.body_replay.specs.Replays.{before_of};
-ghost use Rattle.body_replay.specs.Traces.{moment_state};
+ghost use Rattle.body_replay.specs.Traces.{kept_state};
 
 use call_tree::Call;
 use cell_value::{Items, Memory};
@@ -54,7 +54,7 @@ pub(crate) fn machine_before(alloc: Global, run: &History, row: &Call) -> Result
 
 /// The state of a run beside a call, whole.
 #[derive(Drop)]
-pub struct Moment {
+pub struct KeptState {
     /// The cells, by their addresses.
     pub store: Store,
     /// The first free address of the stack.
@@ -76,8 +76,8 @@ pub struct Moment {
 }
 
 /// The state of a machine, without its log.
-pub(crate) fn moment_of(machine: Machine) -> Moment
-    ensures { moment_state result ≡ machine_state machine }
+pub(crate) fn keep_state(machine: Machine) -> KeptState
+    ensures { kept_state result ≡ machine_state machine }
 {
     let Machine {
         store,
@@ -91,7 +91,7 @@ pub(crate) fn moment_of(machine: Machine) -> Moment
         depth,
         ..
     } = machine;
-    Moment {
+    KeptState {
         store,
         top,
         fresh,
