@@ -16,7 +16,7 @@ use std::alloc::Global;
 use std::collections::VecDeque;
 use std::marker::Model;
 
-// A name and the bytes of its file.
+/// A name and the bytes of its file.
 #[derive(Debug, Drop)]
 pub struct Entry {
     name: Vec<u8>,

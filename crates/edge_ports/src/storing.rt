@@ -70,8 +70,8 @@ fn fill<F: Write + OpenFile + Drop>(
     file.sync_all()
 }
 
-// Puts a file of this name and these bytes in the place of the one that is there. The new one is written beside
-// it, and renamed once the device has it whole; where that fails, it is removed.
+/// Puts a file of this name and these bytes in the place of the one that is there. The new one is written beside
+/// it, and renamed once the device has it whole; where that fails, it is removed.
 pub fn replace_file<R: Files>(
     files: &R,
     alloc: Global,

@@ -113,6 +113,7 @@ pub fn check_text(work: &mut Work, token: u32) -> Typed
     check_literal(work, token, &text)
 }
 
+/// `nil` as a factor.
 #[tactic(auto, using(check_steps::proofs::Runs::steps), unfolding(crate::specs::Typed::nil_at))]
 pub fn check_nil(work: &mut Work, token: u32) -> Typed
     ensures { Does (nil_at token) result work.old work.new }
