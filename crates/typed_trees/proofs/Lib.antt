@@ -1,0 +1,12 @@
+pub mod BlocksCovered
+pub mod ConstantsCovered
+pub mod Covers
+pub mod DenotersCovered
+pub mod ExpressionsCovered
+pub mod HeadingsCovered
+pub mod Levels
+pub mod Memory
+pub mod Repeated
+pub mod ShapedIsGrammatical
+pub mod StatementsCovered
+pub mod TreesCovered
