@@ -1,7 +1,8 @@
 -- Names as they would lie in no memory.
 use Rattle.pas_tree.specs.declared.constants.Names.{Names}
 use Rattle.pas_tree.specs.declared.constants.Constants.{Constants}
-use Rattle.same_programs.proofs.Memory.{held, is_short}
+use Rattle.typed_trees.proofs.Memory.{held}
+use Rattle.same_programs.proofs.Memory.{is_short}
 
 abbrev pub bare_names : Names → Names
 bare_names a = record { first = a.first; others = held a.others.items (is_short a.others) }

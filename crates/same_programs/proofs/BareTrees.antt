@@ -9,7 +9,8 @@ use Rattle.pas_tree.specs.declared.blocks.TypeDefinition.{TypeDefinition}
 use Rattle.pas_tree.specs.declared.blocks.VariablePart.{VariablePart}
 use Rattle.pas_tree.specs.declared.blocks.VariableDeclaration.{VariableDeclaration}
 use Rattle.pas_tree.specs.declared.blocks.Body.{Body, Directive, Block'}
-use Rattle.same_programs.proofs.Memory.{again, bare, boxed, held, is_short, shaped}
+use Rattle.typed_trees.proofs.Memory.{boxed, held}
+use Rattle.same_programs.proofs.Memory.{again, bare, is_short, shaped}
 use Rattle.same_programs.proofs.BareNames.{bare_names}
 use Rattle.same_programs.proofs.BareDenoters.{bare_denoter}
 use Rattle.same_programs.proofs.BareHeadings.{bare_heading}

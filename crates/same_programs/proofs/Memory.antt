@@ -1,35 +1,11 @@
--- Vectors and boxes as they would lie in no memory.
-use Rattle.std.proofs.Common.{◌≡◌, suc, ◌<◌, ◌^◌, ◌≤◌, List, [], ◌∷◌, map, length, refl, sym, ap, subst, Vec, Box, Global, le_refl, lt_of_le_of_lt}
+-- Vectors that say what others say, and lie in no memory.
+use Rattle.std.proofs.Common.{◌≡◌, suc, ◌<◌, ◌^◌, ◌≤◌, List, [], ◌∷◌, map, length, refl, sym, ap, subst, Vec, Global, lt_of_le_of_lt}
 use mathlib.Core.HLevel.{is_prop→PathP}
 use mathlib.Core.Former.{Count, none_left, one_more, list_count, this}
 use native.Mathlib.Bridge.{le_prop}
-use denote.RawPtr.{null_ptr}
 use lib.ListN.{length-map}
 use Rattle.pas_tree.specs.SameConstants.{AllSame}
-
-abbrev nowhere : Global
-nowhere = record { memory = record { seal = tt } }
-
--- ---- boxes
-
-abbrev pub boxed : {X : Type 0} → X → Box X Global
-boxed x = record { ptr = null_ptr; alloc = nowhere; value = x }
-
--- ---- vectors
-
-abbrev pub Short : {X : Type 0} → List X → Type 0
-Short xs = length xs < 2 ^ 63
-
-abbrev pub held : {X : Type 0} (xs : List X) → Short xs → Vec X Global
-held xs short = record {
-  ptr = null_ptr;
-  len = length xs;
-  cap = length xs;
-  alloc = nowhere;
-  items = xs;
-  ok = (refl, le_refl (length xs));
-  small = short;
-}
+use Rattle.typed_trees.proofs.Memory.{Short, held}
 
 abbrev pub held_same : {X : Type 0} (xs ys : List X) (p : Short xs) (q : Short ys) (e : xs ≡ ys) → held xs p ≡ held ys q
 held_same xs ys p q e = λ i. held (e i) (is_prop→PathP (λ j. Short (e j)) (λ j. le_prop) p q i)

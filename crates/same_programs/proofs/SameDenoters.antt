@@ -12,7 +12,8 @@ use Rattle.pas_tree.specs.declared.denoters.TagField.{TagField}
 use Rattle.pas_tree.specs.declared.denoters.Tag.{Tag}
 use mathlib.Core.Path.{PathP, refl}
 use mathlib.Core.Former.{one_more}
-use Rattle.same_programs.proofs.Memory.{again, boxed, shaped_same}
+use Rattle.typed_trees.proofs.Memory.{boxed}
+use Rattle.same_programs.proofs.Memory.{again, shaped_same}
 use Rattle.pas_tree.specs.SameDenoters.{SameEnumeration, SameTagField, SameTag, SameDenoter, SameStructure, SameArray, SameDenoters, SameFields, SameFixed}
 use Rattle.pas_tree.specs.SameDenoters.{SameSections, SameNextVariants, SameVariants, SameArms}
 use Rattle.same_programs.proofs.BareDenoters.{bare_enumeration, bare_denoter, bare_structure, bare_array, bare_denoters, bare_fields, bare_fixed}

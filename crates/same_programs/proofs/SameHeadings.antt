@@ -9,7 +9,8 @@ use Rattle.pas_tree.specs.declared.headings.Formal.{Formal, Value, Variable, Rou
 use Rattle.pas_tree.specs.declared.headings.FormalNames.{FormalNames}
 use mathlib.Core.Path.{PathP, refl}
 use mathlib.Core.Former.{one_more}
-use Rattle.same_programs.proofs.Memory.{again, boxed, shaped_same}
+use Rattle.typed_trees.proofs.Memory.{boxed}
+use Rattle.same_programs.proofs.Memory.{again, shaped_same}
 use Rattle.pas_tree.specs.SameHeadings.{SameFormalNames, SameResult, SameHeading, SameProcedure, SameFunction, SameHeldFormals, SameFormals, SameMoreFormals}
 use Rattle.pas_tree.specs.SameHeadings.{SameFormal}
 use Rattle.same_programs.proofs.BareHeadings.{bare_formal_names, bare_heading, bare_procedure, bare_function, bare_held_formals, bare_formals}

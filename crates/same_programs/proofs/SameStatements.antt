@@ -17,7 +17,8 @@ use Rattle.pas_tree.specs.declared.statements.NextAccess.{NextAccess}
 use mathlib.Core.Path.{PathP, refl}
 use Rattle.std.proofs.Common.{option_map}
 use mathlib.Core.Former.{one_more}
-use Rattle.same_programs.proofs.Memory.{again, all_same, bare_same, boxed, shaped_same}
+use Rattle.typed_trees.proofs.Memory.{boxed}
+use Rattle.same_programs.proofs.Memory.{again, all_same, bare_same, shaped_same}
 use Rattle.pas_tree.specs.SameStatements.{SameLabel, SameWidth, SameActual, SameNextActual, SameActuals, SameCall, SameAssignment, SameNextAccess, SamePlain}
 use Rattle.pas_tree.specs.SameStatements.{SameCompound, SameStatements, SameMoreStatements, SameIf, SameElse, SameCase, SameBranches, SameRepeat}
 use Rattle.same_programs.proofs.BareStatements.{bare_width, bare_actual, bare_next_actual, bare_actuals, bare_boxed_actuals, bare_assignment}
