@@ -1,4 +1,6 @@
 pub mod BlocksCovered
+pub mod ClosedTrees
+pub mod Closing
 pub mod ConstantsCovered
 pub mod Covers
 pub mod DenotersCovered
@@ -6,7 +8,9 @@ pub mod ExpressionsCovered
 pub mod HeadingsCovered
 pub mod Levels
 pub mod Memory
+pub mod Parting
 pub mod Repeated
 pub mod ShapedIsGrammatical
 pub mod StatementsCovered
 pub mod TreesCovered
+pub mod TreesGoOn

@@ -8,7 +8,7 @@ use Rattle.grammar.proofs.Larger.{IsPart, Carries, all_in, rounds_map}
 use Rattle.grammar_refusals.specs.Nesting.{Trees, IsShaped}
 
 module _ (P Q : Level → Trees) (up : (l : Level) → IsPart (P l) (Q l)) where
-  loosened : (g : Grammar) → Carries (FreeIn P g) (FreeIn Q (loose g))
+  pub loosened : (g : Grammar) → Carries (FreeIn P g) (FreeIn Q (loose g))
   loosened (token ks) V W c x h r = r
   loosened nothing V W c x h r = r
   loosened (seq a b) V W c (Leaf item) h r = r

@@ -1,8 +1,9 @@
 -- The typed trees that nodes of the grammar have.
-use Rattle.std.specs.Prelude.{◌≡◌, ◌<◌, ◌^◌, length}
-use Rattle.grammar.specs.Nodes.{Node, spell}
+use Rattle.std.specs.Prelude.{◌≡◌, ◌<◌, ◌^◌, ◌↔◌, ℕ, List, ◌++◌, length}
+use Rattle.grammar.specs.Nodes.{Item, Node, spell}
 use Rattle.grammar.specs.Loose.{IsGrammatical}
 use Rattle.grammar_refusals.specs.Nesting.{IsShaped}
+use Rattle.grammar_refusals.specs.Refusals.{BeginsWith, IsHopeless}
 use Rattle.pas_tree.specs.declared.blocks.Tree.{Tree}
 use Rattle.pas_tree.specs.Blocks.{tree_node}
 use Rattle.pas_tree.specs.FirstFollow.{pascal}
@@ -23,3 +24,28 @@ GrammaticalHaveTrees = (x : Node) → IsGrammatical rule program_rule x → HasS
 -- a tree of the grammar at some nesting in which each else belongs to the nearest `if` that has none yet
 abbrev pub ShapedHaveTrees : Type 0
 ShapedHaveTrees = (x : Node) → IsShaped pascal program_rule x → HasShortLists x → HasTree x
+
+-- ---- trees that go on from a text
+
+-- the spelling of some shaped node, of whatever length, begins with these tokens
+abbrev pub GoesOn : List Item → Type 0
+GoesOn text = (x : Node) × IsShaped pascal program_rule x × (more : List Item) × (spell x ≡ text ++ more)
+
+-- so does that of a typed tree whose node is shaped
+abbrev pub TreeGoesOn : List Item → Type 0
+TreeGoesOn text =
+    (t : Tree) × IsShaped pascal program_rule (tree_node t) × (more : List Item) × (spell (tree_node t) ≡ text ++ more)
+
+-- where a node goes on, of fewer than 2 ^ 32 tokens, a typed tree does
+abbrev pub TreesGoOn : Type 0
+TreesGoOn = (text : List Item) → length text < 2 ^ 32 → GoesOn text → TreeGoesOn text
+
+-- token i of the text is one with which no typed tree goes on
+abbrev pub NoTreeGoesOn : List Item → ℕ → Type 0
+NoTreeGoesOn text i = (i < length text) ×
+    ((t : Tree) → IsShaped pascal program_rule (tree_node t) → BeginsWith (spell (tree_node t)) text i → ⊥)
+
+-- it is hopeless exactly if no typed tree goes on with it
+abbrev pub HopelessForTrees : Type 0
+HopelessForTrees =
+    (text : List Item) → length text < 2 ^ 32 → (i : ℕ) → IsHopeless pascal program_rule text i ↔ NoTreeGoesOn text i

@@ -4,4 +4,4 @@
 
 mod laws;
 
-pub use laws::shaped_nodes_have_trees;
+pub use laws::{shaped_nodes_have_trees, typed_trees_go_on};
