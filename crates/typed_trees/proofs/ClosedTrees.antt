@@ -7,14 +7,17 @@ use Rattle.grammar.specs.Terminals.{every_of}
 use Rattle.grammar.specs.Nodes.{Item, Node, Nothing, spell}
 use Rattle.grammar.specs.Grammars.{Level, Grammar, IsNone, FreeIn, FreeWithin}
 use Rattle.grammar.specs.Deciding.{both, LevelTables, IsDecided, all_levels}
-use Rattle.grammar_refusals.specs.Nesting.{Nested, IsShaped}
+use Rattle.grammar_refusals.specs.Nesting.{Places, Nested, IsShaped, nowhere, BeginsAt, BeginsDeep}
 use Rattle.grammar_refusals.specs.Completing.{brief_of, IsCompleted}
 use Rattle.grammar.proofs.Larger.{IsPart, free_up, all_in}
 use Rattle.grammar.proofs.Somewhere.{nested, whole_nested}
 use Rattle.grammar.proofs.LevelsTested.{every_level, level_parts, whole_parts, rule_sane}
+use Rattle.grammar_refusals.proofs.Deepest.{level_forget}
 use Rattle.grammar_refusals.proofs.Complete.{brief, level_fits, rule_completes, whole_completes}
 use Rattle.typed_trees.proofs.Parting.{closing, begun_by, times, Closes, closed_map, at_once}
-use Rattle.typed_trees.proofs.Closing.{Around, closes}
+use Rattle.typed_trees.proofs.Closing.{Roomy, Around, closes}
+use Rattle.typed_trees.proofs.PlacesMove.{level_places_move}
+use Rattle.typed_trees.proofs.PlacesClosed.{KeepsPlace, Near, keeps}
 
 -- ---- the check
 
@@ -73,36 +76,82 @@ module _ (calm : Terminal → Bool) (t : LevelTables) (g : Grammar) (ok : IsDeci
   none_around : Around calm t g ok d full rank Nothing false IsNone IsNone
   none_around = record { part = λ x h r. r; move = λ x h i c r. absurd r; shorts = λ e. absurd cc }
 
+  rule_roomy : (room : ℕ) (l : Level) (front : List Item) → 2 * length front + rank l < suc room → Roomy calm t g ok d full rank room (t.rule l) front
+  rule_roomy room l front p =
+      let lower : (w : Level) → ltb (rank w) (rank l) ≡ true → 2 * length front + rank w < room = λ w q. let m = ltb-true (rank w) (rank l) q in omega arith in
+      inr ((λ w. ltb (rank w) (rank l)), (level_brief l).begun, omega arith, lower)
+
   level_closes : (room : ℕ) (l : Level)
       → Closes calm (Nested t.rule l) (Nested t.rule l) (λ front. 2 * length front + rank l < room) (times room k)
   level_closes zero l x h front z rest p r e = absurd (omega arith)
   level_closes (suc room) l x h [] z rest p r e = at_once calm (Nested t.rule l) (brief_at l) (times (suc room) k) (level_fits calm t g ok d full l)
       (let m = (level_brief l).brief_few in omega arith)
   level_closes (suc room) l x h (y ∷ front) z rest p r e =
-      let all : List Item = y ∷ front in
-      let s = level_brief l in
-      let lower : (w : Level) → ltb (rank w) (rank l) ≡ true → 2 * length all + rank w < room = λ w q. let m = ltb-true (rank w) (rank l) q in omega arith in
-      closed_map calm (FreeIn (Nested t.rule) (t.rule l) IsNone) (Nested t.rule l) all (times (suc room) k) (times (suc room) k) (omega arith)
-      (nested t.rule l)
+      let n = times (suc room) k in
+      closed_map calm (FreeIn (Nested t.rule) (t.rule l) IsNone) (Nested t.rule l) (y ∷ front) n n (omega arith) (nested t.rule l)
       (closes calm t g ok d full rank room (times room k) low (level_closes room) (t.rule l) Nothing false (rule_sane t g ok l)
-      (rule_completes calm t g ok d full l) (times (suc room) k) (let m = s.few in omega arith) IsNone IsNone none_around
-      (inl (level_parts t g ok l).whole) x h all z rest (inr ((λ w. ltb (rank w) (rank l)), s.begun, omega arith, lower))
-      (by_rule r.0 l x h r.1) e)
+      (rule_completes calm t g ok d full l) n (let m = (level_brief l).few in omega arith) IsNone IsNone none_around
+      (inl (level_parts t g ok l).whole) x h (y ∷ front) z rest (rule_roomy room l (y ∷ front) p) (by_rule r.0 l x h r.1) e)
 
-  -- the tree that closes a whole text
-  pub record Goes (front : List Item) : Type 0 where
+  none_near : (D : Level → Places) → Near calm t g ok d full rank D Nothing false IsNone nowhere
+  none_near D = record {
+    move = λ x h i c r. absurd r;
+    shorts = λ e. absurd cc;
+    place_moves = λ x h i f c r. absurd r;
+    is_tree = λ x h f r. r;
+  }
+
+  level_keeps : (room n : ℕ) (l : Level) → KeepsPlace calm (BeginsAt t.rule n l) (λ front. 2 * length front + rank l < room) (times room k)
+  unfolding BeginsAt
+  level_keeps zero n l x h f z y rest p r e = absurd (omega arith)
+  level_keeps (suc room) zero l x h f z y rest p r e =
+      let most = times (suc room) k in
+      closed_map calm (Nested t.rule l) (λ x h. BeginsAt t.rule zero l x h f) (f ++ z ∷ []) most most (omega arith) (λ x h s. (r.0, s))
+      (level_closes (suc room) l x h (f ++ z ∷ []) y rest p r.1 e)
+  level_keeps (suc room) (suc n) l x h f z y rest p r e =
+      let D = BeginsAt t.rule n in
+      keeps calm t g ok d full rank D room (times room k) low (level_places_move calm t g ok d full rank n) (level_forget t.rule n)
+      (level_closes room) (level_keeps room n) (t.rule l) Nothing false (rule_sane t g ok l) (rule_completes calm t g ok d full l) (times (suc room) k)
+      (let m = (level_brief l).few in omega arith) IsNone nowhere (none_near D) (inl (level_parts t g ok l).whole) x h f z y rest
+      (rule_roomy room l (f ++ z ∷ []) p) r e
+
+  -- a tree of these that begins with the tokens and has few more
+  pub record Goes (P : Node → Type 0) (front : List Item) : Type 0 where
     pub tree : Node
-    pub shaped : IsShaped t g tree
+    pub fits : P tree
     pub more : List Item
     pub begins : spell tree ≡ front ++ more
     pub few : length more ≤ times (suc (2 * length front)) k
 
-  pub whole_closes : (x : Node) → IsShaped t g x → (front : List Item) (z : Item) (rest : List Item) → spell x ≡ front ++ z ∷ rest → Goes front
-  whole_closes x r front z rest e =
-      let room = 2 * length front in
+  whole_few : (n : ℕ) → times n k + closing brief_at g Nothing ≤ times (suc n) k
+  whole_few n =
       let p = and_parts (leb (closing brief_at g Nothing) k) (begun_by (λ w. false) g) levels_brief.1 in
       let m = leb-true (closing brief_at g Nothing) k p.0 in
+      omega arith
+
+  whole_roomy : (front : List Item) → Roomy calm t g ok d full rank (2 * length front) g front
+  whole_roomy front =
+      let p = and_parts (leb (closing brief_at g Nothing) k) (begun_by (λ w. false) g) levels_brief.1 in
+      inr ((λ w. false), p.1, omega arith, λ w q. absurd cc)
+
+  -- where a shaped tree breaks off
+  pub whole_closes : (x : Node) → IsShaped t g x → (front : List Item) (z : Item) (rest : List Item) → spell x ≡ front ++ z ∷ rest
+      → Goes (IsShaped t g) front
+  whole_closes x r front z rest e =
+      let room = 2 * length front in
       let s = closes calm t g ok d full rank room (times room k) low (level_closes room) g Nothing false (whole_parts t g ok).sound
-      (whole_completes calm t g ok d full) (times (suc room) k) (omega arith) IsNone IsNone none_around
-      (inl (whole_parts t g ok).whole) x None front z rest (inr ((λ w. false), p.1, omega arith, λ w q. absurd cc)) (in_nested r.0 g x None r.1) e in
-      record { tree = s.tree; shaped = whole_nested t.rule g s.tree None (s.fits None tt); more = s.more; begins = s.begins; few = s.few }
+      (whole_completes calm t g ok d full) (times (suc room) k) (whole_few room) IsNone IsNone none_around
+      (inl (whole_parts t g ok).whole) x None front z rest (whole_roomy front) (in_nested r.0 g x None r.1) e in
+      record { tree = s.tree; fits = whole_nested t.rule g s.tree None (s.fits None tt); more = s.more; begins = s.begins; few = s.few }
+
+  -- and where one does behind a token in front of which a node begins too deep
+  pub whole_keeps : (n : ℕ) (x : Node) (f : List Item) (z y : Item) (rest : List Item) → BeginsDeep t n g x f → spell x ≡ (f ++ z ∷ []) ++ y ∷ rest
+      → Goes (λ x. BeginsDeep t n g x f) (f ++ z ∷ [])
+  whole_keeps n x f z y rest r e =
+      let front : List Item = f ++ z ∷ [] in
+      let room = 2 * length front in
+      let D = BeginsAt t.rule n in
+      let s = keeps calm t g ok d full rank D room (times room k) low (level_places_move calm t g ok d full rank n) (level_forget t.rule n)
+      (level_closes room) (level_keeps room n) g Nothing false (whole_parts t g ok).sound (whole_completes calm t g ok d full) (times (suc room) k)
+      (whole_few room) IsNone nowhere (none_near D) (inl (whole_parts t g ok).whole) x None f z y rest (whole_roomy front) r e in
+      record { tree = s.tree; fits = s.fits None tt; more = s.more; begins = s.begins; few = s.few }

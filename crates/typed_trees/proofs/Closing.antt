@@ -19,7 +19,7 @@ use Rattle.typed_trees.proofs.Parting.{closing, begun_by, broken_in, Closed, Clo
 use Rattle.typed_trees.proofs.Parting.{second_closed}
 
 -- what goes on after a token alone goes on at its end alone
-guarded_linear : (g : Grammar) → guarded g ≡ true → linear g ≡ true
+pub guarded_linear : (g : Grammar) → guarded g ≡ true → linear g ≡ true
 guarded_linear (token ks) e = refl
 guarded_linear nothing e = refl
 guarded_linear (seq a b) e =
@@ -52,7 +52,7 @@ module _ (calm : Terminal → Bool) (t : LevelTables) (g : Grammar) (ok : IsDeci
   abbrev short_at : Grammar → Node → Node
   short_at = shortest calm t g ok d full
 
-  abbrev close_at : Grammar → Node → ℕ
+  abbrev pub close_at : Grammar → Node → ℕ
   close_at = closing brief_at
 
   -- a tree stays one in front of each calm terminal

@@ -9,6 +9,8 @@ pub mod HeadingsCovered
 pub mod Levels
 pub mod Memory
 pub mod Parting
+pub mod PlacesClosed
+pub mod PlacesMove
 pub mod Repeated
 pub mod ShapedIsGrammatical
 pub mod StatementsCovered

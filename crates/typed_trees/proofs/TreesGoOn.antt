@@ -1,18 +1,22 @@
 -- Where a shaped node goes on from a text, a typed tree does.
 use Rattle.std.proofs.Common.{◌≡◌, ◌+◌, ◌*◌, ◌≤◌, ℕ, zero, suc, true, List, [], ◌∷◌, ◌++◌, length, take, refl, sym, ap, subst, ◌∙◌, arith}
-use Rattle.std.proofs.Common.{length-append}
+use Rattle.std.proofs.Common.{◌<◌, ◌^◌, add-one, length-append}
 use Rattle.std.proofs.lemmas.List.{length-take-le}
 use Rattle.grammar.specs.Nodes.{Item, Node, spell}
 use Rattle.grammar.specs.Grammars.{Level, block, heading, statement, denoter, variant_part, factor}
-use Rattle.grammar_refusals.specs.Nesting.{IsShaped}
+use Rattle.grammar_refusals.specs.Nesting.{IsShaped, BeginsDeep}
 use Rattle.grammar_refusals.specs.Completing.{brief_of}
+use Rattle.grammar_refusals.specs.Refusals.{IsTooDeep}
+use Rattle.grammar_refusals.proofs.Deepest.{deep_shaped}
+use Rattle.grammar_refusals.proofs.FirstRefusals.{cut}
+use Rattle.pas_tree.specs.declared.blocks.Tree.{Tree}
 use Rattle.pas_tree.specs.Blocks.{tree_node}
 use Rattle.pas_tree.specs.FirstFollow.{pascal}
 use Rattle.pas_tree.specs.Rules as r
 use Rattle.pas_tree.proofs.Decided.{calm, pascal_checks}
-use Rattle.typed_trees.specs.TypedTrees.{HasShortLists, TreeGoesOn, TreesGoOn, HopelessForTrees}
+use Rattle.typed_trees.specs.TypedTrees.{HasShortLists, NodeGoesOn, TreeGoesOn, TreesGoOn, HopelessForTrees, TreeIsTooDeep, TooDeepForTrees}
 use Rattle.typed_trees.proofs.Parting.{times}
-use Rattle.typed_trees.proofs.ClosedTrees.{IsBrief, whole_closes}
+use Rattle.typed_trees.proofs.ClosedTrees.{IsBrief, Goes, whole_closes, whole_keeps}
 use Rattle.typed_trees.proofs.TreesCovered.{shaped_have_trees}
 open pascal_checks use {decided, completed}
 
@@ -42,28 +46,64 @@ times_thousand : (n : ℕ) → times n 1000 ≡ 1000 * n
 times_thousand zero = refl
 times_thousand (suc n) = omega (arith, times_thousand n)
 
--- as a typed tree, if it has few tokens
-as_tree : (text : List Item) (x : Node) (more : List Item) → IsShaped pascal r.program_rule x → HasShortLists x → spell x ≡ text ++ more → TreeGoesOn text
-as_tree text x more s short e =
-    let t = shaped_have_trees x s short in
-    (t.0, subst (IsShaped pascal r.program_rule) (sym t.1) s, more, ap spell t.1 ∙ e)
+-- A typed tree of whose node that holds, and that begins with these tokens.
+abbrev TreeOf : (Node → Type 0) → List Item → Type 0
+TreeOf P front = (t : Tree) × P (tree_node t) × (more : List Item) × (spell (tree_node t) ≡ front ++ more)
 
-pub trees_go_on : TreesGoOn
-trees_go_on text short (x, s, [], e) =
-    as_tree text x [] s (omega (arith, ap length e, length-append text [])) e
-trees_go_on text short (x, s, z ∷ rest, e) =
-    let c = whole_closes calm pascal r.program_rule decided 2 completed rank 1000 pascal_brief x s text z rest e in
-    let few : length c.more ≤ 1000 * suc (2 * length text) = let k = c.few in omega (arith, times_thousand (suc (2 * length text))) in
-    as_tree text c.tree c.more c.shaped (omega (arith, ap length c.begins, length-append text c.more)) c.begins
+-- a node of few tokens as a typed tree
+as_tree : (P : Node → Type 0) → ((x : Node) → P x → IsShaped pascal r.program_rule x) → (front : List Item) (x : Node) (more : List Item) → P x
+    → HasShortLists x → spell x ≡ front ++ more → TreeOf P front
+as_tree P shaped front x more s short e =
+    let t = shaped_have_trees x (shaped x s) short in
+    (t.0, subst P (sym t.1) s, more, ap spell t.1 ∙ e)
+
+abbrev Found : (Node → Type 0) → List Item → Type 0
+Found P front = Goes calm pascal r.program_rule decided 2 completed rank 1000 pascal_brief P front
+
+-- what few tokens close is short
+closed_tree : (P : Node → Type 0) → ((x : Node) → P x → IsShaped pascal r.program_rule x) → (front : List Item) → length front < 2 ^ 32
+    → Found P front → TreeOf P front
+closed_tree P shaped front short c =
+    let few : length c.more ≤ 1000 * suc (2 * length front) = let k = c.few in omega (arith, times_thousand (suc (2 * length front))) in
+    as_tree P shaped front c.tree c.more c.fits (omega (arith, ap length c.begins, length-append front c.more)) c.begins
+
+goes_on : (text : List Item) → length text < 2 ^ 32 → NodeGoesOn text → TreeGoesOn text
+goes_on text short (x, s, [], e) = as_tree (IsShaped pascal r.program_rule) (λ x s. s) text x [] s (omega (arith, ap length e, length-append text [])) e
+goes_on text short (x, s, z ∷ rest, e) = closed_tree (IsShaped pascal r.program_rule) (λ x s. s) text short
+    (whole_closes calm pascal r.program_rule decided 2 completed rank 1000 pascal_brief x s text z rest e)
 
 -- each typed tree has a node
+pub trees_go_on : TreesGoOn
+trees_go_on text short = (goes_on text short, λ g. (tree_node g.0, g.1, g.2, g.3))
+
 pub hopeless_for_trees : HopelessForTrees
 hopeless_for_trees text short i = (
   λ m. (m.0, λ t s b. m.1 (tree_node t) s b),
   λ m. (
     m.0,
     λ x s b.
-        let g = trees_go_on (take (i + 1) text) (let k = m.0 in omega (arith, length-take-le (i + 1) text (omega arith))) (x, s, b.0, b.1) in
+        let g = goes_on (take (i + 1) text) (let k = m.0 in omega (arith, length-take-le (i + 1) text (omega arith))) (x, s, b.0, b.1) in
         m.1 g.0 g.1 (g.2, g.3),
   ),
 )
+
+-- a node that begins at a token too deep
+deep_on : (n : ℕ) (f : List Item) (z : Item) (x : Node) (more : List Item) → length (f ++ z ∷ []) < 2 ^ 32 → BeginsDeep pascal n r.program_rule x f
+    → spell x ≡ (f ++ z ∷ []) ++ more → TreeOf (λ x. BeginsDeep pascal n r.program_rule x f) (f ++ z ∷ [])
+deep_on n f z x [] short s e = as_tree (λ x. BeginsDeep pascal n r.program_rule x f) (λ x s. deep_shaped pascal n r.program_rule x f s) (f ++ z ∷ []) x [] s
+    (omega (arith, ap length e, length-append (f ++ z ∷ []) [])) e
+deep_on n f z x (y ∷ rest) short s e = closed_tree (λ x. BeginsDeep pascal n r.program_rule x f) (λ x s. deep_shaped pascal n r.program_rule x f s)
+    (f ++ z ∷ []) short (whole_keeps calm pascal r.program_rule decided 2 completed rank 1000 pascal_brief n x f z y rest s e)
+
+deep_tree : (n : ℕ) (text : List Item) → length text < 2 ^ 32 → (i : ℕ) → IsTooDeep pascal n r.program_rule text i → TreeIsTooDeep n text i
+deep_tree n text short i (inside, (x, s, (more, e), deep)) =
+    let c = cut text i inside in
+    let upto : take (i + 1) text ≡ take i text ++ c.here ∷ [] = ap (λ (k : ℕ). take k text) (add-one i) ∙ c.upto in
+    let few : length (take i text ++ c.here ∷ []) < 2 ^ 32 =
+    omega (arith, length-append (take i text) (c.here ∷ []), length-take-le i text (omega arith)) in
+    let g = deep_on n (take i text) c.here x more few deep (e ∙ ap (λ (l : List Item). l ++ more) upto) in
+    let shaped = deep_shaped pascal n r.program_rule (tree_node g.0) (take i text) g.1 in
+    (inside, (g.0, shaped, (g.2, g.3 ∙ ap (λ (l : List Item). l ++ g.2) (sym upto)), g.1))
+
+pub too_deep_for_trees : TooDeepForTrees
+too_deep_for_trees n text short i = (deep_tree n text short i, λ m. (m.0, (tree_node m.1.0, m.1.1, m.1.2, m.1.3)))

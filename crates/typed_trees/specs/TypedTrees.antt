@@ -1,9 +1,9 @@
 -- The typed trees that nodes of the grammar have.
-use Rattle.std.specs.Prelude.{◌≡◌, ◌<◌, ◌^◌, ◌↔◌, ℕ, List, ◌++◌, length}
+use Rattle.std.specs.Prelude.{◌≡◌, ◌<◌, ◌^◌, ◌↔◌, ℕ, List, ◌++◌, length, take}
 use Rattle.grammar.specs.Nodes.{Item, Node, spell}
 use Rattle.grammar.specs.Loose.{IsGrammatical}
-use Rattle.grammar_refusals.specs.Nesting.{IsShaped}
-use Rattle.grammar_refusals.specs.Refusals.{BeginsWith, IsHopeless}
+use Rattle.grammar_refusals.specs.Nesting.{IsShaped, BeginsDeep}
+use Rattle.grammar_refusals.specs.Refusals.{BeginsWith, IsHopeless, IsTooDeep}
 use Rattle.pas_tree.specs.declared.blocks.Tree.{Tree}
 use Rattle.pas_tree.specs.Blocks.{tree_node}
 use Rattle.pas_tree.specs.FirstFollow.{pascal}
@@ -25,27 +25,38 @@ GrammaticalHaveTrees = (x : Node) → IsGrammatical rule program_rule x → HasS
 abbrev pub ShapedHaveTrees : Type 0
 ShapedHaveTrees = (x : Node) → IsShaped pascal program_rule x → HasShortLists x → HasTree x
 
--- ---- trees that go on from a text
+-- ---- what is said of shaped nodes of any length, said of typed trees
 
--- the spelling of some shaped node, of whatever length, begins with these tokens
-abbrev pub GoesOn : List Item → Type 0
-GoesOn text = (x : Node) × IsShaped pascal program_rule x × (more : List Item) × (spell x ≡ text ++ more)
+-- the spelling of some shaped node begins with these tokens
+abbrev pub NodeGoesOn : List Item → Type 0
+NodeGoesOn text = (x : Node) × IsShaped pascal program_rule x × (more : List Item) × (spell x ≡ text ++ more)
 
 -- so does that of a typed tree whose node is shaped
 abbrev pub TreeGoesOn : List Item → Type 0
 TreeGoesOn text =
     (t : Tree) × IsShaped pascal program_rule (tree_node t) × (more : List Item) × (spell (tree_node t) ≡ text ++ more)
 
--- where a node goes on, of fewer than 2 ^ 32 tokens, a typed tree does
-abbrev pub TreesGoOn : Type 0
-TreesGoOn = (text : List Item) → length text < 2 ^ 32 → GoesOn text → TreeGoesOn text
-
--- token i of the text is one with which no typed tree goes on
+-- no typed tree goes on with token i
 abbrev pub NoTreeGoesOn : List Item → ℕ → Type 0
 NoTreeGoesOn text i = (i < length text) ×
     ((t : Tree) → IsShaped pascal program_rule (tree_node t) → BeginsWith (spell (tree_node t)) text i → ⊥)
 
--- it is hopeless exactly if no typed tree goes on with it
+-- Token i is too deep in a typed tree: one goes on with it, and a node of nesting n + 1 begins at it.
+abbrev pub TreeIsTooDeep : ℕ → List Item → ℕ → Type 0
+TreeIsTooDeep n text i = (i < length text) ×
+    ((t : Tree) × IsShaped pascal program_rule (tree_node t) × BeginsWith (spell (tree_node t)) text i ×
+    BeginsDeep pascal n program_rule (tree_node t) (take i text))
+
+-- where a node goes on, a typed tree does, and the other way round
+abbrev pub TreesGoOn : Type 0
+TreesGoOn = (text : List Item) → length text < 2 ^ 32 → NodeGoesOn text ↔ TreeGoesOn text
+
+-- a token is hopeless exactly if no typed tree goes on with it
 abbrev pub HopelessForTrees : Type 0
 HopelessForTrees =
     (text : List Item) → length text < 2 ^ 32 → (i : ℕ) → IsHopeless pascal program_rule text i ↔ NoTreeGoesOn text i
+
+-- it is too deep exactly if it is so in a typed tree
+abbrev pub TooDeepForTrees : Type 0
+TooDeepForTrees = (n : ℕ) (text : List Item) → length text < 2 ^ 32 → (i : ℕ)
+    → IsTooDeep pascal n program_rule text i ↔ TreeIsTooDeep n text i

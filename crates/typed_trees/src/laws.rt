@@ -1,6 +1,7 @@
 //! The laws of this crate, each the contract of a call that does nothing.
 
-ghost use Rattle.typed_trees.specs.TypedTrees.{GrammaticalHaveTrees, HopelessForTrees, ShapedHaveTrees, TreesGoOn};
+ghost use Rattle.typed_trees.specs.TypedTrees.{GrammaticalHaveTrees, HopelessForTrees, ShapedHaveTrees};
+ghost use Rattle.typed_trees.specs.TypedTrees.{TooDeepForTrees, TreesGoOn};
 
 /// Each node of the grammar whose lists fit vectors is the node of a typed tree, at whatever nesting. By
 /// `trees_fit_the_grammar` of `pas_tree` no other node is.
@@ -9,9 +10,11 @@ pub fn shaped_nodes_have_trees()
     ensures shaped { ShapedHaveTrees }
 {}
 
-/// Where a shaped node goes on from the tokens of a text, a typed tree does, though the node may be of any length. So a
-/// token is hopeless exactly if no typed tree goes on with it.
+/// What refusals say of shaped nodes of any length holds of typed trees as well, for fewer than 2 ^ 32 tokens, as
+/// many as a text has: where a shaped node goes on from them, a typed tree does. So a token is hopeless exactly if
+/// no typed tree goes on with it, and too deep exactly if it is so in a typed tree.
 pub fn typed_trees_go_on()
-    ensures begun { TreesGoOn }
+    ensures goes { TreesGoOn }
     ensures hopeless { HopelessForTrees }
+    ensures deep { TooDeepForTrees }
 {}
