@@ -15,6 +15,7 @@ use Rattle.grammar.proofs.LevelsTested.{every_level, level_parts, whole_parts, r
 use Rattle.grammar_refusals.proofs.Deepest.{level_forget}
 use Rattle.grammar_refusals.proofs.Complete.{brief, level_fits, rule_completes, whole_completes}
 use Rattle.typed_trees.proofs.Parting.{closing, begun_by, times, Closes, closed_map, at_once}
+use Rattle.typed_trees.proofs.SoundParts.{Sound}
 use Rattle.typed_trees.proofs.Closing.{Roomy, Around, closes}
 use Rattle.typed_trees.proofs.PlacesMove.{level_places_move}
 use Rattle.typed_trees.proofs.PlacesClosed.{KeepsPlace, Near, keeps}
@@ -81,6 +82,13 @@ module _ (calm : Terminal → Bool) (t : LevelTables) (g : Grammar) (ok : IsDeci
       let lower : (w : Level) → ltb (rank w) (rank l) ≡ true → 2 * length front + rank w < room = λ w q. let m = ltb-true (rank w) (rank l) q in omega arith in
       inr ((λ w. ltb (rank w) (rank l)), (level_brief l).begun, omega arith, lower)
 
+  rule_sound : (room : ℕ) (l : Level) → Sound calm t g ok d full (times room k) (t.rule l) Nothing false (times (suc room) k)
+  rule_sound room l = record {
+    sound = rule_sane t g ok l;
+    good = rule_completes calm t g ok d full l;
+    few = let m = (level_brief l).few in omega arith;
+  }
+
   level_closes : (room : ℕ) (l : Level)
       → Closes calm (Nested t.rule l) (Nested t.rule l) (λ front. 2 * length front + rank l < room) (times room k)
   level_closes zero l x h front z rest p r e = absurd (omega arith)
@@ -89,8 +97,7 @@ module _ (calm : Terminal → Bool) (t : LevelTables) (g : Grammar) (ok : IsDeci
   level_closes (suc room) l x h (y ∷ front) z rest p r e =
       let n = times (suc room) k in
       closed_map calm (FreeIn (Nested t.rule) (t.rule l) IsNone) (Nested t.rule l) (y ∷ front) n n (omega arith) (nested t.rule l)
-      (closes calm t g ok d full rank room (times room k) low (level_closes room) (t.rule l) Nothing false (rule_sane t g ok l)
-      (rule_completes calm t g ok d full l) n (let m = (level_brief l).few in omega arith) IsNone IsNone none_around
+      (closes calm t g ok d full rank room (times room k) low (level_closes room) (t.rule l) (rule_sound room l) none_around
       (inl (level_parts t g ok l).whole) x h (y ∷ front) z rest (rule_roomy room l (y ∷ front) p) (by_rule r.0 l x h r.1) e)
 
   none_near : (D : Level → Places) → Near calm t g ok d full rank D Nothing false IsNone nowhere
@@ -111,8 +118,7 @@ module _ (calm : Terminal → Bool) (t : LevelTables) (g : Grammar) (ok : IsDeci
   level_keeps (suc room) (suc n) l x h f z y rest p r e =
       let D = BeginsAt t.rule n in
       keeps calm t g ok d full rank D room (times room k) low (level_places_move calm t g ok d full rank n) (level_forget t.rule n)
-      (level_closes room) (level_keeps room n) (t.rule l) Nothing false (rule_sane t g ok l) (rule_completes calm t g ok d full l) (times (suc room) k)
-      (let m = (level_brief l).few in omega arith) IsNone nowhere (none_near D) (inl (level_parts t g ok l).whole) x h f z y rest
+      (level_closes room) (level_keeps room n) (t.rule l) (rule_sound room l) (none_near D) (inl (level_parts t g ok l).whole) x h f z y rest
       (rule_roomy room l (f ++ z ∷ []) p) r e
 
   -- a tree of these that begins with the tokens and has few more
@@ -123,11 +129,11 @@ module _ (calm : Terminal → Bool) (t : LevelTables) (g : Grammar) (ok : IsDeci
     pub begins : spell tree ≡ front ++ more
     pub few : length more ≤ times (suc (2 * length front)) k
 
-  whole_few : (n : ℕ) → times n k + closing brief_at g Nothing ≤ times (suc n) k
-  whole_few n =
+  whole_sound : (room : ℕ) → Sound calm t g ok d full (times room k) g Nothing false (times (suc room) k)
+  whole_sound room =
       let p = and_parts (leb (closing brief_at g Nothing) k) (begun_by (λ w. false) g) levels_brief.1 in
       let m = leb-true (closing brief_at g Nothing) k p.0 in
-      omega arith
+      record { sound = (whole_parts t g ok).sound; good = whole_completes calm t g ok d full; few = omega arith }
 
   whole_roomy : (front : List Item) → Roomy calm t g ok d full rank (2 * length front) g front
   whole_roomy front =
@@ -139,8 +145,7 @@ module _ (calm : Terminal → Bool) (t : LevelTables) (g : Grammar) (ok : IsDeci
       → Goes (IsShaped t g) front
   whole_closes x r front z rest e =
       let room = 2 * length front in
-      let s = closes calm t g ok d full rank room (times room k) low (level_closes room) g Nothing false (whole_parts t g ok).sound
-      (whole_completes calm t g ok d full) (times (suc room) k) (whole_few room) IsNone IsNone none_around
+      let s = closes calm t g ok d full rank room (times room k) low (level_closes room) g (whole_sound room) none_around
       (inl (whole_parts t g ok).whole) x None front z rest (whole_roomy front) (in_nested r.0 g x None r.1) e in
       record { tree = s.tree; fits = whole_nested t.rule g s.tree None (s.fits None tt); more = s.more; begins = s.begins; few = s.few }
 
@@ -152,6 +157,5 @@ module _ (calm : Terminal → Bool) (t : LevelTables) (g : Grammar) (ok : IsDeci
       let room = 2 * length front in
       let D = BeginsAt t.rule n in
       let s = keeps calm t g ok d full rank D room (times room k) low (level_places_move calm t g ok d full rank n) (level_forget t.rule n)
-      (level_closes room) (level_keeps room n) g Nothing false (whole_parts t g ok).sound (whole_completes calm t g ok d full) (times (suc room) k)
-      (whole_few room) IsNone nowhere (none_near D) (inl (whole_parts t g ok).whole) x None f z y rest (whole_roomy front) r e in
+      (level_closes room) (level_keeps room n) g (whole_sound room) (none_near D) (inl (whole_parts t g ok).whole) x None f z y rest (whole_roomy front) r e in
       record { tree = s.tree; fits = s.fits None tt; more = s.more; begins = s.begins; few = s.few }

@@ -1,39 +1,23 @@
 -- Whatever is open where a tree breaks off is closed by few tokens: at most so many for each level that is open, and of
 -- these at most two begin before a token.
-use Rattle.std.proofs.Common.{◌≡◌, ◌+◌, ◌*◌, ◌<◌, ◌≤◌, ℕ, zero, suc, Bool, true, false, List, ◌++◌, length, Option, refl, sym, ap, subst}
+use Rattle.std.proofs.Common.{◌≡◌, ◌+◌, ◌*◌, ◌<◌, ◌≤◌, ℕ, zero, suc, Bool, true, List, ◌++◌, length, Option, sym, ap, subst}
 use Rattle.std.proofs.Common.{◌∙◌, length-append, ◌⊎◌, inl, inr, arith}
 use Rattle.std.proofs.lemmas.Bool.{and_parts}
 use Rattle.grammar.specs.declared.terminals.Terminal.{Terminal}
 use Rattle.grammar.specs.Nodes.{Item, Node, Leaf, Nothing, Pair, spell, ahead}
 use Rattle.grammar.specs.Grammars.{Level, Grammar, token, nothing, seq, choice, greedy, level, loop, again, rounds, FreeIn}
-use Rattle.grammar.specs.Deciding.{both, either, closed, solid, linear, guarded, sane, LevelTables, IsDecided}
+use Rattle.grammar.specs.Deciding.{either, closed, solid, linear, LevelTables, IsDecided}
 use Rattle.grammar_refusals.specs.Nesting.{Trees, Nested}
-use Rattle.grammar_refusals.specs.Completing.{begins_calm, spares, IsCompleted}
-use Rattle.grammar.proofs.Bools.{both_make, either_parts}
+use Rattle.grammar_refusals.specs.Completing.{IsCompleted}
+use Rattle.grammar.proofs.Bools.{either_parts}
 use Rattle.grammar.proofs.Larger.{IsPart, free_up, all_in}
 use Rattle.grammar_refusals.proofs.Deepest.{Loop, fold}
-use Rattle.grammar_refusals.proofs.Complete.{Moves, Fits, moves, loop_fits, brief, has, good, calls, shortest, shortest_fits, has_fits, level_moves}
+use Rattle.grammar_refusals.proofs.Complete.{Moves, Fits, moves, loop_fits, brief, has, good, shortest, shortest_fits, has_fits, level_moves}
 use Rattle.typed_trees.proofs.ShapedIsGrammatical.{loosened}
 use Rattle.typed_trees.proofs.Repeated.{spells}
-use Rattle.typed_trees.proofs.Parting.{closing, begun_by, broken_in, Closed, Closes, closed_map, token_closes, nothing_breaks, first_closed}
+use Rattle.typed_trees.proofs.SoundParts.{close_at, Sound, pair_sound, fork_sound, greedy_sound, loop_sound}
+use Rattle.typed_trees.proofs.Parting.{begun_by, broken_in, Closed, Closes, closed_map, token_closes, nothing_breaks, first_closed}
 use Rattle.typed_trees.proofs.Parting.{second_closed}
-
--- what goes on after a token alone goes on at its end alone
-pub guarded_linear : (g : Grammar) → guarded g ≡ true → linear g ≡ true
-guarded_linear (token ks) e = refl
-guarded_linear nothing e = refl
-guarded_linear (seq a b) e =
-    let p = and_parts (closed a) (either (both (solid a) (linear b)) (guarded b)) e in
-    both_make (closed a) (linear b) p.0 (elim (either_parts (both (solid a) (linear b)) (guarded b) p.1) [
-      | inl q ↦ (and_parts (solid a) (linear b) q).1
-      | inr q ↦ guarded_linear b q
-    ])
-guarded_linear (choice ks a b) e =
-    let p = and_parts (guarded a) (guarded b) e in both_make (linear a) (linear b) (guarded_linear a p.0) (guarded_linear b p.1)
-guarded_linear (greedy ks a) e = guarded_linear a e
-guarded_linear (level l) e = refl
-guarded_linear (loop a) e = refl
-guarded_linear again e = absurd cc
 
 module _ (calm : Terminal → Bool) (t : LevelTables) (g : Grammar) (ok : IsDecided t g ≡ true) (d : ℕ) (full : IsCompleted calm d t g ≡ true)
     (rank : Level → ℕ) where
@@ -43,31 +27,19 @@ module _ (calm : Terminal → Bool) (t : LevelTables) (g : Grammar) (ok : IsDeci
   abbrev brief_at : Level → Node
   brief_at = brief calm t g ok d full
 
-  abbrev good_at : Grammar → Node → Bool → Bool
-  good_at = good calm t g ok d full
-
-  abbrev calls_at : Grammar → Node → Bool → Bool
-  calls_at = calls calm t g ok d full
-
-  abbrev short_at : Grammar → Node → Node
-  short_at = shortest calm t g ok d full
-
-  abbrev pub close_at : Grammar → Node → ℕ
-  close_at = closing brief_at
-
   -- a tree stays one in front of each calm terminal
-  pub part_moves : (b : Grammar) (s : Node) (v : Bool) → good_at b s v ≡ true → (V : Trees) → Moves calm V → Moves calm (FreeIn E b V)
+  pub part_moves : (b : Grammar) (s : Node) (v : Bool) → good calm t g ok d full b s v ≡ true → (V : Trees) → Moves calm V → Moves calm (FreeIn E b V)
   part_moves = moves calm brief_at (has calm t g ok d full) E (level_moves calm t g ok d full)
 
   -- a tree of what is solid takes a token
   pub takes : (b : Grammar) (V : Trees) (x : Node) (h : Option Terminal) → FreeIn E b V x h → solid b ≡ true → 0 < length (spell x)
   takes b V x h r e = spells E b e V x h (loosened E E (λ l x h r. r) b V V (all_in V) x h r)
 
-  -- a place after which so many tokens still stand before the break, where each level that begins has a rank below the room
+  -- Of a level with so many tokens up to the break, twice these and its rank are below the room: at any rank.
   abbrev pub Inner : ℕ → List Item → Type 0
   Inner room front = 2 * length front + 1 < room
 
-  -- after a token of the part, and before it where only early levels begin there
+  -- the same of the levels with which a part may begin, and, after a token of it, of each other
   abbrev pub Roomy : ℕ → Grammar → List Item → Type 0
   Roomy room b front = Inner room front ⊎ ((early : Level → Bool) × (begun_by early b ≡ true) × (2 * length front ≤ room) ×
       ((l : Level) → early l ≡ true → 2 * length front + rank l < room))
@@ -136,67 +108,60 @@ module _ (calm : Terminal → Bool) (t : LevelTables) (g : Grammar) (ok : IsDeci
     loop_closed a m c (suc k) x h front z rest p r e = closed_map calm (FreeIn E a (Loop E a)) (Loop E a) front m m (omega arith) (fold E a)
         (c k (rounds_close a m c k) x h front z rest p r e)
 
-    pub closes : (b : Grammar) (s : Node) (v : Bool) → sane b ≡ true → good_at b s v ≡ true → (m : ℕ) → most + close_at b s ≤ m → (V W : Trees)
-        → Around s v V W → Tail room b V W m → Closes calm (FreeIn E b W) (FreeIn E b V) (Roomy room b) m
-    closes (token ks) s v o q m le V W i u x h front z rest p r e = token_closes calm ks q m (omega arith) (Roomy room (token ks)) x h front z rest p r e
-    closes nothing s v o q m le V W i u x h front z rest p r e = absurd (nothing_breaks calm x front z rest r e)
-    closes (seq a b) s v o q m le V W i u (Leaf item) h front z rest p r e = absurd r
-    closes (seq a b) s v o q m le V W i u Nothing h front z rest p r e = absurd r
-    closes (seq a b) s v o q m le V W i u (Pair x y) h front z rest p r e =
-        let o' = and_parts (sane a) (sane b) o in
-        let w = short_at b s in
-        let j = and_parts (both (good_at a s v) (good_at b s v)) (both (calls_at b s v) (begins_calm calm (spell w))) q in
-        let k = and_parts (good_at a s v) (good_at b s v) j.0 in
-        let f = and_parts (calls_at b s v) (begins_calm calm (spell w)) j.1 in
-        let short_b : Fits calm (FreeIn E b V) w = shortest_fits calm t g ok d full b s v f.0 V i.shorts in
+    pub closes : (b : Grammar) {s : Node} {v : Bool} {m : ℕ} {V W : Trees} → Sound calm t g ok d full most b s v m → Around s v V W → Tail room b V W m
+        → Closes calm (FreeIn E b W) (FreeIn E b V) (Roomy room b) m
+    closes (token ks) {s} {v} {m} {V} {W} c i u x h front z rest p r e =
+        let few = c.few in
+        token_closes calm ks c.good m (omega arith) (Roomy room (token ks)) x h front z rest p r e
+    closes nothing {s} {v} {m} {V} {W} c i u x h front z rest p r e = absurd (nothing_breaks calm x front z rest r e)
+    closes (seq a b) {s} {v} {m} {V} {W} c i u (Leaf item) h front z rest p r e = absurd r
+    closes (seq a b) {s} {v} {m} {V} {W} c i u Nothing h front z rest p r e = absurd r
+    closes (seq a b) {s} {v} {m} {V} {W} c i u (Pair x y) h front z rest p r e =
+        let k = pair_sound calm t g ok d full a b c in
+        let A = FreeIn E a V in
+        let B = FreeIn E b V in
+        let w = shortest calm t g ok d full b s in
+        let n = most + close_at calm t g ok d full a s in
+        let short_b : Fits calm B w = shortest_fits calm t g ok d full b s v k.calls V i.shorts in
         elim (broken_in (spell x) (spell y) front z rest e) [
-          | inl c ↦
-              let n = most + close_at a s in
-              first_closed calm (FreeIn E a V) (FreeIn E b V) w f.1 short_b front n m (omega arith)
-              (closes a s v o'.0 k.0 n (omega arith) V W i (first_tail a b V W m n u) x (ahead (spell y) h) front z c.0 (first_roomy a b front p) r.0 c.1)
-          | inr c ↦
+          | inl f ↦ first_closed calm A B w k.calms short_b front n m k.both_few
+              (closes a k.first i (first_tail a b V W m n u) x (ahead (spell y) h) front z f.0 (first_roomy a b front p) r.0 f.1)
+          | inr f ↦
               let wide = free_up E E (λ l x h r. r) a W V i.part x (ahead (spell y) h) r.0 in
-              let roomy = second_roomy a b front c.0 x c.1 (takes a W x (ahead (spell y) h) r.0) p in
-              let inner = closes b s v o'.1 k.1 m (omega arith) V W i (second_tail a b V W m u) y h c.0 z rest roomy r.1 c.2 in
-              subst (λ (l : List Item). Closed calm (FreeIn E (seq a b) V) l m) (sym c.1)
-              (second_closed calm (FreeIn E a V) (FreeIn E b V) (part_moves a s v k.0 V i.move) x y w h wide f.1 short_b c.0 z rest c.2 m (omega arith) inner)
+              let roomy = second_roomy a b front f.0 x f.1 (takes a W x (ahead (spell y) h) r.0) p in
+              let inner = closes b k.second i (second_tail a b V W m u) y h f.0 z rest roomy r.1 f.2 in
+              subst (λ (l : List Item). Closed calm (FreeIn E (seq a b) V) l m) (sym f.1)
+              (second_closed calm A B (part_moves a s v k.first.good V i.move) x y w h wide k.calms short_b f.0 z rest f.2 m k.short_few inner)
         ]
-    closes (choice ks a b) s v o q m le V W i u x h front z rest p r e =
-        let o' = and_parts (sane a) (sane b) o in
-        let k = and_parts (good_at a s v) (good_at b s v) q in
+    closes (choice ks a b) {s} {v} {m} {V} {W} c i u x h front z rest p r e =
+        let k = fork_sound calm t g ok d full ks a b c in
         let u' = fork_tail ks a b V W m u in
         let p' = fork_roomy ks a b front p in
         let F = FreeIn E (choice ks a b) V in
         elim r [
-          | inl y ↦ closed_map calm (FreeIn E a V) F front m m (omega arith) (λ x h y. inl y)
-              (closes a s v o'.0 k.0 m (omega arith) V W i u'.0 x h front z rest p'.0 y e)
-          | inr y ↦ closed_map calm (FreeIn E b V) F front m m (omega arith) (λ x h y. inr y)
-              (closes b s v o'.1 k.1 m (omega arith) V W i u'.1 x h front z rest p'.1 y e)
+          | inl y ↦ closed_map calm (FreeIn E a V) F front m m (omega arith) (λ x h y. inl y) (closes a k.0 i u'.0 x h front z rest p'.0 y e)
+          | inr y ↦ closed_map calm (FreeIn E b V) F front m m (omega arith) (λ x h y. inr y) (closes b k.1 i u'.1 x h front z rest p'.1 y e)
         ]
-    closes (greedy ks a) s v o q m le V W i u x h front z rest p r e =
-        let k = and_parts (good_at a s v) (spares calm ks) q in
-        elim r [
-          | inl y ↦ closed_map calm (FreeIn E a V) (FreeIn E (greedy ks a) V) front m m (omega arith) (λ x h y. inl y)
-              (closes a s v o k.0 m le V W i u x h front z rest p y e)
-          | inr y ↦ absurd (nothing_breaks calm x front z rest y.0 e)
-        ]
-    closes (level l) s v o q m le V W i u x h front z rest p r e =
-        let k : 2 * length front + rank l < room = elim p [ inl c ↦ (let j = low l in omega arith) | inr c ↦ c.3 l c.1 ] in
+    closes (greedy ks a) {s} {v} {m} {V} {W} c i u x h front z rest p r e = elim r [
+      | inl y ↦ closed_map calm (FreeIn E a V) (FreeIn E (greedy ks a) V) front m m (omega arith) (λ x h y. inl y)
+          (closes a (greedy_sound calm t g ok d full ks a c) i u x h front z rest p y e)
+      | inr y ↦ absurd (nothing_breaks calm x front z rest y.0 e)
+    ]
+    closes (level l) {s} {v} {m} {V} {W} c i u x h front z rest p r e =
+        let few = c.few in
+        let k : 2 * length front + rank l < room = elim p [ inl q ↦ (let j = low l in omega arith) | inr q ↦ q.3 l q.1 ] in
         closed_map calm (E l) (E l) front most m (omega arith) (all_in (E l)) (level_closes l x h front z rest k r e)
-    closes (loop a) s v o q m le V W i u x h front z rest p r e =
-        let o' = and_parts (sane a) (guarded a) o in
-        let w = short_at a Nothing in
-        let k = and_parts (good_at a w true) (calls_at a Nothing false) q in
-        let around : (j : ℕ) → Around w true (Loop E a) (rounds j (FreeIn E a)) = λ j. record {
+    closes (loop a) {s} {v} {m} {V} {W} c i u x h front z rest p r e =
+        let k = loop_sound calm t g ok d full a c in
+        let around : (j : ℕ) → Around (shortest calm t g ok d full a Nothing) true (Loop E a) (rounds j (FreeIn E a)) = λ j. record {
           part = λ x h y. (j, y);
-          move = part_moves (loop a) s v q V i.move;
-          shorts = λ y. loop_fits calm brief_at (has calm t g ok d full) E (has_fits calm t g ok d full) a k.1;
+          move = part_moves (loop a) s v c.good V i.move;
+          shorts = λ y. loop_fits calm brief_at (has calm t g ok d full) E (has_fits calm t g ok d full) a k.calls;
         } in
         let once : (j : ℕ) → Closes calm (rounds j (FreeIn E a)) (Loop E a) (Inner room) m
-        → Closes calm (FreeIn E a (rounds j (FreeIn E a))) (FreeIn E a (Loop E a)) (Roomy room a) m =
-        λ j c. closes a w true o'.0 k.0 m le (Loop E a) (rounds j (FreeIn E a)) (around j) (inr (guarded_linear a o'.1, c)) in
+        → Closes calm (FreeIn E a (rounds j (FreeIn E a))) (FreeIn E a (Loop E a)) (Roomy room a) m = λ j n. closes a k.round (around j) (inr (k.at_end, n)) in
         loop_closed a m once r.0 x h front z rest p r.1 e
-    closes again s v o q m le V W i u x h front z rest p r e = elim u [
-      | inl c ↦ absurd cc
-      | inr c ↦ elim p [ inl y ↦ c.1 x h front z rest y r e | inr y ↦ absurd (let f = y.1 in cc) ]
+    closes again {s} {v} {m} {V} {W} c i u x h front z rest p r e = elim u [
+      | inl q ↦ absurd cc
+      | inr q ↦ elim p [ inl y ↦ q.1 x h front z rest y r e | inr y ↦ absurd (let f = y.1 in cc) ]
     ]

@@ -13,6 +13,7 @@ pub mod PlacesClosed
 pub mod PlacesMove
 pub mod Repeated
 pub mod ShapedIsGrammatical
+pub mod SoundParts
 pub mod StatementsCovered
 pub mod TreesCovered
 pub mod TreesGoOn

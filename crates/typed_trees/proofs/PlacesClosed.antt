@@ -1,19 +1,20 @@
 -- Where a tree breaks off after a place in it, few tokens close it and keep the place.
-use Rattle.std.proofs.Common.{◌≡◌, ◌+◌, ◌*◌, ◌<◌, ◌≤◌, ℕ, zero, suc, Bool, true, false, List, [], ◌∷◌, ◌++◌, length, Option, refl, sym, ap, subst}
+use Rattle.std.proofs.Common.{◌≡◌, ◌+◌, ◌*◌, ◌<◌, ◌≤◌, ℕ, zero, suc, Bool, true, List, [], ◌∷◌, ◌++◌, length, Option, refl, sym, ap, subst}
 use Rattle.std.proofs.Common.{◌∙◌, append_assoc, ◌⊎◌, inl, inr, arith}
 use Rattle.std.proofs.lemmas.Bool.{and_parts}
 use Rattle.std.proofs.lemmas.List.{append_cancel_left}
 use Rattle.grammar.specs.declared.terminals.Terminal.{Terminal}
 use Rattle.grammar.specs.Nodes.{Item, Node, Leaf, Nothing, Pair, spell, ahead}
 use Rattle.grammar.specs.Grammars.{Level, Grammar, token, nothing, seq, choice, greedy, level, loop, again, FreeIn, IsPair}
-use Rattle.grammar.specs.Deciding.{both, closed, linear, guarded, sane, LevelTables, IsDecided}
+use Rattle.grammar.specs.Deciding.{closed, solid, linear, LevelTables, IsDecided}
 use Rattle.grammar.proofs.Larger.{IsPart}
 use Rattle.grammar_refusals.specs.Nesting.{Trees, Places, Nested, InPair, in_rounds, BeginsIn}
-use Rattle.grammar_refusals.specs.Completing.{begins_calm, spares, IsCompleted}
+use Rattle.grammar_refusals.specs.Completing.{IsCompleted}
 use Rattle.grammar_refusals.proofs.Deepest.{Loop, forget, fold}
-use Rattle.grammar_refusals.proofs.Complete.{Moves, Fits, loop_fits, brief, has, good, calls, shortest, shortest_fits, has_fits}
+use Rattle.grammar_refusals.proofs.Complete.{Moves, Fits, loop_fits, brief, has, shortest, shortest_fits, has_fits}
+use Rattle.typed_trees.proofs.SoundParts.{close_at, Sound, pair_sound, fork_sound, greedy_sound, loop_sound}
 use Rattle.typed_trees.proofs.Parting.{broken_in, Closed, Closes, closed_map, first_closed, second_closed}
-use Rattle.typed_trees.proofs.Closing.{Inner, Roomy, Around, Tail, closes, guarded_linear, part_moves, takes, close_at, first_roomy, second_roomy, fork_roomy}
+use Rattle.typed_trees.proofs.Closing.{Inner, Roomy, Around, Tail, closes, part_moves, takes, first_roomy, second_roomy, fork_roomy}
 use Rattle.typed_trees.proofs.PlacesMove.{PlacesMove, places_move, rounds_move}
 
 -- where a tree of M breaks off after the token behind the place, one of M with the same place closes it
@@ -53,18 +54,6 @@ module _ (calm : Terminal → Bool) (t : LevelTables) (g : Grammar) (ok : IsDeci
     (rank : Level → ℕ) (D : Level → Places) where
   abbrev E : Level → Trees
   E = Nested t.rule
-
-  abbrev good_at : Grammar → Node → Bool → Bool
-  good_at = good calm t g ok d full
-
-  abbrev calls_at : Grammar → Node → Bool → Bool
-  calls_at = calls calm t g ok d full
-
-  abbrev short_at : Grammar → Node → Node
-  short_at = shortest calm t g ok d full
-
-  abbrev weight : Grammar → Node → ℕ
-  weight = close_at calm t g ok d full rank
 
   abbrev room_in : ℕ → Grammar → List Item → Type 0
   room_in = Roomy calm t g ok d full rank
@@ -107,6 +96,13 @@ module _ (calm : Terminal → Bool) (t : LevelTables) (g : Grammar) (ok : IsDeci
       (level_tree : (l : Level) (x : Node) (h : Option Terminal) (f : List Item) → D l x h f → E l x h)
       (level_closes : (l : Level) → Closes calm (E l) (E l) (λ front. 2 * length front + rank l < room) most)
       (level_keeps : (l : Level) → KeepsPlace calm (D l) (λ front. 2 * length front + rank l < room) most) where
+    before : (a b : Grammar) (front : List Item) → room_in room (seq a b) front → room_in room a front
+    before = first_roomy calm t g ok d full rank room most low level_closes
+
+    after : (a b : Grammar) (front f : List Item) (x : Node) → front ≡ spell x ++ f → (solid a ≡ true → 0 < length (spell x))
+        → room_in room (seq a b) front → room_in room b f
+    after = second_roomy calm t g ok d full rank room most low level_closes
+
     rounds_keep : (a : Grammar) (m : ℕ)
         → ((k : ℕ) → KeepsPlace calm (in_rounds k (BeginsIn E D a (Loop E a))) (inside room) m
         → KeepsPlace calm (in_rounds (suc k) (BeginsIn E D a (Loop E a))) (room_in room a) m)
@@ -126,19 +122,16 @@ module _ (calm : Terminal → Bool) (t : LevelTables) (g : Grammar) (ok : IsDeci
     rounds_tree a (suc k) x h f r = fold E a x h
         (forget E D level_tree a (Loop E a) (in_rounds k (BeginsIn E D a (Loop E a))) (rounds_tree a k) x h f r)
 
-    pub keeps : (b : Grammar) (s : Node) (v : Bool) → sane b ≡ true → good_at b s v ≡ true → (m : ℕ) → most + weight b s ≤ m → (V : Trees) (M : Places)
-        → Near s v V M → Ends room b V M m → KeepsPlace calm (BeginsIn E D b V M) (room_in room b) m
-    keeps (token ks) s v o q m le V M i u x h f z y rest p r e = absurd r
-    keeps nothing s v o q m le V M i u x h f z y rest p r e = absurd r
-    keeps (seq a b) s v o q m le V M i u (Leaf item) h f z y rest p r e = absurd r
-    keeps (seq a b) s v o q m le V M i u Nothing h f z y rest p r e = absurd r
-    keeps (seq a b) s v o q m le V M i u (Pair x x') h f z y rest p r e =
-        let o' = and_parts (sane a) (sane b) o in
-        let w = short_at b s in
-        let j = and_parts (both (good_at a s v) (good_at b s v)) (both (calls_at b s v) (begins_calm calm (spell w))) q in
-        let k = and_parts (good_at a s v) (good_at b s v) j.0 in
-        let c = and_parts (calls_at b s v) (begins_calm calm (spell w)) j.1 in
-        let short_b : Fits calm (FreeIn E b V) w = shortest_fits calm t g ok d full b s v c.0 V i.shorts in
+    pub keeps : (b : Grammar) {s : Node} {v : Bool} {m : ℕ} {V : Trees} {M : Places} → Sound calm t g ok d full most b s v m → Near s v V M
+        → Ends room b V M m → KeepsPlace calm (BeginsIn E D b V M) (room_in room b) m
+    keeps (token ks) {s} {v} {m} {V} {M} c i u x h f z y rest p r e = absurd r
+    keeps nothing {s} {v} {m} {V} {M} c i u x h f z y rest p r e = absurd r
+    keeps (seq a b) {s} {v} {m} {V} {M} c i u (Leaf item) h f z y rest p r e = absurd r
+    keeps (seq a b) {s} {v} {m} {V} {M} c i u Nothing h f z y rest p r e = absurd r
+    keeps (seq a b) {s} {v} {m} {V} {M} c i u (Pair x x') h f z y rest p r e =
+        let k = pair_sound calm t g ok d full a b c in
+        let w = shortest calm t g ok d full b s in
+        let short_b : Fits calm (FreeIn E b V) w = shortest_fits calm t g ok d full b s v k.calls V i.shorts in
         let A = FreeIn E a V in
         let B = FreeIn E b V in
         let P = BeginsIn E D a V M in
@@ -148,73 +141,68 @@ module _ (calm : Terminal → Bool) (t : LevelTables) (g : Grammar) (ok : IsDeci
           | inl a' ↦
               elim (broken_in (spell x) (spell x') front y rest e) [
                 | inl n ↦
-                    let l = most + weight a s in
+                    let l = most + close_at calm t g ok d full a s in
                     closed_map calm (IsPair (λ x h. P x h f) B) (λ x h. InPair A B P Q x h f) front m m (omega arith) (in_first A B P Q f)
-                    (first_closed calm (λ x h. P x h f) B w c.1 short_b front l m (omega arith)
-                    (keeps a s v o'.0 k.0 l (omega arith) V M i (first_ends room a b V M m l u) x (ahead (spell x') h) f z y n.0
-                    (first_roomy calm t g ok d full rank room most low level_closes a b front p) a'.0 n.1))
+                    (first_closed calm (λ x h. P x h f) B w k.calms short_b front l m k.both_few
+                    (keeps a k.first i (first_ends room a b V M m l u) x (ahead (spell x') h) f z y n.0 (before a b front p) a'.0 n.1))
                 | inr n ↦
                     let tree : A x (ahead (spell x') h) = forget E D level_tree a V M i.is_tree x (ahead (spell x') h) f a'.0 in
-                    let roomy = second_roomy calm t g ok d full rank room most low level_closes a b front n.0 x n.1
-                    (takes calm t g ok d full rank a V x (ahead (spell x') h) tree) p in
-                    let inner = closes calm t g ok d full rank room most low level_closes b s v o'.1 k.1 m (omega arith) V V (around_of s v V M i)
+                    let roomy = after a b front n.0 x n.1 (takes calm t g ok d full rank a V x (ahead (spell x') h) tree) p in
+                    let inner = closes calm t g ok d full rank room most low level_closes b k.second (around_of s v V M i)
                     (tail_of room b V M m (second_ends room a b V M m u)) x' h n.0 y rest roomy a'.1 n.2 in
+                    let moves : Moves calm (λ x h. P x h f) = λ x h i' al r'. places_move calm t g ok d full rank D level_move a s v k.first.good V M
+                    i.move i.place_moves x h i' f al r' in
                     closed_map calm (IsPair (λ x h. P x h f) B) (λ x h. InPair A B P Q x h f) front m m (omega arith) (in_first A B P Q f)
                     (subst (λ (l : List Item). Closed calm (IsPair (λ x h. P x h f) B) l m) (sym n.1)
-                    (second_closed calm (λ x h. P x h f) B
-                    (λ x h i' al r'. places_move calm t g ok d full rank D level_move a s v k.0 V M i.move i.place_moves x h i' f al r')
-                    x x' w h a'.0 c.1 short_b n.0 y rest n.2 m (omega arith) inner))
+                    (second_closed calm (λ x h. P x h f) B moves x x' w h a'.0 k.calms short_b n.0 y rest n.2 m k.short_few inner))
               ]
           | inr b' ↦
               let more : List Item = b'.0 ++ z ∷ [] in
               let cut : front ≡ spell x ++ more = ap (λ (l : List Item). l ++ z ∷ []) b'.1 ∙ append_assoc (spell x) b'.0 (z ∷ []) in
               let at : spell x' ≡ more ++ y ∷ rest = append_cancel_left (spell x) (spell x') (more ++ y ∷ rest)
               (e ∙ ap (λ (l : List Item). l ++ y ∷ rest) cut ∙ append_assoc (spell x) more (y ∷ rest)) in
-              let roomy = second_roomy calm t g ok d full rank room most low level_closes a b front more x cut
-              (takes calm t g ok d full rank a V x (ahead (spell x') h) b'.2) p in
+              let roomy = after a b front more x cut (takes calm t g ok d full rank a V x (ahead (spell x') h) b'.2) p in
               second_keeps calm A B P Q x x' h f b'.0 z y rest m b'.1 b'.2 at
-              (keeps b s v o'.1 k.1 m (omega arith) V M i (second_ends room a b V M m u) x' h b'.0 z y rest roomy b'.3 at)
+              (keeps b k.second i (second_ends room a b V M m u) x' h b'.0 z y rest roomy b'.3 at)
         ]
-    keeps (choice ks a b) s v o q m le V M i u x h f z y rest p r e =
-        let o' = and_parts (sane a) (sane b) o in
-        let k = and_parts (good_at a s v) (good_at b s v) q in
+    keeps (choice ks a b) {s} {v} {m} {V} {M} c i u x h f z y rest p r e =
+        let k = fork_sound calm t g ok d full ks a b c in
         let u' = fork_ends room ks a b V M m u in
         let front : List Item = f ++ z ∷ [] in
         let p' = fork_roomy calm t g ok d full rank room most low level_closes ks a b front p in
+        let P : Grammar → Trees = λ b x h. BeginsIn E D b V M x h f in
         elim r [
-          | inl n ↦ closed_map calm (λ x h. BeginsIn E D a V M x h f) (λ x h. BeginsIn E D (choice ks a b) V M x h f) front m m (omega arith) (λ x h n. inl n)
-              (keeps a s v o'.0 k.0 m (omega arith) V M i u'.0 x h f z y rest p'.0 n e)
-          | inr n ↦ closed_map calm (λ x h. BeginsIn E D b V M x h f) (λ x h. BeginsIn E D (choice ks a b) V M x h f) front m m (omega arith) (λ x h n. inr n)
-              (keeps b s v o'.1 k.1 m (omega arith) V M i u'.1 x h f z y rest p'.1 n e)
+          | inl n ↦ closed_map calm (P a) (P (choice ks a b)) front m m (omega arith) (λ x h n. inl n) (keeps a k.0 i u'.0 x h f z y rest p'.0 n e)
+          | inr n ↦ closed_map calm (P b) (P (choice ks a b)) front m m (omega arith) (λ x h n. inr n) (keeps b k.1 i u'.1 x h f z y rest p'.1 n e)
         ]
-    keeps (greedy ks a) s v o q m le V M i u x h f z y rest p r e =
-        let k = and_parts (good_at a s v) (spares calm ks) q in
-        let s' = keeps a s v o k.0 m le V M i u x h f z y rest p r e in
-        closed_map calm (λ x h. BeginsIn E D a V M x h f) (λ x h. BeginsIn E D (greedy ks a) V M x h f) (f ++ z ∷ []) m m (omega arith) (λ x h n. n) s'
-    keeps (level l) s v o q m le V M i u x h f z y rest p r e =
+    keeps (greedy ks a) {s} {v} {m} {V} {M} c i u x h f z y rest p r e =
+        let P : Grammar → Trees = λ b x h. BeginsIn E D b V M x h f in
+        closed_map calm (P a) (P (greedy ks a)) (f ++ z ∷ []) m m (omega arith) (λ x h n. n)
+        (keeps a (greedy_sound calm t g ok d full ks a c) i u x h f z y rest p r e)
+    keeps (level l) {s} {v} {m} {V} {M} c i u x h f z y rest p r e =
+        let few = c.few in
         let front : List Item = f ++ z ∷ [] in
-        let k : 2 * length front + rank l < room = elim p [ inl c ↦ (let j = low l in omega arith) | inr c ↦ c.3 l c.1 ] in
+        let k : 2 * length front + rank l < room = elim p [ inl q ↦ (let j = low l in omega arith) | inr q ↦ q.3 l q.1 ] in
         closed_map calm (λ x h. D l x h f) (λ x h. D l x h f) front most m (omega arith) (λ x h n. n) (level_keeps l x h f z y rest k r e)
-    keeps (loop a) s v o q m le V M i u x h f z y rest p r e =
-        let o' = and_parts (sane a) (guarded a) o in
-        let w = short_at a Nothing in
-        let k = and_parts (good_at a w true) (calls_at a Nothing false) q in
+    keeps (loop a) {s} {v} {m} {V} {M} c i u x h f z y rest p r e =
+        let k = loop_sound calm t g ok d full a c in
+        let w = shortest calm t g ok d full a Nothing in
         let R : ℕ → Places = λ j. in_rounds j (BeginsIn E D a (Loop E a)) in
-        let moving : Moves calm (Loop E a) = part_moves calm t g ok d full rank (loop a) s v q V i.move in
-        let whole : Closes calm (Loop E a) (Loop E a) (room_in room a) m = closes calm t g ok d full rank room most low level_closes (loop a) s v o q m le V V
+        let moving : Moves calm (Loop E a) = part_moves calm t g ok d full rank (loop a) s v c.good V i.move in
+        let whole : Closes calm (Loop E a) (Loop E a) (room_in room a) m = closes calm t g ok d full rank room most low level_closes (loop a) c
         (around_of s v V M i) (inl refl) in
-        let once : (j : ℕ) → KeepsPlace calm (R j) (inside room) m → KeepsPlace calm (R (suc j)) (room_in room a) m =
-        λ j n. keeps a w true o'.0 k.0 m le (Loop E a) (R j)
-        (record {
+        let near : (j : ℕ) → Near w true (Loop E a) (R j) = λ j. record {
           move = moving;
-          shorts = λ _. loop_fits calm (brief calm t g ok d full) (has calm t g ok d full) E (has_fits calm t g ok d full) a k.1;
+          shorts = λ _. loop_fits calm (brief calm t g ok d full) (has calm t g ok d full) E (has_fits calm t g ok d full) a k.calls;
           place_moves = rounds_move calm t g ok d full rank D level_move a
-              (λ N c. places_move calm t g ok d full rank D level_move a w true k.0 (Loop E a) N moving c) j;
+              (λ N c. places_move calm t g ok d full rank D level_move a w true k.round.good (Loop E a) N moving c) j;
           is_tree = rounds_tree a j;
-        }) (inr (guarded_linear a o'.1, (λ x h front z rest c. whole x h front z rest (inl c)), n)) in
+        } in
+        let once : (j : ℕ) → KeepsPlace calm (R j) (inside room) m → KeepsPlace calm (R (suc j)) (room_in room a) m =
+        λ j n. keeps a k.round (near j) (inr (k.at_end, (λ x h front z rest c. whole x h front z rest (inl c)), n)) in
         closed_map calm (λ x h. R r.0 x h f) (λ x h. BeginsIn E D (loop a) V M x h f) (f ++ z ∷ []) m m (omega arith) (λ x h n. (r.0, n))
         (loop_keeps a m once r.0 x h f z y rest p r.1 e)
-    keeps again s v o q m le V M i u x h f z y rest p r e = elim u [
-      | inl c ↦ absurd cc
-      | inr c ↦ elim p [ inl n ↦ c.2 x h f z y rest n r e | inr n ↦ absurd (let b = n.1 in cc) ]
+    keeps again {s} {v} {m} {V} {M} c i u x h f z y rest p r e = elim u [
+      | inl q ↦ absurd cc
+      | inr q ↦ elim p [ inl n ↦ q.2 x h f z y rest n r e | inr n ↦ absurd (let b = n.1 in cc) ]
     ]
