@@ -1,0 +1,164 @@
+//! Cells of the stack, places in frames, and lists of cells.
+use crate::machines::{
+    Answer, Call, DONE, address, cells_of, fault, machine_of, machine_with, number, rows_hold,
+    truth, value,
+};
+use crate::tables::{DIGIT, DIGITS, table};
+use cell_value::{Kind, SetBits, Touch, Value};
+use eval_cells::{
+    assign, cell_out, copy_cells, frame_out, ordinal_at, read_cells, reference_out, result_at,
+    routine_out, set_at, write_cells,
+};
+use eval_machine::{
+    Halt, Machine, has_cell, make_frame, note, read_cell, remove_frame, write_cell,
+};
+use eval_values::string_of;
+use program_tables::Program;
+use std::alloc::Global;
+use std::test::Fail;
+
+/// A call on cells.
+#[derive(Clone, Copy, Debug)]
+enum OnCells {
+    Read(u32),
+    Has(u32),
+    Write(u32, Value),
+    /// The value of a variable of the type `digit`.
+    Digit(u32),
+    Set(u32),
+    /// The result of a function of the type `digit`.
+    DigitReturned(u32),
+    /// The number of a type, an address, and a value for it.
+    Assign(u32, u32, Value),
+    FrameOut(u32, u32),
+    CellOut(u32, u32, u32),
+    ReferenceOut(u32, u32, u32),
+    RoutineOut(u32, u32, u32),
+}
+
+impl Call for OnCells {
+    fn answer(
+        self,
+        alloc: Global,
+        program: &Program,
+        machine: &mut Machine,
+    ) -> Result<Answer, Halt> {
+        Ok(match self {
+            OnCells::Read(addr) => Answer::Value(read_cell(machine, addr)?),
+            OnCells::Has(addr) => Answer::Truth(has_cell(machine, addr)?),
+            OnCells::Write(addr, value) => {
+                write_cell(alloc, machine, addr, value)?;
+                Answer::Done
+            }
+            OnCells::Digit(addr) => Answer::Value(ordinal_at(machine, 1, 9, addr)?),
+            OnCells::Set(addr) => Answer::Value(set_at(machine, addr)?),
+            OnCells::DigitReturned(addr) => Answer::Value(result_at(machine, 1, 9, addr)?),
+            OnCells::Assign(of, addr, value) => {
+                assign(alloc, program, machine, program.type_row(of), addr, value)?;
+                Answer::Done
+            }
+            OnCells::FrameOut(levels, base) => Answer::Address(frame_out(machine, levels, base)?),
+            OnCells::CellOut(levels, base, place) => {
+                Answer::Address(cell_out(machine, levels, base, place)?)
+            }
+            OnCells::ReferenceOut(levels, base, place) => {
+                Answer::Address(reference_out(machine, levels, base, place)?)
+            }
+            OnCells::RoutineOut(levels, base, place) => {
+                let (routine, frame) = routine_out(machine, levels, base, place)?;
+                Answer::Routine(routine, frame)
+            }
+        })
+    }
+}
+
+/// The sets [1, 9] and [0, 9].
+const INSIDE: Value = Value::Bits(SetBits {
+    words: [0b10_0000_0010, 0, 0, 0],
+});
+
+const OUTSIDE: Value = Value::Bits(SetBits {
+    words: [0b10_0000_0001, 0, 0, 0],
+});
+
+/// A frame of four cells: the link, and variables of the types integer, `digit` and `digits`.
+#[test]
+fn cells_of_a_frame(rt: HostRuntime) -> Result<(), Fail> {
+    let alloc = rt.alloc();
+    let program = table(alloc)?;
+    let mut machine = machine_with(&rt, alloc, 4)?;
+    let rows = [
+        (OnCells::Read(0), value(Value::Frame(0))),
+        (OnCells::Read(1), value(Value::Undefined)),
+        (OnCells::Write(1, Value::Number(-3)), DONE),
+        (OnCells::Read(1), number(-3)),
+        (OnCells::Has(3), truth(true)),
+        // Above the frame there is no cell.
+        (OnCells::Read(4), fault(Kind::Undefined)),
+        // It is an error to use a variable without a value (6.5.1), and to end a function without one (6.6.2).
+        (OnCells::Digit(2), fault(Kind::Undefined)),
+        (OnCells::DigitReturned(2), fault(Kind::UndefinedResult)),
+        (OnCells::Set(3), fault(Kind::Undefined)),
+        // A value is to be one of the type of the variable that it goes to, and so are the members of a set (6.4.6).
+        (OnCells::Assign(DIGIT, 2, Value::Number(9)), DONE),
+        (
+            OnCells::Assign(DIGIT, 2, Value::Number(10)),
+            fault(Kind::OutOfRange),
+        ),
+        (OnCells::Digit(2), number(9)),
+        (OnCells::DigitReturned(2), number(9)),
+        (OnCells::Assign(DIGITS, 3, INSIDE), DONE),
+        (OnCells::Assign(DIGITS, 3, OUTSIDE), fault(Kind::OutOfRange)),
+        (OnCells::Set(3), value(INSIDE)),
+    ];
+    rows_hold(&rt, alloc, &program, &mut machine, &rows);
+    Ok(())
+}
+
+/// The frame at 0 has four cells. In the one at 4, which is of a routine inside, a variable parameter stands for the
+/// variable at 3, and a routine parameter for routine 2 of the outer frame.
+#[test]
+fn places_in_frames(rt: HostRuntime) -> Result<(), Fail> {
+    let alloc = rt.alloc();
+    let program = table(alloc)?;
+    let mut machine = machine_with(&rt, alloc, 4)?;
+    let parameters = [Value::Frame(0), Value::Place(3), Value::Routine(2, 0)];
+    let args = cells_of(alloc, &parameters)?;
+    assert_eq!(rt; make_frame(alloc, &mut machine, &args, 5), Ok(()));
+    let rows = [
+        (OnCells::FrameOut(1, 4), address(0)),
+        (OnCells::CellOut(0, 4, 2), address(6)),
+        (OnCells::CellOut(1, 4, 2), address(2)),
+        (OnCells::ReferenceOut(0, 4, 1), address(3)),
+        (OnCells::RoutineOut(0, 4, 2), Ok(Answer::Routine(2, 0))),
+        (OnCells::Write(8, Value::Nil), DONE),
+    ];
+    rows_hold(&rt, alloc, &program, &mut machine, &rows);
+    assert!(rt; machine.steps > 0);
+    assert_eq!(rt; note(&mut machine, Touch::Look(0)), Ok(()));
+    remove_frame(alloc, &mut machine, 4, 5)?;
+    let rows = [
+        (OnCells::Read(8), fault(Kind::Undefined)),
+        (OnCells::Read(3), value(Value::Undefined)),
+    ];
+    rows_hold(&rt, alloc, &program, &mut machine, &rows);
+    Ok(())
+}
+
+/// Arrays `a` at 1, of five chars, and `z` at 6, packed, of three: `pack(a, 2, z)` and `unpack(z, a, 3)` (6.6.5.4).
+#[test]
+fn arrays_of_chars(rt: HostRuntime) -> Result<(), Fail> {
+    let alloc = rt.alloc();
+    let mut machine = machine_with(&rt, alloc, 9)?;
+    let letters = string_of(alloc, b"abcde".as_slice())?;
+    assert_eq!(rt; write_cells(alloc, &mut machine, 1, &letters), Ok(()));
+    assert_eq!(rt; copy_cells(alloc, &mut machine, 2, 6, 3), Ok(()));
+    assert_eq!(rt; copy_cells(alloc, &mut machine, 6, 3, 3), Ok(()));
+    let held = read_cells(alloc, &mut machine, 1, 8).ok();
+    let want = string_of(alloc, b"abbcdbcd".as_slice())?;
+    assert_eq!(rt;
+        held.as_ref().map(|cells| cells.as_slice()),
+        Some(want.as_slice())
+    );
+    Ok(())
+}

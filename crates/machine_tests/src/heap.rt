@@ -1,0 +1,124 @@
+//! Variables of the heap, and pointers to them.
+use crate::machines::{
+    Answer, Call, DONE, address, fault, machine_with, number, rows_hold, truth, value,
+};
+use crate::tables::table;
+use cell_value::{Kind, Value, Which};
+use eval_heap::{dispose, make_variable, pointed_at, pointer_at, pointer_result_at};
+use eval_machine::{Halt, Machine, drop_block, has_cell, make_block, read_cell, write_cell};
+use program_tables::Program;
+use std::alloc::Global;
+use std::test::Fail;
+
+/// A call on the heap or on a pointer.
+#[derive(Clone, Copy, Debug)]
+enum OnHeap {
+    Read(u32),
+    Has(u32),
+    Write(u32, Value),
+    /// The cells of a type, and its number.
+    MakeBlock(u32, u32),
+    MakeVariable(u32, u32),
+    DropBlock(u32, u32),
+    Dispose(u32, Value),
+    Pointer(u32),
+    PointerReturned(u32),
+    Pointed(u32),
+}
+
+impl Call for OnHeap {
+    fn answer(
+        self,
+        alloc: Global,
+        _program: &Program,
+        machine: &mut Machine,
+    ) -> Result<Answer, Halt> {
+        Ok(match self {
+            OnHeap::Read(addr) => Answer::Value(read_cell(machine, addr)?),
+            OnHeap::Has(addr) => Answer::Truth(has_cell(machine, addr)?),
+            OnHeap::Write(addr, value) => {
+                write_cell(alloc, machine, addr, value)?;
+                Answer::Done
+            }
+            OnHeap::MakeBlock(cells, of) => Answer::Address(make_block(alloc, machine, cells, of)?),
+            OnHeap::MakeVariable(cells, of) => {
+                Answer::Value(make_variable(alloc, machine, cells, of)?)
+            }
+            OnHeap::DropBlock(addr, cells) => {
+                drop_block(alloc, machine, addr, cells)?;
+                Answer::Done
+            }
+            OnHeap::Dispose(cells, pointer) => {
+                dispose(alloc, machine, cells, pointer)?;
+                Answer::Done
+            }
+            OnHeap::Pointer(addr) => Answer::Value(pointer_at(machine, addr)?),
+            OnHeap::PointerReturned(addr) => Answer::Value(pointer_result_at(machine, addr)?),
+            OnHeap::Pointed(addr) => Answer::Address(pointed_at(machine, addr)?),
+        })
+    }
+}
+
+/// Where the heap begins.
+const FIRST: u32 = 524_288;
+
+/// Pointers at 1, 2 and 3: to a variable of three cells, nil, and without a value.
+#[test]
+fn pointers(rt: HostRuntime) -> Result<(), Fail> {
+    let alloc = rt.alloc();
+    let program = table(alloc)?;
+    let mut machine = machine_with(&rt, alloc, 4)?;
+    let rows = [
+        (OnHeap::MakeVariable(3, 20), value(Value::Heap(FIRST))),
+        (OnHeap::Write(1, Value::Heap(FIRST)), DONE),
+        (OnHeap::Write(2, Value::Nil), DONE),
+        (OnHeap::Pointer(1), value(Value::Heap(FIRST))),
+        (OnHeap::Pointer(2), value(Value::Nil)),
+        (OnHeap::Pointer(3), fault(Kind::Undefined)),
+        (OnHeap::PointerReturned(1), value(Value::Heap(FIRST))),
+        (OnHeap::PointerReturned(3), fault(Kind::UndefinedResult)),
+        (OnHeap::Pointed(1), address(FIRST)),
+        // It is an error to go on from nil (6.5.4).
+        (OnHeap::Pointed(2), fault(Kind::NilPointer)),
+        (OnHeap::Pointed(3), fault(Kind::Undefined)),
+    ];
+    rows_hold(&rt, alloc, &program, &mut machine, &rows);
+    Ok(())
+}
+
+/// Of a variable of three cells and one of a cell the first is disposed of (6.6.5.3).
+#[test]
+fn variables_disposed_of(rt: HostRuntime) -> Result<(), Fail> {
+    let alloc = rt.alloc();
+    let program = table(alloc)?;
+    let mut machine = machine_with(&rt, alloc, 1)?;
+    let rows = [
+        (OnHeap::MakeVariable(3, 20), value(Value::Heap(FIRST))),
+        (OnHeap::MakeBlock(1, 0), address(524_291)),
+        // A new variable has no value.
+        (OnHeap::Read(524_290), value(Value::Undefined)),
+        (OnHeap::Write(524_290, Value::Number(5)), DONE),
+        (OnHeap::Read(524_290), number(5)),
+        (OnHeap::Dispose(3, Value::Heap(FIRST)), DONE),
+        (OnHeap::Has(524_290), truth(false)),
+        (OnHeap::Read(524_290), fault(Kind::Disposed)),
+        (OnHeap::Write(524_290, Value::Nil), fault(Kind::Disposed)),
+        (
+            OnHeap::Dispose(3, Value::Heap(FIRST)),
+            fault(Kind::Disposed),
+        ),
+        (OnHeap::Dispose(3, Value::Nil), fault(Kind::NilPointer)),
+        // The other one is still there, and no address is given a second time.
+        (OnHeap::Read(524_291), value(Value::Undefined)),
+        (OnHeap::MakeBlock(2, 0), address(524_292)),
+        (OnHeap::DropBlock(524_292, 2), DONE),
+        (OnHeap::Has(524_292), truth(false)),
+        // The heap has 524,288 cells.
+        (
+            OnHeap::MakeBlock(524_283, 0),
+            Err(Halt::Limited(Which::Heap)),
+        ),
+    ];
+    rows_hold(&rt, alloc, &program, &mut machine, &rows);
+    Ok(())
+}

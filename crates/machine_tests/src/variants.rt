@@ -1,0 +1,112 @@
+//! A record with variants.
+use crate::machines::{Answer, Call, DONE, address, fault, machine_with, number, rows_hold, value};
+use crate::tables::{A, C, COLOUR, I, M, N, OUTER, T, table};
+use cell_value::{Kind, Value};
+use eval_machine::{Halt, Machine, read_cell, write_cell};
+use eval_variants::{activate, assign_to, field_at};
+use program_meaning::VariantPart;
+use program_tables::Program;
+use std::alloc::Global;
+use std::test::Fail;
+
+/// A call on a variable of the type `shape` at 1.
+#[derive(Clone, Copy, Debug)]
+enum OnShape {
+    Read(u32),
+    Write(u32, Value),
+    /// The number of a field.
+    Field(u32),
+    TargetField(u32),
+    /// A value for the tag field.
+    Tag(Value),
+    Activate(VariantPart, u32, Value),
+}
+
+impl Call for OnShape {
+    fn answer(
+        self,
+        alloc: Global,
+        program: &Program,
+        machine: &mut Machine,
+    ) -> Result<Answer, Halt> {
+        Ok(match self {
+            OnShape::Read(addr) => Answer::Value(read_cell(machine, addr)?),
+            OnShape::Write(addr, value) => {
+                write_cell(alloc, machine, addr, value)?;
+                Answer::Done
+            }
+            OnShape::Field(field) => {
+                let row = program.row(field);
+                Answer::Address(field_at(alloc, program, machine, false, 1, row)?)
+            }
+            OnShape::TargetField(field) => {
+                let row = program.row(field);
+                Answer::Address(field_at(alloc, program, machine, true, 1, row)?)
+            }
+            OnShape::Tag(tag) => {
+                let colour = program.type_row(COLOUR);
+                assign_to(alloc, program, machine, Some(OUTER), colour, 2, tag)?;
+                Answer::Done
+            }
+            OnShape::Activate(part, addr, tag) => {
+                activate(alloc, program, machine, part, addr, tag)?;
+                Answer::Done
+            }
+        })
+    }
+}
+
+/// The fields `a`, `c`, `i`, `t`, `m`, `n` of the variable are the cells at 1, 2, 3, 4, 6 and 7, and the tag of the inner
+/// variant part is the one at 5 (6.4.3.3, 6.5.3.3).
+#[test]
+fn fields_of_variants(rt: HostRuntime) -> Result<(), Fail> {
+    let alloc = rt.alloc();
+    let program = table(alloc)?;
+    let mut machine = machine_with(&rt, alloc, 8)?;
+    let rows = [
+        (OnShape::Field(A), address(1)),
+        (OnShape::Field(C), address(2)),
+        // A tag without a value chooses no variant.
+        (OnShape::TargetField(I), fault(Kind::InactiveVariant)),
+        // c := green
+        (OnShape::Tag(Value::Number(1)), DONE),
+        (OnShape::TargetField(I), fault(Kind::InactiveVariant)),
+        (OnShape::TargetField(T), address(4)),
+        (OnShape::Write(4, Value::Number(65)), DONE),
+        // Without a tag field it is the target access that makes a variant the active one.
+        (OnShape::Field(M), fault(Kind::InactiveVariant)),
+        (OnShape::TargetField(M), address(6)),
+        (OnShape::Write(6, Value::Number(8)), DONE),
+        (OnShape::Field(M), address(6)),
+        (OnShape::TargetField(N), address(7)),
+        (OnShape::Read(6), value(Value::Undefined)),
+    ];
+    rows_hold(&rt, alloc, &program, &mut machine, &rows);
+    Ok(())
+}
+
+/// The same variable: what becomes of the fields of a variant.
+#[test]
+fn variants_that_change(rt: HostRuntime) -> Result<(), Fail> {
+    let alloc = rt.alloc();
+    let program = table(alloc)?;
+    let mut machine = machine_with(&rt, alloc, 8)?;
+    let rows = [
+        // c := green; t := 'A'
+        (OnShape::Activate(OUTER, 2, Value::Number(1)), DONE),
+        (OnShape::Write(4, Value::Number(65)), DONE),
+        // c := blue, which chooses the variant of green
+        (OnShape::Tag(Value::Number(2)), DONE),
+        (OnShape::Read(4), number(65)),
+        // There is no fourth colour.
+        (OnShape::Tag(Value::Number(3)), fault(Kind::OutOfRange)),
+        (OnShape::Read(4), number(65)),
+        // c := red
+        (OnShape::Tag(Value::Number(0)), DONE),
+        (OnShape::Read(4), value(Value::Undefined)),
+        (OnShape::Field(T), fault(Kind::InactiveVariant)),
+        (OnShape::Field(I), address(3)),
+    ];
+    rows_hold(&rt, alloc, &program, &mut machine, &rows);
+    Ok(())
+}
