@@ -1,25 +1,24 @@
 //! Cells of the stack, places in frames, and lists of cells.
+ghost use Rattle.eval_machine.specs.Machines.{IsReady};
+
 use crate::machines::{
-    Answer, Call, DONE, address, cells_of, fault, machine_of, machine_with, number, rows_hold,
-    truth, value,
+    Answer, Call, DONE, address, fault, machine_with, number, rows_hold, truth, value,
 };
-use crate::tables::{DIGIT, DIGITS, table};
+use crate::tables::{DIGIT, DIGITS};
 use cell_value::{Kind, SetBits, Touch, Value};
 use eval_cells::{
     assign, cell_out, copy_cells, frame_out, ordinal_at, read_cells, reference_out, result_at,
     routine_out, set_at, write_cells,
 };
-use eval_machine::{
-    Halt, Machine, has_cell, make_frame, note, read_cell, remove_frame, write_cell,
-};
+use eval_machine::{Halt, Machine, has_cell, note, read_cell, remove_frame, write_cell};
 use eval_values::string_of;
 use program_tables::Program;
 use std::alloc::Global;
 use std::test::Fail;
 
 /// A call on cells.
-#[derive(Clone, Copy, Debug)]
-enum OnCells {
+#[derive(Clone, Copy)]
+enum OnCells<'a> {
     Read(u32),
     Has(u32),
     Write(u32, Value),
@@ -34,9 +33,41 @@ enum OnCells {
     CellOut(u32, u32, u32),
     ReferenceOut(u32, u32, u32),
     RoutineOut(u32, u32, u32),
+    /// Whence, whereto, and how many cells.
+    Copy(u32, u32, u32),
+    WriteLetters(u32, &'a [u8]),
+    /// Whether the cells from an address on are those of a string.
+    HasLetters(u32, &'a [u8]),
 }
 
-impl Call for OnCells {
+fn write_letters(
+    alloc: Global,
+    machine: &mut Machine,
+    addr: u32,
+    letters: &[u8],
+) -> Result<(), Halt>
+    requires ready { IsReady machine.old }
+    ensures ready { IsReady machine.new }
+{
+    let cells = string_of(alloc, letters)?;
+    write_cells(alloc, machine, addr, &cells)
+}
+
+fn has_letters(
+    alloc: Global,
+    machine: &mut Machine,
+    addr: u32,
+    letters: &[u8],
+) -> Result<bool, Halt>
+    requires ready { IsReady machine.old }
+    ensures ready { IsReady machine.new }
+{
+    let want = string_of(alloc, letters)?;
+    let held = read_cells(alloc, machine, addr, want.len())?;
+    Ok(held.as_slice() == want.as_slice())
+}
+
+impl<'a> Call for OnCells<'a> {
     fn answer(
         self,
         alloc: Global,
@@ -68,6 +99,17 @@ impl Call for OnCells {
                 let (routine, frame) = routine_out(machine, levels, base, place)?;
                 Answer::Routine(routine, frame)
             }
+            OnCells::Copy(from, to, cells) => {
+                copy_cells(alloc, machine, from, to, cells)?;
+                Answer::Done
+            }
+            OnCells::WriteLetters(addr, letters) => {
+                write_letters(alloc, machine, addr, letters)?;
+                Answer::Done
+            }
+            OnCells::HasLetters(addr, letters) => {
+                Answer::Truth(has_letters(alloc, machine, addr, letters)?)
+            }
         })
     }
 }
@@ -84,9 +126,6 @@ const OUTSIDE: Value = Value::Bits(SetBits {
 /// A frame of four cells: the link, and variables of the types integer, `digit` and `digits`.
 #[test]
 fn cells_of_a_frame(rt: HostRuntime) -> Result<(), Fail> {
-    let alloc = rt.alloc();
-    let program = table(alloc)?;
-    let mut machine = machine_with(&rt, alloc, 4)?;
     let rows = [
         (OnCells::Read(0), value(Value::Frame(0))),
         (OnCells::Read(1), value(Value::Undefined)),
@@ -111,54 +150,51 @@ fn cells_of_a_frame(rt: HostRuntime) -> Result<(), Fail> {
         (OnCells::Assign(DIGITS, 3, OUTSIDE), fault(Kind::OutOfRange)),
         (OnCells::Set(3), value(INSIDE)),
     ];
-    rows_hold(&rt, alloc, &program, &mut machine, &rows);
+    rows_hold(&rt, rt.alloc(), b"".as_slice(), 4, &rows)?;
     Ok(())
 }
 
-/// The frame at 0 has four cells. In the one at 4, which is of a routine inside, a variable parameter stands for the
-/// variable at 3, and a routine parameter for routine 2 of the outer frame.
+/// Frames at 0 and at 4. The second one is of a routine inside: its link leads to the first one, its variable parameter
+/// stands for the variable at 3, and its routine parameter for routine 2 of the first frame.
 #[test]
 fn places_in_frames(rt: HostRuntime) -> Result<(), Fail> {
-    let alloc = rt.alloc();
-    let program = table(alloc)?;
-    let mut machine = machine_with(&rt, alloc, 4)?;
-    let parameters = [Value::Frame(0), Value::Place(3), Value::Routine(2, 0)];
-    let args = cells_of(alloc, &parameters)?;
-    assert_eq!(rt; make_frame(alloc, &mut machine, &args, 5), Ok(()));
     let rows = [
+        (OnCells::Write(4, Value::Frame(0)), DONE),
+        (OnCells::Write(5, Value::Place(3)), DONE),
+        (OnCells::Write(6, Value::Routine(2, 0)), DONE),
         (OnCells::FrameOut(1, 4), address(0)),
         (OnCells::CellOut(0, 4, 2), address(6)),
         (OnCells::CellOut(1, 4, 2), address(2)),
         (OnCells::ReferenceOut(0, 4, 1), address(3)),
         (OnCells::RoutineOut(0, 4, 2), Ok(Answer::Routine(2, 0))),
-        (OnCells::Write(8, Value::Nil), DONE),
     ];
-    rows_hold(&rt, alloc, &program, &mut machine, &rows);
-    assert!(rt; machine.steps > 0);
-    assert_eq!(rt; note(&mut machine, Touch::Look(0)), Ok(()));
-    remove_frame(alloc, &mut machine, 4, 5)?;
-    let rows = [
-        (OnCells::Read(8), fault(Kind::Undefined)),
-        (OnCells::Read(3), value(Value::Undefined)),
-    ];
-    rows_hold(&rt, alloc, &program, &mut machine, &rows);
+    rows_hold(&rt, rt.alloc(), b"".as_slice(), 9, &rows)?;
     Ok(())
 }
 
 /// Arrays `a` at 1, of five chars, and `z` at 6, packed, of three: `pack(a, 2, z)` and `unpack(z, a, 3)` (6.6.5.4).
 #[test]
 fn arrays_of_chars(rt: HostRuntime) -> Result<(), Fail> {
-    let alloc = rt.alloc();
-    let mut machine = machine_with(&rt, alloc, 9)?;
-    let letters = string_of(alloc, b"abcde".as_slice())?;
-    assert_eq!(rt; write_cells(alloc, &mut machine, 1, &letters), Ok(()));
-    assert_eq!(rt; copy_cells(alloc, &mut machine, 2, 6, 3), Ok(()));
-    assert_eq!(rt; copy_cells(alloc, &mut machine, 6, 3, 3), Ok(()));
-    let held = read_cells(alloc, &mut machine, 1, 8).ok();
-    let want = string_of(alloc, b"abbcdbcd".as_slice())?;
+    let rows = [
+        (OnCells::WriteLetters(1, b"abcde".as_slice()), DONE),
+        (OnCells::Copy(2, 6, 3), DONE),
+        (OnCells::HasLetters(1, b"abcdebcd".as_slice()), truth(true)),
+        (OnCells::Copy(6, 3, 3), DONE),
+        (OnCells::HasLetters(1, b"abbcdbcd".as_slice()), truth(true)),
+    ];
+    rows_hold(&rt, rt.alloc(), b"".as_slice(), 9, &rows)?;
+    Ok(())
+}
+
+#[test]
+fn a_frame_removed(rt: HostRuntime) -> Result<(), Fail> {
+    let mut machine = machine_with(&rt, rt.alloc(), b"".as_slice(), 4)?;
+    assert!(rt; machine.steps > 0);
+    assert_eq!(rt; note(&mut machine, Touch::Look(0)), Ok(()));
+    remove_frame(rt.alloc(), &mut machine, 0, 4)?;
     assert_eq!(rt;
-        held.as_ref().map(|cells| cells.as_slice()),
-        Some(want.as_slice())
+        read_cell(&mut machine, 1),
+        Err(Halt::Fault(Kind::Undefined))
     );
     Ok(())
 }

@@ -1,8 +1,5 @@
 //! Variables of the heap, and pointers to them.
-use crate::machines::{
-    Answer, Call, DONE, address, fault, machine_with, number, rows_hold, truth, value,
-};
-use crate::tables::table;
+use crate::machines::{Answer, Call, DONE, address, fault, number, rows_hold, truth, value};
 use cell_value::{Kind, Value, Which};
 use eval_heap::{dispose, make_variable, pointed_at, pointer_at, pointer_result_at};
 use eval_machine::{Halt, Machine, drop_block, has_cell, make_block, read_cell, write_cell};
@@ -11,7 +8,7 @@ use std::alloc::Global;
 use std::test::Fail;
 
 /// A call on the heap or on a pointer.
-#[derive(Clone, Copy, Debug)]
+#[derive(Clone, Copy)]
 enum OnHeap {
     Read(u32),
     Has(u32),
@@ -59,52 +56,43 @@ impl Call for OnHeap {
     }
 }
 
-/// Where the heap begins.
-const FIRST: u32 = 524_288;
-
-/// Pointers at 1, 2 and 3: to a variable of three cells, nil, and without a value.
+/// The heap begins at 524,288. Pointers at 1, 2 and 3: to a variable of three cells, nil, and without a value.
 #[test]
 fn pointers(rt: HostRuntime) -> Result<(), Fail> {
-    let alloc = rt.alloc();
-    let program = table(alloc)?;
-    let mut machine = machine_with(&rt, alloc, 4)?;
     let rows = [
-        (OnHeap::MakeVariable(3, 20), value(Value::Heap(FIRST))),
-        (OnHeap::Write(1, Value::Heap(FIRST)), DONE),
+        (OnHeap::MakeVariable(3, 20), value(Value::Heap(524_288))),
+        (OnHeap::Write(1, Value::Heap(524_288)), DONE),
         (OnHeap::Write(2, Value::Nil), DONE),
-        (OnHeap::Pointer(1), value(Value::Heap(FIRST))),
+        (OnHeap::Pointer(1), value(Value::Heap(524_288))),
         (OnHeap::Pointer(2), value(Value::Nil)),
         (OnHeap::Pointer(3), fault(Kind::Undefined)),
-        (OnHeap::PointerReturned(1), value(Value::Heap(FIRST))),
+        (OnHeap::PointerReturned(1), value(Value::Heap(524_288))),
         (OnHeap::PointerReturned(3), fault(Kind::UndefinedResult)),
-        (OnHeap::Pointed(1), address(FIRST)),
+        (OnHeap::Pointed(1), address(524_288)),
         // It is an error to go on from nil (6.5.4).
         (OnHeap::Pointed(2), fault(Kind::NilPointer)),
         (OnHeap::Pointed(3), fault(Kind::Undefined)),
     ];
-    rows_hold(&rt, alloc, &program, &mut machine, &rows);
+    rows_hold(&rt, rt.alloc(), b"".as_slice(), 4, &rows)?;
     Ok(())
 }
 
 /// Of a variable of three cells and one of a cell the first is disposed of (6.6.5.3).
 #[test]
 fn variables_disposed_of(rt: HostRuntime) -> Result<(), Fail> {
-    let alloc = rt.alloc();
-    let program = table(alloc)?;
-    let mut machine = machine_with(&rt, alloc, 1)?;
     let rows = [
-        (OnHeap::MakeVariable(3, 20), value(Value::Heap(FIRST))),
+        (OnHeap::MakeVariable(3, 20), value(Value::Heap(524_288))),
         (OnHeap::MakeBlock(1, 0), address(524_291)),
         // A new variable has no value.
         (OnHeap::Read(524_290), value(Value::Undefined)),
         (OnHeap::Write(524_290, Value::Number(5)), DONE),
         (OnHeap::Read(524_290), number(5)),
-        (OnHeap::Dispose(3, Value::Heap(FIRST)), DONE),
+        (OnHeap::Dispose(3, Value::Heap(524_288)), DONE),
         (OnHeap::Has(524_290), truth(false)),
         (OnHeap::Read(524_290), fault(Kind::Disposed)),
         (OnHeap::Write(524_290, Value::Nil), fault(Kind::Disposed)),
         (
-            OnHeap::Dispose(3, Value::Heap(FIRST)),
+            OnHeap::Dispose(3, Value::Heap(524_288)),
             fault(Kind::Disposed),
         ),
         (OnHeap::Dispose(3, Value::Nil), fault(Kind::NilPointer)),
@@ -119,6 +107,6 @@ fn variables_disposed_of(rt: HostRuntime) -> Result<(), Fail> {
             Err(Halt::Limited(Which::Heap)),
         ),
     ];
-    rows_hold(&rt, alloc, &program, &mut machine, &rows);
+    rows_hold(&rt, rt.alloc(), b"".as_slice(), 1, &rows)?;
     Ok(())
 }

@@ -2,14 +2,14 @@
 ghost use Rattle.std.specs.Prelude.{◌≤◌, IfOk};
 ghost use Rattle.eval_machine.specs.Machines.{IsReady};
 
+use crate::tables::table;
 use cell_value::{Cells, Items, Kind, Memory, Value};
 use edge_ports::Bytes;
 use effect_log::Log;
 use eval_machine::{Halt, Machine, make_frame};
 use persistent_store::Store;
 use program_tables::Program;
-use std::alloc::Global;
-use std::fmt::Debug;
+use std::alloc::{AllocError, Global};
 use std::process::Abort;
 
 /// A machine without cells whose input is a text, with so many steps.
@@ -46,11 +46,16 @@ fn items_of(alloc: Global, text: &[u8]) -> Result<Items, Memory> {
     Ok(items)
 }
 
-/// A machine with steps and one frame of so many cells, of which the first is the link.
-pub fn machine_with(rt: &impl Abort, alloc: Global, cells: u32) -> Result<Machine, Memory>
+/// A machine with this input and a frame of so many cells, of which the first is the link.
+pub fn machine_with(
+    rt: &impl Abort,
+    alloc: Global,
+    input: &[u8],
+    cells: u32,
+) -> Result<Machine, Memory>
     ensures ready { IfOk result IsReady }
 {
-    let mut machine = machine_of(alloc, b"".as_slice(), 1_000)?;
+    let mut machine = machine_of(alloc, input, 1_000)?;
     let link = cells_of(alloc, &[Value::Frame(0)])?;
     assert_eq!(rt; make_frame(alloc, &mut machine, &link, cells), Ok(()));
     Ok(machine)
@@ -101,7 +106,7 @@ pub fn fault(kind: Kind) -> Result<Answer, Halt> {
 }
 
 /// A call on a machine, over the tables of a program.
-pub trait Call: Copy + Debug {
+pub trait Call: Copy {
     fn answer(self, alloc: Global, program: &Program, machine: &mut Machine) -> Result<Answer, Halt>
         requires ready { IsReady machine.old }
         ensures ready { IsReady machine.new };
@@ -110,8 +115,22 @@ pub trait Call: Copy + Debug {
 /// A call, and what it is to answer.
 pub type Row<C> = (C, Result<Answer, Halt>);
 
-/// Does the calls one after the other, and compares what they answer.
+/// Does the calls one after the other on a machine with this input and a frame of so many cells, and compares what they
+/// answer.
 pub fn rows_hold<C: Call>(
+    rt: &impl Abort,
+    alloc: Global,
+    input: &[u8],
+    cells: u32,
+    rows: &[Row<C>],
+) -> Result<(), AllocError> {
+    let program = table(alloc)?;
+    let mut machine = machine_with(rt, alloc, input, cells)?;
+    answers_hold(rt, alloc, &program, &mut machine, rows);
+    Ok(())
+}
+
+fn answers_hold<C: Call>(
     rt: &impl Abort,
     alloc: Global,
     program: &Program,
@@ -119,10 +138,9 @@ pub fn rows_hold<C: Call>(
     rows: &[Row<C>],
 )
     requires ready { IsReady machine.old }
-    ensures ready { IsReady machine.new }
 {
-    'rows: for (call, want) in rows {
+    'rows: for (number, (call, want)) in rows.iter().enumerate() {
         let answer = call.answer(alloc, program, machine);
-        assert_eq!(rt; answer, *want, "{call:?}");
+        assert_eq!(rt; answer, *want, "row {number}");
     }
 }

@@ -1,8 +1,8 @@
 //! Reading of the input, and writing to the output.
 ghost use Rattle.eval_machine.specs.Machines.{IsReady};
+ghost use Rattle.eval_machine.specs.Machines.{IsReady};
 
 use crate::machines::{Answer, Call, fault, machine_of, number, rows_hold, truth};
-use crate::tables::table;
 use cell_value::{Kind, Memory, Value};
 use eval_machine::{Halt, Machine};
 use eval_textfiles::{
@@ -18,7 +18,7 @@ use std::process::Abort;
 use std::test::Fail;
 
 /// A call on the input.
-#[derive(Clone, Copy, Debug)]
+#[derive(Clone, Copy)]
 enum OnInput {
     Eof,
     Eoln,
@@ -63,9 +63,7 @@ impl Call for OnInput {
 /// Integers and chars up to the end (6.6.6.5, 6.9.1, 6.9.2).
 #[test]
 fn input_to_its_end(rt: HostRuntime) -> Result<(), Fail> {
-    let alloc = rt.alloc();
-    let program = table(alloc)?;
-    let mut machine = machine_of(alloc, b"  42-7 x\n+003\n2147483648 y\n".as_slice(), 1_000)?;
+    let input = b"  42-7 x\n+003\n2147483648 y\n".as_slice();
     let rows = [
         // An integer goes up to the first char that is none of its own, and blanks before it are skipped.
         (OnInput::Integer, number(42)),
@@ -88,16 +86,16 @@ fn input_to_its_end(rt: HostRuntime) -> Result<(), Fail> {
         (OnInput::Char, fault(Kind::PastEnd)),
         (OnInput::Integer, fault(Kind::PastEnd)),
     ];
-    rows_hold(&rt, alloc, &program, &mut machine, &rows);
+    rows_hold(&rt, rt.alloc(), input, 1, &rows)?;
     Ok(())
 }
 
 /// What is written.
-#[derive(Clone, Copy, Debug)]
+#[derive(Clone, Copy)]
 enum Written<'a> {
     /// A value of a type, in a width if there is one.
-    Scalar(u32, i64, Option<i64>),
-    Text(&'a [u8], Option<i64>),
+    Scalar(u32, i64, Option<Value>),
+    Text(&'a [u8], Option<Value>),
     Line,
     Page,
 }
@@ -108,11 +106,11 @@ fn write(alloc: Global, machine: &mut Machine, written: Written) -> Result<(), H
 {
     match written {
         Written::Scalar(of, number, width) => {
-            write_scalar(machine, of, Value::Number(number), width.map(Value::Number))
+            write_scalar(machine, of, Value::Number(number), width)
         }
         Written::Text(text, width) => {
             let cells = string_of(alloc, text)?;
-            write_string(machine, &cells, width.map(Value::Number))
+            write_string(machine, &cells, width)
         }
         Written::Line => end_line(machine),
         Written::Page => end_page(machine),
@@ -124,39 +122,43 @@ type Row<'a> = (Written<'a>, Result<(), Halt>, &'a [u8]);
 
 /// Writes each on a machine of its own, with eight steps.
 fn texts_hold(rt: &impl Abort, alloc: Global, rows: &[Row]) -> Result<(), Memory> {
-    for (written, want, bytes) in rows {
+    for (number, (written, want, bytes)) in rows.iter().enumerate() {
         let mut machine = machine_of(alloc, b"".as_slice(), 8)?;
         let answer = write(alloc, &mut machine, *written);
-        assert_eq!(rt; answer, *want, "{written:?}");
-        assert_eq!(rt; machine.output.as_slice(), *bytes, "{written:?}");
+        assert_eq!(rt; answer, *want, "row {number}");
+        assert_eq!(rt; machine.output.as_slice(), *bytes, "row {number}");
     }
     Ok(())
+}
+
+fn width(chars: i64) -> Option<Value> {
+    Some(Value::Number(chars))
 }
 
 /// The forms of 6.9.3 to 6.9.5. Without a width there is the text alone.
 #[test]
 fn texts_in_widths(rt: HostRuntime) -> Result<(), Fail> {
     let rows: [Row; 14] = [
-        (Written::Scalar(INTEGER, -5, Some(4)), Ok(()), b"  -5"),
+        (Written::Scalar(INTEGER, -5, width(4)), Ok(()), b"  -5"),
         // A width that is less cuts no integer, ...
-        (Written::Scalar(INTEGER, 123, Some(1)), Ok(()), b"123"),
+        (Written::Scalar(INTEGER, 123, width(1)), Ok(()), b"123"),
         (Written::Scalar(INTEGER, 0, None), Ok(()), b"0"),
         (
-            Written::Scalar(INTEGER, 7, Some(0)),
+            Written::Scalar(INTEGER, 7, width(0)),
             Err(Halt::Fault(Kind::BadWidth)),
             b"",
         ),
-        (Written::Scalar(CHAR, 65, Some(3)), Ok(()), b"  A"),
-        (Written::Scalar(BOOLEAN, 1, Some(6)), Ok(()), b"  true"),
+        (Written::Scalar(CHAR, 65, width(3)), Ok(()), b"  A"),
+        (Written::Scalar(BOOLEAN, 1, width(6)), Ok(()), b"  true"),
         // ... but the word for a value of Boolean, and a string.
-        (Written::Scalar(BOOLEAN, 0, Some(3)), Ok(()), b"fal"),
-        (Written::Text(b"abc", Some(2)), Ok(()), b"ab"),
-        (Written::Text(b"abc", Some(5)), Ok(()), b"  abc"),
+        (Written::Scalar(BOOLEAN, 0, width(3)), Ok(()), b"fal"),
+        (Written::Text(b"abc", width(2)), Ok(()), b"ab"),
+        (Written::Text(b"abc", width(5)), Ok(()), b"  abc"),
         (Written::Text(b"abc", None), Ok(()), b"abc"),
         // Each byte takes a step.
-        (Written::Text(b"abc", Some(8)), Ok(()), b"     abc"),
+        (Written::Text(b"abc", width(8)), Ok(()), b"     abc"),
         (
-            Written::Text(b"abc", Some(9)),
+            Written::Text(b"abc", width(9)),
             Err(Halt::OutOfSteps),
             b"      ab",
         ),

@@ -1,6 +1,6 @@
 //! A record with variants.
-use crate::machines::{Answer, Call, DONE, address, fault, machine_with, number, rows_hold, value};
-use crate::tables::{A, C, COLOUR, I, M, N, OUTER, T, table};
+use crate::machines::{Answer, Call, DONE, address, fault, number, rows_hold, value};
+use crate::tables::{A, C, COLOUR, I, M, N, OUTER, T};
 use cell_value::{Kind, Value};
 use eval_machine::{Halt, Machine, read_cell, write_cell};
 use eval_variants::{activate, assign_to, field_at};
@@ -10,7 +10,7 @@ use std::alloc::Global;
 use std::test::Fail;
 
 /// A call on a variable of the type `shape` at 1.
-#[derive(Clone, Copy, Debug)]
+#[derive(Clone, Copy)]
 enum OnShape {
     Read(u32),
     Write(u32, Value),
@@ -56,13 +56,10 @@ impl Call for OnShape {
     }
 }
 
-/// The fields `a`, `c`, `i`, `t`, `m`, `n` of the variable are the cells at 1, 2, 3, 4, 6 and 7, and the tag of the inner
-/// variant part is the one at 5 (6.4.3.3, 6.5.3.3).
+/// The fields `a`, `c`, `i`, `t`, `m`, `n` of the variable are the cells at 1, 2, 3, 4, 6 and 7, and the tag of the
+/// inner variant part is the one at 5 (6.4.3.3, 6.5.3.3).
 #[test]
 fn fields_of_variants(rt: HostRuntime) -> Result<(), Fail> {
-    let alloc = rt.alloc();
-    let program = table(alloc)?;
-    let mut machine = machine_with(&rt, alloc, 8)?;
     let rows = [
         (OnShape::Field(A), address(1)),
         (OnShape::Field(C), address(2)),
@@ -81,16 +78,13 @@ fn fields_of_variants(rt: HostRuntime) -> Result<(), Fail> {
         (OnShape::TargetField(N), address(7)),
         (OnShape::Read(6), value(Value::Undefined)),
     ];
-    rows_hold(&rt, alloc, &program, &mut machine, &rows);
+    rows_hold(&rt, rt.alloc(), b"".as_slice(), 8, &rows)?;
     Ok(())
 }
 
 /// The same variable: what becomes of the fields of a variant.
 #[test]
 fn variants_that_change(rt: HostRuntime) -> Result<(), Fail> {
-    let alloc = rt.alloc();
-    let program = table(alloc)?;
-    let mut machine = machine_with(&rt, alloc, 8)?;
     let rows = [
         // c := green; t := 'A'
         (OnShape::Activate(OUTER, 2, Value::Number(1)), DONE),
@@ -107,6 +101,6 @@ fn variants_that_change(rt: HostRuntime) -> Result<(), Fail> {
         (OnShape::Field(T), fault(Kind::InactiveVariant)),
         (OnShape::Field(I), address(3)),
     ];
-    rows_hold(&rt, alloc, &program, &mut machine, &rows);
+    rows_hold(&rt, rt.alloc(), b"".as_slice(), 8, &rows)?;
     Ok(())
 }

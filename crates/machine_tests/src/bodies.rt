@@ -1,0 +1,162 @@
+//! A body: its run from stop to stop.
+ghost use Rattle.eval_machine.specs.Machines.{IsReady};
+
+use crate::machines::machine_with;
+use cell_value::{ArithOp, Memory, Value, WayOut};
+use eval_machine::Machine;
+use eval_tasks::{Body, Stop};
+use evaluator::go_on;
+use program_tables::rows::{AccessRow, ExpressionRow, ItemRow, Row, StatementRow, TypeRow};
+use program_tables::{Program, Routine};
+use std::alloc::{AllocError, Global};
+use std::process::Abort;
+use std::test::Fail;
+
+/// The number at which no row stands, so that a list ends there.
+const END: u32 = 18;
+
+fn element(item: u32, next: u32) -> Row {
+    Row::Item(ItemRow::Element { item, next })
+}
+
+fn constant(value: i32) -> Row {
+    Row::Expression(ExpressionRow::Constant { value })
+}
+
+/// The integer variable at 1 of the frame.
+fn variable() -> Row {
+    Row::Access(AccessRow::Variable {
+        place: 1,
+        levels: 0,
+        of: 0,
+    })
+}
+
+/// `program p(output); var x: integer; begin x := 1 + 2; writeln(x) end.`, with the statements on lines 1 and 2, and
+/// some rows besides.
+fn program_of(alloc: Global) -> Result<Program, AllocError> {
+    let mut program = Program::new(alloc, 40, Vec::new(alloc))?;
+    let rows = [
+        (
+            0,
+            Row::Type(TypeRow::Ordinal {
+                least: -2_147_483_647,
+                greatest: 2_147_483_647,
+            }),
+        ),
+        (5, element(7, 12)),
+        (6, variable()),
+        (
+            7,
+            Row::Statement(StatementRow::Assign {
+                line: 1,
+                target: 6,
+                value: 9,
+                of: 0,
+            }),
+        ),
+        (8, constant(1)),
+        (
+            9,
+            Row::Expression(ExpressionRow::Arithmetic {
+                operator: ArithOp::Plus,
+                left: 8,
+                right: 10,
+            }),
+        ),
+        (10, constant(2)),
+        (12, element(13, END)),
+        (
+            13,
+            Row::Statement(StatementRow::Write {
+                ends_line: true,
+                line: 2,
+                actuals: 14,
+            }),
+        ),
+        (
+            14,
+            Row::Item(ItemRow::Written {
+                value: 15,
+                of: 0,
+                next: END,
+            }),
+        ),
+        (15, variable()),
+    ];
+    for (number, row) in rows {
+        program.put(number, row);
+    }
+    program.add_routine(Routine {
+        name: 0,
+        heading: 0,
+        level: 0,
+        cells: 2,
+        result: None,
+        statements: 5,
+        line: 1,
+    })?;
+    Ok(program)
+}
+
+/// What a body told at a stop.
+#[derive(Clone, Copy, Debug, PartialEq, Eq)]
+enum Told {
+    Line(u32),
+    Enter(u32),
+    Ended(WayOut, Option<Value>),
+}
+
+fn told_by(stop: Stop) -> Told {
+    match stop {
+        Stop::Line(line) => Told::Line(line),
+        Stop::Enter(routine, _) => Told::Enter(routine),
+        Stop::Ended(way, answer) => Told::Ended(way, answer),
+    }
+}
+
+/// Goes on to the next stop.
+fn next_told(
+    alloc: Global,
+    program: &Program,
+    body: &mut Body,
+    machine: &mut Machine,
+) -> Result<Told, Memory>
+    requires ready { IsReady machine.old }
+    ensures ready { IsReady machine.new }
+{
+    let stop = go_on(body, alloc, program, machine)?;
+    Ok(told_by(stop))
+}
+
+/// Goes on from stop to stop, and compares what each told.
+fn stops_hold(
+    rt: &impl Abort,
+    alloc: Global,
+    program: &Program,
+    machine: &mut Machine,
+    stops: &[Told],
+)
+    requires ready { IsReady machine.old }
+{
+    let mut body = Body::new(alloc, 0, 0);
+    'stops: for want in stops {
+        let told = next_told(alloc, program, &mut body, machine);
+        assert_eq!(rt; told, Ok(*want));
+    }
+}
+
+/// The program block, to its end.
+#[test]
+fn lines_of_a_block(rt: HostRuntime) -> Result<(), Fail> {
+    let program = program_of(rt.alloc())?;
+    let mut machine = machine_with(&rt, rt.alloc(), b"".as_slice(), 2)?;
+    let stops = [
+        Told::Line(1),
+        Told::Line(2),
+        Told::Ended(WayOut::Returned, None),
+    ];
+    stops_hold(&rt, rt.alloc(), &program, &mut machine, &stops);
+    assert_eq!(rt; machine.output.as_slice(), b"3\n".as_slice());
+    Ok(())
+}
