@@ -1,10 +1,10 @@
-//! A body: its run from stop to stop.
+//! A body: its run from stop to stop, and what waits in it.
 ghost use Rattle.eval_machine.specs.Machines.{IsReady};
 
-use crate::machines::machine_with;
-use cell_value::{ArithOp, Memory, Value, WayOut};
+use crate::machines::{cells_of, machine_with};
+use cell_value::{ArithOp, Cells, Memory, Value, WayOut};
 use eval_machine::Machine;
-use eval_tasks::{Body, Stop};
+use eval_tasks::{Body, Now, Stop, Task, Turned};
 use evaluator::go_on;
 use program_tables::rows::{AccessRow, ExpressionRow, ItemRow, Row, StatementRow, TypeRow};
 use program_tables::{Program, Routine};
@@ -158,5 +158,25 @@ fn lines_of_a_block(rt: HostRuntime) -> Result<(), Fail> {
     ];
     stops_hold(&rt, rt.alloc(), &program, &mut machine, &stops);
     assert_eq!(rt; machine.output.as_slice(), b"3\n".as_slice());
+    Ok(())
+}
+
+/// Puts on what waits: a record, a task, a value under a task, and a list.
+fn wait_for_all(body: &mut Body, list: Cells) -> Turned {
+    body.home.records.enter(7)?;
+    body.wait(Task::Leave, Now::Carry(1))?;
+    body.hold(Value::Number(8), Task::Leave, Now::Carry(2))?;
+    body.give_cells(list)
+}
+
+#[test]
+fn what_waits(rt: HostRuntime) -> Result<(), Fail> {
+    let list = cells_of(rt.alloc(), &[Value::Number(9), Value::Nil])?;
+    let mut body = Body::new(rt.alloc(), 0, 0);
+    assert!(rt; wait_for_all(&mut body, list).is_ok());
+    assert_eq!(rt; body.home.records.at(0), Some(7));
+    assert_eq!(rt; body.tasks.len(), 2);
+    assert_eq!(rt; body.take_value(), Value::Number(8));
+    assert_eq!(rt; body.take_list(rt.alloc()).len(), 2);
     Ok(())
 }

@@ -120,13 +120,20 @@ fn write(alloc: Global, machine: &mut Machine, written: Written) -> Result<(), H
 /// What is written, what the call answers, and the bytes that the output then has.
 type Row<'a> = (Written<'a>, Result<(), Halt>, &'a [u8]);
 
-/// Writes each on a machine of its own, with eight steps.
+/// Writes it on a machine with eight steps.
+fn text_holds(rt: &impl Abort, alloc: Global, number: usize, row: &Row) -> Result<(), Memory> {
+    let (written, want, bytes) = row;
+    let mut machine = machine_of(alloc, b"".as_slice(), 8)?;
+    let answer = write(alloc, &mut machine, *written);
+    assert_eq!(rt; answer, *want, "row {number}");
+    assert_eq!(rt; machine.output.as_slice(), *bytes, "row {number}");
+    Ok(())
+}
+
+/// Each on a machine of its own.
 fn texts_hold(rt: &impl Abort, alloc: Global, rows: &[Row]) -> Result<(), Memory> {
-    for (number, (written, want, bytes)) in rows.iter().enumerate() {
-        let mut machine = machine_of(alloc, b"".as_slice(), 8)?;
-        let answer = write(alloc, &mut machine, *written);
-        assert_eq!(rt; answer, *want, "row {number}");
-        assert_eq!(rt; machine.output.as_slice(), *bytes, "row {number}");
+    for (number, row) in rows.iter().enumerate() {
+        text_holds(rt, alloc, number, row)?;
     }
     Ok(())
 }
