@@ -1,7 +1,7 @@
 //! A body: its run from stop to stop, and what waits in it.
 ghost use Rattle.eval_machine.specs.Machines.{IsReady};
 
-use crate::machines::{cells_of, machine_with};
+use crate::machines::machine_with;
 use cell_value::{ArithOp, Cells, Memory, Value, WayOut};
 use eval_machine::Machine;
 use eval_tasks::{Body, Now, Stop, Task, Turned};
@@ -32,8 +32,7 @@ fn variable() -> Row {
     })
 }
 
-/// `program p(output); var x: integer; begin x := 1 + 2; writeln(x) end.`, with the statements on lines 1 and 2, and
-/// some rows besides.
+/// `program p(output); var x: integer; begin x := 1 + 2; writeln(x) end.`, with the statements on lines 1 and 2.
 fn program_of(alloc: Global) -> Result<Program, AllocError> {
     let mut program = Program::new(alloc, 40, Vec::new(alloc))?;
     let rows = [
@@ -162,21 +161,21 @@ fn lines_of_a_block(rt: HostRuntime) -> Result<(), Fail> {
 }
 
 /// Puts on what waits: a record, a task, a value under a task, and a list.
-fn wait_for_all(body: &mut Body, list: Cells) -> Turned {
+fn wait_for_all(alloc: Global, body: &mut Body) -> Turned {
     body.home.records.enter(7)?;
     body.wait(Task::Leave, Now::Carry(1))?;
     body.hold(Value::Number(8), Task::Leave, Now::Carry(2))?;
+    let mut list = Cells::new(alloc);
+    list.push(Value::Nil)?;
     body.give_cells(list)
 }
 
 #[test]
-fn what_waits(rt: HostRuntime) -> Result<(), Fail> {
-    let list = cells_of(rt.alloc(), &[Value::Number(9), Value::Nil])?;
+fn what_waits(rt: HostRuntime) {
     let mut body = Body::new(rt.alloc(), 0, 0);
-    assert!(rt; wait_for_all(&mut body, list).is_ok());
+    assert!(rt; wait_for_all(rt.alloc(), &mut body).is_ok());
     assert_eq!(rt; body.home.records.at(0), Some(7));
     assert_eq!(rt; body.tasks.len(), 2);
     assert_eq!(rt; body.take_value(), Value::Number(8));
-    assert_eq!(rt; body.take_list(rt.alloc()).len(), 2);
-    Ok(())
+    assert_eq!(rt; body.take_list(rt.alloc()).len(), 1);
 }

@@ -101,7 +101,7 @@ fn variables_disposed_of(rt: HostRuntime) -> Result<(), Fail> {
         (OnHeap::MakeBlock(2, 0), address(524_292)),
         (OnHeap::DropBlock(524_292, 2), DONE),
         (OnHeap::Has(524_292), truth(false)),
-        // The heap has 524,288 cells.
+        // Of the heap's 524,288 cells 524,282 were in no block yet.
         (
             OnHeap::MakeBlock(524_283, 0),
             Err(Halt::Limited(Which::Heap)),

@@ -31,7 +31,7 @@ pub fn machine_of(alloc: Global, input: &[u8], steps: u32) -> Result<Machine, Me
     })
 }
 
-/// The items of a text: 256 for each line end.
+/// The items of a text of at most 1,000 bytes: 256 for each line end.
 fn items_of(alloc: Global, text: &[u8]) -> Result<Items, Memory> {
     let mut items = Items::new(alloc);
     for byte in text {
@@ -56,20 +56,10 @@ pub fn machine_with(
     ensures ready { IfOk result IsReady }
 {
     let mut machine = machine_of(alloc, input, 1_000)?;
-    let link = cells_of(alloc, &[Value::Frame(0)])?;
+    let mut link = Cells::new(alloc);
+    link.push(Value::Frame(0))?;
     assert_eq!(rt; make_frame(alloc, &mut machine, &link, cells), Ok(()));
     Ok(machine)
-}
-
-/// A list of values.
-pub fn cells_of(alloc: Global, values: &[Value]) -> Result<Cells, Memory> {
-    let mut cells = Cells::new(alloc);
-    for value in values {
-        if cells.len() < 1_000 {
-            cells.push(*value)?;
-        }
-    }
-    Ok(cells)
 }
 
 /// What a call answers.
