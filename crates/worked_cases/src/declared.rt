@@ -1,8 +1,8 @@
 //! What the declarations of sources come to, and what the tables of declared programs say.
 
 use crate::escapes::unescaped;
-use crate::folder::Folder;
-use crate::sources::Judged;
+use crate::rows::{Judged, compare_lines, is_row};
+use crate::sources::SOURCE_BYTES;
 use anyhow::{Context, Result, bail, ensure};
 use check_steps::Def;
 use decl_checker::{Scopes, find, find_in};
@@ -10,179 +10,147 @@ use program_tables::Routine;
 use program_tables::rows::{Mode, NameRow, Row, TypeRow};
 use source_checker::{DeclarationFault, declare_source};
 use std::alloc::Global;
-use std::rt::Files;
-use std::str;
+use std::io::Write;
 
-/// The greatest length of a source, in bytes.
-pub(crate) const SOURCE_BYTES: usize = 1_048_576;
-
-/// `taken`, or what is wrong first.
-pub(crate) fn what_it_comes_to(alloc: Global, source: &[u8]) -> Result<String> {
+/// The tables of a source, or why it is refused.
+fn declared(alloc: Global, source: &[u8]) -> Result<Result<Scopes, DeclarationFault>> {
     ensure!(source.len() <= SOURCE_BYTES, "the source is too long");
-    match declare_source(alloc, source) {
-        Ok(scopes) => {
-            drop(scopes);
-            taken(alloc)
-        }
-        Err(fault) => fault_text(alloc, &fault),
-    }
+    Ok(declare_source(alloc, source))
 }
 
-fn taken(alloc: Global) -> Result<String> {
-    Ok("taken".to_string(alloc)?)
-}
-
-/// Why a source is refused.
-fn fault_text(alloc: Global, fault: &DeclarationFault) -> Result<String> {
-    match fault {
-        DeclarationFault::Rule { rule, line, byte } => {
-            Ok(format!(in alloc; "Rule {rule}, line {line}, byte {byte}")?)
+/// Appends `taken`, or what is wrong first.
+pub(crate) fn append_declared(alloc: Global, source: &[u8], text: &mut Vec<u8>) -> Result<()> {
+    match declared(alloc, source)?.err() {
+        None => write!(text, "taken")?,
+        Some(DeclarationFault::Rule { rule, line, byte }) => {
+            write!(text, "Rule {rule}, line {line}, byte {byte}")?;
         }
-        fault => Ok(format!(in alloc; "{fault}")?),
+        Some(fault) => write!(text, "{fault}")?,
     }
+    Ok(())
 }
 
 /// Tries each question of a file. A line `source: SOURCE` has the source of the questions after it, each a line
-/// `QUESTION: ANSWER`. Lines that are empty or begin with `#` are none.
-pub(crate) fn try_tables<R: Files + AllocGlobal>(
-    rt: &R,
-    folder: &mut Folder,
-    name: &str,
-) -> Result<Judged> {
-    let bytes = folder.read(rt, name)?;
-    let mut judged = Judged {
-        passed: 0,
-        failed: 0,
-        differences: Vec::new(rt.alloc()),
-    };
+/// `QUESTION: ANSWER`.
+pub(crate) fn try_tables(alloc: Global, text: &str, judged: &mut Judged) -> Result<()> {
     let mut scopes = None;
-    let mut number: u32 = 0;
-    for line in bytes.split(|byte| *byte == b'\n') {
-        number = number.saturating_add(1);
-        if !line.is_empty() && !line.starts_with(b"#") {
-            try_line(rt.alloc(), line, &mut scopes, &mut judged).context(format_args!(
-                "{name}, line {number}"
-            ))?;
+    for line in text.lines() {
+        if is_row(line) {
+            try_line(alloc, line, &mut scopes, judged).context(format_args!("{line}"))?;
         }
     }
-    Ok(judged)
+    Ok(())
 }
 
 /// Takes a source, or tries a question.
 fn try_line(
     alloc: Global,
-    line: &[u8],
+    line: &str,
     scopes: &mut Option<Scopes>,
     judged: &mut Judged,
 ) -> Result<()> {
-    let Ok(text) = str::from_utf8(line) else {
-        bail!("the line is no UTF-8 text");
-    };
-    let Some((question, wanted)) = text.split_once(": ") else {
+    let Some((question, answer)) = line.split_once(": ") else {
         bail!("a question, a colon, a blank and an answer are wanted");
     };
     if question == "source" {
-        *scopes = Some(declared(alloc, wanted)?);
+        *scopes = Some(declared(alloc, &unescaped(alloc, answer)?)??);
         return Ok(());
     }
-    let Some(scopes) = scopes else {
-        bail!("a question before the first source");
-    };
-    let got = answer(alloc, scopes, question)?;
-    if got.as_str() == wanted {
-        judged.passed = judged.passed.saturating_add(1);
-        return Ok(());
-    }
-    judged.failed = judged.failed.saturating_add(1);
-    let differs = format!(in alloc; "{text}\n  it is: {got}\n")?;
-    judged.differences.extend_from_slice(differs.as_bytes())?;
-    Ok(())
-}
-
-/// The tables of a source with escapes.
-fn declared(alloc: Global, text: &str) -> Result<Scopes> {
-    let source = unescaped(alloc, text)?;
-    ensure!(source.len() <= SOURCE_BYTES, "the source is too long");
-    match declare_source(alloc, &source) {
-        Ok(scopes) => Ok(scopes),
-        Err(_) => bail!("the source is refused"),
+    match scopes {
+        Some(scopes) => try_question(alloc, scopes, question, answer, judged),
+        None => bail!("a question before the first source"),
     }
 }
 
-/// The answer to a question about one number.
-fn answer_of_one(alloc: Global, scopes: &Scopes, word: &str, number: u32) -> Result<String> {
-    match word {
-        "region" => number_text(alloc, scopes.region(number)),
-        "type" => type_text(alloc, scopes.program().type_row(number)),
-        "name" => name_text(alloc, scopes.program().row(number)),
-        "size_of" => plain_text(alloc, scopes.size_of(number)),
-        "routine" => bytes_text(alloc, scopes.name(number)),
-        "frame" => plain_text(alloc, scopes.frame(number)),
-        "result" => result_text(alloc, scopes.program().routine(number)),
-        _ => bail!("no question: {word}"),
-    }
-}
-
-/// The answer to a question about a number and a name or a field.
-fn answer_of_two(
+/// Tries a question.
+fn try_question(
     alloc: Global,
+    scopes: &Scopes,
+    question: &str,
+    wanted: &str,
+    judged: &mut Judged,
+) -> Result<()> {
+    let mut differs = Vec::new(alloc);
+    compare_answer(alloc, scopes, question, wanted, &mut differs)?;
+    judged.count(question.as_bytes(), &differs)
+}
+
+/// Appends what differs, in full: nothing where a question has the answer that is wanted.
+fn compare_answer(
+    alloc: Global,
+    scopes: &Scopes,
+    question: &str,
+    wanted: &str,
+    differs: &mut Vec<u8>,
+) -> Result<()> {
+    let mut seen = Vec::new(alloc);
+    append_answer(scopes, question, &mut seen)?;
+    compare_lines(wanted.as_bytes(), &seen, differs)
+}
+
+/// Appends the answer to a question.
+fn append_answer(scopes: &Scopes, question: &str, text: &mut Vec<u8>) -> Result<()> {
+    let Some((word, rest)) = question.split_once(' ') else {
+        ensure!(question == "routines", "no question");
+        return append_number(scopes.routines(), text);
+    };
+    match rest.split_once(' ') {
+        Some((number, last)) => append_about_two(scopes, word, number.parse()?, last, text),
+        None => append_about_one(scopes, word, rest.parse()?, text),
+    }
+}
+
+/// Appends the answer to a question about one number.
+fn append_about_one(scopes: &Scopes, word: &str, number: u32, text: &mut Vec<u8>) -> Result<()> {
+    match word {
+        "region" => append_option(scopes.region(number), text),
+        "type" => append_type(scopes.program().type_row(number), text),
+        "name" => append_name(scopes.program().row(number), text),
+        "size_of" => append_number(scopes.size_of(number), text),
+        "routine" => Ok(text.extend_from_slice(scopes.name(number))?),
+        "frame" => append_number(scopes.frame(number), text),
+        "result" => append_result(scopes.program().routine(number), text),
+        _ => bail!("no question about one number"),
+    }
+}
+
+/// Appends the answer to a question about a number and a name or a field.
+fn append_about_two(
     scopes: &Scopes,
     word: &str,
     number: u32,
     last: &str,
-) -> Result<String> {
+    text: &mut Vec<u8>,
+) -> Result<()> {
     match word {
-        "find" => def_text(alloc, find(scopes, number, last.as_bytes())),
-        "find_in" => def_text(alloc, find_in(scopes, number, last.as_bytes())),
-        "offset_of" => plain_text(alloc, scopes.offset_of(number, last.parse()?)),
-        _ => bail!("no question: {word}"),
+        "find" => append_def(find(scopes, number, last.as_bytes()), text),
+        "find_in" => append_def(find_in(scopes, number, last.as_bytes()), text),
+        "offset_of" => append_number(scopes.offset_of(number, last.parse()?), text),
+        _ => bail!("no question about two"),
     }
 }
 
-/// The answer to a question, by its words.
-fn answer_of(alloc: Global, scopes: &Scopes, words: &[&str]) -> Result<String> {
-    match words {
-        ["routines"] => plain_text(alloc, scopes.routines()),
-        [word, number] => answer_of_one(alloc, scopes, word, number.parse()?),
-        [word, number, last] => answer_of_two(alloc, scopes, word, number.parse()?, last),
-        _ => bail!("no question of so many words"),
-    }
+fn append_number(number: u32, text: &mut Vec<u8>) -> Result<()> {
+    Ok(write!(text, "{number}")?)
 }
 
-/// The answer to a question.
-fn answer(alloc: Global, scopes: &Scopes, question: &str) -> Result<String> {
-    let words: Vec<&str> = question.split(' ').collect(alloc)?;
-    answer_of(alloc, scopes, words.as_slice())
-}
-
-fn plain_text(alloc: Global, number: u32) -> Result<String> {
-    Ok(format!(in alloc; "{number}")?)
-}
-
-fn number_text(alloc: Global, number: Option<u32>) -> Result<String> {
+fn append_option(number: Option<u32>, text: &mut Vec<u8>) -> Result<()> {
     match number {
-        Some(number) => plain_text(alloc, number),
-        None => Ok("none".to_string(alloc)?),
+        Some(number) => append_number(number, text),
+        None => Ok(write!(text, "none")?),
     }
 }
 
-fn bytes_text(alloc: Global, bytes: &[u8]) -> Result<String> {
-    match str::from_utf8(bytes) {
-        Ok(text) => Ok(text.to_string(alloc)?),
-        Err(_) => bail!("no UTF-8 text"),
-    }
-}
-
-/// The place of a function's result.
-fn result_text(alloc: Global, routine: Option<Routine>) -> Result<String> {
+/// Appends the place of a function's result.
+fn append_result(routine: Option<Routine>, text: &mut Vec<u8>) -> Result<()> {
     match routine {
-        Some(routine) => number_text(alloc, routine.result),
+        Some(routine) => append_option(routine.result, text),
         None => bail!("no routine"),
     }
 }
 
-/// What a name stands for, in the words of `Def`.
-fn def_text(alloc: Global, def: Option<Def>) -> Result<String> {
+/// Appends what a name stands for, in the words of `Def`.
+fn append_def(def: Option<Def>, text: &mut Vec<u8>) -> Result<()> {
     let (word, number) = match def {
         Some(Def::Constant(number)) => ("Constant", number),
         Some(Def::TypeName(number)) => ("TypeName", number),
@@ -192,9 +160,9 @@ fn def_text(alloc: Global, def: Option<Def>) -> Result<String> {
         Some(Def::Formal(number)) => ("Formal", number),
         Some(Def::Required(number)) => ("Required", number),
         Some(Def::TextFile(number)) => ("TextFile", number),
-        None => return Ok("none".to_string(alloc)?),
+        None => return append_option(None, text),
     };
-    Ok(format!(in alloc; "{word} {number}")?)
+    Ok(write!(text, "{word} {number}")?)
 }
 
 /// `packed ` or nothing.
@@ -202,25 +170,25 @@ fn packed_text(packed: bool) -> &'static str {
     if packed { "packed " } else { "" }
 }
 
-/// What stands at a type's number.
-fn type_text(alloc: Global, row: Option<TypeRow>) -> Result<String> {
+/// Appends what stands at a type's number.
+fn append_type(row: Option<TypeRow>, text: &mut Vec<u8>) -> Result<()> {
     let Some(row) = row else {
-        return Ok("none".to_string(alloc)?);
+        return append_option(None, text);
     };
     match row {
         TypeRow::Ordinal { least, greatest } => {
-            Ok(format!(in alloc; "an ordinal type from {least} to {greatest}")?)
+            write!(text, "an ordinal type from {least} to {greatest}")?;
         }
         TypeRow::Subrange {
             host,
             least,
             greatest,
-        } => { Ok(format!(in alloc; "a subrange of type {host} from {least} to {greatest}")?) }
+        } => write!(text, "a subrange of type {host} from {least} to {greatest}")?,
         TypeRow::Set { packed, base } => {
             let packed = packed_text(packed);
-            Ok(format!(in alloc; "a {packed}set of type {base}")?)
+            write!(text, "a {packed}set of type {base}")?;
         }
-        TypeRow::Pointer { domain } => Ok(format!(in alloc; "a pointer to type {domain}")?),
+        TypeRow::Pointer { domain } => write!(text, "a pointer to type {domain}")?,
         TypeRow::Array {
             packed,
             index,
@@ -228,9 +196,10 @@ fn type_text(alloc: Global, row: Option<TypeRow>) -> Result<String> {
             cells,
         } => {
             let article = if packed { "a packed" } else { "an" };
-            Ok(format!(in alloc;
+            write!(
+                text,
                 "{article} array, index {index}, component {component}, cells {cells}"
-            )?)
+            )?;
         }
         TypeRow::Record {
             packed,
@@ -239,9 +208,10 @@ fn type_text(alloc: Global, row: Option<TypeRow>) -> Result<String> {
             ..
         } => {
             let packed = packed_text(packed);
-            Ok(format!(in alloc; "a {packed}record, region {region}, cells {cells}")?)
+            write!(text, "a {packed}record, region {region}, cells {cells}")?;
         }
     }
+    Ok(())
 }
 
 /// What a mode is called.
@@ -253,16 +223,14 @@ fn mode_text(mode: Mode) -> &'static str {
     }
 }
 
-/// What stands at a name's number.
-fn name_text(alloc: Global, row: Row) -> Result<String> {
+/// Appends what stands at a name's number.
+fn append_name(row: Row, text: &mut Vec<u8>) -> Result<()> {
     let Row::Name(row) = row else {
-        return Ok("no name".to_string(alloc)?);
+        return Ok(write!(text, "no name")?);
     };
     match row {
-        NameRow::Constant { of, value } => {
-            Ok(format!(in alloc; "a constant of type {of}, value {value}")?)
-        }
-        NameRow::TypeName { of } => Ok(format!(in alloc; "type {of}")?),
+        NameRow::Constant { of, value } => write!(text, "a constant of type {of}, value {value}")?,
+        NameRow::TypeName { of } => write!(text, "type {of}")?,
         NameRow::Variable {
             mode,
             of,
@@ -270,15 +238,14 @@ fn name_text(alloc: Global, row: Row) -> Result<String> {
             level,
         } => {
             let mode = mode_text(mode);
-            Ok(format!(in alloc; "{mode} of type {of}, place {place}, level {level}")?)
+            write!(text, "{mode} of type {of}, place {place}, level {level}")?;
         }
         NameRow::RoutineFormal { place, level, .. } => {
-            Ok(format!(in alloc; "a routine parameter, place {place}, level {level}")?)
+            write!(text, "a routine parameter, place {place}, level {level}")?;
         }
-        NameRow::Routine { number, .. } => Ok(format!(in alloc; "routine {number}")?),
-        NameRow::Label { value, level, .. } => Ok(format!(in alloc;
-            "label {value}, level {level}"
-        )?),
-        _ => Ok("another name".to_string(alloc)?),
+        NameRow::Routine { number, .. } => write!(text, "routine {number}")?,
+        NameRow::Label { value, level, .. } => write!(text, "label {value}, level {level}")?,
+        _ => write!(text, "another name")?,
     }
+    Ok(())
 }

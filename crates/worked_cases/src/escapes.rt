@@ -10,27 +10,33 @@ use std::alloc::Global;
 /// text as often as the number says.
 pub(crate) fn unescaped(alloc: Global, text: &str) -> Result<Vec<u8>> {
     let mut bytes = Vec::new(alloc);
+    append_unescaped(alloc, text, &mut bytes)?;
+    Ok(bytes)
+}
+
+/// Appends the bytes that a text stands for.
+pub(crate) fn append_unescaped(alloc: Global, text: &str, bytes: &mut Vec<u8>) -> Result<()> {
     let mut is_repeated = true;
     for part in text.split('`') {
         is_repeated = !is_repeated;
         if is_repeated {
-            append_repeated(alloc, &mut bytes, part)?;
+            append_repeated(alloc, part, bytes)?;
         } else {
-            append_escaped(&mut bytes, part)?;
+            append_escaped(part, bytes)?;
         }
     }
     ensure!(!is_repeated, "a backquote is not closed");
-    Ok(bytes)
+    Ok(())
 }
 
 /// Appends what stands between two backquotes.
-fn append_repeated(alloc: Global, bytes: &mut Vec<u8>, part: &str) -> Result<()> {
+fn append_repeated(alloc: Global, part: &str, bytes: &mut Vec<u8>) -> Result<()> {
     let Some((times, text)) = part.split_once(' ') else {
         bail!("a number, a blank and a text are wanted between backquotes");
     };
     let times: u32 = times.parse().context("between backquotes")?;
     let mut repeated = Vec::new(alloc);
-    append_escaped(&mut repeated, text)?;
+    append_escaped(text, &mut repeated)?;
     for _ in 0..times {
         bytes.extend_from_slice(&repeated)?;
     }
@@ -38,13 +44,13 @@ fn append_repeated(alloc: Global, bytes: &mut Vec<u8>, part: &str) -> Result<()>
 }
 
 /// Appends a text in which nothing is repeated.
-fn append_escaped(bytes: &mut Vec<u8>, text: &str) -> Result<()> {
+fn append_escaped(text: &str, bytes: &mut Vec<u8>) -> Result<()> {
     let mut is_first = true;
     for part in text.split('\\') {
         if is_first {
             bytes.extend_from_slice(part.as_bytes())?;
         } else {
-            append_escape(bytes, part)?;
+            append_escape(part, bytes)?;
         }
         is_first = false;
     }
@@ -52,7 +58,7 @@ fn append_escaped(bytes: &mut Vec<u8>, text: &str) -> Result<()> {
 }
 
 /// Appends what stands after a backslash.
-fn append_escape(bytes: &mut Vec<u8>, part: &str) -> Result<()> {
+fn append_escape(part: &str, bytes: &mut Vec<u8>) -> Result<()> {
     let mut letters = part.chars();
     match letters.next() {
         Some('n') => bytes.push(b'\n')?,

@@ -2,7 +2,7 @@
 
 use anyhow::{Context, Result};
 use std::alloc::Global;
-use std::fs;
+use std::fs::{self, DirEntry};
 use std::rt::Files;
 
 /// A folder, and the names of its files that were read.
@@ -10,6 +10,14 @@ use std::rt::Files;
 pub(crate) struct Folder {
     path: String,
     read: Vec<String>,
+}
+
+/// The name of what lies in the folder `within`, which is empty or ends in a slash. A folder's name ends in a slash
+/// too.
+fn name_of<R: Files>(alloc: Global, within: &str, entry: &DirEntry<R>) -> Result<String> {
+    let slash = if entry.file_type()?.is_dir() { "/" } else { "" };
+    let name = entry.file_name();
+    Ok(format!(in alloc; "{within}{name}{slash}")?)
 }
 
 impl Folder {
@@ -21,56 +29,50 @@ impl Folder {
         })
     }
 
-    /// The bytes of one of its files.
-    pub(crate) fn read<R: Files + AllocGlobal>(&mut self, rt: &R, name: &str) -> Result<Vec<u8>> {
+    /// The path of one of its files.
+    fn path_of(&self, alloc: Global, name: &str) -> Result<String> {
         let folder = self.path.as_str();
-        let path = format!(in rt.alloc(); "{folder}/{name}")?;
-        let bytes = fs::read(rt, path.as_str()).context(format_args!("reading {path}"))?;
-        self.read.push(name.to_string(rt.alloc())?)?;
-        Ok(bytes)
+        Ok(format!(in alloc; "{folder}/{name}")?)
     }
 
-    /// The names of its files that were not read, in it and in the folders in it.
+    /// The bytes of one of its files.
+    pub(crate) fn read<R: Files + AllocGlobal>(&mut self, rt: &R, name: &str) -> Result<Vec<u8>> {
+        self.read.push(name.to_string(rt.alloc())?)?;
+        let path = self.path_of(rt.alloc(), name)?;
+        fs::read(rt, path.as_str()).context(format_args!("reading {path}"))
+    }
+
+    /// Adds the names of what lies in the folder `within`, in any order.
+    fn list<R: Files + AllocGlobal + Clone + Drop>(
+        &self,
+        rt: &R,
+        within: &str,
+        names: &mut Vec<String>,
+    ) -> Result<()> {
+        let path = self.path_of(rt.alloc(), within)?;
+        for entry in fs::read_dir(rt, path.as_str()).context(format_args!("listing {path}"))? {
+            names.push(name_of(rt.alloc(), within, &entry?)?)?;
+        }
+        Ok(())
+    }
+
+    /// The names of its files that were not read, in it and in the folders in it. A folder in these is not looked into,
+    /// and is named itself.
     pub(crate) fn unread<R: Files + AllocGlobal + Clone + Drop>(
         &self,
         rt: &R,
     ) -> Result<Vec<String>> {
+        let mut names = Vec::new(rt.alloc());
         let mut unread = Vec::new(rt.alloc());
-        let mut folders = Vec::new(rt.alloc());
-        self.visit(rt, "", &mut unread, &mut folders)?;
-        let mut deeper = Vec::new(rt.alloc());
-        for folder in &folders {
-            self.visit(rt, folder.as_str(), &mut unread, &mut deeper)?;
-        }
-        for folder in deeper {
-            unread.push(folder)?;
-        }
-        Ok(unread)
-    }
-
-    /// Adds the files of the folder `within`, which is empty or ends in a slash, that were not read, and the folders
-    /// in it.
-    fn visit<R: Files + AllocGlobal + Clone + Drop>(
-        &self,
-        rt: &R,
-        within: &str,
-        unread: &mut Vec<String>,
-        folders: &mut Vec<String>,
-    ) -> Result<()> {
-        let folder = self.path.as_str();
-        let path = format!(in rt.alloc(); "{folder}/{within}")?;
-        for entry in fs::read_dir(rt, path.as_str()).context(format_args!("listing {path}"))? {
-            let entry = entry?;
-            let name = entry.file_name();
-            if entry.file_type()?.is_dir() {
-                folders.push(format!(in rt.alloc(); "{within}{name}/")?)?;
+        self.list(rt, "", &mut names)?;
+        for name in names {
+            if name.as_str().ends_with('/') {
+                self.list(rt, name.as_str(), &mut unread)?;
             } else {
-                let name = format!(in rt.alloc(); "{within}{name}")?;
-                if !self.read.contains(&name) {
-                    unread.push(name)?;
-                }
+                unread.push(name)?;
             }
         }
-        Ok(())
+        unread.retain(|name| !self.read.contains(name));
+        Ok(unread)
     }
 }

@@ -12,25 +12,28 @@ mod declared;
 mod escapes;
 mod folder;
 mod reading;
-mod running;
+mod rows;
 mod runs;
 mod sections;
 mod sources;
 
 use anyhow::{Context, Result, bail};
-use comparing::differences;
+use comparing::compare;
 use declared::try_tables;
 use folder::Folder;
-use reading::read_cases;
+use reading::read_case;
+use rows::{Judged, is_row};
 use runs::try_runs;
-use sources::{Judge, Judged, try_sources};
+use sections::{Section, expect_cases, sections};
+use sources::{Judge, try_sources};
+use std::alloc::Global;
 use std::io::{self, Write};
 use std::process::ExitCode;
 use std::rt::Files;
 use std::{env, str};
 
 /// How many cases passed, and how many failed.
-#[derive(Clone, Copy, Debug)]
+#[derive(Clone, Copy)]
 struct Tally {
     passed: u32,
     failed: u32,
@@ -49,19 +52,48 @@ fn report<R: Print>(rt: &R, name: &str, differs: &[u8], tally: &mut Tally) -> Re
     Ok(())
 }
 
+/// Tries the case of this name, which the first of these sections belong to.
+fn try_case<R: Files + AllocGlobal + Print>(
+    rt: &R,
+    folder: &mut Folder,
+    name: &str,
+    sections: &[Section],
+    tally: &mut Tally,
+) -> Result<()> {
+    let case = read_case(rt, folder, name, sections)?;
+    let mut differs = Vec::new(rt.alloc());
+    compare(rt.alloc(), &case, &mut differs)?;
+    report(rt, name, &differs, tally)
+}
+
 /// Tries the cases of a file.
 fn try_cases<R: Files + AllocGlobal + Print>(
     rt: &R,
     folder: &mut Folder,
-    name: &str,
+    text: &str,
     tally: &mut Tally,
 ) -> Result<()> {
-    for case in &read_cases(rt, folder, name)? {
-        let case_name = case.name.as_str();
-        let differs = differences(rt.alloc(), case).context(format_args!("{name}: {case_name}"))?;
-        report(rt, case_name, &differs, tally)?;
+    let sections = sections(rt.alloc(), text)?;
+    expect_cases(&sections)?;
+    for (place, section) in sections.iter().enumerate() {
+        if let Some(name) = section.heading.strip_prefix("case ") {
+            let rest = sections.get(place.saturating_add(1)..).unwrap_or_default();
+            try_case(rt, folder, name, rest, tally).context(format_args!("case {name}"))?;
+        }
     }
     Ok(())
+}
+
+/// Tries the rows of a file, by the word for its kind.
+fn try_rows(alloc: Global, kind: &str, text: &str, judged: &mut Judged) -> Result<()> {
+    match kind {
+        "sources" => try_sources(alloc, Judge::Grammar, text, judged),
+        "rules" => try_sources(alloc, Judge::Rules, text, judged),
+        "declarations" => try_sources(alloc, Judge::Declarations, text, judged),
+        "tables" => try_tables(alloc, text, judged),
+        "runs" => try_runs(alloc, text, judged),
+        _ => bail!("no kind of file: {kind}"),
+    }
 }
 
 /// Prints what came of the rows of a file.
@@ -78,6 +110,11 @@ fn report_rows<R: Print>(rt: &R, name: &str, judged: &Judged, tally: &mut Tally)
     Ok(())
 }
 
+/// The text of a file.
+fn text_of(bytes: &[u8]) -> Result<&str> {
+    str::from_utf8(bytes).context("no UTF-8 text")
+}
+
 /// Tries a file of the index, by the word for its kind.
 fn try_file<R: Files + AllocGlobal + Print>(
     rt: &R,
@@ -86,15 +123,12 @@ fn try_file<R: Files + AllocGlobal + Print>(
     name: &str,
     tally: &mut Tally,
 ) -> Result<()> {
-    let judged = match kind {
-        "command" => return try_cases(rt, folder, name, tally),
-        "sources" => try_sources(rt, folder, name, Judge::Grammar)?,
-        "rules" => try_sources(rt, folder, name, Judge::Rules)?,
-        "declarations" => try_sources(rt, folder, name, Judge::Declarations)?,
-        "tables" => try_tables(rt, folder, name)?,
-        "runs" => try_runs(rt, folder, name)?,
-        _ => bail!("the index: {kind} {name}"),
-    };
+    let bytes = folder.read(rt, name)?;
+    if kind == "command" {
+        return try_cases(rt, folder, text_of(&bytes)?, tally);
+    }
+    let mut judged = Judged::new(rt.alloc());
+    try_rows(rt.alloc(), kind, text_of(&bytes)?, &mut judged)?;
     report_rows(rt, name, &judged, tally)
 }
 
@@ -105,13 +139,12 @@ fn try_index<R: Files + AllocGlobal + Print>(
     tally: &mut Tally,
 ) -> Result<()> {
     let index = folder.read(rt, "index")?;
-    let Ok(index) = str::from_utf8(&index) else {
-        bail!("the index is no UTF-8 text");
-    };
-    for line in index.lines() {
+    for line in text_of(&index).context("the index")?.lines() {
         match line.split_once(' ') {
-            _ if line.is_empty() || line.starts_with('#') => {}
-            Some((kind, name)) => try_file(rt, folder, kind, name, tally)?,
+            _ if !is_row(line) => {}
+            Some((kind, name)) => {
+                try_file(rt, folder, kind, name, tally).context(format_args!("{name}"))?;
+            }
             None => bail!("the index: {line}"),
         }
     }

@@ -1,10 +1,9 @@
 //! Runs of programs: the calls of a run, its output and what it wrote.
 
-use crate::declared::SOURCE_BYTES;
 use crate::escapes::unescaped;
-use crate::folder::Folder;
-use crate::sections::{Section, sections};
-use crate::sources::Judged;
+use crate::rows::{Judged, compare_lines};
+use crate::sections::{Section, lines, sections};
+use crate::sources::SOURCE_BYTES;
 use anyhow::{Context, Result, bail, ensure};
 use cell_value::{Kind, Touch, Value, WayOut, Which};
 use effect_log::Log;
@@ -13,8 +12,7 @@ use program_run::{History, run};
 use program_tables::Program;
 use source_checker::check_tokens;
 use std::alloc::Global;
-use std::rt::Files;
-use std::str;
+use std::io::Write;
 
 /// The budget of a run where a case does not say it.
 const BUDGET: u32 = 1_000_000;
@@ -26,11 +24,11 @@ const GREATEST_BUDGET: u32 = 4_000_000;
 const INPUT_BYTES: usize = 4_194_304;
 
 /// A source, its input, and the budget of its next run.
-#[derive(Drop)]
-struct Subject {
-    name: String,
-    source: Vec<u8>,
-    input: Vec<u8>,
+#[derive(Clone, Copy)]
+struct Subject<'a> {
+    name: &'a str,
+    source: &'a str,
+    input: &'a str,
     budget: u32,
 }
 
@@ -49,123 +47,112 @@ struct Ran {
 /// steps and the entries of the log that the call and those below it made; and a line `written ADDRESS = VALUE` for
 /// some addresses, with what was last written there, `?` for the undefined value and `none` for nothing. A `note` is
 /// not read.
-pub(crate) fn try_runs<R: Files + AllocGlobal>(
-    rt: &R,
-    folder: &mut Folder,
-    name: &str,
-) -> Result<Judged> {
-    let bytes = folder.read(rt, name)?;
-    let mut judged = Judged {
-        passed: 0,
-        failed: 0,
-        differences: Vec::new(rt.alloc()),
-    };
+pub(crate) fn try_runs(alloc: Global, text: &str, judged: &mut Judged) -> Result<()> {
     let mut subject = None;
-    for section in sections(rt.alloc(), &bytes).context(format_args!("{name}"))? {
-        let line = section.line;
-        take_section(rt.alloc(), &section, &mut subject, &mut judged).context(format_args!(
-            "{name}, line {line}"
-        ))?;
+    for section in &sections(alloc, text)? {
+        let heading = section.heading;
+        take_section(alloc, section, &mut subject, judged).context(format_args!("== {heading}"))?;
     }
-    Ok(judged)
+    Ok(())
 }
 
 /// Begins a case, or takes a section of the last one.
-fn take_section(
+fn take_section<'a>(
     alloc: Global,
-    section: &Section,
-    subject: &mut Option<Subject>,
+    section: &Section<'a>,
+    subject: &mut Option<Subject<'a>>,
     judged: &mut Judged,
 ) -> Result<()> {
-    let words: Vec<&str> = section.heading.split_ascii_whitespace().collect(alloc)?;
-    if let ["case", name] = words.as_slice() {
+    if let Some(name) = section.heading.strip_prefix("case ") {
         *subject = Some(Subject {
-            name: name.to_string(alloc)?,
-            source: Vec::new(alloc),
-            input: Vec::new(alloc),
+            name,
+            source: "",
+            input: "",
             budget: BUDGET,
         });
         return Ok(());
     }
     match subject {
-        Some(subject) => take_part(alloc, subject, &words, &section.text, judged),
+        Some(subject) => take_part(alloc, section, subject, judged),
         None => bail!("a section before the first case"),
     }
 }
 
 /// Takes a part of a case, by the words of its heading.
-fn take_part(
+fn take_part<'a>(
     alloc: Global,
-    subject: &mut Subject,
-    heading: &[&str],
-    text: &[u8],
+    section: &Section<'a>,
+    subject: &mut Subject<'a>,
     judged: &mut Judged,
 ) -> Result<()> {
-    match heading {
-        ["source"] => subject.source = text.to_vec(alloc)?,
-        ["input"] => subject.input = text.to_vec(alloc)?,
-        ["budget", steps] => subject.budget = steps.parse().context("the budget")?,
-        ["run"] => judge_run(alloc, subject, text, judged)?,
-        ["note"] => {}
-        _ => bail!("no heading of a case"),
+    match section.heading {
+        "source" => subject.source = section.text,
+        "input" => subject.input = section.text,
+        "run" => judge_run(alloc, subject, section.text, judged)?,
+        "note" => {}
+        heading => match heading.strip_prefix("budget ") {
+            Some(steps) => subject.budget = steps.parse().context("the budget")?,
+            None => bail!("no heading of a case"),
+        },
     }
     Ok(())
 }
 
 /// Tries a run.
-fn judge_run(alloc: Global, subject: &Subject, wanted: &[u8], judged: &mut Judged) -> Result<()> {
-    let Ok(wanted) = str::from_utf8(wanted) else {
-        bail!("what is wanted is no UTF-8 text");
-    };
-    let differs = match run_of(alloc, subject) {
-        Ok(ran) => differences(alloc, &ran, wanted)?,
-        Err(error) => format!(in alloc; "  there is no run: {error}\n")?.into_bytes(),
-    };
-    if differs.is_empty() {
-        judged.passed = judged.passed.saturating_add(1);
-        return Ok(());
+fn judge_run(alloc: Global, subject: &Subject, wanted: &str, judged: &mut Judged) -> Result<()> {
+    let (name, budget) = (subject.name, subject.budget);
+    let mut differs = Vec::new(alloc);
+    compare_run(alloc, subject, wanted, &mut differs)?;
+    let row = format!(in alloc; "{name}, budget {budget}")?;
+    judged.count(row.as_bytes(), &differs)
+}
+
+/// Appends what differs, in full: nothing where there is a run that has all lines that are wanted.
+fn compare_run(
+    alloc: Global,
+    subject: &Subject,
+    wanted: &str,
+    differs: &mut Vec<u8>,
+) -> Result<()> {
+    match run_of(alloc, subject) {
+        Ok(ran) => compare_wanted(alloc, &ran, wanted, differs),
+        Err(error) => Ok(writeln!(differs, "  there is no run: {error}")?),
     }
-    judged.failed = judged.failed.saturating_add(1);
-    let (name, budget) = (subject.name.as_str(), subject.budget);
-    let heading = format!(in alloc; "{name}, budget {budget}\n")?;
-    judged.differences.extend_from_slice(heading.as_bytes())?;
-    judged.differences.extend_from_slice(&differs)?;
-    Ok(())
 }
 
 /// The program of a source.
 fn program_of(alloc: Global, source: &[u8]) -> Result<Program> {
     ensure!(source.len() <= SOURCE_BYTES, "the source is too long");
     let tokens = lex(alloc, source)?;
-    let program = check_tokens(alloc, &tokens)?;
-    Ok(program)
+    Ok(check_tokens(alloc, &tokens)?)
 }
 
-/// Runs a program.
-fn run_of(alloc: Global, subject: &Subject) -> Result<Ran> {
-    let (input, budget) = (subject.input.as_slice(), subject.budget);
+/// What the run of a program leaves.
+fn history_of(alloc: Global, program: &Program, subject: &Subject) -> Result<History> {
+    let budget = subject.budget;
+    let input = lines(alloc, subject.input)?;
     ensure!(0 < budget, "a budget is 1 step or more");
     ensure!(
         budget <= GREATEST_BUDGET,
         "a budget is 4,000,000 steps or fewer"
     );
     ensure!(input.len() <= INPUT_BYTES, "the input is too long");
-    let program = program_of(alloc, &subject.source)?;
     ensure!(0 < program.routines(), "the program has no routine");
-    let history = run(alloc, &program, input, budget)?;
+    Ok(run(alloc, program, &input, budget)?)
+}
+
+/// Runs a program.
+fn run_of(alloc: Global, subject: &Subject) -> Result<Ran> {
+    let program = program_of(alloc, subject.source.as_bytes())?;
+    let history = history_of(alloc, &program, subject)?;
     Ok(Ran { program, history })
 }
 
-/// What differs, in full: nothing where the run has all lines that are wanted.
-fn differences(alloc: Global, ran: &Ran, wanted: &str) -> Result<Vec<u8>> {
-    let mut differs = Vec::new(alloc);
+/// Appends what differs, in full: nothing where the run has all lines that are wanted.
+fn compare_wanted(alloc: Global, ran: &Ran, wanted: &str, differs: &mut Vec<u8>) -> Result<()> {
     let mut told: u32 = 0;
     for line in wanted.lines() {
-        let seen = seen_line(alloc, ran, line)?;
-        if seen.as_str() != line {
-            let both = format!(in alloc; "  expected: {line}\n  seen: {seen}\n")?;
-            differs.extend_from_slice(both.as_bytes())?;
-        }
+        compare_line(alloc, ran, line, differs)?;
         if line.starts_with("output ") || line.starts_with("calls ") {
             told = told.saturating_add(1);
         }
@@ -174,76 +161,80 @@ fn differences(alloc: Global, ran: &Ran, wanted: &str) -> Result<Vec<u8>> {
         told == 2,
         "a line on the output and one on the number of calls are wanted"
     );
-    Ok(differs)
+    Ok(())
 }
 
-/// The line that the run has in place of one that is wanted.
-fn seen_line(alloc: Global, ran: &Ran, wanted: &str) -> Result<String> {
+/// Appends a line that is wanted, and the one that the run has in its place, if they differ.
+fn compare_line(alloc: Global, ran: &Ran, wanted: &str, differs: &mut Vec<u8>) -> Result<()> {
+    let mut seen = Vec::new(alloc);
+    append_seen(alloc, ran, wanted, &mut seen)?;
+    compare_lines(wanted.as_bytes(), &seen, differs)
+}
+
+/// Appends the line that the run has in place of one that is wanted.
+fn append_seen(alloc: Global, ran: &Ran, wanted: &str, seen: &mut Vec<u8>) -> Result<()> {
     let history = &ran.history;
-    let words: Vec<&str> = wanted.split(' ').collect(alloc)?;
-    match words.as_slice() {
-        ["output", ..] => output_line(alloc, wanted, history.output.as_slice()),
-        ["calls", _] => {
+    let Some((word, rest)) = wanted.split_once(' ') else {
+        bail!("no line on a run: {wanted}");
+    };
+    match word {
+        "output" => append_output(alloc, rest, history.output.as_slice(), seen),
+        "calls" => {
             let calls = history.calls.len();
-            Ok(format!(in alloc; "calls {calls}")?)
+            Ok(write!(seen, "calls {calls}")?)
         }
-        ["written", address, "=", _] => {
-            let address = address.parse().context("the address")?;
-            written_line(alloc, address, last_written(&history.log, address))
-        }
-        [number, ..] => call_line(alloc, ran, number.parse().context("the number of a call")?),
-        [] => bail!("an empty line"),
+        "written" => append_written(&history.log, rest, seen),
+        number => append_call(ran, number.parse().context("the number of a call")?, seen),
     }
 }
 
-/// The line on the output: the wanted one where that has the same text.
-fn output_line(alloc: Global, wanted: &str, output: &[u8]) -> Result<String> {
-    let Some(quoted) = wanted.strip_prefix("output \"") else {
+/// Appends the line on the output: the wanted one where that has the same text.
+fn append_output(alloc: Global, wanted: &str, output: &[u8], seen: &mut Vec<u8>) -> Result<()> {
+    let Some(text) = in_quotes(wanted) else {
         bail!("the output is wanted in quotes");
     };
-    let Some(text) = quoted.strip_suffix("\"") else {
-        bail!("the output is wanted in quotes");
-    };
-    if unescaped(alloc, text)?.as_slice() == output {
-        return Ok(wanted.to_string(alloc)?);
-    }
-    match str::from_utf8(output) {
-        Ok(output) => Ok(format!(in alloc; "output \"{output}\"")?),
-        Err(_) => Ok("output that is no UTF-8 text".to_string(alloc)?),
-    }
+    let is_same = unescaped(alloc, text)?.as_slice() == output;
+    seen.extend_from_slice(b"output \"")?;
+    seen.extend_from_slice(if is_same { text.as_bytes() } else { output })?;
+    Ok(seen.push(b'"')?)
 }
 
-/// The line on the call of a number.
-fn call_line(alloc: Global, ran: &Ran, number: u32) -> Result<String> {
+/// What stands between two quotes.
+fn in_quotes(text: &str) -> Option<&str> {
+    text.strip_prefix('"')?.strip_suffix('"')
+}
+
+/// Appends the line on the call of a number.
+fn append_call(ran: &Ran, number: u32, seen: &mut Vec<u8>) -> Result<()> {
     let calls = &ran.history.calls;
     if number >= calls.len() {
-        return Ok(format!(in alloc; "{number} is no call")?);
+        return Ok(write!(seen, "{number} is no call")?);
     }
     let call = calls.call(number);
-    let Ok(name) = str::from_utf8(ran.program.name(call.routine)) else {
-        bail!("a routine's name is no UTF-8 text");
-    };
-    let way = way_text(alloc, call.way)?;
     let steps = call.entry.steps.saturating_sub(call.exit.steps);
     let touches = call.exit.mark.saturating_sub(call.entry.mark);
-    Ok(format!(in alloc; "{number} {name}: {way}, {steps} steps, {touches} touches")?)
+    write!(seen, "{number} ")?;
+    seen.extend_from_slice(ran.program.name(call.routine))?;
+    append_way(call.way, seen)?;
+    Ok(write!(seen, ", {steps} steps, {touches} touches")?)
 }
 
-/// How a call ended.
-fn way_text(alloc: Global, way: WayOut) -> Result<String> {
+/// Appends how a call ended.
+fn append_way(way: WayOut, seen: &mut Vec<u8>) -> Result<()> {
     match way {
-        WayOut::Returned => Ok("returned".to_string(alloc)?),
-        WayOut::Jumped(label, _) => Ok(format!(in alloc; "jumped to {label}")?),
+        WayOut::Returned => write!(seen, ": returned")?,
+        WayOut::Jumped(label, _) => write!(seen, ": jumped to {label}")?,
         WayOut::Faulted(kind, line) => {
             let kind = kind_name(kind);
-            Ok(format!(in alloc; "faulted {kind} line {line}")?)
+            write!(seen, ": faulted {kind} line {line}")?;
         }
-        WayOut::OutOfSteps => Ok("out of steps".to_string(alloc)?),
+        WayOut::OutOfSteps => write!(seen, ": out of steps")?,
         WayOut::Limited(which) => {
             let which = limit_name(which);
-            Ok(format!(in alloc; "limited {which}")?)
+            write!(seen, ": limited {which}")?;
         }
     }
+    Ok(())
 }
 
 fn kind_name(kind: Kind) -> &'static str {
@@ -285,12 +276,22 @@ fn last_written(log: &Log, address: u32) -> Option<Value> {
     written
 }
 
-/// The line on what was last written at an address.
-fn written_line(alloc: Global, address: u32, written: Option<Value>) -> Result<String> {
+/// Appends the line on what was last written at an address, in place of one that is wanted.
+fn append_written(log: &Log, wanted: &str, seen: &mut Vec<u8>) -> Result<()> {
+    let Some((address, _)) = wanted.split_once(" = ") else {
+        bail!("an address, an equals sign and a value are wanted");
+    };
+    let address = address.parse().context("the address")?;
+    append_value(address, last_written(log, address), seen)
+}
+
+/// Appends the line on a value that was written, if any was.
+fn append_value(address: u32, written: Option<Value>, seen: &mut Vec<u8>) -> Result<()> {
     match written {
-        None => Ok(format!(in alloc; "written {address} = none")?),
-        Some(Value::Undefined) => Ok(format!(in alloc; "written {address} = ?")?),
-        Some(Value::Number(number)) => Ok(format!(in alloc; "written {address} = {number}")?),
-        Some(_) => Ok(format!(in alloc; "written {address} = another value")?),
+        None => write!(seen, "written {address} = none")?,
+        Some(Value::Undefined) => write!(seen, "written {address} = ?")?,
+        Some(Value::Number(number)) => write!(seen, "written {address} = {number}")?,
+        Some(_) => write!(seen, "written {address} = another value")?,
     }
+    Ok(())
 }

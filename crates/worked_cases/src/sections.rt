@@ -1,55 +1,75 @@
 //! Files of sections.
 
-use anyhow::{Result, bail};
+use anyhow::{Result, bail, ensure};
 use std::alloc::Global;
-use std::str;
 
-/// A section: the number of its heading's line, the heading, and the lines below it, each with its line feed. Blank
-/// lines at its end are left out.
-#[derive(Drop)]
-pub(crate) struct Section {
-    pub(crate) line: u32,
-    pub(crate) heading: String,
-    pub(crate) text: Vec<u8>,
+/// A section: the words of its heading, and the lines below it, without the line feed of the last one. Blank lines at
+/// its end are left out.
+#[derive(Clone, Copy)]
+pub(crate) struct Section<'a> {
+    pub(crate) heading: &'a str,
+    pub(crate) text: &'a str,
+}
+
+/// What stands after the first `==` that begins a line.
+fn after_note(text: &str) -> Option<&str> {
+    match text.strip_prefix("==") {
+        Some(rest) => Some(rest),
+        None => Some(text.split_once("\n==")?.1),
+    }
+}
+
+/// The section of this heading and these lines.
+fn section_of(part: &str) -> Result<Section<'_>> {
+    let (heading, lines) = part.split_once('\n').unwrap_or((part, ""));
+    let Some(heading) = heading.strip_prefix(' ') else {
+        bail!("after == a blank and words are wanted: =={heading}");
+    };
+    let text = lines.trim_end_matches('\n');
+    Ok(Section { heading, text })
 }
 
 /// The sections of a file. A line that begins with `==` is a heading, `== ` and words. What stands above the first one
 /// is a note.
-pub(crate) fn sections(alloc: Global, bytes: &[u8]) -> Result<Vec<Section>> {
-    let mut sections: Vec<Section> = Vec::new(alloc);
-    let mut blank = Vec::new(alloc);
-    let mut number: u32 = 0;
-    for line in bytes.split(|byte| *byte == b'\n') {
-        number = number.saturating_add(1);
-        if let Some(heading) = line.strip_prefix(b"==") {
-            blank.clear();
-            sections.push(opened(alloc, number, heading)?)?;
-        } else if line.is_empty() {
-            blank.push(b'\n')?;
-        } else if let Some(section) = sections.last_mut() {
-            section.text.extend_from_slice(&blank)?;
-            section.text.extend_from_slice(line)?;
-            section.text.push(b'\n')?;
-            blank.clear();
+pub(crate) fn sections(alloc: Global, text: &str) -> Result<Vec<Section<'_>>> {
+    let mut sections = Vec::new(alloc);
+    if let Some(text) = after_note(text) {
+        for part in text.split("\n==") {
+            sections.push(section_of(part)?)?;
         }
     }
     Ok(sections)
 }
 
-/// The words of a heading: what comes after `==`, which begins with a blank.
-fn words_of(line: u32, heading: &[u8]) -> Result<&str> {
-    match str::from_utf8(heading) {
-        Ok(words) if words.starts_with(' ') => Ok(words),
-        _ => bail!("line {line}: after == a blank and words are wanted"),
+/// Refuses sections that do not begin with a case, a text right below the name of a case, and a second case of one
+/// name.
+pub(crate) fn expect_cases(sections: &[Section]) -> Result<()> {
+    let is_begun = sections.first().is_some_and(|first| is_case(first));
+    ensure!(is_begun, "a case is wanted first");
+    for section in sections {
+        let heading = section.heading;
+        if is_case(section) {
+            let same = sections
+                .iter()
+                .filter(|other| other.heading == heading)
+                .count();
+            ensure!(same == 1, "a second {heading}");
+            ensure!(section.text.is_empty(), "no text is wanted below {heading}");
+        }
     }
+    Ok(())
 }
 
-/// A section with nothing below its heading yet.
-fn opened(alloc: Global, line: u32, heading: &[u8]) -> Result<Section> {
-    let heading = words_of(line, heading)?.to_string(alloc)?;
-    Ok(Section {
-        line,
-        heading,
-        text: Vec::new(alloc),
-    })
+/// Whether a section begins a case.
+pub(crate) fn is_case(section: &Section) -> bool {
+    section.heading.starts_with("case ")
+}
+
+/// The lines of a section's text, each with its line feed.
+pub(crate) fn lines(alloc: Global, text: &str) -> Result<Vec<u8>> {
+    let mut lines = text.as_bytes().to_vec(alloc)?;
+    if !text.is_empty() {
+        lines.push(b'\n')?;
+    }
+    Ok(lines)
 }

@@ -1,35 +1,21 @@
 //! Sources with the places where they are refused.
 
-use crate::case::{Case, File, Part, Wanted};
-use crate::comparing::differences;
-use crate::declared::{SOURCE_BYTES, what_it_comes_to};
-use crate::escapes::unescaped;
-use crate::folder::Folder;
+use crate::case::{Case, Part, Role, Text};
+use crate::comparing::compare;
+use crate::declared::append_declared;
+use crate::escapes::{append_unescaped, unescaped};
+use crate::rows::{Judged, compare_lines, is_row};
 use anyhow::{Context, Result, bail, ensure};
 use pas_lexer::lex;
 use source_checker::{ProgramFault, check_tokens};
 use std::alloc::Global;
-use std::rt::Files;
-use std::str;
+use std::io::Write;
+
+/// The greatest length of a source, in bytes.
+pub(crate) const SOURCE_BYTES: usize = 1_048_576;
 
 /// The exit status of a source that is refused.
 const REFUSED: u8 = 3;
-
-/// Why a source is refused that is not the text of a program, and then why one is that breaks a static rule or is too
-/// big.
-const REASONS: [&str; 11] = [
-    "BadByte",
-    "OpenComment",
-    "OpenString",
-    "EmptyString",
-    "RealWord",
-    "TooLarge",
-    "Joined",
-    "NotProgram",
-    "TooDeep",
-    "Rule",
-    "TooBig",
-];
 
 /// Who says whether a source is taken.
 #[derive(Clone, Copy)]
@@ -45,177 +31,128 @@ pub(crate) enum Judge {
 /// A source, and what is to come of it. `why` is `taken`, or the reason for which it is refused at the byte and the
 /// line.
 #[derive(Drop)]
-struct Row {
-    why: String,
+struct Row<'a> {
+    why: &'a str,
     source: Vec<u8>,
     byte: usize,
     line: usize,
 }
 
-/// What came of the rows of a file.
-#[derive(Drop)]
-pub(crate) struct Judged {
-    pub(crate) passed: u32,
-    pub(crate) failed: u32,
-    /// The rows that failed, in full.
-    pub(crate) differences: Vec<u8>,
-}
-
 /// Tries each row of a file. A row is a line `WHY: SOURCE`, the source with escapes and with `|` at the place where it
-/// is refused. Lines that are empty or begin with `#` are no rows.
-pub(crate) fn try_sources<R: Files + AllocGlobal>(
-    rt: &R,
-    folder: &mut Folder,
-    name: &str,
+/// is refused.
+pub(crate) fn try_sources(
+    alloc: Global,
     judge: Judge,
-) -> Result<Judged> {
-    let bytes = folder.read(rt, name)?;
-    let mut judged = Judged {
-        passed: 0,
-        failed: 0,
-        differences: Vec::new(rt.alloc()),
-    };
-    let mut number: u32 = 0;
-    for line in bytes.split(|byte| *byte == b'\n') {
-        number = number.saturating_add(1);
-        if !line.is_empty() && !line.starts_with(b"#") {
-            judge_line(rt.alloc(), judge, line, &mut judged).context(format_args!(
-                "{name}, line {number}"
-            ))?;
+    text: &str,
+    judged: &mut Judged,
+) -> Result<()> {
+    for line in text.lines() {
+        if is_row(line) {
+            judge_line(alloc, judge, line, judged).context(format_args!("{line}"))?;
         }
-    }
-    Ok(judged)
-}
-
-/// Tries the row of a line.
-fn judge_line(alloc: Global, judge: Judge, line: &[u8], judged: &mut Judged) -> Result<()> {
-    let Ok(text) = str::from_utf8(line) else {
-        bail!("the line is no UTF-8 text");
-    };
-    let differs = difference(alloc, judge, read_row(alloc, text)?)?;
-    if differs.is_empty() {
-        judged.passed = judged.passed.saturating_add(1);
-    } else {
-        judged.failed = judged.failed.saturating_add(1);
-        judged.differences.extend_from_slice(line)?;
-        judged.differences.push(b'\n')?;
-        judged.differences.extend_from_slice(&differs)?;
     }
     Ok(())
 }
 
+/// Tries the row of a line.
+fn judge_line(alloc: Global, judge: Judge, line: &str, judged: &mut Judged) -> Result<()> {
+    let row = read_row(alloc, line)?;
+    let mut differs = Vec::new(alloc);
+    compare_row(alloc, judge, &row, &mut differs)?;
+    judged.count(line.as_bytes(), &differs)
+}
+
 /// The row of a line.
-fn read_row(alloc: Global, text: &str) -> Result<Row> {
-    let Some((why, marked)) = text.split_once(": ") else {
+fn read_row(alloc: Global, line: &str) -> Result<Row<'_>> {
+    let Some((why, marked)) = line.split_once(": ") else {
         bail!("a reason, a colon, a blank and a source are wanted");
     };
-    let why = why.to_string(alloc)?;
-    if why.as_str() == "taken" {
-        ensure!(!marked.contains('|'), "a source that is taken has a mark");
-        let source = unescaped(alloc, marked)?;
-        return Ok(Row {
-            why,
-            source,
-            byte: 0,
-            line: 0,
-        });
-    }
-    let Some((before, after)) = marked.split_once('|') else {
-        bail!("the mark is wanting");
-    };
-    ensure!(!after.contains('|'), "a second mark");
+    let (before, after) = cut_at_mark(why == "taken", marked)?;
     let mut source = unescaped(alloc, before)?;
     let byte = source.len();
-    let line = source
-        .iter()
-        .filter(|byte| **byte == b'\n')
-        .count()
-        .saturating_add(1);
-    source.extend_from_slice(&unescaped(alloc, after)?)?;
+    let feeds = source.iter().filter(|byte| **byte == b'\n').count();
+    append_unescaped(alloc, after, &mut source)?;
     Ok(Row {
         why,
         source,
         byte,
-        line,
+        line: feeds.saturating_add(1),
     })
 }
 
-/// What differs, in full: nothing where the source comes to what the row says.
-fn difference(alloc: Global, judge: Judge, row: Row) -> Result<Vec<u8>> {
+/// What stands before and after the mark of a source, which one that is taken has not.
+fn cut_at_mark(is_taken: bool, marked: &str) -> Result<(&str, &str)> {
+    match marked.split_once('|') {
+        None if is_taken => Ok((marked, "")),
+        None => bail!("the mark is wanting"),
+        Some(_) if is_taken => bail!("a source that is taken has a mark"),
+        Some((_, after)) if after.contains('|') => bail!("a second mark"),
+        Some(parts) => Ok(parts),
+    }
+}
+
+/// Appends what differs, in full: nothing where the source comes to what the row says.
+fn compare_row(alloc: Global, judge: Judge, row: &Row, differs: &mut Vec<u8>) -> Result<()> {
     match judge {
-        Judge::Grammar if row.why.as_str() == "taken" => taken_difference(alloc, &row, false),
-        Judge::Rules if row.why.as_str() == "taken" => taken_difference(alloc, &row, true),
-        Judge::Grammar | Judge::Rules => differences(alloc, &command_case(alloc, row)?),
-        Judge::Declarations => declared_difference(alloc, &row),
+        Judge::Declarations => compare_declared(alloc, row, differs),
+        _ if row.why == "taken" => compare_taken(alloc, judge, &row.source, differs),
+        _ => compare(alloc, &refused_case(alloc, row)?, differs),
     }
 }
 
-/// What the whole check says of a source: `taken`, or why it is refused.
-fn checked(alloc: Global, source: &[u8]) -> Result<&'static str> {
+/// Why the whole check refuses a source, if it does.
+fn fault_of(alloc: Global, source: &[u8]) -> Result<Option<ProgramFault>> {
     ensure!(source.len() <= SOURCE_BYTES, "the source is too long");
-    let Ok(tokens) = lex(alloc, source) else {
-        return Ok("a piece does not fit");
-    };
-    match check_tokens(alloc, &tokens) {
-        Ok(_) => Ok("taken"),
-        Err(ProgramFault::NotProgram { .. }) => Ok("NotProgram"),
-        Err(ProgramFault::TooDeep { .. }) => Ok("TooDeep"),
-        Err(ProgramFault::Rule { .. }) => Ok("Rule"),
-        Err(ProgramFault::TooBig { .. }) => Ok("TooBig"),
-        Err(ProgramFault::Memory) => bail!("out of memory"),
+    let tokens = lex(alloc, source)?;
+    Ok(check_tokens(alloc, &tokens).err())
+}
+
+/// Whether a fault is one for this judge.
+fn is_refused(judge: Judge, fault: ProgramFault) -> bool {
+    match fault {
+        ProgramFault::Rule { .. } | ProgramFault::TooBig { .. } => matches!(judge, Judge::Rules),
+        _ => true,
     }
 }
 
-/// What differs, in full: nothing where the source is taken, by the grammar alone or by the static rules too. It is not
-/// run, since many sources of rules run for long.
-fn taken_difference(alloc: Global, row: &Row, rules: bool) -> Result<Vec<u8>> {
-    let got = checked(alloc, &row.source)?;
-    let taken = match got {
-        "taken" => true,
-        "Rule" | "TooBig" => !rules,
-        _ => false,
-    };
-    if taken {
-        return Ok(Vec::new(alloc));
-    }
-    Ok(format!(in alloc; "  it is to be taken\n  it is refused: {got}\n")?.into_bytes())
-}
-
-/// What differs, in full: nothing where the declarations of the source come to what the row says.
-fn declared_difference(alloc: Global, row: &Row) -> Result<Vec<u8>> {
-    let (why, line, byte) = (row.why.as_str(), row.line, row.byte);
-    let wanted = if why == "taken" {
-        why.to_string(alloc)?
-    } else {
-        format!(in alloc; "{why}, line {line}, byte {byte}")?
-    };
-    let got = what_it_comes_to(alloc, &row.source)?;
-    if got.as_str() == wanted.as_str() {
-        return Ok(Vec::new(alloc));
-    }
-    Ok(format!(in alloc; "  it is to come to: {wanted}\n  it comes to: {got}\n")?.into_bytes())
-}
-
-/// The run of the command on the source of a row, on a console without lines. A source that is taken is refused for
-/// none of the reasons.
-fn command_case(alloc: Global, row: Row) -> Result<Case> {
-    let mut case = Case::new(alloc, "")?;
-    if row.why.as_str() == "taken" {
-        for why in &REASONS {
-            let beginning = format!(in alloc; "refused: {why}")?.into_bytes();
-            case.wanted
-                .push(Wanted::Screen(Part::OtherBeginning, beginning))?;
+/// Appends what differs, in full: nothing where the source is taken, by the grammar alone or by the static rules too.
+/// It is not run, since many sources of rules run for long.
+fn compare_taken(alloc: Global, judge: Judge, source: &[u8], differs: &mut Vec<u8>) -> Result<()> {
+    match fault_of(alloc, source) {
+        Ok(Some(fault)) if is_refused(judge, fault) => {
+            writeln!(differs, "  it is to be taken\n  it is refused: {fault}")?;
         }
-    } else {
-        let (why, line, byte) = (row.why.as_str(), row.line, row.byte);
-        let refused = format!(in alloc; "refused: {why}, line {line}, byte {byte}\n")?;
-        case.wanted.push(Wanted::Status(REFUSED))?;
-        case.wanted
-            .push(Wanted::Screen(Part::Whole, refused.into_bytes()))?;
+        Ok(_) => {}
+        Err(error) => writeln!(differs, "  it is to be taken\n  it is refused: {error}")?,
     }
-    case.files.push(File {
-        name: "F".to_string(alloc)?,
-        bytes: row.source,
+    Ok(())
+}
+
+/// Appends what differs, in full: nothing where the declarations of the source come to what the row says.
+fn compare_declared(alloc: Global, row: &Row, differs: &mut Vec<u8>) -> Result<()> {
+    let (why, line, byte) = (row.why, row.line, row.byte);
+    let mut wanted = why.as_bytes().to_vec(alloc)?;
+    if why != "taken" {
+        write!(wanted, ", line {line}, byte {byte}")?;
+    }
+    let mut got = Vec::new(alloc);
+    append_declared(alloc, &row.source, &mut got)?;
+    compare_lines(&wanted, &got, differs)
+}
+
+/// The run of the command on the source of a row that is refused, on a console without lines.
+fn refused_case(alloc: Global, row: &Row) -> Result<Case<'static>> {
+    let (why, line, byte) = (row.why, row.line, row.byte);
+    let mut case = Case::new(alloc, "")?;
+    let refused = format!(in alloc; "refused: {why}, line {line}, byte {byte}\n")?.into_bytes();
+    case.status = Some(REFUSED);
+    case.texts.push(Text {
+        role: Role::Screen(Part::Whole),
+        bytes: refused,
+    })?;
+    case.texts.push(Text {
+        role: Role::File("F"),
+        bytes: row.source.as_slice().to_vec(alloc)?,
     })?;
     Ok(case)
 }
