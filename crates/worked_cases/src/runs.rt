@@ -188,12 +188,15 @@ fn append_seen(alloc: Global, ran: &Ran, wanted: &str, seen: &mut Vec<u8>) -> Re
     }
 }
 
-/// Appends the line on the output: the wanted one where that has the same text.
+/// Appends the line on the output: the wanted one where that has the same text, and else one that begins otherwise.
 fn append_output(alloc: Global, wanted: &str, output: &[u8], seen: &mut Vec<u8>) -> Result<()> {
     let Some(text) = in_quotes(wanted) else {
         bail!("the output is wanted in quotes");
     };
     let is_same = unescaped(alloc, text)?.as_slice() == output;
+    if !is_same {
+        seen.extend_from_slice(b"the ")?;
+    }
     seen.extend_from_slice(b"output \"")?;
     seen.extend_from_slice(if is_same { text.as_bytes() } else { output })?;
     Ok(seen.push(b'"')?)
