@@ -24,7 +24,7 @@ more_child f calls (Child other ∷ es) number =
     ap (λ n. a + n) (more_child f calls es number) ∙ (let e : a + (b + c) ≡ a + b + c = omega arith in e)
 
 module _ {h : History} {first old : Tally} (c : Counts h first old) where
-  -- so many steps were taken, and counted
+  -- this many steps were taken, and counted
   pub counts_fell : (counted left : ℕ) → left ≤ old.left → counted ≡ old.counted + (old.left - left)
       → Counts h first (record { counted = counted; left = left; events = old.events })
   counts_fell counted left fell same =

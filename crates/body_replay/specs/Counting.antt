@@ -46,7 +46,7 @@ pub record Tally : Type 0 where
   pub left : ℕ
   pub events : List Event
 
--- the tally before a call, by its row, where so many steps were counted before
+-- the tally before a call, by its row, where this many steps were counted before
 abbrev pub at_entry : (counted : ℕ) → Call → Tally
 at_entry counted call = record { counted = counted; left = call.entry.steps; events = [] }
 

@@ -67,7 +67,7 @@ kept_state k = record {
   depth = k.depth;
 }
 
--- the tally of a machine before which so many steps were counted
+-- the tally of a machine before which this many steps were counted
 abbrev pub tally : (counted : ℕ) → Machine → List kept.Event → Tally
 tally counted m events = record { counted = counted; left = m.steps; events = events }
 

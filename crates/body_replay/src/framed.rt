@@ -63,7 +63,7 @@ fn frame_made(
     }
 }
 
-/// Goes on until the body has ended, and removes its frame of so many cells at a base.
+/// Goes on until the body has ended, and removes its frame of this many cells at a base.
 fn in_frame<L>(
     alloc: Global,
     program: &Program,

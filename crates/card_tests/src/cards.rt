@@ -11,7 +11,7 @@ use question_text::Recorded;
 use std::alloc::Global;
 use std::test::Fail;
 
-/// A side whose log has so many entries, and whose stack so many cells.
+/// A side whose log has this many entries, and whose stack this many cells.
 fn side(mark: u32, top: u32) -> Side {
     Side {
         mark,

@@ -73,7 +73,7 @@ fn counted(log: &Log, from: u32, to: u32) -> Option<(u64, u64)>
     Some(counts)
 }
 
-/// Whether so many items from a place on are within the input, which has so many.
+/// Whether this many items from a place on are within the input, which has this many.
 fn fits(place: u32, taken: u64, items: u32) -> bool
     requires few { taken < 2 ^ 32 }
     ensures { IsTrue result → place + taken ≤ items }

@@ -4,7 +4,7 @@ use Rattle.cell_names.specs.declared.names.Spot.{Spot}
 use Rattle.cell_names.specs.declared.names.Step.{Step}
 use Rattle.cell_names.specs.Names.{Scene, Way, WentDown, after, here, most_steps, next_step, selector_text, way_by, way_down, way_within}
 
--- so many steps were taken, and what is left of the way begins here
+-- this many steps were taken, and what is left of the way begins here
 pub record IsOnWay (s : Scene) (wanted : Option ℕ) (from : Spot) (before now : List ℕ) (at : Spot) (taken : ℕ) : Type 0 where
   pub text : now ++ (way_within s wanted (most_steps - taken) at).text ≡ before ++ (way_down s wanted from).text
   pub end : (way_within s wanted (most_steps - taken) at).end ≡ (way_down s wanted from).end

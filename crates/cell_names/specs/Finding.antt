@@ -23,7 +23,7 @@ pub record Finding : Type 0 where
   pub component : (owner : ℕ) → (place : ℕ) → Option Part
   pub block : (address : ℕ) → Option Part
 
--- what is found in a program of so many tokens, in whose run this was done
+-- what is found in a program of this many tokens, in whose run this was done
 abbrev pub finding_of : ProgramRows → (tokens : ℕ) → List Touch → Finding
 finding_of p tokens log = record {
   frame = λ routine. finds (frame_parts p routine);

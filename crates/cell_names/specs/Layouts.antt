@@ -30,7 +30,7 @@ part_of p token = option_to_list (part_in token (row_at p token))
 abbrev pub next_name : (token : ℕ) → ℕ
 next_name token = min (token + 2) 4294967295
 
--- so many names of a section of parameters, from one on
+-- this many names of a section of parameters, from one on
 abbrev pub section_parts : ProgramRows → (count : ℕ) → (token : ℕ) → List Part
 section_parts p zero token = []
 section_parts p (suc count) token = part_of p token ++ section_parts p count (next_name token)
@@ -56,7 +56,7 @@ abbrev pub parts_after : (rest : ℕ → List Part) → Option ℕ → List Part
 parts_after rest None = []
 parts_after rest (Some next) = rest next
 
--- the parameters in the sections from one on, of which at most so many are gone through
+-- the parameters in the sections from one on, of which at most this many are gone through
 abbrev pub sections_parts : ProgramRows → (most : ℕ) → (slot : ℕ) → List Part
 sections_parts p zero slot = []
 sections_parts p (suc most) slot =
@@ -94,7 +94,7 @@ own_in level number (row.Name (named.Variable mode.Own of' place l)) =
     if l == level then Some (part place number) else None
 own_in level number r = None
 
--- the variables of a block with so many others around, which stand between two tokens
+-- the variables of a block with this many others around, which stand between two tokens
 unfoldable pub own_between : ProgramRows → (level from to : ℕ) → List Part
 own_between p level from to =
     filter_map (λ token. own_in level token (row_at p token)) (range_with_len from (to - from))

@@ -130,7 +130,7 @@ way_by p go at (Some s) = after (selector_text p s.selector) (go s.spot)
 abbrev pub next_step : Scene → (wanted : Option ℕ) → Spot → Option Step
 next_step s wanted at = if is_wanted wanted at then None else step_down s at
 
--- The way down to a cell: to the cell itself, or to the first variable of a wanted type. At most so many steps are
+-- The way down to a cell: to the cell itself, or to the first variable of a wanted type. At most this many steps are
 -- taken.
 abbrev pub way_within : Scene → (wanted : Option ℕ) → (most : ℕ) → Spot → Way
 way_within s wanted zero at = here at

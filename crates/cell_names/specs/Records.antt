@@ -39,7 +39,7 @@ abbrev pub further : (go : ℕ → Option ℕ) → Option ℕ → Option ℕ
 further go None = None
 further go (Some holder) = go holder
 
--- the record that a holder is, or that has it in its variants, of which at most so many are gone out of
+-- the record that a holder is, or that has it in its variants, of which at most this many are gone out of
 abbrev pub record_of : ProgramRows → (most : ℕ) → (holder : ℕ) → Option ℕ
 record_of p zero holder = None
 record_of p (suc most) holder =
@@ -61,12 +61,12 @@ placed_by p token (Some c) = placed_in token c (record_of p most_nesting c.holde
 abbrev pub placed_at : ProgramRows → (token : ℕ) → Option Placed
 placed_at p token = placed_by p token (component_in (row_at p token))
 
--- what of that is one record's, which is one of so many tokens
+-- what of that is one record's, which is one of this many tokens
 abbrev pub within : (tokens owner : ℕ) → Option Placed → List Part
 within tokens owner None = []
 within tokens owner (Some x) = if (x.owner == owner) && nat_lt owner tokens then x.part ∷ [] else []
 
--- the fields and tags of a record that stand at a token or after it, of so many tokens, in order
+-- the fields and tags of a record that stand at a token or after it, of this many tokens, in order
 unfoldable pub record_parts_from : ProgramRows → (tokens owner from : ℕ) → List Part
 record_parts_from p tokens owner from =
     flat_map (λ token. within tokens owner (placed_at p token)) (range_with_len from (tokens - from))

@@ -86,7 +86,7 @@ fn find_in(lists: &[Places], number: u32, place: u32) -> Option<Part>
 }
 
 impl Names {
-    /// What is found by its place in a program of so many tokens, in whose run this was done. It takes memory.
+    /// What is found by its place in a program of this many tokens, in whose run this was done. It takes memory.
     pub fn new(
         alloc: Global,
         program: &Program,

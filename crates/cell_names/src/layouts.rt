@@ -186,7 +186,7 @@ fn block_start(program: &Program, number: u32, name: u32, before: u32) -> u32
     0
 }
 
-/// A variable of a block with so many others around, by its row.
+/// A variable of a block with this many others around, by its row.
 fn own_in(level: u32, token: u32, row: Row) -> Option<Part>
     ensures { result ≡ own_in level token row }
 {
@@ -212,7 +212,7 @@ fn own_in(level: u32, token: u32, row: Row) -> Option<Part>
     }
 }
 
-/// The variables of a block with so many others around, from a token on and before another.
+/// The variables of a block with this many others around, from a token on and before another.
 fn push_own(
     places: &mut Places,
     program: &Program,

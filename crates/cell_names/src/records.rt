@@ -116,7 +116,7 @@ fn placed_at(program: &Program, token: u32) -> Option<Placed>
     }
 }
 
-/// So many lists, each empty.
+/// This many lists, each empty.
 pub(crate) fn blank_lists(alloc: Global, count: u32) -> Result<Vec<Places>, AllocError>
     ensures { IfOk result (λ lists. lists.items ≡ replicate count []) }
 {
@@ -150,7 +150,7 @@ fn push_component(lists: &mut Vec<Places>, placed: Option<Placed>) -> Result<(),
     }
 }
 
-/// The fields and tags of each record, of so many tokens, by the record's number.
+/// The fields and tags of each record, of this many tokens, by the record's number.
 pub(crate) fn record_places(
     alloc: Global,
     program: &Program,

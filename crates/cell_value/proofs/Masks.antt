@@ -43,7 +43,7 @@ unfolding word_of
 word_same f g same zero = refl
 word_same f g same (suc n) = rw (same n, word_same f g same n) refl
 
--- the word of which so many bits are set, from the first on
+-- the word of which this many bits are set, from the first on
 pub first_bits : (count : ℕ) → count < 64 → 1 * 2 ^ count % 18446744073709551616 - 1 ≡ word_of (λ place. nat_lt place count) 64
 first_bits count h =
     let all = word_past count 64 (omega arith) in

@@ -18,7 +18,7 @@ abbrev pub has_number : SetBits → ℤ → Bool
 has_number set (pos ordinal) = has set ordinal
 has_number set (negsuc below) = false
 
--- the number of so many bits, each of which is set where the test holds of its place
+-- the number of this many bits, each of which is set where the test holds of its place
 unfoldable pub word_of : (ℕ → Bool) → (bits : ℕ) → ℕ
 word_of test zero = 0
 word_of test (suc place) = (if test place then 1 else 0) * 2 ^ place + word_of test place

@@ -120,7 +120,7 @@ found_with frame (Some d) = Some (record { definition = d; frame = frame })
 abbrev pub found_in : Known → ℕ → ℕ → Option Found
 found_in k frame name = found_with frame (defined_in k.regions (frame_at k frame).region name)
 
--- the definition in the closest of at most so many frames outward
+-- the definition in the closest of at most this many frames outward
 abbrev pub find_from : ℕ → Known → Option ℕ → ℕ → Option Found
 find_from n k None name = None
 find_from zero k (Some frame) name = None
@@ -177,7 +177,7 @@ and_threat k variable token = record k {
   threats = slice_set (slice_set k.threats token (threat_before k variable)) variable token;
 }
 
--- the first after a token of at most so many threats, from the last one back
+-- the first after a token of at most this many threats, from the last one back
 abbrev pub threat_after : ℕ → Known → ℕ → ℕ → Option ℕ
 threat_after zero k last token = None
 threat_after (suc n) k last token =

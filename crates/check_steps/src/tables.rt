@@ -358,7 +358,7 @@ impl Tables {
         None
     }
 
-    /// A new region that begins at a token, with its own frame inside another or none, and so many blocks around its
+    /// A new region that begins at a token, with its own frame inside another or none, and this many blocks around its
     /// own: what is given is the number of its frame.
     pub fn open_region(
         &mut self,

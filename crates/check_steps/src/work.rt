@@ -110,7 +110,7 @@ impl Work {
         Ok(number)
     }
 
-    /// A new region that begins at a token, inside a frame or none, with so many blocks around its own: what is given
+    /// A new region that begins at a token, inside a frame or none, with this many blocks around its own: what is given
     /// is the number of its frame.
     #[tactic(auto, unfolding(crate::specs::Steps::extend, crate::specs::Steps::run))]
     pub fn open_region(

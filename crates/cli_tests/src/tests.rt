@@ -29,7 +29,7 @@ fn little_memory(rt: HostRuntime) -> Result<(), Fail> {
     Ok(())
 }
 
-// What the command says of a program whose statement is so many repeats, each in the one before it.
+// What the command says of a program whose statement is this many repeats, each in the one before it.
 fn said_of_repeats(alloc: Global, count: usize) -> Result<Page, Fail> {
     let mut source = Vec::from_slice(alloc, b"program p; begin ")?;
     for _ in 0..count {

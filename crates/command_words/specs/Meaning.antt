@@ -55,7 +55,7 @@ number_spelled text =
 
 -- ---- what may be asked for
 
--- a run may take so many steps
+-- a run may take this many steps
 abbrev pub IsBudget : ℕ → Type 0
 IsBudget steps = (1 ≤ steps) × (steps ≤ 4000000)
 

@@ -204,7 +204,7 @@ pub fn add_actual_cells(
     Ok(None)
 }
 
-/// A routine that was declared so many blocks out, as an actual parameter, and the base of the frame of that block.
+/// A routine that was declared this many blocks out, as an actual parameter, and the base of the frame of that block.
 fn routine_in(
     machine: &mut Machine,
     routine: u32,

@@ -118,7 +118,7 @@ pub fn call_formal(
     }
 }
 
-/// A call of a routine with so many cells is to be entered, in the frame in which its routine was declared, unless
+/// A call of a routine with this many cells is to be entered, in the frame in which its routine was declared, unless
 /// a limit forbids it.
 fn enter(
     body: &mut Body,

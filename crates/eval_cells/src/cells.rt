@@ -14,7 +14,7 @@ use program_tables::Program;
 use program_tables::rows::TypeRow;
 use std::alloc::Global;
 
-/// The values of so many cells from an address on, each read in order, also those that are undefined.
+/// The values of this many cells from an address on, each read in order, also those that are undefined.
 pub fn read_cells(
     alloc: Global,
     machine: &mut Machine,

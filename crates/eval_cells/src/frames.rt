@@ -18,7 +18,7 @@ pub fn moved(address: u32, by: u32) -> u32
     (u64::from(address) + u64::from(by)).min(1_048_576) as u32
 }
 
-/// The base of the frame to which so many links lead from the frame at a base. A link is the cell at a frame's base.
+/// The base of the frame to which this many links lead from the frame at a base. A link is the cell at a frame's base.
 /// Where it names no frame, it is the fault `Undefined`, after the read.
 pub fn frame_out(machine: &mut Machine, levels: u32, base: u32) -> Result<u32, Halt>
     requires ready { IsReady machine.old }
@@ -46,7 +46,7 @@ fn linked_frame(machine: &mut Machine, base: u32) -> Result<u32, Halt>
     }
 }
 
-/// The cell at a place in the frame to which so many links lead from the frame at a base.
+/// The cell at a place in the frame to which this many links lead from the frame at a base.
 pub fn cell_out(machine: &mut Machine, levels: u32, base: u32, place: u32) -> Result<u32, Halt>
     requires ready { IsReady machine.old }
     ensures action { DoesAll (λ a. a) (performs (action.cell_out levels base place) (machine_state machine.old)) result

@@ -52,7 +52,7 @@ pub fn first_moved(
     }
 }
 
-/// Copies so many cells, all read before the first is written.
+/// Copies this many cells, all read before the first is written.
 pub fn copy_cells(
     alloc: Global,
     machine: &mut Machine,

@@ -108,7 +108,7 @@ fn begin_access(
     }
 }
 
-/// A variable, a value parameter or the result of a function, in the frame to which so many links lead.
+/// A variable, a value parameter or the result of a function, in the frame to which this many links lead.
 fn variable(
     body: &mut Body,
     program: &Program,
@@ -132,7 +132,7 @@ fn variable(
     }
 }
 
-/// The variable that a variable parameter stands for, in the frame to which so many links lead.
+/// The variable that a variable parameter stands for, in the frame to which this many links lead.
 fn reference(
     body: &mut Body,
     program: &Program,
@@ -303,7 +303,7 @@ fn variable_value(
     }
 }
 
-/// The values of so many cells.
+/// The values of this many cells.
 fn variable_cells(
     body: &mut Body,
     alloc: Global,

@@ -12,7 +12,7 @@ use eval_machine::{
 use eval_values::truth;
 use std::alloc::Global;
 
-/// Makes a variable of a type with so many cells, by the number of the type, and answers the pointer to it. What
+/// Makes a variable of a type with this many cells, by the number of the type, and answers the pointer to it. What
 /// `make_block` answers otherwise it answers too.
 pub fn make_variable(
     alloc: Global,
@@ -90,8 +90,8 @@ pub fn pointed_at(machine: &mut Machine, addr: u32) -> Result<u32, Halt>
     Ok(found)
 }
 
-/// Drops the block at an address, of a type with so many cells, if its first cell is there, which takes a step to ask;
-/// else it is the fault `Disposed`.
+/// Drops the block at an address, of a type with this many cells, if its first cell is there, which takes a step to
+/// ask; else it is the fault `Disposed`.
 fn drop_found(alloc: Global, machine: &mut Machine, addr: u32, cells: u32) -> Result<(), Halt>
     requires ready { IsReady machine.old }
     ensures action { DoesAll (λ _. tt) (performs (action.drop_found addr cells) (machine_state machine.old)) result
@@ -104,7 +104,7 @@ fn drop_found(alloc: Global, machine: &mut Machine, addr: u32, cells: u32) -> Re
     }
 }
 
-/// Disposes of the variable to which a pointer points, of a type with so many cells. The faults are those of
+/// Disposes of the variable to which a pointer points, of a type with this many cells. The faults are those of
 /// `pointed_by`; then, after a step that asks for its first cell, `Disposed` where that is not there; then those of
 /// `drop_block`.
 pub fn dispose(alloc: Global, machine: &mut Machine, cells: u32, value: Value) -> Result<(), Halt>

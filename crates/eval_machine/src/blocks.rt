@@ -14,21 +14,21 @@ use cell_value::{Kind, Memory, Steps, Touch, Value, Which};
 use persistent_store::Store;
 use std::alloc::Global;
 
-/// The cells of a block for a variable of a type with so many cells: at least one.
+/// The cells of a block for a variable of a type with this many cells: at least one.
 fn block_cells(cells: u32) -> u32
     ensures { result ≡ blocks.block_cells cells }
 {
     cells.max(1)
 }
 
-/// Whether so many cells from an address on lie in the heap.
+/// Whether this many cells from an address on lie in the heap.
 fn lies_in_heap(addr: u32, cells: u32) -> bool
     ensures { result ≡ blocks.lies_in_heap addr cells }
 {
     STACK_END <= addr && u64::from(addr) + u64::from(cells) <= u64::from(HEAP_END)
 }
 
-/// Makes so many cells from an address on, none of them with a value.
+/// Makes this many cells from an address on, none of them with a value.
 fn put_undefined(alloc: Global, store: &mut Store, first: u32, cells: u32) -> Result<(), Memory>
     requires fits { first + cells ≤ heap_end }
     ensures put { OnOk result (store.new ≡ blocks.filled first (replicate cells value.Undefined) store.old) }
@@ -40,7 +40,7 @@ fn put_undefined(alloc: Global, store: &mut Store, first: u32, cells: u32) -> Re
     Ok(())
 }
 
-/// Makes a block of the heap for a variable of a type with so many cells, by the number of the type, and answers the
+/// Makes a block of the heap for a variable of a type with this many cells, by the number of the type, and answers the
 /// address at which it begins. It has a cell at least, none of them with a value, and each takes a step. Where it does
 /// not fit into the heap it answers `Limited(Heap)`, and nothing changes; where fewer steps are left, `OutOfSteps`, and
 /// none are left.
@@ -66,7 +66,7 @@ pub fn make_block(alloc: Global, machine: &mut Machine, cells: u32, of: u32) -> 
     Ok(first)
 }
 
-/// Drops the block of a variable of a type with so many cells, which begins at an address. Each of its cells takes a
+/// Drops the block of a variable of a type with this many cells, which begins at an address. Each of its cells takes a
 /// step. Where they do not all lie in the heap it is the fault `Undefined`, and nothing changes; where fewer steps are
 /// left it answers `OutOfSteps`, and none are left.
 pub fn drop_block(alloc: Global, machine: &mut Machine, addr: u32, cells: u32) -> Result<(), Halt>

@@ -64,7 +64,7 @@ fn put_cells(
     Ok(())
 }
 
-/// Removes so many cells from an address on.
+/// Removes this many cells from an address on.
 pub(crate) fn remove_cells(
     alloc: Global,
     store: &mut Store,
@@ -81,7 +81,7 @@ pub(crate) fn remove_cells(
     Ok(())
 }
 
-/// Makes a frame of so many cells at the machine's top, with a step for each cell: first those of the link and the
+/// Makes a frame of this many cells at the machine's top, with a step for each cell: first those of the link and the
 /// parameters, and then cells of which none has a value. Where the frame would end above the stack it answers
 /// `Limited(Stack)`, and nothing changes; where fewer steps are left, `OutOfSteps`, and none are left.
 pub fn make_frame(
@@ -108,7 +108,7 @@ pub fn make_frame(
     Ok(())
 }
 
-/// Removes the frame of so many cells at a base, which lies in the stack.
+/// Removes the frame of this many cells at a base, which lies in the stack.
 pub fn remove_frame(
     alloc: Global,
     machine: &mut Machine,

@@ -63,7 +63,7 @@ fn reaches(machine: &Machine, addr: u32) -> bool
     addr < machine.top || (STACK_END <= addr && addr < HEAP_END)
 }
 
-/// Takes so many steps. Where fewer are left it answers `OutOfSteps` and leaves none. It takes no memory.
+/// Takes this many steps. Where fewer are left it answers `OutOfSteps` and leaves none. It takes no memory.
 #[inline(always)]
 pub fn spend(machine: &mut Machine, steps: u32) -> Result<(), Halt>
     requires ready { IsReady machine.old }

@@ -111,7 +111,7 @@ operand p home (operands.Component array addr line) x v = with_components p (typ
 abbrev pub pass : Home → (at line : ℕ) → List Value → Tree
 pass home at line passed = Sub (parts.Pass at passed (here home line)) Ret
 
--- a routine that was declared so many blocks out, and the frame of that block
+-- a routine that was declared this many blocks out, and the frame of that block
 abbrev pub declared : (routine levels base : ℕ) → Action (ℕ × ℕ)
 declared routine levels base = frame_out levels base >>= λ frame. Give (routine, frame)
 

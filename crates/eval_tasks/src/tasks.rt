@@ -38,7 +38,7 @@ pub enum Part {
     Block,
     /// The actuals of a read statement from an item on.
     Receive { at: u32, line: u32 },
-    /// The rest of an integer that is read, of which so much was met.
+    /// The rest of an integer that is read, of which this much was met.
     Scanning { scan: Scan, line: u32 },
     /// The rest of a line of the input, with its end.
     RestOfLine { line: u32 },

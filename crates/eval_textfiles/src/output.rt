@@ -76,7 +76,7 @@ pub fn end_page(machine: &mut Machine) -> Result<(), Halt>
     give(machine, 12)
 }
 
-/// Gives so many spaces.
+/// Gives this many spaces.
 fn give_spaces(machine: &mut Machine, number: u64) -> Result<(), Halt>
     requires ready { IsReady machine.old }
     ensures action { DoesAll (λ _. tt) (performs (output.gives (output.spaces number)) (machine_state machine.old))

@@ -119,7 +119,7 @@ fn changes(before: Option<i64>, now: Option<i64>) -> bool
     }
 }
 
-/// So many cells from an address on become undefined.
+/// This many cells from an address on become undefined.
 fn undefine_cells(alloc: Global, machine: &mut Machine, addr: u32, cells: u32) -> Result<(), Halt>
     requires ready { IsReady machine.old }
     ensures action { DoesAll (λ _. tt) (performs (action.undefine_cells addr cells) (machine_state machine.old)) result

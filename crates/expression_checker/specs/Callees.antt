@@ -91,7 +91,7 @@ abbrev pub takes_from : ℕ → Known → ℕ → ℕ → Bool
 takes_from zero k at n = false
 takes_from (suc m) k at n = taken_or (section_at k at) n (takes_from m k)
 
--- Whether a list of sections has so many parameters. No list has more sections than there are tokens.
+-- Whether a list of sections has this many parameters. No list has more sections than there are tokens.
 abbrev pub has_formals : Known → ℕ → ℕ → Bool
 has_formals k sections n = takes_from (length k.words) k sections n
 

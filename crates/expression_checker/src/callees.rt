@@ -47,7 +47,7 @@ pub enum Callee {
 pub enum Formals {
     /// Nothing that is known: their own parts alone are checked.
     Unknown,
-    /// The formal parameters of a section on, of which so many are passed.
+    /// The formal parameters of a section on, of which this many are passed.
     Declared { section: u32, passed: u32 },
     /// A text file that is read.
     File,
@@ -155,7 +155,7 @@ fn names_in(section: Section) -> usize
     }
 }
 
-/// Whether a list of sections has so many parameters.
+/// Whether a list of sections has this many parameters.
 #[tactic(auto, using(crate::proofs::Sections::sections_onward))]
 pub fn has_formals(tables: &Tables, sections: u32, count: usize) -> bool
     ensures { result ≡ has_formals tables.now sections count }
@@ -250,7 +250,7 @@ fn check_function(work: &mut Work, name: u32, frame: u32) -> Callee
     if fine { callee } else { Callee::Wrong }
 }
 
-/// A call of a declared routine or of a required function with so many actual parameters, at its name. With another
+/// A call of a declared routine or of a required function with this many actual parameters, at its name. With another
 /// number than it takes these stand for nothing that is known.
 #[tactic(auto, using(check_steps::proofs::Runs::steps), unfolding(crate::specs::Callees::counted))]
 pub fn check_counted(work: &mut Work, name: u32, callee: Callee, count: usize) -> Called
@@ -265,7 +265,7 @@ pub fn check_counted(work: &mut Work, name: u32, callee: Callee, count: usize) -
     }
 }
 
-/// A function designator with so many actual parameters, before these are checked.
+/// A function designator with this many actual parameters, before these are checked.
 #[tactic(auto, using(check_steps::proofs::Runs::steps), unfolding(crate::specs::Callees::called))]
 pub(crate) fn check_called(work: &mut Work, name: u32, frame: u32, count: usize) -> Called
     ensures { Does (called frame name count) result work.old work.new }

@@ -165,7 +165,7 @@ fn check_factor(work: &mut Work, f: &Factor, frame: u32) -> Typed
     }
 }
 
-/// A function designator with so many actual parameters.
+/// A function designator with this many actual parameters.
 #[cycle(expressions)]
 #[tactic(auto, using(check_steps::proofs::Runs::steps, check_steps::proofs::Runs::loops, crate::proofs::Parts::call_out, crate::proofs::Parts::next_argument_out))]
 fn check_call(work: &mut Work, a: &Arguments, name: u32, frame: u32, count: usize) -> Typed

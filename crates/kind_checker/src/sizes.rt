@@ -13,7 +13,7 @@ const CELLS: u32 = 65_537;
 /// What stands for more cells than a frame may have.
 const FRAME_CELLS: u32 = 524_289;
 
-/// The place in a type after so many cells more.
+/// The place in a type after this many more cells.
 pub fn offset_after(offset: u32, cells: u32) -> u32
     ensures { result ≡ capped (offset + cells) }
 {
@@ -23,7 +23,7 @@ pub fn offset_after(offset: u32, cells: u32) -> u32
     }
 }
 
-/// The place in a frame after so many cells more.
+/// The place in a frame after this many more cells.
 pub fn place_after(place: u32, cells: u32) -> u32
     ensures { result ≡ frame_capped (place + cells) }
 {

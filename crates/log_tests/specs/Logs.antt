@@ -3,7 +3,7 @@ use Rattle.std.specs.Prelude.{◌≡◌, ◌≤◌, ◌*◌, ℕ, All, List, len
 use Rattle.cell_value.specs.declared.entries.Touch.{Touch}
 use Rattle.cell_value.specs.Effects.{IsCountable, made_of, taken_of}
 
--- so many touches, each of which makes three cells at most and takes one item at most
+-- this many touches, each of which makes three cells at most and takes one item at most
 pub record IsLogOf (entries : ℕ) (touches : List Touch) : Type 0 where
   pub entries_are : length touches ≡ entries
   pub countable : All IsCountable touches

@@ -87,7 +87,7 @@ fn touch_of(kind: Kind, value: i64) -> Touch
     }
 }
 
-/// A log of so many touches of these kinds, which follow one another in turn. The values are 1, 2 and so on.
+/// A log of this many touches of these kinds, which follow one another in turn. The values are 1, 2 and so on.
 fn log_of(alloc: Global, kinds: &[Kind], entries: u32) -> Result<Log, Memory>
     requires some { 0 < length kinds.now }
     requires few { entries ≤ 8000000 }

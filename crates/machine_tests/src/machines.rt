@@ -12,7 +12,7 @@ use program_tables::Program;
 use std::alloc::{AllocError, Global};
 use std::process::Abort;
 
-/// A machine without cells whose input is a text, with so many steps.
+/// A machine without cells whose input is a text, with this many steps.
 pub fn machine_of(alloc: Global, input: &[u8], steps: u32) -> Result<Machine, Memory>
     requires few { steps ≤ 8000000 }
     ensures ready { IfOk result IsReady }
@@ -46,7 +46,7 @@ fn items_of(alloc: Global, text: &[u8]) -> Result<Items, Memory> {
     Ok(items)
 }
 
-/// A machine with this input and a frame of so many cells, of which the first is the link.
+/// A machine with this input and a frame of this many cells, of which the first is the link.
 pub fn machine_with(
     rt: &impl Abort,
     alloc: Global,
@@ -105,8 +105,8 @@ pub trait Call: Copy {
 /// A call, and what it is to answer.
 pub type Row<C> = (C, Result<Answer, Halt>);
 
-/// Does the calls one after the other on a machine with this input and a frame of so many cells, and compares what they
-/// answer.
+/// Does the calls one after the other on a machine with this input and a frame of this many cells, and compares what
+/// they answer.
 pub fn rows_hold<C: Call>(
     rt: &impl Abort,
     alloc: Global,

@@ -48,7 +48,7 @@ no_more s n (suc more) h =
     (ap (λ (es : List Entry). answered_to s es (state_after s es)) (no_more s n more h)
     ∙ as_they_were s (entries_after s n) (state_after s (entries_after s n)) h)
 
--- so the entries in the end are those after so many answers
+-- so the entries in the end are those after this many answers
 pub at_end : (s : Subject) (n : ℕ) → n ≤ 99999 → asks (state_after s (entries_after s n)) ≡ false → entries_at_end s ≡ entries_after s n
 unfolding most_answers
 at_end s n few h = let all : n + (99999 - n) ≡ most_answers = omega arith in ap (entries_after s) (sym all) ∙ no_more s n (99999 - n) h

@@ -24,12 +24,12 @@ abbrev pub answered_to : Subject → List Entry → State → List Entry
 answered_to s entries (Ask call weight suspects left) = entries_with entries (Judged call (judgement_of s call))
 answered_to s entries _ = entries
 
--- the entries once so many questions were answered, or all that were asked
+-- the entries once this many questions were answered, or all that were asked
 unfoldable pub entries_after : Subject → ℕ → List Entry
 entries_after s zero = first_entries
 entries_after s (suc n) = answered_to s (entries_after s n) (state_after s (entries_after s n))
 
--- for so many answers there is room in a book after its first entry
+-- for this many answers there is room in a book after its first entry
 unfoldable pub most_answers : ℕ
 most_answers = 99999
 

@@ -62,7 +62,8 @@ entries_after acts = filter_map (entry_unless (is_taken_back acts)) acts
 abbrev pub new_entry : List CommandAct → What → Option CommandAct
 new_entry acts what = if nat_le 100000 (number_made acts) then None else Some (Made (number_made acts + 1) what)
 
--- what a command does after these acts, in a search over so many calls of so many routines; nothing where it is refused
+-- what a command does after these acts, in a search over this many calls of this many routines; nothing where it is
+-- refused
 abbrev pub act_of : ℕ → ℕ → List CommandAct → Command → Option CommandAct
 act_of calls routines acts (Judge call judgement) =
     if nat_le calls call then None else new_entry acts (Judged call judgement)

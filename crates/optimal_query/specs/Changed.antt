@@ -34,7 +34,7 @@ WereMarks book marks (Trusted routine) = ChangesCallsOf book marks routine
 abbrev pub way_up : List ℕ → List ℕ → ℕ → ℕ → ℕ
 way_up depth routine wanted call = if slice_index routine call == wanted then slice_index depth call + 1 else 0
 
--- how much the calls of the routine count among the first so many calls
+-- how much the calls of the routine count among the first this many calls
 unfoldable pub ways_up : List ℕ → List ℕ → ℕ → ℕ → ℕ
 ways_up depth routine wanted calls = sum_by (way_up depth routine wanted) (numbers_below calls)
 

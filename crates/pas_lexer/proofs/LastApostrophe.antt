@@ -34,7 +34,7 @@ use Rattle.pas_lexer.specs.Lexis.{ends_line, in_line, apostrophe, ends_first, do
 use Rattle.pas_lexer.specs.Reading.{more_by, or_else, string_end}
 use Rattle.pas_lexer.proofs.LongestRun.{chosen, fact_of, pass_nil, pass_cons, pass_head, pass_tail}
 
--- characters end at an apostrophe, so many bytes on
+-- characters end at an apostrophe, this many bytes on
 pub record Ended (l : List ℕ) (n : ℕ) : Type 0 where
   pub text : List ℕ
   pub rest : List ℕ

@@ -394,7 +394,7 @@ ends_after b s change keeps x h = record {
   falls = subst (λ n. Fell b h.result.end n s) (sym (keeps h.result.after)) h.falls;
 }
 
--- a rank, and so much for each step that is left
+-- a rank, and this much for each step that is left
 abbrev need : (k r s : ℕ) → ℕ
 need k r s = r + k * s
 

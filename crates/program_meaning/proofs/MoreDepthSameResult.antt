@@ -151,7 +151,7 @@ run_less rules g p zero t σ = less_none _
 run_less rules g p (suc n) t σ = walk_less rules _ _ _ _ (λ part τ. run_less rules g p n (layer p part) τ)
     (λ f args τ. g.call (within rules p n) (within rules p (suc n)) (run_less rules g p n) f args τ) t σ
 
--- so many levels more
+-- this many more levels
 pub more_fuel : (p : ProgramRows) (n m : ℕ) (t : Tree) (σ : State) (r : Result State _) → run_of p n t σ ≡ Some r → run_of p (n + m) t σ ≡ Some r
 more_fuel p n zero t σ r e = subst (λ k. run_of p k t σ ≡ Some r) (let q : n ≡ n + zero = omega arith in q) e
 more_fuel p n (suc m) t σ r e =

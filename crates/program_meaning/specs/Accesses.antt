@@ -138,7 +138,7 @@ type_accessed (Index access index array of') = of'
 type_accessed (Field access field of') = of'
 type_accessed (Dereference access of') = of'
 
--- the values of so many cells from an address on, each read in order, also those that are undefined
+-- the values of this many cells from an address on, each read in order, also those that are undefined
 abbrev pub cells_at : (line addr cells : ℕ) → Tree
 cells_at line addr cells = doing line (reads [] addr cells) (λ vs. Ret (Cells vs))
 

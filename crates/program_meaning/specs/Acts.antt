@@ -49,7 +49,7 @@ pub data Act : Type 0 where
   TakeIf : (wanted : ℕ → Bool) → Act
   -- gives a byte to the output
   GiveByte : (byte : ℕ) → Act
-  -- makes a block of the heap for a variable of a type with so many cells, by the number of the type
+  -- makes a block of the heap for a variable of a type with this many cells, by the number of the type
   MakeBlock : (cells of' : ℕ) → Act
   -- drops the block of such a variable, which begins at an address
   DropBlock : (addr cells : ℕ) → Act
@@ -76,7 +76,7 @@ pub data ActResult (A : Type 0) : Type 0 where
 abbrev pub spent : State → State
 spent σ = record σ { steps = 0 }
 
--- An act that takes so many steps. Where fewer are left it is not done, and none are left then.
+-- An act that takes this many steps. Where fewer are left it is not done, and none are left then.
 abbrev pub with_steps : {A : Type 0} → ℕ → State → (State → ActResult A) → ActResult A
 with_steps n σ go = if nat_lt σ.steps n then Stops OutOfSteps [] (spent σ) else go (record σ { steps = σ.steps - n })
 
@@ -133,7 +133,7 @@ look wanted σ = after_touches (touch.Look σ.place ∷ []) (take_looked wanted 
 
 -- ---- blocks of the heap
 
--- a block of so many cells is made where the heap is free, none of them with a value
+-- a block of this many cells is made where the heap is free, none of them with a value
 abbrev pub made_block : (cells of' : ℕ) → State → ActResult ℕ
 made_block n of' σ = Went σ.fresh (touch.Make σ.fresh n of' ∷ []) (record σ {
   cells = filled σ.fresh (replicate n Undefined) σ.cells;
@@ -146,7 +146,7 @@ make_block n of' σ =
     if nat_lt heap_end (σ.fresh + n) then Stops (Limited Heap) [] σ
     else with_steps n σ (made_block n of')
 
--- the block of so many cells at an address is dropped
+-- the block of this many cells at an address is dropped
 abbrev pub dropped_block : (addr cells : ℕ) → State → ActResult (Unit {0})
 dropped_block addr n σ = Went tt (touch.Drop addr n ∷ []) (record σ { cells = cleared addr n σ.cells })
 

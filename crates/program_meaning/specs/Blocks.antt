@@ -15,10 +15,10 @@ abbrev pub cleared : (first cells : ℕ) → FinMap nat_cmp Value → FinMap nat
 cleared first zero m = m
 cleared first (suc n) m = cleared (first + 1) n (remove m first)
 
--- the cells of a heap block of a type with so many cells: at least one
+-- the cells of a heap block of a type with this many cells: at least one
 abbrev pub block_cells : ℕ → ℕ
 block_cells cells = max cells 1
 
--- whether so many cells from an address on lie in the heap
+-- whether this many cells from an address on lie in the heap
 abbrev pub lies_in_heap : (addr cells : ℕ) → Bool
 lies_in_heap addr cells = nat_le stack_end addr && nat_le (addr + cells) heap_end

@@ -31,7 +31,7 @@ if_there false = Fail (Fault kind.Disposed)
 abbrev pub write : (addr : ℕ) → Value → Action (Unit {0})
 write addr v = act (WriteCell addr v) >>= if_there
 
--- the values of so many cells from an address on, after those that were read before
+-- the values of this many cells from an address on, after those that were read before
 abbrev pub reads : List Value → (addr cells : ℕ) → Action (List Value)
 reads vs addr zero = Give vs
 reads vs addr (suc n) = read addr >>= λ v. reads (vs ++ v ∷ []) (moved addr 1) n
@@ -62,12 +62,12 @@ frame_of_link _ = Fail (Fault kind.Undefined)
 abbrev pub linked : (base : ℕ) → Action ℕ
 linked base = read base >>= frame_of_link
 
--- the base of the frame to which so many links lead
+-- the base of the frame to which this many links lead
 abbrev pub frame_out : (levels base : ℕ) → Action ℕ
 frame_out zero base = Give base
 frame_out (suc n) base = linked base >>= frame_out n
 
--- the cell at a place in the frame to which so many links lead
+-- the cell at a place in the frame to which this many links lead
 abbrev pub cell_out : (levels base place : ℕ) → Action ℕ
 cell_out levels base place = frame_out levels base >>= λ frame. Give (moved frame place)
 
@@ -80,7 +80,7 @@ variable_of _ = Fail (Fault kind.Undefined)
 abbrev pub referred : (addr : ℕ) → Action ℕ
 referred addr = read addr >>= variable_of
 
--- and of the one at a place in the frame to which so many links lead
+-- and of the one at a place in the frame to which this many links lead
 abbrev pub reference_out : (levels base place : ℕ) → Action ℕ
 reference_out levels base place = cell_out levels base place >>= referred
 
@@ -93,7 +93,7 @@ routine_of _ = Fail (Fault kind.Undefined)
 abbrev pub routine_held : (addr : ℕ) → Action (ℕ × ℕ)
 routine_held addr = read addr >>= routine_of
 
--- and of the one at a place in the frame to which so many links lead
+-- and of the one at a place in the frame to which this many links lead
 abbrev pub routine_out : (levels base place : ℕ) → Action (ℕ × ℕ)
 routine_out levels base place = cell_out levels base place >>= routine_held
 

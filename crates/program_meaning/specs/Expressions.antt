@@ -75,8 +75,8 @@ abbrev pub with_frame_size : Option Routine → (ℕ → Tree) → Tree
 with_frame_size None go = no_row
 with_frame_size (Some r) go = go r.cells
 
--- A call of a routine that was declared so many blocks out: the actual parameters, then the links to the frame in which
--- it was declared, the limits, and the routine is entered with its link and the cells of its parameters (6.6.3.1,
+-- A call of a routine that was declared this many blocks out: the actual parameters, then the links to the frame in
+-- which it was declared, the limits, and the routine is entered with its link and the cells of its parameters (6.6.3.1,
 -- 6.8.2.3).
 abbrev pub call : ProgramRows → Here → (routine levels actuals : ℕ) → (Out → Tree) → Tree
 call p here routine levels actuals go = Sub (Pass actuals [] here) (on_cells (λ args.

@@ -48,11 +48,11 @@ drop_found addr cells = do
   there ← if_there found
   act (DropBlock addr cells)
 
--- the variable under a pointer, of a type with so many cells, is disposed of (6.6.5.3)
+-- the variable under a pointer, of a type with this many cells, is disposed of (6.6.5.3)
 abbrev pub dispose : (cells : ℕ) → Value → Action (Unit {0})
 dispose cells v = pointed_by v >>= λ addr. drop_found addr cells
 
--- a variable of a type with so many cells is made; the value of the pointer to it (6.6.5.3)
+-- a variable of a type with this many cells is made; the value of the pointer to it (6.6.5.3)
 abbrev pub made_variable : (cells of' : ℕ) → Action Value
 made_variable cells of' = act (MakeBlock cells of') >>= λ addr. Give (value.Heap addr)
 

@@ -77,7 +77,7 @@ scalar_text host v =
 abbrev pub string_text : List Value → Text
 string_text vs = record { chars = map byte_of vs; is_cut = true }
 
--- so many spaces
+-- this many spaces
 abbrev pub spaces : ℕ → List (Option ℕ)
 spaces n = replicate n (Some space)
 

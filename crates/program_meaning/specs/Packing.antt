@@ -29,7 +29,7 @@ abbrev pub first_moved : (unpacked packed : Components) → (addr : ℕ) → Val
 first_moved unpacked packed addr v =
     position_between unpacked.least unpacked.greatest v >>= start_at unpacked packed addr
 
--- so many cells are copied, all read before the first is written
+-- this many cells are copied, all read before the first is written
 abbrev pub copies : (from to cells : ℕ) → Action (Unit {0})
 copies from to cells = reads [] from cells >>= writes to
 

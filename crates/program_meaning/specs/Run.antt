@@ -100,7 +100,7 @@ pub record Result (S E : Type 0) : Type 0 where
   pub log : List Touch
   pub events : List (Marked E)
 
--- events, so many entries of the log later
+-- events, this many entries of the log later
 abbrev pub later_by : {E : Type 0} → ℕ → List (Marked E) → List (Marked E)
 later_by n es = map (λ e. record { mark = n + e.mark; event = e.event }) es
 

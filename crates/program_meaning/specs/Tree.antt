@@ -51,7 +51,7 @@ pub data Part : Type 0 where
   Count : (row : ℕ) (value last : ℤ) (here : Here) → Part
   -- the actuals of a read statement from an item on
   Receive : (at : ℕ) (here : Here) → Part
-  -- the rest of an integer that is read, of which so much was met
+  -- the rest of an integer that is read, of which this much was met
   Scanning : (scan : Scan) (here : Here) → Part
   -- the rest of a line of the input, with its end
   RestOfLine : (here : Here) → Part
@@ -68,7 +68,7 @@ pub data Tree : Type 0 where
   Do : (line : ℕ) (act : Act) (next : Answer act → Tree) → Tree
   -- a part, and how it goes on after it
   Sub : (part : Part) (next : Out → Tree) → Tree
-  -- a call of a routine with a frame of so many cells, unless a limit would be passed, and how it goes on after it
+  -- a call of a routine with a frame of this many cells, unless a limit would be passed, and how it goes on after it
   Enter : (routine cells : ℕ) (args : List Value) (next : Out → Tree) → Tree
   -- a statement that is neither compound nor empty begins on this line, which takes a step
   Line : (line : ℕ) (next : Tree) → Tree

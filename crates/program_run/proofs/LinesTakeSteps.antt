@@ -14,7 +14,7 @@ use Rattle.program_meaning.proofs.OutcomesCompose.{some_same, none_some}
 use Rattle.eval_machine.specs.Machines.{Moment}
 use Rattle.eval_tasks.specs.Stops.{Stop, AtLine, AtCall, AtEnd, at_call, on_act, next_stop}
 
--- the steps that are left at a stop, where there were so many before
+-- the steps that are left at a stop, where there were this many before
 abbrev pub LeftAt : (before : ℕ) → Stop → (steps : ℕ) → Type 0
 LeftAt before (AtLine line rest) steps = steps < before
 LeftAt before (AtCall routine args rest) steps = steps ≤ before

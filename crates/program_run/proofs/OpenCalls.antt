@@ -56,7 +56,7 @@ whole_less p n (Push under l own) x y h =
     whole_less p n under _ _ (joined_less _ _ _ _ (called_less l _ _ (in_front_less own.log own.events _ _ h))
     (λ out τ. run_less (plain p) (plain_grows p) p n (l.rest out) τ))
 
--- so many levels more
+-- this many more levels
 abbrev pub more : ℕ → ℕ → ℕ
 more zero n = n
 more (suc k) n = suc (more k n)

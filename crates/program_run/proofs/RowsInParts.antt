@@ -102,11 +102,11 @@ belows_append es fs = map-append (λ c. c.event.below) es fs
 pub length_belows : (es : List (Marked Call)) → length (belows es) ≡ length es
 length_belows es = length-map es (λ c. c.event.below)
 
--- where the rows go on after so many
+-- where the rows go on after this many
 abbrev pub further : RowSpot → ℕ → RowSpot
 further s n = record s { number = s.number + n }
 
--- the same spot, so many entries later
+-- the same spot, this many entries later
 abbrev pub later : RowSpot → ℕ → RowSpot
 later s n = record s { mark = s.mark + n }
 

@@ -24,7 +24,7 @@ use Rattle.run_laws.proofs.RunsLeave.{act_left, sound_framed, sound_opened, ran_
 use Rattle.program_run.specs.Tower.{RowSpot, rows_at}
 use Rattle.program_run.proofs.RowsInParts.{rows_append, rows_moved, rows_call, further, later}
 
--- A row tells the depth at which its call was entered; and the call was entered with at most so many steps left, after
+-- A row tells the depth at which its call was entered; and the call was entered with at most this many steps left, after
 -- a beginning of this output.
 pub record Tells (most : ℕ) (output : List ℕ) (row : table.Call) (c : Call) : Type 0 where
   pub depth : row.depth ≡ c.entry.depth

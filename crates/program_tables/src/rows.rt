@@ -545,8 +545,8 @@ pub enum OrdinalFunction {
 /// An access of a variable (6.5). Each row has the type of what it accesses.
 #[derive(Clone, Copy)]
 pub enum AccessRow {
-    /// The cells at a place in the frame to which so many links lead: a variable, a value parameter or the result of a
-    /// function.
+    /// The cells at a place in the frame to which this many links lead: a variable, a value parameter or the result of
+    /// a function.
     Variable {
         place: u32,
         levels: u32,

@@ -71,7 +71,7 @@ pub inward_all : (frames places : List Part) (left : ℕ) → left ≤ 0 → fin
 inward_all frames places left none so_far =
     ap finds (sym (append-nil places)) ∙ ap (λ n. finds (places ++ reverse (take n frames))) (let e : 0 ≡ left = omega (arith, none) in e) ∙ so_far
 
--- so many calls are still to be looked at, from one on
+-- this many calls are still to be looked at, from one on
 abbrev pub from_there : List Call → (looked : ℕ) → Option ℕ → ℕ → Option ℕ
 from_there calls looked at base = call_of_frame calls (length calls - looked) at base
 

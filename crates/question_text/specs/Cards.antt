@@ -23,13 +23,13 @@ use Rattle.question_text.specs.declared.cards.Recorded as kept
 abbrev pub end_text : (items to : ℕ) → List ℕ
 end_text items to = if nat_lt items to then codes " end" else []
 
--- the items that were looked at, so many from a place on; the end of the input counts as one
+-- the items that were looked at, this many from a place on; the end of the input counts as one
 abbrev pub looks_text : (items : List ℕ) → (place looked : ℕ) → List ℕ
 looks_text items place looked = if looked == 0 then [] else inner_line (codes "looks "
     ++ quoted (slice_range items place (min (place + looked) (length items)))
     ++ end_text (length items) (place + looked))
 
--- the items that were taken, so many from a place on
+-- the items that were taken, this many from a place on
 abbrev pub takes_text : (items : List ℕ) → (place taken : ℕ) → List ℕ
 takes_text items place taken =
     if taken == 0 then [] else inner_line (codes "takes " ++ quoted (slice_range items place (place + taken)))
@@ -60,7 +60,7 @@ effect_text s items call touches =
     ++ takes_text items call.entry.place (taken_of touches)
     ++ gives_text (given_of touches)
 
--- a run: its program, of so many tokens, its calls in order of entry, its log and the items of its input
+-- a run: its program, of this many tokens, its calls in order of entry, its log and the items of its input
 pub record Recorded : Type 0 where
   pub program : ProgramRows
   pub tokens : ℕ

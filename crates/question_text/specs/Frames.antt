@@ -18,7 +18,7 @@ abbrev pub opened_by : Option OpenFrame → (go : Option ℕ → List Part) → 
 opened_by None go = []
 opened_by (Some f) go = go f.outer ++ f.part ∷ []
 
--- the calls that are open while one runs, from the outermost on, by where their frames begin; of at most so many
+-- the calls that are open while one runs, from the outermost on, by where their frames begin; of at most this many
 abbrev pub opened_from : List Call → (most : ℕ) → Option ℕ → List Part
 opened_from calls zero call = []
 opened_from calls (suc most) call = opened_by (frame_of calls call) (opened_from calls most)

@@ -53,7 +53,7 @@ fn write_looked(out: &mut Bytes, items: &Items, place: u32, to: u64) -> Result<(
     }
 }
 
-/// Appends the line on the items that were looked at, so many from a place on.
+/// Appends the line on the items that were looked at, this many from a place on.
 fn write_looks(out: &mut Bytes, items: &Items, place: u32, looked: u32) -> Result<(), AllocError>
     requires { place ≤ length items.now }
     ensures { OnOk result (out.new ≡ out.old ++ looks_text items.now place looked) }
@@ -66,7 +66,7 @@ fn write_looks(out: &mut Bytes, items: &Items, place: u32, looked: u32) -> Resul
     out.append(b"\n")
 }
 
-/// Appends the line on the items that were taken, so many from a place on.
+/// Appends the line on the items that were taken, this many from a place on.
 fn write_takes(out: &mut Bytes, items: &Items, place: u32, taken: u32) -> Result<(), AllocError>
     requires { place + taken ≤ length items.now }
     ensures { OnOk result (out.new ≡ out.old ++ takes_text items.now place taken) }
@@ -74,7 +74,7 @@ fn write_takes(out: &mut Bytes, items: &Items, place: u32, taken: u32) -> Result
     if taken == 0 {
         return Ok(());
     }
-    // The input has so many items; so their number is one of 32 bits.
+    // The input has this many items; so their number is one of 32 bits.
     let _most = items.len();
     out.append(b"  takes ")?;
     write_quoted_items(out, items, place, place + taken)?;
@@ -239,8 +239,8 @@ fn write_card(
 /// gave back, and how it ended. After `Memory` the text is as before. Of a number that is no call's nothing is
 /// appended.
 ///
-/// What is found by its place is that of the program, whose source has so many tokens, and of the log. The call's part
-/// of the log is one whose effect can be counted, and the input has the items that it took.
+/// What is found by its place is that of the program, whose source has this many tokens, and of the log. The call's
+/// part of the log is one whose effect can be counted, and the input has the items that it took.
 pub fn write_call(
     alloc: Global,
     out: &mut Bytes,

@@ -27,7 +27,7 @@ use Rattle.run_laws.specs.Laws.{HasFewItems}
 use Rattle.run_laws.proofs.Touches.{written, written-append, left_with, left_same, Serves, serves_append}
 use Rattle.run_laws.proofs.Cells.{got_same, got_other, filled_below, above_block, cleared_below, cleared_none, block_made, block_dropped}
 
--- what a part of a run with these touches and so many calls leaves of a state: what it does to the cells that it shares
+-- what a part of a run with these touches and this many calls leaves of a state: what it does to the cells that it shares
 -- with its caller, and to all else
 pub record Leaves (σ : State) (w : List Touch) (n : ℕ) (τ : State) : Type 0 where
   pub top : τ.top ≡ σ.top

@@ -76,7 +76,7 @@ impl Random {
         }
     }
 
-    /// A command to a search over so many calls with so many entries. Some name a call, a routine or
+    /// A command to a search over this many calls with this many entries. Some name a call, a routine or
     /// an entry that is not there.
     pub fn command(&mut self, calls: u32, entries: u32) -> Command {
         match self.below(10) {

@@ -320,7 +320,7 @@ fn judge_the_child(
     assert_eq!(rt; answer, Ok(entry));
 }
 
-/// Judges call 1 so many times, in turn unknown and right.
+/// Judges call 1 this many times, in turn unknown and right.
 fn judge_in_turn(rt: &impl Abort, search: &mut Debug, times: u32, steps: &mut Steps<()>)
     requires its_depth { slice_index search.old.depth 1 ≡ 1 }
     ensures routine { search.new.book.routine ≡ search.old.book.routine }

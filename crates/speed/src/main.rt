@@ -15,7 +15,7 @@ use std::env;
 use workloads::source_of;
 use yardstick::{ENTRIES, Pushed, push_and_sum};
 
-/// So many nanoseconds for each of so many things, in tenths.
+/// This many nanoseconds for each of this many things, in tenths.
 fn tenths_each(nanos: u128, things: u32) -> u64 {
     let tenths = u64::try_from(nanos).unwrap_or(u64::MAX).saturating_mul(10);
     tenths / u64::from(things.max(1))

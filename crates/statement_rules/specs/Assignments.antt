@@ -70,7 +70,7 @@ target_at k frame name false = target.Access
 abbrev pub begins_at : Known → ℕ → ℕ → Bool
 begins_at k frame token = nat_eq (region_at k.regions (frame_at k frame).region).token token
 
--- whether a region that begins at a token is among the closest so many around
+-- whether a region that begins at a token is among the closest this many around
 abbrev pub is_inside_from : ℕ → Known → Option ℕ → ℕ → Bool
 is_inside_from n k None token = false
 is_inside_from zero k (Some frame) token = false

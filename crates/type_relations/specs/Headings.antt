@@ -67,7 +67,7 @@ both None None match rest = true
 both (Some a) (Some b) match rest = match a.0 b.0 && rest a.1 b.1
 both a b match rest = false
 
--- Two lists have equally many sections, at most so many, and these match in turn.
+-- Two lists have equally many sections, at most this many, and these match in turn.
 abbrev pub lists_match : ℕ → Known → ℕ → ℕ → Bool
 lists_match zero k a b = false
 lists_match (suc n) k a b =

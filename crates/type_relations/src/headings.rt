@@ -21,7 +21,7 @@ pub struct Signature {
 /// A section of formal parameters.
 #[derive(Clone, Copy)]
 pub enum Section {
-    /// So many variables or values of a type.
+    /// This many variables or values of a type.
     Names { mode: Mode, of: u32, count: u32 },
     /// A procedure or function, by the number of its heading.
     Heading(u32),
@@ -112,7 +112,7 @@ fn results_match(tables: &Tables, left: Option<u32>, right: Option<u32>) -> bool
     }
 }
 
-/// Two headings whose lists have at most so many sections.
+/// Two headings whose lists have at most this many sections.
 #[cycle(congruous)]
 fn signatures_match(tables: &Tables, most: u32, left: Signature, right: Signature) -> bool
     ensures { result ≡ signatures_match tables.now (lists_match most tables.now) left right }

@@ -29,7 +29,7 @@ pub enum ExpressionType {
     /// That of a set constructor, or of what an operator on sets gives: the host type of its members, and None where
     /// it has no member.
     Set { host: Option<u32>, packing: Packing },
-    /// That of a string of so many characters, two at least.
+    /// That of a string of this many characters, two at least.
     Text(usize),
 }
 
@@ -42,7 +42,7 @@ pub enum Shape {
     Ordinal(u32),
     /// A set: the host of its base type, and None where it has no member or its base type is unknown.
     Set { host: Option<u32>, packing: Packing },
-    /// A string of so many characters.
+    /// A string of this many characters.
     Text(usize),
     /// The pointer type of this number.
     Pointer(u32),

@@ -22,7 +22,7 @@ use Rattle.typed_trees.proofs.PlacesClosed.{KeepsPlace, Near, keeps}
 
 -- ---- the check
 
--- A level of a rank begins only with levels of a lower one, at most so many tokens close it, and its short tree has at
+-- A level of a rank begins only with levels of a lower one, at most this many tokens close it, and its short tree has at
 -- most as many.
 abbrev pub level_is_brief : (Level → Grammar) → (Level → Node) → (Level → ℕ) → ℕ → Level → Bool
 level_is_brief rule brief rank k l =

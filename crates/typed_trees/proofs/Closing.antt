@@ -1,4 +1,4 @@
--- Whatever is open where a tree breaks off is closed by few tokens: at most so many for each level that is open, and of
+-- Whatever is open where a tree breaks off is closed by few tokens: at most this many for each level that is open, and of
 -- these at most two begin before a token.
 use Rattle.std.proofs.Common.{◌≡◌, ◌+◌, ◌*◌, ◌<◌, ◌≤◌, ℕ, zero, suc, Bool, true, List, ◌++◌, length, Option, sym, ap, subst}
 use Rattle.std.proofs.Common.{◌∙◌, length-append, ◌⊎◌, inl, inr, arith}
@@ -35,7 +35,7 @@ module _ (calm : Terminal → Bool) (t : LevelTables) (g : Grammar) (ok : IsDeci
   pub takes : (b : Grammar) (V : Trees) (x : Node) (h : Option Terminal) → FreeIn E b V x h → solid b ≡ true → 0 < length (spell x)
   takes b V x h r e = spells E b e V x h (loosened E E (λ l x h r. r) b V V (all_in V) x h r)
 
-  -- Of a level with so many tokens up to the break, twice these and its rank are below the room: at any rank.
+  -- Of a level with this many tokens up to the break, twice these and its rank are below the room: at any rank.
   abbrev pub Inner : ℕ → List Item → Type 0
   Inner room front = 2 * length front + 1 < room
 

@@ -36,7 +36,7 @@ begun_by early (level l) = early l
 begun_by early (loop a) = begun_by early a
 begun_by early again = false
 
--- so much as often
+-- this much as often
 abbrev pub times : ℕ → ℕ → ℕ
 times zero k = 0
 times (suc n) k = k + times n k
@@ -59,7 +59,7 @@ longer : (l front : List Item) (z : Item) (rest : List Item) → l ≡ front ++ 
 longer l front z rest e = omega (arith, ap length e, length-append front (z ∷ rest))
 
 module _ (calm : Terminal → Bool) where
-  -- A tree whose spelling begins with these tokens and has at most so many more, in front of each calm terminal.
+  -- A tree whose spelling begins with these tokens and has at most this many more, in front of each calm terminal.
   pub record Closed (Q : Trees) (front : List Item) (most : ℕ) : Type 0 where
     pub tree : Node
     pub more : List Item
