@@ -2,6 +2,7 @@
 ghost use Rattle.eval_machine.specs.Machines.{IsReady};
 
 use crate::machines::machine_with;
+use crate::tables::put_all;
 use cell_value::{ArithOp, Cells, Memory, Value, WayOut};
 use eval_machine::Machine;
 use eval_tasks::{Body, Now, Stop, Task, Turned};
@@ -32,17 +33,9 @@ fn variable() -> Row {
     })
 }
 
-/// `program p(output); var x: integer; begin x := 1 + 2; writeln(x) end.`, with the statements on lines 1 and 2.
-fn program_of(alloc: Global) -> Result<Program, AllocError> {
-    let mut program = Program::new(alloc, 40, Vec::new(alloc))?;
+/// The assignment, on line 1.
+fn put_assignment(program: &mut Program) {
     let rows = [
-        (
-            0,
-            Row::Type(TypeRow::Ordinal {
-                least: -2_147_483_647,
-                greatest: 2_147_483_647,
-            }),
-        ),
         (5, element(7, 12)),
         (6, variable()),
         (
@@ -64,6 +57,13 @@ fn program_of(alloc: Global) -> Result<Program, AllocError> {
             }),
         ),
         (10, constant(2)),
+    ];
+    put_all(program, &rows);
+}
+
+/// The call of writeln, on line 2.
+fn put_writing(program: &mut Program) {
+    let rows = [
         (12, element(13, END)),
         (
             13,
@@ -83,9 +83,19 @@ fn program_of(alloc: Global) -> Result<Program, AllocError> {
         ),
         (15, variable()),
     ];
-    for (number, row) in rows {
-        program.put(number, row);
-    }
+    put_all(program, &rows);
+}
+
+/// `program p(output); var x: integer; begin x := 1 + 2; writeln(x) end.`
+fn program_of(alloc: Global) -> Result<Program, AllocError> {
+    let mut program = Program::new(alloc, 40, Vec::new(alloc))?;
+    let integer = Row::Type(TypeRow::Ordinal {
+        least: -2_147_483_647,
+        greatest: 2_147_483_647,
+    });
+    program.put(0, integer);
+    put_assignment(&mut program);
+    put_writing(&mut program);
     program.add_routine(Routine {
         name: 0,
         heading: 0,

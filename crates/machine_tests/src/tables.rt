@@ -63,7 +63,8 @@ fn choice(value: i32, chosen: u32, next: u32) -> Row {
     })
 }
 
-fn put_all(program: &mut Program, rows: &[(u32, Row)]) {
+/// Puts the rows at their numbers.
+pub fn put_all(program: &mut Program, rows: &[(u32, Row)]) {
     for (number, row) in rows {
         program.put(*number, *row);
     }
@@ -108,6 +109,13 @@ fn put_shape(program: &mut Program) {
             }),
         ),
         (A, field(0, 0, 20)),
+    ];
+    put_all(program, &rows);
+}
+
+/// The outer variant part.
+fn put_outer(program: &mut Program) {
+    let rows = [
         (
             22,
             Row::Part(PartRow::Variants {
@@ -134,6 +142,13 @@ fn put_shape(program: &mut Program) {
         (I, field(0, 2, 27)),
         (29, variant(22, 2)),
         (T, field(2, 3, 29)),
+    ];
+    put_all(program, &rows);
+}
+
+/// The inner variant part.
+fn put_inner(program: &mut Program) {
+    let rows = [
         (
             31,
             Row::Part(PartRow::Variants {
@@ -159,5 +174,7 @@ pub fn table(alloc: Global) -> Result<Program, AllocError> {
     let mut program = Program::new(alloc, 40, Vec::new(alloc))?;
     put_types(&mut program);
     put_shape(&mut program);
+    put_outer(&mut program);
+    put_inner(&mut program);
     Ok(program)
 }

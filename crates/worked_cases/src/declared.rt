@@ -172,9 +172,14 @@ fn packed_text(packed: bool) -> &'static str {
 
 /// Appends what stands at a type's number.
 fn append_type(row: Option<TypeRow>, text: &mut Vec<u8>) -> Result<()> {
-    let Some(row) = row else {
-        return append_option(None, text);
-    };
+    match row {
+        Some(row) => append_type_row(row, text),
+        None => append_option(None, text),
+    }
+}
+
+/// Appends what a type is.
+fn append_type_row(row: TypeRow, text: &mut Vec<u8>) -> Result<()> {
     match row {
         TypeRow::Ordinal { least, greatest } => {
             write!(text, "an ordinal type from {least} to {greatest}")?;
