@@ -17,7 +17,7 @@ use Rattle.session_book.specs.declared.start.Start.{Start}
 use Rattle.session_book.specs.Start.{saved_text}
 use Rattle.ask_session.specs.declared.dialog.Ending.{Ending}
 use Rattle.ask_session.specs.declared.dialog.Ending.TheVariants as ending
-use Rattle.ask_session.specs.Dialog.{ends_session, entries_after_line, file_asked, file_in, is_quit, is_too_long, plain_reply, reply_or_save}
+use Rattle.ask_session.specs.Dialog.{ends_session, entries_after_line, file_asked, saved_file, is_quit, is_too_long, plain_reply, reply_or_save}
 use Rattle.ask_session.specs.Dialog.{save_reply}
 use Rattle.ask_session.specs.Saves.{FileAfter, FilesAfter, Save, counts_saved, saves_asked}
 use Rattle.ask_session.specs.Turned.{AnswersLine, BreaksOff, Hands, LineAt, DialogMoment, NextReply, Passes, Progress, SaveGoes, one_line}
@@ -38,9 +38,9 @@ module _ (line : List ℕ) where
     ends_by b quit =
         ap (λ (long : Bool). if long then false else is_quit (instruction_of line)) (not_long a.short) ∙ ap is_quit (sym a.is) ∙ quit
 
-    asked_by : (file : Option (List ℕ)) → file_in i ≡ file → file_asked line ≡ file
+    asked_by : (file : Option (List ℕ)) → saved_file i ≡ file → file_asked line ≡ file
     asked_by file is =
-        ap (λ (long : Bool). if long then None else file_in (instruction_of line)) (not_long a.short) ∙ ap file_in (sym a.is) ∙ is
+        ap (λ (long : Bool). if long then None else saved_file (instruction_of line)) (not_long a.short) ∙ ap saved_file (sym a.is) ∙ is
 
     plain_by : (s : Subject) (entries : List Entry) → plain_reply s entries line ≡ (outcome s entries i).reply
     plain_by s entries =
@@ -75,7 +75,7 @@ module _ (s : Subject) (start : Start) (old : LineAt) where
   pub breaks_off : (entries : List Entry) → BreaksOff s start old.moment old.line (with_entries old.moment entries)
   breaks_off entries = record { saves = []; answered = omega arith; files_are = refl; counts_are = inl refl }
 
-  pub replies_so : (entries : List Entry) (reply : List ℕ) (i : Instruction) → Asks old.line i → (is_quit i ≡ false) × (file_in i ≡ None)
+  pub replies_so : (entries : List Entry) (reply : List ℕ) (i : Instruction) → Asks old.line i → (is_quit i ≡ false) × (saved_file i ≡ None)
       → replied entries reply ≡ outcome s old.moment.entries i → AnswersLine s start old (Ok reply) (with_entries old.moment entries)
   replies_so entries reply i a on is =
       let none : file_asked old.line ≡ None = asked_by old.line i a None on.1 in (
@@ -88,7 +88,7 @@ module _ (s : Subject) (start : Start) (old : LineAt) where
   pub too_long_so : (reply : List ℕ) → line_bytes < length old.line → reply ≡ codes "line too long\n" → AnswersLine s start old (Ok reply) old.moment
   too_long_so reply long is =
       let e : is_too_long old.line ≡ true = lt-ltb line_bytes (length old.line) long in
-      let none : file_asked old.line ≡ None = ap (λ (b : Bool). if b then None else file_in (instruction_of old.line)) e in (
+      let none : file_asked old.line ≡ None = ap (λ (b : Bool). if b then None else saved_file (instruction_of old.line)) e in (
         [],
         passes_plain old.moment.entries (ap (λ (b : Bool). if b then false else is_quit (instruction_of old.line)) e) none
             (sym (ap (λ (b : Bool). if b then old.moment.entries else (outcome s old.moment.entries (instruction_of old.line)).entries) e)),
@@ -100,7 +100,7 @@ module _ (s : Subject) (start : Start) (old : LineAt) where
 
 module _ (s : Subject) where
   -- only such an instruction names a file, and it leaves the entries
-  entries_stay : (entries : List Entry) (i : Instruction) (file : List ℕ) → file_in i ≡ Some file → (outcome s entries i).entries ≡ entries
+  entries_stay : (entries : List Entry) (i : Instruction) (file : List ℕ) → saved_file i ≡ Some file → (outcome s entries i).entries ≡ entries
   unfolding outcome
   entries_stay entries (asks.Save f) file e = refl
   entries_stay entries asks.Nothing file e = absurd (let x : ⊥ = cc in x)
@@ -115,7 +115,7 @@ module _ (s : Subject) where
   entries_stay entries asks.Other file e = absurd (let x : ⊥ = cc in x)
 
 -- an instruction that names a file is not `quit`
-goes_on : (i : Instruction) (file : List ℕ) → file_in i ≡ Some file → is_quit i ≡ false
+goes_on : (i : Instruction) (file : List ℕ) → saved_file i ≡ Some file → is_quit i ≡ false
 goes_on (asks.Save f) file e = refl
 goes_on asks.Nothing file e = refl
 goes_on (asks.Judge judgement call) file e = refl
@@ -134,7 +134,7 @@ pub record Keeps (start : Start) (old new : DialogMoment) (file : List ℕ) (r :
   pub entries : new.entries ≡ old.entries
 
 module _ (s : Subject) (start : Start) (old : LineAt) where
-  pub saves_so : (new : DialogMoment) (r : Result (List ℕ) Ending) (i : Instruction) (file : List ℕ) → Asks old.line i × (file_in i ≡ Some file)
+  pub saves_so : (new : DialogMoment) (r : Result (List ℕ) Ending) (i : Instruction) (file : List ℕ) → Asks old.line i × (saved_file i ≡ Some file)
       → Keeps start old.moment new file r → AnswersLine s start old r new
   saves_so new r i file names k = by r k.goes
     where

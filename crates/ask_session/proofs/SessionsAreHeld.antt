@@ -12,7 +12,7 @@ use Rattle.session_book.specs.Lines.{misfit_line}
 use Rattle.session_book.specs.Start.{entries_at_start}
 use Rattle.ask_session.specs.declared.dialog.Ending.{Ending}
 use Rattle.ask_session.specs.declared.dialog.Ending.TheVariants as ending
-use Rattle.ask_session.specs.Dialog.{replies, said, said_unless}
+use Rattle.ask_session.specs.Dialog.{replies, said, said_if_fits}
 use Rattle.ask_session.specs.Heard.{GaveBy, Heard, IsHeard, RefusedBy, lines_in}
 use Rattle.ask_session.specs.Outside.{Outside}
 use Rattle.ask_session.specs.Turned.{Talked}
@@ -72,7 +72,7 @@ module _ (s : Subject) (start : Start) where
 
   pub said_misfit : (why : Misfit) (saves : List Bool) (lines : List (List ℕ)) → misfit s start ≡ Some why → said s start saves lines ≡ misfit_line why
   said_misfit why saves lines unfit =
-      ap (λ (m : Option Misfit). said_unless m (opening s (entries_at_start start) ++ replies s (entries_at_start start) saves lines)) unfit
+      ap (λ (m : Option Misfit). said_if_fits m (opening s (entries_at_start start) ++ replies s (entries_at_start start) saves lines)) unfit
 
   pub refused_so : (outside : Outside) (given : Option (List ℕ)) (why : Misfit) → misfit s start ≡ Some why
       → GaveAll outside.streams.given given (misfit_line why) → Went s start outside ending.Refused (with_given outside given)
@@ -93,7 +93,7 @@ module _ (s : Subject) (start : Start) where
   pub said_fit : (saves : List Bool) (lines : List (List ℕ)) → misfit s start ≡ None
       → said s start saves lines ≡ opening s (entries_at_start start) ++ replies s (entries_at_start start) saves lines
   said_fit saves lines fits =
-      ap (λ (m : Option Misfit). said_unless m (opening s (entries_at_start start) ++ replies s (entries_at_start start) saves lines)) fits
+      ap (λ (m : Option Misfit). said_if_fits m (opening s (entries_at_start start) ++ replies s (entries_at_start start) saves lines)) fits
 
   -- what a dialog gave after the opening
   module _ (k0 k1 k2 : Option (List ℕ)) (a b : List ℕ) where

@@ -22,7 +22,7 @@ use Rattle.session_book.specs.Start.{entries_at_start}
 use Rattle.ask_session.specs.declared.dialog.Ending.{Ending}
 use Rattle.ask_session.specs.declared.dialog.Ending.TheVariants as ending
 use Rattle.ask_session.specs.Console.{EndsInTime, FirstAnswered, GaveOf, GoesOn, NotRisen}
-use Rattle.ask_session.specs.Dialog.{said, said_unless, transcript, replies, ends_among}
+use Rattle.ask_session.specs.Dialog.{said, said_if_fits, transcript, replies, ends_among}
 use Rattle.ask_session.specs.Heard.{Heard, lines_in, IsHeard, EndedBy, GaveBy, RefusedBy, is_console, is_screen}
 use Rattle.ask_session.specs.Outside.{Outside}
 use Rattle.ask_session.specs.Saves.{AreAnswered, FilesAfter, Save, saves_in}
@@ -38,11 +38,11 @@ pub record Closed (e : Ending) (console console' screen screen' : ℕ) : Type 0 
 
 -- ---- what is said of more lines
 
-said_longer : (m : Option Misfit) (text more rest : List ℕ) → more ≡ text ++ rest → (back : List ℕ) × (said_unless m more ≡ said_unless m text ++ back)
+said_longer : (m : Option Misfit) (text more rest : List ℕ) → more ≡ text ++ rest → (back : List ℕ) × (said_if_fits m more ≡ said_if_fits m text ++ back)
 said_longer (Some why) text more rest e = ([], sym (append-nil (misfit_line why)))
 said_longer None text more rest e = (rest, e)
 
-said_refused : (m : Option Misfit) (text more : List ℕ) → IsSome m → said_unless m more ≡ said_unless m text
+said_refused : (m : Option Misfit) (text more : List ℕ) → IsSome m → said_if_fits m more ≡ said_if_fits m text
 said_refused (Some why) text more some = refl
 said_refused None text more some = absurd (let x : ⊥ = cc in x)
 
@@ -75,7 +75,8 @@ module _ (s : Subject) (start : Start) where
   -- and all of it, where one of them ends the session
   said_ended : (saves : List Bool) (ls ms : List (List ℕ)) → ends_among ls ≡ true → said s start saves (ls ++ ms) ≡ said s start saves ls
   said_ended saves ls ms e =
-      ap (λ (text : List ℕ). said_unless (misfit s start) (opening s (entries_at_start start) ++ text)) (replies_ended s (entries_at_start start) saves ls ms e)
+      ap (λ (text : List ℕ). said_if_fits (misfit s start) (opening s (entries_at_start start) ++ text))
+          (replies_ended s (entries_at_start start) saves ls ms e)
 
   module _ (left left' : Option (List ℕ)) (bytes : List ℕ) (told : left ≡ Some bytes) where
     -- the bytes heard are the first of those told

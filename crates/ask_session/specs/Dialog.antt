@@ -34,12 +34,12 @@ ends_among lines = list_any ends_session lines
 -- ---- a line that asks to save the session: `save F`
 
 -- the file that it is to be saved in
-abbrev pub file_in : Instruction → Option (List ℕ)
-file_in (Save file) = Some file
-file_in _ = None
+abbrev pub saved_file : Instruction → Option (List ℕ)
+saved_file (Save file) = Some file
+saved_file _ = None
 
 abbrev pub file_asked : List ℕ → Option (List ℕ)
-file_asked line = if is_too_long line then None else file_in (instruction_of line)
+file_asked line = if is_too_long line then None else saved_file (instruction_of line)
 
 -- the reply, by whether the file was stored
 abbrev pub save_reply : Bool → List ℕ → List ℕ
@@ -86,14 +86,14 @@ replies s entries saves (line ∷ lines) =
 -- ---- what is printed
 
 -- of a saved session that does not fit, the line on it and nothing else
-abbrev pub said_unless : Option Misfit → List ℕ → List ℕ
-said_unless (Some misfit) text = misfit_line misfit
-said_unless None text = text
+abbrev pub said_if_fits : Option Misfit → List ℕ → List ℕ
+said_if_fits (Some misfit) text = misfit_line misfit
+said_if_fits None text = text
 
 -- the opening, and the replies
 abbrev pub said : Subject → Start → (saves : List Bool) → (lines : List (List ℕ)) → List ℕ
 said s start saves lines =
-    said_unless (misfit s start)
+    said_if_fits (misfit s start)
     (opening s (entries_at_start start) ++ replies s (entries_at_start start) saves lines)
 
 -- the whole of what is printed where the console has these bytes

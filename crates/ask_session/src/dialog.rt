@@ -13,7 +13,7 @@ ghost use Rattle.dialog_replies.specs.Kept.{IsSearchOf};
 ghost use Rattle.dialog_replies.specs.Subject.{Subject};
 ghost use Rattle.session_book.specs.Start.{entries_at_start, saved_text};
 ghost use Rattle.session_book.specs.declared.start.Start.{Start as StartValue};
-ghost use Rattle.ask_session.specs.Dialog.{file_in, is_quit, save_reply};
+ghost use Rattle.ask_session.specs.Dialog.{saved_file, is_quit, save_reply};
 ghost use Rattle.ask_session.specs.Heard.{is_console, is_screen};
 ghost use Rattle.ask_session.specs.Saves.{FileAfter, counts_saved};
 ghost use Rattle.ask_session.specs.Turned.{AnswersLine, LineAt, NextReply, SaveGoes, Talked, ReplyGiven};
@@ -86,8 +86,8 @@ fn is_quit(instruction: &Instruction<'_>) -> bool
 }
 
 /// The file that the session is to be saved in, if that is asked for.
-fn file_in<'a, 'b>(instruction: &'a Instruction<'b>) -> Option<&'a FileName<'b>>
-    ensures { option_map (λ file. file.now) result ≡ file_in instruction.now }
+fn saved_file<'a, 'b>(instruction: &'a Instruction<'b>) -> Option<&'a FileName<'b>>
+    ensures { option_map (λ file. file.now) result ≡ saved_file instruction.now }
 {
     match instruction {
         Instruction::Save(file) => Some(file),
@@ -188,7 +188,7 @@ fn answer_line<D: Debugged, K: Keeper>(
     if is_quit(&instruction) {
         return Err(Ending::Done);
     }
-    if let Some(file) = file_in(&instruction) {
+    if let Some(file) = saved_file(&instruction) {
         return save(alloc, start, keeper, debug, file);
     }
     match answer(alloc, run, debug, instruction) {

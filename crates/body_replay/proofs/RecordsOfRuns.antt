@@ -10,7 +10,7 @@ use Rattle.call_tree.specs.Told.{IsTold}
 use Rattle.call_tree.specs.declared.records.Call as table
 use Rattle.program_tables.specs.ProgramRows.{ProgramRows}
 use Rattle.program_meaning.specs.State.{State}
-use Rattle.program_meaning.specs.Run.{Marked, Result, Call, Outcome, run, items_of, depth_enough, block, start}
+use Rattle.program_meaning.specs.Run.{Marked, Result, Call, Outcome, run, input_items, depth_enough, block, start}
 use Rattle.program_meaning.specs.Numbering.{StandsAt, belows, parent_of, depth_of}
 use Rattle.program_meaning.specs.Replay.{body}
 use Rattle.program_meaning.proofs.CallsOfRunsNest.{stand_of}
@@ -23,7 +23,7 @@ use Rattle.run_laws.proofs.RunsLeave.{call_leaves}
 use Rattle.run_laws.proofs.RunsRecord.{MadeBy}
 use Rattle.program_run.specs.declared.history.History.{History}
 use Rattle.program_run.specs.History.{IsOfRun, recording_of, log_of, output_of}
-use Rattle.program_run.specs.Table.{row_of, row_with, numbered}
+use Rattle.program_run.specs.Table.{table_row, row_with, table_of}
 use Rattle.program_run.specs.Tower.{first_spot, rows_at}
 use Rattle.program_run.proofs.CallsTold.{calls_told}
 use Rattle.program_run.proofs.RowsInParts.{rows_whole}
@@ -53,10 +53,10 @@ kept {p = p} {input = input} {h = h} few g budget = record { budget = budget; to
 pub record RunOf (p : ProgramRows) (input : List ℕ) (h : History) : Type 0 where
   pub result : Result State Call
   pub is : run p input h.budget ≡ Some result
-  pub calls : h.calls.calls ≡ numbered result.events
+  pub calls : h.calls.calls ≡ table_of result.events
   pub log : h.log ≡ result.log
   pub output : h.output ≡ result.after.output
-  pub items : h.input ≡ items_of input
+  pub items : h.input ≡ input_items input
   pub kept : Kept h
 
 pub run_of_history : {p : ProgramRows} {input : List ℕ} {h : History} → Kept h → IsOfRun p input h.budget h → RunOf p input h
@@ -85,7 +85,7 @@ pub record RowOf (p : ProgramRows) (h : History) (calls : List Call) (number : �
   pub made : MadeBy p call (drop (number + 1) calls)
 
 module _ {p : ProgramRows} {input : List ℕ} {h : History} (g : RunOf p input h) where
-  all_tell : AllTell h.budget h.output (numbered g.result.events) g.result.events
+  all_tell : AllTell h.budget h.output (table_of g.result.events) g.result.events
   all_tell =
       let ran = run_gives p (depth_enough p h.budget) block (start input h.budget) g.result g.is in
       let rows = rows_at first_spot g.result.events in
@@ -95,7 +95,7 @@ module _ {p : ProgramRows} {input : List ℕ} {h : History} (g : RunOf p input h
   pub row_of_run : (number : ℕ) (row : table.Call) → slice_get h.calls.calls number ≡ Some row → RowOf p h (calls_in g.result) number row
   row_of_run number row e =
       let ms = g.result.events in
-      let x = each_at (row_of (belows ms)) 0 number ms row (ap (λ rows. slice_get rows number) (sym g.calls) ∙ e) in
+      let x = each_at (table_row (belows ms)) 0 number ms row (ap (λ rows. slice_get rows number) (sym g.calls) ∙ e) in
       let m = x.element in
       let at : slice_get (calls_in g.result) number ≡ Some m.event = slice_get-map (λ e. e.event) ms number ∙ ap (option_map (λ e. e.event)) x.stands in
       let b = made p input h.budget g.result g.is number m.event at in
@@ -106,15 +106,15 @@ module _ {p : ProgramRows} {input : List ℕ} {h : History} (g : RunOf p input h
           parent = parent_of (belows ms) number;
           depth = depth_of (belows ms) number;
           mark = m.mark;
-          is = sym x.is ∙ ap (λ k. row_of (belows ms) k m) (let z : 0 + number ≡ number = omega arith in z)
+          is = sym x.is ∙ ap (λ k. table_row (belows ms) k m) (let z : 0 + number ≡ number = omega arith in z)
               ∙ ap (λ b. row_with m.event (parent_of (belows ms) number) (depth_of (belows ms) number) (number + b) m.mark) (below_at ms number m x.stands);
           stands = subst (λ log. StandsAt log m.mark m.event.log) (sym g.log)
               (stands_for (λ c. StandsAt g.result.log c.mark c.event.log) ms number m (stand_of p input h.budget g.result g.is) x.stands);
           base = sym (ap (λ c. c.base) b.record');
         };
-        tells = tells_at h.budget h.output (numbered ms) ms number row m all_tell (ap (λ rows. slice_get rows number) (sym g.calls) ∙ e) x.stands;
+        tells = tells_at h.budget h.output (table_of ms) ms number row m all_tell (ap (λ rows. slice_get rows number) (sym g.calls) ∙ e) x.stands;
         told = g.kept.told number row e;
-        items = (stands_for (MeetsItems (items_of input)) (calls_in g.result) number m.event (runs_items p input h.budget g.result g.is) at).before
+        items = (stands_for (MeetsItems (input_items input)) (calls_in g.result) number m.event (runs_items p input h.budget g.result g.is) at).before
             ∙ sym g.items;
         made = b;
       }

@@ -5,22 +5,22 @@ use Rattle.call_tree.specs.declared.records.Call.{Call}
 use Rattle.call_tree.specs.declared.events.Event.{Event}
 use Rattle.call_tree.specs.declared.events.Event.TheVariants.{Line, Child}
 use Rattle.program_run.specs.declared.history.History.{History}
-use Rattle.body_replay.specs.Counting.{Counts, Tally, changes_in, changes_met, if_there, own_steps, steps_met, steps_of, sum_of_children}
+use Rattle.body_replay.specs.Counting.{Counts, Tally, changes_in, changes_met, counted_if_there, own_steps, steps_met, steps_of, sum_of_children}
 
 more_line : (f : Call → ℕ) (calls : List Call) (es : List Event) (line : ℕ)
     → sum_of_children f calls (es ++ Line line ∷ []) ≡ sum_of_children f calls es
 more_line f calls [] line = refl
 more_line f calls (Line other ∷ es) line = more_line f calls es line
-more_line f calls (Child number ∷ es) line = ap (λ n. if_there f (slice_get calls number) + n) (more_line f calls es line)
+more_line f calls (Child number ∷ es) line = ap (λ n. counted_if_there f (slice_get calls number) + n) (more_line f calls es line)
 
 more_child : (f : Call → ℕ) (calls : List Call) (es : List Event) (number : ℕ)
-    → sum_of_children f calls (es ++ Child number ∷ []) ≡ sum_of_children f calls es + if_there f (slice_get calls number)
-more_child f calls [] number = let e : if_there f (slice_get calls number) + 0 ≡ 0 + if_there f (slice_get calls number) = omega arith in e
+    → sum_of_children f calls (es ++ Child number ∷ []) ≡ sum_of_children f calls es + counted_if_there f (slice_get calls number)
+more_child f calls [] number = let e : counted_if_there f (slice_get calls number) + 0 ≡ 0 + counted_if_there f (slice_get calls number) = omega arith in e
 more_child f calls (Line line ∷ es) number = more_child f calls es number
 more_child f calls (Child other ∷ es) number =
-    let a = if_there f (slice_get calls other) in
+    let a = counted_if_there f (slice_get calls other) in
     let b = sum_of_children f calls es in
-    let c = if_there f (slice_get calls number) in
+    let c = counted_if_there f (slice_get calls number) in
     ap (λ n. a + n) (more_child f calls es number) ∙ (let e : a + (b + c) ≡ a + b + c = omega arith in e)
 
 module _ {h : History} {first old : Tally} (c : Counts h first old) where
@@ -53,9 +53,9 @@ module _ {h : History} {first old : Tally} (c : Counts h first old) where
       → Counts h first now
   counts_child now number row e at f =
       let steps : steps_met h now.events ≡ steps_met h old.events + steps_of row = ap (steps_met h) e
-      ∙ more_child steps_of h.calls.calls old.events number ∙ ap (λ o. steps_met h old.events + if_there steps_of o) at in
+      ∙ more_child steps_of h.calls.calls old.events number ∙ ap (λ o. steps_met h old.events + counted_if_there steps_of o) at in
       let changes : changes_met h now.events ≡ changes_met h old.events + changes_in h.log row = ap (changes_met h) e
-      ∙ more_child (changes_in h.log) h.calls.calls old.events number ∙ ap (λ o. changes_met h old.events + if_there (changes_in h.log) o) at in
+      ∙ more_child (changes_in h.log) h.calls.calls old.events number ∙ ap (λ o. changes_met h old.events + counted_if_there (changes_in h.log) o) at in
       let at_entry : old.left ≡ row.entry.steps = f.0 in
       let left : now.left ≡ old.left - steps_of row = f.1 in
       let counted : now.counted ≡ old.counted + changes_in h.log row = f.2 in

@@ -8,7 +8,7 @@ use Rattle.std.proofs.lemmas.Option.{slice_get_within}
 use Rattle.call_tree.specs.declared.records.Call as table
 use Rattle.program_tables.specs.ProgramRows.{ProgramRows, routine_at}
 use Rattle.program_meaning.specs.State.{State}
-use Rattle.program_meaning.specs.Run.{Marked, Result, Call, after_all, framed_run, at_work, opened, closed, block, start}
+use Rattle.program_meaning.specs.Run.{Marked, Result, Call, after_all, framed_run, at_work, opened, call_closed, block, start}
 use Rattle.program_meaning.specs.Run.{depth_enough, result_in, way_out}
 use Rattle.program_meaning.specs.Numbering.{belows, each_from}
 use Rattle.program_meaning.specs.Replay.{Event, Replaying, Replayed, body, on_state, in_replaying, replay_of}
@@ -21,7 +21,7 @@ use Rattle.eval_machine.specs.Machines.{AllowsCall, IsReady, machine_state}
 use Rattle.eval_machine.specs.declared.machine.Machine.{Machine}
 use Rattle.program_run.specs.declared.history.History.{History}
 use Rattle.program_run.specs.History.{IsOfRun}
-use Rattle.program_run.specs.Table.{row_of}
+use Rattle.program_run.specs.Table.{table_row}
 use Rattle.body_replay.specs.Again.{Job, KnownCall}
 use Rattle.body_replay.specs.declared.framed.WorkEnd.{WorkEnd}
 use Rattle.body_replay.specs.Replays.{before_of, events_in, kept_event, work_in}
@@ -75,9 +75,9 @@ module _ {p : ProgramRows} {input : List ℕ} {h : History} (g : RunOf p input h
   known_at items n c e =
       let ms = g.result.events in
       let s = source (λ (e : Marked Call). e.event) ms n c e in
-      let row : table.Call = row_of (belows ms) (0 + n) s.element in
+      let row : table.Call = table_row (belows ms) (0 + n) s.element in
       let there : slice_get h.calls.calls n ≡ Some row =
-      ap (λ rows. slice_get rows n) g.calls ∙ each_there (row_of (belows ms)) 0 n ms s.element s.stands in
+      ap (λ rows. slice_get rows n) g.calls ∙ each_there (table_row (belows ms)) 0 n ms s.element s.stands in
       let r = row_of_run g n row there in
       let same : r.call ≡ c = some_same (sym r.stands ∙ e) in
       let room = r.made.room in
@@ -145,8 +145,8 @@ module _ {p : ProgramRows} {input : List ℕ} {h : History} (g : RunOf p input h
     the_body = body_is p number r.call (drop (number + 1) (calls_in g.result)) r.made depth (omega arith)
 
     -- what is left of it once the call is open
-    in_call : Before (on_state (closed r.call.depth)) framed the_body.run
-    in_call = before_change (on_state (closed r.call.depth)) framed the_body.run the_body.is
+    in_call : Before (on_state (call_closed r.call.depth)) framed the_body.run
+    in_call = before_change (on_state (call_closed r.call.depth)) framed the_body.run the_body.is
 
     pub job : length h.input < 4294967296 → Job h
     job items = record {
@@ -211,13 +211,13 @@ module _ {p : ProgramRows} {input : List ℕ} {h : History} (g : RunOf p input h
     is_end items e d =
         let q : work_in p input h number ≡ Some the_body.run = work_is g r ∙ the_body.is in
         let depth_is : r.call.depth ≡ row.depth = sym (r.tells.depth ∙ ap (λ (c : Call). c.depth) r.made.record') in
-        let left : the_body.run.after.state ≡ closed r.call.depth (machine_state e.machine) = ap (λ (s : Replaying). s.state) in_call.after
-        ∙ ap (closed r.call.depth) d.after in
+        let left : the_body.run.after.state ≡ call_closed r.call.depth (machine_state e.machine) = ap (λ (s : Replaying). s.state) in_call.after
+        ∙ ap (call_closed r.call.depth) d.after in
         record {
           events = sym d.events ∙ ap (λ es. map (λ e. kept_event e.event) es) (sym in_call.events) ∙ ap events_in (sym q);
           way = ap (option_map (λ w. way_out w.end)) q ∙ ap (λ z. Some (way_out z)) in_call.end ∙ ap Some d.way;
           result = ap (option_map (λ w. result_in w.end)) q ∙ ap (λ z. Some (result_in z)) in_call.end ∙ ap Some d.result;
-          exit = ap (option_map (λ w. w.after.state)) q ∙ ap Some left ∙ ap (λ n. Some (closed n (machine_state e.machine))) depth_is;
+          exit = ap (option_map (λ w. w.after.state)) q ∙ ap Some left ∙ ap (λ n. Some (call_closed n (machine_state e.machine))) depth_is;
           steps = ap (λ (σ : State). σ.steps) (sym left) ∙ ap (λ (σ : State). σ.steps) the_body.exit
               ∙ ap (λ (x : table.Call). x.exit.steps) (sym r.recorded.is);
         }

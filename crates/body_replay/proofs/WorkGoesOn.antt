@@ -21,7 +21,6 @@ use Rattle.program_meaning.proofs.OutcomesCompose.{some_same}
 use Rattle.run_laws.specs.Laws.{IsMet}
 use Rattle.eval_machine.specs.Machines.{Moment}
 use Rattle.eval_tasks.specs.Stops.{Stop, AtLine, AtCall, AtEnd, NextStopIs, next_stop}
-use Rattle.eval_tasks.specs.Turns as turns
 use Rattle.program_run.specs.declared.history.History.{History}
 use Rattle.program_run.proofs.ActsKeepCalls.{onward}
 use Rattle.program_run.proofs.LinesTakeSteps.{LeftAt, left_at_stop}
@@ -41,14 +40,6 @@ others_dropped [] zero x ys e = absurd (let z : ⊥ = cc in z)
 others_dropped (c ∷ xs) zero x ys e = ap (drop 1) e
 others_dropped [] (suc i) x ys e = absurd (let z : ⊥ = cc in z)
 others_dropped (c ∷ xs) (suc i) x ys e = others_dropped xs i x ys e
-
-same_end : (w : WayOut) (answer : Option Value) → end_of w answer ≡ turns.end_of w answer
-same_end way.Returned None = refl
-same_end way.Returned (Some v) = refl
-same_end (way.Jumped label base) answer = refl
-same_end (way.Faulted kind line) answer = refl
-same_end way.OutOfSteps answer = refl
-same_end (way.Limited which) answer = refl
 
 -- the effect of a call was put in place of its run
 pub record Applied (c : Call) (v v' : ReplayView) (w : WayOut) (answer : Option Value) : Type 0 where
@@ -99,13 +90,12 @@ module _ {p : ProgramRows} {h : History} {j : Job h} {next : Out → Tree} {v : 
   room = subst (HasRoomFor child) entry known.room
 
   pub goes_on : (v' : ReplayView) (w : WayOut) (answer : Option Value) → Applied child v v' w answer
-      → Reached h j (λ told s. Resumed p told (stage_after next (turns.end_of w answer)) s j.work) v'
+      → Reached h j (λ told s. Resumed p told (stage_after next (end_of w answer)) s j.work) v'
   goes_on v' w answer b =
       let met_now : Event = ChildOf v.next v.state in
       let n = a.next in
       let n' = b.next in
-      let ends : end_of child.way child.result ≡ turns.end_of w answer = same_end child.way child.result
-      ∙ (λ i. turns.end_of (sym b.ended i) (sym b.gave i)) in
+      let ends : end_of child.way child.result ≡ end_of w answer = λ i. end_of (sym b.ended i) (sym b.gave i) in
       let rest : drop child.below a.stands.others ≡ drop (v'.next - (j.number + 1)) j.below =
       ap (drop child.below) (sym (others_dropped j.below so_far child a.stands.others a.stands.calls)) ∙ drop-drop child.below (suc so_far) j.below
       ∙ ap (λ k. drop k j.below) (omega (arith, n, n')) in
@@ -120,7 +110,7 @@ module _ {p : ProgramRows} {h : History} {j : Job h} {next : Out → Tree} {v : 
         next = omega (arith, n, n');
         few = omega (arith, long, steps, calls, few);
         calls = omega (arith, calls, most);
-        stands = subst (λ s. Resumed p (a.told ++ met_now ∷ []) (stage_after next (turns.end_of w answer)) s j.work)
+        stands = subst (λ s. Resumed p (a.told ++ met_now ∷ []) (stage_after next (end_of w answer)) s j.work)
             (λ i. record {
               state = sym b.state i;
               number = (let e : v.next + (child.below + 1) ≡ v'.next = omega (arith, n') in e) i;

@@ -17,7 +17,6 @@ use Rattle.run_laws.specs.Laws.{IsMet}
 use Rattle.eval_machine.specs.Machines.{machine_state}
 use Rattle.eval_tasks.specs.Stops.{Stop, AtLine, AtCall, AtEnd}
 use Rattle.eval_tasks.specs.Rest.{rest_of, waiting}
-use Rattle.eval_tasks.specs.Turns as turns
 use Rattle.program_run.specs.declared.history.History.{History}
 use Rattle.program_run.specs.Tower.{Stage, Rests, Calls, Ends, stage_after}
 use Rattle.body_replay.specs.Records.{HasRoomFor, IsRecordOf}
@@ -145,12 +144,12 @@ AtChild p h j r = Reached h j (λ told s. Met p told (waiting p r.body) s j.work
 -- it is after a call that ended so
 abbrev pub AfterChild : ProgramRows → (h : History) → Job h → WayOut × Option Value → Replayer → Type 0
 AfterChild p h j end r = Reached h j
-    (λ told s. Resumed p told (stage_after (waiting p r.body) (turns.end_of end.0 end.1)) s j.work) (view_of r)
+    (λ told s. Resumed p told (stage_after (waiting p r.body) (end_of end.0 end.1)) s j.work) (view_of r)
 
 -- it goes on, or the body has ended so
 abbrev pub AfterTurn : ProgramRows → (h : History) → Job h → Option (WayOut × Option Value) → Replayer → Type 0
 AfterTurn p h j None r = AtBody p h j r
-AfterTurn p h j (Some end) r = Reached h j (λ told s. Over told (turns.end_of end.0 end.1) s j.work) (view_of r)
+AfterTurn p h j (Some end) r = Reached h j (λ told s. Over told (end_of end.0 end.1) s j.work) (view_of r)
 
 -- a measure of what is still to be done
 abbrev pub work_left : Replayer → ℕ

@@ -17,16 +17,16 @@ steps_of call = call.entry.steps - call.exit.steps
 abbrev pub changes_in : List Touch → Call → ℕ
 changes_in log call = length (changes_of call.entry.top (part_of log call))
 
-abbrev pub if_there : (Call → ℕ) → Option Call → ℕ
-if_there f None = 0
-if_there f (Some call) = f call
+abbrev pub counted_if_there : (Call → ℕ) → Option Call → ℕ
+counted_if_there f None = 0
+counted_if_there f (Some call) = f call
 
 -- the sum of a number of each call that was met
 abbrev pub sum_of_children : (Call → ℕ) → (calls : List Call) → List Event → ℕ
 sum_of_children f calls [] = 0
 sum_of_children f calls (Line line ∷ es) = sum_of_children f calls es
 sum_of_children f calls (Child number ∷ es) =
-    if_there f (slice_get calls number) + sum_of_children f calls es
+    counted_if_there f (slice_get calls number) + sum_of_children f calls es
 
 -- the steps that a call took itself, where these events happened in it
 abbrev pub own_steps : (calls : List Call) → Call → List Event → ℕ

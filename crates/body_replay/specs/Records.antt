@@ -3,7 +3,8 @@ use Rattle.std.specs.Prelude.{◌≡◌, ℕ, ◌+◌, ◌<◌, ◌≤◌, List,
 use Rattle.cell_value.specs.declared.entries.Touch.{Touch}
 use Rattle.cell_value.specs.Effects.{made_of, taken_of}
 use Rattle.call_tree.specs.declared.records.Call as table
-use Rattle.program_meaning.specs.State.{State, heap_end, most_calls}
+use Rattle.cell_value.specs.Effects.{heap_end}
+use Rattle.program_meaning.specs.State.{State, most_calls}
 use Rattle.program_meaning.specs.Run.{Call}
 use Rattle.program_meaning.specs.Numbering.{StandsAt}
 use Rattle.program_run.specs.Table.{row_with}

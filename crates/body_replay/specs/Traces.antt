@@ -9,7 +9,7 @@ use Rattle.program_tables.specs.ProgramRows.{ProgramRows, routine_at}
 use Rattle.program_meaning.specs.State.{State, most_calls}
 use Rattle.program_meaning.specs.Acts.{Trouble, ActResult, Went, Stops}
 use Rattle.program_meaning.specs.Tree.{way_of}
-use Rattle.program_meaning.specs.Run.{Result, at_work, closed, framed_run, way_out, result_in}
+use Rattle.program_meaning.specs.Run.{Result, at_work, call_closed, framed_run, way_out, result_in}
 use Rattle.program_meaning.specs.Replay.{Event, Replayed, Replaying, in_replaying, on_state, replay_of}
 use Rattle.eval_machine.specs.Machines.{machine_state}
 use Rattle.eval_machine.specs.declared.machine.Machine.{Machine}
@@ -46,7 +46,7 @@ pub record IsEndOf (work : Replayed) (row : table.Call) (e : WorkEnd) : Type 0 w
   pub events : e.events ≡ events_in work
   pub way : option_map (λ w. way_out w.end) work ≡ Some e.way
   pub result : option_map (λ w. result_in w.end) work ≡ Some e.answer
-  pub exit : option_map (λ w. w.after.state) work ≡ Some (closed row.depth (machine_state e.machine))
+  pub exit : option_map (λ w. w.after.state) work ≡ Some (call_closed row.depth (machine_state e.machine))
   pub steps : e.machine.steps ≡ row.exit.steps
 
 -- a result with a changed state after it

@@ -5,7 +5,7 @@ ghost use Rattle.program_meaning.specs.State.{stack_end};
 ghost use Rattle.program_meaning.specs.Run.{result_in, way_out, without_frame};
 ghost use Rattle.eval_machine.specs.Frames.{framing};
 ghost use Rattle.eval_machine.specs.Machines.{IsReady, machine_state};
-ghost use Rattle.eval_tasks.specs.Turns.{end_of};
+ghost use Rattle.program_meaning.specs.Replay.{end_of};
 ghost use Rattle.body_replay.specs.Again.{AtBody, Job};
 ghost use Rattle.body_replay.specs.Counting.{Counts, Tally};
 ghost use Rattle.body_replay.specs.Traces.{EndsAs, FrameToMake, FrameMade, changed_result, tally, tally_of};

@@ -2,7 +2,7 @@
 ghost use Rattle.std.specs.Prelude.{◌≡◌, ◌+◌, ◌≤◌, ◌<◌, ◌^◌, IfSome, IsTrue, length, slice_range};
 ghost use Rattle.cell_value.specs.Effects.{IsCountable, made_by, taken_by};
 ghost use Rattle.call_tree.specs.Told.{IsTold};
-ghost use Rattle.cell_names.specs.Finding.{finding_of, found_in};
+ghost use Rattle.cell_names.specs.Finding.{finding_of, finding_in};
 ghost use Rattle.card_tests.specs.Told.{AreCounted, HasOneMore};
 
 use call_tree::Call;
@@ -102,7 +102,7 @@ pub(crate) fn write_if_told(
     from: &Recorded,
     number: u32,
 ) -> Result<bool, AllocError>
-    requires { found_in from.now.names.now ≡ finding_of from.now.program.now from.now.tokens from.now.log.now }
+    requires { finding_in from.now.names.now ≡ finding_of from.now.program.now from.now.tokens from.now.log.now }
 {
     if number >= from.calls.len() || !is_told(from, from.calls.call(number)) {
         return Ok(false);

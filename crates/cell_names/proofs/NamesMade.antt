@@ -11,7 +11,7 @@ use Rattle.cell_names.specs.declared.places.Part.{Part}
 use Rattle.cell_names.specs.Places.{finds}
 use Rattle.cell_names.specs.Layouts.{frame_parts, frame_parts_in}
 use Rattle.cell_names.specs.Records.{record_parts}
-use Rattle.cell_names.specs.Finding.{NameLists, block_by, blocks_of, finding_of, found_in, list_at}
+use Rattle.cell_names.specs.Finding.{NameLists, block_by, blocks_of, finding_of, finding_in, list_at}
 use Rattle.cell_names.proofs.PartsInTurn.{finds_on}
 use Rattle.cell_names.proofs.WrittenInTurn.{drop_get}
 
@@ -68,7 +68,7 @@ frames_end p lists routine so_far all n = frames_by p lists routine so_far all n
 pub names_are : (p : ProgramRows) (tokens : ℕ) (log : List Touch) (lists : NameLists)
     → ((routine : ℕ) → finds (list_at lists.frames routine) ≡ finds (frame_parts p routine))
     → ((owner : ℕ) → finds (list_at lists.records owner) ≡ finds (record_parts p tokens owner)) → finds lists.blocks ≡ finds (blocks_of log)
-    → found_in lists ≡ finding_of p tokens log
+    → finding_in lists ≡ finding_of p tokens log
 names_are p tokens log lists frames records blocks = λ i. record {
   frame = λ routine. frames routine i;
   component = λ owner. records owner i;

@@ -8,8 +8,8 @@ use Rattle.cell_value.specs.Effects.{last_of}
 use Rattle.program_tables.specs.ProgramRows.{ProgramRows, row_at}
 use Rattle.cell_names.specs.declared.places.Part.{Part}
 use Rattle.cell_names.specs.Places.{finds, is_begun, last_at}
-use Rattle.cell_names.specs.Layouts.{block_start, is_name_of, most_sections, next_name, next_section, own_between, own_in, part_of, parts_after}
-use Rattle.cell_names.specs.Layouts.{section_of, section_parts, sections_parts, start_at}
+use Rattle.cell_names.specs.Layouts.{block_start, is_name_of, most_sections, next_name, section_after, own_between, own_in, parts_at, parts_after}
+use Rattle.cell_names.specs.Layouts.{section_of, section_parts, sections_parts, token_or_zero}
 
 later : {X : Type 0} → Option X → Option X → Option X
 later None earlier = earlier
@@ -62,22 +62,22 @@ finds_all xs all e = ap finds (sym (append-nil xs)) ∙ e
 
 -- one more name of a section
 pub section_on : (p : ProgramRows) (old new all : List Part) (count counter token next : ℕ) → counter < count → next ≡ next_name token
-    → finds new ≡ finds (old ++ part_of p token) → finds (old ++ section_parts p (count - counter) token) ≡ finds all
+    → finds new ≡ finds (old ++ parts_at p token) → finds (old ++ section_parts p (count - counter) token) ≡ finds all
     → finds (new ++ section_parts p (count - (counter + 1)) next) ≡ finds all
 section_on p old new all count counter token next below is pushed so_far =
     let e : count - counter ≡ suc (count - (counter + 1)) = omega (arith, below) in
     let s : finds (old ++ section_parts p (suc (count - (counter + 1))) token) ≡ finds all =
     ap (λ n. finds (old ++ section_parts p n token)) (sym e) ∙ so_far in
-    rw is (finds_on old new (part_of p token) (section_parts p (count - (counter + 1)) (next_name token)) all pushed s)
+    rw is (finds_on old new (parts_at p token) (section_parts p (count - (counter + 1)) (next_name token)) all pushed s)
 
-sections_on_by : (p : ProgramRows) (old new all : List Part) (most slot : ℕ) (next : Option ℕ) → next ≡ next_section (row_at p slot)
+sections_on_by : (p : ProgramRows) (old new all : List Part) (most slot : ℕ) (next : Option ℕ) → next ≡ section_after (row_at p slot)
     → finds new ≡ finds (old ++ section_of p (row_at p slot)) → finds (old ++ sections_parts p (suc most) slot) ≡ finds all
     → finds (new ++ parts_after (sections_parts p most) next) ≡ finds all
 sections_on_by p old new all most slot next is pushed so_far =
-    rw is (finds_on old new (section_of p (row_at p slot)) (parts_after (sections_parts p most) (next_section (row_at p slot))) all pushed so_far)
+    rw is (finds_on old new (section_of p (row_at p slot)) (parts_after (sections_parts p most) (section_after (row_at p slot))) all pushed so_far)
 
 -- one more section
-pub sections_on : (p : ProgramRows) (old new all : List Part) (most counter slot : ℕ) (next : Option ℕ) → counter < most → next ≡ next_section (row_at p slot)
+pub sections_on : (p : ProgramRows) (old new all : List Part) (most counter slot : ℕ) (next : Option ℕ) → counter < most → next ≡ section_after (row_at p slot)
     → finds new ≡ finds (old ++ section_of p (row_at p slot)) → finds (old ++ sections_parts p (most - counter) slot) ≡ finds all
     → finds (new ++ parts_after (sections_parts p (most - (counter + 1))) next) ≡ finds all
 sections_on p old new all most counter slot next below is pushed so_far =
@@ -127,7 +127,7 @@ unfolding block_start
 block_here p number name token b some is e =
     let s : token ≡ suc (token - 1) = omega (arith, some) in
     let test = λ (t : ℕ). is_name_of (row_at p t) number name in
-    ap (λ n. start_at (last_of (filter test (range_with_len 0 n)))) s ∙ ap start_at (kept_last test (token - 1) (sym is ∙ e))
+    ap (λ n. token_or_zero (last_of (filter test (range_with_len 0 n)))) s ∙ ap token_or_zero (kept_last test (token - 1) (sym is ∙ e))
 
 -- it begins before one that is none
 pub block_before : (p : ProgramRows) (number name token : ℕ) (b : Bool) → 0 < token → b ≡ is_name_of (row_at p (token - 1)) number name → b ≡ false
@@ -136,12 +136,12 @@ unfolding block_start
 block_before p number name token b some is e =
     let s : token ≡ suc (token - 1) = omega (arith, some) in
     let test = λ (t : ℕ). is_name_of (row_at p t) number name in
-    ap (λ n. start_at (last_of (filter test (range_with_len 0 n)))) s ∙ ap start_at (dropped_last test (token - 1) (sym is ∙ e))
+    ap (λ n. token_or_zero (last_of (filter test (range_with_len 0 n)))) s ∙ ap token_or_zero (dropped_last test (token - 1) (sym is ∙ e))
 
 pub block_first : (p : ProgramRows) (number name token : ℕ) → token ≤ 0 → block_start p number name token ≡ 0
 unfolding block_start
 block_first p number name token none =
-    ap (λ n. start_at (last_of (filter (λ t. is_name_of (row_at p t) number name) (range_with_len 0 n)))) (let z : token ≡ 0 = omega (arith, none) in z)
+    ap (λ n. token_or_zero (last_of (filter (λ t. is_name_of (row_at p t) number name) (range_with_len 0 n)))) (let z : token ≡ 0 = omega (arith, none) in z)
 
 listed : {X : Type 0} (o : Option X) (xs : List X) → cons_option o xs ≡ option_to_list o ++ xs
 listed None xs = refl

@@ -10,7 +10,7 @@ use Rattle.cell_names.specs.declared.places.Part.{Part}
 use Rattle.cell_names.specs.declared.records.Placed.{Placed}
 use Rattle.cell_names.specs.Places.{finds}
 use Rattle.cell_names.specs.Finding.{Adds, list_at}
-use Rattle.cell_names.specs.Records.{further, holder_around, is_record, most_nesting, placed_at, record_of, record_parts_from, within}
+use Rattle.cell_names.specs.Records.{further_holder, holder_around, is_record, most_nesting, placed_at, holding_record, record_parts_from, within}
 use Rattle.cell_names.proofs.PartsInTurn.{finds_all, finds_on}
 use Rattle.cell_names.proofs.PartsSplit.{get_or_any}
 
@@ -20,22 +20,22 @@ deeper counter below = omega (arith, below)
 
 -- the record is here
 pub record_here : (p : ProgramRows) (counter at : ℕ) (b : Bool) → counter < 200 → b ≡ is_record (row_at p at) → b ≡ true
-    → record_of p (most_nesting - counter) at ≡ Some at
+    → holding_record p (most_nesting - counter) at ≡ Some at
 record_here p counter at b below is e =
-    ap (λ n. record_of p n at) (deeper counter below)
-    ∙ ap (λ t. if t then Some at else further (record_of p (most_nesting - (counter + 1))) (holder_around p (row_at p at))) (sym is ∙ e)
+    ap (λ n. holding_record p n at) (deeper counter below)
+    ∙ ap (λ t. if t then Some at else further_holder (holding_record p (most_nesting - (counter + 1))) (holder_around p (row_at p at))) (sym is ∙ e)
 
 -- it is further out
 pub record_further : (p : ProgramRows) (counter at : ℕ) (b : Bool) (o : Option ℕ) → counter < 200 → b ≡ is_record (row_at p at) → b ≡ false
-    → o ≡ holder_around p (row_at p at) → record_of p (most_nesting - counter) at ≡ further (record_of p (most_nesting - (counter + 1))) o
+    → o ≡ holder_around p (row_at p at) → holding_record p (most_nesting - counter) at ≡ further_holder (holding_record p (most_nesting - (counter + 1))) o
 record_further p counter at b o below is e around =
-    ap (λ n. record_of p n at) (deeper counter below)
-    ∙ ap (λ t. if t then Some at else further (record_of p (most_nesting - (counter + 1))) (holder_around p (row_at p at))) (sym is ∙ e)
-    ∙ ap (further (record_of p (most_nesting - (counter + 1)))) (sym around)
+    ap (λ n. holding_record p n at) (deeper counter below)
+    ∙ ap (λ t. if t then Some at else further_holder (holding_record p (most_nesting - (counter + 1))) (holder_around p (row_at p at))) (sym is ∙ e)
+    ∙ ap (further_holder (holding_record p (most_nesting - (counter + 1)))) (sym around)
 
-pub record_nowhere : (p : ProgramRows) (counter at : ℕ) → 200 ≤ counter → record_of p (most_nesting - counter) at ≡ None
+pub record_nowhere : (p : ProgramRows) (counter at : ℕ) → 200 ≤ counter → holding_record p (most_nesting - counter) at ≡ None
 unfolding most_nesting
-record_nowhere p counter at past = ap (λ n. record_of p n at) (let e : 200 - counter ≡ zero = omega (arith, past) in e)
+record_nowhere p counter at past = ap (λ n. holding_record p n at) (let e : 200 - counter ≡ zero = omega (arith, past) in e)
 
 adds_by : (lists : List (List Part)) (placed : Placed) (old new : List Part) → placed.owner < length lists → old ≡ list_at lists placed.owner
     → finds new ≡ finds (old ++ placed.part ∷ []) → (n : ℕ) (b : Bool) → (placed.owner == n) ≡ b

@@ -41,8 +41,8 @@ abbrev pub list_at : List (List Part) → ℕ → List Part
 list_at lists n = slice_index_or lists n []
 
 -- what is found in such lists
-abbrev pub found_in : NameLists → Finding
-found_in lists = record {
+abbrev pub finding_in : NameLists → Finding
+finding_in lists = record {
   frame = λ routine. finds (list_at lists.frames routine);
   component = λ owner. finds (list_at lists.records owner);
   block = finds lists.blocks;

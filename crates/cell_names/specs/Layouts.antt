@@ -17,14 +17,14 @@ use Rattle.cell_names.specs.declared.places.Part.{Part}
 abbrev pub part : (place number : ℕ) → Part
 part place number = record { place = place; number = number }
 
-abbrev pub part_in : (number : ℕ) → Row → Option Part
-part_in number (row.Name (named.Variable mode' of' place level)) = Some (part place number)
-part_in number (row.Name (named.RoutineFormal place level heading)) = Some (part place number)
-part_in number r = None
+abbrev pub named_part : (number : ℕ) → Row → Option Part
+named_part number (row.Name (named.Variable mode' of' place level)) = Some (part place number)
+named_part number (row.Name (named.RoutineFormal place level heading)) = Some (part place number)
+named_part number r = None
 
 -- what the name at a token is in its frame
-abbrev pub part_of : ProgramRows → (token : ℕ) → List Part
-part_of p token = option_to_list (part_in token (row_at p token))
+abbrev pub parts_at : ProgramRows → (token : ℕ) → List Part
+parts_at p token = option_to_list (named_part token (row_at p token))
 
 -- the name after the next comma; numbers of tokens end with the last of 32 bits
 abbrev pub next_name : (token : ℕ) → ℕ
@@ -33,11 +33,11 @@ next_name token = min (token + 2) 4294967295
 -- this many names of a section of parameters, from one on
 abbrev pub section_parts : ProgramRows → (count : ℕ) → (token : ℕ) → List Part
 section_parts p zero token = []
-section_parts p (suc count) token = part_of p token ++ section_parts p count (next_name token)
+section_parts p (suc count) token = parts_at p token ++ section_parts p count (next_name token)
 
 -- a procedure or function as a parameter, by its heading
 abbrev pub heading_part : ProgramRows → Row → List Part
-heading_part p (row.Part (constituent.Heading name sections result)) = part_of p name
+heading_part p (row.Part (constituent.Heading name sections result)) = parts_at p name
 heading_part p r = []
 
 -- the parameters of a section
@@ -47,10 +47,10 @@ section_of p (row.Item (item.RoutineSection heading next)) = heading_part p (row
 section_of p r = []
 
 -- where the section after one stands
-abbrev pub next_section : Row → Option ℕ
-next_section (row.Item (item.Section mode' first count next)) = Some next
-next_section (row.Item (item.RoutineSection heading next)) = Some next
-next_section r = None
+abbrev pub section_after : Row → Option ℕ
+section_after (row.Item (item.Section mode' first count next)) = Some next
+section_after (row.Item (item.RoutineSection heading next)) = Some next
+section_after r = None
 
 abbrev pub parts_after : (rest : ℕ → List Part) → Option ℕ → List Part
 parts_after rest None = []
@@ -60,7 +60,7 @@ parts_after rest (Some next) = rest next
 abbrev pub sections_parts : ProgramRows → (most : ℕ) → (slot : ℕ) → List Part
 sections_parts p zero slot = []
 sections_parts p (suc most) slot =
-    section_of p (row_at p slot) ++ parts_after (sections_parts p most) (next_section (row_at p slot))
+    section_of p (row_at p slot) ++ parts_after (sections_parts p most) (section_after (row_at p slot))
 
 -- more sections than a source of 1,048,576 bytes has
 unfoldable pub most_sections : ℕ
@@ -79,15 +79,15 @@ is_name_of (row.Name (named.Routine assigned n region)) number name = n == numbe
 is_name_of (row.Part (constituent.Completing first)) number name = first == name
 is_name_of r number name = false
 
-abbrev pub start_at : Option ℕ → ℕ
-start_at None = 0
-start_at (Some token) = token
+abbrev pub token_or_zero : Option ℕ → ℕ
+token_or_zero None = 0
+token_or_zero (Some token) = token
 
 -- where the block of a routine begins: at the name in the last heading of the routine before its statement part, and of
 -- the program with its first token
 unfoldable pub block_start : ProgramRows → (number : ℕ) → (name before : ℕ) → ℕ
 block_start p number name before =
-    start_at (last_of (filter (λ token. is_name_of (row_at p token) number name) (range_with_len 0 before)))
+    token_or_zero (last_of (filter (λ token. is_name_of (row_at p token) number name) (range_with_len 0 before)))
 
 abbrev pub own_in : (level number : ℕ) → Row → Option Part
 own_in level number (row.Name (named.Variable mode.Own of' place l)) =

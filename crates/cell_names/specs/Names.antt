@@ -25,7 +25,7 @@ use Rattle.cell_names.specs.declared.names.Origin.TheVariants as origin
 use Rattle.cell_names.specs.declared.names.Root.{Root}
 use Rattle.cell_names.specs.declared.names.Local.{Local}
 use Rattle.cell_names.specs.Places.{finds}
-use Rattle.cell_names.specs.Finding.{Finding, NameLists, found_in}
+use Rattle.cell_names.specs.Finding.{Finding, NameLists, finding_in}
 use Rattle.cell_names.specs.Values.{bounds_of, heap_number, ordinal_text}
 
 -- What the names of cells stand on: a program and what is found in it by its place; of each call of its run the
@@ -46,7 +46,7 @@ pub record SceneLists : Type 0 where
 abbrev pub scene_in : SceneLists → Scene
 scene_in s = record {
   program = s.program;
-  finding = found_in s.names;
+  finding = finding_in s.names;
   routines = s.routines;
   opened = finds s.opened;
 }
@@ -116,15 +116,15 @@ pub record Way : Type 0 where
   pub text : List ℕ
   pub end : Spot
 
-abbrev pub here : Spot → Way
-here at = record { text = []; end = at }
+abbrev pub way_here : Spot → Way
+way_here at = record { text = []; end = at }
 
-abbrev pub after : List ℕ → Way → Way
-after text w = record { text = text ++ w.text; end = w.end }
+abbrev pub way_after : List ℕ → Way → Way
+way_after text w = record { text = text ++ w.text; end = w.end }
 
 abbrev pub way_by : ProgramRows → (go : Spot → Way) → Spot → Option Step → Way
-way_by p go at None = here at
-way_by p go at (Some s) = after (selector_text p s.selector) (go s.spot)
+way_by p go at None = way_here at
+way_by p go at (Some s) = way_after (selector_text p s.selector) (go s.spot)
 
 -- the next step down, unless the way ends here
 abbrev pub next_step : Scene → (wanted : Option ℕ) → Spot → Option Step
@@ -133,15 +133,15 @@ next_step s wanted at = if is_wanted wanted at then None else step_down s at
 -- The way down to a cell: to the cell itself, or to the first variable of a wanted type. At most this many steps are
 -- taken.
 abbrev pub way_within : Scene → (wanted : Option ℕ) → (most : ℕ) → Spot → Way
-way_within s wanted zero at = here at
+way_within s wanted zero at = way_here at
 way_within s wanted (suc most) at = way_by s.program (way_within s wanted most) at (next_step s wanted at)
 
 -- more than the types that a source of 1,048,576 bytes has
-unfoldable pub most_steps : ℕ
-most_steps = 1048576
+unfoldable pub most_types : ℕ
+most_types = 1048576
 
 abbrev pub way_down : Scene → (wanted : Option ℕ) → Spot → Way
-way_down s wanted at = way_within s wanted most_steps at
+way_down s wanted at = way_within s wanted most_types at
 
 -- the selectors of a way were written, and this is where it ends
 pub record WentDown (before : List ℕ) (w : Way) (after : List ℕ) (end : Spot) : Type 0 where

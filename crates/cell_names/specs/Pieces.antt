@@ -28,11 +28,11 @@ escaped item = if item == 34 then codes "\\\""
     else hex_of item
 
 -- what was written or read, in quotation marks
-abbrev pub quoted : List ℕ → List ℕ
-quoted items = codes "\"" ++ flat_map escaped items ++ codes "\""
+abbrev pub in_quotation_marks : List ℕ → List ℕ
+in_quotation_marks items = codes "\"" ++ flat_map escaped items ++ codes "\""
 
 -- a value of the type char: as a string of the language, where the apostrophe is written twice, or by its ordinal
-abbrev pub char_text : ℕ → List ℕ
-char_text ordinal = if ordinal == 39 then codes "''''"
+abbrev pub shown_char : ℕ → List ℕ
+shown_char ordinal = if ordinal == 39 then codes "''''"
     else if is_plain ordinal then codes "'" ++ byte_text ordinal ++ codes "'"
     else codes "chr(" ++ decimal ordinal ++ codes ")"

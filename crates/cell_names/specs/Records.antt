@@ -26,24 +26,25 @@ abbrev pub is_record : Row → Bool
 is_record (row.Type (kind.Record packed region cells variants)) = true
 is_record r = false
 
-abbrev pub holder_in : Row → Option ℕ
-holder_in (row.Part (constituent.Variants hidden offset cells values holder)) = Some holder
-holder_in r = None
+abbrev pub part_holder : Row → Option ℕ
+part_holder (row.Part (constituent.Variants hidden offset cells values holder)) = Some holder
+part_holder r = None
 
 -- the record or the variant that holds the variant part of a variant
 abbrev pub holder_around : ProgramRows → Row → Option ℕ
-holder_around p (row.Part (constituent.Variant variants position)) = holder_in (row_at p variants)
+holder_around p (row.Part (constituent.Variant variants position)) = part_holder (row_at p variants)
 holder_around p r = None
 
-abbrev pub further : (go : ℕ → Option ℕ) → Option ℕ → Option ℕ
-further go None = None
-further go (Some holder) = go holder
+abbrev pub further_holder : (go : ℕ → Option ℕ) → Option ℕ → Option ℕ
+further_holder go None = None
+further_holder go (Some holder) = go holder
 
 -- the record that a holder is, or that has it in its variants, of which at most this many are gone out of
-abbrev pub record_of : ProgramRows → (most : ℕ) → (holder : ℕ) → Option ℕ
-record_of p zero holder = None
-record_of p (suc most) holder =
-    if is_record (row_at p holder) then Some holder else further (record_of p most) (holder_around p (row_at p holder))
+abbrev pub holding_record : ProgramRows → (most : ℕ) → (holder : ℕ) → Option ℕ
+holding_record p zero holder = None
+holding_record p (suc most) holder =
+    if is_record (row_at p holder) then Some holder
+    else further_holder (holding_record p most) (holder_around p (row_at p holder))
 
 -- no source has more variant parts in one another
 unfoldable pub most_nesting : ℕ
@@ -55,7 +56,7 @@ placed_in token c (Some record') = Some (record { owner = record'; part = part c
 
 abbrev pub placed_by : ProgramRows → (token : ℕ) → Option Component → Option Placed
 placed_by p token None = None
-placed_by p token (Some c) = placed_in token c (record_of p most_nesting c.holder)
+placed_by p token (Some c) = placed_in token c (holding_record p most_nesting c.holder)
 
 -- the record to which the name or the word at a token belongs, and where its cells begin there
 abbrev pub placed_at : ProgramRows → (token : ℕ) → Option Placed

@@ -13,7 +13,7 @@ use Rattle.program_tables.specs.declared.rows.TypeRow.TheVariants as kind
 use Rattle.program_tables.specs.declared.rows.TheConstants.{INTEGER, BOOLEAN, CHAR}
 use Rattle.program_tables.specs.ProgramRows.{ProgramRows, type_at, text_at}
 use Rattle.cell_names.specs.declared.values.Bounds.{Bounds}
-use Rattle.cell_names.specs.Pieces.{char_text}
+use Rattle.cell_names.specs.Pieces.{shown_char}
 
 -- the text of a cell to which nothing was assigned, or that holds no value of its type
 abbrev pub unknown : List ℕ
@@ -37,7 +37,7 @@ constant_token host ordinal = min (min (host + 1) 4294967295 + min (ordinal * 2)
 abbrev pub constant_text : ProgramRows → (host ordinal : ℕ) → List ℕ
 constant_text p host ordinal =
     if host == BOOLEAN then if ordinal == 0 then codes "false" else codes "true"
-    else if host == CHAR then char_text ordinal
+    else if host == CHAR then shown_char ordinal
     else text_at p (constant_token host ordinal)
 
 abbrev pub ordered_text : ProgramRows → (host : ℕ) → ℤ → List ℕ
@@ -93,13 +93,13 @@ abbrev pub set_value_text : ProgramRows → (base : ℕ) → Value → List ℕ
 set_value_text p base (value.Bits set) = set_text p base set
 set_value_text p base v = unknown
 
-abbrev pub text_by : ProgramRows → (of' : ℕ) → Option TypeRow → Value → List ℕ
-text_by p of' (Some (kind.Ordinal least greatest)) v = number_text p of' v
-text_by p of' (Some (kind.Subrange host least greatest)) v = number_text p of' v
-text_by p of' (Some (kind.Set packed base)) v = set_value_text p base v
-text_by p of' (Some (kind.Pointer domain)) v = pointer_text v
-text_by p of' t v = unknown
+abbrev pub text_by_type : ProgramRows → (of' : ℕ) → Option TypeRow → Value → List ℕ
+text_by_type p of' (Some (kind.Ordinal least greatest)) v = number_text p of' v
+text_by_type p of' (Some (kind.Subrange host least greatest)) v = number_text p of' v
+text_by_type p of' (Some (kind.Set packed base)) v = set_value_text p base v
+text_by_type p of' (Some (kind.Pointer domain)) v = pointer_text v
+text_by_type p of' t v = unknown
 
 -- a value of a type
 abbrev pub typed_text : ProgramRows → (of' : ℕ) → Value → List ℕ
-typed_text p of' v = text_by p of' (type_at p of') v
+typed_text p of' v = text_by_type p of' (type_at p of') v

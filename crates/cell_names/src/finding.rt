@@ -3,7 +3,7 @@
 ghost use Rattle.std.specs.Prelude.{◌≡◌, ◌++◌, ℕ, IfOk, OnOk};
 ghost use Rattle.cell_names.specs.Places.{finds};
 ghost use Rattle.cell_names.specs.Layouts.{frame_parts};
-ghost use Rattle.cell_names.specs.Finding.{block_by, blocks_of, finding_of, found_in, list_at};
+ghost use Rattle.cell_names.specs.Finding.{block_by, blocks_of, finding_of, finding_in, list_at};
 
 use crate::layouts::frame_places;
 use crate::places::{Part, Places};
@@ -93,7 +93,7 @@ impl Names {
         tokens: u32,
         log: &Log,
     ) -> Result<Names, AllocError>
-        ensures { IfOk result (λ names. found_in names ≡ finding_of program.now tokens log.now) }
+        ensures { IfOk result (λ names. finding_in names ≡ finding_of program.now tokens log.now) }
     {
         let frames = frames_of(alloc, program)?;
         let records = record_places(alloc, program, tokens)?;
@@ -107,21 +107,21 @@ impl Names {
 
     /// What has a place of the frame of a routine: a parameter or a variable, by the token that names it.
     pub(crate) fn local(&self, routine: u32, place: u32) -> Option<Part>
-        ensures { result ≡ (found_in self.now).frame routine place }
+        ensures { result ≡ (finding_in self.now).frame routine place }
     {
         find_in(&self.frames, routine, place)
     }
 
     /// What has a place of a record: a field or a tag, by its number.
     pub(crate) fn component(&self, owner: u32, place: u32) -> Option<Part>
-        ensures { result ≡ (found_in self.now).component owner place }
+        ensures { result ≡ (finding_in self.now).component owner place }
     {
         find_in(&self.records, owner, place)
     }
 
     /// The variable of the heap that has an address, by its type.
     pub(crate) fn block(&self, address: u32) -> Option<Part>
-        ensures { result ≡ (found_in self.now).block address }
+        ensures { result ≡ (finding_in self.now).block address }
     {
         self.blocks.find(address)
     }

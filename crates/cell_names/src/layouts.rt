@@ -4,8 +4,9 @@ ghost use Rattle.std.specs.Prelude.{◌≡◌, ◌++◌, OnOk, IfOk, option_to_l
 ghost use Rattle.program_tables.specs.ProgramRows.{row_at};
 ghost use Rattle.cell_names.specs.Places.{finds};
 ghost use Rattle.cell_names.specs.Layouts.{block_start, frame_parts, heading_part, is_name_of, most_sections};
-ghost use Rattle.cell_names.specs.Layouts.{next_name, next_section, own_between, own_in, parameters_in, parameters_of};
-ghost use Rattle.cell_names.specs.Layouts.{part_in, part_of, section_of, section_parts, sections_parts, variables_of};
+ghost use Rattle.cell_names.specs.Layouts.{next_name, section_after, own_between, own_in, parameters_in, parameters_of};
+ghost use Rattle.cell_names.specs.Layouts.{named_part, parts_at, section_of, section_parts, sections_parts};
+ghost use Rattle.cell_names.specs.Layouts.{variables_of};
 
 use crate::places::{Part, Places};
 use program_tables::rows::{ItemRow, Mode, NameRow, PartRow, Row};
@@ -13,8 +14,8 @@ use program_tables::{Program, Routine};
 use std::alloc::{AllocError, Global};
 
 /// What the name at a token is in its frame, by its row.
-fn part_in(token: u32, row: Row) -> Option<Part>
-    ensures { result ≡ part_in token row }
+fn named_part(token: u32, row: Row) -> Option<Part>
+    ensures { result ≡ named_part token row }
 {
     match row {
         Row::Name(NameRow::Variable { place, .. }) => Some(Part {
@@ -41,9 +42,9 @@ fn push_part(places: &mut Places, part: Option<Part>) -> Result<(), AllocError>
 
 /// What the name at a token is in its frame.
 fn push_name(places: &mut Places, program: &Program, token: u32) -> Result<(), AllocError>
-    ensures { OnOk result (finds places.new ≡ finds (places.old ++ part_of program.now token)) }
+    ensures { OnOk result (finds places.new ≡ finds (places.old ++ parts_at program.now token)) }
 {
-    push_part(places, part_in(token, program.row(token)))
+    push_part(places, named_part(token, program.row(token)))
 }
 
 /// The name after the next comma.
@@ -97,7 +98,7 @@ fn push_section_of(places: &mut Places, program: &Program, section: Row) -> Resu
 
 /// Where the section after one stands, by the row of that.
 fn next_section(section: Row) -> Option<u32>
-    ensures { result ≡ next_section section }
+    ensures { result ≡ section_after section }
 {
     match section {
         Row::Item(ItemRow::Section { next, .. }) => Some(next),
@@ -114,7 +115,7 @@ fn push_section_at(
 ) -> Result<Option<u32>, AllocError>
     ensures { IfOk result (λ next.
         (finds places.new ≡ finds (places.old ++ section_of program.now (row_at program.now slot)))
-        × (next ≡ next_section (row_at program.now slot))) }
+        × (next ≡ section_after (row_at program.now slot))) }
 {
     let section = program.row(slot);
     push_section_of(places, program, section)?;

@@ -2,7 +2,8 @@
 
 ghost use Rattle.std.specs.Prelude.{◌≡◌, ◌++◌, ◌≤◌, OnOk, decimal, flat_map, length, slice_range};
 ghost use Rattle.std.specs.Fmt.{signed_decimal};
-ghost use Rattle.cell_names.specs.Pieces.{byte_text, char_text, escaped, hex_digit, hex_of, is_plain, quoted};
+ghost use Rattle.cell_names.specs.Pieces.{byte_text, shown_char, escaped, hex_digit, hex_of, is_plain};
+ghost use Rattle.cell_names.specs.Pieces.{in_quotation_marks};
 
 use cell_value::Items;
 use edge_ports::Bytes;
@@ -87,7 +88,7 @@ pub(crate) fn write_escaped(out: &mut Bytes, item: u32) -> Result<(), AllocError
 
 /// Appends a value of the type char.
 pub(crate) fn write_char(out: &mut Bytes, ordinal: u32) -> Result<(), AllocError>
-    ensures { OnOk result (out.new ≡ out.old ++ char_text ordinal) }
+    ensures { OnOk result (out.new ≡ out.old ++ shown_char ordinal) }
 {
     if ordinal == 39 {
         out.append(b"''''")
@@ -126,7 +127,7 @@ fn write_items(out: &mut Bytes, items: &Items, from: u32, to: u32) -> Result<(),
 
 /// Appends bytes in quotation marks.
 pub fn write_quoted(out: &mut Bytes, bytes: &[u8]) -> Result<(), AllocError>
-    ensures { OnOk result (out.new ≡ out.old ++ quoted bytes.now) }
+    ensures { OnOk result (out.new ≡ out.old ++ in_quotation_marks bytes.now) }
 {
     out.append(b"\"")?;
     write_bytes(out, bytes)?;
@@ -142,7 +143,7 @@ pub fn write_quoted_items(
 ) -> Result<(), AllocError>
     requires in_order { from ≤ to }
     requires in_input { to ≤ length items.now }
-    ensures { OnOk result (out.new ≡ out.old ++ quoted (slice_range items.now from to)) }
+    ensures { OnOk result (out.new ≡ out.old ++ in_quotation_marks (slice_range items.now from to)) }
 {
     out.append(b"\"")?;
     write_items(out, items, from, to)?;

@@ -3,8 +3,9 @@
 ghost use Rattle.std.specs.Prelude.{◌≡◌, [], ℕ, IfOk, OnOk, length, replicate, Some};
 ghost use Rattle.cell_names.specs.Places.{finds};
 ghost use Rattle.cell_names.specs.Finding.{Adds, list_at};
-ghost use Rattle.cell_names.specs.Records.{component_in, holder_around, holder_in, is_record, most_nesting, placed_at};
-ghost use Rattle.cell_names.specs.Records.{record_of, record_parts, within};
+ghost use Rattle.cell_names.specs.Records.{component_in, holder_around, part_holder, is_record, most_nesting};
+ghost use Rattle.cell_names.specs.Records.{placed_at};
+ghost use Rattle.cell_names.specs.Records.{holding_record, record_parts, within};
 
 use crate::places::{Part, Places};
 use program_tables::Program;
@@ -60,8 +61,8 @@ fn is_record(row: Row) -> bool
 }
 
 /// What holds a variant part, by its row.
-fn holder_in(row: Row) -> Option<u32>
-    ensures { result ≡ holder_in row }
+fn part_holder(row: Row) -> Option<u32>
+    ensures { result ≡ part_holder row }
 {
     match row {
         Row::Part(PartRow::Variants { holder, .. }) => Some(holder),
@@ -74,14 +75,14 @@ fn holder_around(program: &Program, row: Row) -> Option<u32>
     ensures { result ≡ holder_around program.now row }
 {
     match row {
-        Row::Part(PartRow::Variant { variants, .. }) => holder_in(program.row(variants)),
+        Row::Part(PartRow::Variant { variants, .. }) => part_holder(program.row(variants)),
         _ => None,
     }
 }
 
 /// The record that a holder is, or that has it in its variants.
 fn record_of(program: &Program, holder: u32) -> Option<u32>
-    ensures { result ≡ record_of program.now most_nesting holder }
+    ensures { result ≡ holding_record program.now most_nesting holder }
 {
     let mut at = holder;
     'holders: for _ in 0..200u32 {

@@ -6,7 +6,7 @@ use Rattle.std.proofs.Math.Nat.{pow-suc}
 use Rattle.std.proofs.Math.Pow.{pow-lt}
 use Rattle.std.proofs.lemmas.Bool.{cases_lt}
 use Rattle.cell_value.specs.declared.values.SetBits.{SetBits}
-use Rattle.cell_value.specs.Sets.{has, holds_below, is_between, is_included, is_outside_or_between, lies_between, set_of, word_of}
+use Rattle.cell_value.specs.Sets.{has, holds_below, is_between, is_included, is_outside_or_between, lies_between, set_of, bits_where}
 use Rattle.cell_value.proofs.WordsMakeSets.{has_set_of}
 
 pub is_below : (n count : ℕ) → n < count → nat_lt n count ≡ true
@@ -17,40 +17,40 @@ is_not_below n count h = grind arith
 
 -- ---- words
 
-word_of_first : (count bits : ℕ) → bits ≤ count → word_of (λ place. nat_lt place count) bits + 1 ≡ 2 ^ bits
-unfolding word_of
+word_of_first : (count bits : ℕ) → bits ≤ count → bits_where (λ place. nat_lt place count) bits + 1 ≡ 2 ^ bits
+unfolding bits_where
 word_of_first count zero h = refl
 word_of_first count (suc n) h =
     let before = word_of_first count n (omega arith) in
     rw (is_below n count (omega arith), pow-suc 2 n) (omega (arith, before))
 
-word_past_by : (count n : ℕ) → (count ≤ n → word_of (λ place. nat_lt place count) n + 1 ≡ 2 ^ count) → count ≤ suc n
-    → (n < count) ⊎ (count ≤ n) → word_of (λ place. nat_lt place count) (suc n) + 1 ≡ 2 ^ count
-unfolding word_of
+word_past_by : (count n : ℕ) → (count ≤ n → bits_where (λ place. nat_lt place count) n + 1 ≡ 2 ^ count) → count ≤ suc n
+    → (n < count) ⊎ (count ≤ n) → bits_where (λ place. nat_lt place count) (suc n) + 1 ≡ 2 ^ count
+unfolding bits_where
 word_past_by count n before h (inl less) =
     let e : suc n ≡ count = omega arith in
     word_of_first count (suc n) (omega arith) ∙ ap (λ k. 2 ^ k) e
 word_past_by count n before h (inr more) = let here = before more in rw (is_not_below n count more) (omega (arith, here))
 
-word_past : (count bits : ℕ) → count ≤ bits → word_of (λ place. nat_lt place count) bits + 1 ≡ 2 ^ count
-unfolding word_of
+word_past : (count bits : ℕ) → count ≤ bits → bits_where (λ place. nat_lt place count) bits + 1 ≡ 2 ^ count
+unfolding bits_where
 word_past zero zero h = refl
 word_past (suc count) zero h = let wrong : ⊥ = omega arith in absurd wrong
 word_past count (suc n) h = word_past_by count n (word_past count n) h (cases_lt n count)
 
-word_same : (f g : ℕ → Bool) → ((place : ℕ) → f place ≡ g place) → (bits : ℕ) → word_of f bits ≡ word_of g bits
-unfolding word_of
+word_same : (f g : ℕ → Bool) → ((place : ℕ) → f place ≡ g place) → (bits : ℕ) → bits_where f bits ≡ bits_where g bits
+unfolding bits_where
 word_same f g same zero = refl
 word_same f g same (suc n) = rw (same n, word_same f g same n) refl
 
 -- the word of which this many bits are set, from the first on
-pub first_bits : (count : ℕ) → count < 64 → 1 * 2 ^ count % 18446744073709551616 - 1 ≡ word_of (λ place. nat_lt place count) 64
+pub first_bits : (count : ℕ) → count < 64 → 1 * 2 ^ count % 18446744073709551616 - 1 ≡ bits_where (λ place. nat_lt place count) 64
 first_bits count h =
     let all = word_past count 64 (omega arith) in
     let small : 2 ^ count < 18446744073709551616 = pow-lt h in
     omega (arith, all, small)
 
-pub all_bits : (count : ℕ) → 64 ≤ count → 18446744073709551615 ≡ word_of (λ place. nat_lt place count) 64
+pub all_bits : (count : ℕ) → 64 ≤ count → 18446744073709551615 ≡ bits_where (λ place. nat_lt place count) 64
 all_bits count h = let all = word_of_first count 64 h in omega (arith, all)
 
 -- ---- sets
@@ -59,13 +59,13 @@ less_by : (by n bound : ℕ) → (by + n < bound) ⊎ (bound ≤ by + n) → nat
 less_by by n bound (inl low) = is_below n (bound - by) (omega arith) ∙ sym (is_below (by + n) bound low)
 less_by by n bound (inr high) = is_not_below n (bound - by) (omega arith) ∙ sym (is_not_below (by + n) bound high)
 
-word_moved : (by bound : ℕ) → word_of (λ place. nat_lt place (bound - by)) 64 ≡ word_of (λ place. nat_lt (by + place) bound) 64
+word_moved : (by bound : ℕ) → bits_where (λ place. nat_lt place (bound - by)) 64 ≡ bits_where (λ place. nat_lt (by + place) bound) 64
 word_moved by bound = word_same _ _ (λ n. less_by by n bound (cases_lt (by + n) bound)) 64
 
 -- the four words of the set of the ordinals below a bound
 pub below_is : (bound : ℕ) → record {
-  words = word_of (λ place. nat_lt place bound) 64 ∷ word_of (λ place. nat_lt place (bound - 64)) 64
-      ∷ word_of (λ place. nat_lt place (bound - 128)) 64 ∷ word_of (λ place. nat_lt place (bound - 192)) 64 ∷ [];
+  words = bits_where (λ place. nat_lt place bound) 64 ∷ bits_where (λ place. nat_lt place (bound - 64)) 64
+      ∷ bits_where (λ place. nat_lt place (bound - 128)) 64 ∷ bits_where (λ place. nat_lt place (bound - 192)) 64 ∷ [];
 } ≡ set_of (λ ordinal. nat_lt ordinal bound)
 unfolding set_of
 below_is bound = rw (word_moved 64 bound, word_moved 128 bound, word_moved 192 bound) refl

@@ -10,7 +10,7 @@ use Rattle.std.proofs.lemmas.Bool.{cases_lt}
 use Rattle.std.proofs.lemmas.Nat.Bits.{bit_at-lt, bit_at_or, bit_at_and, bit_at_not, bit_at_cat_low, bit_at_cat_high, same_from_bits_below}
 use Rattle.std.proofs.lemmas.Option.{slice_get-get_or, slice_get_past}
 use Rattle.cell_value.specs.declared.values.SetBits.{SetBits}
-use Rattle.cell_value.specs.Sets.{has, word_of, set_of}
+use Rattle.cell_value.specs.Sets.{has, bits_where, set_of}
 
 -- ---- one bit
 
@@ -32,8 +32,8 @@ word_of_next : (b : Bool) (x n : ℕ) → x < n → cond b 1 0 * n + x < n * 2
 word_of_next true x n h = omega arith
 word_of_next false x n h = omega arith
 
-pub word_of_small : (test : ℕ → Bool) (bits : ℕ) → word_of test bits < 2 ^ bits
-unfolding word_of
+pub word_of_small : (test : ℕ → Bool) (bits : ℕ) → bits_where test bits < 2 ^ bits
+unfolding bits_where
 word_of_small test zero = lit< tt
 word_of_small test (suc place) = rw (pow-suc 2 place) (word_of_next (test place) _ _ (word_of_small test place))
 
@@ -42,21 +42,21 @@ last_bit true n = let e : n - n ≡ 0 = omega arith in rw e refl
 last_bit false n = let e : n - n ≡ 0 = omega arith in rw e refl
 
 -- in front of a word's bits stands its last
-word_of_at : (test : ℕ → Bool) (place i : ℕ) → (i < place → bit_at (word_of test place) i ≡ cond (test i) 1 0) → (i < place) ⊎ (place ≤ i) → i < suc place
-    → bit_at (cond (test place) 1 0 * 2 ^ place + word_of test place) i ≡ cond (test i) 1 0
-word_of_at test place i below (inl less) h = bit_at_cat_low (cond (test place) 1 0) place (word_of test place) i less ∙ below less
+word_of_at : (test : ℕ → Bool) (place i : ℕ) → (i < place → bit_at (bits_where test place) i ≡ cond (test i) 1 0) → (i < place) ⊎ (place ≤ i) → i < suc place
+    → bit_at (cond (test place) 1 0 * 2 ^ place + bits_where test place) i ≡ cond (test i) 1 0
+word_of_at test place i below (inl less) h = bit_at_cat_low (cond (test place) 1 0) place (bits_where test place) i less ∙ below less
 word_of_at test place i below (inr more) h =
     let e : i ≡ place = omega arith in
-    rw e (bit_at_cat_high (cond (test place) 1 0) place (word_of test place) place (word_of_small test place) (omega arith) ∙ last_bit (test place) place)
+    rw e (bit_at_cat_high (cond (test place) 1 0) place (bits_where test place) place (word_of_small test place) (omega arith) ∙ last_bit (test place) place)
 
-pub word_of_bit : (test : ℕ → Bool) (bits i : ℕ) → i < bits → bit_at (word_of test bits) i ≡ cond (test i) 1 0
-unfolding word_of
+pub word_of_bit : (test : ℕ → Bool) (bits i : ℕ) → i < bits → bit_at (bits_where test bits) i ≡ cond (test i) 1 0
+unfolding bits_where
 word_of_bit test zero i h = let wrong : ⊥ = omega arith in absurd wrong
 word_of_bit test (suc place) i h = word_of_at test place i (word_of_bit test place i) (cases_lt i place) h
 
 -- a word of 64 bits is the number whose bits a test gives that holds where they are set
-pub the_word : (word : ℕ) (test : ℕ → Bool) → word < 2 ^ 64 → ((i : ℕ) → i < 64 → (bit_at word i == 1) ≡ test i) → word ≡ word_of test 64
-the_word word test small each = same_from_bits_below 64 word (word_of test 64) small (word_of_small test 64)
+pub the_word : (word : ℕ) (test : ℕ → Bool) → word < 2 ^ 64 → ((i : ℕ) → i < 64 → (bit_at word i == 1) ≡ test i) → word ≡ bits_where test 64
+the_word word test small each = same_from_bits_below 64 word (bits_where test 64) small (word_of_small test 64)
     (λ i inside. bit_from_test (bit_at word i) (test i) (bit_at-lt word i) (each i inside) ∙ sym (word_of_bit test 64 i inside))
 
 -- ---- the words of a set

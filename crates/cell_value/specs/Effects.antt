@@ -47,9 +47,9 @@ abbrev pub asked_by : ℕ → Touch → Option Bool
 asked_by addr (Has at there) = if at == addr then Some there else None
 asked_by addr _ = None
 
-abbrev pub first_of : {X : Type 0} → List X → Option X
-first_of [] = None
-first_of (x ∷ xs) = Some x
+abbrev pub head_of : {X : Type 0} → List X → Option X
+head_of [] = None
+head_of (x ∷ xs) = Some x
 
 abbrev pub last_of : {X : Type 0} → List X → Option X
 last_of [] = None
@@ -65,8 +65,8 @@ seen_by None None = None
 
 -- what touches none of which changes the address show of it
 abbrev pub shown_by : ℕ → List Touch → Option Seen
-shown_by addr touches = seen_by (first_of (filter_map (read_by addr) touches))
-    (first_of (filter_map (asked_by addr) touches))
+shown_by addr touches = seen_by (head_of (filter_map (read_by addr) touches))
+    (head_of (filter_map (asked_by addr) touches))
 
 -- what the touches show of the address as it was: those before the first that changes it count
 unfoldable pub seen_at : ℕ → List Touch → Option Seen

@@ -19,15 +19,15 @@ has_number set (pos ordinal) = has set ordinal
 has_number set (negsuc below) = false
 
 -- the number of this many bits, each of which is set where the test holds of its place
-unfoldable pub word_of : (ℕ → Bool) → (bits : ℕ) → ℕ
-word_of test zero = 0
-word_of test (suc place) = (if test place then 1 else 0) * 2 ^ place + word_of test place
+unfoldable pub bits_where : (ℕ → Bool) → (bits : ℕ) → ℕ
+bits_where test zero = 0
+bits_where test (suc place) = (if test place then 1 else 0) * 2 ^ place + bits_where test place
 
 -- the set of the ordinals below 256 of which the test holds
 unfoldable pub set_of : (ℕ → Bool) → SetBits
 set_of test = record {
-  words = word_of test 64 ∷ word_of (λ place. test (64 + place)) 64
-      ∷ word_of (λ place. test (128 + place)) 64 ∷ word_of (λ place. test (192 + place)) 64 ∷ [];
+  words = bits_where test 64 ∷ bits_where (λ place. test (64 + place)) 64
+      ∷ bits_where (λ place. test (128 + place)) 64 ∷ bits_where (λ place. test (192 + place)) 64 ∷ [];
 }
 
 -- the union, the difference and the intersection

@@ -1,7 +1,7 @@
 //! The operators on sets.
 ghost use Rattle.std.specs.Prelude.{◌≡◌, ◌<◌, ◌≤◌, ℕ, pos, ◌&&◌, ◌||◌, not, false, int_le, nat_le, nat_lt, IsTrue, ◌↔◌};
 ghost use Rattle.cell_value.specs.Sets.{IsIncluded, difference_of, has, has_number, intersection_of, is_between};
-ghost use Rattle.cell_value.specs.Sets.{is_included, lies_between, set_of, union_of, with_range_of, word_of};
+ghost use Rattle.cell_value.specs.Sets.{is_included, lies_between, set_of, union_of, with_range_of, bits_where};
 
 use crate::values::SetBits;
 
@@ -77,7 +77,7 @@ pub fn holds(a: SetBits, ordinal: i64) -> bool
 
 /// The word of which the first `count` bits are set, or all where it has no more.
 fn first_bits(count: u32) -> u64
-    ensures { result ≡ word_of (λ place. nat_lt place count) 64 }
+    ensures { result ≡ bits_where (λ place. nat_lt place count) 64 }
 {
     if count < 64 {
         (1 << count) - 1

@@ -5,7 +5,7 @@ use Rattle.std.proofs.lemmas.Bool.Decides.{nat_tests}
 use Rattle.std.specs.Prelude.{Contains, All}
 use Rattle.std.proofs.lemmas.List.Elements.{All-cons}
 use Rattle.check_steps.specs.declared.breaks.Break.{Break}
-use Rattle.check_steps.specs.Breaks.{is_before, is_early, group, number, first_of, fault_of, IsFirst, IsOfFirst}
+use Rattle.check_steps.specs.Breaks.{is_before, is_early, group, number, first_broken, fault_of, IsFirst, IsOfFirst}
 use Rattle.check_steps.proofs.Order.{irreflexive, transitive, chain}
 
 not_before_self : (a b : Break) → b ≡ a → is_before a b ≡ false
@@ -31,10 +31,10 @@ there x xs b c = (suc c.0, omega (arith, c.1), c.2)
 abbrev Among : List Break → Break → Break → Type 0
 Among bs k b = ((b ≡ k) ⊎ Contains bs b) × (is_before k b ≡ false) × All (λ a. is_before a b ≡ false) bs
 
-first_from : (bs : List Break) (k b : Break) → first_of bs (Some k) ≡ Some b → Among bs k b
+first_from : (bs : List Break) (k b : Break) → first_broken bs (Some k) ≡ Some b → Among bs k b
 first_from [] k b e = let same : b ≡ k = cc in (inl same, not_before_self k b same, λ i d h. absurd (omega arith))
 first_from (x ∷ xs) k b e =
-    elim (is_before x k) as (λ v. is_before x k ≡ v → first_of xs (if v then Some x else Some k) ≡ Some b → Among (x ∷ xs) k b) [
+    elim (is_before x k) as (λ v. is_before x k ≡ v → first_broken xs (if v then Some x else Some k) ≡ Some b → Among (x ∷ xs) k b) [
       | true ↦ λ h f.
           let i = first_from xs x b f in
           let at : Contains (x ∷ xs) b = elim i.0 [ inl s ↦ here x xs b s | inr c ↦ there x xs b c ] in
@@ -45,19 +45,19 @@ first_from (x ∷ xs) k b e =
           (at, i.1, All-cons (λ a. is_before a b ≡ false) x xs (before_chain x k b h i.1) i.2)
     ] refl e
 
-pub first_of-is : (bs : List Break) (b : Break) → first_of bs None ≡ Some b → IsFirst bs b
+pub first_of-is : (bs : List Break) (b : Break) → first_broken bs None ≡ Some b → IsFirst bs b
 first_of-is [] b e = cc
 first_of-is (x ∷ xs) b e =
     let i = first_from xs x b e in
     let at : Contains (x ∷ xs) b = elim i.0 [ inl s ↦ here x xs b s | inr c ↦ there x xs b c ] in
     (at, All-cons (λ a. is_before a b ≡ false) x xs i.1 i.2)
 
-stays : (bs : List Break) (k : Break) → first_of bs (Some k) ≡ None → ⊥
+stays : (bs : List Break) (k : Break) → first_broken bs (Some k) ≡ None → ⊥
 stays [] k e = cc
 stays (x ∷ xs) k e =
-    elim (is_before x k) as (λ v. first_of xs (if v then Some x else Some k) ≡ None → ⊥) [ true ↦ λ f. stays xs x f | false ↦ λ f. stays xs k f ] e
+    elim (is_before x k) as (λ v. first_broken xs (if v then Some x else Some k) ≡ None → ⊥) [ true ↦ λ f. stays xs x f | false ↦ λ f. stays xs k f ] e
 
-pub first_of-none : (bs : List Break) → first_of bs None ≡ None → bs ≡ []
+pub first_of-none : (bs : List Break) → first_broken bs None ≡ None → bs ≡ []
 first_of-none [] e = refl
 first_of-none (x ∷ xs) e = absurd (stays xs x e)
 
@@ -76,5 +76,5 @@ pub none_first : (bs : List Break) → bs ≡ [] → All (λ a. is_early a ≡ f
 none_first bs e = let P : List Break → Type 0 = λ l. All (λ a. is_early a ≡ false) l in subst P (sym e) (λ i d h. absurd (omega arith))
 
 -- what is answered of the least is what is answered of the first
-pub fault-first : (bs : List Break) (b : Break) → first_of bs None ≡ Some b → IsOfFirst bs (fault_of b)
+pub fault-first : (bs : List Break) (b : Break) → first_broken bs None ≡ Some b → IsOfFirst bs (fault_of b)
 fault-first bs b e = (b, first_of-is bs b e, refl)

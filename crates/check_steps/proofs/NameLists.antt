@@ -8,27 +8,27 @@ use Rattle.std.specs.Cmp.Lexicographic.{pointwise}
 use Rattle.std.proofs.lemmas.List.{length-map, map_push, take_more}
 use Rattle.std.proofs.lemmas.List.Sums.{fold-append}
 use Rattle.std.proofs.lemmas.Option.{slice_get_within, get_or_from_slice_get}
-use Rattle.check_steps.specs.Words.{items_of, number_of, same_name, with_name}
+use Rattle.check_steps.specs.Words.{texts_in, number_of_name, same_name, with_name}
 
 -- whether a name is among those that vectors hold
 abbrev pub is_kept : List ℕ → List (Vec ℕ) → Bool
 is_kept s vs = list_any (λ v. pointwise nat_eq s v.items) vs
 
-among : (vs : List (Vec ℕ)) (s : List ℕ) → list_any (same_name s) (items_of vs) ≡ is_kept s vs
+among : (vs : List (Vec ℕ)) (s : List ℕ) → list_any (same_name s) (texts_in vs) ≡ is_kept s vs
 among [] s = refl
 among (v ∷ vs) s = ap (λ b. pointwise nat_eq s v.items || b) (among vs s)
 
-pub with_kept : (vs : List (Vec ℕ)) (s : List ℕ) → is_kept s vs ≡ true → items_of vs ≡ with_name (items_of vs) s
-with_kept vs s e = let kept : list_any (same_name s) (items_of vs) ≡ true = among vs s ∙ e in rw kept refl
+pub with_kept : (vs : List (Vec ℕ)) (s : List ℕ) → is_kept s vs ≡ true → texts_in vs ≡ with_name (texts_in vs) s
+with_kept vs s e = let kept : list_any (same_name s) (texts_in vs) ≡ true = among vs s ∙ e in rw kept refl
 
 pub with_new : (vs ws : List (Vec ℕ)) (s : List ℕ) (v : Vec ℕ) → is_kept s vs ≡ false → v.items ≡ s
-    → ws ≡ (if is_kept v.items vs then vs else vs ++ v ∷ []) → items_of ws ≡ with_name (items_of vs) s
+    → ws ≡ (if is_kept v.items vs then vs else vs ++ v ∷ []) → texts_in ws ≡ with_name (texts_in vs) s
 with_new vs ws s v e same made =
-    let absent : list_any (same_name s) (items_of vs) ≡ false = among vs s ∙ e in
+    let absent : list_any (same_name s) (texts_in vs) ≡ false = among vs s ∙ e in
     let other : is_kept v.items vs ≡ false = ap (λ t. is_kept t vs) same ∙ e in
     let last : ws ≡ vs ++ v ∷ [] = made ∙ ap (λ b. if b then vs else vs ++ v ∷ []) other in
-    ap items_of last ∙ map_push (λ (w : Vec ℕ). w.items) vs v ∙ ap (λ t. items_of vs ++ t ∷ []) same
-    ∙ sym (ap (λ b. if b then items_of vs else items_of vs ++ s ∷ []) absent)
+    ap texts_in last ∙ map_push (λ (w : Vec ℕ). w.items) vs v ∙ ap (λ t. texts_in vs ++ t ∷ []) same
+    ∙ sym (ap (λ b. if b then texts_in vs else texts_in vs ++ s ∷ []) absent)
 
 -- one more token
 pub fold_more : {A X : Type 0} (f : A → X → A) (a : A) (xs : List X) (n : ℕ) (x : X) → slice_get xs n ≡ Some x
@@ -43,14 +43,14 @@ map_more f xs n x e =
     ap (map f) (take_more xs n x (slice_get_within xs n x e)) ∙ map_push f (take n xs) (get_or xs n x)
     ∙ ap (λ y. map f (take n xs) ++ f y ∷ []) (get_or_from_slice_get xs n x x e)
 
-first_kept : (vs : List (Vec ℕ)) (s : List ℕ) → position_or_len (same_name s) (items_of vs) ≡ position_or_len (λ v. pointwise nat_eq s v.items) vs
+first_kept : (vs : List (Vec ℕ)) (s : List ℕ) → position_or_len (same_name s) (texts_in vs) ≡ position_or_len (λ v. pointwise nat_eq s v.items) vs
 first_kept [] s = refl
 first_kept (v ∷ vs) s = ap (λ n. if not (pointwise nat_eq s v.items) then 1 + n else 0) (first_kept vs s)
 
-position_kept : (vs : List (Vec ℕ)) (s : List ℕ) → position (same_name s) (items_of vs) ≡ position (λ v. pointwise nat_eq s v.items) vs
+position_kept : (vs : List (Vec ℕ)) (s : List ℕ) → position (same_name s) (texts_in vs) ≡ position (λ v. pointwise nat_eq s v.items) vs
 position_kept vs s = λ i. if nat_lt (first_kept vs s i) (length-map vs (λ (v : Vec ℕ). v.items) i) then Some (first_kept vs s i) else None
 
 -- a name's place among those that vectors hold
 pub place_kept : (vs : List (Vec ℕ)) (s : List ℕ) (found : Option ℕ) → found ≡ position (λ v. pointwise nat_eq s v.items) vs
-    → found ≡ number_of (items_of vs) s
+    → found ≡ number_of_name (texts_in vs) s
 place_kept vs s found e = e ∙ sym (position_kept vs s)

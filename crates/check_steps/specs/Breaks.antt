@@ -36,9 +36,9 @@ earlier b None = Some b
 earlier b (Some a) = if is_before b a then Some b else Some a
 
 -- the first of the broken rules and one that was known before
-abbrev pub first_of : List Break → Option Break → Option Break
-first_of [] known = known
-first_of (b ∷ bs) known = first_of bs (earlier b known)
+abbrev pub first_broken : List Break → Option Break → Option Break
+first_broken [] known = known
+first_broken (b ∷ bs) known = first_broken bs (earlier b known)
 
 -- what is answered of a broken rule
 abbrev pub fault_at : Broken → ℕ → CheckFault

@@ -183,9 +183,9 @@ threat_after zero k last token = None
 threat_after (suc n) k last token =
     if nat_le last token then None else or_else (threat_after n k (threat_before k last) token) (Some last)
 
-abbrev pub before : ℕ → Option ℕ → Option ℕ
-before token None = None
-before token (Some t) = if nat_lt t token then Some t else None
+abbrev pub if_before : ℕ → Option ℕ → Option ℕ
+if_before token None = None
+if_before token (Some t) = if nat_lt t token then Some t else None
 
 -- the first threat of a variable after the block's first token; no more tokens threaten it than there are
 abbrev pub first_threat : Known → ℕ → Option ℕ
@@ -193,7 +193,7 @@ first_threat k variable = threat_after (length k.threats) k (threat_before k var
 
 -- the first token at which a routine of the block threatens a variable
 abbrev pub threat_of : Known → ℕ → Option ℕ
-threat_of k variable = before k.block.statements (first_threat k variable)
+threat_of k variable = if_before k.block.statements (first_threat k variable)
 
 -- this threat of a variable is taken for its last one
 abbrev pub with_last_threat : Known → ℕ → Option ℕ → Known

@@ -4,21 +4,21 @@ use Rattle.check_steps.specs.declared.regions.Definition.{Definition}
 use Rattle.check_steps.specs.declared.regions.Found.{Found}
 use Rattle.check_steps.specs.Known.{find, name_at}
 use Rattle.check_steps.specs.Regions.{declared_in, defined_in}
-use Rattle.check_steps.specs.Steps.{Step, give, ◌>>=◌, look, rule, when, add_definition, add_label}
+use Rattle.check_steps.specs.Steps.{Step, give, ◌>>=◌, look, early, when, add_definition, add_label}
 
 -- rule 2: a region defines a name a second time
 unfoldable pub define_in : ℕ → Definition → Step (Unit {0})
 define_in region d = do
   name ← look (λ k. name_at k d.token)
   held ← look (λ k. defined_in k.regions region name)
-  _ ← rule 2 d.token (is_none held)
+  _ ← early 2 d.token (is_none held)
   when (is_none held) (add_definition region name d)
 
 -- rule 2: a block declares a label value a second time
 unfoldable pub declare_in : ℕ → ℕ → ℕ → Step (Unit {0})
 declare_in region value token = do
   held ← look (λ k. declared_in k.regions region value)
-  _ ← rule 2 token (is_none held)
+  _ ← early 2 token (is_none held)
   when (is_none held) (add_label region value token)
 
 -- a definition may be used from its end on
@@ -37,5 +37,5 @@ is_usable at (Some f) = nat_le f.definition.end at
 unfoldable pub use_at : ℕ → ℕ → ℕ → Step (Option Found)
 use_at frame at token = do
   found ← look (λ k. find k frame (name_at k token))
-  _ ← rule 1 token (is_usable at found)
+  _ ← early 1 token (is_usable at found)
   give (usable at found)

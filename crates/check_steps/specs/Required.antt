@@ -101,8 +101,8 @@ all_names = do
   file_names
 
 -- the outermost region with all required names; what is given is the number of its frame
-unfoldable pub outermost : Step ℕ
-outermost = do
+unfoldable pub open_outermost : Step ℕ
+open_outermost = do
   frame ← open_region 0 None 0
   _ ← ordinal_types
   _ ← all_names

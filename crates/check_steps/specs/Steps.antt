@@ -9,7 +9,7 @@ use Rattle.check_steps.specs.declared.regions.Definition.{Definition}
 use Rattle.check_steps.specs.declared.regions.Frame.{Frame}
 use Rattle.check_steps.specs.declared.regions.Span.{Span}
 use Rattle.check_steps.specs.declared.work.Work.{Work}
-use Rattle.check_steps.specs.Breaks.{first_of}
+use Rattle.check_steps.specs.Breaks.{first_broken}
 use Rattle.check_steps.specs.Known.{Known, and_choice, and_control, and_definition, and_frame}
 use Rattle.check_steps.specs.Known.{and_label, and_region, and_routine}
 use Rattle.check_steps.specs.Known.{and_threat, in_block, with_first_threat, with_routine, with_row, without_control}
@@ -56,8 +56,8 @@ ask what token ok k = record {
 }
 
 -- a rule that can be told from declarations and names alone
-abbrev pub rule : ℕ → ℕ → Bool → Step (Unit {0})
-rule n token ok = ask (Early n) token ok
+abbrev pub early : ℕ → ℕ → Bool → Step (Unit {0})
+early n token ok = ask (Early n) token ok
 
 -- another rule
 abbrev pub late : ℕ → ℕ → Bool → Step (Unit {0})
@@ -139,11 +139,11 @@ each_back f a (x ∷ xs) = each_back f a xs >>= λ b. f b x
 -- ---- the code's side
 
 -- the code's work after a step
-unfoldable pub run : {A : Type 0} → Step A → Work → A × Work
-run m w =
+unfoldable pub run_step : {A : Type 0} → Step A → Work → A × Work
+run_step m w =
     let d = m w.tables in
-    (d.value, record { least = first_of d.broken w.least; tables = d.known })
+    (d.value, record { least = first_broken d.broken w.least; tables = d.known })
 
 -- The work did this step, and gave this.
 abbrev pub Does : {A : Type 0} → Step A → A → Work → Work → Type 0
-Does m x old new = run m old ≡ (x, new)
+Does m x old new = run_step m old ≡ (x, new)

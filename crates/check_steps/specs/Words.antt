@@ -8,7 +8,7 @@ use Rattle.pas_lexer.specs.declared.kinds.Kind.{Kind}
 use Rattle.pas_lexer.specs.declared.kinds.Kind.TheVariants as kind
 use Rattle.pas_lexer.specs.declared.kinds.Token.{Token}
 use Rattle.pas_lexer.specs.Lexed.{Lexed, spelling_of, text_of}
-use Rattle.program_tables.specs.ProgramRows.{blank}
+use Rattle.program_tables.specs.ProgramRows.{blank_tables}
 use Rattle.check_steps.specs.declared.words.Spelled.{Spelled}
 use Rattle.check_steps.specs.declared.words.Spelled.TheVariants as spelled
 use Rattle.check_steps.specs.declared.words.Word.{Word}
@@ -57,26 +57,26 @@ abbrev pub names_of : Lexed → List (List ℕ)
 names_of l = fold (name_from l.source) required_names l.tokens
 
 -- a name's number is its place among the names
-abbrev pub number_of : List (List ℕ) → List ℕ → Option ℕ
-number_of names s = position (same_name s) names
+abbrev pub number_of_name : List (List ℕ) → List ℕ → Option ℕ
+number_of_name names s = position (same_name s) names
 
-abbrev pub number_in : List (List ℕ) → List ℕ → ℕ
-number_in names s = unwrap_or (number_of names s) 0
+abbrev pub name_number : List (List ℕ) → List ℕ → ℕ
+name_number names s = unwrap_or (number_of_name names s) 0
 
 -- the texts that vectors hold
-abbrev pub items_of : List (Vec ℕ) → List (List ℕ)
-items_of vs = map (λ v. v.items) vs
+abbrev pub texts_in : List (Vec ℕ) → List (List ℕ)
+texts_in vs = map (λ v. v.items) vs
 
 -- ---- words
 
-abbrev pub spelled_as : List (List ℕ) → Kind → List ℕ → Spelled
-spelled_as names kind.Name s = spelled.Name (number_in names s)
-spelled_as names (kind.Number n) s = spelled.Number n
-spelled_as names kind.Text s = spelled.Text
-spelled_as names k s = spelled.Other
+abbrev pub spelled_by : List (List ℕ) → Kind → List ℕ → Spelled
+spelled_by names kind.Name s = spelled.Name (name_number names s)
+spelled_by names (kind.Number n) s = spelled.Number n
+spelled_by names kind.Text s = spelled.Text
+spelled_by names k s = spelled.Other
 
 abbrev pub word_of : List (List ℕ) → List ℕ → Token → Word
-word_of names source t = record { spelled = spelled_as names t.kind (spelling_of source t); line = t.line }
+word_of names source t = record { spelled = spelled_by names t.kind (spelling_of source t); line = t.line }
 
 abbrev pub words_of : List (List ℕ) → List ℕ → List Token → List Word
 words_of names source tokens = map (word_of names source) tokens
@@ -94,11 +94,11 @@ abbrev pub texts_of : List ℕ → List Token → List (List ℕ)
 texts_of source tokens = map (kept_of source) tokens
 
 -- What is known before anything is checked. Behind the numbers of the tokens stand those of the required names.
-abbrev pub start : Lexed → Known
-start l = record {
+abbrev pub known_at_start : Lexed → Known
+known_at_start l = record {
   names = names_of l;
   words = words_of (names_of l) l.source l.tokens;
-  program = blank (length l.tokens + length required_names) (texts_of l.source l.tokens);
+  program = blank_tables (length l.tokens + length required_names) (texts_of l.source l.tokens);
   regions = [];
   frames = [];
   controls = [];

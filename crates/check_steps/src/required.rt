@@ -4,7 +4,7 @@ ghost use Rattle.std.specs.Prelude.{◌≡◌, ◌<◌, IfOk};
 ghost use Rattle.program_tables.specs.declared.rows.NameRow.TheVariants.{Required as Routine};
 ghost use Rattle.check_steps.specs.Required.{all_names, arithmetic_names, constant_names, file_names, moving_names};
 ghost use Rattle.check_steps.specs.Required.{ordinal_names, ordinal_types};
-ghost use Rattle.check_steps.specs.Required.{outermost, reading_names, require, required_def, routine_names};
+ghost use Rattle.check_steps.specs.Required.{open_outermost, reading_names, require, required_def, routine_names};
 ghost use Rattle.check_steps.specs.Required.{type_names};
 ghost use Rattle.check_steps.specs.Required.{writing_names};
 ghost use Rattle.check_steps.specs.Steps.{Does};
@@ -202,9 +202,9 @@ fn define_all(work: &mut Work) -> Result<(), AllocError>
 }
 
 /// The outermost region with all required names: what is given is the number of its frame.
-#[tactic(auto, using(crate::proofs::Runs::steps), unfolding(crate::specs::Required::outermost))]
+#[tactic(auto, using(crate::proofs::Runs::steps), unfolding(crate::specs::Required::open_outermost))]
 pub fn open_outermost(work: &mut Work, alloc: Global) -> Result<u32, AllocError>
-    ensures { IfOk result (λ frame. Does outermost frame work.old work.new) }
+    ensures { IfOk result (λ frame. Does open_outermost frame work.old work.new) }
 {
     let frame = work.open_region(alloc, 0, None, 0)?;
     put_ordinal_types(work);

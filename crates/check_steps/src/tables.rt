@@ -9,7 +9,7 @@ ghost use Rattle.check_steps.specs.Known.{find, find_label, found_in, frame_at, 
 ghost use Rattle.check_steps.specs.Known.{type_at, with_routine, with_row, word_at};
 ghost use Rattle.check_steps.specs.Names.{usable};
 ghost use Rattle.check_steps.specs.Regions.{declared_in, defined_in, region_at};
-ghost use Rattle.check_steps.specs.Words.{number_of, start};
+ghost use Rattle.check_steps.specs.Words.{number_of_name, known_at_start};
 
 use crate::regions::{Definition, Found, Frame, Region, Span};
 use crate::words::{REQUIRED_NAMES, Spelled, Word, names, texts, words};
@@ -66,7 +66,7 @@ impl Tables {
     /// What is known of a program before anything is checked. Of more than 4,294,967,269 tokens, or of more names than
     /// a `u32` counts, there are no tables, which counts as out of memory.
     pub fn new(alloc: Global, tokens: &Tokens) -> Result<Self, AllocError>
-        ensures { IfOk result (λ t. t ≡ start tokens.now) }
+        ensures { IfOk result (λ t. t ≡ known_at_start tokens.now) }
     {
         let count = tokens.len();
         if count >= u32::MAX - REQUIRED_NAMES {
@@ -106,7 +106,7 @@ impl Tables {
 
     /// The number of a name, and None where no token spells it and it is not required.
     pub fn number_of(&self, name: &[u8]) -> Option<u32>
-        ensures { result ≡ number_of self.now.names name.now }
+        ensures { result ≡ number_of_name self.now.names name.now }
     {
         match self.names.get_index_of(name) {
             Some(number) => Some(number as u32),

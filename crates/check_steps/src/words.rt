@@ -2,9 +2,9 @@
 
 ghost use Rattle.std.specs.Prelude.{◌≡◌, ◌<◌, ◌^◌, fold, IfOk, OnOk};
 ghost use Rattle.indexmap.specs.IndexSet.{index_set_len};
-ghost use Rattle.check_steps.specs.Words.{items_of, kept_text, names_of, number_in, required_constants};
+ghost use Rattle.check_steps.specs.Words.{texts_in, kept_text, names_of, name_number, required_constants};
 ghost use Rattle.check_steps.specs.Words.{required_files, required_functions, required_names, required_procedures};
-ghost use Rattle.check_steps.specs.Words.{required_types, spelled_as, texts_of, with_name, with_name_of, words_of};
+ghost use Rattle.check_steps.specs.Words.{required_types, spelled_by, texts_of, with_name, with_name_of, words_of};
 
 use indexmap::IndexSet;
 use pas_lexer::{Kind, Tokens};
@@ -35,7 +35,7 @@ pub struct Word {
 
 /// Adds a name, if it is new.
 fn add_name(alloc: Global, names: &mut IndexSet<Vec<u8>>, name: &[u8]) -> Result<(), AllocError>
-    ensures { OnOk result (items_of names.new.keys ≡ with_name (items_of names.old.keys) name.now) }
+    ensures { OnOk result (texts_in names.new.keys ≡ with_name (texts_in names.old.keys) name.now) }
 {
     if !names.contains(name) {
         let name = name.to_vec(alloc)?;
@@ -45,7 +45,7 @@ fn add_name(alloc: Global, names: &mut IndexSet<Vec<u8>>, name: &[u8]) -> Result
 }
 
 fn add_types(alloc: Global, names: &mut IndexSet<Vec<u8>>) -> Result<(), AllocError>
-    ensures { OnOk result (items_of names.new.keys ≡ fold with_name (items_of names.old.keys) required_types) }
+    ensures { OnOk result (texts_in names.new.keys ≡ fold with_name (texts_in names.old.keys) required_types) }
 {
     add_name(alloc, names, b"integer")?;
     add_name(alloc, names, b"boolean")?;
@@ -54,7 +54,7 @@ fn add_types(alloc: Global, names: &mut IndexSet<Vec<u8>>) -> Result<(), AllocEr
 }
 
 fn add_constants(alloc: Global, names: &mut IndexSet<Vec<u8>>) -> Result<(), AllocError>
-    ensures { OnOk result (items_of names.new.keys ≡ fold with_name (items_of names.old.keys) required_constants) }
+    ensures { OnOk result (texts_in names.new.keys ≡ fold with_name (texts_in names.old.keys) required_constants) }
 {
     add_name(alloc, names, b"false")?;
     add_name(alloc, names, b"true")?;
@@ -63,7 +63,7 @@ fn add_constants(alloc: Global, names: &mut IndexSet<Vec<u8>>) -> Result<(), All
 }
 
 fn add_functions(alloc: Global, names: &mut IndexSet<Vec<u8>>) -> Result<(), AllocError>
-    ensures { OnOk result (items_of names.new.keys ≡ fold with_name (items_of names.old.keys) required_functions) }
+    ensures { OnOk result (texts_in names.new.keys ≡ fold with_name (texts_in names.old.keys) required_functions) }
 {
     add_name(alloc, names, b"abs")?;
     add_name(alloc, names, b"sqr")?;
@@ -78,7 +78,7 @@ fn add_functions(alloc: Global, names: &mut IndexSet<Vec<u8>>) -> Result<(), All
 }
 
 fn add_procedures(alloc: Global, names: &mut IndexSet<Vec<u8>>) -> Result<(), AllocError>
-    ensures { OnOk result (items_of names.new.keys ≡ fold with_name (items_of names.old.keys) required_procedures) }
+    ensures { OnOk result (texts_in names.new.keys ≡ fold with_name (texts_in names.old.keys) required_procedures) }
 {
     add_name(alloc, names, b"read")?;
     add_name(alloc, names, b"readln")?;
@@ -93,7 +93,7 @@ fn add_procedures(alloc: Global, names: &mut IndexSet<Vec<u8>>) -> Result<(), Al
 }
 
 fn add_files(alloc: Global, names: &mut IndexSet<Vec<u8>>) -> Result<(), AllocError>
-    ensures { OnOk result (items_of names.new.keys ≡ fold with_name (items_of names.old.keys) required_files) }
+    ensures { OnOk result (texts_in names.new.keys ≡ fold with_name (texts_in names.old.keys) required_files) }
 {
     add_name(alloc, names, b"input")?;
     add_name(alloc, names, b"output")?;
@@ -102,7 +102,7 @@ fn add_files(alloc: Global, names: &mut IndexSet<Vec<u8>>) -> Result<(), AllocEr
 
 /// The required names.
 fn start_names(alloc: Global) -> Result<IndexSet<Vec<u8>>, AllocError>
-    ensures { IfOk result (λ names. items_of names.keys ≡ required_names) }
+    ensures { IfOk result (λ names. texts_in names.keys ≡ required_names) }
 {
     let mut names = IndexSet::new(alloc);
     add_types(alloc, &mut names)?;
@@ -120,7 +120,7 @@ fn add_spelling(
     kind: Kind,
     spelling: &[u8],
 ) -> Result<(), AllocError>
-    ensures { OnOk result (items_of names.new.keys ≡ with_name_of kind (items_of names.old.keys) spelling.now) }
+    ensures { OnOk result (texts_in names.new.keys ≡ with_name_of kind (texts_in names.old.keys) spelling.now) }
 {
     match kind {
         Kind::Name => add_name(alloc, names, spelling),
@@ -130,7 +130,7 @@ fn add_spelling(
 
 /// The spellings of names, each once: the required ones, and the others in the order in which they come.
 pub fn names(alloc: Global, tokens: &Tokens) -> Result<IndexSet<Vec<u8>>, AllocError>
-    ensures { IfOk result (λ names. items_of names.keys ≡ names_of tokens.now) }
+    ensures { IfOk result (λ names. texts_in names.keys ≡ names_of tokens.now) }
 {
     let mut names = start_names(alloc)?;
     'tokens: for i in 0..tokens.len() {
@@ -143,7 +143,7 @@ pub fn names(alloc: Global, tokens: &Tokens) -> Result<IndexSet<Vec<u8>>, AllocE
 /// The number of a name: its place among the names, and 0 where it is not among them.
 fn number(names: &IndexSet<Vec<u8>>, name: &[u8]) -> u32
     requires { index_set_len names.now < 2 ^ 32 }
-    ensures { result ≡ number_in (items_of names.now.keys) name.now }
+    ensures { result ≡ name_number (texts_in names.now.keys) name.now }
 {
     match names.get_index_of(name) {
         Some(number) => number as u32,
@@ -154,7 +154,7 @@ fn number(names: &IndexSet<Vec<u8>>, name: &[u8]) -> u32
 /// What a token of this kind and spelling spells.
 fn spelling_of(names: &IndexSet<Vec<u8>>, kind: Kind, spelling: &[u8]) -> Spelled
     requires { index_set_len names.now < 2 ^ 32 }
-    ensures { result ≡ spelled_as (items_of names.now.keys) kind spelling.now }
+    ensures { result ≡ spelled_by (texts_in names.now.keys) kind spelling.now }
 {
     match kind {
         Kind::Name => Spelled::Name(number(names, spelling)),
@@ -172,7 +172,7 @@ pub fn words(
 ) -> Result<Vec<Word>, AllocError>
     requires { index_set_len names.now < 2 ^ 32 }
     ensures { IfOk result (λ words.
-        words.items ≡ words_of (items_of names.now.keys) tokens.now.source tokens.now.tokens) }
+        words.items ≡ words_of (texts_in names.now.keys) tokens.now.source tokens.now.tokens) }
 {
     let mut words = Vec::new(alloc);
     'tokens: for i in 0..tokens.len() {
@@ -198,7 +198,7 @@ fn kept(alloc: Global, kind: Kind, text: &[u8], spelling: &[u8]) -> Result<Vec<u
 
 /// The texts of names and strings.
 pub fn texts(alloc: Global, tokens: &Tokens) -> Result<Vec<Vec<u8>>, AllocError>
-    ensures { IfOk result (λ texts. items_of texts.items ≡ texts_of tokens.now.source tokens.now.tokens) }
+    ensures { IfOk result (λ texts. texts_in texts.items ≡ texts_of tokens.now.source tokens.now.tokens) }
 {
     let mut texts = Vec::new(alloc);
     'tokens: for i in 0..tokens.len() {

@@ -5,8 +5,8 @@ ghost use Rattle.check_steps.specs.Regions.{defined_in};
 ghost use Rattle.check_steps.specs.Names.{declare_in, define_in, use_at};
 ghost use Rattle.check_steps.specs.Steps.{Does, add_chosen, add_definition, add_routine, ask};
 ghost use Rattle.check_steps.specs.Steps.{enter_block, hold, late, open_frame};
-ghost use Rattle.check_steps.specs.Steps.{open_region, put, put_routine, release, rule, settle, threaten, too_big};
-ghost use Rattle.check_steps.specs.Words.{start};
+ghost use Rattle.check_steps.specs.Steps.{open_region, put, put_routine, release, early, settle, threaten, too_big};
+ghost use Rattle.check_steps.specs.Words.{known_at_start};
 
 use crate::breaks::{Break, Broken};
 use crate::regions::{Definition, Found, Frame, Span};
@@ -26,7 +26,7 @@ pub struct Work {
 impl Work {
     /// No rule is broken, and nothing is known but what the tokens spell.
     pub fn new(alloc: Global, tokens: &Tokens) -> Result<Self, AllocError>
-        ensures { IfOk result (λ w. w ≡ record { least = None; tables = start tokens.now }) }
+        ensures { IfOk result (λ w. w ≡ record { least = None; tables = known_at_start tokens.now }) }
     {
         let tables = Tables::new(alloc, tokens)?;
         Ok(Work {
@@ -36,7 +36,7 @@ impl Work {
     }
 
     /// This is broken at the token, unless the test holds.
-    #[tactic(auto, unfolding(crate::specs::Steps::ask, crate::specs::Steps::run))]
+    #[tactic(auto, unfolding(crate::specs::Steps::ask, crate::specs::Steps::run_step))]
     fn ask(&mut self, broken: Broken, token: u32, holds: bool)
         ensures { Does (ask broken token holds) tt self.old self.new }
     {
@@ -56,8 +56,8 @@ impl Work {
     }
 
     /// A rule that can be told from declarations and names alone is broken at the token, unless the test holds.
-    pub fn rule(&mut self, number: u32, token: u32, holds: bool)
-        ensures { Does (rule number token holds) tt self.old self.new }
+    pub fn early(&mut self, number: u32, token: u32, holds: bool)
+        ensures { Does (early number token holds) tt self.old self.new }
     {
         self.ask(Broken::Early(number), token, holds);
     }
@@ -77,7 +77,7 @@ impl Work {
     }
 
     /// Puts a row at a number.
-    #[tactic(auto, unfolding(crate::specs::Steps::change, crate::specs::Steps::run))]
+    #[tactic(auto, unfolding(crate::specs::Steps::change, crate::specs::Steps::run_step))]
     pub fn put(&mut self, number: u32, row: Row)
         ensures { Does (put number row) tt self.old self.new }
     {
@@ -85,7 +85,7 @@ impl Work {
     }
 
     /// Puts a routine at a number.
-    #[tactic(auto, unfolding(crate::specs::Steps::change, crate::specs::Steps::run))]
+    #[tactic(auto, unfolding(crate::specs::Steps::change, crate::specs::Steps::run_step))]
     pub fn put_routine(&mut self, number: u32, routine: Routine)
         ensures { Does (put_routine number routine) tt self.old self.new }
     {
@@ -93,7 +93,7 @@ impl Work {
     }
 
     /// A new routine, by its number.
-    #[tactic(auto, unfolding(crate::specs::Steps::extend, crate::specs::Steps::run))]
+    #[tactic(auto, unfolding(crate::specs::Steps::extend, crate::specs::Steps::run_step))]
     pub fn add_routine(&mut self, routine: Routine) -> Result<u32, AllocError>
         ensures { IfOk result (λ n. Does (add_routine routine) n self.old self.new) }
     {
@@ -102,7 +102,7 @@ impl Work {
     }
 
     /// A new frame, by its number.
-    #[tactic(auto, unfolding(crate::specs::Steps::extend, crate::specs::Steps::run))]
+    #[tactic(auto, unfolding(crate::specs::Steps::extend, crate::specs::Steps::run_step))]
     pub fn open_frame(&mut self, frame: Frame) -> Result<u32, AllocError>
         ensures { IfOk result (λ n. Does (open_frame frame) n self.old self.new) }
     {
@@ -112,7 +112,7 @@ impl Work {
 
     /// A new region that begins at a token, inside a frame or none, with this many blocks around its own: what is given
     /// is the number of its frame.
-    #[tactic(auto, unfolding(crate::specs::Steps::extend, crate::specs::Steps::run))]
+    #[tactic(auto, unfolding(crate::specs::Steps::extend, crate::specs::Steps::run_step))]
     pub fn open_region(
         &mut self,
         alloc: Global,
@@ -127,7 +127,7 @@ impl Work {
     }
 
     /// A definition of a name at the end of a region that lacks it.
-    #[tactic(auto, unfolding(crate::specs::Steps::change, crate::specs::Steps::run))]
+    #[tactic(auto, unfolding(crate::specs::Steps::change, crate::specs::Steps::run_step))]
     pub(crate) fn add_definition(
         &mut self,
         region: u32,
@@ -142,7 +142,7 @@ impl Work {
     }
 
     /// One more value of a list of values that choose.
-    #[tactic(auto, unfolding(crate::specs::Steps::change, crate::specs::Steps::run))]
+    #[tactic(auto, unfolding(crate::specs::Steps::change, crate::specs::Steps::run_step))]
     pub fn add_chosen(&mut self, list: u32, value: i32) -> Result<(), AllocError>
         ensures { IfOk result (λ _. Does (add_chosen list value) tt self.old self.new) }
     {
@@ -151,7 +151,7 @@ impl Work {
     }
 
     /// Goes into a for statement with this control variable.
-    #[tactic(auto, unfolding(crate::specs::Steps::change, crate::specs::Steps::run))]
+    #[tactic(auto, unfolding(crate::specs::Steps::change, crate::specs::Steps::run_step))]
     pub fn hold(&mut self, variable: u32) -> Result<(), AllocError>
         ensures { IfOk result (λ _. Does (hold variable) tt self.old self.new) }
     {
@@ -160,7 +160,7 @@ impl Work {
     }
 
     /// Goes out of the innermost for statement.
-    #[tactic(auto, unfolding(crate::specs::Steps::change, crate::specs::Steps::run))]
+    #[tactic(auto, unfolding(crate::specs::Steps::change, crate::specs::Steps::run_step))]
     pub fn release(&mut self)
         ensures { Does release tt self.old self.new }
     {
@@ -168,7 +168,7 @@ impl Work {
     }
 
     /// A routine threatens a variable at a token.
-    #[tactic(auto, unfolding(crate::specs::Steps::change, crate::specs::Steps::run))]
+    #[tactic(auto, unfolding(crate::specs::Steps::change, crate::specs::Steps::run_step))]
     pub fn threaten(&mut self, variable: u32, token: u32)
         ensures { Does (threaten variable token) tt self.old self.new }
     {
@@ -176,7 +176,7 @@ impl Work {
     }
 
     /// Of a variable's threats in the block the first alone is kept.
-    #[tactic(auto, unfolding(crate::specs::Steps::change, crate::specs::Steps::run))]
+    #[tactic(auto, unfolding(crate::specs::Steps::change, crate::specs::Steps::run_step))]
     pub fn settle(&mut self, variable: u32)
         ensures { Does (settle variable) tt self.old self.new }
     {
@@ -184,7 +184,7 @@ impl Work {
     }
 
     /// The statements of this block are checked from now on.
-    #[tactic(auto, unfolding(crate::specs::Steps::change, crate::specs::Steps::run))]
+    #[tactic(auto, unfolding(crate::specs::Steps::change, crate::specs::Steps::run_step))]
     pub fn enter_block(&mut self, block: Span)
         ensures { Does (enter_block block) tt self.old self.new }
     {
@@ -198,7 +198,7 @@ impl Work {
     {
         let name = self.tables.name(definition.token);
         let held = self.tables.defined_in(region, name);
-        self.rule(2, definition.token, held.is_none());
+        self.early(2, definition.token, held.is_none());
         match held {
             None => {
                 self.tables.add_definition(region, name, definition)?;
@@ -214,7 +214,7 @@ impl Work {
         ensures { IfOk result (λ _. Does (declare_in region value token) tt self.old self.new) }
     {
         let held = self.tables.declared_in(region, value);
-        self.rule(2, token, held.is_none());
+        self.early(2, token, held.is_none());
         match held {
             None => {
                 self.tables.add_label(region, value, token)?;
@@ -230,7 +230,7 @@ impl Work {
         ensures { Does (use_at frame at token) result self.old self.new }
     {
         let usable = self.tables.usable(frame, at, token);
-        self.rule(1, token, usable.is_some());
+        self.early(1, token, usable.is_some());
         usable
     }
 }

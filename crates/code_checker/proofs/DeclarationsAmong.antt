@@ -5,7 +5,7 @@ use Rattle.pas_lexer.specs.Lexed.{Lexed}
 use Rattle.pas_tree.specs.declared.blocks.Tree.{Tree}
 use Rattle.check_steps.specs.declared.breaks.Break.{Break}
 use Rattle.check_steps.specs.Steps.{◌>>=◌}
-use Rattle.check_steps.specs.Words.{start}
+use Rattle.check_steps.specs.Words.{known_at_start}
 use Rattle.decl_checker.specs.Programs as declarations
 use Rattle.code_checker.specs.Blocks.{code_block}
 use Rattle.code_checker.specs.Programs.{broken, check_step}
@@ -15,8 +15,8 @@ among [] ys b c = absurd (omega (arith, c.1))
 among (x ∷ xs) ys b (zero, h, same) = (0, omega arith, same)
 among (x ∷ xs) ys b (suc i, h, at) = let c = among xs ys b (i, omega (arith, h), at) in (suc c.0, omega (arith, c.1), c.2)
 
-pub declarations_among : (l : Lexed) (t : Tree) (b : Break) → Contains (declarations.broken l t) b → Contains (broken l t) b
+pub declarations_among : (l : Lexed) (t : Tree) (b : Break) → Contains (declarations.broken_early l t) b → Contains (broken l t) b
 unfolding check_step ◌>>=◌
 declarations_among l t b c =
-    let d = declarations.program_step t (start l) in
+    let d = declarations.program_step t (known_at_start l) in
     among d.broken (code_block d.value t.block d.known).broken b c

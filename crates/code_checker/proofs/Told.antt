@@ -8,21 +8,21 @@ use Rattle.check_steps.specs.declared.breaks.Broken.TheVariants.{Early, Late, To
 use Rattle.check_steps.specs.declared.breaks.Break.{Break}
 use Rattle.check_steps.specs.declared.breaks.CheckFault.{CheckFault}
 use Rattle.check_steps.specs.declared.work.Work.{Work}
-use Rattle.check_steps.specs.Breaks.{FaultIs, IsOfFirst, fault_at, fault_of, first_of}
-use Rattle.check_steps.specs.Steps.{run}
-use Rattle.check_steps.specs.Words.{start}
+use Rattle.check_steps.specs.Breaks.{FaultIs, IsOfFirst, fault_at, fault_of, first_broken}
+use Rattle.check_steps.specs.Steps.{run_step}
+use Rattle.check_steps.specs.Words.{known_at_start}
 use Rattle.check_steps.proofs.First.{fault-first, first_of-none}
 use Rattle.code_checker.specs.Programs.{broken, check_step, program_of}
 
 -- the first of what the tree breaks, and its program
 pub record Leaves (l : Lexed) (t : Tree) (v : Work) : Type 0 where
-  pub first : first_of (broken l t) None ≡ v.least
+  pub first : first_broken (broken l t) None ≡ v.least
   pub program : v.tables.program ≡ program_of l t
 
-pub leaves : (l : Lexed) (t : Tree) (w v : Work) → w ≡ record { least = None; tables = start l } → run (check_step t) w ≡ (tt, v) → Leaves l t v
-unfolding run
+pub leaves : (l : Lexed) (t : Tree) (w v : Work) → w ≡ record { least = None; tables = known_at_start l } → run_step (check_step t) w ≡ (tt, v) → Leaves l t v
+unfolding run_step
 leaves l t w v is done =
-    let made = ap (λ (x : Work). run (check_step t) x) (sym is) ∙ done in
+    let made = ap (λ (x : Work). run_step (check_step t) x) (sym is) ∙ done in
     record {
       first = ap (λ (p : Unit {0} × Work). p.1.least) made;
       program = sym (ap (λ (p : Unit {0} × Work). p.1.tables.program) made);
@@ -33,7 +33,8 @@ is_told bs (Early rule) token first = first
 is_told bs (Late rule) token first = first
 is_told bs TooBig token first = first
 
-fault_told : (bs : List Break) (least : Option Break) (b : Break) (e : CheckFault) → first_of bs None ≡ least → least ≡ Some b → e ≡ fault_of b → FaultIs bs e
+fault_told : (bs : List Break) (least : Option Break) (b : Break) (e : CheckFault) → first_broken bs None ≡ least → least ≡ Some b → e ≡ fault_of b
+    → FaultIs bs e
 fault_told bs least b e known is same =
     let P : CheckFault → Type 0 = λ x. FaultIs bs x in
     subst P (sym same) (is_told bs b.broken b.token (fault-first bs b (known ∙ is)))

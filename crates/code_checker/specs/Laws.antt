@@ -21,4 +21,4 @@ TooBigComesLast = (bs : List Break) (token : ℕ) → FaultIs bs (fault.TooBig t
 -- What the declarations break is broken.
 abbrev pub DeclarationsCount : Type 0
 DeclarationsCount =
-    (l : Lexed) (t : Tree) (b : Break) → Contains (declarations.broken l t) b → Contains (broken l t) b
+    (l : Lexed) (t : Tree) (b : Break) → Contains (declarations.broken_early l t) b → Contains (broken l t) b

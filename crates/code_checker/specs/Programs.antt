@@ -5,7 +5,7 @@ use Rattle.pas_tree.specs.declared.blocks.Tree.{Tree}
 use Rattle.program_tables.specs.ProgramRows.{ProgramRows}
 use Rattle.check_steps.specs.declared.breaks.Break.{Break}
 use Rattle.check_steps.specs.Steps.{Step, ◌>>=◌}
-use Rattle.check_steps.specs.Words.{start}
+use Rattle.check_steps.specs.Words.{known_at_start}
 use Rattle.decl_checker.specs.Programs.{program_step}
 use Rattle.code_checker.specs.Blocks.{code_block}
 
@@ -17,8 +17,8 @@ check_step t = do
 
 -- all rules that a tree breaks, and all that is too big in it
 abbrev pub broken : Lexed → Tree → List Break
-broken l t = (check_step t (start l)).broken
+broken l t = (check_step t (known_at_start l)).broken
 
 -- the program that a tree denotes
 abbrev pub program_of : Lexed → Tree → ProgramRows
-program_of l t = (check_step t (start l)).known.program
+program_of l t = (check_step t (known_at_start l)).known.program

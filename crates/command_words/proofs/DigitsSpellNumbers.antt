@@ -7,7 +7,7 @@ use Rattle.std.proofs.lemmas.Bool.Decides.{nat_tests}
 use Rattle.std.specs.Char.{digit_value, is_ascii_digit}
 use Rattle.std.specs.List.{list_all, starts_with}
 use Rattle.std.specs.Str.Parse.{AllDigits, IsNumeral, digits_value, without_leading_plus}
-use Rattle.command_words.specs.Meaning.{budget_spelled, is_plain, is_spelled, number_spelled}
+use Rattle.command_words.specs.Meaning.{budget_spelled, is_plain_number, is_spelled, number_spelled}
 
 and2 : (a b : Bool) → (a && b) ≡ true → (a ≡ true) × (b ≡ true)
 and2 true b h = (refl, h)
@@ -98,22 +98,22 @@ module _ (text : List ℕ) (plain : starts_with nat_eq text (codes "+") ≡ fals
   pub spells_number : (n : ℕ) → Parses × (n ≡ digits_value 10 (without_leading_plus text)) → starts_with nat_eq text (codes "0") ≡ false
       → 1 ≤ n → n ≤ 14 → Some n ≡ number_spelled text
   spells_number n is first least most =
-      let digits : is_plain text ≡ true =
+      let digits : is_plain_number text ≡ true =
       and_from (list_all is_ascii_digit text) (not (starts_with nat_eq text (codes "0"))) (digits_are text (numeral n is).1) (ap not first) in
-      sym (ap (λ (n : ℕ). if is_plain text && nat_le 1 n && nat_le n 14 then Some n else None) (value n is)
+      sym (ap (λ (n : ℕ). if is_plain_number text && nat_le 1 n && nat_le n 14 then Some n else None) (value n is)
       ∙ ap (λ (b : Bool). if b then Some n else None)
-      (all3 (is_plain text) (nat_le 1 n) (nat_le n 14) digits (grind (arith, nat_tests)) (grind (arith, nat_tests))))
+      (all3 (is_plain_number text) (nat_le 1 n) (nat_le n 14) digits (grind (arith, nat_tests)) (grind (arith, nat_tests))))
 
   pub spells_no_number : (Parses → ⊥) → None ≡ number_spelled text
-  spells_no_number not_parsed = by (is_plain text && nat_le 1 spelled && nat_le spelled 14) refl
+  spells_no_number not_parsed = by (is_plain_number text && nat_le 1 spelled && nat_le spelled 14) refl
     where
       some : (text : List ℕ) → nat_le 1 (digits_value 10 text) ≡ true → 0 < length text
       some [] is = absurd (let x : ⊥ = cc in x)
       some (c ∷ cs) is = omega arith
 
-      by : (b : Bool) → (is_plain text && nat_le 1 spelled && nat_le spelled 14) ≡ b → None ≡ number_spelled text
+      by : (b : Bool) → (is_plain_number text && nat_le 1 spelled && nat_le spelled 14) ≡ b → None ≡ number_spelled text
       by false is = sym (ap (λ (b : Bool). if b then Some spelled else None) is)
       by true is =
-          let all = and3 (is_plain text) (nat_le 1 spelled) (nat_le spelled 14) is in
+          let all = and3 (is_plain_number text) (nat_le 1 spelled) (nat_le spelled 14) is in
           let digits = and2 (list_all is_ascii_digit text) (not (starts_with nat_eq text (codes "0"))) all.0 in
           absurd (must_parse not_parsed (some text all.1) digits.0 (grind (arith, nat_tests, all.2)))

@@ -44,14 +44,14 @@ budget_meant (Some text) = budget_spelled text
 -- ---- the number of a made source
 
 -- decimal digits, the first of them not zero
-abbrev pub is_plain : Text → Bool
-is_plain text = list_all is_ascii_digit text && not (starts_with nat_eq text (codes "0"))
+abbrev pub is_plain_number : Text → Bool
+is_plain_number text = list_all is_ascii_digit text && not (starts_with nat_eq text (codes "0"))
 
 -- the number that a text spells, from 1 to 14
 abbrev pub number_spelled : Text → Option ℕ
 number_spelled text =
     let number = digits_value 10 text in
-    if is_plain text && nat_le 1 number && nat_le number 14 then Some number else None
+    if is_plain_number text && nat_le 1 number && nat_le number 14 then Some number else None
 
 -- ---- what may be asked for
 
@@ -98,8 +98,8 @@ meant_by value =
     asked_of (value (codes "source")) (value (codes "input")) (value (codes "budget")) (value (codes "load"))
 
 -- the value of an argument among those that clap matched
-abbrev pub value_at : List Row → Text → Option Text
-value_at rows name = first_of name rows
+abbrev pub value_among : List Row → Text → Option Text
+value_among rows name = first_of name rows
 
 -- ---- the words
 
@@ -110,4 +110,4 @@ unless_fault (kind ∷ kinds) m = None
 
 -- what the words mean, if anything; the first is the program's name
 unfoldable pub meant : List Text → Option Meant
-meant words = unless_fault (fault_of command_line words) (meant_by (value_at (matches_of command_line words)))
+meant words = unless_fault (fault_of command_line words) (meant_by (value_among (matches_of command_line words)))

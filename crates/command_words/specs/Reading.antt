@@ -14,6 +14,6 @@ requested_by r = record {
   budget = r.budget;
 }
 
-abbrev pub asked_by : Asked → Meant
-asked_by (asked.Source request) = Source (requested_by request)
-asked_by (asked.Made number) = Made number
+abbrev pub meant_of : Asked → Meant
+meant_of (asked.Source request) = Source (requested_by request)
+meant_of (asked.Made number) = Made number

@@ -4,8 +4,8 @@ ghost use Rattle.std.specs.Option.{option_map};
 ghost use Rattle.std.specs.String.{string_bytes};
 ghost use Rattle.clap.specs.Words.{found_of, kind_of, rows_of};
 ghost use Rattle.clap.specs.declared.error.kind.ErrorKind.TheVariants as kind;
-ghost use Rattle.command_words.specs.Meaning.{IsWithinLimits, made_meant, meant, meant_by, source_meant, value_at};
-ghost use Rattle.command_words.specs.Reading.{asked_by};
+ghost use Rattle.command_words.specs.Meaning.{IsWithinLimits, made_meant, meant, meant_by, source_meant, value_among};
+ghost use Rattle.command_words.specs.Reading.{meant_of};
 ghost use Rattle.command_words.specs.declared.request.WordFault.TheVariants as fault;
 
 use crate::budget::steps_asked;
@@ -60,18 +60,18 @@ impl From<AllocError> for WordFault {
 
 /// The value of an argument, where it has one.
 fn value_of<'a>(matches: &ArgMatches<'a>, name: &str) -> Option<&'a str>
-    ensures { option_map (λ t. t.now) result ≡ value_at (rows_of (found_of matches.now)) name.now }
+    ensures { option_map (λ t. t.now) result ≡ value_among (rows_of (found_of matches.now)) name.now }
 {
     matches.get_str(name)
 }
 
 /// The source that the values of the options ask about.
 fn source_in<'a>(matches: &ArgMatches<'a>, source: &'a str) -> Option<Asked<'a>>
-    ensures meant { option_map asked_by result ≡ source_meant source.entry.now
-        (value_at (rows_of (found_of matches.now)) (codes "input"))
-        (value_at (rows_of (found_of matches.now)) (codes "budget"))
-        (value_at (rows_of (found_of matches.now)) (codes "load")) }
-    ensures range { IfSome result (λ a. IsWithinLimits (asked_by a)) }
+    ensures meant { option_map meant_of result ≡ source_meant source.entry.now
+        (value_among (rows_of (found_of matches.now)) (codes "input"))
+        (value_among (rows_of (found_of matches.now)) (codes "budget"))
+        (value_among (rows_of (found_of matches.now)) (codes "load")) }
+    ensures range { IfSome result (λ a. IsWithinLimits (meant_of a)) }
 {
     let budget = steps_asked(value_of(matches, "budget"))?;
     Some(Asked::Source(Request {
@@ -84,11 +84,11 @@ fn source_in<'a>(matches: &ArgMatches<'a>, source: &'a str) -> Option<Asked<'a>>
 
 /// The made source of the number that this text spells, where there is no option.
 fn made_in<'a>(matches: &ArgMatches<'a>, text: &str) -> Option<Asked<'a>>
-    ensures meant { option_map asked_by result ≡ made_meant text.now
-        (value_at (rows_of (found_of matches.now)) (codes "input"))
-        (value_at (rows_of (found_of matches.now)) (codes "budget"))
-        (value_at (rows_of (found_of matches.now)) (codes "load")) }
-    ensures range { IfSome result (λ a. IsWithinLimits (asked_by a)) }
+    ensures meant { option_map meant_of result ≡ made_meant text.now
+        (value_among (rows_of (found_of matches.now)) (codes "input"))
+        (value_among (rows_of (found_of matches.now)) (codes "budget"))
+        (value_among (rows_of (found_of matches.now)) (codes "load")) }
+    ensures range { IfSome result (λ a. IsWithinLimits (meant_of a)) }
 {
     if value_of(matches, "input").is_some()
         || value_of(matches, "budget").is_some()
@@ -104,8 +104,8 @@ fn made_in<'a>(matches: &ArgMatches<'a>, text: &str) -> Option<Asked<'a>>
 
 /// What the values of the arguments ask for.
 fn asked_in<'a>(matches: &ArgMatches<'a>) -> Option<Asked<'a>>
-    ensures meant { option_map asked_by result ≡ meant_by (value_at (rows_of (found_of matches.now))) }
-    ensures range { IfSome result (λ a. IsWithinLimits (asked_by a)) }
+    ensures meant { option_map meant_of result ≡ meant_by (value_among (rows_of (found_of matches.now))) }
+    ensures range { IfSome result (λ a. IsWithinLimits (meant_of a)) }
 {
     let source = value_of(matches, "source")?;
     match after_make(source) {
@@ -130,9 +130,9 @@ fn fault_of(error: &Error) -> WordFault
 /// of 1 to `MOST_STEPS`; whose source begins with `make:` and does not go on with a decimal number from 1 to
 /// `MOST_MADE` without leading zero; and that give such a source an option.
 pub fn read_words<'a>(alloc: Global, words: &'a [String]) -> Result<Asked<'a>, WordFault>
-    ensures meant { IfOk result (λ a. meant (map string_bytes words.entry.now) ≡ Some (asked_by a)) }
+    ensures meant { IfOk result (λ a. meant (map string_bytes words.entry.now) ≡ Some (meant_of a)) }
     ensures refused { result ≡ Err fault.Refused → meant (map string_bytes words.entry.now) ≡ None }
-    ensures range { IfOk result (λ a. IsWithinLimits (asked_by a)) }
+    ensures range { IfOk result (λ a. IsWithinLimits (meant_of a)) }
 {
     let command = command_line(alloc)?;
     match command.try_get_matches_from(words) {

@@ -8,7 +8,7 @@ use Rattle.call_tree.specs.Recording.{lasts_of}
 use Rattle.program_tables.specs.ProgramRows.{ProgramRows}
 use Rattle.program_meaning.specs.Run.{Call, run}
 use Rattle.program_meaning.specs.Numbering.{calls_of}
-use Rattle.program_run.specs.Table.{numbered}
+use Rattle.program_run.specs.Table.{table_of}
 use Rattle.body_replay.specs.Replays.{records_of}
 use Rattle.debuggee.specs.Execution.{Supply, calls_with}
 use Rattle.debuggee.proofs.CallsAreNumbered.{row_at, rows_length}
@@ -18,7 +18,7 @@ pub call_is_recorded : (p : ProgramRows) (s : Supply) (call : ℕ) → call < le
 unfolding calls_with
 call_is_recorded p s call below =
     let cs = calls_of (run p s.input s.budget) in
-    let columns = length-map (numbered cs) (λ r. r.last) in let rows = rows_length cs in
+    let columns = length-map (table_of cs) (λ r. r.last) in let rows = rows_length cs in
     let inside : call < length cs = omega (arith, below, columns, rows) in
     let found = row_at cs call inside in
     (found.0.event, slice_get-map (λ e. e.event) cs call ∙ ap (option_map (λ e. e.event)) found.2)

@@ -4,7 +4,7 @@ ghost use Rattle.edge_ports.specs.Counts.{Counted};
 ghost use Rattle.edge_ports.specs.Told.{GaveAll, GavePrefix};
 ghost use Rattle.command_words.specs.Meaning.{IsWithinLimits, Requested};
 ghost use Rattle.command_words.specs.Meaning as meant;
-ghost use Rattle.command_words.specs.Reading.{asked_by};
+ghost use Rattle.command_words.specs.Reading.{meant_of};
 ghost use Rattle.body_replay.specs.Laws.{BodiesGiveTheirExits};
 ghost use Rattle.ask_session.specs.Console.{NotRisen};
 ghost use Rattle.ask_session.specs.Laws.{AsksTheBest, FindsTheFault, NamesTheAccused, NarrowsTheFault};
@@ -38,8 +38,8 @@ fn ask_for<K: Keeper, I: Source, O: Sink>(
     console: &mut I,
     screen: &mut O,
 ) -> Status
-    requires range { IsWithinLimits (asked_by asked.now) }
-    ensures goes { Goes (Some (asked_by asked.now))
+    requires range { IsWithinLimits (meant_of asked.now) }
+    ensures goes { Goes (Some (meant_of asked.now))
         (record {
           files = K.files keeper.old;
           counts = K.counts keeper.old;
@@ -53,7 +53,7 @@ fn ask_for<K: Keeper, I: Source, O: Sink>(
     ensures console_faults { Counted (is_console result) (I.faults console.old) (I.faults console.new) }
     ensures screen_faults { Counted (is_screen result) (O.faults screen.old) (O.faults screen.new) }
     ensures last { IsTrue (is_screen result) → IsTrue (O.last_failed screen.new) }
-    ensures untouched { NamesNoFile (Some (asked_by asked.now))
+    ensures untouched { NamesNoFile (Some (meant_of asked.now))
         → (keeper.new ≡ keeper.old) × (console.new ≡ console.old) }
 {
     match asked {
@@ -116,10 +116,9 @@ pub fn ask_pascal<K: Keeper, I: Source, O: Sink>(
     ensures headline { (r : Requested) (t : Told r (K.files keeper.old) (I.left console.old))
         → meaning words.now ≡ Some (meant.Source r) → result ≡ 0
         → Headline t (O.given screen.old) (O.given screen.new) }
-    // Where the keeper tells the files that the words name, the source is a program, and the console tells its bytes;
-    // or the words mean a made program. What the screen got, and what became of the files from line to line, by the
-    // answers that the lines got that ask to save: at status 0, and at every status unless a fetch failed. And the
-    // status, if nothing failed but stores: 0, or 9 where the console goes on for too long.
+    // Where the keeper tells the named files, the source is a program and the console tells its bytes, or the words
+    // mean a made program: what the screen got and what became of the files, by the answers to lines that ask to save,
+    // at status 0, and at every status unless a fetch failed; and the status, 0 or 9, if nothing failed but stores.
     ensures transcript { (s : Setting words.now (K.files keeper.old) (I.left console.old)) → result ≡ 0
         → (saves : List Bool) × (length saves ≡ length (saves_of s))
         × GaveAll (O.given screen.old) (O.given screen.new) (transcript_of s saves)
@@ -143,8 +142,7 @@ pub fn ask_pascal<K: Keeper, I: Source, O: Sink>(
     ensures finds { InEachRun FindsTheFault }
     ensures exits { BodiesGiveTheirExits }
     ensures one_run { OneRun }
-    // Words that mean nothing; a source that is told and is no program; a session that is told and is refused; and any
-    // words that mean something, where nothing failed.
+    // Words that mean nothing; a source that is no program; a session that is refused; words where nothing failed.
     ensures usage { meaning words.now ≡ None → (result ≡ 2) ⊎ (result ≡ 6) ⊎ (result ≡ 7) }
     ensures no_program { MeansNoProgram (meaning words.now) (K.files keeper.old) → IsSome (K.files keeper.old)
         → NoFetchFailed (K.counts keeper.old) (K.counts keeper.new)
@@ -155,8 +153,7 @@ pub fn ask_pascal<K: Keeper, I: Source, O: Sink>(
     ensures without_faults { IsSome (meaning words.now) → NoneRisen (K.counts keeper.old) (K.counts keeper.new)
         → NotRisen (I.faults console.old) (I.faults console.new) → NotRisen (O.faults screen.old) (O.faults screen.new)
         → (result ≡ 0) ⊎ (result ≡ 3) ⊎ (result ≡ 7) ⊎ (result ≡ 8) ⊎ (result ≡ 9) }
-    // By the status, whether or not the objects tell their bytes: why it came, what the screen got, and what became of
-    // the files and of the keeper's counts.
+    // By the status, whether or not the objects tell their bytes: why, what the screen got, what became of the files.
     ensures goes { (status : Status) × (result ≡ code_of status) × Goes (meaning words.now)
         (record {
           files = K.files keeper.old;

@@ -14,16 +14,16 @@ use Rattle.call_tree.specs.Recording.{Recording, lasts_of, parents_of, routines_
 use Rattle.call_tree.specs.declared.records.Call as table
 use Rattle.program_tables.specs.ProgramRows.{ProgramRows}
 use Rattle.program_meaning.specs.Run.{Call, Marked, Outcome, run}
-use Rattle.program_meaning.specs.Numbering.{greatest, belows, calls_of, last_of, parent_of, is_below, each_from, InSubtree, Root, Child}
+use Rattle.program_meaning.specs.Numbering.{greatest, belows, calls_of, last_below, parent_of, is_below, each_from, InSubtree, Root, Child}
 use Rattle.program_meaning.specs.Laws.{SubtreeIsInterval, LastIsACall, EveryProgramRuns, EveryRunHasACall}
 use Rattle.program_run.specs.History.{recording_of}
-use Rattle.program_run.specs.Table.{numbered, row_of}
+use Rattle.program_run.specs.Table.{table_of, table_row}
 use Rattle.debuggee.specs.Execution.{Supply, calls_with}
 
 -- the subtree of each call is the interval from it to its last call, which is a call
 pub record IsTree (bs : List ℕ) : Type 0 where
-  pub subtree : (k j : ℕ) → k < length bs → (InSubtree bs k j ↔ (k ≤ j) × (j ≤ last_of bs k))
-  pub last : (k : ℕ) → k < length bs → last_of bs k < length bs
+  pub subtree : (k j : ℕ) → k < length bs → (InSubtree bs k j ↔ (k ≤ j) × (j ≤ last_below bs k))
+  pub last : (k : ℕ) → k < length bs → last_below bs k < length bs
 
 module _ {A B : Type 0} where
   each_length : (f : ℕ → A → B) (k : ℕ) (xs : List A) → length (each_from f k xs) ≡ length xs
@@ -42,27 +42,27 @@ get_within [] i h = absurd (omega arith)
 get_within (x ∷ xs) zero h = (x, refl)
 get_within (x ∷ xs) (suc i) h = get_within xs i (omega arith)
 
-pub rows_length : (cs : List (Marked Call)) → length (numbered cs) ≡ length cs
-rows_length cs = each_length (row_of (belows cs)) 0 cs
+pub rows_length : (cs : List (Marked Call)) → length (table_of cs) ≡ length cs
+rows_length cs = each_length (table_row (belows cs)) 0 cs
 
 -- the row of a call
-pub row_of_call : (cs : List (Marked Call)) (k : ℕ) (c : Marked Call) → slice_get cs k ≡ Some c → slice_get (numbered cs) k ≡ Some (row_of (belows cs) k c)
-row_of_call cs k c e = each_at (row_of (belows cs)) 0 k cs c e ∙ (let n : 0 + k ≡ k = omega arith in ap (λ m. Some (row_of (belows cs) m c)) n)
+pub row_of_call : (cs : List (Marked Call)) (k : ℕ) (c : Marked Call) → slice_get cs k ≡ Some c → slice_get (table_of cs) k ≡ Some (table_row (belows cs) k c)
+row_of_call cs k c e = each_at (table_row (belows cs)) 0 k cs c e ∙ (let n : 0 + k ≡ k = omega arith in ap (λ m. Some (table_row (belows cs) m c)) n)
 
-pub row_at : (cs : List (Marked Call)) (k : ℕ) → k < length cs → (c : Marked Call) × (slice_get (numbered cs) k ≡ Some (row_of (belows cs) k c))
+pub row_at : (cs : List (Marked Call)) (k : ℕ) → k < length cs → (c : Marked Call) × (slice_get (table_of cs) k ≡ Some (table_row (belows cs) k c))
     × (slice_get cs k ≡ Some c)
 row_at cs k h = let here = get_within cs k h in (here.0, row_of_call cs k here.0 here.1, here.1)
 
 -- a column of the row of a call
 column_at : {A : Type 0} (v : table.Call → A) (cs : List (Marked Call)) (k : ℕ) (h : k < length cs)
-    → slice_get (map v (numbered cs)) k ≡ Some (v (row_of (belows cs) k (row_at cs k h).0))
-column_at v cs k h = slice_get-map v (numbered cs) k ∙ ap (option_map v) (row_at cs k h).1
+    → slice_get (map v (table_of cs)) k ≡ Some (v (table_row (belows cs) k (row_at cs k h).0))
+column_at v cs k h = slice_get-map v (table_of cs) k ∙ ap (option_map v) (row_at cs k h).1
 
-pub parent_at : (cs : List (Marked Call)) (k : ℕ) → k < length cs → slice_get (parents_of (numbered cs)) k ≡ Some (parent_of (belows cs) k)
+pub parent_at : (cs : List (Marked Call)) (k : ℕ) → k < length cs → slice_get (parents_of (table_of cs)) k ≡ Some (parent_of (belows cs) k)
 parent_at cs k h = column_at (λ r. r.parent) cs k h
 
-pub last_at : (cs : List (Marked Call)) (k : ℕ) → k < length cs → slice_index (lasts_of (numbered cs)) k ≡ last_of (belows cs) k
-last_at cs k h = get_or_from_slice_get (lasts_of (numbered cs)) k (last_of (belows cs) k) 0 (column_at (λ r. r.last) cs k h)
+pub last_at : (cs : List (Marked Call)) (k : ℕ) → k < length cs → slice_index (lasts_of (table_of cs)) k ≡ last_below (belows cs) k
+last_at cs k h = get_or_from_slice_get (lasts_of (table_of cs)) k (last_below (belows cs) k) 0 (column_at (λ r. r.last) cs k h)
 
 -- the greatest number that passes is below the bound
 greatest_below : (p : ℕ → Bool) (n m : ℕ) → greatest p n ≡ Some m → m < n
@@ -73,20 +73,20 @@ greatest_below p (suc n) m e = by (λ q. greatest_below p n m q) (p n) e
     by below true q = let same : n ≡ m = cc in omega arith
     by below false q = let less = below q in omega (arith, less)
 
-parents_length : (cs : List (Marked Call)) → length (parents_of (numbered cs)) ≡ length cs
-parents_length cs = length-map (numbered cs) (λ r. r.parent) ∙ rows_length cs
+parents_length : (cs : List (Marked Call)) → length (parents_of (table_of cs)) ≡ length cs
+parents_length cs = length-map (table_of cs) (λ r. r.parent) ∙ rows_length cs
 
-lasts_length : (cs : List (Marked Call)) → length (lasts_of (numbered cs)) ≡ length cs
-lasts_length cs = length-map (numbered cs) (λ r. r.last) ∙ rows_length cs
+lasts_length : (cs : List (Marked Call)) → length (lasts_of (table_of cs)) ≡ length cs
+lasts_length cs = length-map (table_of cs) (λ r. r.last) ∙ rows_length cs
 
 belows_length : (cs : List (Marked Call)) → length (belows cs) ≡ length cs
 belows_length cs = length-map cs (λ c. c.event.below)
 
 -- a call of which there is a parent is a call, and that is its parent
-parent_is : (cs : List (Marked Call)) (above call : ℕ) → IsParent (parents_of (numbered cs)) above call → (call < length cs)
+parent_is : (cs : List (Marked Call)) (above call : ℕ) → IsParent (parents_of (table_of cs)) above call → (call < length cs)
     × (parent_of (belows cs) call ≡ Some above)
 parent_is cs above call e =
-    let inside : call < length cs = let l = slice_get_within (parents_of (numbered cs)) call (Some above) e in omega (arith, l, parents_length cs) in
+    let inside : call < length cs = let l = slice_get_within (parents_of (table_of cs)) call (Some above) e in omega (arith, l, parents_length cs) in
     (inside, inner (parent_of (belows cs) call) (sym (parent_at cs call inside) ∙ e))
   where
     inner : (o : Option ℕ) → Some o ≡ Some (Some above) → o ≡ Some above
@@ -98,17 +98,17 @@ through_child bs above call _ e Root = Child call above e Root
 through_child bs above call _ e (Child j p q s) = Child j p q (through_child bs above call p e s)
 
 module _ (bs : List ℕ) (tree : IsTree bs) where
-  child_ends : (above call : ℕ) → call < length bs → parent_of bs call ≡ Some above → last_of bs call ≤ last_of bs above
+  child_ends : (above call : ℕ) → call < length bs → parent_of bs call ≡ Some above → last_below bs call ≤ last_below bs above
   child_ends above call h e =
       let earlier : above < call = greatest_below (is_below bs call) call above e in
-      let last : InSubtree bs call (last_of bs call) = (tree.subtree call (last_of bs call) h).1 (omega arith, omega arith) in
-      ((tree.subtree above (last_of bs call) (omega (arith, earlier))).0 (through_child bs above call (last_of bs call) e last)).1
+      let last : InSubtree bs call (last_below bs call) = (tree.subtree call (last_below bs call) h).1 (omega arith, omega arith) in
+      ((tree.subtree above (last_below bs call) (omega (arith, earlier))).0 (through_child bs above call (last_below bs call) e last)).1
 
   parent_within : (top call : ℕ) → top < length bs → top < call → InSubtree bs top call → (above : ℕ) × (top ≤ above) × (parent_of bs call ≡ Some above)
   parent_within top _ h later Root = absurd (omega arith)
   parent_within top _ h later (Child call above e s) = (above, ((tree.subtree top above h).0 s).0, e)
 
-pub rows_numbered : (cs : List (Marked Call)) → IsTree (belows cs) → IsNumbered (parents_of (numbered cs)) (lasts_of (numbered cs))
+pub rows_numbered : (cs : List (Marked Call)) → IsTree (belows cs) → IsNumbered (parents_of (table_of cs)) (lasts_of (table_of cs))
 rows_numbered cs tree = record {
   same_length = parents_length cs ∙ sym (lasts_length cs);
   intervals = record { from_itself = itself; to_a_call = a_call };
@@ -120,17 +120,17 @@ rows_numbered cs tree = record {
     size : length (belows cs) ≡ length cs
     size = belows_length cs
 
-    itself : (call : ℕ) → call < length (lasts_of (numbered cs)) → call ≤ slice_index (lasts_of (numbered cs)) call
+    itself : (call : ℕ) → call < length (lasts_of (table_of cs)) → call ≤ slice_index (lasts_of (table_of cs)) call
     itself call h = let l = last_at cs call (omega (arith, lasts_length cs)) in omega (arith, l)
 
-    a_call : (call : ℕ) → call < length (lasts_of (numbered cs)) → slice_index (lasts_of (numbered cs)) call < length (lasts_of (numbered cs))
+    a_call : (call : ℕ) → call < length (lasts_of (table_of cs)) → slice_index (lasts_of (table_of cs)) call < length (lasts_of (table_of cs))
     a_call call h =
         let l = last_at cs call (omega (arith, lasts_length cs)) in
         let x = tree.last call (omega (arith, lasts_length cs, size)) in
         omega (arith, l, x, lasts_length cs, size)
 
-    ends : (above call : ℕ) → IsParent (parents_of (numbered cs)) above call
-        → slice_index (lasts_of (numbered cs)) call ≤ slice_index (lasts_of (numbered cs)) above
+    ends : (above call : ℕ) → IsParent (parents_of (table_of cs)) above call
+        → slice_index (lasts_of (table_of cs)) call ≤ slice_index (lasts_of (table_of cs)) above
     ends above call e =
         let is = parent_is cs above call e in
         let inside : call < length cs = is.0 in
@@ -139,13 +139,13 @@ rows_numbered cs tree = record {
         omega (arith, last_at cs call inside, last_at cs above (omega arith), x)
 
     -- only a call has a last call after it
-    top_inside : (top call : ℕ) → top < call → call ≤ slice_index (lasts_of (numbered cs)) top → (b : Bool) → leb (length cs) top ≡ b → top < length cs
+    top_inside : (top call : ℕ) → top < call → call ≤ slice_index (lasts_of (table_of cs)) top → (b : Bool) → leb (length cs) top ≡ b → top < length cs
     top_inside top call later h true t =
-        let past = leb-true _ _ t in let none = get_or_past (lasts_of (numbered cs)) top 0 (omega (arith, lasts_length cs)) in absurd (omega (arith, none))
+        let past = leb-true _ _ t in let none = get_or_past (lasts_of (table_of cs)) top 0 (omega (arith, lasts_length cs)) in absurd (omega (arith, none))
     top_inside top call later h false t = leb-false _ _ t
 
-    within : (top call : ℕ) → top < call → call ≤ slice_index (lasts_of (numbered cs)) top
-        → (above : ℕ) × (top ≤ above) × IsParent (parents_of (numbered cs)) above call
+    within : (top call : ℕ) → top < call → call ≤ slice_index (lasts_of (table_of cs)) top
+        → (above : ℕ) × (top ≤ above) × IsParent (parents_of (table_of cs)) above call
     within top call later h =
         let inside : top < length cs = top_inside top call later h (leb (length cs) top) refl in
         let l = last_at cs top inside in
@@ -180,7 +180,7 @@ pub some_call : EveryRunHasACall → EveryProgramRuns → (p : ProgramRows) (s :
 some_call has runs p s calls e =
     let cs = calls_of (run p s.input s.budget) in
     let some = some_in has p s (run p s.input s.budget) refl (runs p s.input s.budget) in
-    omega (arith, ap (λ (c : Recording). length c.calls) e, each_length (row_of (belows cs)) 0 cs, some)
+    omega (arith, ap (λ (c : Recording). length c.calls) e, each_length (table_row (belows cs)) 0 cs, some)
 
 -- the calls that are kept of a run are those of the run
 pub calls_kept : (p : ProgramRows) (s : Supply) (calls : Recording) → calls ≡ recording_of p (run p s.input s.budget)

@@ -13,7 +13,7 @@ use Rattle.question_text.specs.Cards.{Recorded}
 use Rattle.question_text.specs.Traces.{trace_text}
 use Rattle.body_replay.specs.Replays.{events_in, work_of}
 use Rattle.debuggee.specs.Execution.{Execution}
-use Rattle.debuggee.specs.Subjects.{trace, trace_by}
+use Rattle.debuggee.specs.Subjects.{trace, trace_of_work}
 use Rattle.debuggee.specs.Told.{history_of}
 
 -- a history that is that of a run
@@ -34,7 +34,7 @@ history_is {p = p} {input = input} {budget = budget} {h = h} g =
     here ∙ ap (history_of p input) (sym g.steps)
 
 of_work : (r : Recorded) (k : ℕ) (work : Replayed) (events : List Event) (way : WayOut) → events ≡ events_in work
-    → option_map (λ w. way_out w.end) work ≡ Some way → trace_text r k events way ≡ trace_by r k work
+    → option_map (λ w. way_out w.end) work ≡ Some way → trace_text r k events way ≡ trace_of_work r k work
 of_work r k None events way e w = absurd (none_some w)
 of_work r k (Some work) events way e w = λ i. trace_text r k (e i) (sym (some_same w) i)
 

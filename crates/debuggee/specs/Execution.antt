@@ -3,7 +3,7 @@ use Rattle.std.specs.Prelude.{ℕ, List, length}
 use Rattle.call_tree.specs.declared.records.Call.{Call}
 use Rattle.pas_lexer.specs.Lexed.{Lexed}
 use Rattle.program_tables.specs.ProgramRows.{ProgramRows}
-use Rattle.program_meaning.specs.Run.{items_of, run}
+use Rattle.program_meaning.specs.Run.{input_items, run}
 use Rattle.program_run.specs.History.{log_of, recording_of}
 use Rattle.question_text.specs.Cards.{Recorded}
 use Rattle.debuggee.specs.declared.runs.Debuggee.{Debuggee}
@@ -33,7 +33,7 @@ execution_of t p s = record {
     tokens = length t.tokens;
     calls = calls_with s p;
     log = log_of (run p s.input s.budget);
-    items = items_of s.input;
+    items = input_items s.input;
   };
 }
 

@@ -12,16 +12,16 @@ use Rattle.dialog_replies.specs.Subject.{Subject}
 use Rattle.debuggee.specs.Execution.{Execution}
 
 -- the trace of a call that did this work: what happened in it, and how it ended
-abbrev pub trace_by : Recorded → (k : ℕ) → Replayed → List ℕ
-trace_by r k None = []
-trace_by r k (Some work) = trace_text r k (map (λ e. kept_event e.event) work.events) (way_out work.end)
+abbrev pub trace_of_work : Recorded → (k : ℕ) → Replayed → List ℕ
+trace_of_work r k None = []
+trace_of_work r k (Some work) = trace_text r k (map (λ e. kept_event e.event) work.events) (way_out work.end)
 
 -- The trace of call k of a run: that of its own work, which is its body, run from its recorded entry with the recorded
 -- effects of the calls that it makes.
 unfoldable pub trace : Execution → (k : ℕ) → List ℕ
 trace h k =
     let p = h.recorded.program in
-    trace_by h.recorded k (work_of p (run p h.supply.input h.supply.budget) k)
+    trace_of_work h.recorded k (work_of p (run p h.supply.input h.supply.budget) k)
 
 -- the columns of its calls, the routines of its program by number and name, the cards and traces of its calls, and the
 -- lines of all calls with what is said of each

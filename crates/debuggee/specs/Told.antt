@@ -7,7 +7,7 @@ use Rattle.cell_value.specs.Effects.{IsCountable}
 use Rattle.call_tree.specs.declared.records.Call.{Call}
 use Rattle.call_tree.specs.Told.{IsTold}
 use Rattle.program_tables.specs.ProgramRows.{ProgramRows}
-use Rattle.program_meaning.specs.Run.{items_of, run}
+use Rattle.program_meaning.specs.Run.{input_items, run}
 use Rattle.program_run.specs.History.{log_of, output_of, recording_of}
 use Rattle.program_run.specs.declared.history.History.{History}
 
@@ -16,7 +16,7 @@ abbrev pub history_of : ProgramRows → (input : List ℕ) → (budget : ℕ) �
 history_of p input budget = record {
   calls = recording_of p (run p input budget);
   log = log_of (run p input budget);
-  input = items_of input;
+  input = input_items input;
   output = output_of (run p input budget);
   budget = budget;
 }

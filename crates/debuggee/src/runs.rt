@@ -1,7 +1,7 @@
 //! A source that was run, and what a dialog needs of it.
 ghost use Rattle.std.specs.Prelude.{◌≡◌, ◌<◌, ◌≤◌, length};
 ghost use Rattle.std.specs.Coded.{Coded-set};
-ghost use Rattle.cell_names.specs.Finding.{finding_of, found_in};
+ghost use Rattle.cell_names.specs.Finding.{finding_of, finding_in};
 ghost use Rattle.question_text.specs.Cards.{recorded_in};
 ghost use Rattle.debuggee.specs.Limits.{input_bytes, most_steps};
 ghost use Rattle.debuggee.specs.Told.{AreTold, counts_once, history_of};
@@ -40,7 +40,7 @@ pub struct Debuggee<'a> {
     pub ghost some: { 0 < length history.calls.calls },
     pub ghost told: { AreTold history.log history.input history.calls.calls } by { Prim.hlevel (props, counts_once) },
     // What is found is that of the program and of what was done.
-    pub ghost named: { found_in names ≡ finding_of program (length tokens.tokens) history.log },
+    pub ghost named: { finding_in names ≡ finding_of program (length tokens.tokens) history.log },
 }
 
 impl<'a> Debuggee<'a> {
@@ -49,7 +49,7 @@ impl<'a> Debuggee<'a> {
     /// The run, as the texts on its calls tell of it.
     fn recorded(&self) -> Recorded<'_>
         ensures recorded { recorded_in result ≡ (execution self.now).recorded }
-        ensures names { found_in result.names.now
+        ensures names { finding_in result.names.now
             ≡ finding_of result.program.now result.tokens result.log.now }
         ensures told { AreTold result.log.now result.items.now result.calls.now.calls }
     {

@@ -6,12 +6,12 @@ use Rattle.pas_tree.specs.declared.blocks.Body.TheBlock.{hidden-the_row-Routine-
 use Rattle.pas_tree.specs.declared.blocks.Routine.{Routine}
 use Rattle.pas_tree.specs.declared.statements.Compound.{out-Compound}
 use Rattle.check_steps.specs.declared.work.Work.{Work}
-use Rattle.check_steps.specs.Steps.{Step, ◌>>=◌, each, run}
+use Rattle.check_steps.specs.Steps.{Step, ◌>>=◌, each, run_step}
 use Rattle.check_steps.proofs.Runs.{bind-assoc, run_then}
 use Rattle.use_checker.specs.Statements.{compound_uses}
 use Rattle.decl_checker.specs.declared.routines.Entered.{Entered}
 use Rattle.decl_checker.specs.Blocks.{parts, put_body}
-use Rattle.decl_checker.specs.Routines.{block, body_in, enter, routine, routines_in}
+use Rattle.decl_checker.specs.Routines.{block, body_in, enter_heading, routine, routines_in}
 
 routines_each : (frame : ℕ) (rs : List Routine) (n : _) (r : Row_of-Routine n) (u : Unit {0})
     → routines_in frame rs r ≡ each (routine frame rs) u (items-the_row-Routine n r)
@@ -19,8 +19,8 @@ unfolding routine
 routines_each frame rs _ end_of-Routine u = refl
 routines_each frame rs _ (more_of-Routine heading semicolon body last rest) u =
     let r : Routine = record { heading = heading; semicolon = semicolon; body = body; last_semicolon = last } in
-    ap (λ (h : Unit {0} → Step (Unit {0})). enter frame rs r >>= λ e. body_in e body >>= h) (λ i v. routines_each frame rs _ rest v i)
-    ∙ sym (bind-assoc (enter frame rs r) (λ e. body_in e body) (λ v. each (routine frame rs) v (items-the_row-Routine _ rest)))
+    ap (λ (h : Unit {0} → Step (Unit {0})). enter_heading frame rs r >>= λ e. body_in e body >>= h) (λ i v. routines_each frame rs _ rest v i)
+    ∙ sym (bind-assoc (enter_heading frame rs r) (λ e. body_in e body) (λ v. each (routine frame rs) v (items-the_row-Routine _ rest)))
 
 pub block_out : (frame number place : ℕ) (b : Block) → block frame number place b ≡ (parts frame place b
     >>= λ end. put_body number end (out-Compound (out-Block b).body).begin
@@ -37,7 +37,7 @@ block_out frame number place b =
     >>= λ _. compound_uses frame o.body)
 
 -- a routine whose heading and whose body are done
-pub routine_done : (frame : ℕ) (rs : List Routine) (r : Routine) (w v u : Work) (e : Entered) → run (enter frame rs r) w ≡ (e, v)
-    → run (body_in e r.body) v ≡ (tt, u) → run (routine frame rs tt r) w ≡ (tt, u)
+pub routine_done : (frame : ℕ) (rs : List Routine) (r : Routine) (w v u : Work) (e : Entered) → run_step (enter_heading frame rs r) w ≡ (e, v)
+    → run_step (body_in e r.body) v ≡ (tt, u) → run_step (routine frame rs tt r) w ≡ (tt, u)
 unfolding routine
-routine_done frame rs r w v u e done rest = run_then (enter frame rs r) (λ x. body_in x r.body) w e v tt u done rest
+routine_done frame rs r w v u e done rest = run_then (enter_heading frame rs r) (λ x. body_in x r.body) w e v tt u done rest

@@ -6,21 +6,21 @@ use Rattle.check_steps.specs.declared.breaks.Break.{Break}
 use Rattle.check_steps.specs.declared.breaks.CheckFault.{CheckFault}
 use Rattle.check_steps.specs.declared.work.Work.{Work}
 use Rattle.check_steps.specs.Known.{Known}
-use Rattle.check_steps.specs.Steps.{run}
-use Rattle.check_steps.specs.Words.{start}
+use Rattle.check_steps.specs.Steps.{run_step}
+use Rattle.check_steps.specs.Words.{known_at_start}
 use Rattle.decl_checker.specs.Answers.{HasFirst, EarlyFaultIs, IsWithoutEarly}
-use Rattle.decl_checker.specs.Programs.{broken, program_step, tables_of}
+use Rattle.decl_checker.specs.Programs.{broken_early, program_step, tables_of}
 
 -- the first of the rules that the tree breaks, and the tables that it leaves
 pub record Leaves (l : Lexed) (t : Tree) (v : Work) : Type 0 where
-  pub first : HasFirst (broken l t) v.least
+  pub first : HasFirst (broken_early l t) v.least
   pub tables : v.tables ≡ tables_of l t
 
-pub leaves : (l : Lexed) (t : Tree) (w v : Work) {frame : ℕ} → w ≡ record { least = None; tables = start l } → run (program_step t) w ≡ (frame, v)
+pub leaves : (l : Lexed) (t : Tree) (w v : Work) {frame : ℕ} → w ≡ record { least = None; tables = known_at_start l } → run_step (program_step t) w ≡ (frame, v)
     → Leaves l t v
-unfolding run
+unfolding run_step
 leaves l t w v {frame} is done =
-    let made = ap (λ (x : Work). run (program_step t) x) (sym is) ∙ done in
+    let made = ap (λ (x : Work). run_step (program_step t) x) (sym is) ∙ done in
     record {
       first = record { first_is = ap (λ (p : ℕ × Work). p.1.least) made };
       tables = sym (ap (λ (p : ℕ × Work). p.1.tables) made);
@@ -31,11 +31,11 @@ told_tables (Ok s) l t v left told = told ∙ left.tables
 told_tables (Err e) l t v left told = told
 
 pub told_unbroken : (r : Result Known CheckFault) (l : Lexed) (t : Tree) (v : Work) → Leaves l t v
-    → IfOk r (λ s. (bs : List Break) → HasFirst bs v.least → IsWithoutEarly bs) → IfOk r (λ s. IsWithoutEarly (broken l t))
-told_unbroken (Ok s) l t v left told = told (broken l t) left.first
+    → IfOk r (λ s. (bs : List Break) → HasFirst bs v.least → IsWithoutEarly bs) → IfOk r (λ s. IsWithoutEarly (broken_early l t))
+told_unbroken (Ok s) l t v left told = told (broken_early l t) left.first
 told_unbroken (Err e) l t v left told = told
 
 pub told_fault : (r : Result Known CheckFault) (l : Lexed) (t : Tree) (v : Work) → Leaves l t v
-    → IfErr r (λ e. (bs : List Break) → HasFirst bs v.least → EarlyFaultIs bs e) → IfErr r (EarlyFaultIs (broken l t))
+    → IfErr r (λ e. (bs : List Break) → HasFirst bs v.least → EarlyFaultIs bs e) → IfErr r (EarlyFaultIs (broken_early l t))
 told_fault (Ok s) l t v left told = told
-told_fault (Err e) l t v left told = told (broken l t) left.first
+told_fault (Err e) l t v left told = told (broken_early l t) left.first

@@ -8,7 +8,7 @@ use Rattle.std.proofs.lemmas.List.Sums.{position_or_len_is}
 use Rattle.std.proofs.lemmas.Option.{unwrap_or-slice_get}
 use borrow.Author.Count.{below_more}
 use Rattle.check_steps.specs.Regions.{RegionRows, fresh_region, region_at}
-use Rattle.decl_checker.specs.Regions.{HasRegions, after_outermost, begins_at, region_of}
+use Rattle.decl_checker.specs.Regions.{HasRegions, after_outermost, begins_at, region_beginning}
 
 -- No region from 1 to the one before n begins there.
 pub record NoneBefore (regions : List RegionRows) (token n : ℕ) : Type 0 where
@@ -34,7 +34,7 @@ is_past : (n : ℕ) → nat_lt n n ≡ false
 is_past n = grind (arith, nat_tests)
 
 pub region_found : (regions : List RegionRows) (token n : ℕ) → 0 < n → n < length regions → NoneBefore regions token n
-    → nat_eq token (region_at regions n).token ≡ true → region_of regions token ≡ Some n
+    → nat_eq token (region_at regions n).token ≡ true → region_beginning regions token ≡ Some n
 unfolding number
 region_found [] token n above below before at = absurd (omega arith)
 region_found (x ∷ rs) token zero above below before at = absurd (omega arith)
@@ -42,7 +42,7 @@ region_found (x ∷ rs) token (suc m) above below before at =
     let e = place x rs token m (omega arith) before (λ h. at) in
     ap (λ (j : ℕ). number (nat_lt j (length rs)) j) e ∙ ap (λ (b : Bool). number b m) (is_below m (length rs) (omega arith))
 
-pub region_missing : (regions : List RegionRows) (token n : ℕ) → length regions ≤ n → NoneBefore regions token n → region_of regions token ≡ None
+pub region_missing : (regions : List RegionRows) (token n : ℕ) → length regions ≤ n → NoneBefore regions token n → region_beginning regions token ≡ None
 unfolding number
 region_missing [] token n past before = refl
 region_missing (x ∷ rs) token n past before =
@@ -62,7 +62,7 @@ none_more regions token n before here = record {
 -- what a function tells of the regions before number n: the first that begins at a token, or that none does
 abbrev pub Told : List RegionRows → ℕ → ℕ → Option ℕ → Type 0
 Told regions n token None = NoneBefore regions token n
-Told regions n token (Some region) = region_of regions token ≡ Some region
+Told regions n token (Some region) = region_beginning regions token ≡ Some region
 
 pub record TellsBefore (regions : List RegionRows) (n : ℕ) (starts : ℕ → Option ℕ) : Type 0 where
   pub told : (token : ℕ) → Told regions n token (starts token)
@@ -121,7 +121,7 @@ tells_new regions n starts later tells above below none updates = record {
 pub tells_all : (regions : List RegionRows) (n : ℕ) (starts : ℕ → Option ℕ) → TellsBefore regions n starts → length regions ≤ n → HasRegions regions starts
 tells_all regions n starts tells past = record { each = λ token. all token (starts token) refl (tells.told token) }
   where
-    all : (token : ℕ) (o : Option ℕ) → starts token ≡ o → Told regions n token o → starts token ≡ region_of regions token
+    all : (token : ℕ) (o : Option ℕ) → starts token ≡ o → Told regions n token o → starts token ≡ region_beginning regions token
     all token None e told = e ∙ sym (region_missing regions token n past told)
     all token (Some region) e told = e ∙ sym told
 

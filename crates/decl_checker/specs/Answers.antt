@@ -4,7 +4,7 @@ use Rattle.check_steps.specs.declared.breaks.Broken.TheVariants.{Early}
 use Rattle.check_steps.specs.declared.breaks.Break.{Break}
 use Rattle.check_steps.specs.declared.breaks.CheckFault.{CheckFault}
 use Rattle.check_steps.specs.declared.breaks.CheckFault.TheVariants as fault
-use Rattle.check_steps.specs.Breaks.{IsFirst, first_of, is_early}
+use Rattle.check_steps.specs.Breaks.{IsFirst, first_broken, is_early}
 
 -- the broken rules that can be told from declarations and names alone
 abbrev pub early_of : List Break → List Break
@@ -22,4 +22,4 @@ EarlyFaultIs bs fault.Memory = Unit {0}
 
 -- the first of these broken rules, if there are any
 pub record HasFirst (bs : List Break) (first : Option Break) : Type 0 where
-  pub first_is : first_of bs None ≡ first
+  pub first_is : first_broken bs None ≡ first

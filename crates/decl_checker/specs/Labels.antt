@@ -6,14 +6,14 @@ use Rattle.program_tables.specs.declared.rows.Row.TheVariants as row
 use Rattle.program_tables.specs.declared.rows.NameRow.TheVariants as named
 use Rattle.check_steps.specs.declared.regions.Frame.{Frame}
 use Rattle.check_steps.specs.Known.{label_at}
-use Rattle.check_steps.specs.Steps.{Step, give, ◌>>=◌, look, rule, put, each}
+use Rattle.check_steps.specs.Steps.{Step, give, ◌>>=◌, look, early, put, each}
 use Rattle.check_steps.specs.Names.{declare_in}
 
 -- Rule 14: a declared label above 9999.
 unfoldable pub define_label : Frame → ℕ → Step (Unit {0})
 define_label here token = do
   value ← look (λ k. label_at k token)
-  _ ← rule 14 token (nat_le value 9999)
+  _ ← early 14 token (nat_le value 9999)
   _ ← declare_in here.region value token
   put token (row.Name (named.Label false value here.level 0))
 

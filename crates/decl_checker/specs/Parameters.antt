@@ -7,19 +7,19 @@ use Rattle.program_tables.specs.declared.rows.TextFile.{TextFile}
 use Rattle.program_tables.specs.declared.rows.TextFile.TheVariants.{Input, Output}
 use Rattle.check_steps.specs.declared.regions.Def.TheVariants as def
 use Rattle.check_steps.specs.Known.{Known, name_at}
-use Rattle.check_steps.specs.Steps.{Step, give, ◌>>=◌, look, rule, put}
+use Rattle.check_steps.specs.Steps.{Step, give, ◌>>=◌, look, early, put}
 use Rattle.check_steps.specs.Names.{define_in}
-use Rattle.check_steps.specs.Words.{number_of}
+use Rattle.check_steps.specs.Words.{number_of_name}
 use Rattle.kind_checker.specs.Names.{each_name}
-use Rattle.heading_checker.specs.RoutineParts.{is_number}
+use Rattle.heading_checker.specs.RoutineParts.{is_this_number}
 
 -- whether the name that a token spells is this one
 abbrev pub spells : Known → ℕ → List ℕ → Bool
-spells k token name = is_number (number_of k.names name) (name_at k token)
+spells k token name = is_this_number (number_of_name k.names name) (name_at k token)
 
 -- the text file that a program parameter names, if it names one
-abbrev pub file_at : Known → ℕ → Option TextFile
-file_at k token = if spells k token (codes "input") then Some Input
+abbrev pub text_file_named : Known → ℕ → Option TextFile
+text_file_named k token = if spells k token (codes "input") then Some Input
     else if spells k token (codes "output") then Some Output else None
 
 abbrev pub define_file : ℕ → ℕ → Option TextFile → Step (Unit {0})
@@ -29,12 +29,12 @@ define_file region token (Some file) = do
   put token (row.Name (named.TextFile file))
 
 -- Rule 34: a program parameter other than input and output. These two are defined in the region of the program block.
-unfoldable pub parameter : ℕ → Unit {0} → ℕ → Step (Unit {0})
-parameter region u token = do
-  file ← look (λ k. file_at k token)
-  _ ← rule 34 token (is_some file)
+unfoldable pub program_parameter : ℕ → Unit {0} → ℕ → Step (Unit {0})
+program_parameter region u token = do
+  file ← look (λ k. text_file_named k token)
+  _ ← early 34 token (is_some file)
   define_file region token file
 
-abbrev pub parameters : ℕ → Option Parameters → Step (Unit {0})
-parameters region None = give tt
-parameters region (Some p) = each_name (parameter region) tt p.names
+abbrev pub program_parameters : ℕ → Option Parameters → Step (Unit {0})
+program_parameters region None = give tt
+program_parameters region (Some p) = each_name (program_parameter region) tt p.names

@@ -5,11 +5,11 @@ use Rattle.pas_tree.specs.declared.blocks.Tree.{Tree}
 use Rattle.program_tables.specs.declared.program.Routine.{Routine}
 use Rattle.check_steps.specs.declared.breaks.Break.{Break}
 use Rattle.check_steps.specs.Known.{Known, frame_at}
-use Rattle.check_steps.specs.Required.{outermost}
+use Rattle.check_steps.specs.Required.{open_outermost}
 use Rattle.check_steps.specs.Steps.{Step, give, ◌>>=◌, look, add_routine, open_region}
-use Rattle.check_steps.specs.Words.{start}
+use Rattle.check_steps.specs.Words.{known_at_start}
 use Rattle.decl_checker.specs.Blocks.{define_block}
-use Rattle.decl_checker.specs.Parameters.{parameters}
+use Rattle.decl_checker.specs.Parameters.{program_parameters}
 use Rattle.decl_checker.specs.Routines.{block}
 
 -- the program as routine 0, before its block is known
@@ -28,14 +28,14 @@ main_row name = record {
 -- is given.
 unfoldable pub open_program : Step ℕ
 open_program = do
-  outer ← outermost
+  outer ← open_outermost
   open_region 0 (Some outer) 0
 
 -- the program parameters are defined in the region of the program block
 unfoldable pub define_program : ℕ → Tree → Step (Unit {0})
 define_program frame t = do
   region ← look (λ k. (frame_at k frame).region)
-  _ ← parameters region t.parameters
+  _ ← program_parameters region t.parameters
   define_block frame t.block
 
 -- A program, the frame of whose block is given. Its own name defines nothing.
@@ -48,9 +48,9 @@ program_step t = do
   give frame
 
 -- the rules that a tree breaks
-abbrev pub broken : Lexed → Tree → List Break
-broken l t = (program_step t (start l)).broken
+abbrev pub broken_early : Lexed → Tree → List Break
+broken_early l t = (program_step t (known_at_start l)).broken
 
 -- the tables that the check of a tree leaves
 abbrev pub tables_of : Lexed → Tree → Known
-tables_of l t = (program_step t (start l)).known
+tables_of l t = (program_step t (known_at_start l)).known

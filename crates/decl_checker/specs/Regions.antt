@@ -10,9 +10,9 @@ after_outermost None = None
 after_outermost (Some n) = Some (suc n)
 
 -- The number of the region that begins at a token. Region 0 is the outermost one, which begins at none.
-abbrev pub region_of : List RegionRows → ℕ → Option ℕ
-region_of regions token = after_outermost (position (begins_at token) (drop 1 regions))
+abbrev pub region_beginning : List RegionRows → ℕ → Option ℕ
+region_beginning regions token = after_outermost (position (begins_at token) (drop 1 regions))
 
 -- This function gives the number of the region that begins at each token.
 pub record HasRegions (regions : List RegionRows) (starts : ℕ → Option ℕ) : Type 0 where
-  pub each : (token : ℕ) → starts token ≡ region_of regions token
+  pub each : (token : ℕ) → starts token ≡ region_beginning regions token

@@ -23,7 +23,7 @@ use Rattle.heading_checker.specs.RoutineParts.{completion_of, routine_name}
 use Rattle.use_checker.specs.Statements.{compound_uses}
 use Rattle.decl_checker.specs.declared.routines.Entered.{Entered}
 use Rattle.decl_checker.specs.Blocks.{define_block, parts, put_body}
-use Rattle.decl_checker.specs.Scopes.{region_in, routine_in}
+use Rattle.decl_checker.specs.Scopes.{routine_region, routine_in}
 
 -- ---- regions of routines
 
@@ -102,7 +102,7 @@ first_name r = None
 
 -- the frame of a routine's region, by its name in its first heading
 abbrev pub own_frame : Known → ℕ → ℕ
-own_frame k name = (region_at k.regions (region_in (row_at k name))).frame
+own_frame k name = (region_at k.regions (routine_region (row_at k name))).frame
 
 -- a routine that was entered at its first heading, by the name there
 abbrev pub resumed : Known → ℕ → Entered
@@ -117,8 +117,8 @@ enter_at None frame rs r = first_heading frame rs r
 enter_at (Some first) frame rs r = look (λ k. resumed k first)
 
 -- a routine at one of its headings
-unfoldable pub enter : ℕ → List Routine → Routine → Step Entered
-enter frame rs r = do
+unfoldable pub enter_heading : ℕ → List Routine → Routine → Step Entered
+enter_heading frame rs r = do
   first ← look (λ k. first_name (row_at k (routine_name r)))
   enter_at first frame rs r
 
@@ -136,7 +136,7 @@ abbrev mutual
   pub routines_in : ℕ → List Routine → {m : _} → Row_of-Routine m → Step (Unit {0})
   routines_in frame rs end_of-Routine = give tt
   routines_in frame rs (more_of-Routine heading semicolon body last_semicolon rest) = do
-    e ← enter frame rs
+    e ← enter_heading frame rs
         (record { heading = heading; semicolon = semicolon; body = body; last_semicolon = last_semicolon })
     _ ← body_in e body
     routines_in frame rs rest
@@ -150,5 +150,5 @@ abbrev mutual
 -- a routine, seen from the frame around, among the routines of its part
 unfoldable pub routine : ℕ → List Routine → Unit {0} → Routine → Step (Unit {0})
 routine frame rs u r = do
-  e ← enter frame rs r
+  e ← enter_heading frame rs r
   body_in e r.body

@@ -9,7 +9,7 @@ use Rattle.check_steps.specs.declared.regions.Definition.{Definition}
 use Rattle.check_steps.specs.declared.regions.Found.{Found}
 use Rattle.check_steps.specs.Known.{Known, find, row_at}
 use Rattle.check_steps.specs.Regions.{defined_in, region_at}
-use Rattle.check_steps.specs.Words.{number_of}
+use Rattle.check_steps.specs.Words.{number_of_name}
 
 -- the number of a routine, by the row at its name
 abbrev pub routine_in : Row → ℕ → ℕ
@@ -17,9 +17,9 @@ routine_in (row.Name (named.Routine assigned number region)) otherwise = number
 routine_in r otherwise = otherwise
 
 -- the region of a routine, by the row at its name
-abbrev pub region_in : Row → ℕ
-region_in (row.Name (named.Routine assigned number region)) = region
-region_in r = 0
+abbrev pub routine_region : Row → ℕ
+routine_region (row.Name (named.Routine assigned number region)) = region
+routine_region r = 0
 
 -- what callers see of a definition: of a routine its number
 abbrev pub seen : Known → Def → Def
@@ -40,7 +40,7 @@ numbered_in k region (Some name) = seen_of k (defined_in k.regions region name)
 
 -- what a region itself defines a name as
 abbrev pub held_in : Known → ℕ → List ℕ → Option Def
-held_in k region name = numbered_in k region (number_of k.names name)
+held_in k region name = numbered_in k region (number_of_name k.names name)
 
 abbrev pub numbered_around : Known → ℕ → Option ℕ → Option Def
 numbered_around k region None = None
@@ -48,4 +48,4 @@ numbered_around k region (Some name) = seen_of k (definition_of (find k (region_
 
 -- what the closest region around this one that defines a name defines it as; this one is the closest
 abbrev pub held_around : Known → ℕ → List ℕ → Option Def
-held_around k region name = numbered_around k region (number_of k.names name)
+held_around k region name = numbered_around k region (number_of_name k.names name)

@@ -2,7 +2,7 @@
 
 ghost use Rattle.std.specs.Prelude.{◌≡◌, None, List, IfOk, IfErr};
 ghost use Rattle.check_steps.specs.declared.breaks.Break.{Break};
-ghost use Rattle.check_steps.specs.Breaks.{first_of, is_early};
+ghost use Rattle.check_steps.specs.Breaks.{first_broken, is_early};
 ghost use Rattle.decl_checker.specs.Answers.{EarlyFaultIs, HasFirst, IsWithoutEarly};
 
 use crate::scopes::Scopes;

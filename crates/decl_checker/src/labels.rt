@@ -14,7 +14,7 @@ fn define_label(work: &mut Work, here: Frame, token: u32) -> Result<(), AllocErr
     ensures { IfOk result (λ _. Does (define_label here token) tt work.old work.new) }
 {
     let value = work.tables.label(token);
-    work.rule(14, token, value <= 9999);
+    work.early(14, token, value <= 9999);
     work.declare_in(here.region, value, token)?;
     let row = NameRow::Label {
         marked: false,

@@ -3,7 +3,8 @@
 ghost use Rattle.std.specs.Prelude.{◌≡◌, IfOk};
 ghost use Rattle.check_steps.specs.Steps.{Does, each};
 ghost use Rattle.kind_checker.specs.Names.{each_name, on_name};
-ghost use Rattle.decl_checker.specs.Parameters.{define_file, file_at, parameter, parameters, spells};
+ghost use Rattle.decl_checker.specs.Parameters.{define_file, text_file_named, program_parameter, program_parameters};
+ghost use Rattle.decl_checker.specs.Parameters.{spells};
 
 use check_steps::{Def, Definition, Tables, Work};
 use pas_tree::blocks::Parameters;
@@ -21,8 +22,8 @@ fn spells(tables: &Tables, token: u32, name: &[u8]) -> bool
     }
 }
 
-fn file_at(tables: &Tables, token: u32) -> Option<TextFile>
-    ensures { result ≡ file_at tables.now token }
+fn text_file_named(tables: &Tables, token: u32) -> Option<TextFile>
+    ensures { result ≡ text_file_named tables.now token }
 {
     if spells(tables, token, b"input") {
         Some(TextFile::Input)
@@ -57,26 +58,26 @@ fn define_file(
     }
 }
 
-#[tactic(auto, using(check_steps::proofs::Runs::steps), unfolding(crate::specs::Parameters::parameter))]
+#[tactic(auto, using(check_steps::proofs::Runs::steps), unfolding(crate::specs::Parameters::program_parameter))]
 fn check_parameter(work: &mut Work, region: u32, token: u32) -> Result<(), AllocError>
-    ensures { IfOk result (λ _. Does (parameter region tt token) tt work.old work.new) }
+    ensures { IfOk result (λ _. Does (program_parameter region tt token) tt work.old work.new) }
 {
-    let file = file_at(&work.tables, token);
-    work.rule(34, token, file.is_some());
+    let file = text_file_named(&work.tables, token);
+    work.early(34, token, file.is_some());
     define_file(work, region, token, file)?;
     Ok(())
 }
 
 #[tactic(auto, unfolding(kind_checker::specs::Names::on_name))]
 fn check_next_parameter(work: &mut Work, region: u32, next: &NextName) -> Result<(), AllocError>
-    ensures { IfOk result (λ _. Does (on_name (parameter region) tt next.now) tt work.old work.new) }
+    ensures { IfOk result (λ _. Does (on_name (program_parameter region) tt next.now) tt work.old work.new) }
 {
     check_parameter(work, region, next.name)
 }
 
 #[tactic(auto, using(check_steps::proofs::Runs::read_loops))]
 fn check_more_parameters(work: &mut Work, region: u32, names: &[NextName]) -> Result<(), AllocError>
-    ensures { IfOk result (λ _. Does (each (on_name (parameter region)) tt names.now) tt work.old work.new) }
+    ensures { IfOk result (λ _. Does (each (on_name (program_parameter region)) tt names.now) tt work.old work.new) }
 {
     'names: for name in names {
         check_next_parameter(work, region, name)?;
@@ -86,7 +87,7 @@ fn check_more_parameters(work: &mut Work, region: u32, names: &[NextName]) -> Re
 
 #[tactic(auto, using(check_steps::proofs::Runs::steps))]
 fn check_names(work: &mut Work, region: u32, names: &Names) -> Result<(), AllocError>
-    ensures { IfOk result (λ _. Does (each_name (parameter region) tt names.now) tt work.old work.new) }
+    ensures { IfOk result (λ _. Does (each_name (program_parameter region) tt names.now) tt work.old work.new) }
 {
     check_parameter(work, region, names.first)?;
     check_more_parameters(work, region, &names.others)?;
@@ -100,7 +101,7 @@ pub fn check_parameters(
     region: u32,
     part: &Option<Parameters>,
 ) -> Result<(), AllocError>
-    ensures { IfOk result (λ _. Does (parameters region part.now) tt work.old work.new) }
+    ensures { IfOk result (λ _. Does (program_parameters region part.now) tt work.old work.new) }
 {
     match part {
         None => Ok(()),

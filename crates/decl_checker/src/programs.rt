@@ -3,7 +3,8 @@
 ghost use Rattle.std.specs.Prelude.{◌≡◌, IfOk, IfErr};
 ghost use Rattle.check_steps.specs.Steps.{Does};
 ghost use Rattle.decl_checker.specs.Answers.{EarlyFaultIs, IsWithoutEarly};
-ghost use Rattle.decl_checker.specs.Programs.{broken, define_program, main_row, open_program, program_step, tables_of};
+ghost use Rattle.decl_checker.specs.Programs.{broken_early, define_program, main_row, open_program, program_step};
+ghost use Rattle.decl_checker.specs.Programs.{tables_of};
 
 use crate::answers::answer;
 use crate::blocks::define_block;
@@ -73,8 +74,8 @@ pub fn check_program(work: &mut Work, alloc: Global, tree: &Tree) -> Result<u32,
 /// the formed one that spells the tokens. It never answers `TooBig`.
 pub fn declare(alloc: Global, tokens: &Tokens, tree: &Tree) -> Result<Scopes, CheckFault>
     ensures tables { IfOk result (λ s. s ≡ tables_of tokens.now tree.now) }
-    ensures unbroken { IfOk result (λ _. IsWithoutEarly (broken tokens.now tree.now)) }
-    ensures fault { IfErr result (EarlyFaultIs (broken tokens.now tree.now)) }
+    ensures unbroken { IfOk result (λ _. IsWithoutEarly (broken_early tokens.now tree.now)) }
+    ensures fault { IfErr result (EarlyFaultIs (broken_early tokens.now tree.now)) }
 {
     let mut work = Work::new(alloc, tokens)?;
     check_program(&mut work, alloc, tree)?;

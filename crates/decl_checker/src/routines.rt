@@ -3,12 +3,13 @@
 ghost use Rattle.std.specs.Prelude.{◌≡◌, IfOk, option_copied};
 ghost use Rattle.check_steps.specs.Steps.{Does, each};
 ghost use Rattle.decl_checker.specs.Routines.{add_heading, block, body_in, define_body, define_completion};
-ghost use Rattle.decl_checker.specs.Routines.{define_inside, enter, first_heading, first_name, heading_row, one_deeper};
+ghost use Rattle.decl_checker.specs.Routines.{define_inside, enter_heading, first_heading, first_name, heading_row};
+ghost use Rattle.decl_checker.specs.Routines.{one_deeper};
 ghost use Rattle.decl_checker.specs.Routines.{open_routine, own_frame, place_after_result, result_place, resumed};
 ghost use Rattle.decl_checker.specs.Routines.{routine};
 
 use crate::blocks::{check_parts, define_block, put_body};
-use crate::scopes::{region_in, routine_in};
+use crate::scopes::{routine_region, routine_in};
 use check_steps::{Tables, Work};
 use heading_checker::{check_signature, completion_of, define_formals_at, is_function};
 use kind_checker::sizes::place_after;
@@ -168,7 +169,7 @@ fn first_name(row: Row) -> Option<u32>
 pub fn own_frame(tables: &Tables, name: u32) -> u32
     ensures { result ≡ own_frame tables.now name }
 {
-    tables.region_frame(region_in(tables.row(name)))
+    tables.region_frame(routine_region(tables.row(name)))
 }
 
 /// A routine that was entered at its first heading, by the name there.
@@ -184,7 +185,7 @@ fn resumed(tables: &Tables, name: u32) -> Entered
 }
 
 /// A routine at one of its headings, seen from the frame around, among the routines of its part.
-#[tactic(auto, using(check_steps::proofs::Runs::steps), unfolding(crate::specs::Routines::enter))]
+#[tactic(auto, using(check_steps::proofs::Runs::steps), unfolding(crate::specs::Routines::enter_heading))]
 fn enter(
     work: &mut Work,
     alloc: Global,
@@ -192,7 +193,7 @@ fn enter(
     routines: &[Routine],
     frame: u32,
 ) -> Result<Entered, AllocError>
-    ensures { IfOk result (λ e. Does (enter frame routines.now routine.now) e work.old work.new) }
+    ensures { IfOk result (λ e. Does (enter_heading frame routines.now routine.now) e work.old work.new) }
 {
     match first_name(work.tables.row(heading_name(&routine.heading))) {
         None => enter_first(work, alloc, routine, routines, frame),

@@ -2,8 +2,8 @@
 
 ghost use Rattle.std.specs.Prelude.{◌≡◌, length, IfOk};
 ghost use Rattle.program_tables.specs.ProgramRows.{frame_of, name_of, offset_of, size_of};
-ghost use Rattle.decl_checker.specs.Regions.{region_of};
-ghost use Rattle.decl_checker.specs.Scopes.{held_around, held_in, region_in, routine_in, seen, seen_of};
+ghost use Rattle.decl_checker.specs.Regions.{region_beginning};
+ghost use Rattle.decl_checker.specs.Scopes.{held_around, held_in, routine_region, routine_in, seen, seen_of};
 
 use crate::regions::starts;
 use check_steps::{Def, Definition, Tables};
@@ -49,7 +49,7 @@ impl Scopes {
 
     /// The number of the region that begins at a token, and None where none does.
     pub fn region(&self, token: u32) -> Option<u32>
-        ensures { result ≡ region_of self.now.regions token }
+        ensures { result ≡ region_beginning self.now.regions token }
     {
         self.starts.get(&token).copied()
     }
@@ -108,8 +108,8 @@ pub(crate) fn routine_in(row: Row, otherwise: u32) -> u32
 }
 
 /// The region of a routine, by the row at its name, and 0 where there is none.
-pub(crate) fn region_in(row: Row) -> u32
-    ensures { result ≡ region_in row }
+pub(crate) fn routine_region(row: Row) -> u32
+    ensures { result ≡ routine_region row }
 {
     match row {
         Row::Name(NameRow::Routine { region, .. }) => region,

@@ -30,7 +30,7 @@ use Rattle.denoter_checker.specs.Variants.{arm_choices, choosing_at, next_arm_ch
 use Rattle.denoter_checker.specs.Denoters.{array_denoter, arms, choosing_in, choosing_of, held_word, denoter, field_place, fields_at, fixed_at, fixed_part}
 use Rattle.denoter_checker.specs.Denoters.{joins}
 use Rattle.denoter_checker.specs.Denoters.{more_choices, next_arm, next_index, next_section, next_variants, other_indexes, part_at}
-use Rattle.denoter_checker.specs.Denoters.{section, sections, variants_at, variants_word, word_of}
+use Rattle.denoter_checker.specs.Denoters.{section, sections, variants_at, variants_word, case_word}
 
 -- ---- arrays
 
@@ -144,8 +144,8 @@ next_variants_out s holder offset n = ap (next_variants s holder offset) (is-Nex
 
 pub ruleset fields_parts = (fields_fixed, next_variants_out)
 
-pub word_is : (v : Variants) → word_of v ≡ (out-Variants v).word
-word_is v = ap word_of (is-Variants' v)
+pub word_is : (v : Variants) → case_word v ≡ (out-Variants v).word
+word_is v = ap case_word (is-Variants' v)
 
 pub word_none : (f : Fixed) (last : Option ℕ) → variants_word (made.Fixed f None last) ≡ None
 unfolding roll-Fields roll

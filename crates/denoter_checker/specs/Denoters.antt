@@ -28,7 +28,7 @@ use Rattle.kind_checker.specs.declared.types.Scope.{Scope}
 use Rattle.kind_checker.specs.Names.{each_name}
 use Rattle.kind_checker.specs.Constants.{constant}
 use Rattle.kind_checker.specs.Sizes.{capped}
-use Rattle.kind_checker.specs.Types.{enumeration, named_type, ordinal, pointer, set_type, subrange}
+use Rattle.kind_checker.specs.Types.{enumeration, named_type, ordinal, pointer_type, set_type, subrange}
 use Rattle.denoter_checker.specs.declared.variants.PartPlace.{PartPlace}
 use Rattle.denoter_checker.specs.Arrays.{array, joined, put_index}
 use Rattle.denoter_checker.specs.Defines.{define_record}
@@ -46,8 +46,8 @@ open_record frame word = do
   open_region word (Some frame) level
 
 -- the same part of a program, seen from the region of a record in it
-abbrev pub inside : Scope → ℕ → Scope
-inside s frame = record { frame = frame; domains_at = s.domains_at }
+abbrev pub scope_inside : Scope → ℕ → Scope
+scope_inside s frame = record { frame = frame; domains_at = s.domains_at }
 
 -- a field of a type, after the cells of those before
 unfoldable pub field_place : ℕ → ℕ → ℕ → ℕ → Step ℕ
@@ -63,18 +63,18 @@ put_record packed word frame cells variants = do
   _ ← put word (row.Type (kind.Record packed region cells variants))
   give word
 
-abbrev pub word_of : VariantsTree → ℕ
-word_of (Variants' word tag of constants colon open' fields close _ others) = word
+abbrev pub case_word : VariantsTree → ℕ
+case_word (Variants' word tag of constants colon open' fields close _ others) = word
 
 abbrev pub held_word : Held-Fields-Fixed-1 → Option ℕ
 held_word None' = None
-held_word (Some' (NextVariants' semicolon _ variants)) = Some (word_of variants)
+held_word (Some' (NextVariants' semicolon _ variants)) = Some (case_word variants)
 
 -- the number of a variant part
 abbrev pub variants_word : Fields → Option ℕ
 variants_word Empty = None
 variants_word (Fixed' fixed variants last) = held_word variants
-variants_word (FieldsVariants' _ variants last) = Some (word_of variants)
+variants_word (FieldsVariants' _ variants last) = Some (case_word variants)
 
 abbrev pub part_at : Scope → ℕ → ℕ → ℕ → PartPlace
 part_at s word holder offset = record { frame = s.frame; word = word; holder = holder; offset = offset }
@@ -118,7 +118,7 @@ abbrev mutual
     a ← constant s.frame first
     b ← constant s.frame last
     subrange a dots b
-  denoter s (Pointer caret name) = pointer s caret name
+  denoter s (Pointer caret name) = pointer_type s caret name
   denoter s (Structure' packed _ x) = structure s (is_some packed) x
 
   pub structure : Scope → Bool → Structure → Step ℕ
@@ -126,7 +126,7 @@ abbrev mutual
   structure s packed (Record' word fields end) = do
     frame ← open_record s.frame word
     _ ← define_record frame fields
-    cells ← fields_at (inside s frame) word 0 fields
+    cells ← fields_at (scope_inside s frame) word 0 fields
     put_record packed word frame cells (variants_word fields)
   structure s packed (Set' word of base) = do
     written ← denoter s base
@@ -215,7 +215,7 @@ abbrev pub record_type : Scope → Bool → ℕ → Fields → Step ℕ
 record_type s packed word fields = do
   frame ← open_record s.frame word
   _ ← define_record frame fields
-  cells ← fields_at (inside s frame) word 0 fields
+  cells ← fields_at (scope_inside s frame) word 0 fields
   put_record packed word frame cells (variants_word fields)
 
 abbrev pub variants_of : Scope → ℕ → ℕ → Option NextVariants → Step ℕ

@@ -45,14 +45,14 @@ abbrev pub settled : Known → Row → Row
 settled k (row.Type (kind.Pointer domain)) = row.Type (kind.Pointer (type_named (row_at k domain) domain))
 settled k r = r
 
-unfoldable pub settle : ℕ → Step (Unit {0})
-settle token = do
+unfoldable pub settle_domain : ℕ → Step (Unit {0})
+settle_domain token = do
   r ← look (λ k. settled k (row_at k token))
   put token r
 
 abbrev pub settle_from : ℕ → ℕ → Step (Unit {0})
 settle_from zero token = give tt
-settle_from (suc n) token = settle token >>= λ _. settle_from n (token + 1)
+settle_from (suc n) token = settle_domain token >>= λ _. settle_from n (token + 1)
 
 -- The pointers from a token on to the one after a part get the types for which their domains' definitions stand.
 abbrev pub domains : ℕ → ℕ → Step (Unit {0})
@@ -75,8 +75,8 @@ define_variable region u d = do
   define_denoter region d.denoter
 
 -- a variable of a type, after the cells of those before; the place after it is given
-unfoldable pub place : ℕ → ℕ → ℕ → ℕ → Step ℕ
-place level t at token = do
+unfoldable pub place_variable : ℕ → ℕ → ℕ → ℕ → Step ℕ
+place_variable level t at token = do
   _ ← put token (row.Name (named.Variable Own t at level))
   cells ← look (λ k. size_of k.program t)
   _ ← too_big token (nat_le cells 65536)
@@ -89,4 +89,4 @@ unfoldable pub variable_declaration : ℕ → ℕ → VariableDeclaration → St
 variable_declaration frame at d = do
   level ← look (λ k. (frame_at k frame).level)
   t ← denoter (at_names frame) d.denoter
-  each_name (place level t) at d.names
+  each_name (place_variable level t) at d.names

@@ -74,31 +74,31 @@ add_choice value chosen last slot end = do
   give slot
 
 -- the same, with the value put down for the list
-unfoldable pub chosen_by : ℕ → ℤ → ℕ → ℕ → ℕ → ℕ → Step ℕ
-chosen_by list value chosen last slot end = do
+unfoldable pub chosen_value : ℕ → ℤ → ℕ → ℕ → ℕ → ℕ → Step ℕ
+chosen_value list value chosen last slot end = do
   _ ← add_chosen list value
   add_choice value chosen last slot end
 
-abbrev pub listed : ℕ → Option ℤ → ℕ → ℕ → ℕ → ℕ → Step ℕ
-listed list None chosen last slot end = give last
-listed list (Some value) chosen last slot end = chosen_by list value chosen last slot end
+abbrev pub listed_choice : ℕ → Option ℤ → ℕ → ℕ → ℕ → ℕ → Step ℕ
+listed_choice list None chosen last slot end = give last
+listed_choice list (Some value) chosen last slot end = chosen_value list value chosen last slot end
 
 -- rule 22: a case constant is not of the selector's or tag's host type, or its value is repeated in the same case
 -- statement or variant part
-unfoldable pub choice : Choosing → ℕ → ℕ → ℕ → Constant → Step ℕ
-choice c chosen last slot x = do
+unfoldable pub case_constant : Choosing → ℕ → ℕ → ℕ → Constant → Step ℕ
+case_constant c chosen last slot x = do
   v ← constant c.frame x
   fine ← look (λ k. is_choice k c v)
   _ ← late 22 (first_of_constant x) fine
-  listed c.list (value_if fine v) chosen last slot (first_of_constant x)
+  listed_choice c.list (value_if fine v) chosen last slot (first_of_constant x)
 
 unfoldable pub next_choice : Choosing → ℕ → ℕ → NextConstant → Step ℕ
-next_choice c chosen last n = choice c chosen last n.comma n.constant
+next_choice c chosen last n = case_constant c chosen last n.comma n.constant
 
 -- the constants that choose one thing; where the last item of the list stands is given
 unfoldable pub choices : Choosing → ℕ → ℕ → ℕ → Constants → Step ℕ
 choices c chosen last slot xs = do
-  next ← choice c chosen last slot xs.first
+  next ← case_constant c chosen last slot xs.first
   each (next_choice c chosen) next xs.others.items
 
 -- ---- variants

@@ -3,7 +3,8 @@
 ghost use Rattle.std.specs.Prelude.{◌≡◌, IfOk};
 ghost use Rattle.check_steps.specs.Steps.{Does, each};
 ghost use Rattle.kind_checker.specs.Names.{each_name, on_name};
-ghost use Rattle.denoter_checker.specs.Parts.{at_names, define_type, define_variable, domains, place, settle, settled};
+ghost use Rattle.denoter_checker.specs.Parts.{at_names, define_type, define_variable, domains, place_variable};
+ghost use Rattle.denoter_checker.specs.Parts.{settle_domain, settled};
 ghost use Rattle.denoter_checker.specs.Parts.{type_definition, type_part, types_in, variable_declaration};
 ghost use Rattle.denoter_checker.specs.Parts.{variables_in};
 
@@ -111,9 +112,9 @@ fn settled(tables: &Tables, row: Row) -> Row
     }
 }
 
-#[tactic(auto, using(check_steps::proofs::Runs::steps), unfolding(crate::specs::Parts::settle))]
-fn settle(work: &mut Work, token: u32)
-    ensures { Does (settle token) tt work.old work.new }
+#[tactic(auto, using(check_steps::proofs::Runs::steps), unfolding(crate::specs::Parts::settle_domain))]
+fn settle_domain(work: &mut Work, token: u32)
+    ensures { Does (settle_domain token) tt work.old work.new }
 {
     let row = settled(&work.tables, work.tables.row(token));
     work.put(token, row);
@@ -125,7 +126,7 @@ fn settle_domains(work: &mut Work, first: u32, after: u32)
     ensures { Does (domains first after) tt work.old work.new }
 {
     'tokens: for token in first..after {
-        settle(work, token);
+        settle_domain(work, token);
     }
 }
 
@@ -183,9 +184,9 @@ pub fn define_variables(work: &mut Work, region: u32, part: &VariablePart) -> Re
     Ok(())
 }
 
-#[tactic(auto, using(check_steps::proofs::Runs::steps), unfolding(crate::specs::Parts::place))]
+#[tactic(auto, using(check_steps::proofs::Runs::steps), unfolding(crate::specs::Parts::place_variable))]
 fn check_place(work: &mut Work, level: u32, of: u32, at: u32, token: u32) -> u32
-    ensures { Does (place level of at token) result work.old work.new }
+    ensures { Does (place_variable level of at token) result work.old work.new }
 {
     let row = NameRow::Variable {
         mode: Mode::Own,
@@ -201,14 +202,14 @@ fn check_place(work: &mut Work, level: u32, of: u32, at: u32, token: u32) -> u32
 
 #[tactic(auto, unfolding(kind_checker::specs::Names::on_name))]
 fn check_next_place(work: &mut Work, level: u32, of: u32, at: u32, next: &NextName) -> u32
-    ensures { Does (on_name (place level of) at next.now) result work.old work.new }
+    ensures { Does (on_name (place_variable level of) at next.now) result work.old work.new }
 {
     check_place(work, level, of, at, next.name)
 }
 
 #[tactic(auto, using(check_steps::proofs::Runs::read_loops))]
 fn check_more_places(work: &mut Work, level: u32, of: u32, at: u32, names: &[NextName]) -> u32
-    ensures { Does (each (on_name (place level of)) at names.now) result work.old work.new }
+    ensures { Does (each (on_name (place_variable level of)) at names.now) result work.old work.new }
 {
     let mut next = at;
     'names: for name in names {
@@ -220,7 +221,7 @@ fn check_more_places(work: &mut Work, level: u32, of: u32, at: u32, names: &[Nex
 /// The places of variables of one type, and the place after them.
 #[tactic(auto, using(check_steps::proofs::Runs::steps))]
 fn check_places(work: &mut Work, level: u32, of: u32, at: u32, names: &Names) -> u32
-    ensures { Does (each_name (place level of) at names.now) result work.old work.new }
+    ensures { Does (each_name (place_variable level of) at names.now) result work.old work.new }
 {
     let next = check_place(work, level, of, at, names.first);
     check_more_places(work, level, of, next, &names.others)

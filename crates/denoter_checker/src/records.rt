@@ -3,7 +3,7 @@
 ghost use Rattle.std.specs.Prelude.{◌≡◌, IfOk};
 ghost use Rattle.check_steps.specs.Steps.{Does, each};
 ghost use Rattle.kind_checker.specs.Names.{each_name, on_name};
-ghost use Rattle.denoter_checker.specs.Denoters.{choosing_in, choosing_of, field_place, inside, open_record};
+ghost use Rattle.denoter_checker.specs.Denoters.{choosing_in, choosing_of, field_place, scope_inside, open_record};
 ghost use Rattle.denoter_checker.specs.Denoters.{part_at, put_record};
 ghost use Rattle.denoter_checker.specs.Denoters.{variants_word};
 
@@ -35,7 +35,7 @@ pub(crate) fn open_record(
 
 /// The same part of a program, seen from the region of a record in it.
 pub(crate) fn inside(scope: Scope, frame: u32) -> Scope
-    ensures { result ≡ inside scope frame }
+    ensures { result ≡ scope_inside scope frame }
 {
     Scope {
         frame,

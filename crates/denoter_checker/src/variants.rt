@@ -2,8 +2,9 @@
 
 ghost use Rattle.std.specs.Prelude.{◌≡◌, IfOk};
 ghost use Rattle.check_steps.specs.Steps.{Does, each};
-ghost use Rattle.denoter_checker.specs.Variants.{add_choice, arm_choices, choice, choices, choosing_at, chosen_by};
-ghost use Rattle.denoter_checker.specs.Variants.{going_on, hidden_tag, is_choice, listed, named_tag};
+ghost use Rattle.denoter_checker.specs.Variants.{add_choice, arm_choices, case_constant, choices, choosing_at};
+ghost use Rattle.denoter_checker.specs.Variants.{chosen_value};
+ghost use Rattle.denoter_checker.specs.Variants.{going_on, hidden_tag, is_choice, listed_choice, named_tag};
 ghost use Rattle.denoter_checker.specs.Variants.{next_arm_choices, next_choice, nothing_listed, one_more, tag_part};
 ghost use Rattle.denoter_checker.specs.Variants.{tag_type, value_if, variant_part};
 
@@ -149,7 +150,7 @@ fn add_choice(work: &mut Work, value: i32, chosen: u32, last: u32, slot: u32, en
 }
 
 /// A value that a choice has, beside the list that it belongs to and what it chooses.
-#[tactic(auto, using(check_steps::proofs::Runs::steps), unfolding(crate::specs::Variants::chosen_by))]
+#[tactic(auto, using(check_steps::proofs::Runs::steps), unfolding(crate::specs::Variants::chosen_value))]
 fn add_chosen(
     work: &mut Work,
     list: u32,
@@ -159,7 +160,7 @@ fn add_chosen(
     slot: u32,
     end: u32,
 ) -> Result<u32, AllocError>
-    ensures { IfOk result (λ n. Does (chosen_by list value chosen last slot end) n work.old work.new) }
+    ensures { IfOk result (λ n. Does (chosen_value list value chosen last slot end) n work.old work.new) }
 {
     work.add_chosen(list, value)?;
     Ok(add_choice(work, value, chosen, last, slot, end))
@@ -175,7 +176,7 @@ fn add_listed(
     slot: u32,
     end: u32,
 ) -> Result<u32, AllocError>
-    ensures { IfOk result (λ n. Does (listed list value chosen last slot end) n work.old work.new) }
+    ensures { IfOk result (λ n. Does (listed_choice list value chosen last slot end) n work.old work.new) }
 {
     match value {
         None => Ok(last),
@@ -183,7 +184,7 @@ fn add_listed(
     }
 }
 
-#[tactic(auto, using(check_steps::proofs::Runs::steps), unfolding(crate::specs::Variants::choice))]
+#[tactic(auto, using(check_steps::proofs::Runs::steps), unfolding(crate::specs::Variants::case_constant))]
 fn check_choice(
     work: &mut Work,
     choosing: Choosing,
@@ -192,7 +193,7 @@ fn check_choice(
     slot: u32,
     c: &Constant,
 ) -> Result<u32, AllocError>
-    ensures { IfOk result (λ n. Does (choice choosing chosen last slot c.now) n work.old work.new) }
+    ensures { IfOk result (λ n. Does (case_constant choosing chosen last slot c.now) n work.old work.new) }
 {
     let value = check_constant(work, choosing.frame, c);
     let fine = is_choice(&work.tables, choosing, value);

@@ -1,23 +1,23 @@
 //! The words of a line.
 ghost use Rattle.std.specs.Prelude.{◌≡◌, ◌≤◌, ◌∷◌, [], length, drop, not};
 ghost use Rattle.std.specs.Option.{MatchOption};
-ghost use Rattle.dialog_lines.specs.Words.{count_while, is_blank, words};
+ghost use Rattle.dialog_lines.specs.Words.{count_while, is_space_or_tab, words};
 
 /// A space or a tab.
-fn is_blank(c: u8) -> bool
-    ensures { result ≡ is_blank c }
+fn is_space_or_tab(c: u8) -> bool
+    ensures { result ≡ is_space_or_tab c }
 {
     c == b' ' || c == b'\t'
 }
 
 /// How many blanks stand first.
 fn blanks(text: &[u8]) -> usize
-    ensures counted { result ≡ count_while is_blank text.now }
+    ensures counted { result ≡ count_while is_space_or_tab text.now }
     ensures inside { result ≤ length text.now }
 {
     let mut n = 0;
     for c in text {
-        if !is_blank(*c) {
+        if !is_space_or_tab(*c) {
             return n;
         }
         n += 1;
@@ -27,12 +27,12 @@ fn blanks(text: &[u8]) -> usize
 
 /// How many bytes stand first that are no blanks.
 fn solid(text: &[u8]) -> usize
-    ensures counted { result ≡ count_while (λ c. not (is_blank c)) text.now }
+    ensures counted { result ≡ count_while (λ c. not (is_space_or_tab c)) text.now }
     ensures inside { result ≤ length text.now }
 {
     let mut n = 0;
     for c in text {
-        if is_blank(*c) {
+        if is_space_or_tab(*c) {
             return n;
         }
         n += 1;
@@ -42,7 +42,7 @@ fn solid(text: &[u8]) -> usize
 
 /// What follows the blanks that stand first.
 fn without_blanks(text: &[u8]) -> &[u8]
-    ensures { result.now ≡ drop (count_while is_blank text.now) text.now }
+    ensures { result.now ≡ drop (count_while is_space_or_tab text.now) text.now }
 {
     &text[blanks(text)..]
 }

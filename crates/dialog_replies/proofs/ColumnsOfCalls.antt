@@ -5,17 +5,17 @@ use Rattle.call_tree.specs.declared.records.Call.{Call}
 use Rattle.call_tree.specs.Recording.{Recording, routines_of}
 use Rattle.optimal_query.specs.Search.{new_search}
 use Rattle.dialog_replies.specs.Kept.{AreCallsOf, IsSearchOf}
-use Rattle.dialog_replies.specs.Subject.{Subject, calls_of}
+use Rattle.dialog_replies.specs.Subject.{Subject, calls_recorded}
 
 column_length : {X Y : Type 0} (f : X → Y) (xs : List X) → length (map f xs) ≡ length xs
 column_length f [] = refl
 column_length f (x ∷ xs) = ap suc (column_length f xs)
 
 -- there are as many calls as the recording has
-pub calls_counted : (s : Subject) (run : Recording) → AreCallsOf s run → calls_of s ≡ length run.calls
+pub calls_counted : (s : Subject) (run : Recording) → AreCallsOf s run → calls_recorded s ≡ length run.calls
 calls_counted s run h = ap (λ tree. length tree.last) h.tree ∙ column_length (λ (call : Call). call.last) run.calls
 
-pub routines_counted : (s : Subject) (run : Recording) → AreCallsOf s run → length (routines_of run.calls) ≡ calls_of s
+pub routines_counted : (s : Subject) (run : Recording) → AreCallsOf s run → length (routines_of run.calls) ≡ calls_recorded s
 routines_counted s run h = column_length (λ (call : Call). call.routine) run.calls ∙ sym (calls_counted s run h)
 
 pub routine_at : (s : Subject) (run : Recording) (call : ℕ) → AreCallsOf s run → slice_index (routines_of run.calls) call ≡ slice_index s.tree.routine call

@@ -18,7 +18,7 @@ use Rattle.optimal_query.specs.State.{state_by, state_of, state_with, verdict_by
 use Rattle.subtree_weights.specs.Searched.{is_searched}
 use Rattle.std.specs.Prelude.{find}
 use Rattle.dialog_replies.specs.Kept.{IsSearchOf}
-use Rattle.dialog_replies.specs.Subject.{Subject, calls_of, doubts_after, state_after}
+use Rattle.dialog_replies.specs.Subject.{Subject, calls_recorded, doubts_after, state_after}
 use Rattle.dialog_replies.proofs.RisingCalls.{Rises, filter_rises, found_within, numbers_rise}
 
 suspects_rise : (last : List ℕ) (marks : List Mark) (accused : Option ℕ) → Rises 0 (length last) (suspects_of last marks accused)
@@ -70,9 +70,9 @@ state_below last routine answers same =
 
 -- the calls that the state names
 pub names_a_call : (s : Subject) (entries : List Entry) (state : State) → length s.tree.routine ≡ length s.tree.last
-    → state ≡ state_after s entries → NamesBelow (calls_of s) state
+    → state ≡ state_after s entries → NamesBelow (calls_recorded s) state
 names_a_call s entries state same is =
-    subst (NamesBelow (calls_of s)) (sym is) (state_below s.tree.last s.tree.routine (standing_answers entries) same)
+    subst (NamesBelow (calls_recorded s)) (sym is) (state_below s.tree.last s.tree.routine (standing_answers entries) same)
 
 -- there is a routine for each call
 pub routines_match : (s : Subject) (search : Search) → IsSearchOf s search → length s.tree.routine ≡ length s.tree.last
@@ -80,12 +80,12 @@ routines_match s search h = sym (ap length h.routine) ∙ h.of_routines ∙ ap l
 
 -- the call that a state of this search names
 pub named_below : (s : Subject) (search : Search) (state : State) → IsSearchOf s search → state ≡ state_after s search.book.entries
-    → NamesBelow (calls_of s) state
+    → NamesBelow (calls_recorded s) state
 named_below s search state h is = names_a_call s search.book.entries state (routines_match s search h) is
 
 -- ---- doubts
 
-pub all_rise : (s : Subject) (entries : List Entry) → Rises 0 (calls_of s) (doubts_after s entries)
+pub all_rise : (s : Subject) (entries : List Entry) → Rises 0 (calls_recorded s) (doubts_after s entries)
 all_rise s entries =
     doubts_rise s.tree.last (marks_of s.tree.routine (standing_answers entries)) (accused_of s.tree.routine (standing_answers entries))
 

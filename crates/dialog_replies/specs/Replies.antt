@@ -13,7 +13,7 @@ use Rattle.optimal_query.specs.declared.state.State.{State}
 use Rattle.optimal_query.specs.declared.state.State.TheVariants.{Ask}
 use Rattle.dialog_lines.specs.declared.instructions.Instruction.{Instruction}
 use Rattle.dialog_lines.specs.declared.instructions.Instruction.TheVariants as asked
-use Rattle.dialog_replies.specs.Subject.{Subject, book_of, calls_of, routine_named, state_after}
+use Rattle.dialog_replies.specs.Subject.{Subject, book_of, calls_recorded, routine_named, state_after}
 use Rattle.dialog_replies.specs.Texts.{report, tree_text}
 
 -- the entries after a line, and its reply
@@ -29,12 +29,12 @@ replied entries reply = record { entries = entries; reply = reply }
 abbrev pub no_call : ℕ → List ℕ
 no_call call = codes "no call " ++ decimal call ++ codes "\n"
 
-abbrev pub refusal_text : BookFault → List ℕ
-refusal_text (fault.NoCall call) = no_call call
-refusal_text (fault.NoRoutine routine) = codes "no routine #" ++ decimal routine ++ codes "\n"
-refusal_text (fault.NotStanding number) = codes "entry " ++ decimal number ++ codes " does not stand\n"
-refusal_text fault.NothingStanding = codes "nothing stands\n"
-refusal_text fault.Full = codes "book is full\n"
+abbrev pub book_fault_text : BookFault → List ℕ
+book_fault_text (fault.NoCall call) = no_call call
+book_fault_text (fault.NoRoutine routine) = codes "no routine #" ++ decimal routine ++ codes "\n"
+book_fault_text (fault.NotStanding number) = codes "entry " ++ decimal number ++ codes " does not stand\n"
+book_fault_text fault.NothingStanding = codes "nothing stands\n"
+book_fault_text fault.Full = codes "book is full\n"
 
 -- ---- a new entry, if the book takes it
 
@@ -44,7 +44,7 @@ entry_text s entries number = codes "entry " ++ decimal number ++ codes "\n" ++ 
 abbrev pub adds : Subject → List Entry → What → Result ℕ BookFault → LineOutcome
 adds s entries what (Ok number) =
     replied (entries_with entries what) (entry_text s (entries_with entries what) number)
-adds s entries what (Err why) = replied entries (refusal_text why)
+adds s entries what (Err why) = replied entries (book_fault_text why)
 
 abbrev pub judges : Subject → List Entry → Judgement → ℕ → LineOutcome
 judges s entries judgement call = adds s entries (Judged call judgement) (judge_answer (book_of s entries) call)
@@ -54,11 +54,11 @@ abbrev pub judges_asked : Subject → List Entry → Judgement → State → Lin
 judges_asked s entries judgement (Ask call weight suspects left) = judges s entries judgement call
 judges_asked s entries judgement state = replied entries (codes "no question\n")
 
-abbrev pub trusts : Subject → List Entry → ℕ → LineOutcome
-trusts s entries routine = adds s entries (Trusted routine) (trust_answer (book_of s entries) routine)
+abbrev pub trust_outcome : Subject → List Entry → ℕ → LineOutcome
+trust_outcome s entries routine = adds s entries (Trusted routine) (trust_answer (book_of s entries) routine)
 
 abbrev pub trusts_named : Subject → List Entry → List ℕ → Option ℕ → LineOutcome
-trusts_named s entries name (Some routine) = trusts s entries routine
+trusts_named s entries name (Some routine) = trust_outcome s entries routine
 trusts_named s entries name None = replied entries (codes "no routine " ++ name ++ codes "\n")
 
 -- ---- an entry is taken back, if it stands
@@ -72,19 +72,19 @@ without s entries number =
 
 abbrev pub takes_back : Subject → List Entry → ℕ → Result (Unit {0}) BookFault → LineOutcome
 takes_back s entries number (Ok done) = without s entries number
-takes_back s entries number (Err why) = replied entries (refusal_text why)
+takes_back s entries number (Err why) = replied entries (book_fault_text why)
 
 abbrev pub takes_back_last : Subject → List Entry → Result ℕ BookFault → LineOutcome
 takes_back_last s entries (Ok number) = without s entries number
-takes_back_last s entries (Err why) = replied entries (refusal_text why)
+takes_back_last s entries (Err why) = replied entries (book_fault_text why)
 
 -- ---- what is asked for
 
 abbrev pub card_or_none : Subject → ℕ → List ℕ
-card_or_none s call = if nat_lt call (calls_of s) then s.card call else no_call call
+card_or_none s call = if nat_lt call (calls_recorded s) then s.card call else no_call call
 
 abbrev pub trace_or_none : Subject → ℕ → List ℕ
-trace_or_none s call = if nat_lt call (calls_of s) then s.trace call else no_call call
+trace_or_none s call = if nat_lt call (calls_recorded s) then s.trace call else no_call call
 
 -- What a line that saves is replied depends on the keeper, and is said where the session is held.
 unfoldable pub outcome : Subject → List Entry → Instruction → LineOutcome
@@ -92,7 +92,7 @@ outcome s entries asked.Nothing = replied entries []
 outcome s entries (asked.Judge judgement None) = judges_asked s entries judgement (state_after s entries)
 outcome s entries (asked.Judge judgement (Some call)) = judges s entries judgement call
 outcome s entries (asked.TrustNamed name) = trusts_named s entries name (routine_named s name)
-outcome s entries (asked.Trust routine) = trusts s entries routine
+outcome s entries (asked.Trust routine) = trust_outcome s entries routine
 outcome s entries (asked.TakeBack None) =
     takes_back_last s entries (take_back_last_answer (book_of s entries))
 outcome s entries (asked.TakeBack (Some number)) =

@@ -26,8 +26,8 @@ abbrev pub tree_of : Recording → CallTree
 tree_of run = record { parent = parents_of run.calls; last = lasts_of run.calls; routine = routines_of run.calls }
 
 -- how many calls there are
-abbrev pub calls_of : Subject → ℕ
-calls_of s = length s.tree.last
+abbrev pub calls_recorded : Subject → ℕ
+calls_recorded s = length s.tree.last
 
 -- the state, the doubts and the marks of all calls in order of entry, by the entries that stand
 abbrev pub state_after : Subject → List Entry → State

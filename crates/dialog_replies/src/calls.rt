@@ -1,7 +1,7 @@
 //! Calls and routines by number and name.
 ghost use Rattle.std.specs.Prelude.{◌≡◌, ◌<◌, ◌++◌, OnOk, decimal};
 ghost use Rattle.std.specs.Str.{str_eq_ignore_ascii_case};
-ghost use Rattle.dialog_replies.specs.Subject.{calls_of, routine_named};
+ghost use Rattle.dialog_replies.specs.Subject.{calls_recorded, routine_named};
 ghost use Rattle.dialog_replies.specs.Texts.{named_call, routine_of};
 
 use crate::debugged::Debugged;
@@ -19,7 +19,7 @@ pub fn write_number(out: &mut Bytes, number: u32) -> Result<(), Memory>
 
 /// The routine of a call.
 fn routine_of<D: Debugged>(run: &D, call: u32) -> u32
-    requires { call < calls_of (D.subject run.now) }
+    requires { call < calls_recorded (D.subject run.now) }
     ensures { result ≡ routine_of (D.subject run.now) call }
 {
     run.calls().routine_column()[call as usize]
@@ -27,7 +27,7 @@ fn routine_of<D: Debugged>(run: &D, call: u32) -> u32
 
 /// Appends a call by its number and the name of its routine.
 pub fn write_named_call<D: Debugged>(out: &mut Bytes, run: &D, call: u32) -> Result<(), Memory>
-    requires { call < calls_of (D.subject run.now) }
+    requires { call < calls_recorded (D.subject run.now) }
     ensures { OnOk result (out.new ≡ out.old ++ named_call (D.subject run.now) call) }
 {
     write_number(out, call)?;

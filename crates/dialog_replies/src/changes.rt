@@ -1,8 +1,9 @@
 //! The replies to changes of the book.
 ghost use Rattle.std.specs.Prelude.{◌≡◌, ◌++◌, IfOk, decimal};
 ghost use Rattle.dialog_replies.specs.Kept.{IsSearchOf};
-ghost use Rattle.dialog_replies.specs.Replies.{adds, back_text, entry_text, judges, refusal_text, replied, takes_back};
-ghost use Rattle.dialog_replies.specs.Replies.{takes_back_last, trusts};
+ghost use Rattle.dialog_replies.specs.Replies.{adds, back_text, entry_text, judges, book_fault_text, replied};
+ghost use Rattle.dialog_replies.specs.Replies.{takes_back};
+ghost use Rattle.dialog_replies.specs.Replies.{takes_back_last, trust_outcome};
 ghost use Rattle.dialog_replies.specs.Subject.{book_of};
 ghost use Rattle.answer_book.specs.Answers.{take_back_answer, take_back_last_answer};
 
@@ -40,7 +41,7 @@ pub fn text_of(alloc: Global, text: &[u8]) -> Result<Bytes, Memory>
 
 /// The reply to a change that is refused.
 pub fn refusal(alloc: Global, fault: BookFault) -> Result<Bytes, Memory>
-    ensures { IfOk result (λ text. text ≡ refusal_text fault) }
+    ensures { IfOk result (λ text. text ≡ book_fault_text fault) }
 {
     match fault {
         BookFault::NoCall(call) => numbered_text(alloc, b"no call ", call, b"\n"),
@@ -112,7 +113,7 @@ pub fn trust<D: Debugged>(
 ) -> Result<Bytes, Memory>
     requires search { IsSearchOf (D.subject run.now) debug.old }
     ensures trusted { IfOk result (λ text. replied debug.new.book.entries text
-        ≡ trusts (D.subject run.now) debug.old.book.entries routine) }
+        ≡ trust_outcome (D.subject run.now) debug.old.book.entries routine) }
     ensures search { IsSearchOf (D.subject run.now) debug.new }
 {
     let mut steps: Steps<Uncounted> = Steps::new();

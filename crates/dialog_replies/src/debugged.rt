@@ -1,7 +1,7 @@
 //! What the dialog needs of a run.
 ghost use Rattle.std.specs.Prelude.{◌≡◌, ◌<◌, ◌++◌, OnOk, length};
 ghost use Rattle.dialog_replies.specs.Kept.{AreCallsOf};
-ghost use Rattle.dialog_replies.specs.Subject.{Subject, calls_of};
+ghost use Rattle.dialog_replies.specs.Subject.{Subject, calls_recorded};
 
 use call_tree::{Calls, Mark};
 use edge_ports::{Bytes, Memory};
@@ -22,16 +22,16 @@ pub trait Debugged {
 
     /// Appends the card of a call.
     fn write_card(&self, alloc: Global, out: &mut Bytes, call: u32) -> Result<(), Memory>
-        requires { call < calls_of (subject self.now) }
+        requires { call < calls_recorded (subject self.now) }
         ensures { OnOk result (out.new ≡ out.old ++ (subject self.now).card call) };
 
     /// Appends the lines of the trace of a call, the last of which says how the call ended.
     fn write_trace(&self, alloc: Global, out: &mut Bytes, call: u32) -> Result<(), Memory>
-        requires { call < calls_of (subject self.now) }
+        requires { call < calls_recorded (subject self.now) }
         ensures { OnOk result (out.new ≡ out.old ++ (subject self.now).trace call) };
 
     /// Appends a line on each call, in order of entry, with these marks: one for each call.
     fn write_tree(&self, alloc: Global, out: &mut Bytes, marks: &[Mark]) -> Result<(), Memory>
-        requires { length marks.now ≡ calls_of (subject self.now) }
+        requires { length marks.now ≡ calls_recorded (subject self.now) }
         ensures { OnOk result (out.new ≡ out.old ++ (subject self.now).marked marks.now) };
 }

@@ -1,7 +1,7 @@
 //! The marks of the calls.
 ghost use Rattle.std.specs.Prelude.{◌≡◌, IfOk, length};
 ghost use Rattle.dialog_replies.specs.Kept.{IsSearchOf};
-ghost use Rattle.dialog_replies.specs.Subject.{calls_of, marks_after};
+ghost use Rattle.dialog_replies.specs.Subject.{calls_recorded, marks_after};
 
 use crate::debugged::Debugged;
 use call_tree::Mark;
@@ -13,7 +13,7 @@ use std::alloc::Global;
 pub fn marks_now<D: Debugged>(alloc: Global, run: &D, debug: &Debug) -> Result<Vec<Mark>, Memory>
     requires { IsSearchOf (D.subject run.now) debug.now }
     ensures marks { IfOk result (λ marks. marks.items ≡ marks_after (D.subject run.now) debug.now.book.entries) }
-    ensures each { IfOk result (λ marks. length marks.items ≡ calls_of (D.subject run.now)) }
+    ensures each { IfOk result (λ marks. length marks.items ≡ calls_recorded (D.subject run.now)) }
 {
     let mut marks = Vec::new(alloc);
     for call in 0..run.calls().len() {

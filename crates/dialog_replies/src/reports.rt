@@ -1,7 +1,7 @@
 //! The report on the state of the search.
 ghost use Rattle.std.specs.Prelude.{◌≡◌, ◌<◌, ◌++◌, OnOk};
 ghost use Rattle.dialog_replies.specs.Kept.{IsSearchOf};
-ghost use Rattle.dialog_replies.specs.Subject.{calls_of, state_after};
+ghost use Rattle.dialog_replies.specs.Subject.{calls_recorded, state_after};
 ghost use Rattle.dialog_replies.specs.Texts.{doubt_line, doubt_lines, question_line, report};
 
 use crate::calls::{write_named_call, write_number};
@@ -26,7 +26,7 @@ fn write_question(out: &mut Bytes, call: u32, suspects: u32, left: u32) -> Resul
 
 /// Appends the line on a doubt.
 fn write_doubt<D: Debugged>(out: &mut Bytes, run: &D, call: u32) -> Result<(), Memory>
-    requires { call < calls_of (D.subject run.now) }
+    requires { call < calls_recorded (D.subject run.now) }
     ensures { OnOk result (out.new ≡ out.old ++ doubt_line (D.subject run.now) call) }
 {
     out.append(b"  doubt ")?;

@@ -10,8 +10,8 @@ abbrev pub name_of : ℕ → List ℕ
 name_of routine = if routine == 0 then codes "p" else (if routine == 1 then codes "a" else codes "b")
 
 -- a number after words
-abbrev pub numbered : List ℕ → ℕ → List ℕ
-numbered words number = words ++ decimal number ++ codes "\n"
+abbrev pub numbered_line : List ℕ → ℕ → List ℕ
+numbered_line words number = words ++ decimal number ++ codes "\n"
 
 abbrev pub mark_text : Mark → List ℕ
 mark_text mark.Unjudged = codes " unjudged"
@@ -29,7 +29,7 @@ subject_of run = record {
   tree = tree_of run;
   routines = run.routines;
   name = name_of;
-  card = λ call. numbered (codes "card ") call;
-  trace = λ call. numbered (codes "  trace ") call;
+  card = λ call. numbered_line (codes "card ") call;
+  trace = λ call. numbered_line (codes "  trace ") call;
   marked = marks_text;
 }

@@ -2,7 +2,7 @@
 ghost use Rattle.std.specs.Prelude.{◌≡◌, ◌<◌, ◌++◌, [], OnOk, IfOk, length};
 ghost use Rattle.call_tree.specs.Recording.{lasts_of};
 ghost use Rattle.std.specs.List.{flat_map};
-ghost use Rattle.dialog_tests.specs.Texts.{mark_text, numbered, subject_of};
+ghost use Rattle.dialog_tests.specs.Texts.{mark_text, numbered_line, subject_of};
 
 use call_tree::{Calls, Mark, Side};
 use cell_value::{Cells, WayOut};
@@ -23,7 +23,7 @@ pub struct HandRun {
 
 /// Appends a number after words.
 fn write_numbered(out: &mut Bytes, words: &[u8], number: u32) -> Result<(), Memory>
-    ensures { OnOk result (out.new ≡ out.old ++ numbered words.now number) }
+    ensures { OnOk result (out.new ≡ out.old ++ numbered_line words.now number) }
 {
     let mut buffer = Buffer::new();
     out.append(words)?;

@@ -8,7 +8,7 @@ use Rattle.std.proofs.lemmas.List.{append-nil, map-append}
 use Rattle.std.proofs.lemmas.List.Elements.{filter_map-append}
 use Rattle.std.proofs.lemmas.List.Sums.{fold-append, sum_by-append}
 use Rattle.cell_value.specs.declared.entries.Touch.{Touch}
-use Rattle.cell_value.specs.Effects.{change_at, change_by, first_of, last_of, looked_by, looked_of}
+use Rattle.cell_value.specs.Effects.{change_at, change_by, head_of, last_of, looked_by, looked_of}
 use Rattle.effect_log.specs.Passing.{later}
 
 -- ---- the last and the first of a list with one more element, or none more
@@ -25,7 +25,7 @@ abbrev pub sooner : {X : Type 0} → Option X → Option X → Option X
 sooner (Some x) o = Some x
 sooner None o = o
 
-pub first_more : {X : Type 0} (xs : List X) (o : Option X) → first_of (xs ++ cons_option o []) ≡ sooner (first_of xs) o
+pub first_more : {X : Type 0} (xs : List X) (o : Option X) → head_of (xs ++ cons_option o []) ≡ sooner (head_of xs) o
 first_more [] (Some y) = refl
 first_more [] None = refl
 first_more (x ∷ xs) o = refl

@@ -9,7 +9,7 @@ use Rattle.cell_value.specs.declared.values.Value.{Value}
 use Rattle.cell_value.specs.declared.entries.Touch.{Touch}
 use Rattle.cell_value.specs.declared.entries.Touch.TheVariants.{Read, Has, Write, Make, Drop, Look, Take, Give}
 use Rattle.cell_value.specs.declared.entries.Change.{Change}
-use Rattle.cell_value.specs.Effects.{asked_by, byte_by, change_at, change_by, first_of, given_of, is_shared, last_of, looked_by, made_by, read_by}
+use Rattle.cell_value.specs.Effects.{asked_by, byte_by, change_at, change_by, head_of, given_of, is_shared, last_of, looked_by, made_by, read_by}
 use Rattle.cell_value.specs.Effects.{seen_at, seen_by, shown_by, taken_by}
 use Rattle.effect_log.specs.declared.found.Found.{Found}
 use Rattle.effect_log.proofs.OneMoreTouch.{all_before, before_changing, before_none, before_other, before_some, change_more, changes, first_more}
@@ -42,13 +42,13 @@ seen_more None None None asked = refl
 -- what touches show with one more that does not change the address
 shown_more : (addr : ℕ) (ts : List Touch) (t : Touch) → shown_by addr (ts ++ t ∷ []) ≡ seen_next None (shown_by addr ts) (read_by addr t) (asked_by addr t)
 shown_more addr ts t =
-    let reads : first_of (filter_map (read_by addr) (ts ++ t ∷ [])) ≡ sooner (first_of (filter_map (read_by addr) ts)) (read_by addr t) =
-    ap first_of (filter_map-append (read_by addr) ts (t ∷ [])) ∙ first_more (filter_map (read_by addr) ts) (read_by addr t) in
-    let asks : first_of (filter_map (asked_by addr) (ts ++ t ∷ [])) ≡ sooner (first_of (filter_map (asked_by addr) ts)) (asked_by addr t) =
-    ap first_of (filter_map-append (asked_by addr) ts (t ∷ [])) ∙ first_more (filter_map (asked_by addr) ts) (asked_by addr t) in
-    ap (λ r. seen_by r (first_of (filter_map (asked_by addr) (ts ++ t ∷ [])))) reads
-    ∙ ap (seen_by (sooner (first_of (filter_map (read_by addr) ts)) (read_by addr t))) asks
-    ∙ seen_more (first_of (filter_map (read_by addr) ts)) (first_of (filter_map (asked_by addr) ts)) (read_by addr t) (asked_by addr t)
+    let reads : head_of (filter_map (read_by addr) (ts ++ t ∷ [])) ≡ sooner (head_of (filter_map (read_by addr) ts)) (read_by addr t) =
+    ap head_of (filter_map-append (read_by addr) ts (t ∷ [])) ∙ first_more (filter_map (read_by addr) ts) (read_by addr t) in
+    let asks : head_of (filter_map (asked_by addr) (ts ++ t ∷ [])) ≡ sooner (head_of (filter_map (asked_by addr) ts)) (asked_by addr t) =
+    ap head_of (filter_map-append (asked_by addr) ts (t ∷ [])) ∙ first_more (filter_map (asked_by addr) ts) (asked_by addr t) in
+    ap (λ r. seen_by r (head_of (filter_map (asked_by addr) (ts ++ t ∷ [])))) reads
+    ∙ ap (seen_by (sooner (head_of (filter_map (read_by addr) ts)) (read_by addr t))) asks
+    ∙ seen_more (head_of (filter_map (read_by addr) ts)) (head_of (filter_map (asked_by addr) ts)) (read_by addr t) (asked_by addr t)
 
 seen_at_more : (addr : ℕ) (ts : List Touch) (t : Touch) → seen_at addr (ts ++ t ∷ [])
     ≡ seen_next (change_at addr ts) (seen_at addr ts) (read_by addr t) (asked_by addr t)

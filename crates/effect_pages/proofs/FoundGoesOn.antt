@@ -6,7 +6,7 @@ use Rattle.cell_value.specs.Effects.{asked_by, change_at, changes_of, is_shared,
 use Rattle.effect_pages.specs.declared.found.Found.{Found}
 use Rattle.effect_pages.specs.declared.lists.Lists.{Lists}
 use Rattle.effect_pages.specs.Lists.{ListsReach}
-use Rattle.effect_pages.specs.Marks.{PagesHold, IsMarked, PagesTakeIn, cell_after, changed_in, entry_of, first_before, seen_in, shown}
+use Rattle.effect_pages.specs.Marks.{PagesHold, IsMarked, PagesTakeIn, cell_after, changed_in, touch_numbered, first_before, seen_in, shown}
 use Rattle.effect_pages.specs.Pages.{cell_at}
 use Rattle.effect_pages.proofs.AddressesAreListed.{all_listed, listed_same}
 use Rattle.effect_pages.proofs.TouchesAddUp.{cell_marked, one_more_counted}
@@ -33,7 +33,7 @@ module _ (base place : ℕ) (log ts : List Touch) (found : Found) (all : PagesHo
   seen_is addr = elim (bool_cases (is_shared base addr)) [
     | inl inside ↦
         let marked = all.cells addr inside in
-        ap (λ r. seen_by r (shown (asked_by addr) (entry_of log (cell_at found.pages addr).answer))) marked.read.says
+        ap (λ r. seen_by r (shown (asked_by addr) (touch_numbered log (cell_at found.pages addr).answer))) marked.read.says
         ∙ ap (seen_by (first_before (read_by addr) addr ts)) marked.answer.says ∙ ap (λ b. cond b (seen_at addr ts) None) (sym inside)
     | inr outside ↦ ap (seen_in log addr) (all.others addr outside) ∙ ap (λ b. cond b (seen_at addr ts) None) (sym outside)
   ]

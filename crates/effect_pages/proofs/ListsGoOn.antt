@@ -8,7 +8,7 @@ use Rattle.effect_pages.specs.declared.lists.Lists.{Lists}
 use Rattle.effect_pages.specs.Lists.{ListsReach, listed_to}
 use Rattle.effect_pages.specs.Marks.{changed_in, seen_in}
 use Rattle.effect_pages.specs.Pages.{cell_at}
-use Rattle.effect_pages.specs.Paging.{nothing}
+use Rattle.effect_pages.specs.Paging.{blank_cell}
 use Rattle.effect_pages.proofs.AddressesAreListed.{listed_more, listed_skip, none_listed}
 
 pub grows : {X : Type 0} (f : ℕ → Option X) (n : ℕ) (old new : List (ℕ × X)) (found : Option X) → old ≡ listed_to f n
@@ -18,7 +18,7 @@ grows f n old new found so_far added is =
     ∙ ap (λ o. listed_to f n ++ option_to_list (option_map (λ x. (n, x)) o)) is ∙ sym (listed_more f n)
 
 pub skips : (log : List Touch) (pages : Pages) (n : ℕ) (lists : Lists) → ListsReach log pages n lists
-    → ((place : ℕ) → place < 32 → cell_at pages (n + place) ≡ nothing) → ListsReach log pages (n + 32) lists
+    → ((place : ℕ) → place < 32 → cell_at pages (n + place) ≡ blank_cell) → ListsReach log pages (n + 32) lists
 skips log pages n lists so_far none = record {
   reads = so_far.reads ∙ sym (listed_skip (λ addr. seen_in log addr (cell_at pages addr)) 32 n (λ place l. ap (seen_in log (n + place)) (none place l)));
   changes = so_far.changes

@@ -6,7 +6,7 @@ use Rattle.std.proofs.lemmas.Bool.Decides.{eqb_tells, leb_tells}
 use Rattle.std.proofs.lemmas.List.{get_or-append-add, get_or-set_same, get_or-set_other, length-set}
 use Rattle.std.proofs.Math.ListN.{get_or-append}
 use Rattle.effect_pages.specs.declared.cells.Cell.{Cell}
-use Rattle.effect_pages.specs.Paging.{IsPaged, cell_in, nothing}
+use Rattle.effect_pages.specs.Paging.{IsPaged, cell_in, blank_cell}
 
 option_cases : {X : Type 0} (o : Option X) → ((x : X) × (o ≡ Some x)) ⊎ (o ≡ None)
 option_cases (Some x) = inl (x, refl)
@@ -54,7 +54,7 @@ module _ (starts : List (Option ℕ)) (cells : List Cell) (paged : IsPaged start
     other_cell q differs = elim (option_cases (get_or starts (q / 32) None)) [
       | inl w ↦
           ap (λ o. cell_in (set cells place cell) o (q % 32)) w.1
-          ∙ get_or-set_other cells place (w.0 + q % 32) cell nothing (other_start q w.0 w.1 differs)
+          ∙ get_or-set_other cells place (w.0 + q % 32) cell blank_cell (other_start q w.0 w.1 differs)
           ∙ ap (λ o. cell_in cells o (q % 32)) (sym w.1)
       | inr none ↦ ap (λ o. cell_in (set cells place cell) o (q % 32)) none ∙ ap (λ o. cell_in cells o (q % 32)) (sym none)
     ]
@@ -62,7 +62,7 @@ module _ (starts : List (Option ℕ)) (cells : List Cell) (paged : IsPaged start
     same_cell : (q : ℕ) → q ≡ addr → cell_in (set cells place cell) (get_or starts (q / 32) None) (q % 32) ≡ cell
     same_cell q is =
         ap (λ a. cell_in (set cells place cell) (get_or starts (a / 32) None) (a % 32)) is
-        ∙ ap (λ o. cell_in (set cells place cell) o (addr % 32)) here ∙ get_or-set_same cells place cell nothing inside
+        ∙ ap (λ o. cell_in (set cells place cell) o (addr % 32)) here ∙ get_or-set_same cells place cell blank_cell inside
 
     pub cell_set : (q : ℕ) → cell_in (set cells place cell) (get_or starts (q / 32) None) (q % 32)
         ≡ cond (q == addr) cell (cell_in cells (get_or starts (q / 32) None) (q % 32))
@@ -73,7 +73,7 @@ module _ (starts : List (Option ℕ)) (cells : List Cell) (paged : IsPaged start
 
   -- making a page
   module _ (page : ℕ) (more : List Cell) (missing : get_or starts page None ≡ None) (there : page < 32768)
-      (fresh : (place : ℕ) → place < 32 → get_or more place nothing ≡ nothing) where
+      (fresh : (place : ℕ) → place < 32 → get_or more place blank_cell ≡ blank_cell) where
     abbrev made : List (Option ℕ)
     made = set starts page (Some (length cells))
 
@@ -83,7 +83,7 @@ module _ (starts : List (Option ℕ)) (cells : List Cell) (paged : IsPaged start
       same = elim (option_cases (get_or starts (q / 32) None)) [
         | inl w ↦
             let from = paged.inside (q / 32) w.0 w.1 in
-            ap (λ o. cell_in (cells ++ more) o (q % 32)) w.1 ∙ get_or-append cells more nothing (w.0 + q % 32) (omega arith)
+            ap (λ o. cell_in (cells ++ more) o (q % 32)) w.1 ∙ get_or-append cells more blank_cell (w.0 + q % 32) (omega arith)
             ∙ ap (λ o. cell_in cells o (q % 32)) (sym w.1)
         | inr none ↦ ap (λ o. cell_in (cells ++ more) o (q % 32)) none ∙ ap (λ o. cell_in cells o (q % 32)) (sym none)
       ]
@@ -94,7 +94,7 @@ module _ (starts : List (Option ℕ)) (cells : List Cell) (paged : IsPaged start
         let all = paged.all in
         ap (λ p. cell_in (cells ++ more) (get_or made p None) (q % 32)) is
         ∙ ap (λ o. cell_in (cells ++ more) o (q % 32)) (get_or-set_same starts page (Some (length cells)) None (omega arith))
-        ∙ get_or-append-add cells more (q % 32) nothing ∙ fresh (q % 32) (omega arith)
+        ∙ get_or-append-add cells more (q % 32) blank_cell ∙ fresh (q % 32) (omega arith)
         ∙ ap (λ o. cell_in cells o (q % 32)) (sym (ap (λ p. get_or starts p None) is ∙ missing))
 
     pub page_made : (q : ℕ) → cell_in (cells ++ more) (get_or made (q / 32) None) (q % 32) ≡ cell_in cells (get_or starts (q / 32) None) (q % 32)

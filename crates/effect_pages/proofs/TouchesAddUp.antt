@@ -9,7 +9,7 @@ use Rattle.cell_value.specs.declared.entries.Touch.{Touch}
 use Rattle.cell_value.specs.declared.entries.Touch.TheVariants.{Read, Has, Write, Make, Drop, Look, Take, Give}
 use Rattle.cell_value.specs.declared.entries.Change.{Change}
 use Rattle.cell_value.specs.declared.entries.Change.TheVariants.{Set, Gone}
-use Rattle.cell_value.specs.Effects.{asked_by, byte_by, change_at, change_by, first_of, given_of, looked_by, made_by, read_by, taken_by}
+use Rattle.cell_value.specs.Effects.{asked_by, byte_by, change_at, change_by, head_of, given_of, looked_by, made_by, read_by, taken_by}
 use Rattle.effect_log.specs.Passing.{later}
 use Rattle.effect_log.proofs.OneMoreTouch.{all_before, before_changing, before_none, before_other, before_some, change_more, changes, first_more}
 use Rattle.effect_log.proofs.OneMoreTouch.{looked_more, one_option, option_cases, sooner, sum_more}
@@ -25,24 +25,24 @@ module _ {X : Type 0} (f : Touch → Option X) (addr : ℕ) (ts : List Touch) (t
   first_goes_on : change_at addr ts ≡ None → change_by addr t ≡ None → first_before f addr (ts ++ t ∷ []) ≡ sooner (first_before f addr ts) (f t)
   unfolding change_at
   first_goes_on none none_here =
-      ap (λ xs. first_of (filter_map f xs)) (before_none (change_by addr) ts t none)
-      ∙ ap (λ xs. first_of (filter_map f (ts ++ xs))) (before_other (change_by addr) t [] none_here)
-      ∙ ap first_of (filter_map-append f ts (t ∷ [])) ∙ first_more (filter_map f ts) (f t)
-      ∙ ap (λ xs. sooner (first_of (filter_map f xs)) (f t)) (sym (all_before (change_by addr) ts none))
+      ap (λ xs. head_of (filter_map f xs)) (before_none (change_by addr) ts t none)
+      ∙ ap (λ xs. head_of (filter_map f (ts ++ xs))) (before_other (change_by addr) t [] none_here)
+      ∙ ap head_of (filter_map-append f ts (t ∷ [])) ∙ first_more (filter_map f ts) (f t)
+      ∙ ap (λ xs. sooner (head_of (filter_map f xs)) (f t)) (sym (all_before (change_by addr) ts none))
 
   -- where it changes the address
   first_ends : change_at addr ts ≡ None → (c : Change) → change_by addr t ≡ Some c → first_before f addr (ts ++ t ∷ []) ≡ first_before f addr ts
   unfolding change_at
   first_ends none c here =
-      ap (λ xs. first_of (filter_map f xs)) (before_none (change_by addr) ts t none)
-      ∙ ap (λ xs. first_of (filter_map f (ts ++ xs))) (before_changing (change_by addr) t [] c here)
-      ∙ ap (λ xs. first_of (filter_map f xs)) (append-nil ts)
-      ∙ ap (λ xs. first_of (filter_map f xs)) (sym (all_before (change_by addr) ts none))
+      ap (λ xs. head_of (filter_map f xs)) (before_none (change_by addr) ts t none)
+      ∙ ap (λ xs. head_of (filter_map f (ts ++ xs))) (before_changing (change_by addr) t [] c here)
+      ∙ ap (λ xs. head_of (filter_map f xs)) (append-nil ts)
+      ∙ ap (λ xs. head_of (filter_map f xs)) (sym (all_before (change_by addr) ts none))
 
   -- where the address was changed before
   first_stays : (c : Change) → change_at addr ts ≡ Some c → first_before f addr (ts ++ t ∷ []) ≡ first_before f addr ts
   unfolding change_at
-  first_stays c some = ap (λ xs. first_of (filter_map f xs)) (before_some (change_by addr) ts t c some)
+  first_stays c some = ap (λ xs. head_of (filter_map f xs)) (before_some (change_by addr) ts t c some)
 
   by_change : {P : Type 0} → ((c : Change) → change_at addr ts ≡ Some c → P) → (change_at addr ts ≡ None → P) → P
   by_change some none = elim (option_cases (change_by addr) (change_at addr ts)) [

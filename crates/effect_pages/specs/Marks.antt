@@ -6,13 +6,13 @@ use Rattle.cell_value.specs.declared.entries.Touch.{Touch}
 use Rattle.cell_value.specs.declared.entries.Touch.TheVariants.{Read, Has, Write, Make, Drop}
 use Rattle.cell_value.specs.declared.entries.Seen.{Seen}
 use Rattle.cell_value.specs.declared.entries.Change.{Change}
-use Rattle.cell_value.specs.Effects.{asked_by, byte_by, change_at, change_by, first_of, given_of, is_shared, looked_by}
+use Rattle.cell_value.specs.Effects.{asked_by, byte_by, change_at, change_by, head_of, given_of, is_shared, looked_by}
 use Rattle.cell_value.specs.Effects.{looked_of, made_by, made_of, read_by, seen_by, taken_by, taken_of}
 use Rattle.effect_pages.specs.declared.found.Found.{Found}
 use Rattle.effect_pages.specs.declared.cells.Cell.{Cell}
 use Rattle.effect_pages.specs.declared.cells.Pages.{Pages}
 use Rattle.effect_pages.specs.Pages.{cell_at}
-use Rattle.effect_pages.specs.Paging.{nothing}
+use Rattle.effect_pages.specs.Paging.{blank_cell}
 
 -- the first number before a change: another one is the first if there is none yet and nothing was changed
 abbrev pub first_mark : Option ℕ → Option ℕ → ℕ → Option ℕ
@@ -70,9 +70,9 @@ pub record PagesTakeIn (base place : ℕ) (entry : Logged) (old new : Found) : T
   pub given : new.given ≡ old.given ++ option_to_list (byte_by entry.touch)
 
 -- the entry of the log that a number stands for, and what a function says of an entry
-abbrev pub entry_of : List Touch → Option ℕ → Option Touch
-entry_of log None = None
-entry_of log (Some number) = slice_get log number
+abbrev pub touch_numbered : List Touch → Option ℕ → Option Touch
+touch_numbered log None = None
+touch_numbered log (Some number) = slice_get log number
 
 abbrev pub shown : {X : Type 0} → (Touch → Option X) → Option Touch → Option X
 shown f None = None
@@ -80,21 +80,21 @@ shown f (Some touch) = f touch
 
 -- what is seen of an address by its cell, and what it is changed to
 abbrev pub seen_in : List Touch → ℕ → Cell → Option Seen
-seen_in log addr cell = seen_by (shown (read_by addr) (entry_of log cell.read))
-    (shown (asked_by addr) (entry_of log cell.answer))
+seen_in log addr cell = seen_by (shown (read_by addr) (touch_numbered log cell.read))
+    (shown (asked_by addr) (touch_numbered log cell.answer))
 
 abbrev pub changed_in : List Touch → ℕ → Cell → Option Change
-changed_in log addr cell = shown (change_by addr) (entry_of log cell.change)
+changed_in log addr cell = shown (change_by addr) (touch_numbered log cell.change)
 
 -- what the first touch says before the first that changes the address
 abbrev pub first_before : {X : Type 0} → (Touch → Option X) → ℕ → List Touch → Option X
-first_before f addr touches = first_of (filter_map f (before_first (λ touch. is_some (change_by addr touch)) touches))
+first_before f addr touches = head_of (filter_map f (before_first (λ touch. is_some (change_by addr touch)) touches))
 
 -- the number is that of the entry that says this, if there is anything to say
 pub record IsNumberOf {X : Type 0} (log : List Touch) (f : Touch → Option X) (number : Option ℕ) (said : Option X)
     : Type 0 where
   pub there : is_some number ≡ is_some said
-  pub says : shown f (entry_of log number) ≡ said
+  pub says : shown f (touch_numbered log number) ≡ said
 
 -- the cell has all that these touches have of the address
 pub record IsMarked (log touches : List Touch) (addr : ℕ) (cell : Cell) : Type 0 where
@@ -112,5 +112,5 @@ pub record HasCounts (place : ℕ) (touches : List Touch) (found : Found) : Type
 -- all that these touches have for a call whose frame begins at `base`
 pub record PagesHold (base place : ℕ) (log touches : List Touch) (found : Found) : Type 0 where
   pub cells : (addr : ℕ) → is_shared base addr ≡ true → IsMarked log touches addr (cell_at found.pages addr)
-  pub others : (addr : ℕ) → is_shared base addr ≡ false → cell_at found.pages addr ≡ nothing
+  pub others : (addr : ℕ) → is_shared base addr ≡ false → cell_at found.pages addr ≡ blank_cell
   pub counts : HasCounts place touches found

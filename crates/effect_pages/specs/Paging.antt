@@ -3,13 +3,13 @@ use Rattle.std.specs.Prelude.{◌≡◌, ◌≢◌, ◌≤◌, ◌+◌, ℕ, Lis
 use Rattle.effect_pages.specs.declared.cells.Cell.{Cell}
 
 -- the cell of an address of which nothing was found
-abbrev pub nothing : Cell
-nothing = record { read = None; answer = None; change = None }
+abbrev pub blank_cell : Cell
+blank_cell = record { read = None; answer = None; change = None }
 
 -- the cell at a place of a page whose cells begin there, if it was made
 abbrev pub cell_in : List Cell → Option ℕ → ℕ → Cell
-cell_in cells None place = nothing
-cell_in cells (Some start) place = slice_index_or cells (start + place) nothing
+cell_in cells None place = blank_cell
+cell_in cells (Some start) place = slice_index_or cells (start + place) blank_cell
 
 -- these are the starts of all pages: the cells of each page stand there, and no two pages share any
 pub record IsPaged (starts : List (Option ℕ)) (cells : List Cell) : Type 0 where

@@ -1,7 +1,7 @@
 //! What entries of the log show of an address.
 ghost use Rattle.std.specs.Prelude.{◌≡◌, ◌+◌};
 ghost use Rattle.cell_value.specs.Effects.{asked_by, change_by, changed_block, read_by};
-ghost use Rattle.effect_pages.specs.Marks.{changed_in, entry_of, seen_in, shown};
+ghost use Rattle.effect_pages.specs.Marks.{changed_in, touch_numbered, seen_in, shown};
 
 use crate::cells::Cell;
 use cell_value::{Change, Seen, Touch, Value};
@@ -9,7 +9,7 @@ use effect_log::Log;
 
 /// The entry that a number stands for.
 fn entry(log: &Log, number: Option<u32>) -> Option<Touch>
-    ensures { result ≡ entry_of log.now number }
+    ensures { result ≡ touch_numbered log.now number }
 {
     match number {
         None => None,

@@ -2,7 +2,7 @@
 ghost use Rattle.std.specs.Prelude.{◌≡◌, ◌<◌, ◌+◌, ◌*◌, ◌==◌, ℕ, IfOk, OnOk, None, Some, false, if◌then◌else◌};
 ghost use Rattle.std.specs.Prelude.{slice_index_or};
 ghost use Rattle.effect_pages.specs.Pages.{cell_at};
-ghost use Rattle.effect_pages.specs.Paging.{nothing};
+ghost use Rattle.effect_pages.specs.Paging.{blank_cell};
 
 use crate::cells::{Cell, NOTHING, Pages};
 use cell_value::Memory;
@@ -11,7 +11,7 @@ use std::alloc::Global;
 impl Pages {
     /// Cells of which nothing was found.
     pub(crate) fn new(alloc: Global) -> Result<Pages, Memory>
-        ensures { IfOk result (λ pages. (q : ℕ) → cell_at pages q ≡ nothing) }
+        ensures { IfOk result (λ pages. (q : ℕ) → cell_at pages q ≡ blank_cell) }
     {
         let mut starts = Vec::new(alloc);
         starts.resize(32768, None)?;
@@ -24,7 +24,7 @@ impl Pages {
     /// Whether the page was made.
     pub(crate) fn has(&self, page: u32) -> bool
         requires { page < 32768 }
-        ensures { (place : ℕ) → result ≡ false → place < 32 → cell_at self.now (page * 32 + place) ≡ nothing }
+        ensures { (place : ℕ) → result ≡ false → place < 32 → cell_at self.now (page * 32 + place) ≡ blank_cell }
     {
         self.starts[page as usize].is_some()
     }

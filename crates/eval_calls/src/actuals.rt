@@ -6,10 +6,10 @@ ghost use Rattle.eval_machine.specs.Machines.{DoesAll, IsReady, Moment, machine_
 ghost use Rattle.program_meaning.specs.Actions.{Action, performs};
 ghost use Rattle.program_meaning.specs.Tree.{bind, doing};
 ghost use Rattle.program_meaning.specs.Expressions as expressions;
-ghost use Rattle.eval_tasks.specs.Rest.{below, declared, from, from_under, here, lists_of, pass, resume, tasks_of};
+ghost use Rattle.eval_tasks.specs.Rest.{below_top, declared, from, from_under, here, lists_of, pass, resume, tasks_of};
 ghost use Rattle.eval_tasks.specs.Rest.{top_list, values_of};
 ghost use Rattle.eval_tasks.specs.Turns.{Turns, configuration};
-ghost use Rattle.eval_tasks.specs.Weight.{Falls, body_weight, come, left_of, left_with, part_weight, task_weight};
+ghost use Rattle.eval_tasks.specs.Weight.{Falls, body_weight, come, measure_of, left_with, part_weight, task_weight};
 ghost use Rattle.eval_tasks.specs.Weight.{now_weight, tasks_weight};
 
 use cell_value::{Cells, Value};
@@ -33,7 +33,7 @@ pub fn pass_actuals(
     requires ready { IsReady machine.old }
     ensures turns { Turns program.now (configuration (from program.now body.old (Now.Begin (Part.Pass at line)))
         (moment_of machine.old)) result body.new (moment_of machine.new) }
-    ensures falls { Falls result (left_of body.new machine.new)
+    ensures falls { Falls result (measure_of body.new machine.new)
         (left_with machine.old.steps (now_weight (Now.Begin (Part.Pass at line)) + tasks_weight body.old)) }
     ensures home { body.new.home ≡ body.old.home }
     ensures ready { IsReady machine.new }
@@ -57,9 +57,9 @@ fn pass_actual(
     ensures turns { Turns program.now (configuration (bind (expressions.of_actual program.now
         (top_list (lists_of body.old))
         (here body.old.home line) (Row.Item item)) (resume program.now body.old.home (tasks_of body.old)
-        (values_of body.old) (below (lists_of body.old)))) (moment_of machine.old)) result body.new
+        (values_of body.old) (below_top (lists_of body.old)))) (moment_of machine.old)) result body.new
         (moment_of machine.new) }
-    ensures falls { Falls result (left_of body.new machine.new)
+    ensures falls { Falls result (measure_of body.new machine.new)
         (left_with machine.old.steps (come + 1 + tasks_weight body.old)) }
     ensures home { body.new.home ≡ body.old.home }
     ensures ready { IsReady machine.new }
@@ -115,7 +115,7 @@ fn add_routine(
     ensures turns { (a : Action (ℕ × ℕ)) (m m' : Moment) → DoesAll (λ x. x) (performs a m.state) found m m'
         → Turns program.now (configuration (bind (doing line a (λ (routine, frame). pass body.old.home next line
         (top_list (lists_of body.old) ++ CellValue.Routine routine frame ∷ []))) (resume program.now body.old.home
-        (tasks_of body.old) (values_of body.old) (below (lists_of body.old)))) m) result body.new m' }
+        (tasks_of body.old) (values_of body.old) (below_top (lists_of body.old)))) m) result body.new m' }
     ensures less { (a : Action (ℕ × ℕ)) (m m' : Moment) → DoesAll (λ x. x) (performs a m.state) found m m'
         → Falls result (left_with m'.state.steps (body_weight body.new))
         (left_with m.state.steps (part_weight (Part.Pass next line) + 1 + tasks_weight body.old)) }
@@ -168,7 +168,7 @@ pub fn add_cell(
 ) -> Turned
     ensures turns { (m : Moment) → Turns program.now (configuration (bind (pass body.old.home next line
         (top_list (lists_of body.old) ++ value ∷ [])) (resume program.now body.old.home (tasks_of body.old)
-        (values_of body.old) (below (lists_of body.old)))) m) result body.new m }
+        (values_of body.old) (below_top (lists_of body.old)))) m) result body.new m }
     ensures falls { Falls result (body_weight body.new)
         (part_weight (Part.Pass next line) + 1 + tasks_weight body.old) }
     ensures home { body.new.home ≡ body.old.home }

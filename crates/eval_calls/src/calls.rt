@@ -7,10 +7,11 @@ ghost use Rattle.program_tables.specs.ProgramRows.{ProgramRows, routine_at};
 ghost use Rattle.eval_machine.specs.Machines.{IsReady, Moment, moment_of};
 ghost use Rattle.program_meaning.specs.Acts.{limit_passed};
 ghost use Rattle.program_meaning.specs.Tree.{Enter, bind};
-ghost use Rattle.eval_tasks.specs.Rest.{at_work, below, from_under, lists_of, resume, returned, tasks_of, top_list};
+ghost use Rattle.eval_tasks.specs.Rest.{left_now, below_top, from_under, lists_of, resume, after_call, tasks_of};
+ghost use Rattle.eval_tasks.specs.Rest.{top_list};
 ghost use Rattle.eval_tasks.specs.Rest.{values_of};
 ghost use Rattle.eval_tasks.specs.Turns.{EntersRoutine, Turns, configuration};
-ghost use Rattle.eval_tasks.specs.Weight.{Falls, body_weight, come, left_of, left_with, part_weight, task_weight};
+ghost use Rattle.eval_tasks.specs.Weight.{Falls, body_weight, come, measure_of, left_with, part_weight, task_weight};
 ghost use Rattle.eval_tasks.specs.Weight.{tasks_weight};
 
 use crate::actuals::{append, append_all};
@@ -23,7 +24,7 @@ use std::alloc::Global;
 
 /// A call begins with its actual parameters, and the task is to go on with them.
 pub fn begin_call(body: &mut Body, alloc: Global, task: Task, actuals: u32, line: u32) -> Turned
-    ensures turns { (p : ProgramRows) (m : Moment) → Turns p (configuration (at_work p body.old.home
+    ensures turns { (p : ProgramRows) (m : Moment) → Turns p (configuration (left_now p body.old.home
         (Now.Begin (Part.Pass actuals line)) (task ∷ tasks_of body.old) (values_of body.old)
         ([] ∷ lists_of body.old)) m) result body.new m }
     ensures falls { Falls result (body_weight body.new)
@@ -51,7 +52,7 @@ pub fn call(
     ensures turns { Turns program.now (configuration (from_under program.now body.old (Now.Came Way.Cells)
         (Task.Call procedure routine levels line))
         (moment_of machine.old)) result body.new (moment_of machine.new) }
-    ensures falls { Falls result (left_of body.new machine.new)
+    ensures falls { Falls result (measure_of body.new machine.new)
         (left_with machine.old.steps (come + task_weight (Task.Call procedure routine levels line)
         + tasks_weight body.old)) }
     ensures home { body.new.home ≡ body.old.home }
@@ -92,7 +93,7 @@ pub fn call_formal(
     ensures turns { Turns program.now (configuration (from_under program.now body.old (Now.Came Way.Cells)
         (Task.CallFormal procedure place levels line))
         (moment_of machine.old)) result body.new (moment_of machine.new) }
-    ensures falls { Falls result (left_of body.new machine.new)
+    ensures falls { Falls result (measure_of body.new machine.new)
         (left_with machine.old.steps (come + task_weight (Task.CallFormal procedure place levels line)
         + tasks_weight body.old)) }
     ensures home { body.new.home ≡ body.old.home }
@@ -133,8 +134,8 @@ fn enter(
     requires ready { IsReady machine.now }
     ensures turns { (p : ProgramRows) (r : RoutineRow) → routine_at p routine ≡ Some r → r.cells ≡ cells
         → Turns p (configuration (bind (Enter routine cells (CellValue.Frame frame ∷ top_list (lists_of body.old))
-        (returned procedure)) (resume p body.old.home (tasks_of body.old) (values_of body.old)
-        (below (lists_of body.old)))) (moment_of machine.now)) result body.new (moment_of machine.now) }
+        (after_call procedure)) (resume p body.old.home (tasks_of body.old) (values_of body.old)
+        (below_top (lists_of body.old)))) (moment_of machine.now)) result body.new (moment_of machine.now) }
     ensures falls { (left before : ℕ) → Falls result left before }
     ensures home { body.new.home ≡ body.old.home }
 {
@@ -148,8 +149,8 @@ fn enter(
 fn stop_at_call(body: &mut Body, alloc: Global, procedure: bool, routine: u32, frame: u32) -> Turned
     ensures entered { (p : ProgramRows) (m : Moment) (cells : ℕ) → limit_passed m.state cells ≡ None → EntersRoutine p
         (configuration (bind (Enter routine cells (CellValue.Frame frame ∷ top_list (lists_of body.old))
-        (returned procedure))
-        (resume p body.old.home (tasks_of body.old) (values_of body.old) (below (lists_of body.old)))) m)
+        (after_call procedure))
+        (resume p body.old.home (tasks_of body.old) (values_of body.old) (below_top (lists_of body.old)))) m)
         routine result body.new }
     ensures falls { (left before : ℕ) → Falls result left before }
     ensures home { body.new.home ≡ body.old.home }

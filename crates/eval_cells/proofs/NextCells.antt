@@ -4,7 +4,7 @@ use Rattle.std.proofs.lemmas.List.{length-append}
 use Rattle.cell_value.specs.declared.values.Value.{Value}
 use Rattle.program_meaning.specs.State.{moved}
 use Rattle.program_meaning.specs.Actions.{Action, ◌>>=◌}
-use Rattle.program_meaning.specs.Cells.{read, reads, write, writes, linked, frame_out}
+use Rattle.program_meaning.specs.Cells.{read_value, read_values, write, writes, linked, frame_out}
 use Rattle.eval_machine.specs.Machines.{Moment}
 use Rattle.eval_machine.proofs.ActionsCompose.{CameTo}
 use Rattle.eval_machine.proofs.Lists.{drop_get}
@@ -14,9 +14,10 @@ pub at_link : {first : Action ℕ} {m0 m : Moment} (frame levels i : ℕ) → i 
 at_link {first = first} {m0 = m0} {m = m} frame levels i h = subst (λ n. CameTo first m0 (frame_out n frame) m)
     (let e : levels - i ≡ suc (levels - (i + 1)) = omega (arith, h) in e)
 
-pub at_read : {first : Action (List Value)} {m0 m : Moment} (vs : List Value) (addr cells i : ℕ) → i < cells → CameTo first m0 (reads vs addr (cells - i)) m
-    → CameTo first m0 (read addr >>= λ v. reads (vs ++ v ∷ []) (moved addr 1) (cells - (i + 1))) m
-at_read {first = first} {m0 = m0} {m = m} vs addr cells i h = subst (λ n. CameTo first m0 (reads vs addr n) m)
+pub at_read : {first : Action (List Value)} {m0 m : Moment} (vs : List Value) (addr cells i : ℕ) → i < cells
+    → CameTo first m0 (read_values vs addr (cells - i)) m
+    → CameTo first m0 (read_value addr >>= λ v. read_values (vs ++ v ∷ []) (moved addr 1) (cells - (i + 1))) m
+at_read {first = first} {m0 = m0} {m = m} vs addr cells i h = subst (λ n. CameTo first m0 (read_values vs addr n) m)
     (let e : cells - i ≡ suc (cells - (i + 1)) = omega (arith, h) in e)
 
 pub at_write : {first : Action (Unit {0})} {m0 m : Moment} (vs : List Value) (addr i : ℕ) (v : Value) → slice_get vs i ≡ Some v

@@ -22,7 +22,7 @@ pub fn read_cells(
     cells: u32,
 ) -> Result<Cells, Halt>
     requires ready { IsReady machine.old }
-    ensures action { DoesAll (λ vs. vs) (performs (action.reads [] addr cells) (machine_state machine.old)) result
+    ensures action { DoesAll (λ vs. vs) (performs (action.read_values [] addr cells) (machine_state machine.old)) result
         (moment_of machine.old) (moment_of machine.new) }
     ensures ready { IsReady machine.new }
 {

@@ -23,7 +23,7 @@ fn result_value(least: i32, greatest: i32, value: Value) -> Result<Value, Halt>
 /// no value of the type, it is the fault `UndefinedResult`, after the read.
 pub fn result_at(machine: &mut Machine, least: i32, greatest: i32, addr: u32) -> Result<Value, Halt>
     requires ready { IsReady machine.old }
-    ensures action { DoesAll (λ v. v) (performs (calls.result_at least greatest addr) (machine_state machine.old))
+    ensures action { DoesAll (λ v. v) (performs (calls.result_read least greatest addr) (machine_state machine.old))
         result (moment_of machine.old) (moment_of machine.new) }
     ensures ready { IsReady machine.new }
 {

@@ -5,14 +5,14 @@ use Rattle.program_tables.specs.declared.rows.ExpressionRow.TheVariants as expre
 use Rattle.program_tables.specs.ProgramRows.{ProgramRows}
 use Rattle.program_meaning.specs.Tree.{Here, Tree}
 use Rattle.program_meaning.specs.Accesses.{eval}
-use Rattle.program_meaning.specs.Expressions.{of_expression, result_of}
+use Rattle.program_meaning.specs.Expressions.{of_expression, operation_result}
 use Rattle.eval_rules.specs.Operators.{dyadic_in, dyadic_of}
 use Rattle.eval_rules.specs.declared.operators.Dyadic.{Dyadic}
 use Rattle.eval_expressions.specs.Families.{of_operation, of_other}
 
 -- an expression, by its dyadic operator if it has one
 abbrev pub by_dyadic : ProgramRows → Here → ExpressionRow → Option (Dyadic × ℕ × ℕ) → Tree
-by_dyadic p h e (Some (d, left, right)) = eval left h (λ x. eval right h (λ y. result_of h (dyadic_of d x y)))
+by_dyadic p h e (Some (d, left, right)) = eval left h (λ x. eval right h (λ y. operation_result h (dyadic_of d x y)))
 by_dyadic p h e None = of_other p h e
 
 pub expression_by : (p : ProgramRows) (h : Here) (e : ExpressionRow) → of_operation p h e ≡ by_dyadic p h e (dyadic_in e)

@@ -12,7 +12,7 @@ ghost use Rattle.program_meaning.specs.Accesses.{locate_field as field_in, with_
 ghost use Rattle.program_meaning.specs.Accesses.{locate_before, with_bounds, with_components, spend as spend_in};
 ghost use Rattle.eval_tasks.specs.Rest.{from, from_under, here, waiting};
 ghost use Rattle.eval_tasks.specs.Turns.{Turns, configuration};
-ghost use Rattle.eval_tasks.specs.Weight.{Falls, body_weight, come, left_of, left_with, part_weight, task_weight};
+ghost use Rattle.eval_tasks.specs.Weight.{Falls, body_weight, come, measure_of, left_with, part_weight, task_weight};
 ghost use Rattle.eval_tasks.specs.Weight.{now_weight, tasks_weight};
 
 use cell_value::Value;
@@ -41,7 +41,7 @@ pub fn locate(
     ensures turns { Turns program.now (configuration (from program.now body.old
         (Now.Begin (Part.Locate row target line))) (moment_of machine.old)) result body.new
         (moment_of machine.new) }
-    ensures falls { Falls result (left_of body.new machine.new)
+    ensures falls { Falls result (measure_of body.new machine.new)
         (left_with machine.old.steps (now_weight (Now.Begin (Part.Locate row target line)) + tasks_weight body.old)) }
     ensures home { body.new.home ≡ body.old.home }
     ensures ready { IsReady machine.new }
@@ -68,7 +68,7 @@ fn begin_access(
     requires ready { IsReady machine.old }
     ensures turns { Turns program.now (configuration (bind (of_access program.now row target (here body.old.home line)
         access) (waiting program.now body.old)) (moment_of machine.old)) result body.new (moment_of machine.new) }
-    ensures falls { Falls result (left_of body.new machine.new)
+    ensures falls { Falls result (measure_of body.new machine.new)
         (left_with machine.old.steps (part_weight (Part.Locate row target line) + tasks_weight body.old)) }
     ensures home { body.new.home ≡ body.old.home }
     ensures ready { IsReady machine.new }
@@ -121,7 +121,7 @@ fn variable(
     ensures turns { Turns program.now (configuration (bind (spend_in (here body.old.home line) (doing line
         (cell_out levels body.old.home.base place) address)) (waiting program.now body.old)) (moment_of machine.old))
         result body.new (moment_of machine.new) }
-    ensures falls { Falls result (left_of body.new machine.new)
+    ensures falls { Falls result (measure_of body.new machine.new)
         (left_with machine.old.steps (tasks_weight body.old)) }
     ensures home { body.new.home ≡ body.old.home }
     ensures ready { IsReady machine.new }
@@ -145,7 +145,7 @@ fn reference(
     ensures turns { Turns program.now (configuration (bind (spend_in (here body.old.home line) (doing line
         (reference_out levels body.old.home.base place) address)) (waiting program.now body.old))
         (moment_of machine.old)) result body.new (moment_of machine.new) }
-    ensures falls { Falls result (left_of body.new machine.new)
+    ensures falls { Falls result (measure_of body.new machine.new)
         (left_with machine.old.steps (tasks_weight body.old)) }
     ensures home { body.new.home ≡ body.old.home }
     ensures ready { IsReady machine.new }
@@ -169,7 +169,7 @@ pub fn continue_access(
     ensures turns { Turns program.now (configuration (from_under program.now body.old (Now.Came (Way.Address addr))
         (Task.Located located))
         (moment_of machine.old)) result body.new (moment_of machine.new) }
-    ensures falls { Falls result (left_of body.new machine.new)
+    ensures falls { Falls result (measure_of body.new machine.new)
         (left_with machine.old.steps (come + task_weight (Task.Located located) + tasks_weight body.old)) }
     ensures home { body.new.home ≡ body.old.home }
     ensures ready { IsReady machine.new }
@@ -251,7 +251,7 @@ fn follow_pointer(body: &mut Body, machine: &mut Machine, line: u32, addr: u32) 
     ensures turns { (p : ProgramRows) → Turns p (configuration (bind (spend_in (here body.old.home line)
         (doing line (pointed_at_in addr) address)) (waiting p body.old)) (moment_of machine.old))
         result body.new (moment_of machine.new) }
-    ensures falls { Falls result (left_of body.new machine.new)
+    ensures falls { Falls result (measure_of body.new machine.new)
         (left_with machine.old.steps (tasks_weight body.old)) }
     ensures home { body.new.home ≡ body.old.home }
     ensures ready { IsReady machine.new }
@@ -275,7 +275,7 @@ fn variable_value(
     requires ready { IsReady machine.old }
     ensures turns { Turns program.now (configuration (bind (value_at line addr kind)
         (waiting program.now body.old)) (moment_of machine.old)) result body.new (moment_of machine.new) }
-    ensures falls { Falls result (left_of body.new machine.new)
+    ensures falls { Falls result (measure_of body.new machine.new)
         (left_with machine.old.steps (come + 1 + tasks_weight body.old)) }
     ensures home { body.new.home ≡ body.old.home }
     ensures ready { IsReady machine.new }
@@ -316,7 +316,7 @@ fn variable_cells(
     requires ready { IsReady machine.old }
     ensures turns { Turns program.now (configuration (bind (cells_at line addr cells) (waiting program.now body.old))
         (moment_of machine.old)) result body.new (moment_of machine.new) }
-    ensures falls { Falls result (left_of body.new machine.new)
+    ensures falls { Falls result (measure_of body.new machine.new)
         (left_with machine.old.steps (come + 1 + tasks_weight body.old)) }
     ensures home { body.new.home ≡ body.old.home }
     ensures ready { IsReady machine.new }
@@ -341,7 +341,7 @@ fn locate_field(
     requires ready { IsReady machine.old }
     ensures turns { Turns program.now (configuration (bind (field_in program.now target line addr field)
         (waiting program.now body.old)) (moment_of machine.old)) result body.new (moment_of machine.new) }
-    ensures falls { Falls result (left_of body.new machine.new)
+    ensures falls { Falls result (measure_of body.new machine.new)
         (left_with machine.old.steps (come + 1 + tasks_weight body.old)) }
     ensures home { body.new.home ≡ body.old.home }
     ensures ready { IsReady machine.new }
@@ -365,7 +365,7 @@ fn within(
     ensures turns { Turns program.now (configuration (bind (spend_in (here body.old.home line) (with_record
         (slice_get body.old.home.records place) (λ addr. field_in program.now target line addr field)))
         (waiting program.now body.old)) (moment_of machine.old)) result body.new (moment_of machine.new) }
-    ensures falls { Falls result (left_of body.new machine.new)
+    ensures falls { Falls result (measure_of body.new machine.new)
         (left_with machine.old.steps (tasks_weight body.old)) }
     ensures home { body.new.home ≡ body.old.home }
     ensures ready { IsReady machine.new }

@@ -9,7 +9,7 @@ ghost use Rattle.eval_rules.specs.Operators.{dyadic_of};
 ghost use Rattle.eval_expressions.specs.Families.{of_designator, of_monadic, of_operation, of_other};
 ghost use Rattle.eval_tasks.specs.Rest.{from, from_under, here, waiting};
 ghost use Rattle.eval_tasks.specs.Turns.{Turns, configuration};
-ghost use Rattle.eval_tasks.specs.Weight.{Falls, body_weight, come, left_of, left_with, task_weight, now_weight};
+ghost use Rattle.eval_tasks.specs.Weight.{Falls, body_weight, come, measure_of, left_with, task_weight, now_weight};
 ghost use Rattle.eval_tasks.specs.Weight.{tasks_weight};
 
 use crate::accesses::locate_component;
@@ -56,7 +56,7 @@ pub fn evaluate(
     requires ready { IsReady machine.old }
     ensures turns { Turns program.now (configuration (from program.now body.old (Now.Begin (Part.Eval row line)))
         (moment_of machine.old)) result body.new (moment_of machine.new) }
-    ensures falls { Falls result (left_of body.new machine.new)
+    ensures falls { Falls result (measure_of body.new machine.new)
         (left_with machine.old.steps (now_weight (Now.Begin (Part.Eval row line)) + tasks_weight body.old)) }
     ensures home { body.new.home ≡ body.old.home }
     ensures ready { IsReady machine.new }
@@ -93,7 +93,7 @@ fn begin_stepped(
     requires ready { IsReady machine.old }
     ensures turns { Turns program.now (configuration (bind (of_expression program.now (here body.old.home line)
         expression) (waiting program.now body.old)) (moment_of machine.old)) result body.new (moment_of machine.new) }
-    ensures falls { Falls result (left_of body.new machine.new)
+    ensures falls { Falls result (measure_of body.new machine.new)
         (left_with machine.old.steps (2 * come + tasks_weight body.old)) }
     ensures home { body.new.home ≡ body.old.home }
     ensures ready { IsReady machine.new }

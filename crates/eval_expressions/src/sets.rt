@@ -7,7 +7,7 @@ ghost use Rattle.program_meaning.specs.Tree.{Cells as CellsOf, Ret, Scalar, Sub,
 ghost use Rattle.program_meaning.specs.Tree as parts;
 ghost use Rattle.program_meaning.specs.Values as values;
 ghost use Rattle.program_meaning.specs.Expressions as expressions;
-ghost use Rattle.eval_tasks.specs.Rest.{below, from, from_under, here, lists_of, resume, tasks_of, top, values_of};
+ghost use Rattle.eval_tasks.specs.Rest.{below_top, from, from_under, here, lists_of, resume, tasks_of, top, values_of};
 ghost use Rattle.eval_tasks.specs.Rest.{waiting};
 ghost use Rattle.eval_tasks.specs.Turns.{Turns, configuration};
 ghost use Rattle.eval_tasks.specs.Weight.{Falls, body_weight, come, part_weight, task_weight, tasks_weight};
@@ -89,7 +89,7 @@ pub fn gather(body: &mut Body, program: &Program, at: u32, line: u32) -> Turned
 fn gather_item(body: &mut Body, item: ItemRow, line: u32) -> Turned
     ensures turns { (p : ProgramRows) (m : Moment) → Turns p (configuration (bind (expressions.of_members
         (top (values_of body.old)) (here body.old.home line) (Row.Item item)) (resume p body.old.home
-        (tasks_of body.old) (below (values_of body.old)) (lists_of body.old))) m) result body.new m }
+        (tasks_of body.old) (below_top (values_of body.old)) (lists_of body.old))) m) result body.new m }
     ensures falls { Falls result (body_weight body.new) (come + 1 + tasks_weight body.old) }
     ensures home { body.new.home ≡ body.old.home }
 {
@@ -109,7 +109,7 @@ fn gather_item(body: &mut Body, item: ItemRow, line: u32) -> Turned
 /// The members of a set constructor are all known: the set that waited is its value.
 fn give_set(body: &mut Body) -> Turned
     ensures turns { (p : ProgramRows) (m : Moment) → Turns p (configuration (resume p body.old.home (tasks_of body.old)
-        (below (values_of body.old)) (lists_of body.old) (Scalar (top (values_of body.old)))) m) result body.new m }
+        (below_top (values_of body.old)) (lists_of body.old) (Scalar (top (values_of body.old)))) m) result body.new m }
     ensures falls { Falls result (body_weight body.new) (come + 1 + tasks_weight body.old) }
     ensures home { body.new.home ≡ body.old.home }
 {

@@ -7,21 +7,21 @@ use Rattle.cell_value.specs.declared.entries.Touch.TheVariants as touch
 use Rattle.cell_value.specs.declared.ways_out.Kind.TheVariants as kind
 use Rattle.program_meaning.specs.State.{State, stack_end, is_in_reach}
 use Rattle.program_meaning.specs.Acts.{Fault, OutOfSteps, ActResult, Went, Stops, HasCell, WriteCell, spent, with_steps, on_cell, perform}
-use Rattle.program_meaning.specs.Acts.{put, put_asked, after_touches}
+use Rattle.program_meaning.specs.Acts.{put_value, put_asked, after_touches}
 
 -- in the stack it does not ask
-pub in_stack : (addr : ℕ) (v : Value) (σ : State) → addr < stack_end → perform (WriteCell addr v) σ ≡ on_cell addr σ (put addr v)
+pub in_stack : (addr : ℕ) (v : Value) (σ : State) → addr < stack_end → perform (WriteCell addr v) σ ≡ on_cell addr σ (put_value addr v)
 in_stack addr v σ h =
-    ap (λ b. on_cell addr σ (λ τ. if b then put addr v τ else put_asked (is_some (get τ.cells addr)) addr v τ)) (lt-ltb addr stack_end h)
+    ap (λ b. on_cell addr σ (λ τ. if b then put_value addr v τ else put_asked (is_some (get τ.cells addr)) addr v τ)) (lt-ltb addr stack_end h)
 
 abbrev after_answer : ℕ → Value → ActResult Bool → ActResult Bool
-after_answer addr v (Went true w σ) = after_touches w (on_cell addr σ (put addr v))
+after_answer addr v (Went true w σ) = after_touches w (on_cell addr σ (put_value addr v))
 after_answer addr v (Went false w σ) = Went false w σ
 after_answer addr v (Stops why w σ) = Stops why w σ
 
 -- in the heap it goes on by the answer
 pub in_heap : (addr : ℕ) (v : Value) (σ : State) → stack_end ≤ addr → perform (WriteCell addr v) σ ≡ after_answer addr v (perform (HasCell addr) σ)
-in_heap addr v σ h = ap (λ b. on_cell addr σ (λ τ. if b then put addr v τ else put_asked (is_some (get τ.cells addr)) addr v τ)) (le-ltb addr stack_end h)
+in_heap addr v σ h = ap (λ b. on_cell addr σ (λ τ. if b then put_value addr v τ else put_asked (is_some (get τ.cells addr)) addr v τ)) (le-ltb addr stack_end h)
     ∙ by (is_in_reach σ addr) (nat_lt σ.steps 1) refl
   where
     asked : Bool → State → ActResult Bool
@@ -30,7 +30,7 @@ in_heap addr v σ h = ap (λ b. on_cell addr σ (λ τ. if b then put addr v τ 
     there : (b r : Bool) → is_in_reach σ addr ≡ r → r ≡ true → put_asked b addr v (record σ { steps = σ.steps - 1 })
         ≡ after_answer addr v (asked b (record σ { steps = σ.steps - 1 }))
     there true r e q = sym (ap (λ r. after_touches (touch.Has addr true ∷ [])
-        (if r then with_steps 1 (record σ { steps = σ.steps - 1 }) (put addr v) else Stops (Fault kind.Undefined) [] (record σ { steps = σ.steps - 1 })))
+        (if r then with_steps 1 (record σ { steps = σ.steps - 1 }) (put_value addr v) else Stops (Fault kind.Undefined) [] (record σ { steps = σ.steps - 1 })))
         (e ∙ q))
     there false r e q = refl
 

@@ -2,7 +2,7 @@
 
 ghost use Rattle.std.specs.Prelude.{◌≡◌, ◌+◌, ◌≤◌, OnOk, replicate};
 ghost use Rattle.cell_value.specs.declared.values.Value.TheVariants as value;
-ghost use Rattle.program_meaning.specs.State.{heap_end};
+ghost use Rattle.cell_value.specs.Effects.{heap_end};
 ghost use Rattle.program_meaning.specs.Blocks as blocks;
 ghost use Rattle.program_meaning.specs.Acts.{DropBlock, MakeBlock, perform};
 ghost use Rattle.eval_machine.specs.Machines.{DoesAct, IsReady, machine_state, moment_of};

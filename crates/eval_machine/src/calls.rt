@@ -1,7 +1,8 @@
 //! The beginning and the end of a call: its frame, and the counts of calls.
 
 ghost use Rattle.std.specs.Prelude.{◌≡◌, ℕ, ◌≤◌, ◌<◌, ◌+◌, OnOk, Some, slice_get};
-ghost use Rattle.program_meaning.specs.State.{heap_end, stack_end};
+ghost use Rattle.cell_value.specs.Effects.{heap_end};
+ghost use Rattle.program_meaning.specs.State.{stack_end};
 ghost use Rattle.program_meaning.specs.Blocks.{cleared, filled};
 ghost use Rattle.program_meaning.specs.Run as calls;
 ghost use Rattle.eval_machine.specs.Machines.{DoesAct, AllowsCall, IsReady, changed, machine_state, moment_of};
@@ -28,7 +29,7 @@ pub fn open_call(machine: &mut Machine)
 /// A call is left, at the depth before it.
 pub fn close_call(machine: &mut Machine, depth: u32)
     requires ready { IsReady machine.old }
-    ensures closed { moment_of machine.new ≡ changed (calls.closed depth) (moment_of machine.old) }
+    ensures closed { moment_of machine.new ≡ changed (calls.call_closed depth) (moment_of machine.old) }
     ensures ready { IsReady machine.new }
 {
     machine.depth = depth;

@@ -3,9 +3,9 @@
 ghost use Rattle.std.specs.Prelude.{◌≡◌, ◌<◌, ◌+◌, ◌-◌, ◌++◌, ◌∷◌, [], true, Err, IfErr, OnOk};
 ghost use Rattle.program_meaning.specs.State.{is_in_reach};
 ghost use Rattle.program_meaning.specs.Acts as acts;
-ghost use Rattle.program_meaning.specs.Acts.{HasCell, Spend, WriteCell, on_cell, perform, put};
+ghost use Rattle.program_meaning.specs.Acts.{HasCell, Spend, WriteCell, on_cell, perform, put_value};
 ghost use Rattle.program_meaning.specs.Actions.{performs};
-ghost use Rattle.program_meaning.specs.Cells.{read, write};
+ghost use Rattle.program_meaning.specs.Cells.{read_value, write};
 ghost use Rattle.eval_machine.specs.Machines.{DoesAct, DoesAll, IsReady, machine_state, moment_of};
 
 use crate::halt::Halt;
@@ -103,8 +103,8 @@ pub fn note(machine: &mut Machine, touch: Touch) -> Result<(), Halt>
 #[inline(always)]
 pub fn read_cell(machine: &mut Machine, addr: u32) -> Result<Value, Halt>
     requires ready { IsReady machine.old }
-    ensures action { DoesAll (λ v. v) (performs (read addr) (machine_state machine.old)) result (moment_of machine.old)
-        (moment_of machine.new) }
+    ensures action { DoesAll (λ v. v) (performs (read_value addr) (machine_state machine.old)) result
+        (moment_of machine.old) (moment_of machine.new) }
     ensures ready { IsReady machine.new }
 {
     if !reaches(machine, addr) {
@@ -149,7 +149,7 @@ pub fn has_cell(machine: &mut Machine, addr: u32) -> Result<bool, Halt>
 /// Puts a value into the cell at an address, which takes a step.
 fn put_cell(alloc: Global, machine: &mut Machine, addr: u32, value: Value) -> Result<(), Halt>
     requires ready { IsReady machine.old }
-    ensures act { DoesAct (λ _. true) (on_cell addr (machine_state machine.old) (put addr value)) result
+    ensures act { DoesAct (λ _. true) (on_cell addr (machine_state machine.old) (put_value addr value)) result
         (moment_of machine.old) (moment_of machine.new) }
     ensures ready { IsReady machine.new }
 {

@@ -8,7 +8,7 @@ use Rattle.program_tables.specs.declared.rows.Row.{Row}
 use Rattle.program_tables.specs.declared.rows.Row.TheVariants as rows
 use Rattle.program_tables.specs.declared.rows.ItemRow.TheVariants as item
 use Rattle.program_tables.specs.ProgramRows.{ProgramRows, row_at}
-use Rattle.program_meaning.specs.Statements.{along, choose_at, choice_of, has_label, label_at, labelled_in}
+use Rattle.program_meaning.specs.Statements.{along, choose_at, choice_of, has_label, item_labelled, labelled_in}
 
 -- what is looked for goes on only with items that stand after, and finds nothing at what is no row
 record LooksOn (rows : ℕ) (look : ℕ → (ℕ → Option ℕ) → Option ℕ) : Type 0 where
@@ -39,7 +39,7 @@ module _ (p : ProgramRows) where
   choose_same i r at go go' h = refl
 
   label_same : (label : ℕ) (r : Row) (at : ℕ) (go go' : ℕ → Option ℕ) → ((next : ℕ) → at < next → go next ≡ go' next)
-      → label_at p r at label go ≡ label_at p r at label go'
+      → item_labelled p r at label go ≡ item_labelled p r at label go'
   label_same label (rows.Item (item.Element s next)) at go go' h =
       by_tests (has_label (row_at p s) label) (nat_lt at next) (Some at) (go next) (go' next) (λ e. h next (ltb-true at next e))
   label_same label r at go go' h = refl
@@ -51,8 +51,8 @@ module _ (p : ProgramRows) where
   }) at
 
   pub one_label : (at label : ℕ) → labelled_in p (length p.rows) at label
-      ≡ label_at p (row_at p at) at label (λ next. labelled_in p (length p.rows) next label)
+      ≡ item_labelled p (row_at p at) at label (λ next. labelled_in p (length p.rows) next label)
   one_label at label = one_more (record {
     same = λ at. label_same label (row_at p at) at;
-    past = λ at go h. ap (λ r. label_at p (unwrap_or r rows.Nothing) at label go) (slice_get_past p.rows at h);
+    past = λ at go h. ap (λ r. item_labelled p (unwrap_or r rows.Nothing) at label go) (slice_get_past p.rows at h);
   }) at

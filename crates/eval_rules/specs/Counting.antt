@@ -29,6 +29,6 @@ span_in (value.Number i) (value.Number last) = Some (record { value = i; last = 
 span_in i last = None
 
 -- both, if both are there
-abbrev pub both : Option Counting → Option Span → Option (Counting × Span)
-both (Some c) (Some s) = Some (c, s)
-both c s = None
+abbrev pub both_there : Option Counting → Option Span → Option (Counting × Span)
+both_there (Some c) (Some s) = Some (c, s)
+both_there c s = None

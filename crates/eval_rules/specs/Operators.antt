@@ -6,7 +6,7 @@ use Rattle.cell_value.specs.declared.values.Value.{Value}
 use Rattle.program_tables.specs.declared.rows.ExpressionRow.{ExpressionRow}
 use Rattle.program_tables.specs.declared.rows.ExpressionRow.TheVariants as expressions
 use Rattle.program_meaning.specs.Heap.{pointers_compared}
-use Rattle.program_meaning.specs.Values.{truth, is_true, logic_of, compared, sets_of, sets_compared, is_in}
+use Rattle.program_meaning.specs.Values.{truth, is_true, logic_of, comparison, sets_of, sets_compared, in_set}
 use Rattle.eval_rules.specs.declared.operators.Dyadic.{Dyadic}
 use Rattle.eval_rules.specs.declared.operators.Dyadic.TheVariants.{
   Arithmetic,
@@ -22,10 +22,10 @@ use Rattle.eval_rules.specs.declared.operators.Dyadic.TheVariants.{
 abbrev pub dyadic_of : Dyadic → (x y : Value) → Result Value OpFault
 dyadic_of (Arithmetic operator) x y = arith_of operator x y
 dyadic_of (Logic operator) x y = Ok (truth (logic_of operator (is_true x) (is_true y)))
-dyadic_of (Compare order) x y = compared order x y
+dyadic_of (Compare order) x y = comparison order x y
 dyadic_of (Sets operator) x y = sets_of operator x y
 dyadic_of (CompareSets order) x y = sets_compared order x y
-dyadic_of In x y = is_in x y
+dyadic_of In x y = in_set x y
 dyadic_of (ComparePointers equal) x y = pointers_compared equal x y
 
 -- the operator of an expression, and the rows of its left and of its right operand

@@ -5,7 +5,7 @@ ghost use Rattle.std.specs.Ordering.{int_eq};
 ghost use Rattle.cell_value.specs.declared.values.Value.TheVariants as CellValue;
 ghost use Rattle.program_tables.specs.ProgramRows.{row_at};
 ghost use Rattle.program_meaning.specs.Statements as statements;
-ghost use Rattle.eval_rules.specs.Counting.{both, span_in, turns_in};
+ghost use Rattle.eval_rules.specs.Counting.{both_there, span_in, turns_in};
 
 use cell_value::Value;
 use program_tables::Program;
@@ -75,7 +75,7 @@ pub fn counting_at(
     value: Value,
     last: Value,
 ) -> Option<(Counting, Span)>
-    ensures { result ≡ both (turns_in (row_at program.now row)) (span_in value last) }
+    ensures { result ≡ both_there (turns_in (row_at program.now row)) (span_in value last) }
 {
     match (turns_of(program, row), span_of(value, last)) {
         (Some(counting), Some(span)) => Some((counting, span)),

@@ -22,7 +22,7 @@ fn has_label(row: Row, label: u32) -> bool
 
 /// What the item of a sequence that stands at a row says of a label.
 fn look_for(program: &Program, at: u32, label: u32) -> Said
-    ensures found { (go : ℕ → Option ℕ) → statements.label_at program.now (row_at program.now at) at label go
+    ensures found { (go : ℕ → Option ℕ) → statements.item_labelled program.now (row_at program.now at) at label go
         ≡ found_by result go }
     ensures rises { Rises at result }
 {

@@ -10,7 +10,7 @@ use Rattle.eval_tasks.specs.declared.tasks.Way.TheVariants as way
 use Rattle.eval_tasks.specs.declared.tasks.Task.{Task}
 use Rattle.eval_tasks.specs.declared.tasks.Task.TheVariants as tasks
 use Rattle.eval_tasks.specs.Records.{without_first, without_last}
-use Rattle.eval_tasks.specs.Rest.{below, came, resume, top_list}
+use Rattle.eval_tasks.specs.Rest.{below_top, came, resume, top_list}
 
 twice : (xs : List ℕ) → reverse (reverse xs) ≡ xs
 twice [] = refl
@@ -24,6 +24,6 @@ pub way_left : (p : ProgramRows) (home : Home) (records : List ℕ) (w : Way) (t
     → records ≡ without_last home.records → came p home w (tasks.Leave ∷ ts) vs ls ≡ came p (record home { records = records }) w ts vs ls
 way_left p home records way.Nothing ts vs ls e = ap (λ rs. resume p (record home { records = rs }) ts vs ls Nothing) (sym e)
 way_left p home records (way.Scalar v) ts vs ls e = ap (λ rs. resume p (record home { records = rs }) ts vs ls (Scalar v)) (sym e)
-way_left p home records way.Cells ts vs ls e = ap (λ rs. resume p (record home { records = rs }) ts vs (below ls) (Cells (top_list ls))) (sym e)
+way_left p home records way.Cells ts vs ls e = ap (λ rs. resume p (record home { records = rs }) ts vs (below_top ls) (Cells (top_list ls))) (sym e)
 way_left p home records (way.Address addr) ts vs ls e = ap (λ rs. resume p (record home { records = rs }) ts vs ls (Address addr)) (sym e)
 way_left p home records (way.Jump label base) ts vs ls e = ap (λ rs. resume p (record home { records = rs }) ts vs ls (Jump label base)) (sym e)

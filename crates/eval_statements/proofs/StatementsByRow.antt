@@ -48,9 +48,9 @@ use Rattle.program_meaning.specs.Statements.{
   on_statement,
   nothing,
 }
-use Rattle.eval_rules.specs.Counting.{turns_in, turns_row, span_in, both}
+use Rattle.eval_rules.specs.Counting.{turns_in, turns_row, span_in, both_there}
 use Rattle.eval_rules.specs.Items.{element_in}
-use Rattle.eval_tasks.specs.Rest.{carried, carry_with, counted, with_numbers}
+use Rattle.eval_tasks.specs.Rest.{carried, carry_with, after_turn, with_numbers}
 use Rattle.eval_rules.specs.declared.counting.Counting.{Counting}
 use Rattle.eval_rules.specs.declared.counting.Span.{Span}
 use Rattle.eval_tasks.specs.declared.tasks.Home.{Home}
@@ -187,7 +187,7 @@ numbers_by (value.Number i) (value.Number j) go = refl
 numbers_by v w go = refl
 
 pub counted_by : (home : Home) (n line : ℕ) (i last : ℤ) (r : Row)
-    → counted home n line i last r ≡ with_turns (turns_in r) (λ c. counted home n line i last (turns_row c))
+    → after_turn home n line i last r ≡ with_turns (turns_in r) (λ c. after_turn home n line i last (turns_row c))
 counted_by home n line i last (rows.Statement (Turns direction last' place of' body)) = refl
 counted_by home n line i last r = refl
 
@@ -198,40 +198,40 @@ turns_row_is : (r : Row) (c : Counting) → turns_in r ≡ Some c → r ≡ turn
 turns_row_is (rows.Statement (Turns direction last place of' body)) c e = turns_same_some _ _ c e refl
 turns_row_is r c e = absurd (let q : ⊥ = cc in q)
 
-first_of_both : (a : Option Counting) (b : Option Span) (c : Counting) (s : Span) → both a b ≡ Some (c, s) → a ≡ Some c
+first_of_both : (a : Option Counting) (b : Option Span) (c : Counting) (s : Span) → both_there a b ≡ Some (c, s) → a ≡ Some c
 first_of_both (Some c') (Some s') c s e = ap (option_map (λ q. q.0)) e
 first_of_both (Some c') None c s e = absurd (let q : ⊥ = cc in q)
 first_of_both None b c s e = absurd (let q : ⊥ = cc in q)
 
-pub row_of_both : (r : Row) (b : Option Span) (c : Counting) (s : Span) → both (turns_in r) b ≡ Some (c, s) → r ≡ turns_row c
+pub row_of_both : (r : Row) (b : Option Span) (c : Counting) (s : Span) → both_there (turns_in r) b ≡ Some (c, s) → r ≡ turns_row c
 row_of_both r b c s e = turns_row_is r c (first_of_both (turns_in r) b c s e)
 
 abbrev pub with_both : Option (Counting × Span) → (Counting → Span → Tree) → Tree
 with_both None go = no_row
 with_both (Some (c, s)) go = go c s
 
-span_both : (c : Counting) (b : Option Span) (go : Counting → Span → Tree) → with_span b (go c) ≡ with_both (both (Some c) b) go
+span_both : (c : Counting) (b : Option Span) (go : Counting → Span → Tree) → with_span b (go c) ≡ with_both (both_there (Some c) b) go
 span_both c None go = refl
 span_both c (Some s) go = refl
 
 pub first_both : (p : ProgramRows) (h : Here) (n : ℕ) (r : Row) (v w : Value) → first_turn p h n r v w
-    ≡ with_both (both (turns_in r) (span_in v w)) (λ c s. first_turn p h n (turns_row c) (value.Number s.value) (value.Number s.last))
+    ≡ with_both (both_there (turns_in r) (span_in v w)) (λ c s. first_turn p h n (turns_row c) (value.Number s.value) (value.Number s.last))
 first_both p h n r v w = first_by p h n r v w ∙ by (turns_in r)
   where
     by : (a : Option Counting) → with_turns a (λ c. first_turn p h n (turns_row c) v w)
-        ≡ with_both (both a (span_in v w)) (λ c s. first_turn p h n (turns_row c) (value.Number s.value) (value.Number s.last))
+        ≡ with_both (both_there a (span_in v w)) (λ c s. first_turn p h n (turns_row c) (value.Number s.value) (value.Number s.last))
     by None = refl
     by (Some c) = first_of_numbers p h n c v w
         ∙ span_both c (span_in v w) (λ c s. first_turn p h n (turns_row c) (value.Number s.value) (value.Number s.last))
 
-pub counted_both : (home : Home) (n line : ℕ) (r : Row) (v w : Value) → with_numbers v w (λ i last. counted home n line i last r)
-    ≡ with_both (both (turns_in r) (span_in v w)) (λ c s. counted home n line s.value s.last (turns_row c))
-counted_both home n line r v w = numbers_by v w (λ i last. counted home n line i last r)
+pub counted_both : (home : Home) (n line : ℕ) (r : Row) (v w : Value) → with_numbers v w (λ i last. after_turn home n line i last r)
+    ≡ with_both (both_there (turns_in r) (span_in v w)) (λ c s. after_turn home n line s.value s.last (turns_row c))
+counted_both home n line r v w = numbers_by v w (λ i last. after_turn home n line i last r)
     ∙ by (turns_in r) (span_in v w) (λ s. counted_by home n line s.value s.last r)
   where
     by : (a : Option Counting) (b : Option Span)
-        → ((s : Span) → counted home n line s.value s.last r ≡ with_turns a (λ c. counted home n line s.value s.last (turns_row c)))
-        → with_span b (λ s. counted home n line s.value s.last r) ≡ with_both (both a b) (λ c s. counted home n line s.value s.last (turns_row c))
+        → ((s : Span) → after_turn home n line s.value s.last r ≡ with_turns a (λ c. after_turn home n line s.value s.last (turns_row c)))
+        → with_span b (λ s. after_turn home n line s.value s.last r) ≡ with_both (both_there a b) (λ c s. after_turn home n line s.value s.last (turns_row c))
     by None None h = refl
     by (Some c) None h = refl
     by None (Some s) h = h s

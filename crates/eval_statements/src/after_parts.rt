@@ -7,7 +7,7 @@ ghost use Rattle.program_meaning.specs.Statements as statements;
 ghost use Rattle.eval_machine.specs.Machines.{IsReady, Moment, moment_of};
 ghost use Rattle.eval_tasks.specs.Rest.{from, from_under, here, waiting};
 ghost use Rattle.eval_tasks.specs.Turns.{Turns, configuration};
-ghost use Rattle.eval_tasks.specs.Weight.{Falls, body_weight, come, left_of, left_with, task_weight, tasks_weight};
+ghost use Rattle.eval_tasks.specs.Weight.{Falls, body_weight, come, measure_of, left_with, task_weight, tasks_weight};
 
 use crate::counting::{first_turn, turn_ended};
 use crate::statements::by_value;
@@ -33,7 +33,7 @@ pub fn continue_statement(
     ensures turns { Turns program.now
         (configuration (from_under program.now body.old (Now.Came (Way.Scalar value)) (Task.Choice choice))
         (moment_of machine.old)) result body.new (moment_of machine.new) }
-    ensures falls { Falls result (left_of body.new machine.new)
+    ensures falls { Falls result (measure_of body.new machine.new)
         (left_with machine.old.steps (come + task_weight (Task.Choice choice) + tasks_weight body.old)) }
     ensures home { body.new.home ≡ body.old.home }
     ensures ready { IsReady machine.new }
@@ -124,7 +124,7 @@ pub fn follow_statement(
     requires ready { IsReady machine.old }
     ensures turns { Turns program.now (configuration (from_under program.now body.old (Now.Came Way.Nothing)
         (Task.Next next)) (moment_of machine.old)) result body.new (moment_of machine.new) }
-    ensures falls { Falls result (left_of body.new machine.new)
+    ensures falls { Falls result (measure_of body.new machine.new)
         (left_with machine.old.steps (come + task_weight (Task.Next next) + tasks_weight body.old)) }
     ensures home { body.new.home ≡ body.old.home }
     ensures ready { IsReady machine.new }

@@ -4,7 +4,7 @@ ghost use Rattle.std.specs.Prelude.{◌≡◌, ◌+◌};
 ghost use Rattle.eval_machine.specs.Machines.{IsReady, Moment, moment_of};
 ghost use Rattle.eval_tasks.specs.Rest.{from_under};
 ghost use Rattle.eval_tasks.specs.Turns.{Turns, configuration};
-ghost use Rattle.eval_tasks.specs.Weight.{Falls, body_weight, come, left_of, left_with, task_weight, tasks_weight};
+ghost use Rattle.eval_tasks.specs.Weight.{Falls, body_weight, come, measure_of, left_with, task_weight, tasks_weight};
 
 use cell_value::Value;
 use eval_cells::write_cells;
@@ -81,7 +81,7 @@ pub fn put(
     ensures turns { Turns program.now
         (configuration (from_under program.now body.old (Now.Came (Way.Address addr)) (Task.Put target of line))
         (moment_of machine.old)) result body.new (moment_of machine.new) }
-    ensures falls { Falls result (left_of body.new machine.new)
+    ensures falls { Falls result (measure_of body.new machine.new)
         (left_with machine.old.steps (come + task_weight (Task.Put target of line) + tasks_weight body.old)) }
     ensures home { body.new.home ≡ body.old.home }
     ensures ready { IsReady machine.new }
@@ -113,7 +113,7 @@ pub fn put_cells(
     ensures turns { Turns program.now
         (configuration (from_under program.now body.old (Now.Came (Way.Address addr)) (Task.PutCells line))
         (moment_of machine.old)) result body.new (moment_of machine.new) }
-    ensures falls { Falls result (left_of body.new machine.new)
+    ensures falls { Falls result (measure_of body.new machine.new)
         (left_with machine.old.steps (come + task_weight (Task.PutCells line) + tasks_weight body.old)) }
     ensures home { body.new.home ≡ body.old.home }
     ensures ready { IsReady machine.new }

@@ -6,10 +6,10 @@ ghost use Rattle.program_tables.specs.ProgramRows.{ProgramRows, row_at};
 ghost use Rattle.program_meaning.specs.Tree.{Count, Exec, Sub, bind};
 ghost use Rattle.program_meaning.specs.Statements as statements;
 ghost use Rattle.eval_machine.specs.Machines.{Gives, IsReady, Moment, moment_of};
-ghost use Rattle.eval_tasks.specs.Rest.{counted, here, waiting, with_numbers};
+ghost use Rattle.eval_tasks.specs.Rest.{after_turn, here, waiting, with_numbers};
 ghost use Rattle.eval_rules.specs.Counting.{turns_row};
 ghost use Rattle.eval_tasks.specs.Turns.{Turns, configuration};
-ghost use Rattle.eval_tasks.specs.Weight.{Falls, body_weight, come, left_of, left_with, tasks_weight};
+ghost use Rattle.eval_tasks.specs.Weight.{Falls, body_weight, come, measure_of, left_with, tasks_weight};
 
 use cell_value::Value;
 use eval_cells::moved;
@@ -46,7 +46,7 @@ pub(crate) fn first_turn(
     ensures turns { Turns program.now (configuration (bind
         (statements.first_turn program.now (here body.old.home line) turns (row_at program.now turns) first last)
         (waiting program.now body.old)) (moment_of machine.old)) result body.new (moment_of machine.new) }
-    ensures falls { Falls result (left_of body.new machine.new)
+    ensures falls { Falls result (measure_of body.new machine.new)
         (left_with machine.old.steps (come + 1 + tasks_weight body.old)) }
     ensures home { body.new.home ≡ body.old.home }
     ensures ready { IsReady machine.new }
@@ -75,7 +75,7 @@ fn begin_turns(
     ensures turns { Turns program.now (configuration (bind (statements.first_turn program.now (here body.old.home line)
         turns (turns_row counting) (CellValue.Number span.value) (CellValue.Number span.last))
         (waiting program.now body.old)) (moment_of machine.old)) result body.new (moment_of machine.new) }
-    ensures falls { Falls result (left_of body.new machine.new)
+    ensures falls { Falls result (measure_of body.new machine.new)
         (left_with machine.old.steps (come + 1 + tasks_weight body.old)) }
     ensures home { body.new.home ≡ body.old.home }
     ensures ready { IsReady machine.new }
@@ -95,7 +95,7 @@ fn undefine(body: &mut Body, alloc: Global, machine: &mut Machine, place: u32, l
     ensures turns { (p : ProgramRows) → Turns p
         (configuration (bind (statements.undefine (here body.old.home line) place) (waiting p body.old))
         (moment_of machine.old)) result body.new (moment_of machine.new) }
-    ensures falls { Falls result (left_of body.new machine.new)
+    ensures falls { Falls result (measure_of body.new machine.new)
         (left_with machine.old.steps (come + 1 + tasks_weight body.old)) }
     ensures home { body.new.home ≡ body.old.home }
     ensures ready { IsReady machine.new }
@@ -124,7 +124,7 @@ fn count(
     ensures turns { (p : ProgramRows) → row_at p row ≡ turns_row counting → Turns p
         (configuration (Sub (Count row span.value span.last (here body.old.home line)) (waiting p body.old))
         (moment_of machine.old)) result body.new (moment_of machine.new) }
-    ensures falls { Falls result (left_of body.new machine.new)
+    ensures falls { Falls result (measure_of body.new machine.new)
         (left_with machine.old.steps (come + tasks_weight body.old)) }
     ensures home { body.new.home ≡ body.old.home }
     ensures ready { IsReady machine.new }
@@ -140,7 +140,7 @@ fn count(
 fn do_body(body: &mut Body, row: u32, line: u32, inner: u32, span: Span) -> Turned
     ensures turns { (p : ProgramRows) (m : Moment) → Turns p (configuration
         (Sub (Exec inner (here body.old.home line)) (λ out. bind
-        (statements.on_normal (counted body.old.home row line span.value span.last (row_at p row)) out)
+        (statements.on_normal (after_turn body.old.home row line span.value span.last (row_at p row)) out)
         (waiting p body.old))) m) result body.new m }
     ensures falls { Falls result (body_weight body.new) (come + tasks_weight body.old) }
     ensures home { body.new.home ≡ body.old.home }
@@ -166,9 +166,9 @@ pub(crate) fn turn_ended(
 ) -> Turned
     requires ready { IsReady machine.old }
     ensures turns { Turns program.now (configuration (bind
-        (with_numbers value last (λ i last. counted body.old.home row line i last (row_at program.now row)))
+        (with_numbers value last (λ i last. after_turn body.old.home row line i last (row_at program.now row)))
         (waiting program.now body.old)) (moment_of machine.old)) result body.new (moment_of machine.new) }
-    ensures falls { Falls result (left_of body.new machine.new)
+    ensures falls { Falls result (measure_of body.new machine.new)
         (left_with machine.old.steps (come + 1 + tasks_weight body.old)) }
     ensures home { body.new.home ≡ body.old.home }
     ensures ready { IsReady machine.new }
@@ -191,9 +191,9 @@ fn next_turn(
 ) -> Turned
     requires ready { IsReady machine.old }
     ensures turns { (p : ProgramRows) → row_at p row ≡ turns_row counting → Turns p
-        (configuration (bind (counted body.old.home row line span.value span.last (turns_row counting))
+        (configuration (bind (after_turn body.old.home row line span.value span.last (turns_row counting))
         (waiting p body.old)) (moment_of machine.old)) result body.new (moment_of machine.new) }
-    ensures falls { Falls result (left_of body.new machine.new)
+    ensures falls { Falls result (measure_of body.new machine.new)
         (left_with machine.old.steps (come + 1 + tasks_weight body.old)) }
     ensures home { body.new.home ≡ body.old.home }
     ensures ready { IsReady machine.new }

@@ -9,7 +9,7 @@ ghost use Rattle.eval_machine.specs.Machines.{IsReady, moment_of};
 ghost use Rattle.eval_statements.specs.Families.{of_heap};
 ghost use Rattle.eval_tasks.specs.Rest.{from_under, here, waiting};
 ghost use Rattle.eval_tasks.specs.Turns.{Turns, configuration};
-ghost use Rattle.eval_tasks.specs.Weight.{Falls, come, left_of, left_with, task_weight, tasks_weight};
+ghost use Rattle.eval_tasks.specs.Weight.{Falls, come, measure_of, left_with, task_weight, tasks_weight};
 
 use cell_value::Value;
 use eval_heap::{dispose, make_variable};
@@ -30,7 +30,7 @@ pub(crate) fn heap_statement(
     requires ready { IsReady machine.old }
     ensures turns { (row : ℕ) → Turns program.now (configuration (bind (of_heap program.now body.old.home row statement)
         (waiting program.now body.old)) (moment_of machine.old)) result body.new (moment_of machine.new) }
-    ensures falls { Falls result (left_of body.new machine.new)
+    ensures falls { Falls result (measure_of body.new machine.new)
         (left_with machine.old.steps (come + 10 + tasks_weight body.old)) }
     ensures home { body.new.home ≡ body.old.home }
     ensures ready { IsReady machine.new }
@@ -62,7 +62,7 @@ fn make(
         (action.made_variable (size_of program.now of) of)
         (point (here body.old.home line) access)) (waiting program.now body.old)) (moment_of machine.old)) result
         body.new (moment_of machine.new) }
-    ensures falls { Falls result (left_of body.new machine.new)
+    ensures falls { Falls result (measure_of body.new machine.new)
         (left_with machine.old.steps (come + tasks_weight body.old)) }
     ensures home { body.new.home ≡ body.old.home }
     ensures ready { IsReady machine.new }
@@ -94,7 +94,7 @@ pub fn put_pointer(
     ensures turns { Turns program.now
         (configuration (from_under program.now body.old (Now.Came (Way.Address addr)) (Task.Point line))
         (moment_of machine.old)) result body.new (moment_of machine.new) }
-    ensures falls { Falls result (left_of body.new machine.new)
+    ensures falls { Falls result (measure_of body.new machine.new)
         (left_with machine.old.steps (come + task_weight (Task.Point line) + tasks_weight body.old)) }
     ensures home { body.new.home ≡ body.old.home }
     ensures ready { IsReady machine.new }
@@ -118,7 +118,7 @@ pub fn dispose_of(
     ensures turns { Turns program.now
         (configuration (from_under program.now body.old (Now.Came (Way.Scalar value)) (Task.Dispose of line))
         (moment_of machine.old)) result body.new (moment_of machine.new) }
-    ensures falls { Falls result (left_of body.new machine.new)
+    ensures falls { Falls result (measure_of body.new machine.new)
         (left_with machine.old.steps (come + task_weight (Task.Dispose of line) + tasks_weight body.old)) }
     ensures home { body.new.home ≡ body.old.home }
     ensures ready { IsReady machine.new }

@@ -10,7 +10,7 @@ ghost use Rattle.eval_machine.specs.Machines.{IsReady, Moment, moment_of};
 ghost use Rattle.eval_statements.specs.Families.{of_conditional, of_procedure, of_repetitive};
 ghost use Rattle.eval_tasks.specs.Rest.{carry_with, from, from_under, here, waiting};
 ghost use Rattle.eval_tasks.specs.Turns.{Turns, configuration};
-ghost use Rattle.eval_tasks.specs.Weight.{Falls, body_weight, come, left_of, left_with, now_weight, operand_most};
+ghost use Rattle.eval_tasks.specs.Weight.{Falls, body_weight, come, measure_of, left_with, now_weight, operand_most};
 ghost use Rattle.eval_tasks.specs.Weight.{part_weight, task_weight, tasks_weight};
 
 use crate::heap::heap_statement;
@@ -31,7 +31,7 @@ fn step(body: &mut Body, machine: &mut Machine, line: u32, now: Now) -> Turned
     requires ready { IsReady machine.old }
     ensures turns { (p : ProgramRows) → Turns p (configuration (Do line (Spend 1) (λ _. from p body.old now))
         (moment_of machine.old)) result body.new (moment_of machine.new) }
-    ensures falls { Falls result (left_with 1 (left_of body.new machine.new))
+    ensures falls { Falls result (left_with 1 (measure_of body.new machine.new))
         (left_with machine.old.steps (now_weight now + tasks_weight body.old + 1)) }
     ensures home { body.new.home ≡ body.old.home }
     ensures ready { IsReady machine.new }
@@ -47,7 +47,7 @@ fn tell(body: &mut Body, machine: &mut Machine, line: u32, row: u32) -> Turned
     requires ready { IsReady machine.old }
     ensures turns { (p : ProgramRows) → Turns p (configuration (Line line (from p body.old (Now.Carry row)))
         (moment_of machine.old)) result body.new (moment_of machine.new) }
-    ensures falls { Falls result (left_of body.new machine.new) 0 }
+    ensures falls { Falls result (measure_of body.new machine.new) 0 }
     ensures home { body.new.home ≡ body.old.home }
     ensures ready { IsReady machine.new }
 {
@@ -71,7 +71,7 @@ pub fn execute(
     requires ready { IsReady machine.old }
     ensures turns { Turns program.now (configuration (from program.now body.old (Now.Begin (Part.Exec row line)))
         (moment_of machine.old)) result body.new (moment_of machine.new) }
-    ensures falls { Falls result (left_of body.new machine.new)
+    ensures falls { Falls result (measure_of body.new machine.new)
         (left_with machine.old.steps (now_weight (Now.Begin (Part.Exec row line)) + tasks_weight body.old)) }
     ensures home { body.new.home ≡ body.old.home }
     ensures ready { IsReady machine.new }
@@ -94,7 +94,7 @@ fn begin_statement(
     ensures turns { (p : ProgramRows) → row_at p row ≡ Row.Statement statement
         → Turns p (configuration (bind (statements.statement p row (here body.old.home line) statement)
         (waiting p body.old)) (moment_of machine.old)) result body.new (moment_of machine.new) }
-    ensures falls { Falls result (left_of body.new machine.new)
+    ensures falls { Falls result (measure_of body.new machine.new)
         (left_with machine.old.steps (part_weight (Part.Exec row line) + tasks_weight body.old)) }
     ensures home { body.new.home ≡ body.old.home }
     ensures ready { IsReady machine.new }
@@ -140,7 +140,7 @@ pub fn carry(
     requires ready { IsReady machine.old }
     ensures turns { Turns program.now (configuration (from program.now body.old (Now.Carry row))
         (moment_of machine.old)) result body.new (moment_of machine.new) }
-    ensures falls { Falls result (left_of body.new machine.new)
+    ensures falls { Falls result (measure_of body.new machine.new)
         (left_with machine.old.steps (now_weight (Now.Carry row) + tasks_weight body.old)) }
     ensures home { body.new.home ≡ body.old.home }
     ensures ready { IsReady machine.new }
@@ -164,7 +164,7 @@ fn carry_on(
     ensures turns { Turns program.now (configuration (bind
         (carry_with program.now body.old.home row statement (statements.line_of statement))
         (waiting program.now body.old)) (moment_of machine.old)) result body.new (moment_of machine.new) }
-    ensures falls { Falls result (left_of body.new machine.new)
+    ensures falls { Falls result (measure_of body.new machine.new)
         (left_with machine.old.steps (now_weight (Now.Carry row) + tasks_weight body.old)) }
     ensures home { body.new.home ≡ body.old.home }
     ensures ready { IsReady machine.new }
@@ -214,7 +214,7 @@ fn jump(body: &mut Body, machine: &mut Machine, label: u32, levels: u32, line: u
         (doing line (frame_out levels body.old.home.base) (λ base.
         Ret (Jump label base))) (waiting p body.old)) (moment_of machine.old)) result body.new
         (moment_of machine.new) }
-    ensures falls { Falls result (left_of body.new machine.new)
+    ensures falls { Falls result (measure_of body.new machine.new)
         (left_with machine.old.steps (come + 1 + tasks_weight body.old)) }
     ensures home { body.new.home ≡ body.old.home }
     ensures ready { IsReady machine.new }

@@ -17,7 +17,7 @@ use Rattle.eval_machine.specs.declared.halt.Halt.TheVariants.{Fault, OutOfSteps,
 use Rattle.eval_machine.specs.Machines.{Moment, ActionStopped, DoesAct, DoesAll, Gives}
 use Rattle.eval_machine.proofs.ActionsCompose.{does_act}
 use Rattle.eval_tasks.specs.Stops.{AtCall, AtEnd, Comes, NextStopIs}
-use Rattle.eval_tasks.specs.Rest.{below, lists_of, resume, tasks_of, top_list, values_of}
+use Rattle.eval_tasks.specs.Rest.{below_top, lists_of, resume, tasks_of, top_list, values_of}
 use Rattle.cell_value.specs.declared.values.Value.{Value}
 use Rattle.program_tables.specs.declared.program.Routine.{Routine}
 use Rattle.program_meaning.specs.Acts.{limit_passed}
@@ -136,7 +136,7 @@ pub call_pauses : {p : ProgramRows} {m : Moment} {K : Out → Tree} {args : List
     → limit_passed m.state cells ≡ None → lists_of a ≡ args ∷ ls → K ≡ resume p a.home (tasks_of a) (values_of a) ls
     → NextStopIs p (Enter f cells args K) m (pause_of p a (pauses.Enter f)) m
 call_pauses {p = p} {m = m} {K = K} {args = args} {ls = ls} f cells a h l w =
-    subst (λ l. NextStopIs p (Enter f cells args K) m (AtCall f (top_list l) (resume p a.home (tasks_of a) (values_of a) (below l))) m) (sym l)
+    subst (λ l. NextStopIs p (Enter f cells args K) m (AtCall f (top_list l) (resume p a.home (tasks_of a) (values_of a) (below_top l))) m) (sym l)
     (subst (λ k. NextStopIs p (Enter f cells args K) m (AtCall f args k) m) w (call_here f cells args K m h))
 
 -- a call was reached, with room for it

@@ -13,7 +13,7 @@ use Rattle.program_meaning.specs.Actions.{Action, Give, ◌>>=◌}
 use Rattle.program_meaning.specs.Tree.{Out, Nothing, Scalar, Cells, Address, Jump, Here}
 use Rattle.program_meaning.specs.Tree.{Tree, Ret, Sub, Enter, doing, bind}
 use Rattle.program_meaning.specs.Tree as parts
-use Rattle.program_meaning.specs.Values.{truth, is_true, signed, function_of, members_added, texts_compared}
+use Rattle.program_meaning.specs.Values.{truth, is_true, with_sign_of, function_of, members_added, texts_compared}
 use Rattle.program_meaning.specs.Variants.{assign_to, tag_accessed}
 use Rattle.program_meaning.specs.Cells.{write, writes, component, frame_out, routine_out}
 use Rattle.program_meaning.specs.Heap.{pointed_at, dispose}
@@ -32,7 +32,7 @@ use Rattle.program_meaning.specs.Accesses.{
   locate_field,
   value_at,
 }
-use Rattle.program_meaning.specs.Expressions.{result_of, with_frame_size, enter, on_actual, gather}
+use Rattle.program_meaning.specs.Expressions.{operation_result, with_frame_size, enter, on_actual, gather}
 use Rattle.program_meaning.specs.Statements.{
   on_normal,
   on_statement,
@@ -87,24 +87,24 @@ abbrev pub top_list : List (List Value) → List Value
 top_list [] = []
 top_list (l ∷ ls) = l
 
-abbrev pub below : {A : Type 0} → List A → List A
-below [] = []
-below (x ∷ xs) = xs
+abbrev pub below_top : {A : Type 0} → List A → List A
+below_top [] = []
+below_top (x ∷ xs) = xs
 
 -- ---- what each task does with what came, where `x` is the value that waited
 
-abbrev pub operand : ProgramRows → Home → Operand → (x : Value) → Value → Tree
-operand p home (operands.Sign minus line) x v = result_of (here home line) (signed minus v)
-operand p home operands.Not x v = scalar (truth (not (is_true v)))
-operand p home (operands.Right dyadic right line) x v =
-    eval right (here home line) (λ y. result_of (here home line) (dyadic_of dyadic v y))
-operand p home (operands.Both dyadic line) x v = result_of (here home line) (dyadic_of dyadic x v)
-operand p home (operands.Member next line) x v = gather (here home line) next (members_added x v v)
-operand p home (operands.First last next line) x v =
+abbrev pub after_operand : ProgramRows → Home → Operand → (x : Value) → Value → Tree
+after_operand p home (operands.Sign minus line) x v = operation_result (here home line) (with_sign_of minus v)
+after_operand p home operands.Not x v = scalar (truth (not (is_true v)))
+after_operand p home (operands.Right dyadic right line) x v =
+    eval right (here home line) (λ y. operation_result (here home line) (dyadic_of dyadic v y))
+after_operand p home (operands.Both dyadic line) x v = operation_result (here home line) (dyadic_of dyadic x v)
+after_operand p home (operands.Member next line) x v = gather (here home line) next (members_added x v v)
+after_operand p home (operands.First last next line) x v =
     eval last (here home line) (λ w. gather (here home line) next (members_added x v w))
-operand p home (operands.Function f least greatest line) x v =
-    result_of (here home line) (function_of f least greatest v)
-operand p home (operands.Component array addr line) x v = with_components p (type_at p array) (λ a.
+after_operand p home (operands.Function f least greatest line) x v =
+    operation_result (here home line) (function_of f least greatest v)
+after_operand p home (operands.Component array addr line) x v = with_components p (type_at p array) (λ a.
     doing line (component a addr v) address)
 
 -- the actual parameters from an item on
@@ -134,23 +134,23 @@ turn home row line = Sub (parts.Turn row (here home line)) Ret
 abbrev pub until : Home → (row line : ℕ) → Value → Tree
 until home row line v = if is_true v then nothing else turn home row line
 
-abbrev pub choice : ProgramRows → Home → Choice → (x : Value) → Value → Tree
-choice p home (choices.If then' line) x v = if is_true v then exec home then' line else nothing
-choice p home (choices.IfElse then' otherwise line) x v =
+abbrev pub after_choice : ProgramRows → Home → Choice → (x : Value) → Value → Tree
+after_choice p home (choices.If then' line) x v = if is_true v then exec home then' line else nothing
+after_choice p home (choices.IfElse then' otherwise line) x v =
     if is_true v then exec home then' line else exec home otherwise line
-choice p home (choices.Case list line) x v = chosen_by p (here home line) list v
-choice p home (choices.While row body line) x v =
+after_choice p home (choices.Case list line) x v = chosen_by p (here home line) list v
+after_choice p home (choices.While row body line) x v =
     if is_true v then Sub (parts.Exec body (here home line)) (on_normal (turn home row line)) else nothing
-choice p home (choices.Until row line) x v = until home row line v
-choice p home (choices.First last turns line) x v =
+after_choice p home (choices.Until row line) x v = until home row line v
+after_choice p home (choices.First last turns line) x v =
     eval last (here home line) (λ j. first_turn p (here home line) turns (row_at p turns) v j)
-choice p home (choices.Last turns line) x v = first_turn p (here home line) turns (row_at p turns) x v
+after_choice p home (choices.Last turns line) x v = first_turn p (here home line) turns (row_at p turns) x v
 
 -- after the turn of a for statement with a value up to which it had come
-abbrev pub counted : Home → (row line : ℕ) → (i last : ℤ) → Row → Tree
-counted home row line i last (rows.Statement (statements.Turns direction last' place of' body)) =
+abbrev pub after_turn : Home → (row line : ℕ) → (i last : ℤ) → Row → Tree
+after_turn home row line i last (rows.Statement (statements.Turns direction last' place of' body)) =
     if has_turn direction i last then turn_after row (here home line) direction place i last else no_row
-counted home row line i last r = no_row
+after_turn home row line i last r = no_row
 
 -- goes on with the two numbers that waited
 abbrev pub with_numbers : (i last : Value) → (ℤ → ℤ → Tree) → Tree
@@ -158,22 +158,22 @@ with_numbers (value.Number i) (value.Number last) go = go i last
 with_numbers i last go = no_row
 
 -- after a statement that ended normally
-abbrev pub next : ProgramRows → Home → Next → List Value → Tree
-next p home (nexts.Sequence first at line) vs = Sub (parts.Sequence first at (here home line)) Ret
-next p home (nexts.Labelled row label line) vs = nothing
-next p home (nexts.Again row line) vs = turn home row line
-next p home (nexts.Condition row condition line) vs = eval condition (here home line) (until home row line)
-next p home (nexts.Counted row line) vs = with_numbers (top (below vs)) (top vs) (λ i last.
-    counted home row line i last (row_at p row))
-next p home nexts.Forget vs = nothing
-next p home (nexts.PassLine line) vs = Sub (parts.RestOfLine (here home line)) Ret
-next p home (nexts.EndLine line) vs = finally (here home line) end_line
+abbrev pub after_next : ProgramRows → Home → Next → List Value → Tree
+after_next p home (nexts.Sequence first at line) vs = Sub (parts.Sequence first at (here home line)) Ret
+after_next p home (nexts.Labelled row label line) vs = nothing
+after_next p home (nexts.Again row line) vs = turn home row line
+after_next p home (nexts.Condition row condition line) vs = eval condition (here home line) (until home row line)
+after_next p home (nexts.Counted row line) vs = with_numbers (top (below_top vs)) (top vs) (λ i last.
+    after_turn home row line i last (row_at p row))
+after_next p home nexts.Forget vs = nothing
+after_next p home (nexts.PassLine line) vs = Sub (parts.RestOfLine (here home line)) Ret
+after_next p home (nexts.EndLine line) vs = finally (here home line) end_line
 
 -- after a statement, which may have ended by a jump
 abbrev pub after_statement : ProgramRows → Home → Next → List Value → Out → Tree
 after_statement p home (nexts.Sequence first at line) vs = on_statement p (here home line) first at
 after_statement p home (nexts.Labelled row label line) vs = on_labelled row label (here home line)
-after_statement p home t vs = on_normal (next p home t vs)
+after_statement p home t vs = on_normal (after_next p home t vs)
 
 -- a value that was read goes into a variable, and then comes the next actual
 abbrev pub stored : ProgramRows → Home → (access of' next line : ℕ) → Value → (addr : ℕ) → Tree
@@ -182,18 +182,18 @@ stored p home access of' next line v addr =
     Sub (parts.Receive next (here home line)) Ret)
 
 -- after a part of an actual of a read or a write statement
-abbrev pub transferred : ProgramRows → Home → Transfer → List Value → List (List Value) → Out → Tree
-transferred p home (transfers.Integer access of' next line) vs ls =
+abbrev pub after_transfer : ProgramRows → Home → Transfer → List Value → List (List Value) → Out → Tree
+after_transfer p home (transfers.Integer access of' next line) vs ls =
     on_scalar (into p (here home line) access of' next)
-transferred p home (transfers.Into access of' next line) vs ls =
+after_transfer p home (transfers.Into access of' next line) vs ls =
     on_address (stored p home access of' next line (top vs))
-transferred p home (transfers.Written of' next line) vs ls = on_text p of' (λ text.
+after_transfer p home (transfers.Written of' next line) vs ls = on_text p of' (λ text.
     print (here home line) next text None)
-transferred p home (transfers.Wide of' width next line) vs ls = on_text p of' (λ text.
+after_transfer p home (transfers.Wide of' width next line) vs ls = on_text p of' (λ text.
     eval width (here home line) (λ w. print (here home line) next text (Some w)))
-transferred p home (transfers.Width of' next line) vs ls = on_scalar (λ w.
+after_transfer p home (transfers.Width of' next line) vs ls = on_scalar (λ w.
     print (here home line) next (scalar_text (host_at p of') (top vs)) (Some w))
-transferred p home (transfers.TextWidth next line) vs ls = on_scalar (λ w.
+after_transfer p home (transfers.TextWidth next line) vs ls = on_scalar (λ w.
     print (here home line) next (string_text (top_list ls)) (Some w))
 
 -- the cells of arrays are moved, once both are located and the index is known
@@ -216,89 +216,91 @@ first_located p home false unpacked index packed line first =
     locate unpacked (here home line) (both_located p home false unpacked index packed first line)
 
 -- what comes after a call
-abbrev pub returned : (procedure : Bool) → Out → Tree
-returned true out = on_normal nothing out
-returned false out = Ret out
+abbrev pub after_call : (procedure : Bool) → Out → Tree
+after_call true out = on_normal nothing out
+after_call false out = Ret out
 
 -- a call, once its actual parameters are known
-abbrev pub called : ProgramRows → Home → (procedure : Bool) → (routine levels line : ℕ) → List Value → Tree
-called p home procedure routine levels line args = with_frame_size (routine_at p routine) (λ cells.
+abbrev pub call_begun : ProgramRows → Home → (procedure : Bool) → (routine levels line : ℕ) → List Value → Tree
+call_begun p home procedure routine levels line args = with_frame_size (routine_at p routine) (λ cells.
     doing line (frame_out levels home.base) (λ frame.
-    Enter routine cells (value.Frame frame ∷ args) (returned procedure)))
+    Enter routine cells (value.Frame frame ∷ args) (after_call procedure)))
 
 -- the call of a routine parameter, once its actual parameters are known
 abbrev pub called_formal : ProgramRows → Home → (procedure : Bool) → (place levels line : ℕ) → List Value → Tree
 called_formal p home procedure place levels line args =
     doing line (routine_out levels home.base place) (λ (routine, frame).
-    enter p routine frame args (returned procedure))
+    enter p routine frame args (after_call procedure))
 
 -- what a task does with how the part before it ended
-abbrev pub after : ProgramRows → Home → Task → List Value → List (List Value) → Out → Tree
-after p home (tasks.Operand t) vs ls = on_scalar (operand p home t (top vs))
-after p home (tasks.Located t) vs ls = on_address (located p home t (top_list ls))
-after p home (tasks.Actual of' next line) vs ls = on_actual p (here home line) (type_at p of') (λ ws.
+abbrev pub after_part : ProgramRows → Home → Task → List Value → List (List Value) → Out → Tree
+after_part p home (tasks.Operand t) vs ls = on_scalar (after_operand p home t (top vs))
+after_part p home (tasks.Located t) vs ls = on_address (located p home t (top_list ls))
+after_part p home (tasks.Actual of' next line) vs ls = on_actual p (here home line) (type_at p of') (λ ws.
     pass home next line (top_list ls ++ ws))
-after p home (tasks.Call procedure routine levels line) vs ls = on_cells (called p home procedure routine levels line)
-after p home (tasks.CallFormal procedure place levels line) vs ls =
+after_part p home (tasks.Call procedure routine levels line) vs ls =
+    on_cells (call_begun p home procedure routine levels line)
+after_part p home (tasks.CallFormal procedure place levels line) vs ls =
     on_cells (called_formal p home procedure place levels line)
-after p home (tasks.Range next line) vs ls = on_scalar (λ w.
-    gather (here home line) next (members_added (top (below vs)) (top vs) w))
-after p home (tasks.TextRight order right line) vs ls = on_cells (λ xs.
-    eval_cells right (here home line) (λ ys. result_of (here home line) (texts_compared order xs ys)))
-after p home (tasks.Texts order line) vs ls = on_cells (λ ys.
-    result_of (here home line) (texts_compared order (top_list ls) ys))
-after p home (tasks.Choice t) vs ls = on_scalar (choice p home t (top vs))
-after p home (tasks.Target target of' line) vs ls = on_value p (here home line) target of'
-after p home (tasks.Put target of' line) vs ls = on_address (λ addr.
+after_part p home (tasks.Range next line) vs ls = on_scalar (λ w.
+    gather (here home line) next (members_added (top (below_top vs)) (top vs) w))
+after_part p home (tasks.TextRight order right line) vs ls = on_cells (λ xs.
+    eval_cells right (here home line) (λ ys. operation_result (here home line) (texts_compared order xs ys)))
+after_part p home (tasks.Texts order line) vs ls = on_cells (λ ys.
+    operation_result (here home line) (texts_compared order (top_list ls) ys))
+after_part p home (tasks.Choice t) vs ls = on_scalar (after_choice p home t (top vs))
+after_part p home (tasks.Target target of' line) vs ls = on_value p (here home line) target of'
+after_part p home (tasks.Put target of' line) vs ls = on_address (λ addr.
     finally (here home line) (assign_to p (tag_accessed p (row_at p target)) (type_at p of') addr (top vs)))
-after p home (tasks.PutCells line) vs ls = on_address (λ addr. finally (here home line) (writes addr (top_list ls)))
-after p home (tasks.Record next body line) vs ls = on_address (λ addr.
+after_part p home (tasks.PutCells line) vs ls = on_address (λ addr.
+    finally (here home line) (writes addr (top_list ls)))
+after_part p home (tasks.Record next body line) vs ls = on_address (λ addr.
     Sub (parts.Establish next body (inside (here home line) addr)) Ret)
-after p home (tasks.Point line) vs ls = on_address (λ addr. finally (here home line) (write addr (top vs)))
-after p home (tasks.Dispose of' line) vs ls = on_scalar (λ v. finally (here home line) (dispose (size_of p of') v))
-after p home (tasks.Next t) vs ls = after_statement p home t vs
-after p home tasks.Leave vs ls = Ret
-after p home (tasks.Transfer t) vs ls = transferred p home t vs ls
-after p home (tasks.PackFirst packing unpacked index packed line) vs ls =
+after_part p home (tasks.Point line) vs ls = on_address (λ addr. finally (here home line) (write addr (top vs)))
+after_part p home (tasks.Dispose of' line) vs ls = on_scalar (λ v. finally (here home line) (dispose (size_of p of') v))
+after_part p home (tasks.Next t) vs ls = after_statement p home t vs
+after_part p home tasks.Leave vs ls = Ret
+after_part p home (tasks.Transfer t) vs ls = after_transfer p home t vs ls
+after_part p home (tasks.PackFirst packing unpacked index packed line) vs ls =
     on_address (first_located p home packing unpacked index packed line)
-after p home (tasks.PackSecond packing unpacked index packed first line) vs ls =
+after_part p home (tasks.PackSecond packing unpacked index packed first line) vs ls =
     on_address (both_located p home packing unpacked index packed first line)
-after p home (tasks.PackIndex packing unpacked packed wide close line) vs ls =
+after_part p home (tasks.PackIndex packing unpacked packed wide close line) vs ls =
     on_scalar (arrays_moved p home packing unpacked packed wide close line)
 
 -- the values that wait below those that a task holds
 abbrev pub values_below : Task → List Value → List Value
-values_below (tasks.Operand (operands.Both dyadic line)) vs = below vs
-values_below (tasks.Operand (operands.Member next line)) vs = below vs
-values_below (tasks.Operand (operands.First last next line)) vs = below vs
-values_below (tasks.Range next line) vs = below (below vs)
-values_below (tasks.Choice (choices.Last turns line)) vs = below vs
-values_below (tasks.Put target of' line) vs = below vs
-values_below (tasks.Point line) vs = below vs
-values_below (tasks.Next (nexts.Counted row line)) vs = below (below vs)
-values_below (tasks.Transfer (transfers.Into access of' next line)) vs = below vs
-values_below (tasks.Transfer (transfers.Width of' next line)) vs = below vs
+values_below (tasks.Operand (operands.Both dyadic line)) vs = below_top vs
+values_below (tasks.Operand (operands.Member next line)) vs = below_top vs
+values_below (tasks.Operand (operands.First last next line)) vs = below_top vs
+values_below (tasks.Range next line) vs = below_top (below_top vs)
+values_below (tasks.Choice (choices.Last turns line)) vs = below_top vs
+values_below (tasks.Put target of' line) vs = below_top vs
+values_below (tasks.Point line) vs = below_top vs
+values_below (tasks.Next (nexts.Counted row line)) vs = below_top (below_top vs)
+values_below (tasks.Transfer (transfers.Into access of' next line)) vs = below_top vs
+values_below (tasks.Transfer (transfers.Width of' next line)) vs = below_top vs
 values_below t vs = vs
 
 -- the lists that wait below the one that a task holds
 abbrev pub lists_below : Task → List (List Value) → List (List Value)
-lists_below (tasks.Located (locateds.Passed next line)) ls = below ls
-lists_below (tasks.Actual of' next line) ls = below ls
-lists_below (tasks.PutCells line) ls = below ls
-lists_below (tasks.Texts order line) ls = below ls
-lists_below (tasks.Transfer (transfers.TextWidth next line)) ls = below ls
+lists_below (tasks.Located (locateds.Passed next line)) ls = below_top ls
+lists_below (tasks.Actual of' next line) ls = below_top ls
+lists_below (tasks.PutCells line) ls = below_top ls
+lists_below (tasks.Texts order line) ls = below_top ls
+lists_below (tasks.Transfer (transfers.TextWidth next line)) ls = below_top ls
 lists_below t ls = ls
 
 -- without the innermost record that a with statement has established, and without any
-abbrev pub left : Home → Home
-left home = record home { records = without_last home.records }
+abbrev pub with_left : Home → Home
+with_left home = record home { records = without_last home.records }
 
 abbrev pub bare : Home → Home
 bare home = record home { records = [] }
 
 -- where what is below a task is at work
 abbrev pub home_below : Task → Home → Home
-home_below tasks.Leave home = left home
+home_below tasks.Leave home = with_left home
 home_below t home = home
 
 -- how the body's routine returns, once its statement part has ended
@@ -310,7 +312,7 @@ returns p home (Some r) = return_of p home.base r r.result
 abbrev pub resume : ProgramRows → Home → List Task → List Value → List (List Value) → Out → Tree
 resume p home [] vs ls out = on_normal (returns p home (routine_at p home.routine)) out
 resume p home (t ∷ ts) vs ls out =
-    bind (after p home t vs ls out) (resume p (home_below t home) ts (values_below t vs) (lists_below t ls))
+    bind (after_part p home t vs ls out) (resume p (home_below t home) ts (values_below t vs) (lists_below t ls))
 
 -- ---- what is at work
 
@@ -327,7 +329,7 @@ carried p home row r = no_row
 abbrev pub came : ProgramRows → Home → Way → List Task → List Value → List (List Value) → Tree
 came p home way.Nothing ts vs ls = resume p home ts vs ls Nothing
 came p home (way.Scalar v) ts vs ls = resume p home ts vs ls (Scalar v)
-came p home way.Cells ts vs ls = resume p home ts vs (below ls) (Cells (top_list ls))
+came p home way.Cells ts vs ls = resume p home ts vs (below_top ls) (Cells (top_list ls))
 came p home (way.Address addr) ts vs ls = resume p home ts vs ls (Address addr)
 came p home (way.Jump label base) ts vs ls = resume p home ts vs ls (Jump label base)
 
@@ -337,9 +339,9 @@ begun p home (part.Eval row line) ts vs ls = Sub (parts.Eval row (here home line
 begun p home (part.Locate row target line) ts vs ls =
     Sub (parts.Locate row target (here home line)) (resume p home ts vs ls)
 begun p home (part.Pass at line) ts vs ls =
-    Sub (parts.Pass at (top_list ls) (here home line)) (resume p home ts vs (below ls))
+    Sub (parts.Pass at (top_list ls) (here home line)) (resume p home ts vs (below_top ls))
 begun p home (part.Gather at line) ts vs ls =
-    Sub (parts.Gather at (top vs) (here home line)) (resume p home ts (below vs) ls)
+    Sub (parts.Gather at (top vs) (here home line)) (resume p home ts (below_top vs) ls)
 begun p home (part.Establish at body line) ts vs ls =
     Sub (parts.Establish at body (here home line)) (resume p home ts vs ls)
 begun p home (part.Exec row line) ts vs ls = Sub (parts.Exec row (here home line)) (resume p home ts vs ls)
@@ -352,10 +354,10 @@ begun p home (part.Scanning scan line) ts vs ls = Sub (parts.Scanning scan (here
 begun p home (part.RestOfLine line) ts vs ls = Sub (parts.RestOfLine (here home line)) (resume p home ts vs ls)
 begun p home (part.Print at line) ts vs ls = Sub (parts.Print at (here home line)) (resume p home ts vs ls)
 
-abbrev pub at_work : ProgramRows → Home → Now → List Task → List Value → List (List Value) → Tree
-at_work p home (Begin part) ts vs ls = begun p home part ts vs ls
-at_work p home (Carry row) ts vs ls = bind (carried p home row (row_at p row)) (resume p home ts vs ls)
-at_work p home (Came way) ts vs ls = came p home way ts vs ls
+abbrev pub left_now : ProgramRows → Home → Now → List Task → List Value → List (List Value) → Tree
+left_now p home (Begin part) ts vs ls = begun p home part ts vs ls
+left_now p home (Carry row) ts vs ls = bind (carried p home row (row_at p row)) (resume p home ts vs ls)
+left_now p home (Came way) ts vs ls = came p home way ts vs ls
 
 -- ---- bodies
 
@@ -371,7 +373,7 @@ lists_of a = reverse a.lists.items
 
 -- what a body had to do with another state of work
 abbrev pub from : ProgramRows → Body → Now → Tree
-from p a now = at_work p a.home now (tasks_of a) (values_of a) (lists_of a)
+from p a now = left_now p a.home now (tasks_of a) (values_of a) (lists_of a)
 
 -- what a body has still to do
 abbrev pub rest_of : ProgramRows → Body → Tree
@@ -383,4 +385,4 @@ waiting p a = resume p a.home (tasks_of a) (values_of a) (lists_of a)
 
 -- what a body had to do with another state of work, and one task more that waits
 abbrev pub from_under : ProgramRows → Body → Now → Task → Tree
-from_under p a now t = at_work p a.home now (t ∷ tasks_of a) (values_of a) (lists_of a)
+from_under p a now t = left_now p a.home now (t ∷ tasks_of a) (values_of a) (lists_of a)

@@ -1,19 +1,18 @@
 -- What a turn of a body does.
 use Rattle.std.specs.Prelude.{◌≡◌, Result, Ok, Err, Option, Some, None, ℕ}
-use Rattle.cell_value.specs.declared.values.Value.{Value}
-use Rattle.cell_value.specs.declared.ways_out.WayOut.{WayOut}
 use Rattle.cell_value.specs.declared.ways_out.WayOut.TheVariants as way
 use Rattle.program_tables.specs.ProgramRows.{ProgramRows, routine_at}
 use Rattle.program_tables.specs.declared.program.Routine.{Routine}
 use Rattle.program_meaning.specs.State.{State}
 use Rattle.program_meaning.specs.Acts.{limit_passed}
 use Rattle.program_meaning.specs.Tree.{Out, Nothing, Scalar, Jump, Tree}
-use Rattle.program_meaning.specs.Run.{End, Ended, Halted}
+use Rattle.program_meaning.specs.Run.{Ended, Halted}
+use Rattle.program_meaning.specs.Replay.{end_of}
 use Rattle.eval_machine.specs.Machines.{Moment}
 use Rattle.eval_machine.specs.declared.halt.Halt.{Halt}
 use Rattle.eval_machine.specs.declared.halt.Halt.TheVariants as halts
 use Rattle.eval_tasks.specs.Stops.{Stop, AtLine, AtCall, AtEnd, Comes, NextStopIs}
-use Rattle.eval_tasks.specs.Rest.{below, lists_of, rest_of, resume, tasks_of, top_list, values_of, waiting}
+use Rattle.eval_tasks.specs.Rest.{below_top, lists_of, rest_of, resume, tasks_of, top_list, values_of, waiting}
 use Rattle.eval_tasks.specs.declared.body.Body.{Body}
 use Rattle.eval_tasks.specs.declared.tasks.Now.{Now}
 use Rattle.eval_tasks.specs.declared.tasks.Now.TheVariants.{Came}
@@ -22,13 +21,6 @@ use Rattle.eval_tasks.specs.declared.tasks.Pause.{Pause}
 use Rattle.eval_tasks.specs.declared.tasks.Pause.TheVariants as pauses
 use Rattle.eval_tasks.specs.declared.tasks.Stop as stop
 use Rattle.eval_tasks.specs.declared.tasks.Stop.TheVariants as stops
-
--- how a body ended
-abbrev pub end_of : WayOut → Option Value → End
-end_of way.Returned None = Ended Nothing
-end_of way.Returned (Some v) = Ended (Scalar v)
-end_of (way.Jumped label base) answer = Ended (Jump label base)
-end_of way answer = Halted way
 
 -- the stop of the definitions
 abbrev pub stop_of : ProgramRows → Body → stop.Stop → Stop
@@ -47,7 +39,7 @@ ended_by now = Nothing
 abbrev pub pause_of : ProgramRows → Body → Pause → Stop
 pause_of p a (pauses.Line line) = AtLine line (rest_of p a)
 pause_of p a (pauses.Enter f) =
-    AtCall f (top_list (lists_of a)) (resume p a.home (tasks_of a) (values_of a) (below (lists_of a)))
+    AtCall f (top_list (lists_of a)) (resume p a.home (tasks_of a) (values_of a) (below_top (lists_of a)))
 pause_of p a pauses.Ended = AtEnd (Ended (ended_by a.now))
 
 -- a point of a run, as a configuration of structural operational semantics: what is still to be done, and the moment

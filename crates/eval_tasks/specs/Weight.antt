@@ -68,8 +68,8 @@ body_weight a = now_weight a.now + tasks_weight a
 abbrev pub left_with : (steps weight : ℕ) → ℕ
 left_with steps weight = 1099511627776 * steps + weight
 
-abbrev pub left_of : Body → Machine → ℕ
-left_of a m = left_with m.steps (body_weight a)
+abbrev pub measure_of : Body → Machine → ℕ
+measure_of a m = left_with m.steps (body_weight a)
 
 -- a turn that came to no stop left less
 abbrev pub Falls : Result (Option Pause) Halt → (left before : ℕ) → Type 0

@@ -10,10 +10,11 @@ ghost use Rattle.program_meaning.specs.Accesses.{address, no_row, scalar};
 ghost use Rattle.program_meaning.specs.Statements.{nothing};
 ghost use Rattle.program_meaning.specs.Run.{Ended, whole};
 ghost use Rattle.eval_machine.specs.Machines.{DoesAll, Moment};
-ghost use Rattle.eval_tasks.specs.Rest.{at_work, below, from, from_under, home_below, lists_of, lists_below};
+ghost use Rattle.eval_tasks.specs.Rest.{left_now, below_top, from, from_under, home_below, lists_of, lists_below};
 ghost use Rattle.eval_tasks.specs.Rest.{rest_of, resume};
 ghost use Rattle.eval_tasks.specs.Rest.{tasks_of, top, top_list, values_below, values_of, waiting};
-ghost use Rattle.eval_tasks.specs.Turns.{Turns, configuration, end_of};
+ghost use Rattle.program_meaning.specs.Replay.{end_of};
+ghost use Rattle.eval_tasks.specs.Turns.{Turns, configuration};
 ghost use Rattle.eval_tasks.specs.Weight.{Falls, body_weight, come, left_with, now_weight, task_weight, tasks_weight};
 
 use crate::records::Records;
@@ -97,7 +98,7 @@ impl Body {
     #[inline(always)]
     pub fn hold(&mut self, value: Value, task: Task, now: Now) -> Turned
         ensures turns { (p : ProgramRows) (m : Moment) → Turns p (configuration
-            (at_work p self.old.home now (task ∷ tasks_of self.old)
+            (left_now p self.old.home now (task ∷ tasks_of self.old)
             (value ∷ values_of self.old) (lists_of self.old)) m) result self.new m }
         ensures home { self.new.home ≡ self.old.home }
         ensures falls { Falls result (body_weight self.new)
@@ -228,8 +229,8 @@ impl Body {
     pub fn take_value(&mut self) -> Value
         ensures result { result ≡ top (values_of self.old) }
         ensures waits { (p : ProgramRows) → waiting p self.new ≡ resume p self.old.home (tasks_of self.old)
-            (below (values_of self.old)) (lists_of self.old) }
-        ensures values { values_of self.new ≡ below (values_of self.old) }
+            (below_top (values_of self.old)) (lists_of self.old) }
+        ensures values { values_of self.new ≡ below_top (values_of self.old) }
         ensures home { self.new.home ≡ self.old.home }
         ensures tasks { self.new.tasks.items ≡ self.old.tasks.items }
         ensures lists { self.new.lists.items ≡ self.old.lists.items }
@@ -244,8 +245,8 @@ impl Body {
     pub fn take_list(&mut self, alloc: Global) -> Cells
         ensures result { result ≡ top_list (lists_of self.old) }
         ensures waits { (p : ProgramRows) → waiting p self.new ≡ resume p self.old.home (tasks_of self.old)
-            (values_of self.old) (below (lists_of self.old)) }
-        ensures lists { lists_of self.new ≡ below (lists_of self.old) }
+            (values_of self.old) (below_top (lists_of self.old)) }
+        ensures lists { lists_of self.new ≡ below_top (lists_of self.old) }
         ensures home { self.new.home ≡ self.old.home }
         ensures tasks { self.new.tasks.items ≡ self.old.tasks.items }
         ensures values { self.new.values.items ≡ self.old.values.items }
@@ -292,7 +293,7 @@ impl Body {
 
     /// Lets go of the last value that waits.
     fn drop_value(&mut self)
-        ensures values { values_of self.new ≡ below (values_of self.old) }
+        ensures values { values_of self.new ≡ below_top (values_of self.old) }
         ensures lists { self.new.lists.items ≡ self.old.lists.items }
         ensures tasks { self.new.tasks.items ≡ self.old.tasks.items }
         ensures home { self.new.home ≡ self.old.home }
@@ -303,7 +304,7 @@ impl Body {
     /// Lets go of the last list that waits.
     pub fn drop_list(&mut self, alloc: Global)
         ensures values { self.new.values.items ≡ self.old.values.items }
-        ensures lists { lists_of self.new ≡ below (lists_of self.old) }
+        ensures lists { lists_of self.new ≡ below_top (lists_of self.old) }
         ensures tasks { self.new.tasks.items ≡ self.old.tasks.items }
         ensures home { self.new.home ≡ self.old.home }
     {

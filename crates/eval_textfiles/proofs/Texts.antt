@@ -4,7 +4,7 @@ use Rattle.std.proofs.Common.{slice_get, if◌then◌else◌, refl, sym, ap, sub
 use Rattle.std.proofs.lemmas.List.{length-map, take-map}
 use Rattle.program_meaning.specs.Actions.{Action, ◌>>=◌, performs}
 use Rattle.program_meaning.specs.Input.{space}
-use Rattle.program_meaning.specs.Output.{give, gives, spaces, kept, in_width}
+use Rattle.program_meaning.specs.Output.{give_byte, gives, spaces, kept, in_width}
 use Rattle.eval_machine.specs.declared.halt.Halt.{Halt}
 use Rattle.eval_machine.specs.Machines.{Moment, ActionFinished, DoesAll}
 use Rattle.eval_textfiles.specs.Output.{give_one, text_by}
@@ -16,7 +16,7 @@ give_first (Some byte) cs = refl
 give_first None cs = refl
 
 pub at_space : {first : Action (Unit {0})} {m0 m : Moment} (n i : ℕ) → i < n → CameTo first m0 (gives (spaces (n - i))) m
-    → CameTo first m0 (give space >>= λ _. gives (spaces (n - (i + 1)))) m
+    → CameTo first m0 (give_byte space >>= λ _. gives (spaces (n - (i + 1)))) m
 at_space {first = first} {m0 = m0} {m = m} n i h = subst (λ k. CameTo first m0 (gives (spaces k)) m)
     (let e : n - i ≡ suc (n - (i + 1)) = omega (arith, h) in e)
 
@@ -28,7 +28,7 @@ at_char {first = first} {m0 = m0} {m = m} byte cs i c h = subst (λ a. CameTo fi
 
 gives_append : (xs ys : List (Option ℕ)) → gives (xs ++ ys) ≡ (gives xs >>= λ _. gives ys)
 gives_append [] ys = refl
-gives_append (Some byte ∷ xs) ys = ap (λ a. give byte >>= λ _. a) (gives_append xs ys)
+gives_append (Some byte ∷ xs) ys = ap (λ a. give_byte byte >>= λ _. a) (gives_append xs ys)
 gives_append (None ∷ xs) ys = refl
 
 -- a text that is shown to a width by the chars that it has

@@ -187,7 +187,7 @@ fn with_digit(number: u32, item: u16) -> u32
 
 /// The integer that digits make. One beyond maxint is the fault `Overflow`.
 fn whole(minus: bool, number: u32) -> Result<Scanned, Halt>
-    ensures { Gives (λ s. s) (input.whole minus number) result }
+    ensures { Gives (λ s. s) (input.integer_read minus number) result }
 {
     if number > 2_147_483_647 {
         return Err(Halt::Fault(Kind::Overflow));

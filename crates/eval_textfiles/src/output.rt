@@ -43,7 +43,7 @@ impl Char for Value {
 #[inline(always)]
 fn give(machine: &mut Machine, byte: u8) -> Result<(), Halt>
     requires ready { IsReady machine.old }
-    ensures action { DoesAll (λ _. tt) (performs (output.give byte) (machine_state machine.old)) result
+    ensures action { DoesAll (λ _. tt) (performs (output.give_byte byte) (machine_state machine.old)) result
         (moment_of machine.old) (moment_of machine.new) }
     ensures ready { IsReady machine.new }
 {

@@ -8,7 +8,7 @@ ghost use Rattle.program_meaning.specs.Tree.{bind, doing};
 ghost use Rattle.eval_machine.specs.Machines.{IsReady, Moment, moment_of};
 ghost use Rattle.eval_tasks.specs.Rest.{from_under, here, waiting};
 ghost use Rattle.eval_tasks.specs.Turns.{Turns, configuration};
-ghost use Rattle.eval_tasks.specs.Weight.{Falls, body_weight, come, left_of, left_with, tasks_weight};
+ghost use Rattle.eval_tasks.specs.Weight.{Falls, body_weight, come, measure_of, left_with, tasks_weight};
 
 use cell_value::Value;
 use eval_cells::{copy_cells, first_moved};
@@ -128,7 +128,7 @@ pub fn move_arrays(
     ensures turns { Turns program.now (configuration (from_under program.now body.old (Now.Came (Way.Scalar value))
         (Task.PackIndex packing unpacked packed wide close line)) (moment_of machine.old)) result body.new
         (moment_of machine.new) }
-    ensures falls { Falls result (left_of body.new machine.new)
+    ensures falls { Falls result (measure_of body.new machine.new)
         (left_with machine.old.steps (come + 1 + tasks_weight body.old)) }
     ensures home { body.new.home ≡ body.old.home }
     ensures ready { IsReady machine.new }
@@ -161,7 +161,7 @@ fn move_by(
         doing line (arrays.first_moved unpacked small wide value) (λ at. meaning.finally (here body.old.home line)
         (if packing then arrays.copies at close cells else arrays.copies close at cells))))
         (waiting program.now body.old)) (moment_of machine.old)) result body.new (moment_of machine.new) }
-    ensures falls { Falls result (left_of body.new machine.new)
+    ensures falls { Falls result (measure_of body.new machine.new)
         (left_with machine.old.steps (come + 1 + tasks_weight body.old)) }
     ensures home { body.new.home ≡ body.old.home }
     ensures ready { IsReady machine.new }
@@ -193,7 +193,7 @@ fn move_cells(
         (doing line (arrays.first_moved unpacked packed wide value) (λ at. meaning.finally (here body.old.home line)
         (if packing then arrays.copies at close cells else arrays.copies close at cells))) (waiting p body.old))
         (moment_of machine.old)) result body.new (moment_of machine.new) }
-    ensures falls { Falls result (left_of body.new machine.new)
+    ensures falls { Falls result (measure_of body.new machine.new)
         (left_with machine.old.steps (come + 1 + tasks_weight body.old)) }
     ensures home { body.new.home ≡ body.old.home }
     ensures ready { IsReady machine.new }
@@ -219,7 +219,7 @@ fn copy(
     ensures turns { (p : ProgramRows) → Turns p (configuration (bind (meaning.finally (here body.old.home line)
         (if packing then arrays.copies at close cells else arrays.copies close at cells)) (waiting p body.old))
         (moment_of machine.old)) result body.new (moment_of machine.new) }
-    ensures falls { Falls result (left_of body.new machine.new)
+    ensures falls { Falls result (measure_of body.new machine.new)
         (left_with machine.old.steps (come + 1 + tasks_weight body.old)) }
     ensures home { body.new.home ≡ body.old.home }
     ensures ready { IsReady machine.new }

@@ -9,7 +9,7 @@ ghost use Rattle.program_meaning.specs.Tree.{bind, doing};
 ghost use Rattle.eval_machine.specs.Machines.{IsReady, Moment, moment_of};
 ghost use Rattle.eval_tasks.specs.Rest.{from, from_under, here, waiting};
 ghost use Rattle.eval_tasks.specs.Turns.{Turns, configuration};
-ghost use Rattle.eval_tasks.specs.Weight.{Falls, body_weight, come, left_of, left_with, part_weight, tasks_weight};
+ghost use Rattle.eval_tasks.specs.Weight.{Falls, body_weight, come, measure_of, left_with, part_weight, tasks_weight};
 ghost use Rattle.eval_tasks.specs.Weight.{task_weight};
 
 use crate::writing::{go_after, host_of};
@@ -35,7 +35,7 @@ pub fn receive(
     requires ready { IsReady machine.old }
     ensures turns { Turns program.now (configuration (from program.now body.old (Now.Begin (Part.Receive at line)))
         (moment_of machine.old)) result body.new (moment_of machine.new) }
-    ensures falls { Falls result (left_of body.new machine.new)
+    ensures falls { Falls result (measure_of body.new machine.new)
         (left_with machine.old.steps (part_weight (Part.Receive at line) + tasks_weight body.old)) }
     ensures home { body.new.home ≡ body.old.home }
     ensures ready { IsReady machine.new }
@@ -60,7 +60,7 @@ fn receive_actual(
         access next
         (row_at program.now access)) (waiting program.now body.old)) (moment_of machine.old)) result body.new
         (moment_of machine.new) }
-    ensures falls { Falls result (left_of body.new machine.new)
+    ensures falls { Falls result (measure_of body.new machine.new)
         (left_with machine.old.steps (come + 1 + tasks_weight body.old)) }
     ensures home { body.new.home ≡ body.old.home }
     ensures ready { IsReady machine.new }
@@ -95,7 +95,7 @@ fn read_for(
     ensures turns { Turns program.now (configuration (bind (transfers.read_for (here body.old.home line)
         (output.host_at program.now of) (transfers.into program.now (here body.old.home line) access of next))
         (waiting program.now body.old)) (moment_of machine.old)) result body.new (moment_of machine.new) }
-    ensures falls { Falls result (left_of body.new machine.new)
+    ensures falls { Falls result (measure_of body.new machine.new)
         (left_with machine.old.steps (come + 1 + tasks_weight body.old)) }
     ensures home { body.new.home ≡ body.old.home }
     ensures ready { IsReady machine.new }
@@ -131,7 +131,7 @@ fn read_char(
     ensures turns { (p : ProgramRows) → Turns p (configuration (bind (doing line input.next_char
         (transfers.into p (here body.old.home line) access of next)) (waiting p body.old)) (moment_of machine.old))
         result body.new (moment_of machine.new) }
-    ensures falls { Falls result (left_of body.new machine.new)
+    ensures falls { Falls result (measure_of body.new machine.new)
         (left_with machine.old.steps (come + 1 + tasks_weight body.old)) }
     ensures home { body.new.home ≡ body.old.home }
     ensures ready { IsReady machine.new }
@@ -178,7 +178,7 @@ pub fn scan(body: &mut Body, machine: &mut Machine, scan: Scan, line: u32) -> Tu
     requires ready { IsReady machine.old }
     ensures turns { (p : ProgramRows) → Turns p (configuration (from p body.old (Now.Begin (Part.Scanning scan line)))
         (moment_of machine.old)) result body.new (moment_of machine.new) }
-    ensures falls { Falls result (left_of body.new machine.new)
+    ensures falls { Falls result (measure_of body.new machine.new)
         (left_with machine.old.steps (part_weight (Part.Scanning scan line) + tasks_weight body.old)) }
     ensures home { body.new.home ≡ body.old.home }
     ensures ready { IsReady machine.new }
@@ -207,7 +207,7 @@ pub fn pass_line(body: &mut Body, machine: &mut Machine, line: u32) -> Turned
     requires ready { IsReady machine.old }
     ensures turns { (p : ProgramRows) → Turns p (configuration (from p body.old (Now.Begin (Part.RestOfLine line)))
         (moment_of machine.old)) result body.new (moment_of machine.new) }
-    ensures falls { Falls result (left_of body.new machine.new)
+    ensures falls { Falls result (measure_of body.new machine.new)
         (left_with machine.old.steps (part_weight (Part.RestOfLine line) + tasks_weight body.old)) }
     ensures home { body.new.home ≡ body.old.home }
     ensures ready { IsReady machine.new }
@@ -235,7 +235,7 @@ pub fn store_read(
     ensures turns { Turns program.now
         (configuration (from_under program.now body.old (Now.Came (Way.Address addr)) (Task.Transfer transfer))
         (moment_of machine.old)) result body.new (moment_of machine.new) }
-    ensures falls { Falls result (left_of body.new machine.new)
+    ensures falls { Falls result (measure_of body.new machine.new)
         (left_with machine.old.steps (come + task_weight (Task.Transfer transfer) + tasks_weight body.old)) }
     ensures home { body.new.home ≡ body.old.home }
     ensures ready { IsReady machine.new }
@@ -271,7 +271,7 @@ fn store(
     ensures turns { Turns program.now (configuration (from_under program.now body.old (Now.Came (Way.Address addr))
         (Task.Transfer (Transfer.Into access of next line))) (moment_of machine.old)) result body.new
         (moment_of machine.new) }
-    ensures falls { Falls result (left_of body.new machine.new)
+    ensures falls { Falls result (measure_of body.new machine.new)
         (left_with machine.old.steps (come + 2 + tasks_weight body.old)) }
     ensures home { body.new.home ≡ body.old.home }
     ensures ready { IsReady machine.new }

@@ -10,7 +10,7 @@ ghost use Rattle.program_meaning.specs.Tree.{Ret, Sub, bind};
 ghost use Rattle.eval_machine.specs.Machines.{IsReady, Moment, moment_of};
 ghost use Rattle.eval_tasks.specs.Rest.{here, waiting};
 ghost use Rattle.eval_tasks.specs.Turns.{Turns, configuration};
-ghost use Rattle.eval_tasks.specs.Weight.{Falls, body_weight, come, left_of, left_with, tasks_weight};
+ghost use Rattle.eval_tasks.specs.Weight.{Falls, body_weight, come, measure_of, left_with, tasks_weight};
 ghost use Rattle.eval_transfers.specs.Families.{of_transfer};
 
 use eval_machine::Machine;
@@ -24,7 +24,7 @@ pub fn transfer_statement(body: &mut Body, machine: &mut Machine, statement: Sta
     ensures turns { (p : ProgramRows) (row : ℕ) → Turns p
         (configuration (bind (of_transfer p body.old.home row statement) (waiting p body.old)) (moment_of machine.old))
         result body.new (moment_of machine.new) }
-    ensures falls { Falls result (left_of body.new machine.new)
+    ensures falls { Falls result (measure_of body.new machine.new)
         (left_with machine.old.steps (come + 10 + tasks_weight body.old)) }
     ensures home { body.new.home ≡ body.old.home }
     ensures ready { IsReady machine.new }

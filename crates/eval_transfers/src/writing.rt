@@ -7,10 +7,10 @@ ghost use Rattle.program_meaning.specs.Output as output;
 ghost use Rattle.program_meaning.specs.Transfers as transfers;
 ghost use Rattle.program_meaning.specs.Tree.{Tree, bind, doing};
 ghost use Rattle.eval_machine.specs.Machines.{DoesAll, IsReady, Moment, moment_of};
-ghost use Rattle.eval_tasks.specs.Rest.{below, from, from_under, here, lists_of, resume, tasks_of, top_list};
+ghost use Rattle.eval_tasks.specs.Rest.{below_top, from, from_under, here, lists_of, resume, tasks_of, top_list};
 ghost use Rattle.eval_tasks.specs.Rest.{values_of, waiting};
 ghost use Rattle.eval_tasks.specs.Turns.{Turns, configuration};
-ghost use Rattle.eval_tasks.specs.Weight.{Falls, body_weight, come, left_of, left_with, now_weight, part_weight};
+ghost use Rattle.eval_tasks.specs.Weight.{Falls, body_weight, come, measure_of, left_with, now_weight, part_weight};
 ghost use Rattle.eval_tasks.specs.Weight.{task_weight, tasks_weight};
 
 use crate::reading::locate_read;
@@ -122,7 +122,7 @@ fn write(
     ensures turns { Turns program.now (configuration (bind (transfers.print (here body.old.home line) next
         (output.scalar_text (output.host_at program.now of) value) width) (waiting program.now body.old))
         (moment_of machine.old)) result body.new (moment_of machine.new) }
-    ensures falls { Falls result (left_of body.new machine.new)
+    ensures falls { Falls result (measure_of body.new machine.new)
         (left_with machine.old.steps (come + 2 + tasks_weight body.old)) }
     ensures home { body.new.home ≡ body.old.home }
     ensures ready { IsReady machine.new }
@@ -147,7 +147,7 @@ fn write_waiting(
         (configuration (from_under program.now body.old (Now.Came (Way.Scalar width))
         (Task.Transfer (Transfer.Width of next line)))
         (moment_of machine.old)) result body.new (moment_of machine.new) }
-    ensures falls { Falls result (left_of body.new machine.new)
+    ensures falls { Falls result (measure_of body.new machine.new)
         (left_with machine.old.steps (come + 2 + tasks_weight body.old)) }
     ensures home { body.new.home ≡ body.old.home }
     ensures ready { IsReady machine.new }
@@ -168,9 +168,9 @@ fn write_text(
     requires ready { IsReady machine.old }
     ensures turns { (p : ProgramRows) → Turns p (configuration (bind (transfers.print (here body.old.home line) next
         (output.string_text (top_list (lists_of body.old))) width) (resume p body.old.home (tasks_of body.old)
-        (values_of body.old) (below (lists_of body.old)))) (moment_of machine.old)) result body.new
+        (values_of body.old) (below_top (lists_of body.old)))) (moment_of machine.old)) result body.new
         (moment_of machine.new) }
-    ensures falls { Falls result (left_of body.new machine.new)
+    ensures falls { Falls result (measure_of body.new machine.new)
         (left_with machine.old.steps (come + 2 + tasks_weight body.old)) }
     ensures home { body.new.home ≡ body.old.home }
     ensures ready { IsReady machine.new }
@@ -194,7 +194,7 @@ pub fn continue_transfer(
     ensures turns { Turns program.now
         (configuration (from_under program.now body.old (Now.Came (Way.Scalar value)) (Task.Transfer transfer))
         (moment_of machine.old)) result body.new (moment_of machine.new) }
-    ensures falls { Falls result (left_of body.new machine.new)
+    ensures falls { Falls result (measure_of body.new machine.new)
         (left_with machine.old.steps (come + task_weight (Task.Transfer transfer) + tasks_weight body.old)) }
     ensures home { body.new.home ≡ body.old.home }
     ensures ready { IsReady machine.new }
@@ -240,7 +240,7 @@ pub fn continue_with_text(
     ensures turns { (p : ProgramRows) → Turns p
         (configuration (from_under p body.old (Now.Came Way.Cells) (Task.Transfer transfer))
         (moment_of machine.old)) result body.new (moment_of machine.new) }
-    ensures falls { Falls result (left_of body.new machine.new)
+    ensures falls { Falls result (measure_of body.new machine.new)
         (left_with machine.old.steps (come + task_weight (Task.Transfer transfer) + tasks_weight body.old)) }
     ensures home { body.new.home ≡ body.old.home }
     ensures ready { IsReady machine.new }

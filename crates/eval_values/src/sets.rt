@@ -104,7 +104,7 @@ pub fn compare_sets(order: Order, left: Value, right: Value) -> Result<Value, Op
 /// Whether an ordinal is a member of a set, as a value of Boolean. `UndefinedValue` comes exactly where the one is no
 /// number or the other no set.
 pub fn is_in(member: Value, set: Value) -> Result<Value, OpFault>
-    ensures { result ≡ values.is_in member set }
+    ensures { result ≡ values.in_set member set }
 {
     match (member, set) {
         (Value::Number(number), Value::Bits(set)) => Ok(truth(holds(set, number))),

@@ -31,7 +31,7 @@ pub fn is_true(value: Value) -> bool
 
 /// A value with a sign before it.
 pub fn sign(minus: bool, value: Value) -> Result<Value, OpFault>
-    ensures { result ≡ values.signed minus value }
+    ensures { result ≡ values.with_sign_of minus value }
 {
     if minus {
         return negate(value);
@@ -58,7 +58,7 @@ fn ordinals_hold(order: Order, left: i64, right: i64) -> bool
 
 /// A relation of two ordinals, as a value of Boolean.
 pub fn compare_ordinals(order: Order, left: Value, right: Value) -> Result<Value, OpFault>
-    ensures { result ≡ values.compared order left right }
+    ensures { result ≡ values.comparison order left right }
 {
     match (left, right) {
         (Value::Number(i), Value::Number(j)) => Ok(truth(ordinals_hold(order, i, j))),

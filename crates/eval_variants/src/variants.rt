@@ -221,7 +221,7 @@ fn enter(
     variant: (VariantPart, u32),
 ) -> Result<(), Halt>
     requires ready { IsReady machine.old }
-    ensures action { DoesAll (λ _. tt) (performs (action.entered program.now target addr variant.0 variant.1)
+    ensures action { DoesAll (λ _. tt) (performs (action.variant_entered program.now target addr variant.0 variant.1)
         (machine_state machine.old)) result (moment_of machine.old) (moment_of machine.new) }
     ensures ready { IsReady machine.new }
 {

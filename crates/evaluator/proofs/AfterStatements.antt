@@ -5,7 +5,7 @@ use Rattle.program_tables.specs.ProgramRows.{ProgramRows}
 use Rattle.program_meaning.specs.Tree.{Out, Tree, Ret}
 use Rattle.program_meaning.specs.Tree as parts
 use Rattle.program_meaning.specs.Accesses.{no_row}
-use Rattle.eval_tasks.specs.Rest.{after, after_statement, home_below}
+use Rattle.eval_tasks.specs.Rest.{after_part, after_statement, home_below}
 use Rattle.eval_tasks.specs.Records.{SameFrame}
 use Rattle.eval_tasks.specs.Weight.{task_weight}
 use Rattle.eval_tasks.specs.declared.tasks.Home.{Home}
@@ -40,7 +40,7 @@ statement_ended p home (nexts.EndLine line) vs = all_one (λ v. refl) (λ ws. re
 
 -- a jump that a task does not stop goes on outward
 pub other_leaps : (p : ProgramRows) (home : Home) (t : Task) (vs : List Value) (ls : List (List Value)) (label base : ℕ)
-    → ((n : Next) → t ≡ tasks.Next n → ⊥) → after p home t vs ls (parts.Jump label base) ≡ Ret (parts.Jump label base)
+    → ((n : Next) → t ≡ tasks.Next n → ⊥) → after_part p home t vs ls (parts.Jump label base) ≡ Ret (parts.Jump label base)
 other_leaps p home (tasks.Next n) vs ls label base f = absurd (f n refl)
 other_leaps p home (tasks.Transfer (transfers.Integer a b c d)) vs ls label base f = refl
 other_leaps p home (tasks.Transfer (transfers.Into a b c d)) vs ls label base f = refl
@@ -52,7 +52,7 @@ other_leaps p home t vs ls label base f = refl
 
 -- a task that no statement ends has no row
 pub other_nothing : (p : ProgramRows) (home : Home) (t : Task) (vs : List Value) (ls : List (List Value))
-    → ((n : Next) → t ≡ tasks.Next n → ⊥) → (t ≡ tasks.Leave → ⊥) → after p home t vs ls parts.Nothing ≡ no_row
+    → ((n : Next) → t ≡ tasks.Next n → ⊥) → (t ≡ tasks.Leave → ⊥) → after_part p home t vs ls parts.Nothing ≡ no_row
 other_nothing p home (tasks.Next n) vs ls f g = absurd (f n refl)
 other_nothing p home tasks.Leave vs ls f g = absurd (g refl)
 other_nothing p home (tasks.Transfer (transfers.Integer a b c d)) vs ls f g = refl

@@ -8,17 +8,9 @@ ghost use Rattle.eval_machine.specs.Machines.{IsReady, machine_state, moment_of}
 ghost use Rattle.eval_tasks.specs.Records.{SameFrame};
 ghost use Rattle.eval_tasks.specs.Stops.{NextStopIs};
 ghost use Rattle.eval_tasks.specs.Rest.{from, from_under, rest_of};
-ghost use Rattle.eval_tasks.specs.Turns.{
-  configuration,
-  MayGoOn,
-  PausesInRoom,
-  Turns,
-  end_of,
-  ended_by,
-  pause_of,
-  stop_of,
-};
-ghost use Rattle.eval_tasks.specs.Weight.{Falls, come, left_of, left_with, part_weight, task_weight, tasks_weight};
+ghost use Rattle.program_meaning.specs.Replay.{end_of};
+ghost use Rattle.eval_tasks.specs.Turns.{configuration, MayGoOn, PausesInRoom, Turns, ended_by, pause_of, stop_of};
+ghost use Rattle.eval_tasks.specs.Weight.{Falls, come, measure_of, left_with, part_weight, task_weight, tasks_weight};
 
 use crate::jumps::leap;
 use crate::returns::end;
@@ -102,7 +94,7 @@ fn turn(body: &mut Body, alloc: Global, program: &Program, machine: &mut Machine
     requires ready { IsReady machine.old }
     ensures turns { Turns program.now (configuration (rest_of program.now body.old) (moment_of machine.old)) result
         body.new (moment_of machine.new) }
-    ensures falls { Falls result (left_of body.new machine.new) (left_of body.old machine.old) }
+    ensures falls { Falls result (measure_of body.new machine.new) (measure_of body.old machine.old) }
     ensures frame { SameFrame body.new.home body.old.home }
     ensures ready { IsReady machine.new }
 {
@@ -124,7 +116,7 @@ fn begin(
     requires ready { IsReady machine.old }
     ensures turns { Turns program.now (configuration (from program.now body.old (Now.Begin part))
         (moment_of machine.old)) result body.new (moment_of machine.new) }
-    ensures falls { Falls result (left_of body.new machine.new)
+    ensures falls { Falls result (measure_of body.new machine.new)
         (left_with machine.old.steps (part_weight part + tasks_weight body.old)) }
     ensures frame { SameFrame body.new.home body.old.home }
     ensures ready { IsReady machine.new }
@@ -157,7 +149,7 @@ fn block(body: &mut Body, program: &Program, machine: &mut Machine) -> Turned
     requires ready { IsReady machine.old }
     ensures turns { Turns program.now (configuration (from program.now body.old (Now.Begin Part.Block))
         (moment_of machine.old)) result body.new (moment_of machine.new) }
-    ensures falls { Falls result (left_of body.new machine.new)
+    ensures falls { Falls result (measure_of body.new machine.new)
         (left_with machine.old.steps (part_weight Part.Block + tasks_weight body.old)) }
     ensures frame { SameFrame body.new.home body.old.home }
     ensures ready { IsReady machine.new }
@@ -187,7 +179,7 @@ fn came(
     requires ready { IsReady machine.old }
     ensures turns { Turns program.now (configuration (from program.now body.old (Now.Came way)) (moment_of machine.old))
         result body.new (moment_of machine.new) }
-    ensures falls { Falls result (left_of body.new machine.new)
+    ensures falls { Falls result (measure_of body.new machine.new)
         (left_with machine.old.steps (come + tasks_weight body.old)) }
     ensures frame { SameFrame body.new.home body.old.home }
     ensures ready { IsReady machine.new }
@@ -210,7 +202,7 @@ fn work(
     requires ready { IsReady machine.old }
     ensures turns { Turns program.now (configuration (from_under program.now body.old (Now.Came way) task)
         (moment_of machine.old)) result body.new (moment_of machine.new) }
-    ensures falls { Falls result (left_of body.new machine.new)
+    ensures falls { Falls result (measure_of body.new machine.new)
         (left_with machine.old.steps (come + task_weight task + tasks_weight body.old)) }
     ensures frame { SameFrame body.new.home body.old.home }
     ensures ready { IsReady machine.new }
@@ -235,7 +227,7 @@ fn after_nothing(
     requires ready { IsReady machine.old }
     ensures turns { Turns program.now (configuration (from_under program.now body.old (Now.Came Way.Nothing) task)
         (moment_of machine.old)) result body.new (moment_of machine.new) }
-    ensures falls { Falls result (left_of body.new machine.new)
+    ensures falls { Falls result (measure_of body.new machine.new)
         (left_with machine.old.steps (come + task_weight task + tasks_weight body.old)) }
     ensures frame { SameFrame body.new.home body.old.home }
     ensures ready { IsReady machine.new }
@@ -259,7 +251,7 @@ fn after_scalar(
     requires ready { IsReady machine.old }
     ensures turns { Turns program.now (configuration (from_under program.now body.old (Now.Came (Way.Scalar value))
         task) (moment_of machine.old)) result body.new (moment_of machine.new) }
-    ensures falls { Falls result (left_of body.new machine.new)
+    ensures falls { Falls result (measure_of body.new machine.new)
         (left_with machine.old.steps (come + task_weight task + tasks_weight body.old)) }
     ensures frame { SameFrame body.new.home body.old.home }
     ensures ready { IsReady machine.new }
@@ -302,7 +294,7 @@ fn after_address(
     requires ready { IsReady machine.old }
     ensures turns { Turns program.now (configuration (from_under program.now body.old (Now.Came (Way.Address addr))
         task) (moment_of machine.old)) result body.new (moment_of machine.new) }
-    ensures falls { Falls result (left_of body.new machine.new)
+    ensures falls { Falls result (measure_of body.new machine.new)
         (left_with machine.old.steps (come + task_weight task + tasks_weight body.old)) }
     ensures frame { SameFrame body.new.home body.old.home }
     ensures ready { IsReady machine.new }
@@ -352,7 +344,7 @@ fn after_cells(
     requires ready { IsReady machine.old }
     ensures turns { Turns program.now (configuration (from_under program.now body.old (Now.Came Way.Cells) task)
         (moment_of machine.old)) result body.new (moment_of machine.new) }
-    ensures falls { Falls result (left_of body.new machine.new)
+    ensures falls { Falls result (measure_of body.new machine.new)
         (left_with machine.old.steps (come + task_weight task + tasks_weight body.old)) }
     ensures frame { SameFrame body.new.home body.old.home }
     ensures ready { IsReady machine.new }

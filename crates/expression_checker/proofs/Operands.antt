@@ -19,7 +19,7 @@ use Rattle.check_steps.specs.Steps.{Step, give, ◌>>=◌, each}
 use Rattle.check_steps.proofs.Runs.{bind-assoc}
 use Rattle.pas_places.specs.Operators.{adding_token, multiplying_token, relational_token}
 use Rattle.operand_checker.specs.declared.typed.Typed.{Typed}
-use Rattle.expression_checker.specs.Expressions.{expression, factor, factors, next_factor, next_term, related, relation_held, root}
+use Rattle.expression_checker.specs.Expressions.{expression, factor, factors, next_factor, next_term, related, relation_held, root_name}
 use Rattle.expression_checker.specs.Expressions.{selected, selector, simple, term, terms}
 use Rattle.operand_checker.specs.Operations.{adding_operator, multiplying_operator, operated, relational_operator, signed}
 use Rattle.expression_checker.proofs.NamesAlone.{name_items}
@@ -88,10 +88,10 @@ selected_each frame _ (more_of-Selector s rest) p =
 
 -- an access that is a factor
 pub access_factor : (frame : ℕ) (a : Access) → factor frame (made.Access a)
-    ≡ (root frame (nat_eq (length a.selectors.items) 0) a.name >>= λ one. each (selector frame) one a.selectors.items)
+    ≡ (root_name frame (nat_eq (length a.selectors.items) 0) a.name >>= λ one. each (selector frame) one a.selectors.items)
 unfolding roll-Factor roll hidden-the_row-Selector-0
 access_factor frame a =
-    ap (λ b. root frame b a.name >>= λ one. selected frame one (hidden-the_row-Selector-0 a.selectors)) (name_items a)
-    ∙ ap (λ (h : Typed → Step Typed). root frame (nat_eq (length a.selectors.items) 0) a.name >>= h)
+    ap (λ b. root_name frame b a.name >>= λ one. selected frame one (hidden-the_row-Selector-0 a.selectors)) (name_items a)
+    ∙ ap (λ (h : Typed → Step Typed). root_name frame (nat_eq (length a.selectors.items) 0) a.name >>= h)
     (λ i p. (selected_each frame _ (hidden-the_row-Selector-0 a.selectors) p
     ∙ ap (each (selector frame) p) (items_hidden-the_row-Selector-0 a.selectors)) i)

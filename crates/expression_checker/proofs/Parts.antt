@@ -16,11 +16,11 @@ use Rattle.expression_checker.specs.declared.actuals.Passing.{Passing}
 use Rattle.operand_checker.specs.declared.members.Begun.{Begun}
 use Rattle.operand_checker.specs.declared.members.Gathered.{Gathered}
 use Rattle.operand_checker.specs.declared.typed.Typed.{Typed}
-use Rattle.expression_checker.specs.Actuals.{closed}
-use Rattle.expression_checker.specs.Callees.{applied, called}
+use Rattle.expression_checker.specs.Actuals.{actuals_end}
+use Rattle.expression_checker.specs.Callees.{applied, called_function}
 use Rattle.expression_checker.specs.Expressions.{actual, call, expression, index_at, member, more_arguments, more_indexes, more_members}
 use Rattle.expression_checker.specs.Expressions.{next_argument, next_index, next_member, passing_to, range, range_held, some_members}
-use Rattle.operand_checker.specs.Members.{member_range, nothing_gathered, one_member, set_at}
+use Rattle.operand_checker.specs.Members.{member_range, nothing_gathered, one_member, set_constructor}
 use Rattle.operand_checker.specs.Selectors.{indexed}
 
 -- ---- actuals
@@ -31,20 +31,20 @@ arguments_each frame _ end_of-NextExpression p = refl
 arguments_each frame _ (more_of-NextExpression n rest) p =
     ap (λ (h : Passing → Step Passing). next_argument frame p n >>= h) (λ i v. arguments_each frame _ rest v i)
 
-pub call_out : (frame name count : ℕ) (a : Arguments) → call frame name count a ≡ (called frame name count
+pub call_out : (frame name count : ℕ) (a : Arguments) → call frame name count a ≡ (called_function frame name count
     >>= λ c. actual frame (passing_to c name) (out-Arguments a).«open» (out-Arguments a).first
     >>= λ one. each (next_argument frame) one (out-Arguments a).others.items
-    >>= λ end. closed end (out-Arguments a).close
+    >>= λ end. actuals_end end (out-Arguments a).close
     >>= λ last. applied name c.callee last (out-Arguments a).«open»)
 unfolding actual
 call_out frame name count a =
     let o = out-Arguments a in
     ap (call frame name count) (is-Arguments' a)
-    ∙ (λ i. called frame name count
+    ∙ (λ i. called_function frame name count
     >>= λ c. actual frame (passing_to c name) o.«open» o.first
     >>= λ one. (arguments_each frame _ (hidden-the_row-NextExpression-1 o.others) one
     ∙ ap (each (next_argument frame) one) (items_hidden-the_row-NextExpression-1 o.others)) i
-    >>= λ end. closed end o.close
+    >>= λ end. actuals_end end o.close
     >>= λ last. applied name c.callee last o.«open»)
 
 pub next_argument_out : (frame : ℕ) (p : Passing) (n : NextExpression)
@@ -85,14 +85,14 @@ members_each frame _ (more_of-NextMember n rest) g =
 pub some_members_out : (frame : ℕ) (m : SomeMembers) → some_members frame m
     ≡ (member frame (nothing_gathered (out-SomeMembers m).close) (out-SomeMembers m).«open» (out-SomeMembers m).first
     >>= λ one. each (next_member frame) one (out-SomeMembers m).others.items
-    >>= λ all. set_at all (out-SomeMembers m).«open» (out-SomeMembers m).close)
+    >>= λ all. set_constructor all (out-SomeMembers m).«open» (out-SomeMembers m).close)
 some_members_out frame m =
     let o = out-SomeMembers m in
     ap (some_members frame) (is-SomeMembers' m)
     ∙ (λ i. member frame (nothing_gathered o.close) o.«open» o.first
     >>= λ one. (members_each frame _ (hidden-the_row-NextMember-3 o.others) one
     ∙ ap (each (next_member frame) one) (items_hidden-the_row-NextMember-3 o.others)) i
-    >>= λ all. set_at all o.«open» o.close)
+    >>= λ all. set_constructor all o.«open» o.close)
 
 pub next_member_out : (frame : ℕ) (g : Gathered) (n : NextMember)
     → next_member frame g n ≡ member frame g (out-NextMember n).comma (out-NextMember n).member

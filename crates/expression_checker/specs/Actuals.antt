@@ -241,7 +241,7 @@ actual_by frame p slot name first walk = do
   passed p slot a
 
 -- A list of actuals ends at a number.
-unfoldable pub closed : Passing → ℕ → Step Typed
-closed p end = do
+unfoldable pub actuals_end : Passing → ℕ → Step Typed
+actuals_end p end = do
   _ ← link p.last end
   give p.value

@@ -32,7 +32,7 @@ use Rattle.expression_checker.specs.declared.callees.Formals.{Formals}
 use Rattle.expression_checker.specs.declared.callees.Formals.TheVariants as formals
 use Rattle.operand_checker.specs.declared.typed.Typed.{Typed}
 use Rattle.operand_checker.specs.Names.{levels_to}
-use Rattle.operand_checker.specs.Typed.{value_at}
+use Rattle.operand_checker.specs.Typed.{typed_value}
 
 -- ---- what a name stands for as a routine
 
@@ -101,11 +101,11 @@ required_takes required.Eof n = nat_le n 1
 required_takes required.Eoln n = nat_le n 1
 required_takes r n = nat_eq n 1
 
-abbrev pub takes : Known → Callee → ℕ → Bool
-takes k (callee.Routine number levels heading) n = has_formals k (signature_at k heading).sections n
-takes k (callee.Formal place levels heading) n = has_formals k (signature_at k heading).sections n
-takes k (callee.Required r) n = required_takes r n
-takes k c n = true
+abbrev pub takes_count : Known → Callee → ℕ → Bool
+takes_count k (callee.Routine number levels heading) n = has_formals k (signature_at k heading).sections n
+takes_count k (callee.Formal place levels heading) n = has_formals k (signature_at k heading).sections n
+takes_count k (callee.Required r) n = required_takes r n
+takes_count k c n = true
 
 abbrev pub operand_of : Option OrdinalFunction → Formals
 operand_of (Some f) = formals.Operand f
@@ -125,8 +125,8 @@ formals_of k c = formals.Unknown
 -- ---- calls
 
 -- rule 3: the name stands for another kind of thing than a function
-unfoldable pub function_at : ℕ → ℕ → Step Callee
-function_at frame name = do
+unfoldable pub function_named : ℕ → ℕ → Step Callee
+function_named frame name = do
   found ← use_at frame name name
   c ← look (λ k. callee_of k frame found)
   fine ← look (λ k. is_function k c)
@@ -134,17 +134,17 @@ function_at frame name = do
   give (if fine then c else callee.Wrong)
 
 -- rule 26: the number of actuals is wrong, at the routine's name. Then each actual's own parts alone are checked.
-unfoldable pub counted : ℕ → Callee → ℕ → Step Called
-counted name c n = do
-  fine ← look (λ k. takes k c n)
+unfoldable pub count_checked : ℕ → Callee → ℕ → Step Called
+count_checked name c n = do
+  fine ← look (λ k. takes_count k c n)
   _ ← late 26 name fine
   known ← look (λ k. formals_of k c)
   give (record { callee = c; formals = if fine then known else formals.Unknown })
 
-unfoldable pub called : ℕ → ℕ → ℕ → Step Called
-called frame name n = do
-  c ← function_at frame name
-  counted name c n
+unfoldable pub called_function : ℕ → ℕ → ℕ → Step Called
+called_function frame name n = do
+  c ← function_named frame name
+  count_checked name c n
 
 -- ---- function designators
 
@@ -184,15 +184,15 @@ abbrev pub host_bounds : Known → Shape → ℤ × ℤ
 host_bounds k (shape.Ordinal host) = bounds_in (type_at k host)
 host_bounds k s = (pos 0, pos 0)
 
-abbrev pub function_row : Known → Option OrdinalFunction → Typed → Row
-function_row k (Some f) v = row.Expression (written.Function f v.row
+abbrev pub required_function_row : Known → Option OrdinalFunction → Typed → Row
+required_function_row k (Some f) v = row.Expression (written.Function f v.row
     (host_bounds k (shape_of k v.of)).0 (host_bounds k (shape_of k v.of)).1)
-function_row k None v = row.Nothing
+required_function_row k None v = row.Nothing
 
 abbrev pub required_row : Known → Required → Typed → Row
 required_row k required.Eof v = row.Expression written.Eof
 required_row k required.Eoln v = row.Expression written.Eoln
-required_row k r v = function_row k (ordinal_function r) v
+required_row k r v = required_function_row k (ordinal_function r) v
 
 -- the row of a designator whose last actual this is and whose list of actuals has a number
 abbrev pub designator_row : Known → Callee → Typed → ℕ → Row
@@ -207,4 +207,4 @@ applied name c v actuals = do
   of' ← look (λ k. designator_type k c v)
   r ← look (λ k. designator_row k c v actuals)
   _ ← put name r
-  give (value_at name of')
+  give (typed_value name of')

@@ -35,9 +35,9 @@ use Rattle.operand_checker.specs.declared.members.Gathered.{Gathered}
 use Rattle.operand_checker.specs.declared.names.Meaning.{Meaning}
 use Rattle.operand_checker.specs.declared.names.Meaning.TheVariants as meaning
 use Rattle.operand_checker.specs.declared.typed.Typed.{Typed}
-use Rattle.expression_checker.specs.Actuals.{actual_by, closed, is_name, name_alone}
-use Rattle.expression_checker.specs.Callees.{applied, called}
-use Rattle.operand_checker.specs.Members.{member_range, nothing_gathered, one_member, set_at}
+use Rattle.expression_checker.specs.Actuals.{actual_by, actuals_end, is_name, name_alone}
+use Rattle.expression_checker.specs.Callees.{applied, called_function}
+use Rattle.operand_checker.specs.Members.{member_range, nothing_gathered, one_member, set_constructor}
 use Rattle.operand_checker.specs.Names.{accessed_as, meaning_of, variable}
 use Rattle.operand_checker.specs.Operations.{adding_operator, multiplying_operator, negated, operated}
 use Rattle.operand_checker.specs.Operations.{relational_operator, signed}
@@ -49,7 +49,7 @@ use Rattle.operand_checker.specs.Typed.{bracketed, constant_at, literal, nil_at,
 -- a function without actuals
 unfoldable pub designator : ℕ → ℕ → Step Typed
 designator frame name = do
-  c ← called frame name 0
+  c ← called_function frame name 0
   applied name c.callee (unknown_at name) name
 
 abbrev pub named_as : ℕ → ℕ → Meaning → Step Typed
@@ -65,9 +65,9 @@ name_factor frame name = do
   named_as frame name m
 
 -- the name of an access that is a factor, before its selectors, if it has some
-abbrev pub root : ℕ → Bool → ℕ → Step Typed
-root frame true name = name_factor frame name
-root frame false name = variable frame name
+abbrev pub root_name : ℕ → Bool → ℕ → Step Typed
+root_name frame true name = name_factor frame name
+root_name frame false name = variable frame name
 
 -- ---- function designators
 
@@ -128,7 +128,7 @@ abbrev mutual
   factor frame (Text token) = literal token (constant.Text token)
   factor frame (Nil token) = nil_at token
   factor frame (Access' name _ selectors) = do
-    one ← root frame (is_name selectors) name
+    one ← root_name frame (is_name selectors) name
     selected frame one selectors
   factor frame (Call' name _ a) = call frame name (count_of a) a
   factor frame (Paren' open' _ e close) = do
@@ -142,11 +142,11 @@ abbrev mutual
   -- a function designator with actuals
   pub call : ℕ → ℕ → ℕ → Arguments → Step Typed
   call frame name count (Arguments' open' first _ others close) = do
-    c ← called frame name count
+    c ← called_function frame name count
     one ← actual_by frame (passing_to c name) open' (name_alone first) (first_of_expression first)
         (expression frame first)
     end ← more_arguments frame one others
-    last ← closed end close
+    last ← actuals_end end close
     applied name c.callee last open'
 
   pub more_arguments : ℕ → Passing → {m : _} → Row_of-NextExpression m → Step Passing
@@ -189,14 +189,14 @@ abbrev mutual
     indexed p comma (first_of_expression e) i
 
   pub constructor : ℕ → Members → Step Typed
-  constructor frame (Empty open' close) = set_at (nothing_gathered close) open' close
+  constructor frame (Empty open' close) = set_constructor (nothing_gathered close) open' close
   constructor frame (SomeOf m) = some_members frame m
 
   pub some_members : ℕ → SomeMembers → Step Typed
   some_members frame (SomeMembers' open' first _ others close) = do
     one ← member frame (nothing_gathered close) open' first
     all ← more_members frame one others
-    set_at all open' close
+    set_constructor all open' close
 
   pub more_members : ℕ → Gathered → {m : _} → Row_of-NextMember m → Step Gathered
   more_members frame g end_of-NextMember = give g

@@ -2,7 +2,7 @@
 
 ghost use Rattle.std.specs.Prelude.{◌≡◌};
 ghost use Rattle.check_steps.specs.Steps.{Does};
-ghost use Rattle.expression_checker.specs.Actuals.{access_name, after_section, argued, closed, factor_name};
+ghost use Rattle.expression_checker.specs.Actuals.{access_name, after_section, argued, actuals_end, factor_name};
 ghost use Rattle.expression_checker.specs.Actuals.{file_argued, file_in, file_of, formal_at, formal_in, formals_after};
 ghost use Rattle.expression_checker.specs.Actuals.{is_actual, is_argument, is_congruous, is_free, is_input, is_of_type};
 ghost use Rattle.expression_checker.specs.Actuals.{is_variable_actual, item_of, lone_file};
@@ -424,9 +424,9 @@ pub(crate) fn check_passed(
 }
 
 /// A list of actual parameters ends at a number: what is given is the last one.
-#[tactic(auto, using(check_steps::proofs::Runs::steps), unfolding(crate::specs::Actuals::closed))]
+#[tactic(auto, using(check_steps::proofs::Runs::steps), unfolding(crate::specs::Actuals::actuals_end))]
 pub fn check_closed(work: &mut Work, passing: Passing, end: u32) -> Typed
-    ensures { Does (closed passing end) result work.old work.new }
+    ensures { Does (actuals_end passing end) result work.old work.new }
 {
     put_link(work, passing.last, end);
     passing.value

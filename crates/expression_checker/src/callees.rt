@@ -2,16 +2,18 @@
 
 ghost use Rattle.std.specs.Prelude.{◌≡◌};
 ghost use Rattle.check_steps.specs.Steps.{Does};
-ghost use Rattle.expression_checker.specs.Callees.{applied, bounds_in, called, callee_in, callee_of, counted};
+ghost use Rattle.expression_checker.specs.Callees.{applied, bounds_in, called_function, callee_in, callee_of};
+ghost use Rattle.expression_checker.specs.Callees.{count_checked};
 ghost use Rattle.expression_checker.specs.Callees.{declared_routine, declared_type, designator_row, designator_type};
-ghost use Rattle.expression_checker.specs.Callees.{formals_of, function_at, function_row, has_formals, host_bounds};
+ghost use Rattle.expression_checker.specs.Callees.{formals_of, function_named, required_function_row, has_formals};
+ghost use Rattle.expression_checker.specs.Callees.{host_bounds};
 ghost use Rattle.expression_checker.specs.Callees.{host_type, is_function, is_required_function, names_in};
 ghost use Rattle.expression_checker.specs.Callees.{operand_of, ordinal_function, required_formals, required_row};
-ghost use Rattle.expression_checker.specs.Callees.{required_takes, required_type, takes};
+ghost use Rattle.expression_checker.specs.Callees.{required_takes, required_type, takes_count};
 
 use check_steps::{Found, Tables, Work};
 use operand_checker::names::levels_to;
-use operand_checker::typed::{Typed, value_at};
+use operand_checker::typed::{Typed, typed_value};
 use program_tables::Routine;
 use program_tables::rows::{
     BOOLEAN, CHAR, ExpressionRow, INTEGER, NameRow, OrdinalFunction, Required, Row, TypeRow,
@@ -186,8 +188,8 @@ fn required_takes(required: Required, count: usize) -> bool
     }
 }
 
-fn takes(tables: &Tables, callee: Callee, count: usize) -> bool
-    ensures { result ≡ takes tables.now callee count }
+fn takes_count(tables: &Tables, callee: Callee, count: usize) -> bool
+    ensures { result ≡ takes_count tables.now callee count }
 {
     match callee {
         Callee::Routine { heading, .. } => {
@@ -239,9 +241,9 @@ pub fn formals_of(tables: &Tables, callee: Callee) -> Formals
 }
 
 /// The function that a name stands for.
-#[tactic(auto, using(check_steps::proofs::Runs::steps), unfolding(crate::specs::Callees::function_at))]
+#[tactic(auto, using(check_steps::proofs::Runs::steps), unfolding(crate::specs::Callees::function_named))]
 fn check_function(work: &mut Work, name: u32, frame: u32) -> Callee
-    ensures { Does (function_at frame name) result work.old work.new }
+    ensures { Does (function_named frame name) result work.old work.new }
 {
     let found = work.use_at(frame, name, name);
     let callee = callee_of(&work.tables, frame, found);
@@ -252,11 +254,11 @@ fn check_function(work: &mut Work, name: u32, frame: u32) -> Callee
 
 /// A call of a declared routine or of a required function with this many actual parameters, at its name. With another
 /// number than it takes these stand for nothing that is known.
-#[tactic(auto, using(check_steps::proofs::Runs::steps), unfolding(crate::specs::Callees::counted))]
+#[tactic(auto, using(check_steps::proofs::Runs::steps), unfolding(crate::specs::Callees::count_checked))]
 pub fn check_counted(work: &mut Work, name: u32, callee: Callee, count: usize) -> Called
-    ensures { Does (counted name callee count) result work.old work.new }
+    ensures { Does (count_checked name callee count) result work.old work.new }
 {
-    let fine = takes(&work.tables, callee, count);
+    let fine = takes_count(&work.tables, callee, count);
     work.late(26, name, fine);
     let known = formals_of(&work.tables, callee);
     Called {
@@ -266,9 +268,9 @@ pub fn check_counted(work: &mut Work, name: u32, callee: Callee, count: usize) -
 }
 
 /// A function designator with this many actual parameters, before these are checked.
-#[tactic(auto, using(check_steps::proofs::Runs::steps), unfolding(crate::specs::Callees::called))]
+#[tactic(auto, using(check_steps::proofs::Runs::steps), unfolding(crate::specs::Callees::called_function))]
 pub(crate) fn check_called(work: &mut Work, name: u32, frame: u32, count: usize) -> Called
-    ensures { Does (called frame name count) result work.old work.new }
+    ensures { Does (called_function frame name count) result work.old work.new }
 {
     let callee = check_function(work, name, frame);
     check_counted(work, name, callee, count)
@@ -338,8 +340,8 @@ fn host_bounds(tables: &Tables, shape: Shape) -> (i32, i32)
     }
 }
 
-fn function_row(tables: &Tables, function: Option<OrdinalFunction>, operand: Typed) -> Row
-    ensures { result ≡ function_row tables.now function operand }
+fn required_function_row(tables: &Tables, function: Option<OrdinalFunction>, operand: Typed) -> Row
+    ensures { result ≡ required_function_row tables.now function operand }
 {
     let Some(function) = function else {
         return Row::Nothing;
@@ -359,7 +361,7 @@ fn required_row(tables: &Tables, required: Required, last: Typed) -> Row
     match required {
         Required::Eof => Row::Expression(ExpressionRow::Eof),
         Required::Eoln => Row::Expression(ExpressionRow::Eoln),
-        _ => function_row(tables, ordinal_function(required), last),
+        _ => required_function_row(tables, ordinal_function(required), last),
     }
 }
 
@@ -400,5 +402,5 @@ pub(crate) fn check_applied(
     let of = designator_type(&work.tables, callee, last);
     let row = designator_row(&work.tables, callee, last, actuals);
     work.put(name, row);
-    value_at(name, of)
+    typed_value(name, of)
 }

@@ -6,7 +6,7 @@ ghost use Rattle.pas_places.specs.Expressions.{first_of_expression};
 ghost use Rattle.expression_checker.specs.Actuals.{argued_as};
 ghost use Rattle.expression_checker.specs.Expressions.{access, actual, call, constructor, count_of, designator};
 ghost use Rattle.expression_checker.specs.Expressions.{expression, factor, index_at, member, name_factor, named_as};
-ghost use Rattle.expression_checker.specs.Expressions.{passing_to, root, selector, simple, term};
+ghost use Rattle.expression_checker.specs.Expressions.{passing_to, root_name, selector, simple, term};
 
 use crate::actuals::{
     Argument, Formal, Lone, Passing, check_argued, check_closed, check_file, check_passed,
@@ -62,7 +62,7 @@ fn check_name(work: &mut Work, name: u32, frame: u32) -> Typed
 
 /// The name of a factor, which is alone or has selectors after it.
 fn check_root(work: &mut Work, name: u32, frame: u32, alone: bool) -> Typed
-    ensures { Does (root frame alone name) result work.old work.new }
+    ensures { Does (root_name frame alone name) result work.old work.new }
 {
     if alone {
         check_name(work, name, frame)

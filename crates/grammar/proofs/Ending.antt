@@ -5,7 +5,7 @@ use Rattle.grammar.specs.declared.terminals.Terminal.{Terminal}
 use Rattle.grammar.specs.Terminals.{one_of, passes, every_of}
 use Rattle.grammar.specs.Nodes.{Item, Node, Leaf, Nothing, Pair, next}
 use Rattle.grammar.specs.Grammars.{Level, Grammar, token, nothing, seq, choice, greedy, level, loop, again}
-use Rattle.grammar.specs.Reading.{Refusal, Unfit, Deep, left_of, Read, ◌>>=◌, token_at, then_pair, unread, turns, turning, reads, levels, read}
+use Rattle.grammar.specs.Reading.{Refusal, Unfit, Deep, unread_of, Read, ◌>>=◌, token_at, then_pair, unfit_here, turns, turning, reads, levels, read}
 use Rattle.grammar.specs.Deciding.{LevelTables, expects, all_levels}
 use Rattle.grammar.specs.Ending.{lacks, ends_in, IsLast, Has}
 use Rattle.grammar.proofs.Exact.{bind_err, err_is, ok_no_err, token_fails}
@@ -15,7 +15,7 @@ module _ (k : Terminal) where
   -- what is left has the terminal
   abbrev pub Kept : Read → Type 0
   Kept (Ok x) = Has k x.1
-  Kept (Err r) = Has k (left_of r)
+  Kept (Err r) = Has k (unread_of r)
 
   abbrev pub Keeps : (List Item → Read) → Type 0
   Keeps p = (l : List Item) → Has k l → Kept (p l)
@@ -61,12 +61,12 @@ module _ (k : Terminal) where
     keeps (loop a) ok u s l h = kept_turns (reads p a) (keeps a ok) (suc (length l)) l h
     keeps again ok u s l h = s l h
 
-    kept_err : (r : Read) (d : Refusal) → r ≡ Err d → Kept r → Has k (left_of d)
+    kept_err : (r : Read) (d : Refusal) → r ≡ Err d → Kept r → Has k (unread_of d)
     kept_err r d e h = subst Kept e h
 
     last_keeps : (g : Grammar) → ends_in k g ≡ true → (u : List Item → Read) → Keeps u → (l : List Item) (r : Refusal) → Has k l → reads p g u l ≡ Err r
-        → Has k (left_of r)
-    last_keeps (token ks) ok u s l r h e = subst (Has k) (ap left_of (err_is (Unfit l) r (token_fails ks l r e).0)) h
+        → Has k (unread_of r)
+    last_keeps (token ks) ok u s l r h e = subst (Has k) (ap unread_of (err_is (Unfit l) r (token_fails ks l r e).0)) h
     last_keeps nothing ok u s l r h e = absurd cc
     last_keeps (seq a b) ok u s l r h e =
         let o = and_parts (lacks k a) (ends_in k b) ok in
@@ -83,7 +83,7 @@ module _ (k : Terminal) where
     last_keeps (loop a) ok u s l r h e = absurd cc
     last_keeps again ok u s l r h e = absurd cc
 
-  unread_keeps : Keeps unread
+  unread_keeps : Keeps unfit_here
   unread_keeps l h = h
 
   module _ (t : LevelTables) (g : Grammar) (ok : IsLast k t g ≡ true) where
@@ -92,11 +92,11 @@ module _ (k : Terminal) where
     level_keeps zero v l h = kept_cond (expects t v (next l)) (Err (Deep l)) (Err (Unfit l)) h h
     level_keeps (suc n) v l h =
         let o = and_parts (every_of (λ l. lacks k (t.rule l)) all_levels) (ends_in k g) ok in
-        keeps (levels t n) (level_keeps n) (t.rule v) (every_level (λ l. lacks k (t.rule l)) o.0 v) unread unread_keeps l h
+        keeps (levels t n) (level_keeps n) (t.rule v) (every_level (λ l. lacks k (t.rule l)) o.0 v) unfit_here unread_keeps l h
 
     -- A refusal stands before the last token or at it.
-    pub refused_inside : (n : ℕ) (l : List Item) (r : Refusal) → Has k l → read t n g l ≡ Err r → Has k (left_of r)
+    pub refused_inside : (n : ℕ) (l : List Item) (r : Refusal) → Has k l → read t n g l ≡ Err r → Has k (unread_of r)
     unfolding read
     refused_inside n l r h e =
         let o = and_parts (every_of (λ l. lacks k (t.rule l)) all_levels) (ends_in k g) ok in
-        last_keeps (levels t n) (level_keeps n) g o.1 unread unread_keeps l r h e
+        last_keeps (levels t n) (level_keeps n) g o.1 unfit_here unread_keeps l r h e

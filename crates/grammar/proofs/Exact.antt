@@ -6,7 +6,7 @@ use Rattle.grammar.specs.Terminals.{one_of, passes}
 use Rattle.grammar.specs.Nodes.{Item, Node, Leaf, Nothing, Pair, spell, ahead, next}
 use Rattle.grammar.specs.Grammars.{IsLeaf, IsNothing, IsPair, IsNone}
 use Rattle.grammar.specs.Tested.{IsChoice}
-use Rattle.grammar.specs.Reading.{Refusal, Unfit, left_of, Read, ◌>>=◌, token_at, then_pair, unread}
+use Rattle.grammar.specs.Reading.{Refusal, Unfit, unread_of, Read, ◌>>=◌, token_at, then_pair, unfit_here}
 
 -- No tree has a spelling that begins as the list does, up to the token where `left` begins.
 abbrev pub Refuses : (Node → Option Terminal → Type 0) → List Item → List Item → Type 0
@@ -16,7 +16,7 @@ Refuses P l left = (front : List Item) × (l ≡ front ++ left) ×
 pub record Exact (P : Node → Option Terminal → Type 0) (p : List Item → Read) : Type 0 where
   pub sound : (l : List Item) (x : Node) (rest : List Item) → p l ≡ Ok (x, rest) → (l ≡ spell x ++ rest) × P x (next rest)
   pub again : (x : Node) (rest : List Item) → P x (next rest) → p (spell x ++ rest) ≡ Ok (x, rest)
-  pub refused : (l : List Item) (r : Refusal) → p l ≡ Err r → Refuses P l (left_of r)
+  pub refused : (l : List Item) (r : Refusal) → p l ≡ Err r → Refuses P l (unread_of r)
 
 -- ---- tools
 
@@ -86,10 +86,10 @@ token_fails ks (x ∷ l) r e =
       | inr h ↦ (h.1, h.0)
     ]
 
-token_refused : (ks : List Terminal) (l : List Item) (r : Refusal) → token_at ks l ≡ Err r → Refuses (λ x h. IsLeaf ks x) l (left_of r)
+token_refused : (ks : List Terminal) (l : List Item) (r : Refusal) → token_at ks l ≡ Err r → Refuses (λ x h. IsLeaf ks x) l (unread_of r)
 token_refused ks l r e =
     let f = token_fails ks l r e in
-    let is : l ≡ left_of r = ap left_of (err_is (Unfit l) r f.0) in (
+    let is : l ≡ unread_of r = ap unread_of (err_is (Unfit l) r f.0) in (
       [],
       is,
       λ x rest more h same at.
@@ -117,11 +117,11 @@ nothing_exact = record {
 
 -- ---- no tree at all
 
-pub none_exact : Exact IsNone unread
+pub none_exact : Exact IsNone unfit_here
 none_exact = record {
   sound = λ l x rest e. absurd (ok_no_err (x, rest) (Unfit l) (sym e));
   again = λ x rest h. absurd h;
-  refused = λ l r e. ([], ap left_of (err_is (Unfit l) r e), λ x rest more h same at. h);
+  refused = λ l r e. ([], ap unread_of (err_is (Unfit l) r e), λ x rest more h same at. h);
 }
 
 -- ---- one after the other
@@ -169,18 +169,18 @@ module _ (P Q : Node → Option Terminal → Type 0) (p q : List Item → Read) 
       let both : (x, spell y ++ rest) ≡ (a, front ++ more) = ok_is (x, spell y ++ rest) (a, front ++ more) (sym one ∙ ap p e ∙ two) in
       none y rest more h.1 (ap (λ (z : Node × List Item). z.1) both) at
 
-  pair_refused : (l : List Item) (r : Refusal) → then_pair (p l) q ≡ Err r → Refuses (IsPair P Q) l (left_of r)
+  pair_refused : (l : List Item) (r : Refusal) → then_pair (p l) q ≡ Err r → Refuses (IsPair P Q) l (unread_of r)
   pair_refused l r e =
       elim (bind_err (p l) (λ x. q x.1 >>= λ y. Ok (Pair x.0 y.0, y.1)) r e) [
-        | inl h ↦ let s = exact.refused l r h in (s.0, s.1, no_first s.0 (left_of r) s.2)
+        | inl h ↦ let s = exact.refused l r h in (s.0, s.1, no_first s.0 (unread_of r) s.2)
         | inr h ↦
             elim (bind_err (q h.0.1) (λ y. Ok (Pair h.0.0 y.0, y.1)) r h.2) [
               | inl g ↦
                   let s = exact.sound l h.0.0 h.0.1 h.1 in
                   let t = exact'.refused h.0.1 r g in (
                     spell h.0.0 ++ t.0,
-                    s.0 ∙ ap (λ (m : List Item). spell h.0.0 ++ m) t.1 ∙ sym (append_assoc (spell h.0.0) t.0 (left_of r)),
-                    no_second h.0.0 t.0 h.0.1 (left_of r) s.1 t.1 t.2,
+                    s.0 ∙ ap (λ (m : List Item). spell h.0.0 ++ m) t.1 ∙ sym (append_assoc (spell h.0.0) t.0 (unread_of r)),
+                    no_second h.0.0 t.0 h.0.1 (unread_of r) s.1 t.1 t.2,
                   )
               | inr g ↦ absurd (ok_no_err (Pair h.0.0 g.0.0, g.0.1) r g.2)
             ]
@@ -224,7 +224,7 @@ module _ (ks : List Terminal) (P Q : Node → Option Terminal → Type 0) (p q :
             subst (λ (k : Option Terminal). passes ks k ≡ false) (sym (ahead_append (spell x) rest None)) g.0 in rw b (exact'.again x rest g.1)
       ]
 
-  choice_refused : (l : List Item) (r : Refusal) → choose ks p q l ≡ Err r → Refuses (IsChoice ks P Q) l (left_of r)
+  choice_refused : (l : List Item) (r : Refusal) → choose ks p q l ≡ Err r → Refuses (IsChoice ks P Q) l (unread_of r)
   choice_refused l r e =
       elim (ok_or_err (passes ks (next l)) (p l) (q l) (Err r) e) [
         | inl h ↦ let s = exact.refused l r h.1 in (
@@ -232,14 +232,14 @@ module _ (ks : List Terminal) (P Q : Node → Option Terminal → Type 0) (p q :
           s.1,
           λ x rest more f same at. elim f [
             | inl g ↦ s.2 x rest more g.1 same at
-            | inr g ↦ tests_differ ks (next l) (ahead (spell x) (next rest)) h.0 g.0 (sym (first_again l s.0 (left_of r) x rest more s.1 same at))
+            | inr g ↦ tests_differ ks (next l) (ahead (spell x) (next rest)) h.0 g.0 (sym (first_again l s.0 (unread_of r) x rest more s.1 same at))
           ],
         )
         | inr h ↦ let s = exact'.refused l r h.1 in (
           s.0,
           s.1,
           λ x rest more f same at. elim f [
-            | inl g ↦ tests_differ ks (ahead (spell x) (next rest)) (next l) g.0 h.0 (first_again l s.0 (left_of r) x rest more s.1 same at)
+            | inl g ↦ tests_differ ks (ahead (spell x) (next rest)) (next l) g.0 h.0 (first_again l s.0 (unread_of r) x rest more s.1 same at)
             | inr g ↦ s.2 x rest more g.1 same at
           ],
         )

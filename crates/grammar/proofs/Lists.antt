@@ -6,7 +6,7 @@ use Rattle.grammar.specs.Nodes.{Item, Node, Leaf, Nothing, Pair, row, SeriesPart
 use Rattle.grammar.specs.Grammars.{Level, Grammar, nothing, seq, choice, again, word, many, series}
 use Rattle.grammar.specs.Tested.{Within}
 use Rattle.grammar.specs.Deciding.{closed, solid, guarded, sane, LevelTables}
-use Rattle.grammar.specs.Reading.{Refusal, Read, ◌>>=◌, token_at, then_pair, unread, turning, reads, levels, read}
+use Rattle.grammar.specs.Reading.{Refusal, Read, ◌>>=◌, token_at, then_pair, unfit_here, turning, reads, levels, read}
 use Rattle.grammar.proofs.Loops.{Guards, closed_same, guarded_same, closed_linear, turning_again, then_same, cond_same}
 use Rattle.grammar.proofs.Exact.{bind_ok, bind_err, done, ok_is, ok_no_err}
 use Rattle.grammar.proofs.Wholes.{levels_exact, level_shortens}
@@ -53,7 +53,7 @@ step_one front x (Err r) = refl
 module _ (t : LevelTables) (sane_rule : (l : Level) → sane (t.rule l) ≡ true) (n : ℕ) where
   closed_read : (g : Grammar) → closed g ≡ true → (u : List Item → Read) (l : List Item) → reads (levels t n) g u l ≡ read t n g l
   unfolding read
-  closed_read g ok u l = closed_same (levels t n) (level_shortens (Within t.rule n) (levels t n) (levels_exact t sane_rule n)) g ok u unread l
+  closed_read g ok u l = closed_same (levels t n) (level_shortens (Within t.rule n) (levels t n) (levels_exact t sane_rule n)) g ok u unfit_here l
 
   body_guards : (g : Grammar) → guarded g ≡ true → Guards (reads (levels t n) g)
   body_guards g ok = guarded_same (levels t n) (level_shortens (Within t.rule n) (levels t n) (levels_exact t sane_rule n)) g ok
@@ -70,7 +70,8 @@ module _ (t : LevelTables) (sane_rule : (l : Level) → sane (t.rule l) ≡ true
         let body = choice ks (seq g again) nothing in
         let whole = turning (reads (levels t n) body) in
         turning_again (reads (levels t n) body) (body_guards body many_guarded) l
-        ∙ cond_same (passes ks (next l)) (then_pair (reads (levels t n) g whole l) whole) (then_pair (reads (levels t n) g unread l) whole) (Ok (Nothing, l))
+        ∙ cond_same (passes ks (next l)) (then_pair (reads (levels t n) g whole l) whole) (then_pair (reads (levels t n) g unfit_here l) whole)
+            (Ok (Nothing, l))
         (Ok (Nothing, l))
         (ap (λ (r : Read). then_pair r whole) (closed_read g c whole l)) refl
 
@@ -114,8 +115,8 @@ module _ (t : LevelTables) (sane_rule : (l : Level) → sane (t.rule l) ≡ true
         ∙ cond_same (passes (separator ∷ []) (next l)) (then_pair (token_at (separator ∷ []) l) (reads (levels t n) (choice ks (seq g again) z) whole))
         (then_pair (token_at (separator ∷ []) l) behind) (Ok (Nothing, l)) (Ok (Nothing, l))
         (then_same (token_at (separator ∷ []) l) (reads (levels t n) (choice ks (seq g again) z) whole) behind
-        (λ x m same. cond_same (passes ks (next m)) (then_pair (reads (levels t n) g whole m) whole) (then_pair (reads (levels t n) g unread m) whole)
-        (reads (levels t n) z whole m) (reads (levels t n) z unread m)
+        (λ x m same. cond_same (passes ks (next m)) (then_pair (reads (levels t n) g whole m) whole) (then_pair (reads (levels t n) g unfit_here m) whole)
+        (reads (levels t n) z whole m) (reads (levels t n) z unfit_here m)
         (ap (λ (r : Read). then_pair r whole) (closed_read g c whole m)) (closed_read z d whole m))) refl
 
     -- whether a separator comes, and after it what begins a part

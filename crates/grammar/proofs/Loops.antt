@@ -5,7 +5,7 @@ use Rattle.grammar.specs.declared.terminals.Terminal.{Terminal}
 use Rattle.grammar.specs.Terminals.{one_of, passes}
 use Rattle.grammar.specs.Nodes.{Item, Node, Leaf, Nothing, Pair, next}
 use Rattle.grammar.specs.Grammars.{Level, Grammar, token, nothing, seq, choice, greedy, level, loop, again}
-use Rattle.grammar.specs.Reading.{Unfit, Read, ◌>>=◌, token_at, then_pair, unread, turns, turning, reads}
+use Rattle.grammar.specs.Reading.{Unfit, Read, ◌>>=◌, token_at, then_pair, unfit_here, turns, turning, reads}
 use Rattle.grammar.specs.Deciding.{both, either, closed, solid, linear, guarded}
 use Rattle.grammar.proofs.Bools.{both_make, either_parts}
 use Rattle.grammar.proofs.Exact.{bind_ok, ok_is, ok_no_err, ok_or_err, done}
@@ -18,7 +18,7 @@ Shortens p = (l : List Item) (x : Node) (rest : List Item) → p l ≡ Ok (x, re
 abbrev pub Takes : (List Item → Read) → Type 0
 Takes p = (l : List Item) (x : Node) (rest : List Item) → p l ≡ Ok (x, rest) → length rest < length l
 
-pub unread_shortens : (l : List Item) (x : Node) (rest : List Item) → unread l ≡ Ok (x, rest) → length rest ≤ length l
+pub unread_shortens : (l : List Item) (x : Node) (rest : List Item) → unfit_here l ≡ Ok (x, rest) → length rest ≤ length l
 unread_shortens l x rest e = absurd (ok_no_err (x, rest) (Unfit l) (sym e))
 
 token_takes : (ks : List Terminal) (l : List Item) (x : Node) (rest : List Item) → token_at ks l ≡ Ok (x, rest) → length rest < length l
@@ -125,10 +125,10 @@ module _ (p : Level → List Item → Read) (shortens : (v : Level) → Shortens
   closed_same again ok u w l = absurd cc
 
   pub closed_shortens : (g : Grammar) → closed g ≡ true → (u : List Item → Read) → Shortens (reads p g u)
-  closed_shortens g ok u l x rest e = no_longer p shortens g unread unread_shortens l x rest (closed_same g ok unread u l ∙ e)
+  closed_shortens g ok u l x rest e = no_longer p shortens g unfit_here unread_shortens l x rest (closed_same g ok unfit_here u l ∙ e)
 
   pub closed_takes : (g : Grammar) → closed g ≡ true → solid g ≡ true → (u : List Item → Read) → Takes (reads p g u)
-  closed_takes g ok s u l x rest e = takes p shortens g unread unread_shortens s l x rest (closed_same g ok unread u l ∙ e)
+  closed_takes g ok s u l x rest e = takes p shortens g unfit_here unread_shortens s l x rest (closed_same g ok unfit_here u l ∙ e)
 
   -- what it reads of the tokens that are left
   linear_same : (g : Grammar) → linear g ≡ true → (u w : List Item → Read) (l : List Item) → ((m : List Item) → length m ≤ length l → u m ≡ w m)

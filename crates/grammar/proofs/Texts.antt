@@ -5,7 +5,7 @@ use Rattle.grammar.specs.Nodes.{Item, Node, spell, next}
 use Rattle.grammar.specs.Grammars.{Grammar, IsNone}
 use Rattle.grammar.specs.Tested.{Is, Within}
 use Rattle.grammar.specs.Deciding.{LevelTables, IsDecided}
-use Rattle.grammar.specs.Reading.{Refusal, left_of, read}
+use Rattle.grammar.specs.Reading.{Refusal, unread_of, read}
 use Rattle.grammar.specs.Laws.{IsFormedBy, NoneGoesOn}
 use Rattle.grammar.proofs.Exact.{Exact, ok_is}
 use Rattle.grammar.proofs.Wholes.{read_exact}
@@ -25,7 +25,7 @@ module _ (t : LevelTables) (g : Grammar) (ok : IsDecided t g ≡ true) (n : ℕ)
   pub one_tree : (x y : Node) → IsFormedBy t n g x → IsFormedBy t n g y → spell x ≡ spell y → x ≡ y
   one_tree x y f h e = ap (λ (z : Node × List Item). z.0) (ok_is (x, []) (y, []) (sym (formed_found x f) ∙ ap (read t n g) e ∙ formed_found y h))
 
-  pub refused_wrong : (l : List Item) (r : Refusal) → read t n g l ≡ Err r → NoneGoesOn (IsFormedBy t n g) l (left_of r)
+  pub refused_wrong : (l : List Item) (r : Refusal) → read t n g l ≡ Err r → NoneGoesOn (IsFormedBy t n g) l (unread_of r)
   refused_wrong l r e =
       let s = exact.refused l r e in
       (s.0, s.1, λ x more f same at. s.2 x [] more (whole_tested t g ok n x f) (append-nil (spell x) ∙ same) at)

@@ -5,7 +5,7 @@ use Rattle.grammar.specs.declared.terminals.Terminal.{Terminal}
 use Rattle.grammar.specs.Nodes.{Item, Node, Nothing, spell, next}
 use Rattle.grammar.specs.Grammars.{Level, Grammar, token, nothing, seq, choice, greedy, level, loop, again, IsNothing, IsNone, rounds}
 use Rattle.grammar.specs.Tested.{Is, Within}
-use Rattle.grammar.specs.Reading.{Refusal, Unfit, Deep, left_of, Read, unread, turns, turning, reads, levels}
+use Rattle.grammar.specs.Reading.{Refusal, Unfit, Deep, unread_of, Read, unfit_here, turns, turning, reads, levels}
 use Rattle.grammar.specs.Deciding.{guarded, sane, LevelTables, expects}
 use Rattle.grammar.proofs.Exact.{Refuses, Exact, token_exact, nothing_exact, none_exact, pair_exact, choice_exact, ok_or_err, err_is, ok_no_err}
 use Rattle.grammar.proofs.Loops.{Shortens, Guards, enough, guarded_same}
@@ -41,7 +41,7 @@ module _ (F : (Node → Option Terminal → Type 0) → Node → Option Terminal
       enough f guards (suc (length l)) K l (omega arith) (omega arith) ∙ (rounds_exact K).again x rest
       (rounds_map F F carries h.0 K (omega arith) x (next rest) h.1)
 
-  loop_refused : (l : List Item) (r : Refusal) → turning f l ≡ Err r → Refuses (λ x h. (k : ℕ) × rounds k F x h) l (left_of r)
+  loop_refused : (l : List Item) (r : Refusal) → turning f l ≡ Err r → Refuses (λ x h. (k : ℕ) × rounds k F x h) l (unread_of r)
   unfolding turning
   loop_refused l r e =
       let s = (rounds_exact (suc (length l))).refused l r e in (
@@ -50,7 +50,7 @@ module _ (F : (Node → Option Terminal → Type 0) → Node → Option Terminal
         λ x rest more h same at.
             let K = suc (h.0 + length l) in
             let again' : turns K f l ≡ Err r = enough f guards K (suc (length l)) l (omega arith) (omega arith) ∙ e in
-            refuses_same (rounds K F) (rounds K F) l (left_of r) ((rounds_exact K).refused l r again') s.0 s.1 x rest more
+            refuses_same (rounds K F) (rounds K F) l (unread_of r) ((rounds_exact K).refused l r again') s.0 s.1 x rest more
             (rounds_map F F carries h.0 K (omega arith) x (next rest) h.1) same at,
       )
 
@@ -79,12 +79,12 @@ module _ (P : Level → Node → Option Terminal → Type 0) (p : Level → List
 -- ---- the levels
 
 module _ (t : LevelTables) (sane_rule : (l : Level) → sane (t.rule l) ≡ true) where
-  no_level : (l : Level) (items : List Item) (r : Refusal) → levels t zero l items ≡ Err r → Refuses (Within t.rule zero l) items (left_of r)
+  no_level : (l : Level) (items : List Item) (r : Refusal) → levels t zero l items ≡ Err r → Refuses (Within t.rule zero l) items (unread_of r)
   unfolding levels Within
   no_level l items r e =
       elim (ok_or_err (expects t l (next items)) (Err (Deep items)) (Err (Unfit items)) (Err r) e) [
-        | inl f ↦ ([], ap left_of (err_is (Deep items) r f.1), λ x rest more h same at. h)
-        | inr f ↦ ([], ap left_of (err_is (Unfit items) r f.1), λ x rest more h same at. h)
+        | inl f ↦ ([], ap unread_of (err_is (Deep items) r f.1), λ x rest more h same at. h)
+        | inr f ↦ ([], ap unread_of (err_is (Unfit items) r f.1), λ x rest more h same at. h)
       ]
 
   no_tree : (l : Level) (items : List Item) (x : Node) (rest : List Item) → levels t zero l items ≡ Ok (x, rest)
@@ -103,7 +103,7 @@ module _ (t : LevelTables) (sane_rule : (l : Level) → sane (t.rule l) ≡ true
   pub levels_exact : (n : ℕ) (l : Level) → Exact (Within t.rule n l) (levels t n l)
   unfolding levels Within
   levels_exact zero l = record { sound = no_tree l; again = no_text l; refused = no_level l }
-  levels_exact (suc n) l = grammar_exact (Within t.rule n) (levels t n) (levels_exact n) (t.rule l) (sane_rule l) IsNone unread none_exact
+  levels_exact (suc n) l = grammar_exact (Within t.rule n) (levels t n) (levels_exact n) (t.rule l) (sane_rule l) IsNone unfit_here none_exact
 
-  pub read_exact : (n : ℕ) (g : Grammar) → sane g ≡ true → Exact (Is (Within t.rule n) g IsNone) (reads (levels t n) g unread)
-  read_exact n g ok = grammar_exact (Within t.rule n) (levels t n) (levels_exact n) g ok IsNone unread none_exact
+  pub read_exact : (n : ℕ) (g : Grammar) → sane g ≡ true → Exact (Is (Within t.rule n) g IsNone) (reads (levels t n) g unfit_here)
+  read_exact n g ok = grammar_exact (Within t.rule n) (levels t n) (levels_exact n) g ok IsNone unfit_here none_exact

@@ -5,7 +5,7 @@ use Rattle.grammar.specs.Terminals.{one_of, every_of}
 use Rattle.grammar.specs.Nodes.{Item}
 use Rattle.grammar.specs.Grammars.{Grammar, token, nothing, seq, choice, greedy, level, loop, again}
 use Rattle.grammar.specs.Deciding.{both, LevelTables, all_levels}
-use Rattle.grammar.specs.Reading.{Refusal, left_of, read}
+use Rattle.grammar.specs.Reading.{Refusal, unread_of, read}
 
 -- no token of the grammar's own is of that terminal
 abbrev pub lacks : Terminal → Grammar → Bool
@@ -41,4 +41,4 @@ Has k (x ∷ l) = (x.kind ≡ k) ⊎ Has k l
 -- A list that has such a terminal is refused before its last token or at it.
 abbrev pub RefusedIsInside : Type 0
 RefusedIsInside = (k : Terminal) (t : LevelTables) (g : Grammar) → IsLast k t g ≡ true
-    → (n : ℕ) (l : List Item) (r : Refusal) → Has k l → read t n g l ≡ Err r → Has k (left_of r)
+    → (n : ℕ) (l : List Item) (r : Refusal) → Has k l → read t n g l ≡ Err r → Has k (unread_of r)

@@ -3,7 +3,7 @@ use Rattle.std.specs.Prelude.{◌≡◌, ℕ, true, List, [], ◌∷◌, ◌++�
 use Rattle.grammar.specs.Nodes.{Item, Node, spell, next}
 use Rattle.grammar.specs.Grammars.{Grammar, Free, FreeWithin}
 use Rattle.grammar.specs.Deciding.{LevelTables, IsDecided}
-use Rattle.grammar.specs.Reading.{Refusal, left_of, read}
+use Rattle.grammar.specs.Reading.{Refusal, unread_of, read}
 
 -- a tree of a whole text, in which at most n levels are nested
 abbrev pub IsFormedBy : LevelTables → ℕ → Grammar → Node → Type 0
@@ -33,7 +33,7 @@ OneTree = (t : LevelTables) (g : Grammar) → IsDecided t g ≡ true → (n : �
 -- with a refused token no formed tree goes on
 abbrev pub RefusedIsWrong : Type 0
 RefusedIsWrong = (t : LevelTables) (g : Grammar) → IsDecided t g ≡ true → (n : ℕ) (l : List Item) (r : Refusal)
-    → read t n g l ≡ Err r → NoneGoesOn (IsFormedBy t n g) l (left_of r)
+    → read t n g l ≡ Err r → NoneGoesOn (IsFormedBy t n g) l (unread_of r)
 
 -- nor with one that stands after a whole tree
 abbrev pub SurplusIsWrong : Type 0

@@ -12,9 +12,9 @@ pub data Refusal : Type 0 where
   Unfit : (left : List Item) → Refusal
   Deep : (left : List Item) → Refusal
 
-abbrev pub left_of : Refusal → List Item
-left_of (Unfit left) = left
-left_of (Deep left) = left
+abbrev pub unread_of : Refusal → List Item
+unread_of (Unfit left) = left
+unread_of (Deep left) = left
 
 -- the tree that was read and the tokens after it
 abbrev pub Read : Type 0
@@ -32,8 +32,8 @@ token_at ks (x ∷ l) = if one_of ks x.kind then Ok (Leaf x, l) else Err (Unfit 
 abbrev pub then_pair : Read → (List Item → Read) → Read
 then_pair r q = r >>= λ x. q x.1 >>= λ y. Ok (Pair x.0 y.0, y.1)
 
-abbrev pub unread : List Item → Read
-unread l = Err (Unfit l)
+abbrev pub unfit_here : List Item → Read
+unfit_here l = Err (Unfit l)
 
 -- at most this many rounds of a loop
 abbrev pub turns : ℕ → ((List Item → Read) → List Item → Read) → List Item → Read
@@ -57,7 +57,7 @@ reads env again v l = v l
 -- what is read where n more levels may be nested
 unfoldable pub levels : LevelTables → ℕ → Level → List Item → Read
 levels tables zero l items = if expects tables l (next items) then Err (Deep items) else Err (Unfit items)
-levels tables (suc n) l items = reads (levels tables n) (tables.rule l) unread items
+levels tables (suc n) l items = reads (levels tables n) (tables.rule l) unfit_here items
 
 unfoldable pub read : LevelTables → ℕ → Grammar → List Item → Read
-read tables n g items = reads (levels tables n) g unread items
+read tables n g items = reads (levels tables n) g unfit_here items

@@ -7,7 +7,7 @@ use Rattle.grammar.specs.Terminals.{one_of, passes, every_of}
 use Rattle.grammar.specs.Nodes.{Item, Node, Leaf, Nothing, Pair, spell, leaf, ahead, next}
 use Rattle.grammar.specs.Grammars.{Level, Grammar, token, nothing, seq, choice, greedy, level, loop, again, IsPair, IsNone, rounds, FreeIn, FreeWithin}
 use Rattle.grammar.specs.Tested.{Is, Within}
-use Rattle.grammar.specs.Reading.{Refusal, Unfit, Deep, left_of, Read, ◌>>=◌, unread, turns, turning, reads, levels, read}
+use Rattle.grammar.specs.Reading.{Refusal, Unfit, Deep, unread_of, Read, ◌>>=◌, unfit_here, turns, turning, reads, levels, read}
 use Rattle.grammar.specs.Deciding.{both, implies, guarded, sane, LevelTables, IsDecided, expects, all_levels}
 use Rattle.grammar_refusals.specs.Nesting.{Trees, Nested, IsShaped}
 use Rattle.grammar_refusals.specs.Completing.{first_in, ends_empty, short, begins_calm, spares, sure, completes, brief_of, has_brief, level_completes}
@@ -171,7 +171,7 @@ module _ (calm : Terminal → Bool) where
     pub part : IsPart W V
     pub move : Moves V
     pub short : v ≡ true → Fits V s
-    pub breaks : v ≡ true → (l : List Item) (r : Refusal) → u l ≡ Err r → Completed V l (left_of r)
+    pub breaks : v ≡ true → (l : List Item) (r : Refusal) → u l ≡ Err r → Completed V l (unread_of r)
 
   module _ (t : LevelTables) (g : Grammar) (ok : IsDecided t g ≡ true) (d : ℕ) (full : IsCompleted calm d t g ≡ true) where
     abbrev pub E : Level → Trees
@@ -243,20 +243,20 @@ module _ (calm : Terminal → Bool) where
         rounds_exact (Is P a) (reads p a) (is_up P P (λ v x h r. r) a) (guarded_same p (level_shortens P p (levels_exact t (rule_sane t g ok) n)) a o.1)
         (exact_at n a o.0) k
 
-    module _ (n : ℕ) (level_completed : (l : Level) (items : List Item) (r : Refusal) → levels t n l items ≡ Err r → Completed (E l) items (left_of r)) where
+    module _ (n : ℕ) (level_completed : (l : Level) (items : List Item) (r : Refusal) → levels t n l items ≡ Err r → Completed (E l) items (unread_of r)) where
       turns_completed : (a : Grammar) → calls a Nothing false ≡ true
-          → ((k : ℕ) → ((l : List Item) (r : Refusal) → turns k (reads (levels t n) a) l ≡ Err r → Completed (Loop E a) l (left_of r))
-          → (l : List Item) (r : Refusal) → reads (levels t n) a (turns k (reads (levels t n) a)) l ≡ Err r → Completed (FreeIn E a (Loop E a)) l (left_of r))
-          → (k : ℕ) (l : List Item) (r : Refusal) → turns k (reads (levels t n) a) l ≡ Err r → Completed (Loop E a) l (left_of r)
-      turns_completed a f c zero l r e = at_once (Loop E a) (shortest a Nothing) (loop_fits brief has E has_fits a f) l (left_of r)
-          (ap left_of (err_is (Unfit l) r e))
-      turns_completed a f c (suc k) l r e = completed_map (FreeIn E a (Loop E a)) (Loop E a) (fold E a) l (left_of r) (c k (turns_completed a f c k) l r e)
+          → ((k : ℕ) → ((l : List Item) (r : Refusal) → turns k (reads (levels t n) a) l ≡ Err r → Completed (Loop E a) l (unread_of r))
+          → (l : List Item) (r : Refusal) → reads (levels t n) a (turns k (reads (levels t n) a)) l ≡ Err r → Completed (FreeIn E a (Loop E a)) l (unread_of r))
+          → (k : ℕ) (l : List Item) (r : Refusal) → turns k (reads (levels t n) a) l ≡ Err r → Completed (Loop E a) l (unread_of r)
+      turns_completed a f c zero l r e = at_once (Loop E a) (shortest a Nothing) (loop_fits brief has E has_fits a f) l (unread_of r)
+          (ap unread_of (err_is (Unfit l) r e))
+      turns_completed a f c (suc k) l r e = completed_map (FreeIn E a (Loop E a)) (Loop E a) (fold E a) l (unread_of r) (c k (turns_completed a f c k) l r e)
 
       pub completed : (b : Grammar) (s : Node) (v : Bool) → sane b ≡ true → good b s v ≡ true → (V W : Trees) (u : List Item → Read) → Breaks s v V W u
-          → (l : List Item) (r : Refusal) → reads (levels t n) b u l ≡ Err r → Completed (FreeIn E b V) l (left_of r)
+          → (l : List Item) (r : Refusal) → reads (levels t n) b u l ≡ Err r → Completed (FreeIn E b V) l (unread_of r)
       unfolding turning
-      completed (token ks) s v o q V W u i l r e = at_once (FreeIn E (token ks) V) (leaf (first_in ks) 0) (λ h c. q) l (left_of r)
-          (ap left_of (err_is (Unfit l) r (token_fails ks l r e).0))
+      completed (token ks) s v o q V W u i l r e = at_once (FreeIn E (token ks) V) (leaf (first_in ks) 0) (λ h c. q) l (unread_of r)
+          (ap unread_of (err_is (Unfit l) r (token_fails ks l r e).0))
       completed nothing s v o q V W u i l r e = absurd (ok_no_err (Nothing, l) r e)
       completed (seq a b) s v o q V W u i l r e =
           let m = and_parts (sane a) (sane b) o in
@@ -265,13 +265,13 @@ module _ (calm : Terminal → Bool) where
           let f = and_parts (calls b s v) (begins_calm calm (spell (shortest b s))) j.1 in
           let short_b : Fits (FreeIn E b V) (shortest b s) = shortest_fits b s v f.0 V i.short in
           elim (bind_err (reads (levels t n) a u l) (λ x. reads (levels t n) b u x.1 >>= λ y. Ok (Pair x.0 y.0, y.1)) r e) [
-            | inl z ↦ first_breaks (FreeIn E a V) (FreeIn E b V) (shortest b s) f.1 short_b l (left_of r) (completed a s v m.0 k.0 V W u i l r z)
+            | inl z ↦ first_breaks (FreeIn E a V) (FreeIn E b V) (shortest b s) f.1 short_b l (unread_of r) (completed a s v m.0 k.0 V W u i l r z)
             | inr z ↦
                 elim (bind_err (reads (levels t n) b u z.0.1) (λ y. Ok (Pair z.0.0 y.0, y.1)) r z.2) [
                   | inl y ↦
                       let x = (exact_at n a m.0 W u i.exact).sound l z.0.0 z.0.1 z.1 in
                       second_breaks (FreeIn E a V) (FreeIn E b V) (moves brief has E level_moves a s v k.0 V i.move) z.0.0 (shortest b s) l z.0.1
-                      (left_of r) x.0
+                      (unread_of r) x.0
                       (freed_at n a V W i.part z.0.0 (next z.0.1) x.1) f.1 short_b (completed b s v m.1 k.1 V W u i z.0.1 r y)
                   | inr y ↦ absurd (ok_no_err (Pair z.0.0 y.0.0, y.0.1) r y.2)
                 ]
@@ -280,20 +280,20 @@ module _ (calm : Terminal → Bool) where
           let m = and_parts (sane a) (sane b) o in
           let k = and_parts (good a s v) (good b s v) q in
           elim (ok_or_err (passes ks (next l)) (reads (levels t n) a u l) (reads (levels t n) b u l) (Err r) e) [
-            | inl z ↦ completed_map (FreeIn E a V) (FreeIn E (choice ks a b) V) (λ x h y. inl y) l (left_of r) (completed a s v m.0 k.0 V W u i l r z.1)
-            | inr z ↦ completed_map (FreeIn E b V) (FreeIn E (choice ks a b) V) (λ x h y. inr y) l (left_of r) (completed b s v m.1 k.1 V W u i l r z.1)
+            | inl z ↦ completed_map (FreeIn E a V) (FreeIn E (choice ks a b) V) (λ x h y. inl y) l (unread_of r) (completed a s v m.0 k.0 V W u i l r z.1)
+            | inr z ↦ completed_map (FreeIn E b V) (FreeIn E (choice ks a b) V) (λ x h y. inr y) l (unread_of r) (completed b s v m.1 k.1 V W u i l r z.1)
           ]
       completed (greedy ks a) s v o q V W u i l r e =
           let k = and_parts (good a s v) (spares calm ks) q in
           elim (ok_or_err (passes ks (next l)) (reads (levels t n) a u l) (Ok (Nothing, l)) (Err r) e) [
-            | inl z ↦ completed_map (FreeIn E a V) (FreeIn E (greedy ks a) V) (λ x h y. inl y) l (left_of r) (completed a s v o k.0 V W u i l r z.1)
+            | inl z ↦ completed_map (FreeIn E a V) (FreeIn E (greedy ks a) V) (λ x h y. inl y) l (unread_of r) (completed a s v o k.0 V W u i l r z.1)
             | inr z ↦ absurd (ok_no_err (Nothing, l) r z.1)
           ]
       completed (level w) s v o q V W u i l r e = level_completed w l r e
       completed (loop a) s v o q V W u i l r e =
           let m = and_parts (sane a) (guarded a) o in
           let k = and_parts (good a (shortest a Nothing) true) (calls a Nothing false) q in
-          let around : (j : ℕ) → ((l : List Item) (r : Refusal) → turns j (reads (levels t n) a) l ≡ Err r → Completed (Loop E a) l (left_of r))
+          let around : (j : ℕ) → ((l : List Item) (r : Refusal) → turns j (reads (levels t n) a) l ≡ Err r → Completed (Loop E a) l (unread_of r))
           → Breaks (shortest a Nothing) true (Loop E a) (rounds j (Is (Within t.rule n) a)) (turns j (reads (levels t n) a)) =
           λ j c. record {
             exact = rounds_exact_at n a o j;
@@ -306,24 +306,24 @@ module _ (calm : Terminal → Bool) where
           (turns j (reads (levels t n) a)) (around j c)) (suc (length l)) l r e
       completed again s v o q V W u i l r e = i.breaks q l r e
 
-    none_breaks : Breaks Nothing false IsNone IsNone unread
+    none_breaks : Breaks Nothing false IsNone IsNone unfit_here
     none_breaks = record { exact = none_exact; part = λ x h r. r; move = none_moves; short = λ e. absurd cc; breaks = λ e. absurd cc }
 
-    level_completed : (n : ℕ) (l : Level) (items : List Item) (r : Refusal) → levels t n l items ≡ Err r → Completed (E l) items (left_of r)
+    level_completed : (n : ℕ) (l : Level) (items : List Item) (r : Refusal) → levels t n l items ≡ Err r → Completed (E l) items (unread_of r)
     unfolding levels
     level_completed zero l items r e =
-        let is : items ≡ left_of r =
+        let is : items ≡ unread_of r =
         elim (ok_or_err (expects t l (next items)) (Err (Deep items)) (Err (Unfit items)) (Err r) e)
-        [ inl f ↦ ap left_of (err_is (Deep items) r f.1) | inr f ↦ ap left_of (err_is (Unfit items) r f.1) ] in
-        at_once (E l) (brief l) (level_fits l) items (left_of r) is
+        [ inl f ↦ ap unread_of (err_is (Deep items) r f.1) | inr f ↦ ap unread_of (err_is (Unfit items) r f.1) ] in
+        at_once (E l) (brief l) (level_fits l) items (unread_of r) is
     level_completed (suc n) l items r e =
-        completed_map (FreeIn E (t.rule l) IsNone) (E l) (nested t.rule l) items (left_of r)
-        (completed n (level_completed n) (t.rule l) Nothing false (rule_sane t g ok l) (rule_completes l) IsNone IsNone unread none_breaks items r e)
+        completed_map (FreeIn E (t.rule l) IsNone) (E l) (nested t.rule l) items (unread_of r)
+        (completed n (level_completed n) (t.rule l) Nothing false (rule_sane t g ok l) (rule_completes l) IsNone IsNone unfit_here none_breaks items r e)
 
     -- What stands before a refused token begins the spelling of a shaped tree.
     pub whole_completed : (n : ℕ) (l : List Item) (r : Refusal) → read t n g l ≡ Err r
-        → (front : List Item) × (l ≡ front ++ left_of r) × (x : Node) × (more : List Item) × IsShaped t g x × (spell x ≡ front ++ more)
+        → (front : List Item) × (l ≡ front ++ unread_of r) × (x : Node) × (more : List Item) × IsShaped t g x × (spell x ≡ front ++ more)
     unfolding read
     whole_completed n l r e =
-        let s = completed n (level_completed n) g Nothing false (whole_parts t g ok).sound whole_completes IsNone IsNone unread none_breaks l r e in
+        let s = completed n (level_completed n) g Nothing false (whole_parts t g ok).sound whole_completes IsNone IsNone unfit_here none_breaks l r e in
         (s.front, s.whole, s.tree, s.more, whole_nested t.rule g s.tree None (s.fits None tt), s.begins)

@@ -8,7 +8,7 @@ use Rattle.grammar.specs.Terminals.{passes, every, every_of}
 use Rattle.grammar.specs.Nodes.{Item, Node, Leaf, Nothing, Pair, spell, ahead, next}
 use Rattle.grammar.specs.Grammars.{Level, Grammar, token, nothing, seq, choice, greedy, level, loop, again, IsNone, rounds, FreeIn}
 use Rattle.grammar.specs.Tested.{Is, Within}
-use Rattle.grammar.specs.Reading.{Unfit, Deep, left_of, Read, ◌>>=◌, unread, turns, turning, reads, levels, read}
+use Rattle.grammar.specs.Reading.{Unfit, Deep, unread_of, Read, ◌>>=◌, unfit_here, turns, turning, reads, levels, read}
 use Rattle.grammar.specs.Deciding.{both, either, implies, guarded, sane, LevelTables, IsDecided, expects, none, nullable, first, all_levels}
 use Rattle.grammar_refusals.specs.Nesting.{Trees, Places, Nested, nowhere, in_rounds, BeginsIn, BeginsAt, BeginsDeep}
 use Rattle.grammar_refusals.specs.Completing.{begins_calm, spares, IsCompleted}
@@ -97,7 +97,7 @@ reached_map calm M N c e m i l z rest s = record {
 }
 
 same_left : (z : Item) (l rest : List Item) → failed (Deep l) ≡ Err (Deep (z ∷ rest)) → l ≡ z ∷ rest
-same_left z l rest e = ap left_of (err_is (Deep l) (Deep (z ∷ rest)) e)
+same_left z l rest e = ap unread_of (err_is (Deep l) (Deep (z ∷ rest)) e)
 
 module _ (calm : Terminal → Bool) (t : LevelTables) (g : Grammar) (ok : IsDecided t g ≡ true) (d : ℕ) (full : IsCompleted calm d t g ≡ true)
     (reaching : IsReaching t d g ≡ true) where
@@ -357,7 +357,7 @@ module _ (calm : Terminal → Bool) (t : LevelTables) (g : Grammar) (ok : IsDeci
         })) (suc (length l)) l z rest h
     reached again f v c s e o j q m V W M u i l z rest h = i.reaches l z rest h
 
-  none_near : (n : ℕ) → Near n none false none Nothing false IsNone IsNone nowhere unread
+  none_near : (n : ℕ) → Near n none false none Nothing false IsNone IsNone nowhere unfit_here
   none_near n = record {
     exact = none_exact;
     part = λ x h r. r;
@@ -387,7 +387,7 @@ module _ (calm : Terminal → Bool) (t : LevelTables) (g : Grammar) (ok : IsDeci
       reached_map calm (BeginsIn E (BeginsAt t.rule n) (t.rule l) IsNone nowhere) (BeginsAt t.rule (suc n) l) (ends t (t.rule l) none false none)
       (λ k. both (t.nullable_of l) (t.follow_of l k)) (λ x h f y. y) (level_parts l).closes items z rest
       (reached n (level_reached n) (t.rule l) none false none Nothing false (rule_sane t g ok l) (eager_rule l) (rule_completes calm t g ok d full l)
-      (level_parts l).follows IsNone IsNone nowhere unread (none_near n) items z rest e)
+      (level_parts l).follows IsNone IsNone nowhere unfit_here (none_near n) items z rest e)
 
   -- Where reading comes too deep at a token, a tree goes on with it, and a node begins there that is nested too deep.
   pub whole_reached : (n : ℕ) (l : List Item) (z : Item) (rest : List Item) → read t n g l ≡ Err (Deep (z ∷ rest))
@@ -397,7 +397,7 @@ module _ (calm : Terminal → Bool) (t : LevelTables) (g : Grammar) (ok : IsDeci
       let a = and_parts (eager g) (both (goes_on t g none false none) (every (λ k. not (ends t g none false none k)))) whole_reaches.1 in
       let b = and_parts (goes_on t g none false none) (every (λ k. not (ends t g none false none k))) a.1 in
       let s = reached n (level_reached n) g none false none Nothing false (whole_parts t g ok).sound a.0
-      (whole_completes calm t g ok d full) b.0 IsNone IsNone nowhere unread (none_near n) l z rest e in
+      (whole_completes calm t g ok d full) b.0 IsNone IsNone nowhere unfit_here (none_near n) l z rest e in
       elim s.made [
         | inl y ↦ (s.front, s.whole, y.tree, y.more, y.begins, y.fits None tt)
         | inr y ↦ absurd (let f : ends t g none false none z.kind ≡ false =

@@ -7,7 +7,7 @@ use Rattle.grammar.specs.Terminals.{passes}
 use Rattle.grammar.specs.Nodes.{Item, Node, Leaf, Nothing, Pair, spell, ahead, next}
 use Rattle.grammar.specs.Grammars.{Level, Grammar, token, nothing, seq, choice, greedy, level, loop, again, IsNone, rounds, FreeIn}
 use Rattle.grammar.specs.Tested.{Is, Within}
-use Rattle.grammar.specs.Reading.{Read, then_pair, unread, turning, reads, levels, read}
+use Rattle.grammar.specs.Reading.{Read, then_pair, unfit_here, turning, reads, levels, read}
 use Rattle.grammar.specs.Deciding.{guarded, sane, LevelTables, IsDecided, expects, none, nullable, first, decides}
 use Rattle.grammar_refusals.specs.Nesting.{Trees, Places, Nested, IsShaped, nowhere, in_rounds, BeginsIn, BeginsAt, BeginsDeep}
 use Rattle.grammar.proofs.Exact.{ahead_append}
@@ -214,7 +214,7 @@ module _ (t : LevelTables) (whole : Grammar) (ok : IsDecided t whole ≡ true) w
         (turning read) (around k r)) m.0 x rest at al m.1
     deep again f v w o s d V W M u i x rest at al m = i.deep x rest at (allows_up o w (next rest) d al) m
 
-  none_around : (n : ℕ) → Around n none false none IsNone IsNone nowhere unread
+  none_around : (n : ℕ) → Around n none false none IsNone IsNone nowhere unfit_here
   none_around n = record {
     begins = none_begun;
     tests = none_tested;
@@ -228,11 +228,12 @@ module _ (t : LevelTables) (whole : Grammar) (ok : IsDecided t whole ≡ true) w
   level_deep zero v x rest f al m = let e : expects t v (next (spell x ++ rest)) ≡ true =
       expected t whole ok v x rest m.1 al in (([], spell x, refl, rw e refl), [], m.0)
   level_deep (suc n) v x rest f al m =
-      deep n (level_deep n) (t.rule v) none false none (t.follow_of v) (rule_sane t whole ok v) (level_parts t whole ok v).decided IsNone IsNone nowhere unread
+      deep n (level_deep n) (t.rule v) none false none (t.follow_of v) (rule_sane t whole ok v) (level_parts t whole ok v).decided IsNone IsNone nowhere
+          unfit_here
       (none_around n) x rest f al m
 
   pub whole_deep : (n : ℕ) (x : Node) (f : List Item) → BeginsDeep t n whole x f → DeepBefore (read t n whole) x [] f
   unfolding read
   whole_deep n x f m =
-      deep n (level_deep n) whole none false none none (whole_parts t whole ok).sound (whole_parts t whole ok).decided IsNone IsNone nowhere unread
+      deep n (level_deep n) whole none false none none (whole_parts t whole ok).sound (whole_parts t whole ok).decided IsNone IsNone nowhere unfit_here
       (none_around n) x [] f tt m

@@ -6,7 +6,7 @@ use Rattle.grammar.specs.declared.terminals.Terminal.{Terminal}
 use Rattle.grammar.specs.Nodes.{Item, Node, Nothing, spell, next}
 use Rattle.grammar.specs.Grammars.{Grammar, IsNone, FreeIn}
 use Rattle.grammar.specs.Deciding.{LevelTables, IsDecided}
-use Rattle.grammar.specs.Reading.{Refusal, Unfit, Deep, left_of, Read, read}
+use Rattle.grammar.specs.Reading.{Refusal, Unfit, Deep, unread_of, Read, read}
 use Rattle.grammar.specs.Laws.{NoneGoesOn}
 use Rattle.grammar_refusals.specs.Nesting.{Nested, IsShaped, BeginsDeep}
 use Rattle.grammar_refusals.specs.Completing.{IsCompleted}
@@ -170,7 +170,7 @@ module _ (t : LevelTables) (g : Grammar) (ok : IsDecided t g ≡ true) (n : ℕ)
       pub shaped : IsShaped t g tree
       pub begins : spell tree ≡ front ++ more
 
-    refused_begun : (l : List Item) (r : Refusal) → read t n g l ≡ Err r → Begun l (left_of r)
+    refused_begun : (l : List Item) (r : Refusal) → read t n g l ≡ Err r → Begun l (unread_of r)
     refused_begun l r e = let s = whole_completed calm t g ok d full n l r e in record {
       front = s.0;
       whole = s.1;
@@ -208,8 +208,8 @@ module _ (t : LevelTables) (g : Grammar) (ok : IsDecided t g ≡ true) (n : ℕ)
     pub read_none_hopeless : (l : List Item) (x : Node) → read t n g l ≡ Ok (x, []) → (j : ℕ) → IsHopeless t g l j → ⊥
     read_none_hopeless l x e j m = begun_not l [] (read_begun l x [] e) j (let h = m.0 in omega arith) m
 
-    refused_none_hopeless : (l : List Item) (r : Refusal) → read t n g l ≡ Err r → left_of r ≡ [] → (j : ℕ) → IsHopeless t g l j → ⊥
-    refused_none_hopeless l r e z j m = begun_not l (left_of r) (refused_begun l r e) j (let h = m.0 in omega (arith, ap length z)) m
+    refused_none_hopeless : (l : List Item) (r : Refusal) → read t n g l ≡ Err r → unread_of r ≡ [] → (j : ℕ) → IsHopeless t g l j → ⊥
+    refused_none_hopeless l r e z j m = begun_not l (unread_of r) (refused_begun l r e) j (let h = m.0 in omega (arith, ap length z)) m
 
     -- ---- and back
 
@@ -227,7 +227,7 @@ module _ (t : LevelTables) (g : Grammar) (ok : IsDecided t g ≡ true) (n : ℕ)
             (h, (s.2, deep_shaped t n g s.2 s.0 s.5, (s.3, spells), subst (BeginsDeep t n g s.2) front s.5)),
             λ j less m.
                 let p = deep_up_to l j m in
-                let rests : p.here ∷ p.rest ≡ c.here ∷ c.rest = ap left_of (err_is (Deep (p.here ∷ p.rest)) (Deep (c.here ∷ c.rest)) (sym p.refused ∙ e')) in
+                let rests : p.here ∷ p.rest ≡ c.here ∷ c.rest = ap unread_of (err_is (Deep (p.here ∷ p.rest)) (Deep (c.here ∷ c.rest)) (sym p.refused ∙ e')) in
                 let lens : length p.front ≡ length (take i l) = ap length
                 (append_cancel_right p.front (take i l) (c.here ∷ c.rest) (sym (ap (λ (q : List Item). p.front ++ q) rests) ∙ sym p.whole ∙ c.whole)) in
                 omega (arith, p.before, length-take-le i l (omega arith), lens),

@@ -8,7 +8,7 @@ use Rattle.grammar.specs.Terminals.{one_of, passes}
 use Rattle.grammar.specs.Nodes.{Item, Node, Nothing, Pair, spell, next}
 use Rattle.grammar.specs.Grammars.{Level, Grammar, token, nothing, seq, choice, greedy, level, loop, again, IsNone, rounds}
 use Rattle.grammar.specs.Tested.{Is, Within}
-use Rattle.grammar.specs.Reading.{Refusal, Unfit, Deep, left_of, Read, ◌>>=◌, token_at, then_pair, unread, turns, turning, reads, levels, read}
+use Rattle.grammar.specs.Reading.{Refusal, Unfit, Deep, unread_of, Read, ◌>>=◌, token_at, then_pair, unfit_here, turns, turning, reads, levels, read}
 use Rattle.grammar.specs.Deciding.{guarded, sane, LevelTables, expects}
 use Rattle.grammar_refusals.specs.Nesting.{Trees}
 use Rattle.grammar.proofs.Exact.{Exact, bind_err, failed, err_is, ok_no_err, ok_or_err, same_next, token_fails, none_exact}
@@ -23,8 +23,8 @@ moved (Deep left) more = Deep more
 
 pub record Local (p : List Item → Read) (l : List Item) (r : Refusal) : Type 0 where
   pub front : List Item
-  pub whole : l ≡ front ++ left_of r
-  pub again : (more : List Item) → next more ≡ next (left_of r) → p (front ++ more) ≡ Err (moved r more)
+  pub whole : l ≡ front ++ unread_of r
+  pub again : (more : List Item) → next more ≡ next (unread_of r) → p (front ++ more) ≡ Err (moved r more)
 
 abbrev pub IsLocal : (List Item → Read) → Type 0
 IsLocal p = (l : List Item) (r : Refusal) → p l ≡ Err r → Local p l r
@@ -42,9 +42,9 @@ pair_local P p q exact l r first second e =
                 let t = second h.0.0 h.0.1 h.1 g in
                 record {
                   front = spell h.0.0 ++ t.front;
-                  whole = s.0 ∙ ap (λ (m : List Item). spell h.0.0 ++ m) t.whole ∙ sym (append_assoc (spell h.0.0) t.front (left_of r));
+                  whole = s.0 ∙ ap (λ (m : List Item). spell h.0.0 ++ m) t.whole ∙ sym (append_assoc (spell h.0.0) t.front (unread_of r));
                   again = λ more at.
-                      let head : next h.0.1 ≡ next (t.front ++ more) = ap next t.whole ∙ sym (same_next t.front more (left_of r) at) in
+                      let head : next h.0.1 ≡ next (t.front ++ more) = ap next t.whole ∙ sym (same_next t.front more (unread_of r) at) in
                       let one : p (spell h.0.0 ++ (t.front ++ more)) ≡ Ok (h.0.0, t.front ++ more) =
                       exact.again h.0.0 (t.front ++ more) (subst (P h.0.0) head s.1) in
                       ap (λ (m : List Item). then_pair (p m) q) (append_assoc (spell h.0.0) t.front more) ∙ ap (λ (z : Read). then_pair z q) one
@@ -65,7 +65,7 @@ choice_local ks p q l r first second e =
             whole = s.whole;
             again = λ more at.
                 let b : passes ks (next (s.front ++ more)) ≡ true = subst (λ (j : Option Terminal). passes ks j ≡ true)
-                (ap next s.whole ∙ sym (same_next s.front more (left_of r) at)) h.0 in
+                (ap next s.whole ∙ sym (same_next s.front more (unread_of r) at)) h.0 in
                 rw b (s.again more at);
           }
       | inr h ↦
@@ -75,7 +75,7 @@ choice_local ks p q l r first second e =
             whole = s.whole;
             again = λ more at.
                 let b : passes ks (next (s.front ++ more)) ≡ false =
-                subst (λ (j : Option Terminal). passes ks j ≡ false) (ap next s.whole ∙ sym (same_next s.front more (left_of r) at)) h.0 in
+                subst (λ (j : Option Terminal). passes ks j ≡ false) (ap next s.whole ∙ sym (same_next s.front more (unread_of r) at)) h.0 in
                 rw b (s.again more at);
           }
     ]
@@ -104,8 +104,8 @@ token_local ks l r e =
     let f = token_fails ks l r e in
     unfit_local (token_at ks) l r f.0 (λ more at. not_taken ks more (subst (λ (j : Option Terminal). passes ks j ≡ false) (sym at) f.1))
 
-pub unread_local : IsLocal unread
-unread_local l r e = unfit_local unread l r e (λ more at. refl)
+pub unread_local : IsLocal unfit_here
+unread_local l r e = unfit_local unfit_here l r e (λ more at. refl)
 
 module _ (f : (List Item → Read) → List Item → Read) (guards : Guards f) (body : (k : ℕ) → IsLocal (turns k f) → IsLocal (f (turns k f))) where
   turns_local : (k : ℕ) → IsLocal (turns k f)
@@ -124,7 +124,7 @@ module _ (f : (List Item → Read) → List Item → Read) (guards : Guards f) (
             let K = suc (length l + length m) in
             let e' : turns K f l ≡ Err r = enough f guards K (suc (length l)) l (omega arith) (omega arith) ∙ e in
             let s' = turns_local K l r e' in
-            let same : s'.front ≡ s.front = append_cancel_right s'.front s.front (left_of r) (sym s'.whole ∙ s.whole) in
+            let same : s'.front ≡ s.front = append_cancel_right s'.front s.front (unread_of r) (sym s'.whole ∙ s.whole) in
             enough f guards (suc (length m)) K m (omega arith) (omega arith) ∙ ap (λ (z : List Item). turns K f (z ++ more)) (sym same) ∙ s'.again more at;
       }
 
@@ -171,7 +171,7 @@ module _ (t : LevelTables) (sane_rule : (l : Level) → sane (t.rule l) ≡ true
   unfolding levels
   level_local zero v l r e = level_local_zero t v l r e
   level_local (suc n) v l r e =
-      let s = local n (level_local n) (t.rule v) (sane_rule v) IsNone unread none_exact unread_local l r e in record {
+      let s = local n (level_local n) (t.rule v) (sane_rule v) IsNone unfit_here none_exact unread_local l r e in record {
         front = s.front;
         whole = s.whole;
         again = s.again;
@@ -179,7 +179,7 @@ module _ (t : LevelTables) (sane_rule : (l : Level) → sane (t.rule l) ≡ true
 
   pub read_local : (n : ℕ) (g : Grammar) → sane g ≡ true → IsLocal (read t n g)
   unfolding read
-  read_local n g ok l r e = let s = local n (level_local n) g ok IsNone unread none_exact unread_local l r e in record {
+  read_local n g ok l r e = let s = local n (level_local n) g ok IsNone unfit_here none_exact unread_local l r e in record {
     front = s.front;
     whole = s.whole;
     again = s.again;

@@ -7,7 +7,7 @@ use Rattle.grammar.specs.Terminals.{passes}
 use Rattle.grammar.specs.Nodes.{Item, Node, Leaf, Nothing, Pair, spell, next}
 use Rattle.grammar.specs.Grammars.{Level, Grammar, token, nothing, seq, choice, greedy, level, loop, again, IsNone, rounds, FreeWithin}
 use Rattle.grammar.specs.Tested.{Is, Within}
-use Rattle.grammar.specs.Reading.{Deep, Read, ◌>>=◌, then_pair, unread, turning, reads, levels, read}
+use Rattle.grammar.specs.Reading.{Deep, Read, ◌>>=◌, then_pair, unfit_here, turning, reads, levels, read}
 use Rattle.grammar.specs.Deciding.{both, guarded, sane, LevelTables, IsDecided, expects, none}
 use Rattle.grammar_refusals.specs.Nesting.{Trees, Nested, IsShaped}
 use Rattle.grammar.proofs.Bools.{both_make, either_left, either_right}
@@ -145,13 +145,13 @@ module _ (t : LevelTables) (g : Grammar) (ok : IsDecided t g ≡ true) where
         loop_goes (Is Placed a) (reads (levels t n) a) guards (λ W r. goes a p.0 W (turning (reads (levels t n) a)) r) h.0 x rest h.1
     goes again o V u s x rest h = s x rest h
 
-  none_goes : AllGo IsNone unread
+  none_goes : AllGo IsNone unfit_here
   none_goes x rest h = absurd h
 
   pub level_goes : (n : ℕ) (v : Level) → AllGo (Placed v) (levels t n v)
   unfolding levels
   level_goes zero v x rest h = let e : expects t v (next (spell x ++ rest)) ≡ true = expected v x rest h.0 h.1 in inr ([], spell x, refl, rw e refl)
-  level_goes (suc n) v x rest h = goes n (level_goes n) (t.rule v) (rule_sane t g ok v) IsNone unread none_goes x rest (placed_rule v x (next rest) h)
+  level_goes (suc n) v x rest h = goes n (level_goes n) (t.rule v) (rule_sane t g ok v) IsNone unfit_here none_goes x rest (placed_rule v x (next rest) h)
 
   pub shaped_placed : (x : Node) → IsShaped t g x → Is Placed g IsNone x None
   shaped_placed x s = tested t (FreeWithin t.rule s.0) Placed (free_begun t g ok s.0) (λ w y i al r. ((s.0, r), al)) g none false none none
@@ -159,4 +159,4 @@ module _ (t : LevelTables) (g : Grammar) (ok : IsDecided t g ≡ true) where
 
   pub shaped_goes : (n : ℕ) (x : Node) → IsShaped t g x → Goes (read t n g) x []
   unfolding read
-  shaped_goes n x s = goes n (level_goes n) g (whole_parts t g ok).sound IsNone unread none_goes x [] (shaped_placed x s)
+  shaped_goes n x s = goes n (level_goes n) g (whole_parts t g ok).sound IsNone unfit_here none_goes x [] (shaped_placed x s)

@@ -4,7 +4,7 @@ use Rattle.grammar.specs.declared.terminals.Terminal.{Terminal}
 use Rattle.grammar.specs.Nodes.{Item, Node, spell}
 use Rattle.grammar.specs.Grammars.{Grammar}
 use Rattle.grammar.specs.Deciding.{LevelTables, IsDecided}
-use Rattle.grammar.specs.Reading.{Refusal, Unfit, Deep, left_of, read}
+use Rattle.grammar.specs.Reading.{Refusal, Unfit, Deep, unread_of, read}
 use Rattle.grammar.specs.Laws.{IsFormedBy, NoneGoesOn}
 use Rattle.grammar_refusals.specs.Nesting.{IsShaped, BeginsDeep}
 use Rattle.grammar_refusals.specs.Completing.{IsCompleted}
@@ -40,7 +40,7 @@ abbrev pub RefusedIsBegun : Type 0
 RefusedIsBegun =
     (calm : Terminal → Bool) (d : ℕ) (t : LevelTables) (g : Grammar) → IsDecided t g ≡ true
     → IsCompleted calm d t g ≡ true → (n : ℕ) (l : List Item) (r : Refusal) → read t n g l ≡ Err r
-    → (front : List Item) × (l ≡ front ++ left_of r) × (x : Node) × (more : List Item) × IsShaped t g x ×
+    → (front : List Item) × (l ≡ front ++ unread_of r) × (x : Node) × (more : List Item) × IsShaped t g x ×
     (spell x ≡ front ++ more)
 
 -- with a token that is refused as too deep a tree goes on, and there begins a node of nesting n + 1

@@ -38,11 +38,11 @@ result_of (Function (FunctionHeading' word name formals result)) = result
 abbrev pub is_complete : Heading → Bool
 is_complete h = not (is_function h) || is_some (result_of h)
 
-abbrev pub opening : Formals → ℕ
-opening f = (out-Formals f).«open»
+abbrev pub opening_parenthesis : Formals → ℕ
+opening_parenthesis f = (out-Formals f).«open»
 
-abbrev pub closing : Formals → ℕ
-closing f = (out-Formals f).close
+abbrev pub closing_parenthesis : Formals → ℕ
+closing_parenthesis f = (out-Formals f).close
 
 abbrev pub first_formal : Formals → Formal
 first_formal f = (out-Formals f).first

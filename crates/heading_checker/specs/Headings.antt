@@ -22,13 +22,13 @@ use Rattle.program_tables.specs.declared.rows.PartRow.TheVariants as part
 use Rattle.program_tables.specs.declared.rows.ItemRow.TheVariants as item
 use Rattle.program_tables.specs.ProgramRows.{size_of}
 use Rattle.check_steps.specs.Known.{frame_at, type_at}
-use Rattle.check_steps.specs.Steps.{Step, give, ◌>>=◌, look, rule, late, too_big, put, open_region, each_back}
+use Rattle.check_steps.specs.Steps.{Step, give, ◌>>=◌, look, early, late, too_big, put, open_region, each_back}
 use Rattle.pas_places.specs.Headings.{heading_name, heading_word}
 use Rattle.kind_checker.specs.Names.{each_name}
 use Rattle.kind_checker.specs.Sizes.{frame_capped}
 use Rattle.kind_checker.specs.Types.{named_type}
 use Rattle.heading_checker.specs.Formals.{held_formals, is_complete, define_formals_at}
-use Rattle.heading_checker.specs.Formals.{opening, closing, first_formal, other_formals}
+use Rattle.heading_checker.specs.Formals.{opening_parenthesis, closing_parenthesis, first_formal, other_formals}
 
 -- ---- value and variable parameters
 
@@ -65,7 +65,7 @@ unfoldable pub routine_formal : ℕ → ℕ → Heading → Step (Unit {0})
 routine_formal frame at h = do
   level ← look (λ k. (frame_at k frame).level)
   _ ← put (heading_name h) (row.Name (named.RoutineFormal at level (heading_word h)))
-  rule 9 (heading_name h) (is_complete h)
+  early 9 (heading_name h) (is_complete h)
 
 -- The region of its own formals begins at its name, inside the frame of the heading that holds it. It has no block, so
 -- its level is that of this frame. The number of its frame is given.
@@ -100,8 +100,8 @@ put_next_section next n = put_section n.semicolon n.formal next
 -- The sections stand at the `(` and the semicolons, put down from the last one on; none stands at the `)`.
 unfoldable pub put_sections : Formals → Step ℕ
 put_sections f = do
-  next ← each_back put_next_section (closing f) (other_formals f)
-  put_section (opening f) (first_formal f) next
+  next ← each_back put_next_section (closing_parenthesis f) (other_formals f)
+  put_section (opening_parenthesis f) (first_formal f) next
 
 -- the list of a heading's sections; without formals its word, where no section stands
 abbrev pub section_list : ℕ → Option Formals → Step ℕ
@@ -111,25 +111,25 @@ section_list word (Some f) = put_sections f
 -- ---- results, and the rows of headings
 
 -- A type of which nothing is known breaks no further rule.
-abbrev pub is_result : Option TypeRow → Bool
-is_result None = true
-is_result (Some (Ordinal least greatest)) = true
-is_result (Some (Subrange host least greatest)) = true
-is_result (Some (Pointer domain)) = true
-is_result (Some t) = false
+abbrev pub may_be_result : Option TypeRow → Bool
+may_be_result None = true
+may_be_result (Some (Ordinal least greatest)) = true
+may_be_result (Some (Subrange host least greatest)) = true
+may_be_result (Some (Pointer domain)) = true
+may_be_result (Some t) = false
 
 -- Rules 1 and 3: the name is to stand for a type. Rule 11: a function's result type is neither ordinal nor a pointer.
-unfoldable pub result_type : ℕ → ℕ → Step ℕ
-result_type around name = do
+unfoldable pub checked_result_type : ℕ → ℕ → Step ℕ
+checked_result_type around name = do
   t ← named_type around name
-  fine ← look (λ k. is_result (type_at k t))
+  fine ← look (λ k. may_be_result (type_at k t))
   _ ← late 11 name fine
   give t
 
 -- Where none is written it is unknown: no type stands at the function's own name.
 abbrev pub result_or : ℕ → ℕ → Option ResultType → Step ℕ
 result_or around name None = give name
-result_or around name (Some r) = result_type around r.name
+result_or around name (Some r) = checked_result_type around r.name
 
 unfoldable pub procedure_row : ℕ → ℕ → Option Formals → Step (Unit {0})
 procedure_row word name formals = do

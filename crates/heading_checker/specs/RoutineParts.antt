@@ -15,10 +15,10 @@ use Rattle.check_steps.specs.declared.regions.Definition.{Definition}
 use Rattle.check_steps.specs.Known.{Known, name_at, row_at}
 use Rattle.check_steps.specs.Regions.{defined_in}
 use Rattle.check_steps.specs.Names.{define_in}
-use Rattle.check_steps.specs.Steps.{Step, give, ◌>>=◌, look, rule, when, put, each}
-use Rattle.check_steps.specs.Words.{number_of}
+use Rattle.check_steps.specs.Steps.{Step, give, ◌>>=◌, look, early, when, put, each}
+use Rattle.check_steps.specs.Words.{number_of_name}
 use Rattle.pas_places.specs.Headings.{heading_name}
-use Rattle.heading_checker.specs.Formals.{is_function, is_complete, formals_of, result_of, opening}
+use Rattle.heading_checker.specs.Formals.{is_function, is_complete, formals_of, result_of, opening_parenthesis}
 
 -- the token of the name in a routine's heading
 abbrev pub routine_name : Routine → ℕ
@@ -53,21 +53,21 @@ define_heading region h = do
     token = heading_name h;
     end = heading_name h;
   })
-  rule 9 (heading_name h) (is_complete h)
+  early 9 (heading_name h) (is_complete h)
 
-abbrev pub is_number : Option ℕ → ℕ → Bool
-is_number None n = false
-is_number (Some m) n = nat_eq m n
+abbrev pub is_this_number : Option ℕ → ℕ → Bool
+is_this_number None n = false
+is_this_number (Some m) n = nat_eq m n
 
 -- whether a directive is `forward`, in letters of either case
 abbrev pub is_forward : Known → ℕ → Bool
-is_forward k directive = is_number (number_of k.names (codes "forward")) (name_at k directive)
+is_forward k directive = is_this_number (number_of_name k.names (codes "forward")) (name_at k directive)
 
 -- Rule 10: a directive other than forward. After `forward` the heading waits for a block.
 unfoldable pub directed : Heading → ℕ → Step (Unit {0})
 directed h directive = do
   forward ← look (λ k. is_forward k directive)
-  _ ← rule 10 directive forward
+  _ ← early 10 directive forward
   when forward (put (heading_name h) (row.Part (part.Forward (is_function h) None)))
 
 abbrev pub directive_in : Heading → Body → Step (Unit {0})
@@ -84,12 +84,12 @@ defining region h body = do
 -- rule 9: a completing heading has formals, at the `(`
 abbrev pub no_formals : Option Formals → Step (Unit {0})
 no_formals None = give tt
-no_formals (Some f) = rule 9 (opening f) false
+no_formals (Some f) = early 9 (opening_parenthesis f) false
 
 -- rule 9: or it has a result type, at the `:`
 abbrev pub no_result : Option ResultType → Step (Unit {0})
 no_result None = give tt
-no_result (Some r) = rule 9 r.colon false
+no_result (Some r) = early 9 r.colon false
 
 -- It defines nothing. At the first name it is put down which routine of the part this is, and at its own the first
 -- name.
@@ -121,7 +121,7 @@ is_waiting r = false
 unfoldable pub has_block : Unit {0} → Routine → Step (Unit {0})
 has_block u r = do
   waiting ← look (λ k. is_waiting (row_at k (routine_name r)))
-  rule 8 (routine_name r) (not waiting)
+  early 8 (routine_name r) (not waiting)
 
 -- the names of the routines of a part, in the region of the block
 abbrev pub define_routines : ℕ → List Routine → Step (Unit {0})

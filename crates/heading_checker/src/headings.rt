@@ -4,9 +4,10 @@ ghost use Rattle.std.specs.Prelude.{◌≡◌, IfOk};
 ghost use Rattle.check_steps.specs.Steps.{Does, each, each_back};
 ghost use Rattle.kind_checker.specs.Names.{each_name, on_name};
 ghost use Rattle.heading_checker.specs.Headings.{cells_of, count_of, formal_place, function_row, function_signature};
-ghost use Rattle.heading_checker.specs.Headings.{is_result, next_formal_place, open_heading, parameter, parameters};
+ghost use Rattle.heading_checker.specs.Headings.{may_be_result, next_formal_place, open_heading, parameter, parameters};
 ghost use Rattle.heading_checker.specs.Headings.{places, procedure_row, procedure_signature, put_next_section};
-ghost use Rattle.heading_checker.specs.Headings.{put_section, put_sections, result_or, result_type, routine_formal};
+ghost use Rattle.heading_checker.specs.Headings.{put_section, put_sections, result_or, checked_result_type};
+ghost use Rattle.heading_checker.specs.Headings.{routine_formal};
 ghost use Rattle.heading_checker.specs.Headings.{section_list, section_row, signature, value_cells};
 
 use crate::formals::{define_formals_at, is_complete};
@@ -125,7 +126,7 @@ fn check_routine_formal(work: &mut Work, frame: u32, at: u32, heading: &Heading)
         heading: heading_word(heading),
     };
     work.put(heading_name(heading), Row::Name(row));
-    work.rule(9, heading_name(heading), is_complete(heading));
+    work.early(9, heading_name(heading), is_complete(heading));
 }
 
 /// The region of the formals of a heading among formals; the number of its frame is given.
@@ -228,8 +229,8 @@ fn put_section_list(work: &mut Work, word: u32, formals: &Option<Formals>) -> u3
     }
 }
 
-fn is_result(row: Option<TypeRow>) -> bool
-    ensures { result ≡ is_result row }
+fn may_be_result(row: Option<TypeRow>) -> bool
+    ensures { result ≡ may_be_result row }
 {
     match row {
         None => true,
@@ -240,12 +241,12 @@ fn is_result(row: Option<TypeRow>) -> bool
     }
 }
 
-#[tactic(auto, using(check_steps::proofs::Runs::steps), unfolding(crate::specs::Headings::result_type))]
+#[tactic(auto, using(check_steps::proofs::Runs::steps), unfolding(crate::specs::Headings::checked_result_type))]
 fn check_result_type(work: &mut Work, around: u32, name: u32) -> u32
-    ensures { Does (result_type around name) result work.old work.new }
+    ensures { Does (checked_result_type around name) result work.old work.new }
 {
     let of = check_named_type(work, around, name);
-    let fine = is_result(work.tables.type_row(of));
+    let fine = may_be_result(work.tables.type_row(of));
     work.late(11, name, fine);
     of
 }

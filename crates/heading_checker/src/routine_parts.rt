@@ -81,7 +81,7 @@ fn define_heading(work: &mut Work, region: u32, heading: &Heading) -> Result<(),
         end: name,
     };
     work.define_in(region, definition)?;
-    work.rule(9, name, is_complete(heading));
+    work.early(9, name, is_complete(heading));
     Ok(())
 }
 
@@ -99,7 +99,7 @@ fn check_directive(work: &mut Work, heading: &Heading, directive: u32)
     ensures { Does (directed heading.now directive) tt work.old work.new }
 {
     let forward = is_forward(&work.tables, directive);
-    work.rule(10, directive, forward);
+    work.early(10, directive, forward);
     if forward {
         let row = PartRow::Forward {
             function: is_function(heading),
@@ -134,7 +134,7 @@ fn refuse_formals(work: &mut Work, formals: Option<&Formals>)
 {
     match formals {
         None => {}
-        Some(formals) => work.rule(9, formals.open, false),
+        Some(formals) => work.early(9, formals.open, false),
     }
 }
 
@@ -144,7 +144,7 @@ fn refuse_result(work: &mut Work, written: Option<&ResultType>)
 {
     match written {
         None => {}
-        Some(written) => work.rule(9, written.colon, false),
+        Some(written) => work.early(9, written.colon, false),
     }
 }
 
@@ -230,7 +230,7 @@ fn check_block(work: &mut Work, routine: &Routine)
 {
     let name = routine_name(routine);
     let waiting = is_waiting(work.tables.row(name));
-    work.rule(8, name, !waiting);
+    work.early(8, name, !waiting);
 }
 
 #[tactic(auto, using(check_steps::proofs::Runs::loops))]

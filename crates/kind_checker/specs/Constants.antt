@@ -19,7 +19,7 @@ use Rattle.check_steps.specs.declared.regions.Def.{Def}
 use Rattle.check_steps.specs.declared.regions.Def.TheVariants as def
 use Rattle.check_steps.specs.declared.regions.Found.{Found}
 use Rattle.check_steps.specs.Known.{Known, row_at, spelled_at}
-use Rattle.check_steps.specs.Steps.{Step, give, ◌>>=◌, look, rule, late, put}
+use Rattle.check_steps.specs.Steps.{Step, give, ◌>>=◌, look, early, late, put}
 use Rattle.check_steps.specs.Names.{define_in, use_at}
 use Rattle.pas_places.specs.Operators.{sign_token}
 use Rattle.kind_checker.specs.declared.constants.Value.{Value}
@@ -48,7 +48,7 @@ signed_value s v = None
 -- rule 4: a sign before a constant that is not an integer
 unfoldable pub sign_before : Sign → Option Value → Step (Option Value)
 sign_before s v = do
-  _ ← rule 4 (sign_token s) (is_integer v)
+  _ ← early 4 (sign_token s) (is_integer v)
   give (signed_value s v)
 
 abbrev pub signed : Option Sign → Option Value → Step (Option Value)
@@ -58,9 +58,9 @@ signed (Some s) v = sign_before s v
 -- ---- constants
 
 -- an unsigned integer up to maxint
-abbrev pub number_in : Spelled → Option Value
-number_in (spelled.Number n) = if nat_le n 2147483647 then Some (Ordinal 0 (pos n)) else None
-number_in s = None
+abbrev pub integer_in : Spelled → Option Value
+integer_in (spelled.Number n) = if nat_le n 2147483647 then Some (Ordinal 0 (pos n)) else None
+integer_in s = None
 
 -- a string of one character is a char
 abbrev pub text_value : ℕ → List ℕ → Value
@@ -96,7 +96,7 @@ named_constant frame token = do
 -- what a constant stands for, seen from a frame
 abbrev pub constant : ℕ → Constant → Step (Option Value)
 constant frame (tree.Number s n) = do
-  v ← look (λ k. number_in (spelled_at k n))
+  v ← look (λ k. integer_in (spelled_at k n))
   signed s v
 constant frame (tree.Name s n) = do
   v ← named_constant frame n

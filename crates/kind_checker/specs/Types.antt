@@ -11,7 +11,7 @@ use Rattle.check_steps.specs.declared.regions.Def.{Def}
 use Rattle.check_steps.specs.declared.regions.Def.TheVariants as def
 use Rattle.check_steps.specs.declared.regions.Found.{Found}
 use Rattle.check_steps.specs.Known.{Known, row_at, type_at}
-use Rattle.check_steps.specs.Steps.{Step, give, ◌>>=◌, look, rule, late, put}
+use Rattle.check_steps.specs.Steps.{Step, give, ◌>>=◌, look, early, late, put}
 use Rattle.check_steps.specs.Names.{use_at}
 use Rattle.kind_checker.specs.declared.constants.Value.{Value}
 use Rattle.kind_checker.specs.declared.constants.Value.TheVariants.{Ordinal}
@@ -62,21 +62,21 @@ range_row a b = row.Nothing
 -- rule 5: a subrange's constants are not of one ordinal type, or the first is greater
 unfoldable pub subrange : Option Value → ℕ → Option Value → Step ℕ
 subrange first dots last = do
-  _ ← rule 5 dots (is_range first last)
+  _ ← early 5 dots (is_range first last)
   _ ← put dots (range_row first last)
   give dots
 
 -- ---- enumerations
 
 -- the ordinal after this one, of which there is none after the greatest integer
-abbrev pub after : ℤ → ℤ
-after v = if int_lt v (pos 2147483647) then v +ℤ pos 1 else v
+abbrev pub successor : ℤ → ℤ
+successor v = if int_lt v (pos 2147483647) then v +ℤ pos 1 else v
 
 -- one more constant of an enumeration, after the one of this ordinal; its own ordinal is given
 unfoldable pub enumerated : ℕ → ℤ → ℕ → Step ℤ
 enumerated of' last name = do
-  _ ← put name (row.Name (named.Constant of' (after last)))
-  give (after last)
+  _ ← put name (row.Name (named.Constant of' (successor last)))
+  give (successor last)
 
 -- the constants have the ordinals from 0 on
 unfoldable pub enumeration : Enumeration → Step ℕ
@@ -88,23 +88,23 @@ enumeration e = do
 -- ---- pointers
 
 -- the token as at which the domain's name is looked up
-abbrev pub domain_at : Scope → ℕ → ℕ
-domain_at s name = unwrap_or s.domains_at name
+abbrev pub looked_up_as : Scope → ℕ → ℕ
+looked_up_as s name = unwrap_or s.domains_at name
 
 abbrev pub definition_of : Option Found → ℕ → ℕ
 definition_of None name = name
 definition_of (Some f) name = f.definition.token
 
 -- Where the domain may be defined later in the same part, its definition alone is known so far.
-abbrev pub domain_in : Known → Option ℕ → Option Found → ℕ → ℕ
-domain_in k None found name = type_of k found name
-domain_in k (Some at) found name = definition_of found name
+abbrev pub domain_named : Known → Option ℕ → Option Found → ℕ → ℕ
+domain_named k None found name = type_of k found name
+domain_named k (Some at) found name = definition_of found name
 
-unfoldable pub pointer : Scope → ℕ → ℕ → Step ℕ
-pointer s caret name = do
-  found ← use_at s.frame (domain_at s name) name
+unfoldable pub pointer_type : Scope → ℕ → ℕ → Step ℕ
+pointer_type s caret name = do
+  found ← use_at s.frame (looked_up_as s name) name
   _ ← late 3 name (is_type_name found)
-  domain ← look (λ k. domain_in k s.domains_at found name)
+  domain ← look (λ k. domain_named k s.domains_at found name)
   _ ← put caret (row.Type (kind.Pointer domain))
   give caret
 
@@ -122,7 +122,7 @@ unfoldable pub base_type : ℕ → ℕ → ℕ → Step ℕ
 base_type first unknown t = do
   base ← ordinal first unknown t
   fine ← look (λ k. is_within_bytes (type_at k base))
-  _ ← rule 7 first fine
+  _ ← early 7 first fine
   give base
 
 -- a set type, at its word `set`

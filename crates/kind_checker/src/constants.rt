@@ -4,7 +4,7 @@ ghost use Rattle.std.specs.Prelude.{◌≡◌, IfOk};
 ghost use Rattle.check_steps.specs.Known.{spelled_at};
 ghost use Rattle.check_steps.specs.Steps.{Does, each};
 ghost use Rattle.kind_checker.specs.Constants.{constant, constant_part, constants_in, define_constant, is_constant};
-ghost use Rattle.kind_checker.specs.Constants.{is_integer, named_constant, number_in, opposite, sign_before, signed};
+ghost use Rattle.kind_checker.specs.Constants.{is_integer, named_constant, integer_in, opposite, sign_before, signed};
 ghost use Rattle.kind_checker.specs.Constants.{signed_value, text_value, value_in, value_of, value_row, with_sign};
 
 use check_steps::{Def, Definition, Found, Spelled, Tables, Work};
@@ -71,7 +71,7 @@ fn signed_value(sign: &Sign, value: Option<Value>) -> Option<Value>
 fn check_sign_before(work: &mut Work, sign: &Sign, value: Option<Value>) -> Option<Value>
     ensures { Does (sign_before sign.now value) result work.old work.new }
 {
-    work.rule(4, sign_token(sign), is_integer(value));
+    work.early(4, sign_token(sign), is_integer(value));
     signed_value(sign, value)
 }
 
@@ -85,8 +85,8 @@ fn check_signed(work: &mut Work, sign: &Option<Sign>, value: Option<Value>) -> O
     }
 }
 
-fn number_in(spelled: Spelled) -> Option<Value>
-    ensures { result ≡ number_in spelled }
+fn integer_in(spelled: Spelled) -> Option<Value>
+    ensures { result ≡ integer_in spelled }
 {
     match spelled {
         Spelled::Number(n) => {
@@ -163,7 +163,7 @@ pub fn check_constant(work: &mut Work, frame: u32, c: &Constant) -> Option<Value
 {
     match c {
         Constant::Number(sign, token) => {
-            let value = number_in(work.tables.spelled(*token));
+            let value = integer_in(work.tables.spelled(*token));
             check_signed(work, sign, value)
         }
         Constant::Name(sign, token) => {

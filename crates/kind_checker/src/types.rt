@@ -4,8 +4,8 @@
 ghost use Rattle.std.specs.Prelude.{◌≡◌};
 ghost use Rattle.check_steps.specs.Steps.{Does, each};
 ghost use Rattle.kind_checker.specs.Names.{each_name, on_name};
-ghost use Rattle.kind_checker.specs.Types.{after, base_type, definition_of, domain_at, domain_in, enumerated};
-ghost use Rattle.kind_checker.specs.Types.{enumeration, is_range, is_type_name, named_type, ordinal, pointer};
+ghost use Rattle.kind_checker.specs.Types.{successor, base_type, definition_of, looked_up_as, domain_named, enumerated};
+ghost use Rattle.kind_checker.specs.Types.{enumeration, is_range, is_type_name, named_type, ordinal, pointer_type};
 ghost use Rattle.kind_checker.specs.Types.{range_row, set_type, subrange, type_named, type_of};
 
 use crate::constants::Value;
@@ -121,13 +121,13 @@ fn range_row(first: Option<Value>, last: Option<Value>) -> Row
 pub fn check_subrange(work: &mut Work, first: Option<Value>, dots: u32, last: Option<Value>) -> u32
     ensures { Does (subrange first dots last) result work.old work.new }
 {
-    work.rule(5, dots, is_range(first, last));
+    work.early(5, dots, is_range(first, last));
     work.put(dots, range_row(first, last));
     dots
 }
 
-fn after(ordinal: i32) -> i32
-    ensures { result ≡ after ordinal }
+fn successor(ordinal: i32) -> i32
+    ensures { result ≡ successor ordinal }
 {
     if ordinal < i32::MAX {
         ordinal + 1
@@ -140,7 +140,7 @@ fn after(ordinal: i32) -> i32
 fn check_enumerated(work: &mut Work, of: u32, last: i32, name: u32) -> i32
     ensures { Does (enumerated of last name) result work.old work.new }
 {
-    let value = after(last);
+    let value = successor(last);
     work.put(name, Row::Name(NameRow::Constant { of, value }));
     value
 }
@@ -181,8 +181,8 @@ pub fn check_enumeration(work: &mut Work, e: &Enumeration) -> u32
     e.open
 }
 
-fn domain_at(scope: Scope, name: u32) -> u32
-    ensures { result ≡ domain_at scope name }
+fn looked_up_as(scope: Scope, name: u32) -> u32
+    ensures { result ≡ looked_up_as scope name }
 {
     match scope.domains_at {
         Some(token) => token,
@@ -199,8 +199,8 @@ fn definition_of(found: Option<Found>, name: u32) -> u32
     }
 }
 
-fn domain_in(tables: &Tables, at: Option<u32>, found: Option<Found>, name: u32) -> u32
-    ensures { result ≡ domain_in tables.now at found name }
+fn domain_named(tables: &Tables, at: Option<u32>, found: Option<Found>, name: u32) -> u32
+    ensures { result ≡ domain_named tables.now at found name }
 {
     match at {
         None => type_of(tables, found, name),
@@ -209,13 +209,13 @@ fn domain_in(tables: &Tables, at: Option<u32>, found: Option<Found>, name: u32) 
 }
 
 /// A pointer type, at its `^`. Where its domain may be defined later, what stands for that is its definition so far.
-#[tactic(auto, using(check_steps::proofs::Runs::steps), unfolding(crate::specs::Types::pointer))]
+#[tactic(auto, using(check_steps::proofs::Runs::steps), unfolding(crate::specs::Types::pointer_type))]
 pub fn check_pointer(work: &mut Work, scope: Scope, caret: u32, name: u32) -> u32
-    ensures { Does (pointer scope caret name) result work.old work.new }
+    ensures { Does (pointer_type scope caret name) result work.old work.new }
 {
-    let found = work.use_at(scope.frame, domain_at(scope, name), name);
+    let found = work.use_at(scope.frame, looked_up_as(scope, name), name);
     work.late(3, name, is_type_name(found));
-    let domain = domain_in(&work.tables, scope.domains_at, found, name);
+    let domain = domain_named(&work.tables, scope.domains_at, found, name);
     work.put(caret, Row::Type(TypeRow::Pointer { domain }));
     caret
 }
@@ -236,7 +236,7 @@ fn check_base_type(work: &mut Work, first: u32, unknown: u32, kind: u32) -> u32
 {
     let base = check_ordinal(work, first, unknown, kind);
     let fine = is_within_bytes(work.tables.type_row(base));
-    work.rule(7, first, fine);
+    work.early(7, first, fine);
     base
 }
 

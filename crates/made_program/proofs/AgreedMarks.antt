@@ -21,7 +21,7 @@ use Rattle.optimal_query.specs.declared.state.State.TheVariants.{Ask, Found, Nar
 use Rattle.optimal_query.specs.Laws.{judged, mark_in}
 use Rattle.optimal_query.proofs.OneMoreAnswer.{new_mark, old_mark}
 use Rattle.dialog_replies.specs.Subject.{Subject, state_after}
-use Rattle.made_program.specs.Answering.{answered_to, entries_after, fault_of, judgement_of}
+use Rattle.made_program.specs.Answering.{answered_to, entries_answered, call_at_fault, judgement_of}
 use Rattle.made_program.specs.Laws.{IsSmallTree}
 
 -- a mark that says nothing, or whether the call at fault stands in the call's subtree
@@ -56,17 +56,17 @@ fair_said false = refl
 -- all marks are fair, and call 0 is wrong
 pub record AreAgreed (s : Subject) (answers : List What) : Type 0 where
   pub root : mark_in s.tree answers 0 ≡ Wrong
-  pub fair : (call : ℕ) → IsFair (mark_in s.tree answers call) (is_in s.tree.last call (fault_of s))
+  pub fair : (call : ℕ) → IsFair (mark_in s.tree answers call) (is_in s.tree.last call (call_at_fault s))
 
-pub fault_in_root : (s : Subject) → IsSmallTree s → is_in s.tree.last 0 (fault_of s) ≡ true
+pub fault_in_root : (s : Subject) → IsSmallTree s → is_in s.tree.last 0 (call_at_fault s) ≡ true
 fault_in_root s small =
-    and_from (nat_le 0 (fault_of s)) (nat_le (fault_of s) (slice_index s.tree.last 0)) (le-leb 0 (fault_of s) (omega arith))
-    (le-leb (fault_of s) (slice_index s.tree.last 0) (omega (arith, small.rooted)))
+    and_from (nat_le 0 (call_at_fault s)) (nat_le (call_at_fault s) (slice_index s.tree.last 0)) (le-leb 0 (call_at_fault s) (omega arith))
+    (le-leb (call_at_fault s) (slice_index s.tree.last 0) (omega (arith, small.rooted)))
 
-fair_more : (s : Subject) (answers : List What) (call other : ℕ) → IsFair (mark_in s.tree answers other) (is_in s.tree.last other (fault_of s))
-    → IsFair (mark_in s.tree (judged answers call (judgement_of s call)) other) (is_in s.tree.last other (fault_of s))
+fair_more : (s : Subject) (answers : List What) (call other : ℕ) → IsFair (mark_in s.tree answers other) (is_in s.tree.last other (call_at_fault s))
+    → IsFair (mark_in s.tree (judged answers call (judgement_of s call)) other) (is_in s.tree.last other (call_at_fault s))
 fair_more s answers call other fair =
-    let within : ℕ → Bool = λ k. is_in s.tree.last k (fault_of s) in
+    let within : ℕ → Bool = λ k. is_in s.tree.last k (call_at_fault s) in
     elim (cases_eq other call) [
       | inl same ↦
           let mark : mark_in s.tree (judged answers call (judgement_of s call)) other ≡ mark_by (judgement_of s call) =
@@ -103,7 +103,7 @@ no_marks s call = refl
 
 agreed_first : (s : Subject) → IsSmallTree s → AreAgreed s (judged [] 0 judged_to_be.Wrong)
 agreed_first s small =
-    let within : ℕ → Bool = λ k. is_in s.tree.last k (fault_of s) in
+    let within : ℕ → Bool = λ k. is_in s.tree.last k (call_at_fault s) in
     record {
       root = new_mark s.tree.routine [] 0 judged_to_be.Wrong;
       fair = λ other. elim (cases_eq other 0) [
@@ -133,7 +133,7 @@ agreed_by s entries NothingWrong small are = are
 agreed_by s entries Unclear small are = are
 
 -- after whatever number of answers they are as agreed
-pub agreed : (s : Subject) (n : ℕ) → IsSmallTree s → AreAgreed s (standing_answers (entries_after s n))
-unfolding entries_after
+pub agreed : (s : Subject) (n : ℕ) → IsSmallTree s → AreAgreed s (standing_answers (entries_answered s n))
+unfolding entries_answered
 agreed s zero small = agreed_first s small
-agreed s (suc n) small = agreed_by s (entries_after s n) (state_after s (entries_after s n)) small (agreed s n small)
+agreed s (suc n) small = agreed_by s (entries_answered s n) (state_after s (entries_answered s n)) small (agreed s n small)

@@ -20,8 +20,8 @@ use Rattle.optimal_query.specs.Narrowing.{AgreesWithMarks, FoundIsBuggy, IsBuggy
 use Rattle.optimal_query.specs.Question.{question_of}
 use Rattle.optimal_query.specs.Region.{doubts_of}
 use Rattle.optimal_query.specs.State.{state_by, state_with, verdict_by}
-use Rattle.dialog_replies.specs.Subject.{Subject, calls_of}
-use Rattle.made_program.specs.Answering.{entries_at_end, fault_of, most_answers}
+use Rattle.dialog_replies.specs.Subject.{Subject, calls_recorded}
+use Rattle.made_program.specs.Answering.{entries_at_end, call_at_fault, most_answers}
 use Rattle.made_program.specs.Asked.{asks}
 use Rattle.made_program.specs.Laws.{FaultIsFound, IsSmallTree}
 use Rattle.made_program.proofs.AgreedMarks.{AreAgreed, agreed, fair_clear, fair_known, fair_wrong}
@@ -45,7 +45,7 @@ no_doubt s answers are =
     none_kept (λ call. is_unknown (mark_at marks call))
     (filter (is_searched s.tree.last marks (accused_of s.tree.routine answers)) (numbers_below (length s.tree.last)))
     (λ call. known_at (mark_of s.tree.routine answers) (numbers_below (length s.tree.routine)) call
-    (λ k. fair_known (mark_in s.tree answers k) (is_in s.tree.last k (fault_of s)) (are.fair k)))
+    (λ k. fair_known (mark_in s.tree answers k) (is_in s.tree.last k (call_at_fault s)) (are.fair k)))
 
 -- ---- the verdict
 
@@ -70,21 +70,22 @@ found_by s answers None small nothing are h =
 
 -- ---- a call that has the fault in its subtree, and no child that has
 
-has_fault : (s : Subject) (call : ℕ) → is_in s.tree.last call (fault_of s) ≡ true → (call ≤ fault_of s) × (fault_of s ≤ slice_index s.tree.last call)
+has_fault : (s : Subject) (call : ℕ) → is_in s.tree.last call (call_at_fault s) ≡ true → (call ≤ call_at_fault s)
+    × (call_at_fault s ≤ slice_index s.tree.last call)
 has_fault s call h =
-    let parts = and_parts (nat_le call (fault_of s)) (nat_le (fault_of s) (slice_index s.tree.last call)) h in
-    (leb-true call (fault_of s) parts.0, leb-true (fault_of s) (slice_index s.tree.last call) parts.1)
+    let parts = and_parts (nat_le call (call_at_fault s)) (nat_le (call_at_fault s) (slice_index s.tree.last call)) h in
+    (leb-true call (call_at_fault s) parts.0, leb-true (call_at_fault s) (slice_index s.tree.last call) parts.1)
 
 -- it stands between a call and the fault
 pub record IsBetween (s : Subject) (top call : ℕ) : Type 0 where
   pub below : top < call
   pub within : call ≤ slice_index s.tree.last top
-  pub from : call ≤ fault_of s
-  pub to : fault_of s ≤ slice_index s.tree.last call
+  pub from : call ≤ call_at_fault s
+  pub to : call_at_fault s ≤ slice_index s.tree.last call
 
 -- then a child of the first has the fault in its subtree
 child_with : (s : Subject) (fuel top call : ℕ) → IsSmallTree s → call ≤ top + fuel → IsBetween s top call
-    → (child : ℕ) × IsParent s.tree.parent top child × (child ≤ fault_of s) × (fault_of s ≤ slice_index s.tree.last child)
+    → (child : ℕ) × IsParent s.tree.parent top child × (child ≤ call_at_fault s) × (call_at_fault s ≤ slice_index s.tree.last child)
 child_with s zero top call small near b = absurd (omega (arith, b.below))
 child_with s (suc fuel) top call small near b =
     let numbered = small.tree.numbered in
@@ -103,11 +104,11 @@ child_with s (suc fuel) top call small near b =
       })
     ]
 
-is_the_fault : (s : Subject) (call : ℕ) → IsSmallTree s → IsBuggy s.tree (λ k. is_in s.tree.last k (fault_of s)) call → call ≡ fault_of s
+is_the_fault : (s : Subject) (call : ℕ) → IsSmallTree s → IsBuggy s.tree (λ k. is_in s.tree.last k (call_at_fault s)) call → call ≡ call_at_fault s
 is_the_fault s call small buggy =
     let bounds = has_fault s call buggy.wrong in
-    let fault = fault_of s in
-    let inside : fault < calls_of s = omega (arith, small.rooted) in
+    let fault = call_at_fault s in
+    let inside : fault < calls_recorded s = omega (arith, small.rooted) in
     elim (cases_eq call fault) [
       | inl same ↦ same
       | inr differs ↦
@@ -123,10 +124,10 @@ is_the_fault s call small buggy =
           absurd (true≢false (sym has ∙ buggy.children_right there.0 there.1))
     ]
 
-agrees : (s : Subject) (answers : List What) → AreAgreed s answers → AgreesWithMarks s.tree answers (λ k. is_in s.tree.last k (fault_of s))
+agrees : (s : Subject) (answers : List What) → AreAgreed s answers → AgreesWithMarks s.tree answers (λ k. is_in s.tree.last k (call_at_fault s))
 agrees s answers are = record {
-  clear = λ call inside clear. fair_clear (mark_in s.tree answers call) (is_in s.tree.last call (fault_of s)) (are.fair call) clear;
-  wrong = λ call inside wrong. fair_wrong (mark_in s.tree answers call) (is_in s.tree.last call (fault_of s)) (are.fair call) wrong;
+  clear = λ call inside clear. fair_clear (mark_in s.tree answers call) (is_in s.tree.last call (call_at_fault s)) (are.fair call) clear;
+  wrong = λ call inside wrong. fair_wrong (mark_in s.tree answers call) (is_in s.tree.last call (call_at_fault s)) (are.fair call) wrong;
 }
 
 -- the laws of the search that this rests on
@@ -136,11 +137,11 @@ pub record SearchLaws : Type 0 where
   pub buggy : FoundIsBuggy
 
 found_in : (s : Subject) (answers : List What) → IsSmallTree s → SearchLaws → AreAgreed s answers → asks (state_in s.tree answers) ≡ false
-    → state_in s.tree answers ≡ Found (fault_of s)
+    → state_in s.tree answers ≡ Found (call_at_fault s)
 found_in s answers small laws are none =
     let verdict = ends_in s answers none ∙ ap (λ (ds : List ℕ). verdict_by (accused_of s.tree.routine answers) ds) (no_doubt s answers are) in
     let found = found_by s answers (accused_of s.tree.routine answers) small laws.nothing are verdict in
-    let buggy = laws.buggy s.tree answers found.0 (λ k. is_in s.tree.last k (fault_of s)) small.tree found.1 (agrees s answers are) in
+    let buggy = laws.buggy s.tree answers found.0 (λ k. is_in s.tree.last k (call_at_fault s)) small.tree found.1 (agrees s answers are) in
     found.1 ∙ ap Found (is_the_fault s found.0 small buggy)
 
 pub fault_found : SearchLaws → FaultIsFound

@@ -2,15 +2,15 @@
 use Rattle.std.proofs.Common.{◌≡◌, ◌<◌, ℕ, List, ap, ◌∙◌}
 use Rattle.std.specs.Prelude.{Result, Ok, Err, IfOk}
 use Rattle.optimal_query.specs.declared.state.State.{State}
-use Rattle.dialog_replies.specs.Subject.{Subject, calls_of}
+use Rattle.dialog_replies.specs.Subject.{Subject, calls_recorded}
 use Rattle.made_program.specs.Laws.{EndsAtTheFault}
-use Rattle.made_program.specs.Lines.{fault_lines, lines_in, made_lines}
+use Rattle.made_program.specs.Lines.{fault_lines, summary_lines, made_lines}
 
 fault_named : (s : Subject) → EndsAtTheFault s → made_lines s ≡ fault_lines s
 unfolding made_lines
-fault_named s found = ap (lines_in s) found
+fault_named s found = ap (summary_lines s) found
 
-pub with_fault : {E : Type 0} (s : Subject) (result : Result (List ℕ) E) → (calls_of s < 100000 → EndsAtTheFault s)
-    → IfOk result (λ text. text ≡ made_lines s) → IfOk result (λ text. calls_of s < 100000 → text ≡ fault_lines s)
+pub with_fault : {E : Type 0} (s : Subject) (result : Result (List ℕ) E) → (calls_recorded s < 100000 → EndsAtTheFault s)
+    → IfOk result (λ text. text ≡ made_lines s) → IfOk result (λ text. calls_recorded s < 100000 → text ≡ fault_lines s)
 with_fault s (Ok text) finds is = λ few. is ∙ fault_named s (finds few)
 with_fault s (Err fault) finds is = tt

@@ -18,8 +18,8 @@ use Rattle.optimal_query.specs.declared.state.State.{State}
 use Rattle.optimal_query.specs.declared.state.State.TheVariants.{Ask, Found, Narrowed, NothingWrong, Unclear}
 use Rattle.optimal_query.specs.Laws.{QuestionIsLeast, judged, suspects_in}
 use Rattle.optimal_query.specs.Region.{suspects_of}
-use Rattle.dialog_replies.specs.Subject.{Subject, calls_of, state_after}
-use Rattle.made_program.specs.Answering.{answered_to, entries_after, entries_at_end, judgement_of, most_answers}
+use Rattle.dialog_replies.specs.Subject.{Subject, calls_recorded, state_after}
+use Rattle.made_program.specs.Answering.{answered_to, entries_answered, entries_at_end, judgement_of, most_answers}
 use Rattle.made_program.specs.Asked.{asks}
 use Rattle.made_program.specs.Laws.{IsSmallTree}
 use Rattle.made_program.proofs.AgreedMarks.{one_more_stands}
@@ -81,32 +81,32 @@ one_left s entries small least asked =
     omega arith
 
 -- each answer so far took one away
-falls_by : (s : Subject) (n : ℕ) (b : Bool) → IsSmallTree s → QuestionIsLeast → asks (state_after s (entries_after s n)) ≡ b
-    → (asks (state_after s (entries_after s n)) ≡ true → suspects_left s (entries_after s n) + n ≤ calls_of s)
-    → asks (state_after s (entries_after s (suc n))) ≡ true → suspects_left s (entries_after s (suc n)) + suc n ≤ calls_of s
-unfolding entries_after
+falls_by : (s : Subject) (n : ℕ) (b : Bool) → IsSmallTree s → QuestionIsLeast → asks (state_after s (entries_answered s n)) ≡ b
+    → (asks (state_after s (entries_answered s n)) ≡ true → suspects_left s (entries_answered s n) + n ≤ calls_recorded s)
+    → asks (state_after s (entries_answered s (suc n))) ≡ true → suspects_left s (entries_answered s (suc n)) + suc n ≤ calls_recorded s
+unfolding entries_answered
 falls_by s n true small least asked before now =
-    omega (arith, before asked, fewer s (entries_after s n) small least asked)
+    omega (arith, before asked, fewer s (entries_answered s n) small least asked)
 falls_by s n false small least none before now =
-    let same = as_they_were s (entries_after s n) (state_after s (entries_after s n)) none in
+    let same = as_they_were s (entries_answered s n) (state_after s (entries_answered s n)) none in
     absurd (true≢false (sym now ∙ ap (λ (es : List Entry). asks (state_after s es)) same ∙ none))
 
-falls : (s : Subject) (n : ℕ) → IsSmallTree s → QuestionIsLeast → asks (state_after s (entries_after s n)) ≡ true
-    → suspects_left s (entries_after s n) + n ≤ calls_of s
+falls : (s : Subject) (n : ℕ) → IsSmallTree s → QuestionIsLeast → asks (state_after s (entries_answered s n)) ≡ true
+    → suspects_left s (entries_answered s n) + n ≤ calls_recorded s
 falls s zero small least asked =
     omega (
       arith,
-      suspects_few s.tree.last (marks_of s.tree.routine (standing_answers (entries_after s zero)))
-          (accused_of s.tree.routine (standing_answers (entries_after s zero))),
+      suspects_few s.tree.last (marks_of s.tree.routine (standing_answers (entries_answered s zero)))
+          (accused_of s.tree.routine (standing_answers (entries_answered s zero))),
     )
 falls s (suc n) small least asked =
-    falls_by s n (asks (state_after s (entries_after s n))) small least refl (λ before. falls s n small least before) asked
+    falls_by s n (asks (state_after s (entries_answered s n))) small least refl (λ before. falls s n small least before) asked
 
-none_by : (s : Subject) (n : ℕ) (b : Bool) → IsSmallTree s → QuestionIsLeast → calls_of s ≤ n → asks (state_after s (entries_after s n)) ≡ b
-    → asks (state_after s (entries_after s n)) ≡ false
+none_by : (s : Subject) (n : ℕ) (b : Bool) → IsSmallTree s → QuestionIsLeast → calls_recorded s ≤ n → asks (state_after s (entries_answered s n)) ≡ b
+    → asks (state_after s (entries_answered s n)) ≡ false
 none_by s n false small least many is = is
 none_by s n true small least many is =
-    absurd (omega (arith, falls s n small least is, one_left s (entries_after s n) small least is))
+    absurd (omega (arith, falls s n small least is, one_left s (entries_answered s n) small least is))
 
 -- so nothing is asked in the end
 pub none_at_end : (s : Subject) → IsSmallTree s → QuestionIsLeast → asks (state_after s (entries_at_end s)) ≡ false

@@ -6,7 +6,7 @@ use Rattle.call_tree.specs.Numbering.{IsNumbered, IsParent}
 use Rattle.call_tree.specs.Recording.{Recording, depths_of, lasts_of, parents_of}
 use Rattle.optimal_query.specs.Laws.{CallTree, IsCallTree}
 use Rattle.dialog_replies.specs.Kept.{AreCallsOf}
-use Rattle.dialog_replies.specs.Subject.{Subject, calls_of}
+use Rattle.dialog_replies.specs.Subject.{Subject, calls_recorded}
 use Rattle.dialog_replies.proofs.ColumnsOfCalls.{routines_counted}
 use Rattle.made_program.specs.Laws.{IsSmallTree}
 
@@ -55,7 +55,7 @@ reaches_all parent last depth numbered rooted some =
 
 -- the calls of a run, where they are few
 pub small_tree : (s : Subject) (run : Recording) → AreCallsOf s run → IsNumbered (parents_of run.calls) (lasts_of run.calls)
-    → IsRooted (parents_of run.calls) (depths_of run.calls) → calls_of s < 100000 → IsSmallTree s
+    → IsRooted (parents_of run.calls) (depths_of run.calls) → calls_recorded s < 100000 → IsSmallTree s
 small_tree s run are numbered rooted few =
     let P : CallTree → Type 0 = λ tree. IsNumbered tree.parent tree.last in
     let Q : CallTree → Type 0 = λ tree. slice_index tree.last 0 + 1 ≡ length tree.last in

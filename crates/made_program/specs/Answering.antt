@@ -9,15 +9,15 @@ use Rattle.answer_book.specs.Entries.{entries_with, first_entries}
 use Rattle.subtree_weights.specs.Searched.{is_in}
 use Rattle.optimal_query.specs.declared.state.State.{State}
 use Rattle.optimal_query.specs.declared.state.State.TheVariants.{Ask}
-use Rattle.dialog_replies.specs.Subject.{Subject, calls_of, state_after}
+use Rattle.dialog_replies.specs.Subject.{Subject, calls_recorded, state_after}
 
 -- the call at fault: a third of the calls were entered before it
-abbrev pub fault_of : Subject → ℕ
-fault_of s = calls_of s / 3
+abbrev pub call_at_fault : Subject → ℕ
+call_at_fault s = calls_recorded s / 3
 
 -- what is said of a call
 abbrev pub judgement_of : Subject → ℕ → Judgement
-judgement_of s call = if is_in s.tree.last call (fault_of s) then Wrong else Right
+judgement_of s call = if is_in s.tree.last call (call_at_fault s) then Wrong else Right
 
 -- the entries with an answer, where the state is a question
 abbrev pub answered_to : Subject → List Entry → State → List Entry
@@ -25,9 +25,9 @@ answered_to s entries (Ask call weight suspects left) = entries_with entries (Ju
 answered_to s entries _ = entries
 
 -- the entries once this many questions were answered, or all that were asked
-unfoldable pub entries_after : Subject → ℕ → List Entry
-entries_after s zero = first_entries
-entries_after s (suc n) = answered_to s (entries_after s n) (state_after s (entries_after s n))
+unfoldable pub entries_answered : Subject → ℕ → List Entry
+entries_answered s zero = first_entries
+entries_answered s (suc n) = answered_to s (entries_answered s n) (state_after s (entries_answered s n))
 
 -- for this many answers there is room in a book after its first entry
 unfoldable pub most_answers : ℕ
@@ -35,7 +35,7 @@ most_answers = 99999
 
 -- the entries in the end, and how many questions were answered
 abbrev pub entries_at_end : Subject → List Entry
-entries_at_end s = entries_after s most_answers
+entries_at_end s = entries_answered s most_answers
 
 abbrev pub questions_of : Subject → ℕ
 questions_of s = length (entries_at_end s) - 1

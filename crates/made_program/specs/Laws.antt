@@ -2,18 +2,18 @@
 use Rattle.std.specs.Prelude.{◌≡◌, ◌+◌, ◌<◌, slice_index}
 use Rattle.optimal_query.specs.declared.state.State.TheVariants.{Found}
 use Rattle.optimal_query.specs.Laws.{IsCallTree}
-use Rattle.dialog_replies.specs.Subject.{Subject, calls_of, state_after}
-use Rattle.made_program.specs.Answering.{entries_at_end, fault_of}
+use Rattle.dialog_replies.specs.Subject.{Subject, calls_recorded, state_after}
+use Rattle.made_program.specs.Answering.{entries_at_end, call_at_fault}
 
 -- the calls of a run, fewer than 100,000, all of them in the subtree of call 0
 pub record IsSmallTree (s : Subject) : Type 0 where
   pub tree : IsCallTree s.tree
-  pub rooted : slice_index s.tree.last 0 + 1 ≡ calls_of s
-  pub few : calls_of s < 100000
+  pub rooted : slice_index s.tree.last 0 + 1 ≡ calls_recorded s
+  pub few : calls_recorded s < 100000
 
 -- the call at fault is found
 abbrev pub EndsAtTheFault : Subject → Type 0
-EndsAtTheFault s = state_after s (entries_at_end s) ≡ Found (fault_of s)
+EndsAtTheFault s = state_after s (entries_at_end s) ≡ Found (call_at_fault s)
 
 -- of such calls it is
 abbrev pub FaultIsFound : Type 0

@@ -2,9 +2,9 @@
 use Rattle.std.specs.Prelude.{ℕ, List, [], ◌++◌, codes, decimal}
 use Rattle.optimal_query.specs.declared.state.State.{State}
 use Rattle.optimal_query.specs.declared.state.State.TheVariants.{Found}
-use Rattle.dialog_replies.specs.Subject.{Subject, calls_of, state_after}
+use Rattle.dialog_replies.specs.Subject.{Subject, calls_recorded, state_after}
 use Rattle.dialog_replies.specs.Texts.{named_call}
-use Rattle.made_program.specs.Answering.{entries_at_end, fault_of, questions_of}
+use Rattle.made_program.specs.Answering.{entries_at_end, call_at_fault, questions_of}
 
 -- a word with a number
 abbrev pub counted_line : List ℕ → ℕ → List ℕ
@@ -16,14 +16,15 @@ found_line s (Found call) = codes "found call " ++ named_call s call ++ codes "\
 found_line s _ = []
 
 -- how many calls there are, how many questions were answered, and the call that is found in this state
-abbrev pub lines_in : Subject → State → List ℕ
-lines_in s state =
-    counted_line (codes "calls") (calls_of s) ++ counted_line (codes "questions") (questions_of s) ++ found_line s state
+abbrev pub summary_lines : Subject → State → List ℕ
+summary_lines s state =
+    counted_line (codes "calls") (calls_recorded s) ++ counted_line (codes "questions") (questions_of s)
+    ++ found_line s state
 
 -- in the state in the end
 unfoldable pub made_lines : Subject → List ℕ
-made_lines s = lines_in s (state_after s (entries_at_end s))
+made_lines s = summary_lines s (state_after s (entries_at_end s))
 
 -- where the call at fault is found
 abbrev pub fault_lines : Subject → List ℕ
-fault_lines s = lines_in s (Found (fault_of s))
+fault_lines s = summary_lines s (Found (call_at_fault s))

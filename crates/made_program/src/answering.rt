@@ -3,7 +3,7 @@ ghost use Rattle.std.specs.Prelude.{◌≡◌, ◌+◌, ◌<◌, length};
 ghost use Rattle.answer_book.specs.Entries.{entries_with, first_entries};
 ghost use Rattle.answer_book.specs.declared.entries.What.TheVariants as what;
 ghost use Rattle.dialog_replies.specs.Kept.{IsSearchOf};
-ghost use Rattle.dialog_replies.specs.Subject.{calls_of, state_after};
+ghost use Rattle.dialog_replies.specs.Subject.{calls_recorded, state_after};
 ghost use Rattle.made_program.specs.Answering.{answered_to, entries_at_end, judgement_of, questions_of};
 ghost use Rattle.made_program.specs.Asked.{asks};
 
@@ -17,7 +17,7 @@ struct Uncounted;
 
 /// What is said of a call: `wrong` if the call at fault stands in its subtree.
 fn judgement_of<D: Debugged>(run: &D, call: u32) -> Judgement
-    requires { call < calls_of (D.subject run.now) }
+    requires { call < calls_recorded (D.subject run.now) }
     ensures { result ≡ judgement_of (D.subject run.now) call }
 {
     let calls = run.calls();
@@ -33,7 +33,7 @@ fn judgement_of<D: Debugged>(run: &D, call: u32) -> Judgement
 fn judge<D: Debugged>(run: &D, debug: &mut Debug, call: u32)
     requires search { IsSearchOf (D.subject run.now) debug.old }
     requires room { length debug.old.book.entries < 100000 }
-    requires a_call { call < calls_of (D.subject run.now) }
+    requires a_call { call < calls_recorded (D.subject run.now) }
     ensures judged { debug.new.book.entries ≡ entries_with debug.old.book.entries
         (what.Judged call (judgement_of (D.subject run.now) call)) }
     ensures search { IsSearchOf (D.subject run.now) debug.new }

@@ -1,6 +1,6 @@
 //! Laws of the search that is answered with no one asked, each the contract of a call that does nothing.
 ghost use Rattle.std.specs.Prelude.{◌<◌};
-ghost use Rattle.dialog_replies.specs.Subject.{calls_of};
+ghost use Rattle.dialog_replies.specs.Subject.{calls_recorded};
 ghost use Rattle.made_program.specs.Laws.{FaultIsFound, EndsAtTheFault};
 
 use dialog_replies::Debugged;
@@ -20,7 +20,7 @@ pub fn fault_is_found()
 
 /// The same, of a run.
 pub fn run_finds_the_fault<D: Debugged>(run: &D)
-    ensures { calls_of (D.subject run.now) < 100000 → EndsAtTheFault (D.subject run.now) }
+    ensures { calls_recorded (D.subject run.now) < 100000 → EndsAtTheFault (D.subject run.now) }
 {
     // All calls of a run stand in the subtree of call 0.
     run.calls().are_numbered();

@@ -1,7 +1,7 @@
 //! What is printed of the run of a made program.
 ghost use Rattle.std.specs.Prelude.{◌≡◌, ◌++◌, ◌<◌, IfOk, OnOk};
 ghost use Rattle.dialog_replies.specs.Kept.{IsSearchOf};
-ghost use Rattle.dialog_replies.specs.Subject.{calls_of, state_after};
+ghost use Rattle.dialog_replies.specs.Subject.{calls_recorded, state_after};
 ghost use Rattle.made_program.specs.Lines.{counted_line, fault_lines, found_line, made_lines};
 
 use crate::answering::answer_all;
@@ -58,7 +58,7 @@ fn lines_of_search<D: Debugged>(alloc: Global, run: &D) -> Result<Bytes, Memory>
 /// are fewer than 100,000 calls.
 pub fn made_lines<D: Debugged>(alloc: Global, run: &D) -> Result<Bytes, Memory>
     ensures lines { IfOk result (λ text. text ≡ made_lines (D.subject run.now)) }
-    ensures finds { IfOk result (λ text. calls_of (D.subject run.now) < 100000
+    ensures finds { IfOk result (λ text. calls_recorded (D.subject run.now) < 100000
         → text ≡ fault_lines (D.subject run.now)) }
 {
     run_finds_the_fault(run);

@@ -15,7 +15,7 @@ use Rattle.operand_checker.specs.declared.members.Begun.{Begun}
 use Rattle.operand_checker.specs.declared.members.Gathered.{Gathered}
 use Rattle.operand_checker.specs.declared.typed.Typed.{Typed}
 use Rattle.operand_checker.specs.Items.{add_item, link}
-use Rattle.operand_checker.specs.Typed.{value_at}
+use Rattle.operand_checker.specs.Typed.{typed_value}
 
 -- ordinal, and of the host of those before
 abbrev pub is_member : Option ℕ → Shape → Bool
@@ -62,8 +62,8 @@ abbrev pub gathered_type : Gathered → ExpressionType
 gathered_type g = if g.known then expression.Set g.host Either else expression.Unknown
 
 -- a set constructor, at its closing bracket; its members are the list at the opening one
-unfoldable pub set_at : Gathered → ℕ → ℕ → Step Typed
-set_at g open' close = do
+unfoldable pub set_constructor : Gathered → ℕ → ℕ → Step Typed
+set_constructor g open' close = do
   _ ← link g.last close
   _ ← put close (row.Expression (written.Set open'))
-  give (value_at close (gathered_type g))
+  give (typed_value close (gathered_type g))

@@ -18,10 +18,10 @@ use Rattle.type_relations.specs.declared.operators.Operator.TheVariants as opera
 use Rattle.type_relations.specs.declared.shapes.ExpressionType.{ExpressionType}
 use Rattle.type_relations.specs.declared.shapes.ExpressionType.TheVariants as expression
 use Rattle.type_relations.specs.declared.shapes.Shape.{Shape}
-use Rattle.type_relations.specs.Operators.{fits, is_of_host, is_operand, operation_of, operation_row, result_of}
+use Rattle.type_relations.specs.Operators.{fits, is_of_host, is_operand, operation_of, operation_row, operation_type}
 use Rattle.type_relations.specs.Shapes.{shape_of}
 use Rattle.operand_checker.specs.declared.typed.Typed.{Typed}
-use Rattle.operand_checker.specs.Typed.{value_at}
+use Rattle.operand_checker.specs.Typed.{typed_value}
 
 abbrev pub adding_operator : AddingOperator → Operator
 adding_operator (add.Plus token) = operator.Plus
@@ -50,7 +50,7 @@ operated o token l r = do
   y ← look (λ k. shape_of k r.of)
   _ ← late 30 token (fits o x y)
   _ ← put token (operation_row (operation_of o x y) l.row r.row)
-  give (value_at token (result_of (operation_of o x y)))
+  give (typed_value token (operation_type (operation_of o x y)))
 
 -- the ordinal type of this host, where the operand is of it
 abbrev pub type_if : ℕ → Shape → ExpressionType
@@ -62,7 +62,7 @@ negated word v = do
   s ← look (λ k. shape_of k v.of)
   _ ← late 30 word (is_operand 1 s)
   _ ← put word (row.Expression (written.Not v.row))
-  give (value_at word (type_if 1 s))
+  give (typed_value word (type_if 1 s))
 
 abbrev pub is_minus : Sign → Bool
 is_minus (sign.Plus token) = false
@@ -74,7 +74,7 @@ sign_before s v = do
   x ← look (λ k. shape_of k v.of)
   _ ← late 30 (sign_token s) (is_operand 0 x)
   _ ← put (sign_token s) (row.Expression (written.Sign (is_minus s) v.row))
-  give (value_at (sign_token s) (type_if 0 x))
+  give (typed_value (sign_token s) (type_if 0 x))
 
 -- The sign is that of the first term.
 abbrev pub signed : Option Sign → Typed → Step Typed

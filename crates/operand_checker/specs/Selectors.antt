@@ -70,16 +70,16 @@ is_record (Some (kind.Record packed region cells variants)) = true
 is_record (Some t) = false
 
 -- a field at the token of its definition, of a record that is packed or not
-abbrev pub field_in : Bool → ℕ → Row → Option SelectedField
-field_in packed token (row.Name (named.Field of' offset holder)) =
+abbrev pub field_of_row : Bool → ℕ → Row → Option SelectedField
+field_of_row packed token (row.Name (named.Field of' offset holder)) =
     Some (record { token = token; of = of'; location = component_if packed })
-field_in packed token (row.Name (named.Tag of' offset holder variants)) =
+field_of_row packed token (row.Name (named.Tag of' offset holder variants)) =
     Some (record { token = token; of = of'; location = location.Component })
-field_in packed token r = None
+field_of_row packed token r = None
 
 abbrev pub field_defined : Known → Bool → Option Definition → Option SelectedField
 field_defined k packed None = None
-field_defined k packed (Some d) = field_in packed d.token (row_at k d.token)
+field_defined k packed (Some d) = field_of_row packed d.token (row_at k d.token)
 
 -- the field of a record type that a token names
 abbrev pub field_named : Known → Option TypeRow → ℕ → Option SelectedField
@@ -96,9 +96,9 @@ abbrev pub field_row : Typed → Option SelectedField → Row
 field_row p (Some f) = row.Access (accessed.Field p.row f.token f.of)
 field_row p None = row.Nothing
 
-abbrev pub field_at : ℕ → Option SelectedField → Typed
-field_at name (Some f) = record { row = name; of = expression.Of f.of; location = f.location }
-field_at name None = unknown_at name
+abbrev pub field_access : ℕ → Option SelectedField → Typed
+field_access name (Some f) = record { row = name; of = expression.Of f.of; location = f.location }
+field_access name None = unknown_at name
 
 -- rule 23, at the `.`; rule 24: the record type has no such field, at the field's name
 unfoldable pub selected_field : Typed → ℕ → ℕ → Step Typed
@@ -108,7 +108,7 @@ selected_field p dot name = do
   f ← look (λ k. field_named k r name)
   _ ← late 24 name (has_field r f)
   _ ← put name (field_row p f)
-  give (field_at name f)
+  give (field_access name f)
 
 -- ---- dereferences
 

@@ -23,8 +23,8 @@ whole_of k None = None
 whole_of k (Some f) = whole_in f (row_at k f.definition.token)
 
 -- the whole variable that a name alone stands for, seen from a frame
-abbrev pub whole_at : Known → ℕ → ℕ → Option Whole
-whole_at k frame name = whole_of k (usable name (find k frame (name_at k name)))
+abbrev pub whole_variable : Known → ℕ → ℕ → Option Whole
+whole_variable k frame name = whole_of k (usable name (find k frame (name_at k name)))
 
 -- whether a frame is in a routine inside of the block that declares a variable
 abbrev pub is_outer : Known → ℕ → Whole → Bool
@@ -48,7 +48,7 @@ threat_to frame name (Some w) = threatened frame name w
 -- a name alone threatens the whole variable that it stands for, if it does for one
 unfoldable pub threat : ℕ → ℕ → Step (Unit {0})
 threat frame name = do
-  w ← look (λ k. whole_at k frame name)
+  w ← look (λ k. whole_variable k frame name)
   threat_to frame name w
 
 -- what may be a name alone

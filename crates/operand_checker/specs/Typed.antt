@@ -16,15 +16,15 @@ use Rattle.operand_checker.specs.declared.typed.Location.TheVariants as location
 use Rattle.operand_checker.specs.declared.typed.Typed.{Typed}
 
 -- a value of a type, at a number
-abbrev pub value_at : ℕ → ExpressionType → Typed
-value_at n of' = record { row = n; of = of'; location = location.Nowhere }
+abbrev pub typed_value : ℕ → ExpressionType → Typed
+typed_value n of' = record { row = n; of = of'; location = location.Nowhere }
 
 abbrev pub unknown_at : ℕ → Typed
-unknown_at n = value_at n expression.Unknown
+unknown_at n = typed_value n expression.Unknown
 
 -- An expression in parentheses has the number of the one inside, and is no access.
 abbrev pub bracketed : Typed → Typed
-bracketed v = value_at v.row v.of
+bracketed v = typed_value v.row v.of
 
 -- ---- constants
 
@@ -43,7 +43,7 @@ unfoldable pub constant_at : ℕ → Option Value → Step Typed
 constant_at token v = do
   of' ← look (λ k. constant_type k v)
   _ ← put token (constant_row v)
-  give (value_at token of')
+  give (typed_value token of')
 
 -- a number or a string, which is the constant that it stands for
 unfoldable pub literal : ℕ → Constant → Step Typed
@@ -54,4 +54,4 @@ literal token c = do
 unfoldable pub nil_at : ℕ → Step Typed
 nil_at token = do
   _ ← put token (row.Expression written.Nil)
-  give (value_at token expression.Nil)
+  give (typed_value token expression.Nil)

@@ -3,10 +3,10 @@
 ghost use Rattle.std.specs.Prelude.{◌≡◌};
 ghost use Rattle.check_steps.specs.Steps.{Does};
 ghost use Rattle.operand_checker.specs.Members.{fits_members, gathered_type, gathered_with, host_with, is_member};
-ghost use Rattle.operand_checker.specs.Members.{member_range, nothing_gathered, one_member, set_at};
+ghost use Rattle.operand_checker.specs.Members.{member_range, nothing_gathered, one_member, set_constructor};
 
 use crate::items::{put_item, put_link};
-use crate::typed::{Typed, value_at};
+use crate::typed::{Typed, typed_value};
 use check_steps::Work;
 use program_tables::rows::{ExpressionRow, ItemRow, Row};
 use type_relations::operators::is_unknown;
@@ -128,14 +128,14 @@ fn gathered_type(gathered: Gathered) -> ExpressionType
 }
 
 /// A set constructor, at its closing bracket.
-#[tactic(auto, using(check_steps::proofs::Runs::steps), unfolding(crate::specs::Members::set_at))]
+#[tactic(auto, using(check_steps::proofs::Runs::steps), unfolding(crate::specs::Members::set_constructor))]
 pub fn check_set(work: &mut Work, gathered: Gathered, bracket: u32, close: u32) -> Typed
-    ensures { Does (set_at gathered bracket close) result work.old work.new }
+    ensures { Does (set_constructor gathered bracket close) result work.old work.new }
 {
     put_link(work, gathered.last, close);
     work.put(
         close,
         Row::Expression(ExpressionRow::Set { members: bracket }),
     );
-    value_at(close, gathered_type(gathered))
+    typed_value(close, gathered_type(gathered))
 }

@@ -5,14 +5,14 @@ ghost use Rattle.check_steps.specs.Steps.{Does};
 ghost use Rattle.operand_checker.specs.Operations.{adding_operator, is_minus, multiplying_operator, negated};
 ghost use Rattle.operand_checker.specs.Operations.{operated, relational_operator, sign_before, signed, type_if};
 
-use crate::typed::{Typed, value_at};
+use crate::typed::{Typed, typed_value};
 use cell_value::Order;
 use check_steps::Work;
 use pas_places::sign_token;
 use pas_tree::operators::{AddingOperator, MultiplyingOperator, RelationalOperator, Sign};
 use program_tables::rows::{BOOLEAN, ExpressionRow, INTEGER, Row};
 use type_relations::operators::{
-    fits, is_of_host, is_operand, operation_of, operation_row, result_of,
+    fits, is_of_host, is_operand, operation_of, operation_row, operation_type,
 };
 use type_relations::shapes::shape_of;
 use type_relations::{ExpressionType, Operator, Shape};
@@ -73,7 +73,7 @@ pub fn check_operated(
     work.late(30, token, fits(operator, x, y));
     let operation = operation_of(operator, x, y);
     work.put(token, operation_row(operation, left.row, right.row));
-    value_at(token, result_of(operation))
+    typed_value(token, operation_type(operation))
 }
 
 fn type_if(host: u32, shape: Shape) -> ExpressionType
@@ -95,7 +95,7 @@ pub fn check_negated(work: &mut Work, word: u32, value: Typed) -> Typed
     work.late(30, word, is_operand(BOOLEAN, shape));
     let row = ExpressionRow::Not { operand: value.row };
     work.put(word, Row::Expression(row));
-    value_at(word, type_if(BOOLEAN, shape))
+    typed_value(word, type_if(BOOLEAN, shape))
 }
 
 fn is_minus(sign: &Sign) -> bool
@@ -119,7 +119,7 @@ fn check_sign_before(work: &mut Work, sign: &Sign, value: Typed) -> Typed
         operand: value.row,
     };
     work.put(token, Row::Expression(row));
-    value_at(token, type_if(INTEGER, shape))
+    typed_value(token, type_if(INTEGER, shape))
 }
 
 /// The first term of a simple expression, after a sign if it has one.

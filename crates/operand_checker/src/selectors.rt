@@ -2,8 +2,8 @@
 
 ghost use Rattle.std.specs.Prelude.{◌≡◌};
 ghost use Rattle.check_steps.specs.Steps.{Does};
-ghost use Rattle.operand_checker.specs.Selectors.{component_at, dereference_row, dereferenced, domain_at, field_at};
-ghost use Rattle.operand_checker.specs.Selectors.{field_defined, field_in, field_named, field_row, has_field};
+ghost use Rattle.operand_checker.specs.Selectors.{component_at, dereference_row, dereferenced, domain_at, field_access};
+ghost use Rattle.operand_checker.specs.Selectors.{field_defined, field_of_row, field_named, field_row, has_field};
 ghost use Rattle.operand_checker.specs.Selectors.{index_row, indexed, is_array, is_index, is_pointer, is_record};
 ghost use Rattle.operand_checker.specs.Selectors.{selected_field, type_number, type_row};
 
@@ -118,8 +118,8 @@ pub fn is_record(row: Option<TypeRow>) -> bool
     }
 }
 
-fn field_in(packed: bool, token: u32, row: Row) -> Option<SelectedField>
-    ensures { result ≡ field_in packed token row }
+fn field_of_row(packed: bool, token: u32, row: Row) -> Option<SelectedField>
+    ensures { result ≡ field_of_row packed token row }
 {
     match row {
         Row::Name(NameRow::Field { of, .. }) => Some(SelectedField {
@@ -145,7 +145,7 @@ fn field_defined(
 {
     match definition {
         None => None,
-        Some(definition) => field_in(packed, definition.token, tables.row(definition.token)),
+        Some(definition) => field_of_row(packed, definition.token, tables.row(definition.token)),
     }
 }
 
@@ -182,8 +182,8 @@ fn field_row(place: Typed, field: Option<SelectedField>) -> Row
     }
 }
 
-fn field_at(name: u32, field: Option<SelectedField>) -> Typed
-    ensures { result ≡ field_at name field }
+fn field_access(name: u32, field: Option<SelectedField>) -> Typed
+    ensures { result ≡ field_access name field }
 {
     match field {
         Some(field) => Typed {
@@ -205,7 +205,7 @@ pub fn check_selected_field(work: &mut Work, place: Typed, dot: u32, name: u32) 
     let field = field_named(&work.tables, row, name);
     work.late(24, name, has_field(row, field));
     work.put(name, field_row(place, field));
-    field_at(name, field)
+    field_access(name, field)
 }
 
 fn is_pointer(row: Option<TypeRow>) -> bool

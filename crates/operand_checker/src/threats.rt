@@ -3,7 +3,7 @@
 ghost use Rattle.std.specs.Prelude.{◌≡◌};
 ghost use Rattle.check_steps.specs.Steps.{Does};
 ghost use Rattle.operand_checker.specs.Threats.{is_outer, threat, threat_alone, threat_to, threatened};
-ghost use Rattle.operand_checker.specs.Threats.{whole_at, whole_in, whole_of};
+ghost use Rattle.operand_checker.specs.Threats.{whole_variable, whole_in, whole_of};
 
 use check_steps::{Found, Tables, Work};
 use program_tables::rows::{NameRow, Row};
@@ -39,8 +39,8 @@ fn whole_of(tables: &Tables, found: Option<Found>) -> Option<Whole>
 }
 
 /// The variable or parameter as a whole that a name alone stands for, seen from a frame.
-pub fn whole_at(tables: &Tables, frame: u32, name: u32) -> Option<Whole>
-    ensures { result ≡ whole_at tables.now frame name }
+pub fn whole_variable(tables: &Tables, frame: u32, name: u32) -> Option<Whole>
+    ensures { result ≡ whole_variable tables.now frame name }
 {
     whole_of(tables, tables.usable(frame, name, name))
 }
@@ -78,7 +78,7 @@ fn check_threat_to(work: &mut Work, frame: u32, name: u32, whole: Option<Whole>)
 pub fn check_threat(work: &mut Work, frame: u32, name: u32)
     ensures { Does (threat frame name) tt work.old work.new }
 {
-    let whole = whole_at(&work.tables, frame, name);
+    let whole = whole_variable(&work.tables, frame, name);
     check_threat_to(work, frame, name, whole);
 }
 

@@ -4,7 +4,7 @@ ghost use Rattle.std.specs.Prelude.{◌≡◌, None};
 ghost use Rattle.pas_tree.specs.declared.constants.Constant.TheVariants.{Number, Text as TextConstant};
 ghost use Rattle.check_steps.specs.Steps.{Does};
 ghost use Rattle.operand_checker.specs.Typed.{bracketed, constant_at, constant_row, constant_type, literal, nil_at};
-ghost use Rattle.operand_checker.specs.Typed.{unknown_at, value_at};
+ghost use Rattle.operand_checker.specs.Typed.{unknown_at, typed_value};
 
 use check_steps::{Tables, Work};
 use kind_checker::Value;
@@ -35,8 +35,8 @@ pub struct Typed {
 }
 
 /// A value of a type, at a number.
-pub fn value_at(row: u32, of: ExpressionType) -> Typed
-    ensures { result ≡ value_at row of }
+pub fn typed_value(row: u32, of: ExpressionType) -> Typed
+    ensures { result ≡ typed_value row of }
 {
     Typed {
         row,
@@ -49,14 +49,14 @@ pub fn value_at(row: u32, of: ExpressionType) -> Typed
 pub fn unknown_at(row: u32) -> Typed
     ensures { result ≡ unknown_at row }
 {
-    value_at(row, ExpressionType::Unknown)
+    typed_value(row, ExpressionType::Unknown)
 }
 
 /// The same in parentheses.
 pub fn bracketed(value: Typed) -> Typed
     ensures { result ≡ bracketed value }
 {
-    value_at(value.row, value.of)
+    typed_value(value.row, value.of)
 }
 
 fn constant_row(value: Option<Value>) -> Row
@@ -86,7 +86,7 @@ pub fn check_constant_at(work: &mut Work, token: u32, value: Option<Value>) -> T
 {
     let of = constant_type(&work.tables, value);
     work.put(token, constant_row(value));
-    value_at(token, of)
+    typed_value(token, of)
 }
 
 #[tactic(auto, using(check_steps::proofs::Runs::steps), unfolding(crate::specs::Typed::literal))]
@@ -119,5 +119,5 @@ pub fn check_nil(work: &mut Work, token: u32) -> Typed
     ensures { Does (nil_at token) result work.old work.new }
 {
     work.put(token, Row::Expression(ExpressionRow::Nil));
-    value_at(token, ExpressionType::Nil)
+    typed_value(token, ExpressionType::Nil)
 }

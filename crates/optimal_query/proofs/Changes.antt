@@ -33,7 +33,7 @@ use Rattle.optimal_query.specs.DebugKept.{AreKept}
 use Rattle.optimal_query.proofs.OneMoreAnswer.{accused_is_last, at_mark, old_mark}
 use Rattle.subtree_weights.specs.RunColumns.{Columns, columns_of}
 use Rattle.subtree_weights.specs.Searched.{mark_at}
-use Rattle.subtree_weights.specs.Weighed.{Weighed, calls_in, unjudged}
+use Rattle.subtree_weights.specs.Weighed.{Weighed, call_count, unjudged}
 
 -- the columns of calls are of one length
 pub one_length : (calls : List Call) {routine : List ℕ} {columns : Columns} → routines_of calls ≡ routine → columns_of calls ≡ columns
@@ -42,12 +42,12 @@ one_length calls routines columns =
     sym (ap length routines) ∙ length-map calls (λ (call : Call). call.routine) ∙ sym (length-map calls (λ (call : Call). call.last))
     ∙ ap (λ (k : Columns). length k.last) columns
 
-pub kept_length : (run : Recording) (book : Answers) (weighed : Weighed) → AreKept run book weighed → length book.routine ≡ calls_in weighed
+pub kept_length : (run : Recording) (book : Answers) (weighed : Weighed) → AreKept run book weighed → length book.routine ≡ call_count weighed
 kept_length run book weighed kept = one_length run.calls kept.routines kept.columns
 
 -- the accused is a call
 pub accused_known : (run : Recording) (book : Answers) (weighed : Weighed) → AreKept run book weighed → (call : ℕ)
-    → accused_of book.routine (standing_answers book.entries) ≡ Some call → call < calls_in weighed
+    → accused_of book.routine (standing_answers book.entries) ≡ Some call → call < call_count weighed
 accused_known run book weighed kept call h =
     let found = last_where_is (λ k. is_wrong (mark_of book.routine (standing_answers book.entries) k)) (length book.routine) call
     (accused_is_last book.routine (standing_answers book.entries) (Some call) h) in

@@ -23,7 +23,7 @@ use Rattle.call_tree.specs.Recording.{routines_of}
 use Rattle.optimal_query.specs.Accepted.{CommandAct, EntriesStandUnlessTakenBack, Made, TookBack, act_of, acts_after, acts_in, and_then, entries_after}
 use Rattle.optimal_query.specs.Accepted.{entry_unless, is_taken_back, made, number_made, said_unless, stands, took_back}
 use Rattle.optimal_query.specs.Search.{Search, new_search, search_with, search_without}
-use Rattle.optimal_query.specs.Standing.{Command, Judge, TakeBack, TakeBackLast, Trust, after_command, after_commands, if_accepted, without_last}
+use Rattle.optimal_query.specs.Standing.{Command, Judge, TakeBack, TakeBackLast, Trust, after_command, after_commands, if_accepted, search_taken_back}
 use Rattle.optimal_query.proofs.WhatStands.{same_after_command}
 
 -- the entries are numbered from `from` on, in order
@@ -252,7 +252,7 @@ taken acts search number false is before = before
 
 last_taken : (acts : List CommandAct) (search : Search) (last : Option ℕ) → last_where (stands acts) (numbers_below (number_made acts + 1)) ≡ last
     → Follow acts search.book.entries
-    → Follow (and_then acts (option_map TookBack last)) (without_last (number_or_fault last) search).book.entries
+    → Follow (and_then acts (option_map TookBack last)) (search_taken_back (number_or_fault last) search).book.entries
 last_taken acts search None is before = before
 last_taken acts search (Some number) is before =
     follow_taken acts search.book.entries number before (last_where_is (stands acts) (number_made acts + 1) number is).passes
@@ -286,7 +286,7 @@ follow_command acts search TakeBackLast before =
     let last : Option ℕ = last_where (stands acts) (numbers_below (number_made acts + 1)) in
     let alike : last ≡ last_standing search.book.entries =
     sym (ap (λ (l : List Entry). last_standing l) before.entries_are ∙ last_alike acts before.numbered) in
-    subst (λ (o : Option ℕ). Follow (and_then acts (option_map TookBack last)) (without_last (number_or_fault o) search).book.entries)
+    subst (λ (o : Option ℕ). Follow (and_then acts (option_map TookBack last)) (search_taken_back (number_or_fault o) search).book.entries)
     alike (last_taken acts search last refl before)
 
 -- and all of them

@@ -9,7 +9,7 @@ use Rattle.optimal_query.specs.Region.{next_after}
 use Rattle.optimal_query.specs.Search.{Search, new_search, search_with, search_without}
 use Rattle.optimal_query.specs.Standing.{Command, Judge, Trust, TakeBack, TakeBackLast, after_command, after_commands}
 use Rattle.optimal_query.specs.Standing.{SearchDependsOnWhatStands, answers_after, if_accepted}
-use Rattle.optimal_query.specs.Standing.{searched, without_last}
+use Rattle.optimal_query.specs.Standing.{searched, search_taken_back}
 use Rattle.optimal_query.specs.State.{doubts_after, state_of}
 
 pub record SameColumns (after before : Search) : Type 0 where
@@ -22,7 +22,7 @@ same_if_accepted : {X : Type 0} (answer : Result X BookFault) (changed search : 
 same_if_accepted (Ok answer) changed search same = same
 same_if_accepted (Err fault) changed search same = record { last = refl; routine = refl; routines = refl }
 
-same_without_last : (answer : Result ℕ BookFault) (search : Search) → SameColumns (without_last answer search) search
+same_without_last : (answer : Result ℕ BookFault) (search : Search) → SameColumns (search_taken_back answer search) search
 same_without_last (Ok number) search = record { last = refl; routine = refl; routines = refl }
 same_without_last (Err fault) search = record { last = refl; routine = refl; routines = refl }
 

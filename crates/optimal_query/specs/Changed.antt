@@ -44,11 +44,11 @@ are_few depth routine wanted = nat_le (16 * ways_up depth routine wanted (length
 
 -- the most steps that a change by such an entry costs; trust costs no more than the calls of its routine count, where
 -- they are few
-abbrev pub most_steps : List ℕ → List ℕ → What → ℕ
-most_steps depth routine (Judged call judgement) = 3 * (slice_index depth call + 1)
-most_steps depth routine (Trusted wanted) =
+abbrev pub change_steps : List ℕ → List ℕ → What → ℕ
+change_steps depth routine (Judged call judgement) = 3 * (slice_index depth call + 1)
+change_steps depth routine (Trusted wanted) =
     if are_few depth routine wanted then ways_up depth routine wanted (length routine) else 4 * length depth + 4
 
 abbrev pub most_steps_at : Search → Option Entry → ℕ
-most_steps_at search (Some entry) = most_steps search.depth search.book.routine entry.what
+most_steps_at search (Some entry) = change_steps search.depth search.book.routine entry.what
 most_steps_at search None = 0

@@ -6,7 +6,7 @@ use Rattle.call_tree.specs.declared.records.Mark.TheVariants.{Unjudged}
 use Rattle.optimal_query.specs.declared.markings.Markings.TheInside.{Inside}
 use Rattle.optimal_query.specs.declared.state.State.{State}
 use Rattle.optimal_query.specs.declared.state.State.TheVariants.{Found, Narrowed, NothingWrong, Unclear}
-use Rattle.subtree_weights.specs.Weighed.{Weighed, calls_in}
+use Rattle.subtree_weights.specs.Weighed.{Weighed, call_count}
 
 -- the flag of a call with this mark
 abbrev pub askable_flag : Mark → ℕ
@@ -18,7 +18,7 @@ askable_flag _ = 0
 pub record AreMarkings (weighed : Weighed) (marks : List Mark) (askable depths : List ℕ) : Type 0 where
   pub same : marks ≡ weighed.marks
   pub flagged : askable ≡ map askable_flag weighed.marks
-  pub each : length weighed.marks ≡ calls_in weighed
+  pub each : length weighed.marks ≡ call_count weighed
   pub deep : depths ≡ weighed.columns.depth
 
 abbrev pub AreKeptMarkings : Inside → Type 0

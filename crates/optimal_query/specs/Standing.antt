@@ -24,9 +24,9 @@ abbrev pub if_accepted : {X : Type 0} → Result X BookFault → Search → Sear
 if_accepted (Ok answer) changed search = changed
 if_accepted (Err fault) changed search = search
 
-abbrev pub without_last : Result ℕ BookFault → Search → Search
-without_last (Ok number) search = search_without search number
-without_last (Err fault) search = search
+abbrev pub search_taken_back : Result ℕ BookFault → Search → Search
+search_taken_back (Ok number) search = search_without search number
+search_taken_back (Err fault) search = search
 
 abbrev pub after_command : Search → Command → Search
 after_command search (Judge call judgement) =
@@ -35,7 +35,7 @@ after_command search (Trust routine) =
     if_accepted (trust_answer search.book routine) (search_with search (Trusted routine)) search
 after_command search (TakeBack number) =
     if_accepted (take_back_answer search.book number) (search_without search number) search
-after_command search TakeBackLast = without_last (take_back_last_answer search.book) search
+after_command search TakeBackLast = search_taken_back (take_back_last_answer search.book) search
 
 -- the search after a list of commands, first to last
 abbrev pub after_commands : Search → List Command → Search

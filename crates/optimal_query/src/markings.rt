@@ -5,12 +5,12 @@ ghost use Rattle.answer_book.specs.Entries.{standing_answers};
 ghost use Rattle.answer_book.specs.Marks.{marks_of};
 ghost use Rattle.answer_book.specs.declared.entries.What.TheVariants as what;
 ghost use Rattle.call_tree.specs.Recording.{depths_of, routines_of};
-ghost use Rattle.optimal_query.specs.Changed.{ChangesCallsOf, most_steps, ways_up};
+ghost use Rattle.optimal_query.specs.Changed.{ChangesCallsOf, change_steps, ways_up};
 ghost use Rattle.optimal_query.specs.Markings.{askable_flag, verdict_from};
 ghost use Rattle.optimal_query.specs.Region.{doubts_of, next_after};
 ghost use Rattle.optimal_query.specs.State.{state_with};
 ghost use Rattle.subtree_weights.specs.RunColumns.{columns_of};
-ghost use Rattle.subtree_weights.specs.Weighed.{calls_in, unjudged, with_mark, with_marks};
+ghost use Rattle.subtree_weights.specs.Weighed.{call_count, unjudged, with_mark, with_marks};
 ghost use Rattle.subtree_weights.specs.Weights.{suspects_below};
 
 use crate::region::{end, next_doubt, start};
@@ -156,7 +156,7 @@ impl Markings {
     /// Changes the mark of one call.
     pub fn set<L>(&mut self, calls: &Calls, call: u32, mark: Mark, steps: &mut Steps<L>)
         requires those_calls { columns_of calls.now.calls ≡ self.old.columns }
-        requires a_call { call < calls_in self.old }
+        requires a_call { call < call_count self.old }
         ensures changed { self.new ≡ with_mark self.old call mark }
         ensures not_fallen { steps.old ≤ steps.new }
         ensures cost { steps.new ≤ steps.old + slice_index self.old.columns.depth call + 1 }
@@ -198,7 +198,7 @@ impl Markings {
         ensures looked_up { self.new ≡ with_marks self.old
             (marks_of book.now.routine (standing_answers book.now.entries)) }
         ensures not_fallen { steps.old ≤ steps.new }
-        ensures cost { steps.new ≤ steps.old + 4 * calls_in self.old }
+        ensures cost { steps.new ≤ steps.old + 4 * call_count self.old }
     {
         look_up(
             calls,
@@ -227,7 +227,7 @@ impl Markings {
             (marks_of book.now.routine (standing_answers book.now.entries)) }
         ensures not_fallen { steps.old ≤ steps.new }
         ensures cost { steps.new ≤ steps.old
-            + most_steps self.old.columns.depth book.now.routine (what.Trusted routine) }
+            + change_steps self.old.columns.depth book.now.routine (what.Trusted routine) }
     {
         calls.are_numbered();
         if has_few(calls, &self.depths, routine) {
@@ -245,7 +245,7 @@ impl Markings {
         ensures looked_up { self.new ≡ with_marks self.old
             (marks_of book.now.routine (standing_answers book.now.entries)) }
         ensures not_fallen { steps.old ≤ steps.new }
-        ensures cost { steps.new ≤ steps.old + 4 * calls_in self.old }
+        ensures cost { steps.new ≤ steps.old + 4 * call_count self.old }
     {
         calls.are_numbered();
         look_up_each(calls, book, &mut self.marks, &mut self.askable, steps);
@@ -255,9 +255,9 @@ impl Markings {
     /// How many suspects there are.
     fn suspects(&self, calls: &Calls, accused: Option<u32>) -> u32
         requires those_calls { columns_of calls.now.calls ≡ self.now.columns }
-        requires a_call { 0 < calls_in self.now }
+        requires a_call { 0 < call_count self.now }
         requires all_left { calls.now.open_calls ≡ [] }
-        requires accused_is_a_call { ForSome accused (λ accused. accused < calls_in self.now) }
+        requires accused_is_a_call { ForSome accused (λ accused. accused < call_count self.now) }
         ensures { result ≡ suspects_below self.now.columns.last self.now.marks accused }
     {
         calls.are_numbered();
@@ -272,9 +272,9 @@ impl Markings {
     /// The state of the search, in which this call is accused.
     pub fn state(&self, calls: &Calls, accused: Option<u32>) -> State
         requires those_calls { columns_of calls.now.calls ≡ self.now.columns }
-        requires a_call { 0 < calls_in self.now }
+        requires a_call { 0 < call_count self.now }
         requires all_left { calls.now.open_calls ≡ [] }
-        requires accused_is_a_call { ForSome accused (λ accused. accused < calls_in self.now) }
+        requires accused_is_a_call { ForSome accused (λ accused. accused < call_count self.now) }
         ensures { result ≡ state_with self.now.columns.last self.now.marks accused }
     {
         calls.are_numbered();
@@ -311,7 +311,7 @@ impl Markings {
     ) -> Option<u32>
         requires those_calls { columns_of calls.now.calls ≡ self.now.columns }
         requires all_left { calls.now.open_calls ≡ [] }
-        requires accused_is_a_call { ForSome accused (λ accused. accused < calls_in self.now) }
+        requires accused_is_a_call { ForSome accused (λ accused. accused < call_count self.now) }
         ensures { result ≡ next_after (doubts_of self.now.columns.last self.now.marks accused) after }
     {
         calls.are_numbered();

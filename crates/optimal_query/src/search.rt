@@ -8,7 +8,7 @@ ghost use Rattle.answer_book.specs.InRange.{IsInRange};
 ghost use Rattle.answer_book.specs.Marks.{marks_of};
 ghost use Rattle.answer_book.specs.declared.entries.What.TheVariants as what;
 ghost use Rattle.call_tree.specs.Recording.{routines_of};
-ghost use Rattle.optimal_query.specs.Changed.{WereMarks, most_steps, most_steps_at};
+ghost use Rattle.optimal_query.specs.Changed.{WereMarks, change_steps, most_steps_at};
 ghost use Rattle.optimal_query.specs.Search.{mark_now, new_search, next_doubt, search_over, search_with};
 ghost use Rattle.optimal_query.specs.Search.{search_without, state_now};
 ghost use Rattle.subtree_weights.specs.RunColumns.{columns_of};
@@ -54,7 +54,7 @@ fn follow<L>(calls: &Calls, book: &Book, markings: &mut Markings, what: What, st
     ensures followed { markings.new ≡ with_marks markings.old
         (marks_of book.now.routine (standing_answers book.now.entries)) }
     ensures not_fallen { steps.old ≤ steps.new }
-    ensures cost { steps.new ≤ steps.old + most_steps markings.old.columns.depth book.now.routine what }
+    ensures cost { steps.new ≤ steps.old + change_steps markings.old.columns.depth book.now.routine what }
 {
     match what {
         What::Judged(call, _) => {
@@ -126,7 +126,7 @@ impl<'a> Debug<'a> {
         ensures unchanged { OnErr result (self.new ≡ self.old) }
         ensures not_fallen { steps.old ≤ steps.new }
         ensures cost { steps.new ≤ steps.old
-            + most_steps self.old.depth self.old.book.routine (what.Judged call judgement) }
+            + change_steps self.old.depth self.old.book.routine (what.Judged call judgement) }
     {
         match self.book.judge(call, judgement) {
             Ok(number) => {
@@ -146,7 +146,7 @@ impl<'a> Debug<'a> {
         ensures unchanged { OnErr result (self.new ≡ self.old) }
         ensures not_fallen { steps.old ≤ steps.new }
         ensures cost { steps.new ≤ steps.old
-            + most_steps self.old.depth self.old.book.routine (what.Trusted routine) }
+            + change_steps self.old.depth self.old.book.routine (what.Trusted routine) }
     {
         match self.book.trust(routine) {
             Ok(number) => {

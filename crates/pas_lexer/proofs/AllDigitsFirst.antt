@@ -50,7 +50,7 @@ use Rattle.pas_lexer.specs.Lexis.{
   BeginsReal,
   BeginsJoined,
 }
-use Rattle.pas_lexer.specs.Reading.{run, number_in, number_before, number_at, piece_at}
+use Rattle.pas_lexer.specs.Reading.{run_length, number_in, number_before, number_at, piece_at}
 use Rattle.pas_lexer.proofs.LongestRun.{chosen, pass_cons, pass_more, Stops, run_again, run_passes, run_stops, head_is}
 
 -- ---- bytes
@@ -113,11 +113,11 @@ first_stops [] e = tt
 first_stops (c ∷ l) e = e
 
 -- where digits stand first, these are all of them
-pub first_digits : (c : ℕ) (l : List ℕ) → digit c ≡ true → FirstDigits (c ∷ l) (c ∷ take (run digit l) l) (drop (run digit l) l)
+pub first_digits : (c : ℕ) (l : List ℕ) → digit c ≡ true → FirstDigits (c ∷ l) (c ∷ take (run_length digit l) l) (drop (run_length digit l) l)
 first_digits c l h = (
-  ap (λ (x : List ℕ). c ∷ x) (sym (take-append-drop (run digit l) l)),
+  ap (λ (x : List ℕ). c ∷ x) (sym (take-append-drop (run_length digit l) l)),
   (h, run_passes digit l),
-  stops_first (drop (run digit l) l) (run_stops digit l),
+  stops_first (drop (run_length digit l) l) (run_stops digit l),
 )
 
 -- with what is read of them
@@ -125,7 +125,7 @@ pub number_read : (l digits rest : List ℕ) → FirstDigits l digits rest → p
 unfolding piece_at number_at
 number_read l [] rest f = absurd f.1
 number_read l (c ∷ cs) rest f =
-    let n : run digit ((c ∷ cs) ++ rest) ≡ length (c ∷ cs) = run_again digit (c ∷ cs) rest (digits_all (c ∷ cs) f.1) (first_stops rest f.2) in
+    let n : run_length digit ((c ∷ cs) ++ rest) ≡ length (c ∷ cs) = run_again digit (c ∷ cs) rest (digits_all (c ∷ cs) f.1) (first_stops rest f.2) in
     let a : letter c ≡ false = digit_no_letter c f.1.0 in
     let b : digit c ≡ true = f.1.0 in
     let at : piece_at ((c ∷ cs) ++ rest) ≡ number_at ((c ∷ cs) ++ rest) = rw (a, b) refl in
@@ -134,9 +134,9 @@ number_read l (c ∷ cs) rest f =
     ∙ ap (λ (x : List ℕ). number_before x (length (c ∷ cs)) (take (length (c ∷ cs)) ((c ∷ cs) ++ rest))) (drop-append_seam (c ∷ cs) rest)
     ∙ ap (number_before rest (length (c ∷ cs))) (take-append_seam (c ∷ cs) rest)
 
-digits_are : (l digits rest : List ℕ) → FirstDigits l digits rest → (take (run digit l) l ≡ digits) × (drop (run digit l) l ≡ rest)
+digits_are : (l digits rest : List ℕ) → FirstDigits l digits rest → (take (run_length digit l) l ≡ digits) × (drop (run_length digit l) l ≡ rest)
 digits_are l digits rest f =
-    let n : run digit l ≡ length digits = ap (run digit) f.0 ∙ run_again digit digits rest (digits_all digits f.1) (first_stops rest f.2) in (
+    let n : run_length digit l ≡ length digits = ap (run_length digit) f.0 ∙ run_again digit digits rest (digits_all digits f.1) (first_stops rest f.2) in (
       ap (λ (m : ℕ). take m l) n ∙ ap (take (length digits)) f.0 ∙ take-append_seam digits rest,
       ap (λ (m : ℕ). drop m l) n ∙ ap (drop (length digits)) f.0
           ∙ drop-append_seam digits rest,

@@ -30,7 +30,7 @@ use Rattle.std.proofs.Common.{
 }
 use Rattle.std.proofs.lemmas.List.{take_all}
 use Rattle.std.specs.List.{AllPass}
-use Rattle.pas_lexer.specs.Reading.{run}
+use Rattle.pas_lexer.specs.Reading.{run_length}
 
 pub chosen : {A : Type 0} (b : Bool) (x y z : A) → cond b x y ≡ z → ((b ≡ true) × (x ≡ z)) ⊎ ((b ≡ false) × (y ≡ z))
 chosen true x y z e = inl (refl, e)
@@ -79,34 +79,34 @@ stops p (d ∷ more) none =
 pub next_fails : (p : ℕ → Bool) (rest : List ℕ) (d : ℕ) (ds more : List ℕ) → Stops p rest → rest ≡ (d ∷ ds) ++ more → p d ≡ true → ⊥
 next_fails p rest d ds more s e h = let f : p d ≡ false = subst (Stops p) e s in cc
 
-pub run_again : (p : ℕ → Bool) (cs rest : List ℕ) → AllPass p cs → Stops p rest → run p (cs ++ rest) ≡ length cs
+pub run_again : (p : ℕ → Bool) (cs rest : List ℕ) → AllPass p cs → Stops p rest → run_length p (cs ++ rest) ≡ length cs
 run_again p [] [] h s = refl
 run_again p [] (d ∷ rest) h s = rw s refl
 run_again p (c ∷ cs) rest h s = let f : p c ≡ true = pass_head p c cs h in rw f (ap suc (run_again p cs rest (pass_tail p c cs h) s))
 
-pub run_passes : (p : ℕ → Bool) (l : List ℕ) → AllPass p (take (run p l) l)
+pub run_passes : (p : ℕ → Bool) (l : List ℕ) → AllPass p (take (run_length p l) l)
 run_passes p [] = pass_nil p
 run_passes p (c ∷ l) =
     elim (fact_of (p c)) [
-      | inl h ↦ let e : run p (c ∷ l) ≡ suc (run p l) = rw h refl in subst (λ (n : ℕ). AllPass p (take n (c ∷ l))) (sym e)
-          (pass_cons p c (take (run p l) l) h (run_passes p l))
-      | inr h ↦ let e : run p (c ∷ l) ≡ 0 = rw h refl in subst (λ (n : ℕ). AllPass p (take n (c ∷ l))) (sym e) (pass_nil p)
+      | inl h ↦ let e : run_length p (c ∷ l) ≡ suc (run_length p l) = rw h refl in subst (λ (n : ℕ). AllPass p (take n (c ∷ l))) (sym e)
+          (pass_cons p c (take (run_length p l) l) h (run_passes p l))
+      | inr h ↦ let e : run_length p (c ∷ l) ≡ 0 = rw h refl in subst (λ (n : ℕ). AllPass p (take n (c ∷ l))) (sym e) (pass_nil p)
     ]
 
-pub run_stops : (p : ℕ → Bool) (l : List ℕ) → Stops p (drop (run p l) l)
+pub run_stops : (p : ℕ → Bool) (l : List ℕ) → Stops p (drop (run_length p l) l)
 run_stops p [] = tt
 run_stops p (c ∷ l) =
     elim (fact_of (p c)) [
-      | inl h ↦ let e : run p (c ∷ l) ≡ suc (run p l) = rw h refl in subst (λ (n : ℕ). Stops p (drop n (c ∷ l))) (sym e) (run_stops p l)
-      | inr h ↦ let e : run p (c ∷ l) ≡ 0 = rw h refl in subst (λ (n : ℕ). Stops p (drop n (c ∷ l))) (sym e) h
+      | inl h ↦ let e : run_length p (c ∷ l) ≡ suc (run_length p l) = rw h refl in subst (λ (n : ℕ). Stops p (drop n (c ∷ l))) (sym e) (run_stops p l)
+      | inr h ↦ let e : run_length p (c ∷ l) ≡ 0 = rw h refl in subst (λ (n : ℕ). Stops p (drop n (c ∷ l))) (sym e) h
     ]
 
-pub run_len : (p : ℕ → Bool) (l : List ℕ) → length (take (run p l) l) ≡ run p l
+pub run_len : (p : ℕ → Bool) (l : List ℕ) → length (take (run_length p l) l) ≡ run_length p l
 run_len p [] = refl
 run_len p (c ∷ l) =
     elim (fact_of (p c)) [
-      | inl h ↦ let e : run p (c ∷ l) ≡ suc (run p l) = rw h refl in subst (λ (n : ℕ). length (take n (c ∷ l)) ≡ n) (sym e) (ap suc (run_len p l))
-      | inr h ↦ let e : run p (c ∷ l) ≡ 0 = rw h refl in subst (λ (n : ℕ). length (take n (c ∷ l)) ≡ n) (sym e) refl
+      | inl h ↦ let e : run_length p (c ∷ l) ≡ suc (run_length p l) = rw h refl in subst (λ (n : ℕ). length (take n (c ∷ l)) ≡ n) (sym e) (ap suc (run_len p l))
+      | inr h ↦ let e : run_length p (c ∷ l) ≡ 0 = rw h refl in subst (λ (n : ℕ). length (take n (c ∷ l)) ≡ n) (sym e) refl
     ]
 
 pub head_is : (x y : ℕ) (l m : List ℕ) → x ∷ l ≡ y ∷ m → x ≡ y

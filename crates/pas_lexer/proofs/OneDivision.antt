@@ -62,7 +62,7 @@ use Rattle.pas_lexer.specs.Division.{
   IsLexed,
   FailsFor,
   FailsAt,
-  fault_of,
+  lex_fault,
   IsFault,
   GivesTokens,
   RefusesWith,
@@ -232,7 +232,7 @@ fails source at tokens r lt so_far e = (
 )
 
 -- the fault for the reason is the fault of the source
-pub fault_is : (source : List ℕ) (r : LexReason) (n : ℕ) → FailsFor source r n → IsFault source (fault_of r n)
+pub fault_is : (source : List ℕ) (r : LexReason) (n : ℕ) → FailsFor source r n → IsFault source (lex_fault r n)
 fault_is source reason.BadByte n h = h
 fault_is source reason.OpenComment n h = h
 fault_is source reason.OpenString n h = h
@@ -242,7 +242,7 @@ fault_is source reason.TooLarge n h = h
 fault_is source reason.Joined n h = h
 
 -- a fault of the source is that memory ran out, or the fault for a reason
-is_fault : (source : List ℕ) (e : LexFault) → IsFault source e → ((r : LexReason) × (n : ℕ) × (e ≡ fault_of r n) × FailsFor source r n) ⊎ (e ≡ Memory)
+is_fault : (source : List ℕ) (e : LexFault) → IsFault source e → ((r : LexReason) × (n : ℕ) × (e ≡ lex_fault r n) × FailsFor source r n) ⊎ (e ≡ Memory)
 is_fault source (BadByte n) h = inl (reason.BadByte, n, refl, h)
 is_fault source (OpenComment n) h = inl (reason.OpenComment, n, refl, h)
 is_fault source (OpenString n) h = inl (reason.OpenString, n, refl, h)
@@ -262,12 +262,12 @@ only source (Err e) found fault tokens is =
     ]
 
 pub refused : (source : List ℕ) (r : Result Lexed LexFault) → IfOk r (λ t. IsLexed source t.tokens) → IfErr r (IsFault source) → (q : LexReason) (n : ℕ)
-    → FailsFor source q n → RefusesWith (fault_of q n) r
+    → FailsFor source q n → RefusesWith (lex_fault q n) r
 refused source (Ok t) found fault q n is = never_for source t.tokens q n found is
 refused source (Err e) found fault q n is =
     elim (is_fault source e fault) [
-      | inl h ↦ inl (h.2 ∙ ap (λ (x : LexReason). fault_of x h.1) (same_reason source h.0 q h.1 n h.3 is)
-          ∙ ap (fault_of q) (same_place source h.0 q h.1 n h.3 is))
+      | inl h ↦ inl (h.2 ∙ ap (λ (x : LexReason). lex_fault x h.1) (same_reason source h.0 q h.1 n h.3 is)
+          ∙ ap (lex_fault q) (same_place source h.0 q h.1 n h.3 is))
       | inr h ↦ inr h
     ]
 

@@ -74,7 +74,7 @@ use Rattle.pas_lexer.specs.Reading.{
   symbol_among,
   written_text,
   symbol_of,
-  run,
+  run_length,
   more_by,
   or_else,
   Reading,
@@ -89,7 +89,7 @@ use Rattle.pas_lexer.specs.Reading.{
   string_end,
   string_at,
   symbol_in,
-  mark_at,
+  mark_piece,
   piece_at,
 }
 use Rattle.pas_lexer.proofs.LongestRun.{chosen, fact_of, pass_nil, pass_cons, head_is, tail_is}
@@ -136,24 +136,25 @@ number_fails c l r h e =
     ]
   where
     digits : List ℕ
-    digits = c ∷ take (run digit l) l
+    digits = c ∷ take (run_length digit l) l
 
     rest : List ℕ
-    rest = drop (run digit l) l
+    rest = drop (run_length digit l) l
 
-    at : (o : Option ℕ) → number_in (c ∷ take (run digit l) l) ≡ o → number_piece (length (c ∷ take (run digit l) l)) o ≡ Err r → (BeginsReal (c ∷ l) → ⊥)
+    at : (o : Option ℕ) → number_in (c ∷ take (run_length digit l) l) ≡ o → number_piece (length (c ∷ take (run_length digit l) l)) o ≡ Err r
+        → (BeginsReal (c ∷ l) → ⊥)
         → (BeginsJoined (c ∷ l) → ⊥) → IsReason r (c ∷ l)
     at None g e a b = reason_same (c ∷ l) TooLarge r e (
       (
-        c ∷ take (run digit l) l,
-        drop (run digit l) l,
+        c ∷ take (run_length digit l) l,
+        drop (run_length digit l) l,
         first_digits c l h,
-        number_large (c ∷ take (run digit l) l) g,
+        number_large (c ∷ take (run_length digit l) l) g,
       ),
       a,
       b,
     )
-    at (Some n) g e a b = absurd (none_failed (Some (Number n), length (c ∷ take (run digit l) l)) r e)
+    at (Some n) g e a b = absurd (none_failed (Some (Number n), length (c ∷ take (run_length digit l) l)) r e)
 
 -- no end is read after another apostrophe
 string_open : (l : List ℕ) → string_end false l ≡ None → IsReason OpenString (apostrophe ∷ l)
@@ -270,8 +271,8 @@ symbol_fails c l r a b d f g h e = at (symbol_among all_symbols (c ∷ l)) refl 
     at None none e = reason_same (c ∷ l) BadByte r e ((c, l, refl, no_piece c l a b d f g h none), never_real c l b h)
     at (Some w) none e = absurd (none_failed (Some (SymbolKind (symbol_of w)), length (written_text w)) r e)
 
-mark_fails : (c : ℕ) (l : List ℕ) (r : LexReason) → letter c ≡ false → digit c ≡ false → separator c ≡ false → mark_at c l ≡ Err r → IsReason r (c ∷ l)
-unfolding mark_at string_at symbol_in
+mark_fails : (c : ℕ) (l : List ℕ) (r : LexReason) → letter c ≡ false → digit c ≡ false → separator c ≡ false → mark_piece c l ≡ Err r → IsReason r (c ∷ l)
+unfolding mark_piece string_at symbol_in
 mark_fails c l r a b d e =
     elim (chosen (nat_eq c apostrophe) _ _ (Err r) e) [
       | inl h ↦ subst (λ (x : ℕ). IsReason r (x ∷ l)) (sym (eqb-true c apostrophe h.0)) (string_fails l r h.1)
@@ -331,12 +332,12 @@ no_joined l digits rest f none =
     ]
 
 slash_read : (l : List ℕ) → next_is 47 l ≡ true → piece_at l ≡ Err RealWord
-unfolding piece_at mark_at
+unfolding piece_at mark_piece
 slash_read [] e = absurd cc
 slash_read (c ∷ l) e = subst (λ (x : ℕ). piece_at (x ∷ l) ≡ Err RealWord) (sym (eqb-true c 47 e)) refl
 
 empty_read : (rest : List ℕ) → next_is apostrophe rest ≡ false → piece_at (apostrophe ∷ (apostrophe ∷ rest)) ≡ Err EmptyString
-unfolding piece_at mark_at string_at
+unfolding piece_at mark_piece string_at
 empty_read [] e = refl
 empty_read (d ∷ rest) e = let f : nat_eq d apostrophe ≡ false = e in rw (f, f) refl
 
@@ -364,7 +365,7 @@ some_reason l none = at (piece_at l) refl
 
 open_read : (l : List ℕ) → NothingFits (apostrophe ∷ l) → (text rest : List ℕ) → l ≡ doubled text ++ rest → ends_first rest ≡ true
     → piece_at (apostrophe ∷ l) ≡ Err OpenString
-unfolding piece_at mark_at string_at
+unfolding piece_at mark_piece string_at
 open_read l none text rest whole ends =
     let r = some_reason (apostrophe ∷ l) none in
     r.1 ∙ at (string_end false l) refl r.0 r.1
@@ -391,7 +392,7 @@ comment_open after opened none = at (closing after) refl
     at (Some n) e = absurd (none (take n after) (drop n after) (sym (take-append-drop n after)) (closing_sound after n e).0)
 
 open_comment_read : (l after : List ℕ) → IsOpened l after → ((front more : List ℕ) → after ≡ front ++ more → IsClosed front → ⊥) → piece_at l ≡ Err OpenComment
-unfolding piece_at mark_at
+unfolding piece_at mark_piece
 open_comment_read l after (inl e) none = subst (λ (x : List ℕ). piece_at x ≡ Err OpenComment) (sym e) (comment_open after 1 none)
 open_comment_read l after (inr e) none = subst (λ (x : List ℕ). piece_at x ≡ Err OpenComment) (sym e) (comment_open after 2 none)
 

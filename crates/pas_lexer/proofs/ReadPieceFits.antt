@@ -81,7 +81,7 @@ use Rattle.pas_lexer.specs.Reading.{
   symbol_in,
   written_text,
   symbol_of,
-  run,
+  run_length,
   Reading,
   word_or_name,
   symbol_piece,
@@ -94,7 +94,7 @@ use Rattle.pas_lexer.specs.Reading.{
   string_piece,
   string_end,
   string_at,
-  mark_at,
+  mark_piece,
   piece_at,
 }
 use Rattle.pas_lexer.proofs.LongestRun.{
@@ -150,7 +150,7 @@ identifier_again [] rest h longest = absurd h
 identifier_again (c ∷ cs) rest h longest =
     let s : Stops letter_or_digit rest = stops letter_or_digit rest (λ d more e p. longest d [] more (word_or_name (word_in ((c ∷ cs) ++ d ∷ []))) e
     (identifier_spells ((c ∷ cs) ++ d ∷ []) (identifier_more (c ∷ cs) d h p))) in
-    let n : run letter_or_digit ((c ∷ cs) ++ rest) ≡ length (c ∷ cs) = run_again letter_or_digit (c ∷ cs) rest (identifier_all (c ∷ cs) h) s in
+    let n : run_length letter_or_digit ((c ∷ cs) ++ rest) ≡ length (c ∷ cs) = run_again letter_or_digit (c ∷ cs) rest (identifier_all (c ∷ cs) h) s in
     let f : letter c ≡ true = h.0 in
     let at : piece_at ((c ∷ cs) ++ rest) ≡ identifier_at ((c ∷ cs) ++ rest) = rw f refl in
     at ∙ ap (λ (m : ℕ). read (Some (word_or_name (word_in (take m ((c ∷ cs) ++ rest))))) m) n
@@ -171,13 +171,13 @@ number_again t rest h longest no_real no_letter small =
 -- ---- marks
 
 -- after the bytes that no name, number or separator begins with
-pub mark_read : (c : ℕ) (l : List ℕ) → letter c ≡ false → digit c ≡ false → separator c ≡ false → piece_at (c ∷ l) ≡ mark_at c l
+pub mark_read : (c : ℕ) (l : List ℕ) → letter c ≡ false → digit c ≡ false → separator c ≡ false → piece_at (c ∷ l) ≡ mark_piece c l
 unfolding piece_at
 mark_read c l a b d = rw (a, b, d) refl
 
 pub symbol_read : (c : ℕ) (l : List ℕ) → nat_eq c apostrophe ≡ false → nat_eq c 123 ≡ false → (nat_eq c 40 && next_is 42 l) ≡ false → nat_eq c 47 ≡ false
-    → mark_at c l ≡ symbol_piece (symbol_among all_symbols (c ∷ l))
-unfolding mark_at symbol_in
+    → mark_piece c l ≡ symbol_piece (symbol_among all_symbols (c ∷ l))
+unfolding mark_piece symbol_in
 symbol_read c l a b d e = rw (a, b, d, e) refl
 
 -- a text is one of its symbol's spellings
@@ -219,11 +219,11 @@ symbol_piece_again w rest longest none =
 -- ---- comments
 
 brace_again : (after rest : List ℕ) → IsClosed after → piece_at (123 ∷ (after ++ rest)) ≡ read None (suc (length after))
-unfolding piece_at mark_at
+unfolding piece_at mark_piece
 brace_again after rest h = rw (closing_again after rest h) (ap (read None) (omega arith))
 
 paren_again : (after rest : List ℕ) → IsClosed after → piece_at (40 ∷ (42 ∷ (after ++ rest))) ≡ read None (suc (suc (length after)))
-unfolding piece_at mark_at
+unfolding piece_at mark_piece
 paren_again after rest h = rw (closing_again after rest h) (ap (read None) (omega arith))
 
 comment_again : (text after rest : List ℕ) → IsOpened text after → IsClosed after → piece_at (text ++ rest) ≡ read None (length text)
@@ -233,7 +233,7 @@ comment_again text after rest (inr e) h = subst (λ (t : List ℕ). piece_at (t 
 -- ---- strings
 
 string_read : (l : List ℕ) → piece_at (apostrophe ∷ l) ≡ string_piece l (string_end false l)
-unfolding piece_at mark_at string_at
+unfolding piece_at mark_piece string_at
 string_read l = refl
 
 long_string : (l : List ℕ) (n : ℕ) → 1 < n → string_piece l (Some n) ≡ read (Some Text) (1 + n)
@@ -418,35 +418,35 @@ word_or_name_allowed None rest = tt
 word_or_name_allowed (Some w) rest = tt
 
 -- the run of bytes that pass, the first of which does
-run_one : (p : ℕ → Bool) (c : ℕ) (l : List ℕ) → p c ≡ true → run p (c ∷ l) ≡ suc (run p l)
+run_one : (p : ℕ → Bool) (c : ℕ) (l : List ℕ) → p c ≡ true → run_length p (c ∷ l) ≡ suc (run_length p l)
 run_one p c l h = rw h refl
 
 identifier_cut : (c : ℕ) (l : List ℕ) (k : Option Kind) (n : ℕ) → letter c ≡ true → identifier_at (c ∷ l) ≡ Ok (k, n) → Cut (c ∷ l) k n
 unfolding identifier_at
 identifier_cut c l k n h e =
-    let one : run letter_or_digit (c ∷ l) ≡ suc (run letter_or_digit l) = run_one letter_or_digit c l (letter_passes c h) in
-    let t : List ℕ = take (run letter_or_digit l) l in
+    let one : run_length letter_or_digit (c ∷ l) ≡ suc (run_length letter_or_digit l) = run_one letter_or_digit c l (letter_passes c h) in
+    let t : List ℕ = take (run_length letter_or_digit l) l in
     let is : IsIdentifier (c ∷ t) = (h, run_passes letter_or_digit l) in
-    let e2 : read (Some (word_or_name (word_in (c ∷ t)))) (suc (run letter_or_digit l)) ≡ Ok (k, n) =
+    let e2 : read (Some (word_or_name (word_in (c ∷ t)))) (suc (run_length letter_or_digit l)) ≡ Ok (k, n) =
     sym (ap (λ (m : ℕ). read (Some (word_or_name (word_in (take m (c ∷ l))))) m) one) ∙ e in
-    cut_same (c ∷ l) (Some (word_or_name (word_in (c ∷ t)))) k (suc (run letter_or_digit l)) n e2 (record {
+    cut_same (c ∷ l) (Some (word_or_name (word_in (c ∷ t)))) k (suc (run_length letter_or_digit l)) n e2 (record {
       text = c ∷ t;
-      rest = drop (run letter_or_digit l) l;
-      whole = ap (λ (x : List ℕ). c ∷ x) (sym (take-append-drop (run letter_or_digit l) l));
+      rest = drop (run_length letter_or_digit l) l;
+      whole = ap (λ (x : List ℕ). c ∷ x) (sym (take-append-drop (run_length letter_or_digit l) l));
       len = ap suc (run_len letter_or_digit l);
       some = omega arith;
       fits = (
         identifier_spells (c ∷ t) is,
-        identifier_longest c t (drop (run letter_or_digit l) l) h (run_stops letter_or_digit l),
-        word_or_name_allowed (word_in (c ∷ t)) (drop (run letter_or_digit l) l),
-        letter_opens_none c (t ++ drop (run letter_or_digit l) l) h,
+        identifier_longest c t (drop (run_length letter_or_digit l) l) h (run_stops letter_or_digit l),
+        word_or_name_allowed (word_in (c ∷ t)) (drop (run_length letter_or_digit l) l),
+        letter_opens_none c (t ++ drop (run_length letter_or_digit l) l) h,
       );
     })
 
 number_cut : (c : ℕ) (l : List ℕ) (k : Option Kind) (n : ℕ) → digit c ≡ true → piece_at (c ∷ l) ≡ Ok (k, n) → Cut (c ∷ l) k n
 number_cut c l k n h e =
-    let digits : List ℕ = c ∷ take (run digit l) l in
-    let rest : List ℕ = drop (run digit l) l in
+    let digits : List ℕ = c ∷ take (run_length digit l) l in
+    let rest : List ℕ = drop (run_length digit l) l in
     let e2 : number_before rest (length digits) digits ≡ Ok (k, n) = sym (number_read (c ∷ l) digits rest (first_digits c l h)) ∙ e in
     elim (chosen (real_follows rest) (Err RealWord) (cond (letter_first rest) (Err Joined) (number_piece (length digits) (number_in digits))) (Ok (k, n)) e2) [
       | inl f ↦ absurd (nothing_read RealWord k n f.1)
@@ -456,22 +456,23 @@ number_cut c l k n h e =
       ]
     ]
   where
-    at : (o : Option ℕ) → number_in (c ∷ take (run digit l) l) ≡ o → real_follows (drop (run digit l) l) ≡ false → letter_first (drop (run digit l) l) ≡ false
-        → number_piece (length (c ∷ take (run digit l) l)) o ≡ Ok (k, n) → Cut (c ∷ l) k n
+    at : (o : Option ℕ) → number_in (c ∷ take (run_length digit l) l) ≡ o → real_follows (drop (run_length digit l) l) ≡ false
+        → letter_first (drop (run_length digit l) l) ≡ false
+        → number_piece (length (c ∷ take (run_length digit l) l)) o ≡ Ok (k, n) → Cut (c ∷ l) k n
     at None g no_real no_letter e = absurd (nothing_read TooLarge k n e)
     at (Some value) g no_real no_letter e =
-        let v = number_small (c ∷ take (run digit l) l) value g in
-        cut_same (c ∷ l) (Some (Number value)) k (length (c ∷ take (run digit l) l)) n e (record {
-          text = c ∷ take (run digit l) l;
-          rest = drop (run digit l) l;
-          whole = ap (λ (x : List ℕ). c ∷ x) (sym (take-append-drop (run digit l) l));
+        let v = number_small (c ∷ take (run_length digit l) l) value g in
+        cut_same (c ∷ l) (Some (Number value)) k (length (c ∷ take (run_length digit l) l)) n e (record {
+          text = c ∷ take (run_length digit l) l;
+          rest = drop (run_length digit l) l;
+          whole = ap (λ (x : List ℕ). c ∷ x) (sym (take-append-drop (run_length digit l) l));
           len = refl;
           some = omega arith;
           fits = (
             ((h, run_passes digit l), v.0),
-            digits_longest c (take (run digit l) l) (drop (run digit l) l) h (run_stops digit l),
+            digits_longest c (take (run_length digit l) l) (drop (run_length digit l) l) h (run_stops digit l),
             (no_real, no_letter, v.1),
-            digit_opens_none c (take (run digit l) l ++ drop (run digit l) l) h,
+            digit_opens_none c (take (run_length digit l) l ++ drop (run_length digit l) l) h,
           );
         })
 
@@ -560,8 +561,8 @@ symbol_cut c l k n none e = at (symbol_among all_symbols (c ∷ l)) refl e
           );
         })
 
-mark_cut : (c : ℕ) (l : List ℕ) (k : Option Kind) (n : ℕ) → mark_at c l ≡ Ok (k, n) → Cut (c ∷ l) k n
-unfolding mark_at string_at symbol_in
+mark_cut : (c : ℕ) (l : List ℕ) (k : Option Kind) (n : ℕ) → mark_piece c l ≡ Ok (k, n) → Cut (c ∷ l) k n
+unfolding mark_piece string_at symbol_in
 mark_cut c l k n e =
     elim (chosen (nat_eq c apostrophe) _ _ (Ok (k, n)) e) [
       | inl h ↦ subst (λ (x : ℕ). Cut (x ∷ l) k n) (sym (eqb-true c apostrophe h.0)) (string_cut l k n h.1)

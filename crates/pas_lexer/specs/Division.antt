@@ -96,14 +96,14 @@ FailsAt source n = (r : LexReason) × FailsFor source r n
 -- ---- answers
 
 -- the fault for a reason, at a byte
-abbrev pub fault_of : LexReason → ℕ → LexFault
-fault_of reason.BadByte n = BadByte n
-fault_of reason.OpenComment n = OpenComment n
-fault_of reason.OpenString n = OpenString n
-fault_of reason.EmptyString n = EmptyString n
-fault_of reason.RealWord n = RealWord n
-fault_of reason.TooLarge n = TooLarge n
-fault_of reason.Joined n = Joined n
+abbrev pub lex_fault : LexReason → ℕ → LexFault
+lex_fault reason.BadByte n = BadByte n
+lex_fault reason.OpenComment n = OpenComment n
+lex_fault reason.OpenString n = OpenString n
+lex_fault reason.EmptyString n = EmptyString n
+lex_fault reason.RealWord n = RealWord n
+lex_fault reason.TooLarge n = TooLarge n
+lex_fault reason.Joined n = Joined n
 
 -- the fault is at the first piece that does not fit, for the reason that it names
 abbrev pub IsFault : List ℕ → LexFault → Type 0

@@ -156,9 +156,9 @@ unfoldable pub symbol_in : List ℕ → Option Written
 symbol_in l = symbol_among all_symbols l
 
 -- how many of the first bytes pass
-abbrev pub run : (ℕ → Bool) → List ℕ → ℕ
-run p [] = 0
-run p (c ∷ l) = if p c then suc (run p l) else 0
+abbrev pub run_length : (ℕ → Bool) → List ℕ → ℕ
+run_length p [] = 0
+run_length p (c ∷ l) = if p c then suc (run_length p l) else 0
 
 abbrev pub more_by : ℕ → Option ℕ → Option ℕ
 more_by n None = None
@@ -196,7 +196,7 @@ symbol_piece None = Err BadByte
 symbol_piece (Some s) = Ok (Some (SymbolKind (symbol_of s)), length (written_text s))
 
 unfoldable pub identifier_at : List ℕ → Reading
-identifier_at l = let n = run letter_or_digit l in Ok (Some (word_or_name (word_in (take n l))), n)
+identifier_at l = let n = run_length letter_or_digit l in Ok (Some (word_or_name (word_in (take n l))), n)
 
 -- the number that digits denote, if a source may write it
 unfoldable pub number_in : List ℕ → Option ℕ
@@ -212,7 +212,7 @@ number_before rest n digits = if real_follows rest then Err RealWord
     else (if letter_first rest then Err Joined else number_piece n (number_in digits))
 
 unfoldable pub number_at : List ℕ → Reading
-number_at l = let n = run digit l in number_before (drop n l) n (take n l)
+number_at l = let n = run_length digit l in number_before (drop n l) n (take n l)
 
 abbrev pub comment_piece : ℕ → Option ℕ → Reading
 comment_piece opened None = Err OpenComment
@@ -228,8 +228,8 @@ unfoldable pub string_at : List ℕ → Reading
 string_at l = string_piece l (string_end false l)
 
 -- a string, a comment or a symbol
-unfoldable pub mark_at : ℕ → List ℕ → Reading
-mark_at c l =
+unfoldable pub mark_piece : ℕ → List ℕ → Reading
+mark_piece c l =
     if nat_eq c apostrophe then string_at l
     else (if nat_eq c 123 then comment_piece 1 (closing l)
     else (if nat_eq c 40 && next_is 42 l then comment_piece 2 (closing (drop 1 l))
@@ -242,4 +242,4 @@ piece_at (c ∷ l) =
     if letter c then identifier_at (c ∷ l)
     else (if digit c then number_at (c ∷ l)
     else (if separator c then Ok (None, 1)
-    else mark_at c l))
+    else mark_piece c l))

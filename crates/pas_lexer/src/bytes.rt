@@ -12,7 +12,7 @@ ghost use Rattle.pas_lexer.specs.Lexis.{
   scale_first,
   real_follows,
 };
-ghost use Rattle.pas_lexer.specs.Reading.{run, closing, string_end};
+ghost use Rattle.pas_lexer.specs.Reading.{run_length, closing, string_end};
 
 /// A tab, a line feed, a form feed, a carriage return or a space.
 pub fn is_separator(c: u8) -> bool
@@ -95,7 +95,7 @@ pub fn real_goes_on(bytes: &[u8]) -> bool
 
 /// How many letters and digits stand first.
 pub fn identifier_length(bytes: &[u8]) -> usize
-    ensures run { result ≡ run letter_or_digit bytes.now }
+    ensures run { result ≡ run_length letter_or_digit bytes.now }
     ensures inside { result ≤ length bytes.now }
 {
     for (n, c) in bytes.iter().enumerate() {
@@ -108,7 +108,7 @@ pub fn identifier_length(bytes: &[u8]) -> usize
 
 /// How many digits stand first.
 pub fn digits_length(bytes: &[u8]) -> usize
-    ensures run { result ≡ run digit bytes.now }
+    ensures run { result ≡ run_length digit bytes.now }
     ensures inside { result ≤ length bytes.now }
 {
     for (n, c) in bytes.iter().enumerate() {

@@ -2,7 +2,7 @@
 
 ghost use Rattle.std.specs.Prelude.{◌≡◌};
 ghost use Rattle.pas_lexer.specs.declared.kinds.LexFault.TheVariants.{Memory};
-ghost use Rattle.pas_lexer.specs.Division.{fault_of};
+ghost use Rattle.pas_lexer.specs.Division.{lex_fault};
 
 use std::alloc::{AllocError, AllocFailed};
 use thiserror::Error;
@@ -159,7 +159,7 @@ pub enum LexReason {
 impl LexReason {
     /// The fault for this reason, at a byte.
     pub fn fault(self, byte: u32) -> LexFault
-        ensures { result ≡ fault_of self byte }
+        ensures { result ≡ lex_fault self byte }
     {
         match self {
             LexReason::BadByte => LexFault::BadByte(byte),

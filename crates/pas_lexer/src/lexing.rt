@@ -39,7 +39,7 @@ ghost use Rattle.pas_lexer.specs.Division.{
   IsLexed,
   FailsFor,
   FailsAt,
-  fault_of,
+  lex_fault,
   IsFault,
   GivesTokens,
   RefusesWith,
@@ -145,7 +145,7 @@ pub fn lex(alloc: Global, bytes: &[u8]) -> Result<Tokens, LexFault>
     // The fault names the first piece that does not fit, and why; and a source with such a piece is refused
     // there and for that reason, unless memory runs out.
     ensures fault { IfErr result (IsFault bytes.now) }
-    ensures refused { (r : LexReason) (n : ℕ) → FailsFor bytes.now r n → RefusesWith (fault_of r n) result }
+    ensures refused { (r : LexReason) (n : ℕ) → FailsFor bytes.now r n → RefusesWith (lex_fault r n) result }
 
     // Each token stands in the source, and the last, and only the last, is `End`.
     ensures placed { IfOk result (λ t. All (IsPlaced bytes.now) t.tokens) }

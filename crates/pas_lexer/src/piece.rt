@@ -10,7 +10,7 @@ ghost use Rattle.pas_lexer.specs.Reading.{
   comment_piece,
   closing,
   string_at,
-  mark_at,
+  mark_piece,
   piece_at,
 };
 
@@ -50,10 +50,10 @@ pub fn piece(bytes: &[u8]) -> Result<(Option<Kind>, usize), LexReason>
 }
 
 /// The string, the comment or the symbol that stands first.
-#[tactic(auto, unfolding(crate::specs::Reading::mark_at))]
+#[tactic(auto, unfolding(crate::specs::Reading::mark_piece))]
 fn mark(c: u8, bytes: &[u8], rest: &[u8]) -> Result<(Option<Kind>, usize), LexReason>
     requires { bytes.now ≡ c ∷ rest.now }
-    ensures { result ≡ mark_at c rest.now }
+    ensures { result ≡ mark_piece c rest.now }
 {
     if c == b'\'' {
         return string(rest);

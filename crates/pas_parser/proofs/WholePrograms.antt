@@ -4,7 +4,7 @@ use Rattle.std.proofs.Common.{append_assoc, arith, inl, inr, length-append, leng
 use Rattle.std.proofs.lemmas.List.{take_at, map_push}
 use Rattle.grammar.specs.declared.terminals.Terminal.{Terminal}
 use Rattle.grammar.specs.Nodes.{Item, Node, spell, next}
-use Rattle.grammar.specs.Reading.{Read, Refusal, Unfit, Deep, left_of, read}
+use Rattle.grammar.specs.Reading.{Read, Refusal, Unfit, Deep, unread_of, read}
 use Rattle.grammar.specs.Laws.{NoneGoesOn}
 use Rattle.grammar.specs.Ending.{IsLast, Has}
 use Rattle.grammar.proofs.Ending.{refused_inside}
@@ -106,7 +106,7 @@ no_formed_goes_on (d ∷ ks') i h r = λ x formed b.
     let same : spell x ≡ r.0 ++ (here ∷ b.0) = b.1 ∙ ap (λ (l : List Item). l ++ b.0) (begins_at ks r.0 i d h r.1) ∙ append_assoc r.0 (here ∷ []) b.0 in
     r.2 x (here ∷ b.0) formed same (sym (ap next (items_cons ks i d h)))
 
-at_token : (ks : List Terminal) (i : ℕ) (r : Refusal) → left_of r ≡ items_from ks i → Has k.End (items_from ks 0) → program_read ks ≡ Err r → IsRefusedAt ks i
+at_token : (ks : List Terminal) (i : ℕ) (r : Refusal) → unread_of r ≡ items_from ks i → Has k.End (items_from ks 0) → program_read ks ≡ Err r → IsRefusedAt ks i
 at_token ks i r left h given =
     let there = subst (Has k.End) left (refused_inside k.End pascal program_rule pascal_ends 200 (items_from ks 0) r h given) in
     let inside = has_inside ks i there in (

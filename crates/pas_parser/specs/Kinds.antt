@@ -10,71 +10,71 @@ use Rattle.pas_lexer.specs.declared.kinds.Symbol.{Symbol}
 use Rattle.pas_lexer.specs.declared.kinds.Symbol.TheVariants as symbol
 use Rattle.pas_lexer.specs.declared.kinds.Token.{Token}
 
-abbrev pub word_of : Word → Terminal
-word_of word.WAnd = k.WAnd
-word_of word.WArray = k.WArray
-word_of word.WBegin = k.WBegin
-word_of word.WCase = k.WCase
-word_of word.WConst = k.WConst
-word_of word.WDiv = k.WDiv
-word_of word.WDo = k.WDo
-word_of word.WDownto = k.WDownto
-word_of word.WElse = k.WElse
-word_of word.WEnd = k.WEnd
-word_of word.WFile = k.WFile
-word_of word.WFor = k.WFor
-word_of word.WFunction = k.WFunction
-word_of word.WGoto = k.WGoto
-word_of word.WIf = k.WIf
-word_of word.WIn = k.WIn
-word_of word.WLabel = k.WLabel
-word_of word.WMod = k.WMod
-word_of word.WNil = k.WNil
-word_of word.WNot = k.WNot
-word_of word.WOf = k.WOf
-word_of word.WOr = k.WOr
-word_of word.WPacked = k.WPacked
-word_of word.WProcedure = k.WProcedure
-word_of word.WProgram = k.WProgram
-word_of word.WRecord = k.WRecord
-word_of word.WRepeat = k.WRepeat
-word_of word.WSet = k.WSet
-word_of word.WThen = k.WThen
-word_of word.WTo = k.WTo
-word_of word.WType = k.WType
-word_of word.WUntil = k.WUntil
-word_of word.WVar = k.WVar
-word_of word.WWhile = k.WWhile
-word_of word.WWith = k.WWith
+abbrev pub word_terminal : Word → Terminal
+word_terminal word.WAnd = k.WAnd
+word_terminal word.WArray = k.WArray
+word_terminal word.WBegin = k.WBegin
+word_terminal word.WCase = k.WCase
+word_terminal word.WConst = k.WConst
+word_terminal word.WDiv = k.WDiv
+word_terminal word.WDo = k.WDo
+word_terminal word.WDownto = k.WDownto
+word_terminal word.WElse = k.WElse
+word_terminal word.WEnd = k.WEnd
+word_terminal word.WFile = k.WFile
+word_terminal word.WFor = k.WFor
+word_terminal word.WFunction = k.WFunction
+word_terminal word.WGoto = k.WGoto
+word_terminal word.WIf = k.WIf
+word_terminal word.WIn = k.WIn
+word_terminal word.WLabel = k.WLabel
+word_terminal word.WMod = k.WMod
+word_terminal word.WNil = k.WNil
+word_terminal word.WNot = k.WNot
+word_terminal word.WOf = k.WOf
+word_terminal word.WOr = k.WOr
+word_terminal word.WPacked = k.WPacked
+word_terminal word.WProcedure = k.WProcedure
+word_terminal word.WProgram = k.WProgram
+word_terminal word.WRecord = k.WRecord
+word_terminal word.WRepeat = k.WRepeat
+word_terminal word.WSet = k.WSet
+word_terminal word.WThen = k.WThen
+word_terminal word.WTo = k.WTo
+word_terminal word.WType = k.WType
+word_terminal word.WUntil = k.WUntil
+word_terminal word.WVar = k.WVar
+word_terminal word.WWhile = k.WWhile
+word_terminal word.WWith = k.WWith
 
-abbrev pub symbol_of : Symbol → Terminal
-symbol_of symbol.Plus = k.Plus
-symbol_of symbol.Minus = k.Minus
-symbol_of symbol.Star = k.Star
-symbol_of symbol.Equal = k.Equal
-symbol_of symbol.Less = k.Less
-symbol_of symbol.Greater = k.Greater
-symbol_of symbol.LeftBracket = k.LeftBracket
-symbol_of symbol.RightBracket = k.RightBracket
-symbol_of symbol.Dot = k.Dot
-symbol_of symbol.Comma = k.Comma
-symbol_of symbol.Colon = k.Colon
-symbol_of symbol.Semicolon = k.Semicolon
-symbol_of symbol.Caret = k.Caret
-symbol_of symbol.LeftParen = k.LeftParen
-symbol_of symbol.RightParen = k.RightParen
-symbol_of symbol.NotEqual = k.NotEqual
-symbol_of symbol.AtMost = k.AtMost
-symbol_of symbol.AtLeast = k.AtLeast
-symbol_of symbol.Becomes = k.Becomes
-symbol_of symbol.Range = k.Range
+abbrev pub symbol_terminal : Symbol → Terminal
+symbol_terminal symbol.Plus = k.Plus
+symbol_terminal symbol.Minus = k.Minus
+symbol_terminal symbol.Star = k.Star
+symbol_terminal symbol.Equal = k.Equal
+symbol_terminal symbol.Less = k.Less
+symbol_terminal symbol.Greater = k.Greater
+symbol_terminal symbol.LeftBracket = k.LeftBracket
+symbol_terminal symbol.RightBracket = k.RightBracket
+symbol_terminal symbol.Dot = k.Dot
+symbol_terminal symbol.Comma = k.Comma
+symbol_terminal symbol.Colon = k.Colon
+symbol_terminal symbol.Semicolon = k.Semicolon
+symbol_terminal symbol.Caret = k.Caret
+symbol_terminal symbol.LeftParen = k.LeftParen
+symbol_terminal symbol.RightParen = k.RightParen
+symbol_terminal symbol.NotEqual = k.NotEqual
+symbol_terminal symbol.AtMost = k.AtMost
+symbol_terminal symbol.AtLeast = k.AtLeast
+symbol_terminal symbol.Becomes = k.Becomes
+symbol_terminal symbol.Range = k.Range
 
 abbrev pub terminal_of : Kind → Terminal
-terminal_of (kind.Word w) = word_of w
+terminal_of (kind.Word w) = word_terminal w
 terminal_of kind.Name = k.Name
 terminal_of (kind.Number n) = k.Number
 terminal_of kind.Text = k.Text
-terminal_of (kind.Symbol s) = symbol_of s
+terminal_of (kind.Symbol s) = symbol_terminal s
 terminal_of kind.End = k.End
 
 -- the terminals of a list of tokens

@@ -2,7 +2,7 @@
 
 ghost use Rattle.std.specs.Prelude.{◌≡◌, IfOk};
 ghost use Rattle.pas_lexer.specs.Lexed.{EndsOnce};
-ghost use Rattle.pas_parser.specs.Kinds.{symbol_of, terminal_of, terminals_of, word_of};
+ghost use Rattle.pas_parser.specs.Kinds.{symbol_terminal, terminal_of, terminals_of, word_terminal};
 
 use grammar::Terminal;
 use pas_lexer::{Kind, Symbol, Tokens, Word};
@@ -40,7 +40,7 @@ fn terminal(kind: Kind) -> Terminal
 }
 
 fn word_terminal(word: Word) -> Terminal
-    ensures { result ≡ word_of word }
+    ensures { result ≡ word_terminal word }
 {
     match word {
         Word::WAnd => Terminal::WAnd,
@@ -82,7 +82,7 @@ fn word_terminal(word: Word) -> Terminal
 }
 
 fn symbol_terminal(symbol: Symbol) -> Terminal
-    ensures { result ≡ symbol_of symbol }
+    ensures { result ≡ symbol_terminal symbol }
 {
     match symbol {
         Symbol::Plus => Terminal::Plus,

@@ -17,12 +17,12 @@ use Rattle.pas_places.specs.Headings.{heading_word}
 use Rattle.pas_places.specs.Statements.{first_of_statement}
 
 -- the number of the first token that a tree spells, if it spells any
-abbrev pub first_in : List Item → Option ℕ
-first_in [] = None
-first_in (x ∷ l) = Some x.number
+abbrev pub first_number : List Item → Option ℕ
+first_number [] = None
+first_number (x ∷ l) = Some x.number
 
 abbrev pub first_token : Node → Option ℕ
-first_token n = first_in (spell n)
+first_token n = first_number (spell n)
 
 -- Each place is the first token of what the tree spells.
 pub record PlacesBegin : Type 0 where

@@ -8,7 +8,7 @@ use Rattle.std.specs.Cmp.{nat_cmp_total, unsigned_tied}
 use Rattle.std.specs.FinMap.{FinMap, empty, get, insert, remove, get-empty, get-insert, get-remove, same_map, nat_cmp-IsAntisymmetric}
 use Rattle.std.proofs.lemmas.Bool.{cases_lt}
 use Rattle.std.proofs.lemmas.Bool.Decides.{eqb_tells, nat_tests}
-use Rattle.persistent_store.specs.Addresses.{with_entry, with_cell, map_below, map_of}
+use Rattle.persistent_store.specs.Addresses.{with_value_at, with_cell, map_below, map_of}
 use Rattle.persistent_store.specs.Nodes.{ChangesAt}
 use Rattle.persistent_store.proofs.NodeLemmas.{chosen_true, chosen_false}
 
@@ -19,12 +19,12 @@ pub get-remove_nat : {V : Type 0} (m : FinMap nat_cmp V) (k q : ℕ) → get (re
 get-remove_nat m k q = get-remove nat_cmp_total m k q ∙ ap (λ b. cond b None (get m q)) (unsigned_tied q k)
 
 -- an entry at a key that the map lacks
-get-with_entry_same : {V : Type 0} (m : FinMap nat_cmp V) (k q : ℕ) (o : Option V) → q ≡ k → get m k ≡ None → get (with_entry m k o) q ≡ o
+get-with_entry_same : {V : Type 0} (m : FinMap nat_cmp V) (k q : ℕ) (o : Option V) → q ≡ k → get m k ≡ None → get (with_value_at m k o) q ≡ o
 get-with_entry_same m k q (Some v) same none =
     get-insert_nat m k q v ∙ chosen_true (q == k) (Some v) (get m q) (grind (arith, nat_tests))
 get-with_entry_same m k q None same none = ap (get m) same ∙ none
 
-get-with_entry_other : {V : Type 0} (m : FinMap nat_cmp V) (k q : ℕ) (o : Option V) → q ≢ k → get (with_entry m k o) q ≡ get m q
+get-with_entry_other : {V : Type 0} (m : FinMap nat_cmp V) (k q : ℕ) (o : Option V) → q ≢ k → get (with_value_at m k o) q ≡ get m q
 get-with_entry_other m k q (Some v) other =
     get-insert_nat m k q v ∙ chosen_false (q == k) (Some v) (get m q) (grind (arith, nat_tests))
 get-with_entry_other m k q None other = refl

@@ -11,7 +11,7 @@ use Rattle.std.proofs.lemmas.Nat.{div-add-mod'}
 use Rattle.cell_value.specs.declared.values.Value.{Value}
 use Rattle.persistent_store.specs.declared.cells.Cell.{Cell}
 use Rattle.persistent_store.specs.Cells.{value_of, values_of}
-use Rattle.persistent_store.specs.Nodes.{Entries, node_of, entries_of, entry_at, found_in, ChangesAt}
+use Rattle.persistent_store.specs.Nodes.{Entries, node_of, entries_of, node_entry, found_below, ChangesAt}
 
 -- clones of pointers lead where the pointers lead
 pub entries_alike : {X Z : Type 0} (there : List Bool) (ps qs : List (Rc X Z)) → AllZip (λ p q. q.value ≡ p.value) ps qs
@@ -59,15 +59,15 @@ get_or-set xs i k x d inside = elim (eqb_tells k i) [
 
 -- one entry of a node is written over
 pub entry_at-set : {X : Type 0} (xs ys : Entries X) (old : Option (Entries X)) (place : ℕ) (entry : Option X) → place < length xs
-    → ((k : ℕ) → get_or xs k None ≡ entry_at old k) → ys ≡ set xs place entry → ChangesAt (entry_at old) (entry_at (Some ys)) place entry
+    → ((k : ℕ) → get_or xs k None ≡ node_entry old k) → ys ≡ set xs place entry → ChangesAt (node_entry old) (node_entry (Some ys)) place entry
 entry_at-set xs ys old place entry inside same is = record {
   at = λ k. ap (λ zs. get_or zs k None) is ∙ get_or-set xs place k entry None inside ∙ ap (cond (k == place) entry) (same k);
 }
 
 -- the same of a branch, which gets a node
 pub node-set : {X Z : Type 0} {ys : Entries X} (there : List Bool) (ps : List (Rc X Z)) (old : Option (Entries X)) (place : ℕ) (pointer : Rc X Z)
-    → (length there ≡ 16) × (length ps ≡ 16) → place < 16 → ((k : ℕ) → get_or (entries_of there ps) k None ≡ entry_at old k)
-    → ys ≡ entries_of (set there place true) (set ps place pointer) → ChangesAt (entry_at old) (entry_at (Some ys)) place (Some pointer.value)
+    → (length there ≡ 16) × (length ps ≡ 16) → place < 16 → ((k : ℕ) → get_or (entries_of there ps) k None ≡ node_entry old k)
+    → ys ≡ entries_of (set there place true) (set ps place pointer) → ChangesAt (node_entry old) (node_entry (Some ys)) place (Some pointer.value)
 node-set {ys} there ps old place pointer sixteen inside same is =
     let room = inside_both there ps place (omega (arith, sixteen.0)) (omega (arith, sixteen.1)) in
     entry_at-set (entries_of there ps) ys old place (Some pointer.value) room same (is ∙ entries-set there ps place true pointer)
@@ -87,19 +87,19 @@ rest_tells q a span e =
 -- A node is changed at the place of an address, to a node below that is changed at the rest of the
 -- address: what is found is changed at that address and at no other.
 pub found_in-changed : {X V : Type 0} (span : ℕ) (find_below : Option X → ℕ → Option V) (old new : Option (Entries X)) (addr : ℕ) (below : Option X)
-    (cell : Option V) → ChangesAt (entry_at old) (entry_at new) (addr / span) below
-    → ChangesAt (find_below (entry_at old (addr / span))) (find_below below) (addr % span) cell
-    → ChangesAt (found_in span find_below old) (found_in span find_below new) addr cell
+    (cell : Option V) → ChangesAt (node_entry old) (node_entry new) (addr / span) below
+    → ChangesAt (find_below (node_entry old (addr / span))) (find_below below) (addr % span) cell
+    → ChangesAt (found_below span find_below old) (found_below span find_below new) addr cell
 found_in-changed span find_below old new addr below cell here there = record {
   at = λ q. elim (eqb_tells (q / span) (addr / span)) [
     | inl h ↦
         ap (λ node. find_below node (q % span)) (here.at (q / span) ∙ chosen_true _ _ _ h.0)
         ∙ there.at (q % span)
-        ∙ ap (λ b. cond b cell (find_below (entry_at old (addr / span)) (q % span))) (sym (rest_tells q addr span h.1))
-        ∙ ap (λ place. cond (q == addr) cell (find_below (entry_at old place) (q % span))) (sym h.1)
+        ∙ ap (λ b. cond b cell (find_below (node_entry old (addr / span)) (q % span))) (sym (rest_tells q addr span h.1))
+        ∙ ap (λ place. cond (q == addr) cell (find_below (node_entry old place) (q % span))) (sym h.1)
     | inr h ↦
         ap (λ node. find_below node (q % span)) (here.at (q / span) ∙ chosen_false _ _ _ h.0)
-        ∙ sym (chosen_false (q == addr) cell (found_in span find_below old q) (elim (eqb_tells q addr) [
+        ∙ sym (chosen_false (q == addr) cell (found_below span find_below old q) (elim (eqb_tells q addr) [
           | inl s ↦ absurd (h.1 (ap (λ n. n / span) s.1))
           | inr s ↦ s.0
         ]))
@@ -151,15 +151,15 @@ module _ {X Z : Type 0} {there : List Bool} {ps : List (Rc X Z)} {node : Entries
 pub written_below : {X Z V : Type 0} {there : List Bool} {ps : List (Rc X Z)} {node : Entries X} {cell : Option V} (span : ℕ)
     (find_below : Option X → ℕ → Option V) (addr : ℕ) (d q : Rc X Z) → IsThere there ps node (addr / span)
     → ChangesAt (find_below (Some (get_or ps (addr / span) d).value)) (find_below (Some q.value)) (addr % span) cell
-    → ChangesAt (found_in span find_below (Some node)) (found_in span find_below (Some (entries_of there (set ps (addr / span) q)))) addr cell
+    → ChangesAt (found_below span find_below (Some node)) (found_below span find_below (Some (entries_of there (set ps (addr / span) q)))) addr cell
 written_below {there} {ps} {node} {cell} span find_below addr d q h changes =
     let place : ℕ = addr / span in
     let ys = entries_of there (set ps place q) in
-    let was : entry_at (Some node) place ≡ Some (get_or ps place d).value = entry-there d h in
+    let was : node_entry (Some node) place ≡ Some (get_or ps place d).value = entry-there d h in
     let room : place < length node = subst (λ xs. place < length xs) h.node_is (inside_both there ps place h.flag h.pointer) in
-    let here : ChangesAt (entry_at (Some node)) (entry_at (Some ys)) place (Some q.value) =
+    let here : ChangesAt (node_entry (Some node)) (node_entry (Some ys)) place (Some q.value) =
     entry_at-set node ys (Some node) place (Some q.value) room (λ k. refl) (entries-set_there q h) in
-    let below : ChangesAt (find_below (entry_at (Some node) place)) (find_below (Some q.value)) (addr % span) cell = rw was changes in
+    let below : ChangesAt (find_below (node_entry (Some node) place)) (find_below (Some q.value)) (addr % span) cell = rw was changes in
     found_in-changed span find_below (Some node) (Some ys) addr (Some q.value) cell here below
 
 -- a fact that does not speak of the value
@@ -189,15 +189,15 @@ on_err (Err e) h = h
 
 -- a cell of a leaf is written over
 pub values-set : (cells : List Cell) (ys : Entries Value) (old : Option (Entries Value)) (place : ℕ) (cell : Cell) → place < length cells
-    → ((k : ℕ) → get_or (values_of cells) k None ≡ entry_at old k) → ys ≡ values_of (set cells place cell)
-    → ChangesAt (entry_at old) (entry_at (Some ys)) place (value_of cell)
+    → ((k : ℕ) → get_or (values_of cells) k None ≡ node_entry old k) → ys ≡ values_of (set cells place cell)
+    → ChangesAt (node_entry old) (node_entry (Some ys)) place (value_of cell)
 values-set cells ys old place cell inside same is =
     let there : place < length (values_of cells) = simp length-map inside in
     entry_at-set (values_of cells) ys old place (value_of cell) there same (is ∙ map-set value_of cells place cell)
 
 -- the same of a leaf that is written to in place
 pub written_cell : (cells : List Cell) (leaf : Entries Value) (place : ℕ) (cell : Cell) → place < length cells → values_of cells ≡ leaf
-    → ChangesAt (entry_at (Some leaf)) (entry_at (Some (values_of (set cells place cell)))) place (value_of cell)
+    → ChangesAt (node_entry (Some leaf)) (node_entry (Some (values_of (set cells place cell)))) place (value_of cell)
 written_cell cells leaf place cell inside is =
     values-set cells _ (Some leaf) place cell inside (λ k. ap (λ ys. get_or ys k None) is) refl
 

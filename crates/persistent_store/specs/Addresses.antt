@@ -4,14 +4,14 @@ use Rattle.std.specs.Ordering.{nat_cmp}
 use Rattle.std.specs.FinMap.{FinMap, empty, insert, remove}
 
 -- the map with this value at the key, where there is a value
-abbrev pub with_entry : {V : Type 0} → FinMap nat_cmp V → ℕ → Option V → FinMap nat_cmp V
-with_entry m key (Some value) = insert m key value
-with_entry m key None = m
+abbrev pub with_value_at : {V : Type 0} → FinMap nat_cmp V → ℕ → Option V → FinMap nat_cmp V
+with_value_at m key (Some value) = insert m key value
+with_value_at m key None = m
 
 -- the map of what a function gives at each number below n
 unfoldable pub map_below : {V : Type 0} → ℕ → (ℕ → Option V) → FinMap nat_cmp V
 map_below zero f = empty
-map_below (suc n) f = with_entry (map_below n f) n (f n)
+map_below (suc n) f = with_value_at (map_below n f) n (f n)
 
 -- the map of what a function gives at each address
 unfoldable pub map_of : {V : Type 0} → (ℕ → Option V) → FinMap nat_cmp V

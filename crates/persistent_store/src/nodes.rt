@@ -5,7 +5,7 @@ ghost use Rattle.std.specs.Prelude.{replicate};
 ghost use Rattle.std.specs.Borrow.{sem};
 ghost use Rattle.persistent_store.specs.Cells.{value_of, values_of};
 ghost use Rattle.persistent_store.specs.Loans.{LendsTarget};
-ghost use Rattle.persistent_store.specs.Nodes.{entry_at, node_of, target_of, ChangesAt};
+ghost use Rattle.persistent_store.specs.Nodes.{node_entry, node_of, pointee_of, ChangesAt};
 
 use crate::cells::Cell;
 use cell_value::{Memory, Steps, Value};
@@ -38,7 +38,7 @@ impl Leaf {
     #[inline(always)]
     pub(crate) fn at(leaf: Option<&Leaf>, place: usize) -> Option<Value>
         requires { place < 16 }
-        ensures { result ≡ entry_at (option_copied leaf.entry) place }
+        ensures { result ≡ node_entry (option_copied leaf.entry) place }
     {
         leaf?.cells[place].value()
     }
@@ -47,7 +47,7 @@ impl Leaf {
     fn cells_of(leaf: Option<&Leaf>) -> Result<[Cell; 16], Memory>
         ensures sixteen { IfOk result (λ cells. length cells ≡ 16) }
         ensures same { IfOk result (λ cells. (k : ℕ)
-            → entry_at (Some (values_of cells)) k ≡ entry_at (option_copied leaf.entry) k) }
+            → node_entry (Some (values_of cells)) k ≡ node_entry (option_copied leaf.entry) k) }
     {
         match leaf {
             Some(leaf) => copies_of(&leaf.cells),
@@ -66,8 +66,8 @@ impl Leaf {
         made: &mut Steps<L>,
     ) -> Result<Rc<Leaf>, Memory>
         requires { place < 16 }
-        ensures changed { IfOk result (λ new. ChangesAt (entry_at (option_copied old.entry))
-            (entry_at (Some new.value)) place (value_of cell)) }
+        ensures changed { IfOk result (λ new. ChangesAt (node_entry (option_copied old.entry))
+            (node_entry (Some new.value)) place (value_of cell)) }
         ensures one_node { OnOk result (made.new ≡ made.old + 1) }
         ensures no_node { OnErr result (made.new ≡ made.old) }
     {
@@ -108,7 +108,7 @@ impl<T: Drop> Branch<T> {
     #[inline(always)]
     pub(crate) fn at(branch: Option<&Branch<T>>, place: usize) -> Option<&T>
         requires { place < 16 }
-        ensures { option_copied result ≡ entry_at (option_copied branch.entry) place }
+        ensures { option_copied result ≡ node_entry (option_copied branch.entry) place }
     {
         let branch = branch?;
         node_behind(branch.there[place], &branch.below[place])
@@ -117,7 +117,7 @@ impl<T: Drop> Branch<T> {
     /// A copy of a branch, with no node anywhere where there is no branch. Its pointers then lead to `any`.
     fn copy_of(branch: Option<&Branch<T>>, any: &Rc<T>) -> Result<Branch<T>, Memory>
         ensures same { IfOk result (λ copy. (k : ℕ)
-            → entry_at (Some copy) k ≡ entry_at (option_copied branch.entry) k) }
+            → node_entry (Some copy) k ≡ node_entry (option_copied branch.entry) k) }
     {
         match branch {
             Some(branch) => Ok(Branch {
@@ -141,8 +141,8 @@ impl<T: Drop> Branch<T> {
         made: &mut Steps<L>,
     ) -> Result<Rc<Branch<T>>, Memory>
         requires { place < 16 }
-        ensures changed { IfOk result (λ new. ChangesAt (entry_at (option_copied old.entry))
-            (entry_at (Some new.value)) place (Some node.value)) }
+        ensures changed { IfOk result (λ new. ChangesAt (node_entry (option_copied old.entry))
+            (node_entry (Some new.value)) place (Some node.value)) }
         ensures one_node { OnOk result (made.new ≡ made.old + 1) }
         ensures no_node { OnErr result (made.new ≡ made.old) }
     {
@@ -161,7 +161,7 @@ impl<T: Drop> Branch<T> {
         requires { place < 16 }
         ensures* writes_back { sem 𝓛 (LendsTarget (branches.the_row T.row) pointer.entry result) }
         ensures value { IfSome result (λ branch. branch.now ≡ pointer.old.value) }
-        ensures there { IfSome result (λ _branch. IsSome (entry_at (Some pointer.old.value) place)) }
+        ensures there { IfSome result (λ _branch. IsSome (node_entry (Some pointer.old.value) place)) }
     {
         if pointer.there[place] {
             Rc::get_mut(pointer)
@@ -182,7 +182,7 @@ fn node_behind<T>(there: bool, pointer: &Rc<T>) -> Option<&T>
 /// The node that a pointer leads to.
 #[inline(always)]
 pub(crate) fn target<T>(pointer: &Option<Rc<T>>) -> Option<&T>
-    ensures { option_copied result ≡ target_of pointer.now }
+    ensures { option_copied result ≡ pointee_of pointer.now }
 {
     match pointer {
         Some(node) => Some(&**node),

@@ -24,7 +24,7 @@ pub struct Store {
 impl Model for Store {
     ghost use Rattle.std.specs.Ordering.{nat_cmp};
     ghost use Rattle.std.specs.FinMap as map;
-    ghost use Rattle.persistent_store.specs.Nodes.{cell_at, target_of};
+    ghost use Rattle.persistent_store.specs.Nodes.{cell_at, pointee_of};
     ghost use Rattle.persistent_store.specs.Addresses.{map_of};
     ghost use Rattle.std.specs.Coded.{coded_ℕ};
     ghost use Rattle.cell_value.specs.declared.values.Value.{Value as CellValue};
@@ -34,7 +34,7 @@ impl Model for Store {
 
     ghost coded = { map.code coded_ℕ cells.the_row.coded };
 
-    ghost view = { λ store. map_of (cell_at (target_of store.root)) };
+    ghost view = { λ store. map_of (cell_at (pointee_of store.root)) };
 }
 
 impl Store {

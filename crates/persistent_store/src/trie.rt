@@ -1,7 +1,7 @@
 //! The trie under a root: five levels of nodes, which are told apart by their types.
 ghost use Rattle.std.specs.Prelude.{◌≡◌, ◌+◌, ◌/◌, ◌%◌, ◌<◌, ◌≤◌, IfOk, OnOk, OnErr, Some, option_copied};
 ghost use Rattle.persistent_store.specs.Cells.{value_of};
-ghost use Rattle.persistent_store.specs.Nodes.{cell_at, entry_at, in_level1, in_level2, in_level3, target_of};
+ghost use Rattle.persistent_store.specs.Nodes.{cell_at, node_entry, in_level1, in_level2, in_level3, pointee_of};
 ghost use Rattle.persistent_store.specs.Nodes.{ChangesAt};
 
 use crate::cells::Cell;
@@ -128,7 +128,7 @@ fn write_leaf<L>(
     made: &mut Steps<L>,
 ) -> Result<(), Memory>
     requires { place < 16 }
-    ensures written { OnOk result (ChangesAt (entry_at (Some pointer.old.value)) (entry_at (Some pointer.new.value))
+    ensures written { OnOk result (ChangesAt (node_entry (Some pointer.old.value)) (node_entry (Some pointer.new.value))
         place (value_of cell)) }
     ensures unchanged { OnErr result (pointer.new.value ≡ pointer.old.value) }
     ensures made_rises { made.old ≤ made.new }
@@ -275,9 +275,9 @@ pub(crate) fn write_trie<L>(
     made: &mut Steps<L>,
 ) -> Result<(), Memory>
     requires { addr < 1048576 }
-    ensures written { OnOk result (ChangesAt (cell_at (target_of root.old)) (cell_at (target_of root.new)) addr
+    ensures written { OnOk result (ChangesAt (cell_at (pointee_of root.old)) (cell_at (pointee_of root.new)) addr
         (value_of cell)) }
-    ensures unchanged { OnErr result (target_of root.new ≡ target_of root.old) }
+    ensures unchanged { OnErr result (pointee_of root.new ≡ pointee_of root.old) }
     ensures made_rises { made.old ≤ made.new }
     ensures five_nodes { made.new ≤ made.old + 5 }
 {

@@ -29,7 +29,8 @@ use Rattle.cell_value.specs.declared.entries.Touch.{Touch}
 use Rattle.cell_value.specs.declared.entries.Touch.TheVariants as touch
 use Rattle.cell_value.specs.declared.ways_out.Kind.TheVariants as kind
 use Rattle.cell_value.specs.declared.ways_out.Which.TheVariants.{Heap}
-use Rattle.program_meaning.specs.State.{State, stack_end, heap_end, is_in_reach}
+use Rattle.cell_value.specs.Effects.{heap_end}
+use Rattle.program_meaning.specs.State.{State, stack_end, is_in_reach}
 use Rattle.program_meaning.specs.Blocks.{block_cells, lies_in_heap}
 use Rattle.program_meaning.specs.Acts.{
   Fault,
@@ -51,12 +52,12 @@ use Rattle.program_meaning.specs.Acts.{
   with_steps,
   on_cell,
   read_as,
-  put,
+  put_value,
   put_asked,
   after_touches,
   take_item,
   take_looked,
-  look,
+  look_item,
   make_block,
   made_block,
   drop_block,
@@ -104,16 +105,16 @@ asked : (there : Bool) (addr : ℕ) (value : Value) (σ τ : State) → τ.steps
 asked true addr value σ τ h = by (nat_lt τ.steps 1)
   where
     by : (b : Bool) → Acted 1 σ (after_touches (touch.Has addr true ∷ [])
-        (if b then Stops OutOfSteps [] (spent τ) else put addr value (record τ { steps = τ.steps - 1 })))
+        (if b then Stops OutOfSteps [] (spent τ) else put_value addr value (record τ { steps = τ.steps - 1 })))
     by true = omega arith
     by false = omega arith
 asked false addr value σ τ h = h
 
 written : (addr : ℕ) (value : Value) (σ τ : State) → τ.steps + 1 ≤ σ.steps
-    → Acted 1 σ (if nat_lt addr stack_end then put addr value τ else put_asked (is_some (get τ.cells addr)) addr value τ)
+    → Acted 1 σ (if nat_lt addr stack_end then put_value addr value τ else put_asked (is_some (get τ.cells addr)) addr value τ)
 written addr value σ τ h = by (nat_lt addr stack_end)
   where
-    by : (b : Bool) → Acted 1 σ (if b then put addr value τ else put_asked (is_some (get τ.cells addr)) addr value τ)
+    by : (b : Bool) → Acted 1 σ (if b then put_value addr value τ else put_asked (is_some (get τ.cells addr)) addr value τ)
     by true = h
     by false = asked (is_some (get τ.cells addr)) addr value σ τ h
 
@@ -153,8 +154,8 @@ acted (Spend steps) σ = stepped steps σ (λ τ. Went tt [] τ) (λ τ h. h)
 acted (ReadCell addr) σ = celled addr σ (λ τ. read_as addr (get σ.cells addr) τ) (λ τ h. found addr (get σ.cells addr) σ τ h)
 acted (HasCell addr) σ = celled addr σ (λ τ. Went (is_some (get σ.cells addr)) (touch.Has addr (is_some (get σ.cells addr)) ∷ []) τ) (λ τ h. h)
 acted (WriteCell addr value) σ = celled addr σ
-    (λ τ. if nat_lt addr stack_end then put addr value τ else put_asked (is_some (get τ.cells addr)) addr value τ) (written addr value σ)
-acted (TakeIf wanted) σ = stepped 1 σ (look wanted) (λ τ h. after (touch.Look τ.place ∷ []) 1 σ (take_looked wanted (slice_get τ.items τ.place) τ)
+    (λ τ. if nat_lt addr stack_end then put_value addr value τ else put_asked (is_some (get τ.cells addr)) addr value τ) (written addr value σ)
+acted (TakeIf wanted) σ = stepped 1 σ (look_item wanted) (λ τ h. after (touch.Look τ.place ∷ []) 1 σ (take_looked wanted (slice_get τ.items τ.place) τ)
     (looked wanted (slice_get τ.items τ.place) σ τ h))
 acted (GiveByte byte) σ = stepped 1 σ (λ τ. Went tt (touch.Give byte ∷ []) (record τ { output = τ.output ++ byte ∷ [] })) (λ τ h. h)
 acted (MakeBlock cells of') σ = made (block_cells cells) of' σ

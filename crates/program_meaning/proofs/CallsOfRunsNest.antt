@@ -48,9 +48,9 @@ use Rattle.program_meaning.specs.Run.{
   with_frame,
   without_frame,
   opened,
-  closed,
+  call_closed,
 }
-use Rattle.program_meaning.specs.Numbering.{StandsAt, belows, last_of}
+use Rattle.program_meaning.specs.Numbering.{StandsAt, belows, last_below}
 use Rattle.program_meaning.proofs.NestedCallsAreIntervals.{Forest, forest_none, forest_append, forest_call}
 
 -- where entries stand once others are before or after them
@@ -163,7 +163,7 @@ good_frame p go h f args σ (Some r) =
 
 good_call : (p : ProgramRows) (go : Tree → State → Outcome) → ((t : Tree) (σ : State) → Good (go t σ)) → (f : ℕ) (args : List Value) (σ : State)
     → Good (call_of p go f args σ)
-good_call p go h f args σ = good_recorded f args σ _ (good_after (closed σ.depth) _ (good_frame p go h f args (opened σ) (routine_at p f)))
+good_call p go h f args σ = good_recorded f args σ _ (good_after (call_closed σ.depth) _ (good_frame p go h f args (opened σ) (routine_at p f)))
 
 good_walk : (p : ProgramRows) (sub : Part → State → Outcome) (call : ℕ → List Value → State → Outcome) → ((part : Part) (σ : State) → Good (sub part σ))
     → ((f : ℕ) (args : List Value) (σ : State) → Good (call f args σ))
@@ -189,7 +189,7 @@ stand_of p input budget r e = ((good_run p (depth_enough p budget) block (start 
 
 -- all calls are in the first one
 pub record Rooted (bs : List ℕ) : Type 0 where
-  pub first : last_of bs 0 + 1 ≡ length bs
+  pub first : last_below bs 0 + 1 ≡ length bs
 
 abbrev first_event : List Value → State → Result State Call → Marked Call
 first_event args σ q = record { mark = 0; event = record_of 0 args σ q }

@@ -83,7 +83,7 @@ use Rattle.program_meaning.specs.Run.{
   with_frame,
   without_frame,
   opened,
-  closed,
+  call_closed,
   Call as Record,
 }
 
@@ -413,8 +413,8 @@ module _ (p : ProgramRows) where
 
   call_ends : (run : Tree → State → Outcome) (f : ℕ) (args : List Value) (σ : State)
       → ((r : Routine) (τ : State) → τ.steps ≤ σ.steps → Ends true τ.steps (run (whole p f σ.top r) τ)) → Ends true σ.steps (call_of p run f args σ)
-  call_ends run f args σ h = rec (after_all (closed σ.depth) (in_frame (at_work p run f) args (opened σ) (routine_at p f)))
-      (ends_after true σ.steps (closed σ.depth) (λ τ. refl) _ (framed_so (routine_at p f)))
+  call_ends run f args σ h = rec (after_all (call_closed σ.depth) (in_frame (at_work p run f) args (opened σ) (routine_at p f)))
+      (ends_after true σ.steps (call_closed σ.depth) (λ τ. refl) _ (framed_so (routine_at p f)))
     where
       rec : (x : Outcome) → Ends true σ.steps x → Ends true σ.steps (recorded f args σ x)
       rec x y = record { result = _; is = ap (recorded f args σ) y.is; falls = y.falls }

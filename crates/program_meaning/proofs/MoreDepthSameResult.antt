@@ -57,7 +57,7 @@ use Rattle.program_meaning.specs.Run.{
   with_frame,
   without_frame,
   opened,
-  closed,
+  call_closed,
 }
 
 -- what the first gives, the second gives
@@ -134,7 +134,7 @@ frame_less p run run' h f args σ (Some r) =
 pub call_less : (p : ProgramRows) (run run' : Tree → State → Outcome) → ((t : Tree) (σ : State) → Less (run t σ) (run' t σ))
     → (f : ℕ) (args : List Value) (σ : State) → Less (call_of p run f args σ) (call_of p run' f args σ)
 call_less p run run' h f args σ =
-    recorded_less f args σ _ _ (after_less (closed σ.depth) _ _ (frame_less p run run' h f args (opened σ) (routine_at p f)))
+    recorded_less f args σ _ _ (after_less (call_closed σ.depth) _ _ (frame_less p run run' h f args (opened σ) (routine_at p f)))
 
 -- a call does no less where the trees that it runs do no less
 pub record Grows {S E : Type 0} (rules : Rules S E) : Type 0 where

@@ -31,7 +31,7 @@ use Rattle.std.proofs.Math.Dec.{leb}
 use Rattle.std.proofs.Math.ListN.{get_or-append}
 use Rattle.std.proofs.Math.Seq.{get_or-append_right}
 use Rattle.std.proofs.lemmas.Bool.{le-leb, lt-leb, leb-true, leb-false}
-use Rattle.program_meaning.specs.Numbering.{greatest, count, last_of, is_below, parent_of, depth_of, Inside, InSubtree, Root, Child}
+use Rattle.program_meaning.specs.Numbering.{greatest, count, last_below, is_below, parent_of, depth_of, Inside, InSubtree, Root, Child}
 
 -- tests that say the same
 pub same_test : (a b c d : ℕ) → (a ≤ b → c ≤ d) → (b < a → d < c) → leb a b ≡ leb c d
@@ -47,16 +47,16 @@ count_same p q (suc n) h =
     ap (λ b. cond b 1 0 + count p n) (h n (omega arith)) ∙ ap (λ m. cond (q n) 1 0 + m) (count_same p q n (λ j k. h j (omega arith)))
 
 pub record Forest (bs : List ℕ) : Type 0 where
-  pub inside : (k : ℕ) → k < length bs → last_of bs k < length bs
-  pub nested : (j k : ℕ) → k < length bs → j ≤ k → k ≤ last_of bs j → last_of bs k ≤ last_of bs j
+  pub inside : (k : ℕ) → k < length bs → last_below bs k < length bs
+  pub nested : (j k : ℕ) → k < length bs → j ≤ k → k ≤ last_below bs j → last_below bs k ≤ last_below bs j
 
 pub forest_none : Forest []
 forest_none = record { inside = λ k h. absurd (omega arith); nested = λ j k h a b. absurd (omega arith) }
 
-left_last : (bs cs : List ℕ) (k : ℕ) → k < length bs → last_of (bs ++ cs) k ≡ last_of bs k
+left_last : (bs cs : List ℕ) (k : ℕ) → k < length bs → last_below (bs ++ cs) k ≡ last_below bs k
 left_last bs cs k h = ap (λ g. k + g) (get_or-append bs cs 0 k h)
 
-right_last : (bs cs : List ℕ) (k : ℕ) → length bs ≤ k → last_of (bs ++ cs) k ≡ length bs + last_of cs (k - length bs)
+right_last : (bs cs : List ℕ) (k : ℕ) → length bs ≤ k → last_below (bs ++ cs) k ≡ length bs + last_below cs (k - length bs)
 right_last bs cs k h = ap (λ g. k + g) (get_or-append_right bs cs k 0 h) ∙ (let x : k + get_or cs (k - length bs) 0
     ≡ length bs + (k - length bs + get_or cs (k - length bs) 0) = omega arith in x)
 
@@ -66,7 +66,7 @@ within_append bs cs f g = record { inside = λ k h. in_k k h (leb (length bs) k)
     size : length (bs ++ cs) ≡ length bs + length cs
     size = length-append bs cs
 
-    in_k : (k : ℕ) → k < length (bs ++ cs) → (t : Bool) → leb (length bs) k ≡ t → last_of (bs ++ cs) k < length (bs ++ cs)
+    in_k : (k : ℕ) → k < length (bs ++ cs) → (t : Bool) → leb (length bs) k ≡ t → last_below (bs ++ cs) k < length (bs ++ cs)
     in_k k h true e = let m = leb-true _ _ e in let l = right_last bs cs k m in let x = g.inside (k - length bs) (omega (arith, size)) in
         omega (arith, size, l, x)
     in_k k h false e = let m = leb-false _ _ e in let l = left_last bs cs k m in let x = f.inside k m in omega (arith, size, l, x)
@@ -74,7 +74,7 @@ within_append bs cs f g = record { inside = λ k h. in_k k h (leb (length bs) k)
 pub within_call : (b : ℕ) (bs : List ℕ) → b ≡ length bs → Inside bs → Inside (b ∷ bs)
 within_call b bs e f = record { inside = in_k }
   where
-    in_k : (k : ℕ) → k < length (b ∷ bs) → last_of (b ∷ bs) k < length (b ∷ bs)
+    in_k : (k : ℕ) → k < length (b ∷ bs) → last_below (b ∷ bs) k < length (b ∷ bs)
     in_k zero h = omega arith
     in_k (suc k) h = let x = f.inside k (omega arith) in omega (arith, x)
 
@@ -90,8 +90,8 @@ forest_append bs cs f g = record {
     within : {ds : List ℕ} → Forest ds → Inside ds
     within f = record { inside = λ k h. f.inside k h }
 
-    nest : (j k : ℕ) → k < length (bs ++ cs) → j ≤ k → k ≤ last_of (bs ++ cs) j → (t : Bool) → leb (length bs) j ≡ t → (u : Bool) → leb (length bs) k ≡ u
-        → last_of (bs ++ cs) k ≤ last_of (bs ++ cs) j
+    nest : (j k : ℕ) → k < length (bs ++ cs) → j ≤ k → k ≤ last_below (bs ++ cs) j → (t : Bool) → leb (length bs) j ≡ t → (u : Bool) → leb (length bs) k ≡ u
+        → last_below (bs ++ cs) k ≤ last_below (bs ++ cs) j
     nest j k h a b true e u e' =
         let m = leb-true _ _ e in
         let lj = right_last bs cs j m in
@@ -115,7 +115,7 @@ forest_append bs cs f g = record {
 pub forest_call : (b : ℕ) (bs : List ℕ) → b ≡ length bs → Forest bs → Forest (b ∷ bs)
 forest_call b bs e f = record { inside = λ k h. (within_call b bs e (record { inside = λ k h. f.inside k h })).inside k h; nested = nest }
   where
-    nest : (j k : ℕ) → k < length (b ∷ bs) → j ≤ k → k ≤ last_of (b ∷ bs) j → last_of (b ∷ bs) k ≤ last_of (b ∷ bs) j
+    nest : (j k : ℕ) → k < length (b ∷ bs) → j ≤ k → k ≤ last_below (b ∷ bs) j → last_below (b ∷ bs) k ≤ last_below (b ∷ bs) j
     nest zero zero h a c = omega arith
     nest zero (suc k) h a c = let x = f.inside k (omega arith) in omega (arith, x)
     nest (suc j) zero h a c = absurd (omega arith)
@@ -166,7 +166,7 @@ count_top p (suc n) m h e f = go (λ u. count_top p n m u e (λ i a b. f i a (om
 
 module _ (bs : List ℕ) (f : Forest bs) where
   -- the subtree of a call is an interval
-  pub subtree_in : (k j : ℕ) → k < length bs → InSubtree bs k j → (k ≤ j) × (j ≤ last_of bs k)
+  pub subtree_in : (k j : ℕ) → k < length bs → InSubtree bs k j → (k ≤ j) × (j ≤ last_below bs k)
   subtree_in k _ h Root = (omega arith, omega arith)
   subtree_in k _ h (Child j parent e s) =
       let x = subtree_in k parent h s in
@@ -176,32 +176,32 @@ module _ (bs : List ℕ) (f : Forest bs) where
       let n = f.nested k parent (let a = x.1 in omega (arith, a, i)) x.0 x.1 in
       (let a = x.0 in let b = y.0 in omega (arith, a, b), omega (arith, z, n))
 
-  upward : (n k j : ℕ) → j ≤ n → k ≤ j → j ≤ last_of bs k → InSubtree bs k j
+  upward : (n k j : ℕ) → j ≤ n → k ≤ j → j ≤ last_below bs k → InSubtree bs k j
   upward zero k j h a b = subst (λ i. InSubtree bs k i) (let x : k ≡ j = omega arith in x) Root
   upward (suc n) k j h a b = go (upward n k) (leb j k) refl
     where
-      go : ((i : ℕ) → i ≤ n → k ≤ i → i ≤ last_of bs k → InSubtree bs k i) → (t : Bool) → leb j k ≡ t → InSubtree bs k j
+      go : ((i : ℕ) → i ≤ n → k ≤ i → i ≤ last_below bs k → InSubtree bs k i) → (t : Bool) → leb j k ≡ t → InSubtree bs k j
       go ih true t = let u = leb-true _ _ t in subst (λ i. InSubtree bs k i) (let x : k ≡ j = omega (arith, u) in x) Root
       go ih false t =
           let u = leb-false _ _ t in
-          let x = greatest_from (is_below bs j) j k u (le-leb j (last_of bs k) b) in
+          let x = greatest_from (is_below bs j) j k u (le-leb j (last_below bs k) b) in
           let y = greatest_is (is_below bs j) j x.0 x.1.0 in
           Child j x.0 x.1.0 (ih x.0 (let c = y.0 in omega (arith, c)) x.1.1 (let c = y.0 in omega (arith, c)))
 
-  pub subtree_of : (k j : ℕ) → k ≤ j → j ≤ last_of bs k → InSubtree bs k j
+  pub subtree_of : (k j : ℕ) → k ≤ j → j ≤ last_below bs k → InSubtree bs k j
   subtree_of k j a b = upward j k j (omega arith) a b
 
   -- each call but the first has a parent before it, one less deep
-  pub parent_is : (k : ℕ) → 0 < k → k < length bs → last_of bs 0 + 1 ≡ length bs
+  pub parent_is : (k : ℕ) → 0 < k → k < length bs → last_below bs 0 + 1 ≡ length bs
       → (j : ℕ) × ((parent_of bs k ≡ Some j) × (j < k) × (depth_of bs k ≡ depth_of bs j + 1))
   parent_is k a h r =
-      let x = greatest_from (is_below bs k) k 0 a (le-leb k (last_of bs 0) (omega arith)) in
+      let x = greatest_from (is_below bs k) k 0 a (le-leb k (last_below bs 0) (omega arith)) in
       let y = greatest_is (is_below bs k) k x.0 x.1.0 in
       (x.0, (x.1.0, y.0, count_top (is_below bs k) k x.0 y.0 y.1 y.2 ∙ ap (λ n. n + 1) (count_same _ _ x.0 (λ i b. test x.0 i y.0 (leb-true _ _ y.1) b))))
     where
-      test : (j i : ℕ) → j < k → k ≤ last_of bs j → i < j → is_below bs k i ≡ is_below bs j i
-      test j i b c d = same_test k (last_of bs i) j (last_of bs i) (λ u. omega arith) (λ u. other u (leb j (last_of bs i)) refl)
+      test : (j i : ℕ) → j < k → k ≤ last_below bs j → i < j → is_below bs k i ≡ is_below bs j i
+      test j i b c d = same_test k (last_below bs i) j (last_below bs i) (λ u. omega arith) (λ u. other u (leb j (last_below bs i)) refl)
         where
-          other : last_of bs i < k → (t : Bool) → leb j (last_of bs i) ≡ t → last_of bs i < j
+          other : last_below bs i < k → (t : Bool) → leb j (last_below bs i) ≡ t → last_below bs i < j
           other u true t = let v = leb-true _ _ t in let n = f.nested i j (omega arith) (omega arith) v in absurd (omega (arith, n))
           other u false t = leb-false _ _ t

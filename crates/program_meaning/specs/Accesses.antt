@@ -34,7 +34,7 @@ use Rattle.program_meaning.specs.Tree.{
   Sub,
   doing,
 }
-use Rattle.program_meaning.specs.Cells.{reads, ordinal_at, set_at, cell_out, reference_out, component}
+use Rattle.program_meaning.specs.Cells.{read_values, ordinal_at, set_at, cell_out, reference_out, component}
 use Rattle.program_meaning.specs.Variants.{field_at}
 use Rattle.program_meaning.specs.Heap.{pointer_at, pointed_at}
 
@@ -140,7 +140,7 @@ type_accessed (Dereference access of') = of'
 
 -- the values of this many cells from an address on, each read in order, also those that are undefined
 abbrev pub cells_at : (line addr cells : ℕ) → Tree
-cells_at line addr cells = doing line (reads [] addr cells) (λ vs. Ret (Cells vs))
+cells_at line addr cells = doing line (read_values [] addr cells) (λ vs. Ret (Cells vs))
 
 -- the value of an ordinal variable, a set or a pointer (6.5.1), or the values of the cells of an array or a record
 abbrev pub value_at : (line addr : ℕ) → Option TypeRow → Tree

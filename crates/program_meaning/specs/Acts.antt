@@ -29,7 +29,8 @@ use Rattle.cell_value.specs.declared.ways_out.Kind.{Kind}
 use Rattle.cell_value.specs.declared.ways_out.Kind.TheVariants as kind
 use Rattle.cell_value.specs.declared.ways_out.Which.{Which}
 use Rattle.cell_value.specs.declared.ways_out.Which.TheVariants.{Calls, Depth, Stack, Heap}
-use Rattle.program_meaning.specs.State.{State, stack_end, heap_end, most_calls, most_depth, is_in_reach}
+use Rattle.cell_value.specs.Effects.{heap_end}
+use Rattle.program_meaning.specs.State.{State, stack_end, most_calls, most_depth, is_in_reach}
 use Rattle.program_meaning.specs.Blocks.{filled, cleared, block_cells, lies_in_heap}
 
 -- why an act or an action is not done, and the run stops for good
@@ -103,13 +104,13 @@ after_touches w (Went x v σ) = Went x (w ++ v) σ
 after_touches w (Stops why v σ) = Stops why (w ++ v) σ
 
 -- a value is put into a cell, once there is a step for it
-abbrev pub put : (addr : ℕ) → Value → State → ActResult Bool
-put addr value σ = Went true (touch.Write addr value ∷ []) (record σ { cells = insert σ.cells addr value })
+abbrev pub put_value : (addr : ℕ) → Value → State → ActResult Bool
+put_value addr value σ = Went true (touch.Write addr value ∷ []) (record σ { cells = insert σ.cells addr value })
 
 -- The same where it was asked whether the cell is there, and this was the answer: a cell that is not there gets no
 -- value, and one that is there takes a step more.
 abbrev pub put_if : Bool → (addr : ℕ) → Value → State → ActResult Bool
-put_if true addr value σ = with_steps 1 σ (put addr value)
+put_if true addr value σ = with_steps 1 σ (put_value addr value)
 put_if false addr value σ = Went false [] σ
 
 abbrev pub put_asked : Bool → (addr : ℕ) → Value → State → ActResult Bool
@@ -128,8 +129,8 @@ take_looked wanted None σ = Went None [] σ
 take_looked wanted (Some item) σ = take_item (wanted item) item σ
 
 -- the item at the place is looked at, once there is a step for it
-abbrev pub look : (wanted : ℕ → Bool) → State → ActResult (Option ℕ)
-look wanted σ = after_touches (touch.Look σ.place ∷ []) (take_looked wanted (slice_get σ.items σ.place) σ)
+abbrev pub look_item : (wanted : ℕ → Bool) → State → ActResult (Option ℕ)
+look_item wanted σ = after_touches (touch.Look σ.place ∷ []) (take_looked wanted (slice_get σ.items σ.place) σ)
 
 -- ---- blocks of the heap
 
@@ -162,8 +163,8 @@ perform (ReadCell addr) σ = on_cell addr σ (λ τ. read_as addr (get σ.cells 
 perform (HasCell addr) σ = on_cell addr σ (λ τ.
     Went (is_some (get σ.cells addr)) (touch.Has addr (is_some (get σ.cells addr)) ∷ []) τ)
 perform (WriteCell addr value) σ = on_cell addr σ (λ τ.
-    if nat_lt addr stack_end then put addr value τ else put_asked (is_some (get τ.cells addr)) addr value τ)
-perform (TakeIf wanted) σ = with_steps 1 σ (look wanted)
+    if nat_lt addr stack_end then put_value addr value τ else put_asked (is_some (get τ.cells addr)) addr value τ)
+perform (TakeIf wanted) σ = with_steps 1 σ (look_item wanted)
 perform (GiveByte byte) σ = with_steps 1 σ (λ τ.
     Went tt (touch.Give byte ∷ []) (record τ { output = τ.output ++ byte ∷ [] }))
 perform (MakeBlock cells of') σ = make_block (block_cells cells) of' σ

@@ -3,7 +3,8 @@ use Rattle.std.specs.Prelude.{ℕ, zero, suc, ◌+◌, List, [], ◌∷◌, max,
 use Rattle.std.specs.Ordering.{nat_cmp}
 use Rattle.std.specs.FinMap.{FinMap, insert, remove}
 use Rattle.cell_value.specs.declared.values.Value.{Value}
-use Rattle.program_meaning.specs.State.{stack_end, heap_end}
+use Rattle.cell_value.specs.Effects.{heap_end}
+use Rattle.program_meaning.specs.State.{stack_end}
 
 -- values in the cells from an address on
 abbrev pub filled : (first : ℕ) → List Value → FinMap nat_cmp Value → FinMap nat_cmp Value

@@ -6,7 +6,8 @@ use Rattle.cell_value.specs.declared.values.Value.TheVariants as value
 use Rattle.cell_value.specs.declared.ways_out.Kind.TheVariants as kind
 use Rattle.program_tables.specs.declared.rows.TypeRow.{TypeRow}
 use Rattle.program_meaning.specs.declared.components.Components.{Components}
-use Rattle.program_meaning.specs.State.{heap_end, moved}
+use Rattle.cell_value.specs.Effects.{heap_end}
+use Rattle.program_meaning.specs.State.{moved}
 use Rattle.program_meaning.specs.Acts.{Fault, ReadCell, WriteCell}
 use Rattle.program_meaning.specs.Actions.{Action, Give, Fail, ◌>>=◌, act}
 use Rattle.program_tables.specs.ProgramRows.{ProgramRows}
@@ -18,8 +19,8 @@ or_disposed (Some v) = Give v
 or_disposed None = Fail (Fault kind.Disposed)
 
 -- the value in a cell
-abbrev pub read : (addr : ℕ) → Action Value
-read addr = do
+abbrev pub read_value : (addr : ℕ) → Action Value
+read_value addr = do
   found ← act (ReadCell addr)
   or_disposed found
 
@@ -32,9 +33,9 @@ abbrev pub write : (addr : ℕ) → Value → Action (Unit {0})
 write addr v = act (WriteCell addr v) >>= if_there
 
 -- the values of this many cells from an address on, after those that were read before
-abbrev pub reads : List Value → (addr cells : ℕ) → Action (List Value)
-reads vs addr zero = Give vs
-reads vs addr (suc n) = read addr >>= λ v. reads (vs ++ v ∷ []) (moved addr 1) n
+abbrev pub read_values : List Value → (addr cells : ℕ) → Action (List Value)
+read_values vs addr zero = Give vs
+read_values vs addr (suc n) = read_value addr >>= λ v. read_values (vs ++ v ∷ []) (moved addr 1) n
 
 -- values are put into the cells from an address on
 abbrev pub writes : (addr : ℕ) → List Value → Action (Unit {0})
@@ -43,11 +44,11 @@ writes addr (v ∷ vs) = write addr v >>= λ _. writes (moved addr 1) vs
 
 -- the value of a variable of an ordinal type with these bounds
 abbrev pub ordinal_at : (least greatest : ℤ) → (addr : ℕ) → Action Value
-ordinal_at least greatest addr = read addr >>= defined least greatest
+ordinal_at least greatest addr = read_value addr >>= defined least greatest
 
 -- the value of a variable of a set type
 abbrev pub set_at : (addr : ℕ) → Action Value
-set_at addr = read addr >>= defined_set
+set_at addr = read_value addr >>= defined_set
 
 -- a variable of a type of one cell gets a value
 abbrev pub assign : ProgramRows → Option TypeRow → (addr : ℕ) → Value → Action (Unit {0})
@@ -60,7 +61,7 @@ frame_of_link _ = Fail (Fault kind.Undefined)
 
 -- The base of the frame in which a frame's routine was declared. The link to it is the cell at the frame's base.
 abbrev pub linked : (base : ℕ) → Action ℕ
-linked base = read base >>= frame_of_link
+linked base = read_value base >>= frame_of_link
 
 -- the base of the frame to which this many links lead
 abbrev pub frame_out : (levels base : ℕ) → Action ℕ
@@ -78,20 +79,20 @@ variable_of _ = Fail (Fault kind.Undefined)
 
 -- the same, of a variable parameter whose cell is at an address
 abbrev pub referred : (addr : ℕ) → Action ℕ
-referred addr = read addr >>= variable_of
+referred addr = read_value addr >>= variable_of
 
 -- and of the one at a place in the frame to which this many links lead
 abbrev pub reference_out : (levels base place : ℕ) → Action ℕ
 reference_out levels base place = cell_out levels base place >>= referred
 
 -- the routine that a routine parameter stands for, and the frame in which that was declared
-abbrev pub routine_of : Value → Action (ℕ × ℕ)
-routine_of (value.Routine routine frame) = Give (routine, frame)
-routine_of _ = Fail (Fault kind.Undefined)
+abbrev pub routine_meant : Value → Action (ℕ × ℕ)
+routine_meant (value.Routine routine frame) = Give (routine, frame)
+routine_meant _ = Fail (Fault kind.Undefined)
 
 -- the same, of a routine parameter whose cell is at an address
 abbrev pub routine_held : (addr : ℕ) → Action (ℕ × ℕ)
-routine_held addr = read addr >>= routine_of
+routine_held addr = read_value addr >>= routine_meant
 
 -- and of the one at a place in the frame to which this many links lead
 abbrev pub routine_out : (levels base place : ℕ) → Action (ℕ × ℕ)

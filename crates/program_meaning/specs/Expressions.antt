@@ -38,13 +38,13 @@ use Rattle.program_meaning.specs.Values.{
   tested,
   truth,
   is_true,
-  signed,
+  with_sign_of,
   logic_of,
-  compared,
+  comparison,
   function_of,
   sets_of,
   sets_compared,
-  is_in,
+  in_set,
   no_members,
   members_added,
   string_of,
@@ -67,8 +67,8 @@ use Rattle.program_meaning.specs.Accesses.{
 }
 
 -- the result of an operation as a value, or its fault
-abbrev pub result_of : Here → Result Value OpFault → Tree
-result_of here r = doing here.line (or_fault r) scalar
+abbrev pub operation_result : Here → Result Value OpFault → Tree
+operation_result here r = doing here.line (or_fault r) scalar
 
 -- goes on with the cells of a routine's frame
 abbrev pub with_frame_size : Option Routine → (ℕ → Tree) → Tree
@@ -101,29 +101,29 @@ abbrev pub of_expression : ProgramRows → Here → ExpressionRow → Tree
 of_expression p here (Constant n) = scalar (value.Number n)
 of_expression p here (Text token) = Ret (Cells (string_of (text_at p token)))
 of_expression p here Nil = scalar value.Nil
-of_expression p here (Sign minus operand) = eval operand here (λ v. result_of here (signed minus v))
+of_expression p here (Sign minus operand) = eval operand here (λ v. operation_result here (with_sign_of minus v))
 of_expression p here (Not operand) = eval operand here (λ v. scalar (truth (not (is_true v))))
 of_expression p here (Arithmetic operator left right) =
-    eval left here (λ x. eval right here (λ y. result_of here (arith_of operator x y)))
+    eval left here (λ x. eval right here (λ y. operation_result here (arith_of operator x y)))
 of_expression p here (Logic operator left right) =
     eval left here (λ x. eval right here (λ y. scalar (truth (logic_of operator (is_true x) (is_true y)))))
 of_expression p here (Compare order left right) =
-    eval left here (λ x. eval right here (λ y. result_of here (compared order x y)))
+    eval left here (λ x. eval right here (λ y. operation_result here (comparison order x y)))
 of_expression p here (Sets operator left right) =
-    eval left here (λ x. eval right here (λ y. result_of here (sets_of operator x y)))
+    eval left here (λ x. eval right here (λ y. operation_result here (sets_of operator x y)))
 of_expression p here (CompareSets order left right) =
-    eval left here (λ x. eval right here (λ y. result_of here (sets_compared order x y)))
+    eval left here (λ x. eval right here (λ y. operation_result here (sets_compared order x y)))
 of_expression p here (ComparePointers equal left right) =
-    eval left here (λ x. eval right here (λ y. result_of here (pointers_compared equal x y)))
+    eval left here (λ x. eval right here (λ y. operation_result here (pointers_compared equal x y)))
 of_expression p here (In left right) =
-    eval left here (λ x. eval right here (λ y. result_of here (is_in x y)))
+    eval left here (λ x. eval right here (λ y. operation_result here (in_set x y)))
 of_expression p here (CompareTexts order left right) =
-    eval_cells left here (λ xs. eval_cells right here (λ ys. result_of here (texts_compared order xs ys)))
+    eval_cells left here (λ xs. eval_cells right here (λ ys. operation_result here (texts_compared order xs ys)))
 of_expression p here (Set members) = Sub (Gather members no_members here) Ret
 of_expression p here (Apply routine levels actuals) = call p here routine levels actuals Ret
 of_expression p here (ApplyFormal place levels actuals) = call_formal p here place levels actuals Ret
 of_expression p here (Function f operand least greatest) =
-    eval operand here (λ v. result_of here (function_of f least greatest v))
+    eval operand here (λ v. operation_result here (function_of f least greatest v))
 of_expression p here Eof = doing here.line at_end scalar
 of_expression p here Eoln = doing here.line at_line_end scalar
 

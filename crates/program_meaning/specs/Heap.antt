@@ -5,11 +5,12 @@ use Rattle.cell_value.specs.declared.values.Value.TheVariants as value
 use Rattle.cell_value.specs.declared.faults.OpFault.{OpFault}
 use Rattle.cell_value.specs.declared.faults.OpFault.TheVariants.{UndefinedValue}
 use Rattle.cell_value.specs.declared.ways_out.Kind.TheVariants as kind
-use Rattle.program_meaning.specs.State.{stack_end, heap_end}
+use Rattle.cell_value.specs.Effects.{heap_end}
+use Rattle.program_meaning.specs.State.{stack_end}
 use Rattle.program_meaning.specs.Acts.{Fault, HasCell, MakeBlock, DropBlock}
 use Rattle.program_meaning.specs.Actions.{Action, Give, Fail, ◌>>=◌, act}
 use Rattle.program_meaning.specs.Values.{as_value}
-use Rattle.program_meaning.specs.Cells.{read, if_there}
+use Rattle.program_meaning.specs.Cells.{read_value, if_there}
 
 -- The values of a pointer type are nil and the addresses of the heap. Whatever else a cell of such a type holds counts
 -- as undefined.
@@ -24,7 +25,7 @@ defined_pointer v = if is_pointer v then Give v else Fail (Fault kind.Undefined)
 
 -- the value of a variable of a pointer type
 abbrev pub pointer_at : (addr : ℕ) → Action Value
-pointer_at addr = read addr >>= defined_pointer
+pointer_at addr = read_value addr >>= defined_pointer
 
 -- the variable to which a pointer points
 abbrev pub variable_under : Value → Action ℕ
@@ -39,7 +40,7 @@ pointed_by v = defined_pointer v >>= variable_under
 -- and of the pointer that is the value of the variable at an address; whether the variable under it is there, is not
 -- asked (6.5.4)
 abbrev pub pointed_at : (addr : ℕ) → Action ℕ
-pointed_at addr = read addr >>= pointed_by
+pointed_at addr = read_value addr >>= pointed_by
 
 -- the block at an address is dropped, if it is there
 abbrev pub drop_found : (addr cells : ℕ) → Action (Unit {0})
@@ -61,7 +62,7 @@ abbrev pub or_no_pointer : Value → Action Value
 or_no_pointer v = if is_pointer v then Give v else Fail (Fault kind.UndefinedResult)
 
 abbrev pub pointer_result_at : (addr : ℕ) → Action Value
-pointer_result_at addr = read addr >>= or_no_pointer
+pointer_result_at addr = read_value addr >>= or_no_pointer
 
 -- Two pointers are equal if both are nil, or both point to the same variable; whether that is still there, is not asked
 -- (6.7.2.5).
@@ -73,12 +74,12 @@ same_pointer (value.Heap a) (value.Heap b) = Ok (a == b)
 same_pointer _ _ = Err UndefinedValue
 
 -- `=` and `<>` of pointers
-abbrev pub related : (equal same : Bool) → Bool
-related true same = same
-related false same = not same
+abbrev pub pointers_related : (equal same : Bool) → Bool
+pointers_related true same = same
+pointers_related false same = not same
 
 abbrev pub if_related : (equal : Bool) → Result Bool OpFault → Result Bool OpFault
-if_related equal (Ok same) = Ok (related equal same)
+if_related equal (Ok same) = Ok (pointers_related equal same)
 if_related equal (Err fault) = Err fault
 
 abbrev pub pointers_compared : (equal : Bool) → Value → Value → Result Value OpFault

@@ -51,13 +51,13 @@ leads_on item = is_blank item || (is_sign item || is_digit item)
 abbrev pub at_end : Action Value
 at_end = act (TakeIf no_item) >>= λ item. Give (truth (is_none item))
 
-abbrev pub ends_line : Option ℕ → Action Bool
-ends_line None = Fail (Fault kind.PastEnd)
-ends_line (Some item) = Give (item == line_end)
+abbrev pub tells_line_end : Option ℕ → Action Bool
+tells_line_end None = Fail (Fault kind.PastEnd)
+tells_line_end (Some item) = Give (item == line_end)
 
 -- whether the input is at a line end; at its end that is a fault (6.6.6.5)
 abbrev pub at_line_end : Action Value
-at_line_end = act (TakeIf no_item) >>= λ item. ends_line item >>= λ ends. Give (truth ends)
+at_line_end = act (TakeIf no_item) >>= λ item. tells_line_end item >>= λ ends. Give (truth ends)
 
 -- ---- chars and lines
 
@@ -72,7 +72,7 @@ next_char = act (TakeIf any_item) >>= char_of
 
 -- takes an item of the rest of a line, and says whether the line ended with it (6.9.2)
 abbrev pub past_item : Action Bool
-past_item = act (TakeIf any_item) >>= ends_line
+past_item = act (TakeIf any_item) >>= tells_line_end
 
 -- ---- integers
 
@@ -86,8 +86,8 @@ signed_number true number = neg_ℤ (pos number)
 signed_number false number = pos number
 
 -- the integer that digits make: one beyond maxint is the fault Overflow
-abbrev pub whole : (minus : Bool) → (number : ℕ) → Action Scanned
-whole minus number = or_fault (integer (signed_number minus number)) >>= λ v. Give (Whole v)
+abbrev pub integer_read : (minus : Bool) → (number : ℕ) → Action Scanned
+integer_read minus number = or_fault (integer (signed_number minus number)) >>= λ v. Give (Whole v)
 
 -- the first digit, without which there is no integer
 abbrev pub first_digit : (minus : Bool) → Option ℕ → Action Scanned
@@ -105,9 +105,9 @@ leading (Some item) =
 
 -- a further digit; what is none ends the integer
 abbrev pub further : (minus : Bool) → (number : ℕ) → Option ℕ → Action Scanned
-further minus number None = whole minus number
+further minus number None = integer_read minus number
 further minus number (Some item) =
-    if is_digit item then Give (Further (Digits minus (with_digit number item))) else whole minus number
+    if is_digit item then Give (Further (Digits minus (with_digit number item))) else integer_read minus number
 
 -- one turn of the reading of an integer (6.9.1): each item that is met is looked at once, and then taken if it is a
 -- blank before the integer or one of its chars

@@ -4,7 +4,7 @@ use Rattle.std.specs.List.{All}
 use Rattle.program_tables.specs.ProgramRows.{ProgramRows}
 use Rattle.program_meaning.specs.State.{State}
 use Rattle.program_meaning.specs.Run.{Result, Call, run, run_of, block, start, depth_enough}
-use Rattle.program_meaning.specs.Numbering.{StandsAt, belows, last_of, parent_of, depth_of, InSubtree}
+use Rattle.program_meaning.specs.Numbering.{StandsAt, belows, last_below, parent_of, depth_of, InSubtree}
 
 -- every program has a run with every input and budget
 abbrev pub EveryProgramRuns : Type 0
@@ -26,11 +26,11 @@ EveryRunHasACall = OfEachRun (λ bs. 0 < length bs)
 
 -- the subtree of a call is the interval from it to its last call
 abbrev pub SubtreeIsInterval : Type 0
-SubtreeIsInterval = OfEachRun (λ bs. (k j : ℕ) → k < length bs → (InSubtree bs k j ↔ (k ≤ j) × (j ≤ last_of bs k)))
+SubtreeIsInterval = OfEachRun (λ bs. (k j : ℕ) → k < length bs → (InSubtree bs k j ↔ (k ≤ j) × (j ≤ last_below bs k)))
 
 -- the last call of a call is a call
 abbrev pub LastIsACall : Type 0
-LastIsACall = OfEachRun (λ bs. (k : ℕ) → k < length bs → last_of bs k < length bs)
+LastIsACall = OfEachRun (λ bs. (k : ℕ) → k < length bs → last_below bs k < length bs)
 
 -- call 0 has no parent and the depth 0
 abbrev pub FirstHasNoParent : Type 0

@@ -39,12 +39,12 @@ abbrev pub belows : List (Marked Call) → List ℕ
 belows cs = map (λ c. c.event.below) cs
 
 -- the last call below call k, and k itself where none is
-abbrev pub last_of : List ℕ → ℕ → ℕ
-last_of bs k = k + slice_index bs k
+abbrev pub last_below : List ℕ → ℕ → ℕ
+last_below bs k = k + slice_index bs k
 
 -- whether call k, which was entered after call j, is below it
 abbrev pub is_below : List ℕ → ℕ → ℕ → Bool
-is_below bs k j = nat_le k (last_of bs j)
+is_below bs k j = nat_le k (last_below bs j)
 
 -- the parent of call k: of the calls that have k below them, the last one that was entered
 abbrev pub parent_of : List ℕ → ℕ → Option ℕ
@@ -66,7 +66,7 @@ calls_of (Some r) = r.events
 
 -- the calls below each call are among the calls
 pub record Inside (bs : List ℕ) : Type 0 where
-  pub inside : (k : ℕ) → k < length bs → last_of bs k < length bs
+  pub inside : (k : ℕ) → k < length bs → last_below bs k < length bs
 
 -- from a mark on the log has these entries
 pub record StandsAt (log : List Touch) (mark : ℕ) (entries : List Touch) : Type 0 where

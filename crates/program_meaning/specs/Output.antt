@@ -92,13 +92,13 @@ in_width width text = spaces (width - length text.chars) ++ kept width text
 -- ---- actions
 
 -- a byte is given
-abbrev pub give : (byte : ℕ) → Action (Unit {0})
-give byte = act (GiveByte byte)
+abbrev pub give_byte : (byte : ℕ) → Action (Unit {0})
+give_byte byte = act (GiveByte byte)
 
 -- one after the other is given, up to a component of a string that is undefined
 abbrev pub gives : List (Option ℕ) → Action (Unit {0})
 gives [] = Give tt
-gives (Some byte ∷ cs) = give byte >>= λ _. gives cs
+gives (Some byte ∷ cs) = give_byte byte >>= λ _. gives cs
 gives (None ∷ cs) = Fail (Fault kind.Undefined)
 
 -- a width, which is at least 1 (6.9.3.1)
@@ -113,7 +113,7 @@ written text (Some width) = width_of width >>= λ n. gives (in_width n text)
 
 -- the end of a line, and of a page
 abbrev pub end_line : Action (Unit {0})
-end_line = give 10
+end_line = give_byte 10
 
 abbrev pub end_page : Action (Unit {0})
-end_page = give 12
+end_page = give_byte 12

@@ -10,7 +10,7 @@ use Rattle.program_meaning.specs.State.{moved}
 use Rattle.program_meaning.specs.Acts.{Fault}
 use Rattle.program_meaning.specs.Actions.{Action, Give, Fail, ◌>>=◌}
 use Rattle.program_meaning.specs.Tree.{Here, Tree, doing}
-use Rattle.program_meaning.specs.Cells.{reads, writes, position_between}
+use Rattle.program_meaning.specs.Cells.{read_values, writes, position_between}
 use Rattle.program_meaning.specs.Accesses.{no_row, eval, locate, type_accessed, with_components}
 
 -- how many components an array has
@@ -31,7 +31,7 @@ first_moved unpacked packed addr v =
 
 -- this many cells are copied, all read before the first is written
 abbrev pub copies : (from to cells : ℕ) → Action (Unit {0})
-copies from to cells = reads [] from cells >>= writes to
+copies from to cells = read_values [] from cells >>= writes to
 
 -- goes on with an array that is accessed: its cells, and what its type says of its components
 abbrev pub with_array : ProgramRows → Row → (ℕ → Components → Tree) → Tree

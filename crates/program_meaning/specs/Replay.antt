@@ -46,7 +46,7 @@ use Rattle.program_meaning.specs.Run.{
   framed_run,
   at_work,
   opened,
-  closed,
+  call_closed,
 }
 use Rattle.program_meaning.specs.Apply.{apply}
 
@@ -128,5 +128,5 @@ replay_of p = within replaying p
 -- as in a run. `number` is that of the call, and `below` are the calls below it.
 abbrev pub body : ProgramRows → (depth : ℕ) → (c : Call) → (number : ℕ) → (below : List Call) → Replayed
 body p depth c number below =
-    after_all (on_state (closed c.depth)) (framed_run in_replaying (at_work p (replay_of p depth) c.routine) c.args
+    after_all (on_state (call_closed c.depth)) (framed_run in_replaying (at_work p (replay_of p depth) c.routine) c.args
     (record { state = opened c.entry; number = number + 1; calls = below }) (routine_at p c.routine))

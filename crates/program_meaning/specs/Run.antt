@@ -75,7 +75,7 @@ use Rattle.program_meaning.specs.Tree.{
   way_of,
   doing,
 }
-use Rattle.program_meaning.specs.Cells.{read}
+use Rattle.program_meaning.specs.Cells.{read_value}
 use Rattle.program_meaning.specs.Heap.{pointer_result_at}
 use Rattle.program_meaning.specs.Accesses.{scalar, with_bounds}
 use Rattle.program_meaning.specs.Statements.{on_normal, nothing}
@@ -187,8 +187,8 @@ abbrev pub opened : State → State
 opened σ = record σ { calls = σ.calls + 1; depth = σ.depth + 1 }
 
 -- a call is left, at the depth before it
-abbrev pub closed : ℕ → State → State
-closed depth σ = record σ { depth = depth }
+abbrev pub call_closed : ℕ → State → State
+call_closed depth σ = record σ { depth = depth }
 
 -- a frame of n cells is made at the top, with a step for each cell
 abbrev pub with_frame : ℕ → List Value → State → State
@@ -261,13 +261,13 @@ abbrev pub or_no_result : Outcome_of Value OpFault → Action Value
 or_no_result (Ok v) = Give v
 or_no_result (Err e) = Fail (Fault kind.UndefinedResult)
 
-abbrev pub result_at : (least greatest : ℤ) → (addr : ℕ) → Action Value
-result_at least greatest addr = read addr >>= λ v. or_no_result (in_range_of v least greatest)
+abbrev pub result_read : (least greatest : ℤ) → (addr : ℕ) → Action Value
+result_read least greatest addr = read_value addr >>= λ v. or_no_result (in_range_of v least greatest)
 
 -- the result of a function of a type, which is the cell at an address
 abbrev pub result_of_type : (line addr : ℕ) → Option TypeRow → Tree
 result_of_type line addr (Some (Pointer domain)) = doing line (pointer_result_at addr) scalar
-result_of_type line addr t = with_bounds t (λ least greatest. doing line (result_at least greatest addr) scalar)
+result_of_type line addr t = with_bounds t (λ least greatest. doing line (result_read least greatest addr) scalar)
 
 -- how a routine returns: a function by reading its result
 abbrev pub return_of : ProgramRows → (base : ℕ) → Routine → Option ℕ → Tree
@@ -306,7 +306,7 @@ in_frame work args σ r = framed_run (record { state = λ σ. σ; change = λ f 
 -- a call of a routine
 abbrev pub call_of : ProgramRows → (Tree → State → Outcome) → ℕ → List Value → State → Outcome
 call_of p run routine args σ =
-    recorded routine args σ (after_all (closed σ.depth)
+    recorded routine args σ (after_all (call_closed σ.depth)
     (in_frame (at_work p run routine) args (opened σ) (routine_at p routine)))
 
 -- ---- runs
@@ -320,13 +320,13 @@ run_of p = within (plain p) p
 
 -- The items of an input. A line ends with LF, and with a CR directly before it; the end of the last line is added
 -- where it is missing.
-abbrev pub items_of : List ℕ → List ℕ
-items_of [] = []
-items_of (b ∷ []) = if b == 10 then 256 ∷ [] else b ∷ 256 ∷ []
-items_of (b ∷ c ∷ bs) =
-    if b == 10 then 256 ∷ items_of (c ∷ bs)
-    else if (b == 13) && (c == 10) then items_of (c ∷ bs)
-    else b ∷ items_of (c ∷ bs)
+abbrev pub input_items : List ℕ → List ℕ
+input_items [] = []
+input_items (b ∷ []) = if b == 10 then 256 ∷ [] else b ∷ 256 ∷ []
+input_items (b ∷ c ∷ bs) =
+    if b == 10 then 256 ∷ input_items (c ∷ bs)
+    else if (b == 13) && (c == 10) then input_items (c ∷ bs)
+    else b ∷ input_items (c ∷ bs)
 
 -- no cells, an input and a budget of steps
 abbrev pub start : (input : List ℕ) → (budget : ℕ) → State
@@ -334,7 +334,7 @@ start input budget = record {
   cells = empty;
   top = 0;
   fresh = stack_end;
-  items = items_of input;
+  items = input_items input;
   place = 0;
   output = [];
   steps = budget;

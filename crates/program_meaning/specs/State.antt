@@ -3,6 +3,7 @@ use Rattle.std.specs.Prelude.{◌≡◌, ℕ, ◌+◌, ◌<◌, ◌≤◌, List,
 use Rattle.std.specs.Ordering.{nat_cmp}
 use Rattle.std.specs.FinMap.{FinMap, get}
 use Rattle.cell_value.specs.declared.values.Value.{Value}
+use Rattle.cell_value.specs.Effects.{heap_end}
 
 pub record State : Type 0 where
   -- the value of each cell, by its address: the stack's from 0 on, the heap's from 524,288 on
@@ -27,10 +28,6 @@ pub record State : Type 0 where
 -- the first address above the stack, which is the first of the heap
 abbrev pub stack_end : ℕ
 stack_end = 524288
-
--- the first address above the heap
-abbrev pub heap_end : ℕ
-heap_end = 1048576
 
 -- how many calls a run may enter
 abbrev pub most_calls : ℕ

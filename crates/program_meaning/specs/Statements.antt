@@ -218,13 +218,13 @@ has_label (rows.Statement (Labelled goal inner)) label = goal == label
 has_label r label = false
 
 -- the item of the statement that has a label, among those from an item on
-abbrev pub label_at : ProgramRows → Row → (at label : ℕ) → (ℕ → Option ℕ) → Option ℕ
-label_at p (rows.Item (item.Element s next)) at label go =
+abbrev pub item_labelled : ProgramRows → Row → (at label : ℕ) → (ℕ → Option ℕ) → Option ℕ
+item_labelled p (rows.Item (item.Element s next)) at label go =
     if has_label (row_at p s) label then Some at else if nat_lt at next then go next else None
-label_at p r at label go = None
+item_labelled p r at label go = None
 
 abbrev pub labelled_in : ProgramRows → (n at label : ℕ) → Option ℕ
-labelled_in p n at label = along (λ at go. label_at p (row_at p at) at label go) n at
+labelled_in p n at label = along (λ at go. item_labelled p (row_at p at) at label go) n at
 
 abbrev pub jumped : Here → (first label base : ℕ) → Option ℕ → Tree
 jumped here first label base (Some at) = Sub (Sequence first at here) Ret

@@ -123,10 +123,10 @@ is_true (value.Number n) = not (int_eq n (pos 0))
 is_true _ = false
 
 -- the sign before an integer (6.7.2.2)
-abbrev pub signed : (minus : Bool) → Value → Result Value OpFault
-signed true v = negate_of v
-signed false (value.Number n) = Ok (value.Number n)
-signed false _ = Err UndefinedValue
+abbrev pub with_sign_of : (minus : Bool) → Value → Result Value OpFault
+with_sign_of true v = negate_of v
+with_sign_of false (value.Number n) = Ok (value.Number n)
+with_sign_of false _ = Err UndefinedValue
 
 -- and, or (6.7.2.3)
 abbrev pub logic_of : Logic → Bool → Bool → Bool
@@ -142,9 +142,9 @@ holds Greater i j = int_lt j i
 holds AtMost i j = int_le i j
 holds AtLeast i j = int_le j i
 
-abbrev pub compared : Order → Value → Value → Result Value OpFault
-compared order (value.Number i) (value.Number j) = Ok (truth (holds order i j))
-compared order _ _ = Err UndefinedValue
+abbrev pub comparison : Order → Value → Value → Result Value OpFault
+comparison order (value.Number i) (value.Number j) = Ok (truth (holds order i j))
+comparison order _ _ = Err UndefinedValue
 
 abbrev pub is_odd : ℤ → Bool
 is_odd n = nat_eq (unsigned_abs n % 2) 1
@@ -212,9 +212,9 @@ sets_compared order (value.Bits a) (value.Bits b) = sets_related order a b
 sets_compared order _ _ = Err UndefinedValue
 
 -- whether an ordinal is a member of a set (6.7.2.5)
-abbrev pub is_in : (member set : Value) → Result Value OpFault
-is_in (value.Number i) (value.Bits set) = Ok (truth (has_number set i))
-is_in _ _ = Err UndefinedValue
+abbrev pub in_set : (member set : Value) → Result Value OpFault
+in_set (value.Number i) (value.Bits set) = Ok (truth (has_number set i))
+in_set _ _ = Err UndefinedValue
 
 -- ---- strings
 

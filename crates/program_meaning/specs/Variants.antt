@@ -17,7 +17,7 @@ use Rattle.program_meaning.specs.State.{moved}
 use Rattle.program_meaning.specs.Acts.{Fault}
 use Rattle.program_meaning.specs.Actions.{Action, Give, Fail, ◌>>=◌}
 use Rattle.program_meaning.specs.Values.{or_fault, tested}
-use Rattle.program_meaning.specs.Cells.{read, write, writes, assign}
+use Rattle.program_meaning.specs.Cells.{read_value, write, writes, assign}
 use Rattle.program_meaning.specs.Choices.{choice_of}
 
 abbrev pub part_in : Row → Option VariantPart
@@ -81,7 +81,7 @@ undefine_if false addr cells = Give tt
 -- A tag, whose cell is at an address, gets a value. If that chooses another variant than before, or none was chosen,
 -- every cell of the variants is undefined, which are those after the tag's.
 abbrev pub activate : ProgramRows → VariantPart → (addr : ℕ) → Value → Action (Unit {0})
-activate p part addr tag = read addr >>= λ before. write addr tag >>= λ _.
+activate p part addr tag = read_value addr >>= λ before. write addr tag >>= λ _.
     undefine_if (changes (chosen p part before) (chosen p part tag)) (moved addr 1) part.cells
 
 -- ---- fields
@@ -99,8 +99,9 @@ or_activated p target part position addr false =
     else Fail (Fault kind.InactiveVariant)
 
 -- the tag before a variant, of the record variable at an address, is read and tested
-abbrev pub entered : ProgramRows → (target : Bool) → (addr : ℕ) → VariantPart → (position : ℕ) → Action (Unit {0})
-entered p target addr part position = read (moved addr part.offset) >>= λ tag.
+abbrev pub variant_entered : ProgramRows → (target : Bool) → (addr : ℕ) → VariantPart → (position : ℕ)
+    → Action (Unit {0})
+variant_entered p target addr part position = read_value (moved addr part.offset) >>= λ tag.
     or_activated p target part position (moved addr part.offset) (is_at (chosen p part tag) position)
 
 -- The tags around what a holder holds, the outermost first: each is tested before the next is read. A holder stands
@@ -108,7 +109,7 @@ entered p target addr part position = read (moved addr part.offset) >>= λ tag.
 abbrev pub all_entered : ProgramRows → (target : Bool) → (addr n holder : ℕ) → Action (Unit {0})
 all_entered p target addr zero holder = Give tt
 all_entered p target addr (suc n) holder = on_variant (variant_at p holder) (λ part position.
-    all_entered p target addr n part.holder >>= λ _. entered p target addr part position)
+    all_entered p target addr n part.holder >>= λ _. variant_entered p target addr part position)
 
 -- the place of a field in its record, and what holds it
 abbrev pub field_in : Row → Option (ℕ × ℕ)

@@ -10,7 +10,8 @@ use Rattle.cell_value.specs.declared.values.Value.{Value}
 use Rattle.cell_value.specs.declared.entries.Touch.{Touch}
 use Rattle.cell_value.specs.declared.entries.Touch.TheVariants as touch
 use Rattle.program_tables.specs.ProgramRows.{ProgramRows}
-use Rattle.program_meaning.specs.State.{State, stack_end, heap_end, is_in_reach}
+use Rattle.cell_value.specs.Effects.{heap_end}
+use Rattle.program_meaning.specs.State.{State, stack_end, is_in_reach}
 use Rattle.program_meaning.specs.Blocks.{block_cells, lies_in_heap}
 use Rattle.program_meaning.specs.Acts.{
   Act,
@@ -30,12 +31,12 @@ use Rattle.program_meaning.specs.Acts.{
   with_steps,
   on_cell,
   read_as,
-  put,
+  put_value,
   put_asked,
   after_touches,
   take_item,
   take_looked,
-  look,
+  look_item,
   spent,
   made_block,
   dropped_block,
@@ -98,7 +99,7 @@ kept_touched w σ (Went x v τ) h = h
 kept_touched w σ (Stops why v τ) h = h
 
 kept_put : (there : Bool) (addr : ℕ) (value : Value) (σ : State) (m : ℕ) → m + 1 ≤ σ.steps → Kept σ (put_asked there addr value (record σ { steps = m }))
-kept_put true addr value σ m l = kept_touched (touch.Has addr true ∷ []) σ (with_steps 1 (record σ { steps = m }) (put addr value))
+kept_put true addr value σ m l = kept_touched (touch.Has addr true ∷ []) σ (with_steps 1 (record σ { steps = m }) (put_value addr value))
     (kept_if σ (nat_lt m 1) _ _ (record { calls = refl; depth = refl; output = omega (arith, l); items = refl })
     (record { calls = refl; depth = refl; output = omega (arith, l); items = refl }))
 kept_put false addr value σ m l = kept_left σ m 1 l
@@ -119,7 +120,7 @@ kept_given byte σ m l =
     record { calls = refl; depth = refl; output = let e = length-append σ.output (byte ∷ []) in omega (arith, l, e); items = refl }
 
 kept_write : (b : Bool) (addr : ℕ) (value : Value) (σ : State) (m : ℕ) → m + 1 ≤ σ.steps
-    → Kept σ (if b then put addr value (record σ { steps = m }) else put_asked (is_some (get σ.cells addr)) addr value (record σ { steps = m }))
+    → Kept σ (if b then put_value addr value (record σ { steps = m }) else put_asked (is_some (get σ.cells addr)) addr value (record σ { steps = m }))
 kept_write true addr value σ m l = record { calls = refl; depth = refl; output = omega (arith, l); items = refl }
 kept_write false addr value σ m l = kept_put (is_some (get σ.cells addr)) addr value σ m l
 
@@ -136,11 +137,11 @@ kept_act (DropBlock addr cells) σ = kept_if σ (lies_in_heap addr (block_cells 
     (kept_steps (block_cells cells) σ (dropped_block addr (block_cells cells))
     (λ m l. record { calls = refl; depth = refl; output = omega (arith, l); items = refl }))
     (same_calls σ)
-kept_act (TakeIf wanted) σ = kept_steps 1 σ (look wanted) (λ m l. kept_touched (touch.Look σ.place ∷ []) σ _
+kept_act (TakeIf wanted) σ = kept_steps 1 σ (look_item wanted) (λ m l. kept_touched (touch.Look σ.place ∷ []) σ _
     (kept_looked wanted (slice_get σ.items σ.place) σ m l))
 kept_act (GiveByte byte) σ = kept_steps 1 σ (λ τ. Went tt (touch.Give byte ∷ []) (record τ { output = τ.output ++ byte ∷ [] })) (kept_given byte σ)
 kept_act (WriteCell addr value) σ = kept_cell addr σ
-    (λ τ. if nat_lt addr stack_end then put addr value τ else put_asked (is_some (get τ.cells addr)) addr value τ)
+    (λ τ. if nat_lt addr stack_end then put_value addr value τ else put_asked (is_some (get τ.cells addr)) addr value τ)
     (kept_write (nat_lt addr stack_end) addr value σ)
 
 -- from a moment on to another, within one body

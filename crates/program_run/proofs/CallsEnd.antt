@@ -10,7 +10,7 @@ use Rattle.program_meaning.specs.Tree.{Out, Nothing, Scalar, Jump, Ret}
 use Rattle.program_meaning.specs.Run.{Ended, Halted}
 use Rattle.eval_machine.specs.Machines.{moment_of}
 use Rattle.eval_tasks.specs.declared.body.Body.{Body}
-use Rattle.eval_tasks.specs.Turns.{end_of}
+use Rattle.program_meaning.specs.Replay.{end_of}
 use Rattle.program_run.specs.declared.open_call.OpenCall.{OpenCall}
 use Rattle.program_run.specs.declared.runner.Runner.{Runner}
 use Rattle.program_run.specs.Tower.{Rests, Ends, IsOver, stage_after}

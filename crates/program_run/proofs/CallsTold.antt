@@ -9,16 +9,16 @@ use Rattle.call_tree.specs.Recording.{Recording}
 use Rattle.call_tree.specs.Told.{IsTold}
 use Rattle.call_tree.specs.declared.records.Call as table
 use Rattle.program_tables.specs.ProgramRows.{ProgramRows}
-use Rattle.program_meaning.specs.Run.{Marked, Call, Outcome, items_of, run}
+use Rattle.program_meaning.specs.Run.{Marked, Call, Outcome, input_items, run}
 use Rattle.program_meaning.specs.Numbering.{each_from}
 use Rattle.run_laws.specs.Laws.{IsCounted, most_bytes}
 use Rattle.run_laws.proofs.CallsCounted.{calls_counted}
 use Rattle.program_run.specs.declared.history.History.{History}
 use Rattle.program_run.specs.History.{IsOfRun, log_of, recording_of}
-use Rattle.program_run.specs.Table.{row_of}
+use Rattle.program_run.specs.Table.{table_row}
 
 module _ (log : List Touch) (items bs : List ℕ) where
-  row_told : (k : ℕ) (c : Marked Call) → IsCounted items log c → IsTold log items (row_of bs k c)
+  row_told : (k : ℕ) (c : Marked Call) → IsCounted items log c → IsTold log items (table_row bs k c)
   row_told k c h = record {
     in_order = omega arith;
     in_log = h.in_log;
@@ -28,19 +28,19 @@ module _ (log : List Touch) (items bs : List ℕ) where
     in_input = subst (λ w. c.event.entry.place + taken_of w ≤ length items) (sym h.part) h.in_input;
   }
 
-  rows_told : (k : ℕ) (cs : List (Marked Call)) → All (IsCounted items log) cs → All (IsTold log items) (each_from (row_of bs) k cs)
+  rows_told : (k : ℕ) (cs : List (Marked Call)) → All (IsCounted items log) cs → All (IsTold log items) (each_from (table_row bs) k cs)
   rows_told k [] h = All-nil (IsTold log items)
   rows_told k (c ∷ cs) h =
-      All-cons (IsTold log items) (row_of bs k c) (each_from (row_of bs) (suc k) cs) (row_told k c (All-head (IsCounted items log) c cs h))
+      All-cons (IsTold log items) (table_row bs k c) (each_from (table_row bs) (suc k) cs) (row_told k c (All-head (IsCounted items log) c cs h))
       (rows_told (suc k) cs (All-tail (IsCounted items log) c cs h))
 
 run_told : (p : ProgramRows) (input : List ℕ) (budget : ℕ) → length input ≤ most_bytes
-    → All (IsTold (log_of (run p input budget)) (items_of input)) (recording_of p (run p input budget)).calls
+    → All (IsTold (log_of (run p input budget)) (input_items input)) (recording_of p (run p input budget)).calls
 run_told p input budget few = by (run p input budget) refl
   where
-    by : (x : Outcome) → run p input budget ≡ x → All (IsTold (log_of x) (items_of input)) (recording_of p x).calls
-    by None e = All-nil (IsTold [] (items_of input))
-    by (Some r) e = rows_told r.log (items_of input) _ 0 r.events (calls_counted p input budget r few e)
+    by : (x : Outcome) → run p input budget ≡ x → All (IsTold (log_of x) (input_items input)) (recording_of p x).calls
+    by None e = All-nil (IsTold [] (input_items input))
+    by (Some r) e = rows_told r.log (input_items input) _ 0 r.events (calls_counted p input budget r few e)
 
 kept_told : (p : ProgramRows) (input : List ℕ) (budget : ℕ) (h : History) → length input ≤ most_bytes → IsOfRun p input budget h
     → All (IsTold h.log h.input) h.calls.calls

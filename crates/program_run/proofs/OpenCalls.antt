@@ -21,7 +21,7 @@ use Rattle.program_meaning.specs.Run.{
   ends,
   on_end,
   record_of,
-  closed,
+  call_closed,
   without_frame,
   way_out,
   result_in,
@@ -35,15 +35,17 @@ use Rattle.program_meaning.proofs.CallsOfRunsNest.{belows_later}
 use Rattle.program_meaning.proofs.OutcomesCompose.{front_twice, less_then, none_some}
 use Rattle.call_tree.specs.Recording.{left, leaving}
 use Rattle.program_run.specs.Table.{side_of}
-use Rattle.program_run.specs.Tower.{Own, OpenLevel, OpenLevels, Bottom, Push, called, followed, whole_from, size, numbers_of, logs_of, spot_of, below, row_at}
+use Rattle.program_run.specs.Tower.{Own, OpenLevel, OpenLevels, Bottom, Push, called, followed, whole_from, calls_so_far, numbers_of, logs_of, spot_of, below}
+use Rattle.program_run.specs.Tower.{call_row_at}
 use Rattle.program_run.specs.Tower.{rows_at}
-use Rattle.program_run.specs.Tower.{opened_row, first_spot, rows_of, recording_at, LevelsFit, Open, open_of, opens_of, left_at, stage_after}
+use Rattle.program_run.specs.Tower.{opened_row, first_spot, rows_of, recording_at, LevelsFit, Open, open_of, opens_of, left_inside, stage_after}
 use Rattle.program_run.proofs.RowsInParts.{rows_append, rows_call, rows_moved, length_each, further}
 
 -- ---- what is left
 
 called_less : (l : OpenLevel) (x y : Outcome) → Less x y → Less (called l x) (called l y)
-called_less l x y h = recorded_less l.routine l.args l.entry _ _ (after_less (closed l.entry.depth) _ _ (after_less (without_frame l.entry.top l.cells) _ _ h))
+called_less l x y h = recorded_less l.routine l.args l.entry _ _
+    (after_less (call_closed l.entry.depth) _ _ (after_less (without_frame l.entry.top l.cells) _ _ h))
 
 whole_same : (p : ProgramRows) (n : ℕ) (ls : OpenLevels) (x y : Outcome) → Less x y → Less (whole_from p n ls x) (whole_from p n ls y)
 whole_same p n (Bottom own) x y h = in_front_less own.log own.events _ _ h
@@ -123,7 +125,7 @@ opens_done (Push under l own) w es = refl
 length_later : (n : ℕ) (ds es : List (Marked Call)) → length (ds ++ later_by n es) ≡ length ds + length es
 length_later n ds es = length-append ds (later_by n es) ∙ ap (λ k. length ds + k) (length-map es (λ e. record { mark = n + e.mark; event = e.event }))
 
-pub size_done : (ls : OpenLevels) (w : List Touch) (es : List (Marked Call)) → size (done ls w es) ≡ size ls + length es
+pub size_done : (ls : OpenLevels) (w : List Touch) (es : List (Marked Call)) → calls_so_far (done ls w es) ≡ calls_so_far ls + length es
 size_done (Bottom own) w es = length_later (length own.log) own.events es
 size_done (Push under l own) w es = let e = length_later (length own.log) own.events es in omega (arith, e)
 
@@ -147,11 +149,11 @@ inside_call c es e f = within_call c.below (belows es) (e ∙ sym (length-map es
 
 -- ---- the rows
 
-pub rows_length : (ls : OpenLevels) → length (rows_of ls) ≡ size ls
-rows_length (Bottom own) = length_each (row_at first_spot (belows own.events)) 0 own.events
+pub rows_length : (ls : OpenLevels) → length (rows_of ls) ≡ calls_so_far ls
+rows_length (Bottom own) = length_each (call_row_at first_spot (belows own.events)) 0 own.events
 rows_length (Push under l own) =
     let a = rows_length under in
-    let b = length_each (row_at (below (spot_of under)) (belows own.events)) 0 own.events in
+    let b = length_each (call_row_at (below (spot_of under)) (belows own.events)) 0 own.events in
     let c = length-append (rows_of under) (opened_row under l ∷ rows_at (below (spot_of under)) own.events) in
     omega (arith, a, b, c)
 
@@ -172,7 +174,7 @@ rows_done (Push under l own) w es f =
     (rows_append s own.events (later_by (length own.log) es) f.0
     ∙ ap (λ rs. rows_at s own.events ++ rs)
     (rows_moved (further s (length own.events)) (length own.log) es ∙ (λ i. rows_at (record {
-      number = (let x : s.number + length own.events ≡ size (Push under l own) = omega arith in x) i;
+      number = (let x : s.number + length own.events ≡ calls_so_far (Push under l own) = omega arith in x) i;
       parent = s.parent;
       depth = (let x : s.depth ≡ length (numbers_of (Push under l own)) = omega arith in x) i;
       mark = (sym (length-append (logs_of under) own.log)) i;
@@ -194,17 +196,17 @@ front_ends : (own : Own) (e : End) (σ : State)
 front_ends own e σ = λ i. Some (record { end = e; after = σ; log = append-nil own.log i; events = append-nil own.events i })
 
 pub call_ends : (p : ProgramRows) (n : ℕ) (l : OpenLevel) (own : Own) (e : End) (σ τ : State)
-    → τ ≡ closed l.entry.depth (without_frame l.entry.top l.cells σ)
+    → τ ≡ call_closed l.entry.depth (without_frame l.entry.top l.cells σ)
     → followed p n l.rest (called l (in_front own.log own.events (ends e σ)))
-    ≡ in_front own.log (ended l own e τ) (left_at p n (stage_after l.rest e) τ)
+    ≡ in_front own.log (ended l own e τ) (left_inside p n (stage_after l.rest e) τ)
 call_ends p n l own e σ τ h = ap (λ x. followed p n l.rest (called l x)) (front_ends own e σ) ∙ go e
   where
     go : (e : End) → on_end e (record {
       end = e;
-      after = closed l.entry.depth (without_frame l.entry.top l.cells σ);
+      after = call_closed l.entry.depth (without_frame l.entry.top l.cells σ);
       log = own.log;
-      events = ended l own e (closed l.entry.depth (without_frame l.entry.top l.cells σ));
-    }) (λ out υ. run_of p n (l.rest out) υ) ≡ in_front own.log (ended l own e τ) (left_at p n (stage_after l.rest e) τ)
+      events = ended l own e (call_closed l.entry.depth (without_frame l.entry.top l.cells σ));
+    }) (λ out υ. run_of p n (l.rest out) υ) ≡ in_front own.log (ended l own e τ) (left_inside p n (stage_after l.rest e) τ)
     go (Ended out) = λ i. in_front own.log (ended l own (Ended out) (sym h i)) (run_of p n (l.rest out) (sym h i))
     go (Halted way) = λ i. Some (record {
       end = Halted way;
@@ -220,16 +222,17 @@ seam xs y ys =
 
 -- the rows once it has ended
 rows_left : (under : OpenLevels) (l : OpenLevel) (own : Own) (e : End) (τ : State) (w : List Touch) → LevelsFit under → w ≡ logs_of (Push under l own)
-    → leaving (rows_of (Push under l own)) (size under) (slice_get (rows_of (Push under l own)) (size under)) (side_of (length w) τ) (way_out e) (result_in e)
+    → leaving (rows_of (Push under l own)) (calls_so_far under) (slice_get (rows_of (Push under l own)) (calls_so_far under)) (side_of (length w) τ)
+        (way_out e) (result_in e)
     ≡ rows_of (done under own.log (ended l own e τ))
 rows_left under l own e τ w f h =
     let row = opened_row under l in
     let rest = rows_at (below (spot_of under)) own.events in
-    let at : size under ≡ length (rows_of under) = sym (rows_length under) in
+    let at : calls_so_far under ≡ length (rows_of under) = sym (rows_length under) in
     let all = rows_length (Push under l own) in
-    let last : length (rows_of (Push under l own)) - 1 ≡ size under + length own.events = omega (arith, all) in
+    let last : length (rows_of (Push under l own)) - 1 ≡ calls_so_far under + length own.events = omega (arith, all) in
     let mark : length w ≡ length (logs_of under) + length own.log = ap length h ∙ length-append (logs_of under) own.log in
-    ap (λ o. leaving (rows_of (Push under l own)) (size under) o (side_of (length w) τ) (way_out e) (result_in e))
+    ap (λ o. leaving (rows_of (Push under l own)) (calls_so_far under) o (side_of (length w) τ) (way_out e) (result_in e))
     (ap (slice_get (rows_of (Push under l own))) at ∙ seam (rows_of under) row rest)
     ∙ (λ i. slice_set (rows_of (Push under l own)) (at i) (record row {
       last = last i;
@@ -238,7 +241,7 @@ rows_left under l own e τ w f h =
       result = result_in e;
     }))
     ∙ set-append_seam (rows_of under) row rest (record row {
-      last = size under + length own.events;
+      last = calls_so_far under + length own.events;
       exit = side_of (length (logs_of under) + length own.log) τ;
       way = way_out e;
       result = result_in e;

@@ -9,8 +9,8 @@ use Rattle.program_meaning.specs.Run.{Marked, Call, later_by}
 use Rattle.program_meaning.specs.Numbering.{greatest, count, belows, is_below, parent_of, each_from, Inside}
 use Rattle.program_meaning.proofs.NestedCallsAreIntervals.{same_test, count_same}
 use Rattle.program_meaning.proofs.CallsOfRunsNest.{belows_later}
-use Rattle.program_run.specs.Table.{row_with, numbered}
-use Rattle.program_run.specs.Tower.{RowSpot, below, first_spot, parent_at, row_at, rows_at}
+use Rattle.program_run.specs.Table.{row_with, table_of}
+use Rattle.program_run.specs.Tower.{RowSpot, below, first_spot, parent_at, call_row_at, rows_at}
 
 pub greatest_same : (p q : ℕ → Bool) (n : ℕ) → ((j : ℕ) → j < n → p j ≡ q j) → greatest p n ≡ greatest q n
 greatest_same p q zero h = refl
@@ -117,7 +117,7 @@ each_marked f g n k [] h = refl
 each_marked f g n k (m ∷ ms) h = λ i. h k m i ∷ each_marked f g n (suc k) ms h i
 
 module _ (s : RowSpot) where
-  left_row : (bs cs : List ℕ) (i : ℕ) (c : Marked Call) → i < length bs → row_at s (bs ++ cs) i c ≡ row_at s bs i c
+  left_row : (bs cs : List ℕ) (i : ℕ) (c : Marked Call) → i < length bs → call_row_at s (bs ++ cs) i c ≡ call_row_at s bs i c
   left_row bs cs i c h =
       row_is c.event _ _ _ _ _ _ _ _
       (ap (parent_at s.number s.parent) (greatest_same _ _ i (λ j k. test j (omega arith))))
@@ -127,7 +127,7 @@ module _ (s : RowSpot) where
       test : (j : ℕ) → j < length bs → is_below (bs ++ cs) i j ≡ is_below bs i j
       test j k = ap (λ g. nat_le i (j + g)) (get_or-append bs cs 0 j k)
 
-  right_row : (bs cs : List ℕ) → Inside bs → (i : ℕ) (c : Marked Call) → row_at s (bs ++ cs) (length bs + i) c ≡ row_at (further s (length bs)) cs i c
+  right_row : (bs cs : List ℕ) → Inside bs → (i : ℕ) (c : Marked Call) → call_row_at s (bs ++ cs) (length bs + i) c ≡ call_row_at (further s (length bs)) cs i c
   right_row bs cs h i c =
       row_is c.event _ _ _ _ _ _ _ _
       (greatest_moved _ _ s.number (length bs) i s.parent before above (length bs + i) refl)
@@ -146,16 +146,16 @@ module _ (s : RowSpot) where
   -- the rows of calls after others
   pub rows_append : (es fs : List (Marked Call)) → Inside (belows es) → rows_at s (es ++ fs) ≡ rows_at s es ++ rows_at (further s (length es)) fs
   rows_append es fs h =
-      ap (λ bs. each_from (row_at s bs) 0 (es ++ fs)) (belows_append es fs)
+      ap (λ bs. each_from (call_row_at s bs) 0 (es ++ fs)) (belows_append es fs)
       ∙ each_append _ 0 es fs (length (belows es)) (let x = length_belows es in omega (arith, x))
-      ∙ (λ i. each_same (row_at s (belows es ++ belows fs)) (row_at s (belows es)) 0 es
+      ∙ (λ i. each_same (call_row_at s (belows es ++ belows fs)) (call_row_at s (belows es)) 0 es
       (λ j c a b. left_row (belows es) (belows fs) j c (let x = length_belows es in omega (arith, x))) i
-      ++ each_moved (row_at s (belows es ++ belows fs)) (row_at (further s (length (belows es))) (belows fs))
+      ++ each_moved (call_row_at s (belows es ++ belows fs)) (call_row_at (further s (length (belows es))) (belows fs))
       (length (belows es)) (length (belows es)) 0 fs (omega arith)
       (λ j c a b. right_row (belows es) (belows fs) h j c) i)
       ∙ ap (λ n. rows_at s es ++ rows_at (further s n) fs) (length_belows es)
 
-  next_row : (b : ℕ) (bs : List ℕ) → b ≡ length bs → (i : ℕ) (c : Marked Call) → i < length bs → row_at s (b ∷ bs) (suc i) c ≡ row_at (below s) bs i c
+  next_row : (b : ℕ) (bs : List ℕ) → b ≡ length bs → (i : ℕ) (c : Marked Call) → i < length bs → call_row_at s (b ∷ bs) (suc i) c ≡ call_row_at (below s) bs i c
   next_row b bs e i c h =
       row_is c.event _ _ _ _ _ _ _ _
       (greatest_first (is_below (b ∷ bs) (suc i)) (is_below bs i) s.number i s.parent first next)
@@ -174,17 +174,17 @@ module _ (s : RowSpot) where
   rows_call c es e =
       λ i. row_is c (parent_at s.number s.parent None) s.parent (s.depth + 0) s.depth (s.number + (0 + c.below)) (s.number + length es) (s.mark + 0) s.mark
       refl (omega arith) (omega arith) (omega arith) i
-      ∷ each_next (row_at s (c.below ∷ belows es)) (row_at (below s) (belows es)) 0 es
+      ∷ each_next (call_row_at s (c.below ∷ belows es)) (call_row_at (below s) (belows es)) 0 es
       (λ j d a b. next_row c.below (belows es) (e ∙ sym (length_belows es)) j d (let x = length_belows es in omega (arith, x))) i
 
   -- the rows of calls whose marks are counted from an earlier entry
   pub rows_moved : (n : ℕ) (es : List (Marked Call)) → rows_at s (later_by n es) ≡ rows_at (later s n) es
   rows_moved n es =
-      ap (λ bs. each_from (row_at s bs) 0 (later_by n es)) (belows_later n es)
+      ap (λ bs. each_from (call_row_at s bs) 0 (later_by n es)) (belows_later n es)
       ∙ each_marked _ _ n 0 es (λ i m. row_is m.event _ _ _ _ _ _ _ _ refl refl refl (let x : s.mark + (n + m.mark) ≡ s.mark + n + m.mark = omega arith in x))
 
 -- the rows of a whole run
-pub rows_whole : (ms : List (Marked Call)) → rows_at first_spot ms ≡ numbered ms
+pub rows_whole : (ms : List (Marked Call)) → rows_at first_spot ms ≡ table_of ms
 rows_whole ms = each_same _ _ 0 ms (λ i m a b. row_is m.event _ _ _ _ _ _ _ _ (none (parent_of (belows ms) i)) (omega arith) (omega arith)
     (omega arith))
   where

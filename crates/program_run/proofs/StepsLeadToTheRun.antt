@@ -6,7 +6,7 @@ use Rattle.program_tables.specs.ProgramRows.{ProgramRows}
 use Rattle.program_meaning.specs.State.{State}
 use Rattle.program_meaning.specs.Acts.{limit_passed}
 use Rattle.program_meaning.specs.Tree.{Out, Tree, Ret}
-use Rattle.program_meaning.specs.Run.{End, Result, Call, Outcome, in_front, ends, joined, if_allowed, recorded, after_all, closed, without_frame, call_of}
+use Rattle.program_meaning.specs.Run.{End, Result, Call, Outcome, in_front, ends, joined, if_allowed, recorded, after_all, call_closed, without_frame, call_of}
 use Rattle.program_meaning.specs.Run.{way_out, result_in}
 use Rattle.program_meaning.specs.Run.{plain, run_of}
 use Rattle.program_meaning.proofs.MoreDepthSameResult.{Less, less_same, joined_less, run_less, plain_grows}
@@ -16,8 +16,9 @@ use Rattle.eval_machine.specs.Machines.{Moment}
 use Rattle.eval_tasks.specs.Stops.{Stop, AtLine, AtCall, AtEnd, NextStopIs}
 use Rattle.program_run.specs.Table.{side_of}
 use Rattle.program_run.specs.Tower.{OpenLevel, OpenLevels, Bottom, Push, called, followed, whole_from, Stage, Rests, Calls, Ends, stage_of, stage_after}
-use Rattle.program_run.specs.Tower.{left_at, Leads}
-use Rattle.program_run.specs.Tower.{size, numbers_of, logs_of, rows_of, recording_at, LevelsFit, Open, open_of, opens_of, View, TowerAt, Activation, CallBegins}
+use Rattle.program_run.specs.Tower.{left_inside, Leads}
+use Rattle.program_run.specs.Tower.{calls_so_far, numbers_of, logs_of, rows_of, recording_at, LevelsFit, Open, open_of, opens_of, View, TowerAt, Activation}
+use Rattle.program_run.specs.Tower.{CallBegins}
 use Rattle.program_run.specs.Tower.{IsOver}
 use Rattle.program_run.proofs.RowsInParts.{rows_whole}
 use Rattle.program_run.proofs.StopsLeadOn.{finish, IsLens, runs}
@@ -59,7 +60,7 @@ leads_from : {p : ProgramRows} {first : State} {a b : ℕ → Outcome} → Leads
 leads_from f h = record { leads = λ n r e. let x = h n r e in f.leads x.0 r x.1 }
 
 -- what is left at a stage, one level deeper
-left_finish : (p : ProgramRows) (n : ℕ) (stop : Stop) (σ : State) → Less (left_at p n (stage_of stop) σ) (finish (plain p) p (suc n) stop σ)
+left_finish : (p : ProgramRows) (n : ℕ) (stop : Stop) (σ : State) → Less (left_inside p n (stage_of stop) σ) (finish (plain p) p (suc n) stop σ)
 left_finish p n (AtLine line rest) σ = less_then (run_less (plain p) (plain_grows p) p n rest σ) (less_is (sym (front_nothing _)))
 left_finish p n (AtCall f args rest) σ =
     joined_less _ _ _ _ (less_same (call_of p (run_of p n) f args σ)) (λ out τ. run_less (plain p) (plain_grows p) p n (rest out) τ)
@@ -93,17 +94,17 @@ module _ {p : ProgramRows} {first : State} where
       }
     where
       go : (ls : OpenLevels) (w : List Touch) → m'.log ≡ v.moment.log ++ w → (n : ℕ) (r : Result State Call)
-          → whole_from p n (done ls w []) (left_at p n (stage_of stop) m'.state) ≡ Some r
+          → whole_from p n (done ls w []) (left_inside p n (stage_of stop) m'.state) ≡ Some r
           → (k : ℕ) × (whole_from p k ls (run_of p k t v.moment.state) ≡ Some r)
       go ls w grown n r e =
-          let e1 = sym (whole_done p n ls w [] (left_at p n (stage_of stop) m'.state)) ∙ e in
-          let a = whole_some p n ls (in_front w [] (left_at p n (stage_of stop) m'.state)) r e1 in
-          let b = front_some w [] (left_at p n (stage_of stop) m'.state) a.0 a.1 in
+          let e1 = sym (whole_done p n ls w [] (left_inside p n (stage_of stop) m'.state)) ∙ e in
+          let a = whole_some p n ls (in_front w [] (left_inside p n (stage_of stop) m'.state)) r e1 in
+          let b = front_some w [] (left_inside p n (stage_of stop) m'.state) a.0 a.1 in
           let y = runs (plain p) (plain_grows p) (plain_lens p) p s.moves t v.moment.state v.moment.state v.moment.log (suc n) stop m' b.0 refl s.is
           ((left_finish p n stop m'.state).gives b.0 b.1) in
           let same : y.log ≡ w = same_end v.moment.log _ _ (sym y.grown ∙ grown) in (
             more (suc y.depth) n,
-            (whole_more p (suc y.depth) n ls (in_front w [] (left_at p n (stage_of stop) m'.state)) (run_of p (more (suc y.depth) n) t v.moment.state)
+            (whole_more p (suc y.depth) n ls (in_front w [] (left_inside p n (stage_of stop) m'.state)) (run_of p (more (suc y.depth) n) t v.moment.state)
                 (record {
                   gives = λ q c.
                       (subst (λ j. Less (run_of p (suc y.depth) t v.moment.state) (run_of p j t v.moment.state)) (more_comm n (suc y.depth))
@@ -144,14 +145,14 @@ module _ {p : ProgramRows} {first : State} where
     where
       enters : (n : ℕ) → followed p n rest (call_of p (run_of p n) e.routine e.args v.moment.state)
           ≡ followed p n rest (called (record { routine = e.routine; args = e.args; entry = v.moment.state; cells = e.cells; rest = rest })
-          (in_front [] [] (left_at p n e.stage m'.state)))
-      enters n = ap (λ x. followed p n rest (recorded e.routine e.args v.moment.state (after_all (closed v.moment.state.depth) x)))
-          (b.is n ∙ ap (after_all (without_frame v.moment.state.top e.cells)) (sym (front_nothing (left_at p n e.stage m'.state))))
+          (in_front [] [] (left_inside p n e.stage m'.state)))
+      enters n = ap (λ x. followed p n rest (recorded e.routine e.args v.moment.state (after_all (call_closed v.moment.state.depth) x)))
+          (b.is n ∙ ap (after_all (without_frame v.moment.state.top e.cells)) (sym (front_nothing (left_inside p n e.stage m'.state))))
 
   -- a call ends
   pub climb_leave : (v : View) (m' : Moment) (outer : List Open) (o : Open) (depth : ℕ) (e : End) → TowerAt p first (Ends e) v
       → v.opens ≡ o ∷ outer
-      → m'.state ≡ closed depth (without_frame o.base o.cells v.moment.state) → m'.log ≡ v.moment.log → depth ≡ v.moment.state.depth - 1
+      → m'.state ≡ call_closed depth (without_frame o.base o.cells v.moment.state) → m'.log ≡ v.moment.log → depth ≡ v.moment.state.depth - 1
       → TowerAt p first (stage_after o.rest e) (record {
         opens = outer;
         moment = m';
@@ -170,12 +171,12 @@ module _ {p : ProgramRows} {first : State} where
           let own = y.own in
           let fits : LevelsFit (Push under l own) = subst LevelsFit y.is h.fits in
           let log : v.moment.log ≡ logs_of (Push under l own) = h.log ∙ ap logs_of y.is in
-          let count : v.moment.state.calls ≡ size (Push under l own) = h.calls ∙ ap size y.is in
+          let count : v.moment.state.calls ≡ calls_so_far (Push under l own) = h.calls ∙ ap calls_so_far y.is in
           let high : v.moment.state.depth ≡ length (numbers_of (Push under l own)) = h.depth ∙ ap (λ ls. length (numbers_of ls)) y.is in
           let at : depth ≡ l.entry.depth = let f = fits.1 in omega (arith, ed, high, f) in
           let one = y.one in
-          let σ : m'.state ≡ closed l.entry.depth (without_frame l.entry.top l.cells v.moment.state) = es
-          ∙ (λ i. closed (at i) (without_frame (one i).base (one i).cells v.moment.state)) in
+          let σ : m'.state ≡ call_closed l.entry.depth (without_frame l.entry.top l.cells v.moment.state) = es
+          ∙ (λ i. call_closed (at i) (without_frame (one i).base (one i).cells v.moment.state)) in
           let es' = ended l own e m'.state in
           record {
             levels = done under own.log es';
@@ -191,19 +192,19 @@ module _ {p : ProgramRows} {first : State} where
             leads = leads_from (subst (λ ls. Leads p first (λ n. whole_from p n ls (ends e v.moment.state))) y.is h.leads) (λ n r c. (
               n,
               ap (whole_from p n under) (call_ends p n l own e v.moment.state m'.state σ)
-                  ∙ sym (whole_done p n under own.log es' (left_at p n (stage_after l.rest e) m'.state))
-                  ∙ ap (λ (q : Open). whole_from p n (done under own.log es') (left_at p n (stage_after q.rest e) m'.state)) (sym one)
+                  ∙ sym (whole_done p n under own.log es' (left_inside p n (stage_after l.rest e) m'.state))
+                  ∙ ap (λ (q : Open). whole_from p n (done under own.log es') (left_inside p n (stage_after q.rest e) m'.state)) (sym one)
                   ∙ c,
             ));
           }
 
   -- no call is open
   pub over : (v : View) (stage : Stage) (e : End) → TowerAt p first stage v → v.opens ≡ []
-      → ((n : ℕ) → left_at p (suc n) stage v.moment.state ≡ ends e v.moment.state) → IsOver p first v.moment v.recording
+      → ((n : ℕ) → left_inside p (suc n) stage v.moment.state ≡ ends e v.moment.state) → IsOver p first v.moment v.recording
   over v stage e h eo is = go h.levels h.opens h.recording h.log h.leads
     where
       go : (ls : OpenLevels) → v.opens ≡ opens_of ls → v.recording ≡ recording_at (length p.routines) ls → v.moment.log ≡ logs_of ls
-          → Leads p first (λ n. whole_from p n ls (left_at p n stage v.moment.state)) → IsOver p first v.moment v.recording
+          → Leads p first (λ n. whole_from p n ls (left_inside p n stage v.moment.state)) → IsOver p first v.moment v.recording
       go (Push under l own) x rec log f = absurd (let e : [] ≡ open_of l ∷ opens_of under = sym eo ∙ x in let z : ⊥ = cc in z)
       go (Bottom own) x rec log f =
           let r : Result State Call = record { end = e; after = v.moment.state; log = own.log; events = own.events } in

@@ -5,14 +5,14 @@ use Rattle.cell_value.specs.declared.entries.Touch.{Touch}
 use Rattle.call_tree.specs.Recording.{Recording}
 use Rattle.program_tables.specs.ProgramRows.{ProgramRows}
 use Rattle.program_meaning.specs.State.{State, stack_end}
-use Rattle.program_meaning.specs.Run.{Outcome, items_of, run}
+use Rattle.program_meaning.specs.Run.{Outcome, input_items, run}
 use Rattle.program_meaning.specs.Numbering.{calls_of}
 use Rattle.program_run.specs.declared.history.History.{History}
-use Rattle.program_run.specs.Table.{numbered}
+use Rattle.program_run.specs.Table.{table_of}
 
 -- what is recorded of the calls of a run of a program, of which none is open
 abbrev pub recording_of : ProgramRows → Outcome → Recording
-recording_of p x = record { calls = numbered (calls_of x); open_calls = []; routines = length p.routines }
+recording_of p x = record { calls = table_of (calls_of x); open_calls = []; routines = length p.routines }
 
 -- the log of a run
 abbrev pub log_of : Outcome → List Touch
@@ -29,7 +29,7 @@ pub record IsOfRun (p : ProgramRows) (input : List ℕ) (budget : ℕ) (h : Hist
   pub calls : h.calls ≡ recording_of p (run p input budget)
   pub log : h.log ≡ log_of (run p input budget)
   pub output : h.output ≡ output_of (run p input budget)
-  pub items : h.input ≡ items_of input
+  pub items : h.input ≡ input_items input
   pub steps : h.budget ≡ budget
 
 -- the state before a run with these items of the input and a budget of steps

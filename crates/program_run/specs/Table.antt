@@ -4,7 +4,7 @@ use Rattle.call_tree.specs.declared.records.Side.{Side}
 use Rattle.call_tree.specs.declared.records.Call as table
 use Rattle.program_meaning.specs.State.{State}
 use Rattle.program_meaning.specs.Run.{Marked, Call}
-use Rattle.program_meaning.specs.Numbering.{belows, parent_of, depth_of, last_of, each_from}
+use Rattle.program_meaning.specs.Numbering.{belows, parent_of, depth_of, last_below, each_from}
 
 -- what is kept of a state beside a call, at a mark of the log
 abbrev pub side_of : (mark : ℕ) → State → Side
@@ -34,9 +34,9 @@ row_with c parent depth last mark = record {
 }
 
 -- call k, where these numbers of calls are below each call
-abbrev pub row_of : List ℕ → ℕ → Marked Call → table.Call
-row_of bs k c = row_with c.event (parent_of bs k) (depth_of bs k) (last_of bs k) c.mark
+abbrev pub table_row : List ℕ → ℕ → Marked Call → table.Call
+table_row bs k c = row_with c.event (parent_of bs k) (depth_of bs k) (last_below bs k) c.mark
 
 -- the table of these calls
-abbrev pub numbered : List (Marked Call) → List table.Call
-numbered cs = each_from (row_of (belows cs)) 0 cs
+abbrev pub table_of : List (Marked Call) → List table.Call
+table_of cs = each_from (table_row (belows cs)) 0 cs

@@ -35,7 +35,7 @@ use Rattle.program_meaning.specs.Run.{
   joined,
   recorded,
   after_all,
-  closed,
+  call_closed,
   without_frame,
   opened,
   in_frame,
@@ -44,7 +44,7 @@ use Rattle.program_meaning.specs.Run.{
   run_of,
   block,
 }
-use Rattle.program_meaning.specs.Numbering.{belows, parent_of, depth_of, last_of, each_from, Inside}
+use Rattle.program_meaning.specs.Numbering.{belows, parent_of, depth_of, last_below, each_from, Inside}
 use Rattle.eval_machine.specs.Machines.{Moment}
 use Rattle.eval_tasks.specs.Stops.{Stop, AtLine, AtCall, AtEnd}
 use Rattle.program_run.specs.Table.{side_of, row_with}
@@ -72,7 +72,7 @@ pub data OpenLevels : Type 0 where
 
 -- a call, from what its body gave
 abbrev pub called : OpenLevel → Outcome → Outcome
-called l x = recorded l.routine l.args l.entry (after_all (closed l.entry.depth)
+called l x = recorded l.routine l.args l.entry (after_all (call_closed l.entry.depth)
     (after_all (without_frame l.entry.top l.cells) x))
 
 -- a call, and what is done after it
@@ -102,10 +102,10 @@ stage_after rest (Ended out) = Rests (rest out)
 stage_after rest (Halted way) = Ends (Halted way)
 
 -- what is left inside of it
-abbrev pub left_at : ProgramRows → ℕ → Stage → State → Outcome
-left_at p n (Rests tree) σ = run_of p n tree σ
-left_at p n (Calls routine args rest) σ = followed p n rest (call_of p (run_of p n) routine args σ)
-left_at p n (Ends end) σ = ends end σ
+abbrev pub left_inside : ProgramRows → ℕ → Stage → State → Outcome
+left_inside p n (Rests tree) σ = run_of p n tree σ
+left_inside p n (Calls routine args rest) σ = followed p n rest (call_of p (run_of p n) routine args σ)
+left_inside p n (Ends end) σ = ends end σ
 
 -- what is left of a run, once known, gives the run
 pub record Leads (p : ProgramRows) (first : State) (rest : ℕ → Outcome) : Type 0 where
@@ -114,14 +114,14 @@ pub record Leads (p : ProgramRows) (first : State) (rest : ℕ → Outcome) : Ty
 -- ---- the table of calls
 
 -- the calls so far, the open ones too
-abbrev pub size : OpenLevels → ℕ
-size (Bottom own) = length own.events
-size (Push under l own) = size under + suc (length own.events)
+abbrev pub calls_so_far : OpenLevels → ℕ
+calls_so_far (Bottom own) = length own.events
+calls_so_far (Push under l own) = calls_so_far under + suc (length own.events)
 
 -- the numbers of the open calls, the innermost first
 abbrev pub numbers_of : OpenLevels → List ℕ
 numbers_of (Bottom own) = []
-numbers_of (Push under l own) = size under ∷ numbers_of under
+numbers_of (Push under l own) = calls_so_far under ∷ numbers_of under
 
 -- the log so far
 abbrev pub logs_of : OpenLevels → List Touch
@@ -139,7 +139,7 @@ pub record RowSpot : Type 0 where
 -- where a call would stand that is entered now
 abbrev pub spot_of : OpenLevels → RowSpot
 spot_of ls = record {
-  number = size ls;
+  number = calls_so_far ls;
   parent = slice_get (numbers_of ls) 0;
   depth = length (numbers_of ls);
   mark = length (logs_of ls);
@@ -153,17 +153,17 @@ abbrev pub parent_at : ℕ → Option ℕ → Option ℕ → Option ℕ
 parent_at number outer None = outer
 parent_at number outer (Some j) = Some (number + j)
 
-abbrev pub row_at : RowSpot → List ℕ → ℕ → Marked Call → table.Call
-row_at s bs k m = row_with m.event (parent_at s.number s.parent (parent_of bs k)) (s.depth + depth_of bs k)
-    (s.number + last_of bs k) (s.mark + m.mark)
+abbrev pub call_row_at : RowSpot → List ℕ → ℕ → Marked Call → table.Call
+call_row_at s bs k m = row_with m.event (parent_at s.number s.parent (parent_of bs k)) (s.depth + depth_of bs k)
+    (s.number + last_below bs k) (s.mark + m.mark)
 
 abbrev pub rows_at : RowSpot → List (Marked Call) → List table.Call
-rows_at s ms = each_from (row_at s (belows ms)) 0 ms
+rows_at s ms = each_from (call_row_at s (belows ms)) 0 ms
 
 -- the row of a call that was just entered
 abbrev pub opened_row : OpenLevels → OpenLevel → table.Call
 opened_row under l =
-    new_call (size under) (numbers_of under) l.routine l.args (side_of (length (logs_of under)) l.entry)
+    new_call (calls_so_far under) (numbers_of under) l.routine l.args (side_of (length (logs_of under)) l.entry)
 
 -- the first spot of a run
 abbrev pub first_spot : RowSpot
@@ -212,10 +212,10 @@ pub record TowerAt (p : ProgramRows) (first : State) (stage : Stage) (v : View) 
   pub fits : LevelsFit levels
   pub recording : v.recording ≡ recording_at (length p.routines) levels
   pub log : v.moment.log ≡ logs_of levels
-  pub calls : v.moment.state.calls ≡ size levels
+  pub calls : v.moment.state.calls ≡ calls_so_far levels
   pub depth : v.moment.state.depth ≡ length (numbers_of levels)
   pub items : v.moment.state.items ≡ first.items
-  pub leads : Leads p first (λ n. whole_from p n levels (left_at p n stage v.moment.state))
+  pub leads : Leads p first (λ n. whole_from p n levels (left_inside p n stage v.moment.state))
 
 -- an activation that begins (6.2.3): its routine, its link and arguments, the cells of its frame, and where its body is
 pub record Activation : Type 0 where
@@ -237,7 +237,7 @@ pub record CallBegins (p : ProgramRows) (e : Activation) (m m' : Moment) : Type 
     pub output : m'.state.output ≡ m.state.output
     pub items : m'.state.items ≡ m.state.items
     pub is : (n : ℕ) → in_frame (at_work p (run_of p n) e.routine) e.args (opened m.state) (routine_at p e.routine)
-        ≡ after_all (without_frame m.state.top e.cells) (left_at p n e.stage m'.state)
+        ≡ after_all (without_frame m.state.top e.cells) (left_inside p n e.stage m'.state)
 
 -- the run from a first state is over, and this is what it left
 pub record IsOver (p : ProgramRows) (first : State) (m : Moment) (kept : Recording) : Type 0 where

@@ -49,7 +49,7 @@ fn byte_at(input: &[u8], at: usize) -> Option<u8>
 /// The items of an input: its bytes, and 256 for a line end.
 pub(crate) fn items_of(alloc: Global, input: &[u8]) -> Result<Items, Memory>
     requires few { length input.now ≤ 4194304 }
-    ensures { IfOk result (λ items. items ≡ meaning.items_of input.now) }
+    ensures { IfOk result (λ items. items ≡ meaning.input_items input.now) }
 {
     let mut items = Items::new(alloc);
     'bytes: for at in 0..input.len() {

@@ -8,7 +8,7 @@ ghost use Rattle.program_meaning.specs.Run.{End, Ended, Halted};
 ghost use Rattle.program_meaning.specs.Tree.{Out};
 ghost use Rattle.eval_machine.specs.Machines.{AllowsCall, IsReady, machine_state, moment_of};
 ghost use Rattle.eval_tasks.specs.declared.body.Body as bodies;
-ghost use Rattle.eval_tasks.specs.Turns.{end_of};
+ghost use Rattle.program_meaning.specs.Replay.{end_of};
 ghost use Rattle.program_run.specs.Table.{side_of};
 ghost use Rattle.program_run.specs.Tower.{Calls as Calling, Ends, IsOver, stage_after};
 ghost use Rattle.program_run.specs.Runners.{At, AtRest, CallBegun, Chain, InnermostEnds, IsWell, invocation, opens_in};

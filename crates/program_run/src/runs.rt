@@ -68,7 +68,7 @@ pub fn run(alloc: Global, program: &Program, input: &[u8], budget: u32) -> Resul
     ensures calls { IfOk result (λ h. h.calls ≡ recording_of program.now (meaning.run program.now input.now budget)) }
     ensures log { IfOk result (λ h. h.log ≡ log_of (meaning.run program.now input.now budget)) }
     ensures output { IfOk result (λ h. h.output ≡ output_of (meaning.run program.now input.now budget)) }
-    ensures input { IfOk result (λ h. h.input ≡ meaning.items_of input.now) }
+    ensures input { IfOk result (λ h. h.input ≡ meaning.input_items input.now) }
     ensures budget { IfOk result (λ h. h.budget ≡ budget) }
 {
     let items = items_of(alloc, input)?;

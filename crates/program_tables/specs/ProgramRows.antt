@@ -16,8 +16,8 @@ pub record ProgramRows : Type 0 where
   pub texts : List (List ℕ)
 
 -- the tables of a program of which only the texts are known
-abbrev pub blank : ℕ → List (List ℕ) → ProgramRows
-blank rows texts = record { rows = replicate rows row.Nothing; routines = []; texts = texts }
+abbrev pub blank_tables : ℕ → List (List ℕ) → ProgramRows
+blank_tables rows texts = record { rows = replicate rows row.Nothing; routines = []; texts = texts }
 
 abbrev pub row_at : ProgramRows → ℕ → Row
 row_at p number = unwrap_or (slice_get p.rows number) row.Nothing
@@ -36,13 +36,13 @@ routine_at p number = slice_get p.routines number
 abbrev pub text_at : ProgramRows → ℕ → List ℕ
 text_at p token = unwrap_or (slice_get p.texts token) []
 
-abbrev pub name_in : ProgramRows → Option Routine → List ℕ
-name_in p None = []
-name_in p (Some r) = text_at p r.name
+abbrev pub name_of_routine : ProgramRows → Option Routine → List ℕ
+name_of_routine p None = []
+name_of_routine p (Some r) = text_at p r.name
 
 -- a routine's name, as its first heading spells it
 abbrev pub name_of : ProgramRows → ℕ → List ℕ
-name_of p routine = name_in p (routine_at p routine)
+name_of p routine = name_of_routine p (routine_at p routine)
 
 abbrev pub frame_in : Option Routine → ℕ
 frame_in None = 0

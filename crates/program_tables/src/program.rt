@@ -1,7 +1,8 @@
 //! A program.
 
 ghost use Rattle.std.specs.Prelude.{◌≡◌, ◌++◌, ◌∷◌, [], length, map, IfOk, OnOk};
-ghost use Rattle.program_tables.specs.ProgramRows.{blank, row_at, routine_at, text_at, type_at, name_of, frame_of};
+ghost use Rattle.program_tables.specs.ProgramRows.{blank_tables, row_at, routine_at, text_at, type_at, name_of};
+ghost use Rattle.program_tables.specs.ProgramRows.{frame_of};
 ghost use Rattle.program_tables.specs.ProgramRows.{size_of, offset_of, with_row, with_routine};
 
 use crate::rows::{NameRow, Row, TypeRow};
@@ -54,7 +55,7 @@ impl Program {
     /// A program of which nothing is known yet but the texts of its tokens: of a name as it is written, of a string
     /// its characters. It has as many rows as `rows`.
     pub fn new(alloc: Global, rows: usize, texts: Vec<Vec<u8>>) -> Result<Self, AllocError>
-        ensures { IfOk result (λ p. p ≡ blank rows (map (λ v. v.items) texts.items)) }
+        ensures { IfOk result (λ p. p ≡ blank_tables rows (map (λ v. v.items) texts.items)) }
     {
         let rows = vec![in alloc; Row::Nothing; rows]?;
         Ok(Program {

@@ -7,7 +7,7 @@ use Rattle.cell_names.specs.declared.places.Part.{Part}
 use Rattle.cell_names.specs.Places.{finds}
 use Rattle.cell_names.specs.Finding.{Finding, finding_of}
 use Rattle.cell_names.specs.Names.{Scene}
-use Rattle.question_text.specs.Cards.{Recorded, card, card_by, lines_of, scene_of}
+use Rattle.question_text.specs.Cards.{Recorded, card, card_by, card_lines, scene_of}
 use Rattle.question_text.specs.Frames.{opened_from}
 use Rattle.question_text.specs.Lines.{call_line}
 
@@ -22,10 +22,10 @@ no_card r k past = ap (card_by r k) (slice_get_past r.calls k past)
 pub card_is : (r : Recorded) (k : ℕ) (call : Call) (finding : Finding) (routines : List ℕ) (opened : ℕ → Option Part) (out mid new : List ℕ)
     → slice_get r.calls k ≡ Some call → finding ≡ finding_of r.program r.tokens r.log → routines ≡ routines_of r.calls
     → opened ≡ finds (opened_from r.calls (length r.calls) (Some k)) → mid ≡ out ++ call_line r.program k call
-    → new ≡ mid ++ lines_of r (scene_by r finding routines opened) call → new ≡ out ++ card r k
+    → new ≡ mid ++ card_lines r (scene_by r finding routines opened) call → new ≡ out ++ card r k
 unfolding card
 card_is r k call finding routines opened out mid new found f g h first others =
     let s : scene_by r finding routines opened ≡ scene_of r k = λ i. record { program = r.program; finding = f i; routines = g i; opened = h i } in
-    let rest = lines_of r (scene_by r finding routines opened) call in
+    let rest = card_lines r (scene_by r finding routines opened) call in
     others ∙ ap (λ m. m ++ rest) first ∙ append_assoc out (call_line r.program k call) rest
-    ∙ ap (λ t. out ++ (call_line r.program k call ++ lines_of r t call)) s ∙ ap (λ o. out ++ card_by r k o) (sym found)
+    ∙ ap (λ t. out ++ (call_line r.program k call ++ card_lines r t call)) s ∙ ap (λ o. out ++ card_by r k o) (sym found)

@@ -9,7 +9,7 @@ use Rattle.call_tree.specs.declared.records.Call.{Call}
 use Rattle.cell_names.specs.declared.places.Part.{Part}
 use Rattle.question_text.specs.declared.opened.OpenFrame.{OpenFrame}
 use Rattle.cell_names.specs.Places.{finds}
-use Rattle.question_text.specs.Frames.{call_of_frame, frame_of, framed_by, opened_by, opened_from}
+use Rattle.question_text.specs.Frames.{call_of_frame, frame_of_call, framed_by, opened_by, opened_from}
 use Rattle.cell_names.proofs.PartsInTurn.{finds_more}
 
 reverse-push : {X : Type 0} (xs : List X) (x : X) → reverse (xs ++ x ∷ []) ≡ x ∷ reverse xs
@@ -20,14 +20,14 @@ deeper most counter below = omega (arith, below)
 
 -- no frame is further out
 pub opened_none : (calls : List Call) (most counter : ℕ) (at : Option ℕ) (frames all : List Part) (o : Option OpenFrame) → counter < most
-    → o ≡ frame_of calls at → o ≡ None → opened_from calls (most - counter) at ++ reverse frames ≡ all → reverse frames ≡ all
+    → o ≡ frame_of_call calls at → o ≡ None → opened_from calls (most - counter) at ++ reverse frames ≡ all → reverse frames ≡ all
 opened_none calls most counter at frames all o below is none so_far =
     sym (ap (λ n. opened_from calls n at ++ reverse frames) (deeper most counter below)
     ∙ ap (λ f. opened_by f (opened_from calls (most - (counter + 1))) ++ reverse frames) (sym is ∙ none)) ∙ so_far
 
 -- one frame further out
 pub opened_on : (calls : List Call) (most counter : ℕ) (at : Option ℕ) (frames more all : List Part) (o : Option OpenFrame) (f : OpenFrame) → counter < most
-    → o ≡ frame_of calls at → o ≡ Some f → more ≡ frames ++ f.part ∷ [] → opened_from calls (most - counter) at ++ reverse frames ≡ all
+    → o ≡ frame_of_call calls at → o ≡ Some f → more ≡ frames ++ f.part ∷ [] → opened_from calls (most - counter) at ++ reverse frames ≡ all
     → opened_from calls (most - (counter + 1)) f.outer ++ reverse more ≡ all
 opened_on calls most counter at frames more all o f below is some pushed so_far =
     let outer = opened_from calls (most - (counter + 1)) f.outer in
@@ -75,7 +75,7 @@ inward_all frames places left none so_far =
 abbrev pub from_there : List Call → (looked : ℕ) → Option ℕ → ℕ → Option ℕ
 from_there calls looked at base = call_of_frame calls (length calls - looked) at base
 
-one_out : (calls : List Call) (looked : ℕ) (at : Option ℕ) (base : ℕ) (o : Option OpenFrame) → looked < length calls → o ≡ frame_of calls at
+one_out : (calls : List Call) (looked : ℕ) (at : Option ℕ) (base : ℕ) (o : Option OpenFrame) → looked < length calls → o ≡ frame_of_call calls at
     → from_there calls looked at base ≡ framed_by base o (λ outer. from_there calls (looked + 1) outer base)
 one_out calls looked at base o below is =
     ap (λ n. call_of_frame calls n at base) (deeper (length calls) looked below)
@@ -84,20 +84,21 @@ one_out calls looked at base o below is =
 pub at_first : (calls : List Call) (from : Option ℕ) (base : ℕ) → call_of_frame calls (length calls) from base ≡ from_there calls 0 from base
 at_first calls from base = ap (λ n. call_of_frame calls n from base) (let e : length calls ≡ length calls - 0 = omega arith in e)
 
-pub none_there : (calls : List Call) (looked : ℕ) (at : Option ℕ) (base : ℕ) (o : Option OpenFrame) → looked < length calls → o ≡ frame_of calls at → o ≡ None
+pub none_there : (calls : List Call) (looked : ℕ) (at : Option ℕ) (base : ℕ) (o : Option OpenFrame) → looked < length calls → o ≡ frame_of_call calls at
+    → o ≡ None
     → from_there calls looked at base ≡ None
 none_there calls looked at base o below is none =
     one_out calls looked at base o below is ∙ ap (λ f. framed_by base f (λ outer. from_there calls (looked + 1) outer base)) none
 
 pub it_is_here : (calls : List Call) (looked : ℕ) (at : Option ℕ) (base : ℕ) (o : Option OpenFrame) (f : OpenFrame) → looked < length calls
-    → o ≡ frame_of calls at → o ≡ Some f → f.part.place ≡ base → from_there calls looked at base ≡ Some f.part.number
+    → o ≡ frame_of_call calls at → o ≡ Some f → f.part.place ≡ base → from_there calls looked at base ≡ Some f.part.number
 it_is_here calls looked at base o f below is some h =
     one_out calls looked at base o below is ∙ ap (λ g. framed_by base g (λ outer. from_there calls (looked + 1) outer base)) some
     ∙ ap (λ b. if b then Some f.part.number else from_there calls (looked + 1) f.outer base)
     (let e : (f.part.place == base) ≡ true = grind (arith, nat_tests, h) in e)
 
 pub it_is_further : (calls : List Call) (looked : ℕ) (at : Option ℕ) (base : ℕ) (o : Option OpenFrame) (f : OpenFrame) → looked < length calls
-    → o ≡ frame_of calls at → o ≡ Some f → (f.part.place ≡ base → ⊥) → from_there calls looked at base ≡ from_there calls (looked + 1) f.outer base
+    → o ≡ frame_of_call calls at → o ≡ Some f → (f.part.place ≡ base → ⊥) → from_there calls looked at base ≡ from_there calls (looked + 1) f.outer base
 it_is_further calls looked at base o f below is some h =
     one_out calls looked at base o below is ∙ ap (λ g. framed_by base g (λ outer. from_there calls (looked + 1) outer base)) some
     ∙ ap (λ b. if b then Some f.part.number else from_there calls (looked + 1) f.outer base)

@@ -11,7 +11,7 @@ use Rattle.program_tables.specs.declared.program.Routine.{Routine}
 use Rattle.program_tables.specs.ProgramRows.{ProgramRows, routine_at, row_at}
 use Rattle.cell_names.specs.Places.{finds}
 use Rattle.cell_names.specs.Finding.{finding_of}
-use Rattle.cell_names.specs.Pieces.{quoted}
+use Rattle.cell_names.specs.Pieces.{in_quotation_marks}
 use Rattle.cell_names.specs.Values.{typed_text}
 use Rattle.cell_names.specs.Names.{Scene, result_of}
 use Rattle.question_text.specs.Lines.{inner_line, call_line}
@@ -26,18 +26,19 @@ end_text items to = if nat_lt items to then codes " end" else []
 -- the items that were looked at, this many from a place on; the end of the input counts as one
 abbrev pub looks_text : (items : List ℕ) → (place looked : ℕ) → List ℕ
 looks_text items place looked = if looked == 0 then [] else inner_line (codes "looks "
-    ++ quoted (slice_range items place (min (place + looked) (length items)))
+    ++ in_quotation_marks (slice_range items place (min (place + looked) (length items)))
     ++ end_text (length items) (place + looked))
 
 -- the items that were taken, this many from a place on
 abbrev pub takes_text : (items : List ℕ) → (place taken : ℕ) → List ℕ
 takes_text items place taken =
-    if taken == 0 then [] else inner_line (codes "takes " ++ quoted (slice_range items place (place + taken)))
+    if taken == 0 then []
+    else inner_line (codes "takes " ++ in_quotation_marks (slice_range items place (place + taken)))
 
 -- the bytes that were given
 abbrev pub gives_text : List ℕ → List ℕ
 gives_text [] = []
-gives_text (byte ∷ bytes) = inner_line (codes "gives " ++ quoted (byte ∷ bytes))
+gives_text (byte ∷ bytes) = inner_line (codes "gives " ++ in_quotation_marks (byte ∷ bytes))
 
 abbrev pub result_by : ProgramRows → (of' : Option ℕ) → Option Value → List ℕ
 result_by p (Some of') (Some v) = inner_line (codes "result " ++ typed_text p of' v)
@@ -88,8 +89,8 @@ scene_of r k = record {
 }
 
 -- the lines of a card after the first: parameters, reads, changes, looks, takes, gives, result, and the way out
-abbrev pub lines_of : Recorded → Scene → Call → List ℕ
-lines_of r s call =
+abbrev pub card_lines : Recorded → Scene → Call → List ℕ
+card_lines r s call =
     parameters_text s call.routine 1 (drop 1 call.args)
     ++ effect_text s r.items call (part_of r.log call)
     ++ result_text r.program call.routine call.result
@@ -97,7 +98,7 @@ lines_of r s call =
 
 abbrev pub card_by : Recorded → (k : ℕ) → Option Call → List ℕ
 card_by r k None = []
-card_by r k (Some call) = call_line r.program k call ++ lines_of r (scene_of r k) call
+card_by r k (Some call) = call_line r.program k call ++ card_lines r (scene_of r k) call
 
 -- the card of call k of a run
 unfoldable pub card : Recorded → (k : ℕ) → List ℕ

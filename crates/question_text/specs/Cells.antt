@@ -64,21 +64,21 @@ seen_text s r (Held v) = codes "reads " ++ cell_value_text s r v
 seen_text s r There = codes "finds " ++ cell_text s None r
 seen_text s r Absent = codes "misses " ++ cell_text s None r
 
-abbrev pub seen_by : Scene → Option Root → Seen → List ℕ
-seen_by s None seen = []
-seen_by s (Some r) seen = inner_line (seen_text s r seen)
+abbrev pub seen_at_root : Scene → Option Root → Seen → List ℕ
+seen_at_root s None seen = []
+seen_at_root s (Some r) seen = inner_line (seen_text s r seen)
 
 abbrev pub seen_line : Scene → (ℕ × Seen) → List ℕ
-seen_line s x = seen_by s (root_at s x.0) x.1
+seen_line s x = seen_at_root s (root_at s x.0) x.1
 
 -- what a call left a cell with
 abbrev pub change_text : Scene → Root → Change → List ℕ
 change_text s r (Set v) = codes "changes " ++ cell_value_text s r v
 change_text s r Gone = codes "changes " ++ cell_text s None r ++ codes " gone"
 
-abbrev pub change_by : Scene → Option Root → Change → List ℕ
-change_by s None change = []
-change_by s (Some r) change = inner_line (change_text s r change)
+abbrev pub change_at_root : Scene → Option Root → Change → List ℕ
+change_at_root s None change = []
+change_at_root s (Some r) change = inner_line (change_text s r change)
 
 abbrev pub change_line : Scene → (ℕ × Change) → List ℕ
-change_line s x = change_by s (root_at s x.0) x.1
+change_line s x = change_at_root s (root_at s x.0) x.1

@@ -10,9 +10,9 @@ frame_by call None = None
 frame_by call (Some row) = Some (record { part = part row.entry.top call; outer = row.parent })
 
 -- the frame of a call, and the call that made that one
-abbrev pub frame_of : List Call → (call : Option ℕ) → Option OpenFrame
-frame_of calls None = None
-frame_of calls (Some call) = frame_by call (slice_get calls call)
+abbrev pub frame_of_call : List Call → (call : Option ℕ) → Option OpenFrame
+frame_of_call calls None = None
+frame_of_call calls (Some call) = frame_by call (slice_get calls call)
 
 abbrev pub opened_by : Option OpenFrame → (go : Option ℕ → List Part) → List Part
 opened_by None go = []
@@ -21,7 +21,7 @@ opened_by (Some f) go = go f.outer ++ f.part ∷ []
 -- the calls that are open while one runs, from the outermost on, by where their frames begin; of at most this many
 abbrev pub opened_from : List Call → (most : ℕ) → Option ℕ → List Part
 opened_from calls zero call = []
-opened_from calls (suc most) call = opened_by (frame_of calls call) (opened_from calls most)
+opened_from calls (suc most) call = opened_by (frame_of_call calls call) (opened_from calls most)
 
 abbrev pub framed_by : (base : ℕ) → Option OpenFrame → (Option ℕ → Option ℕ) → Option ℕ
 framed_by base None go = None
@@ -31,4 +31,5 @@ framed_by base (Some f) go = if f.part.place == base then Some f.part.number els
 -- is how many are looked at.
 abbrev pub call_of_frame : List Call → (n : ℕ) → (from : Option ℕ) → (base : ℕ) → Option ℕ
 call_of_frame calls zero from base = None
-call_of_frame calls (suc n) from base = framed_by base (frame_of calls from) (λ outer. call_of_frame calls n outer base)
+call_of_frame calls (suc n) from base =
+    framed_by base (frame_of_call calls from) (λ outer. call_of_frame calls n outer base)

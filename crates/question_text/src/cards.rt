@@ -4,11 +4,11 @@ ghost use Rattle.std.specs.Prelude.{◌≡◌, ◌+◌, ◌++◌, ◌≤◌, OnE
 ghost use Rattle.std.specs.Prelude.{slice_range};
 ghost use Rattle.call_tree.specs.declared.records.Call.{Call as TableCall};
 ghost use Rattle.program_tables.specs.ProgramRows.{routine_at};
-ghost use Rattle.cell_names.specs.Finding.{finding_of, found_in};
+ghost use Rattle.cell_names.specs.Finding.{finding_of, finding_in};
 ghost use Rattle.cell_names.specs.Names.{scene_in};
-ghost use Rattle.cell_names.specs.Pieces.{quoted};
+ghost use Rattle.cell_names.specs.Pieces.{in_quotation_marks};
 ghost use Rattle.call_tree.specs.Told.{IsTold, part_of};
-ghost use Rattle.question_text.specs.Cards.{card, effect_text, end_text, gives_text, lines_of, looks_text};
+ghost use Rattle.question_text.specs.Cards.{card, effect_text, end_text, gives_text, card_lines, looks_text};
 ghost use Rattle.question_text.specs.Cards.{recorded_in, result_by, result_text, result_type, takes_text};
 ghost use Rattle.question_text.specs.Cells.{change_line, seen_line};
 
@@ -43,7 +43,8 @@ fn write_looked(out: &mut Bytes, items: &Items, place: u32, to: u64) -> Result<(
     requires in_input { place ≤ length items.now }
     requires in_order { place ≤ to }
     ensures { OnOk result (out.new ≡ out.old
-        ++ (quoted (slice_range items.now place (min to (length items.now))) ++ end_text (length items.now) to)) }
+        ++ (in_quotation_marks (slice_range items.now place (min to (length items.now)))
+        ++ end_text (length items.now) to)) }
 {
     if to <= u64::from(items.len()) {
         write_quoted_items(out, items, place, to as u32)
@@ -199,7 +200,7 @@ fn write_lines(
     call: &Call,
 ) -> Result<(), AllocError>
     requires { IsTold from.now.log.now from.now.items.now call.now }
-    ensures { OnOk result (out.new ≡ out.old ++ lines_of (recorded_in from.now) (scene_in scene.now) call.now) }
+    ensures { OnOk result (out.new ≡ out.old ++ card_lines (recorded_in from.now) (scene_in scene.now) call.now) }
 {
     write_parameters(out, scene, call.routine, &call.args)?;
     write_effect(alloc, out, from, scene, call)?;
@@ -214,7 +215,7 @@ fn write_card(
     from: &Recorded,
     number: u32,
 ) -> Result<(), AllocError>
-    requires names { found_in from.now.names.now ≡ finding_of from.now.program.now from.now.tokens from.now.log.now }
+    requires names { finding_in from.now.names.now ≡ finding_of from.now.program.now from.now.tokens from.now.log.now }
     requires told { (call : TableCall) → slice_get from.now.calls.now.calls number ≡ Some call
         → IsTold from.now.log.now from.now.items.now call }
     ensures { OnOk result (out.new ≡ out.old ++ card (recorded_in from.now) number) }
@@ -247,7 +248,7 @@ pub fn write_call(
     from: &Recorded,
     call: u32,
 ) -> Result<(), AllocError>
-    requires names { found_in from.now.names.now ≡ finding_of from.now.program.now from.now.tokens from.now.log.now }
+    requires names { finding_in from.now.names.now ≡ finding_of from.now.program.now from.now.tokens from.now.log.now }
     requires told { (c : TableCall) → slice_get from.now.calls.now.calls call ≡ Some c
         → IsTold from.now.log.now from.now.items.now c }
     ensures ok { OnOk result (out.new ≡ out.old ++ card (recorded_in from.now) call) }

@@ -2,9 +2,9 @@
 
 ghost use Rattle.std.specs.Prelude.{◌≡◌, ◌++◌, OnOk, None, drop, flat_map};
 ghost use Rattle.cell_names.specs.Names.{cell_text, scene_in, variable_name};
-ghost use Rattle.question_text.specs.Cells.{cell_value_text, change_by, change_line, change_text, held_text};
+ghost use Rattle.question_text.specs.Cells.{cell_value_text, change_at_root, change_line, change_text, held_text};
 ghost use Rattle.question_text.specs.Cells.{parameter_line, parameter_text, parameters_text, place_text, routine_text};
-ghost use Rattle.question_text.specs.Cells.{seen_by, seen_line, seen_text, tag_text};
+ghost use Rattle.question_text.specs.Cells.{seen_at_root, seen_line, seen_text, tag_text};
 
 use cell_names::{
     Held, Local, Root, Scene, local_at, root_at, write_long, write_root, write_typed, write_way,
@@ -180,7 +180,7 @@ fn write_seen_line(
     root: Option<Root>,
     seen: Seen,
 ) -> Result<(), AllocError>
-    ensures { OnOk result (out.new ≡ out.old ++ seen_by (scene_in scene.now) root seen) }
+    ensures { OnOk result (out.new ≡ out.old ++ seen_at_root (scene_in scene.now) root seen) }
 {
     match root {
         None => Ok(()),
@@ -235,7 +235,7 @@ fn write_change_line(
     root: Option<Root>,
     change: Change,
 ) -> Result<(), AllocError>
-    ensures { OnOk result (out.new ≡ out.old ++ change_by (scene_in scene.now) root change) }
+    ensures { OnOk result (out.new ≡ out.old ++ change_at_root (scene_in scene.now) root change) }
 {
     match root {
         None => Ok(()),

@@ -2,7 +2,7 @@
 
 ghost use Rattle.std.specs.Prelude.{◌≡◌, IfOk, Some, length, option_copied, reverse, slice_get};
 ghost use Rattle.cell_names.specs.Places.{finds};
-ghost use Rattle.question_text.specs.Frames.{frame_of, opened_from};
+ghost use Rattle.question_text.specs.Frames.{frame_of_call, opened_from};
 
 use call_tree::{Call, Calls};
 use cell_names::{Part, Places};
@@ -28,7 +28,7 @@ pub(crate) fn call_at(calls: &Calls, number: u32) -> Option<&Call>
 
 /// The frame of a call, if there is such a call.
 pub(crate) fn frame_of(calls: &Calls, call: Option<u32>) -> Option<OpenFrame>
-    ensures { result ≡ frame_of calls.now.calls call }
+    ensures { result ≡ frame_of_call calls.now.calls call }
 {
     match call {
         None => None,

@@ -72,8 +72,8 @@ file_without None file = file
 file_without (Some w) file = None
 
 -- the text file that an actual names, which is a name alone and has no width
-abbrev pub file_in : Known → ℕ → Actual → Option TextFile
-file_in k frame a = file_without a.width (named_file k frame (name_alone a.expression))
+abbrev pub actual_file : Known → ℕ → Actual → Option TextFile
+actual_file k frame a = file_without a.width (named_file k frame (name_alone a.expression))
 
 -- ---- lists of actuals
 

@@ -49,8 +49,8 @@ is_made k v = is_unknown (shape_of k v.of) || (is_access v.location && is_some (
 
 -- rule 32: what new takes is no access of a pointer type, at its first token; or the new variable would have more than
 -- 65,536 cells
-unfoldable pub made : ℕ → Typed → Step ℕ
-made first v = do
+unfoldable pub new_variable : ℕ → Typed → Step ℕ
+new_variable first v = do
   fine ← look (λ k. is_made k v)
   _ ← late 32 first fine
   domain ← look (λ k. domain_of k v)
@@ -61,7 +61,7 @@ made first v = do
 unfoldable pub new_one : ℕ → Call → Actual → Step ℕ
 new_one frame c a = do
   v ← plain_actual frame a
-  domain ← made (first_of_expression a.expression) v
+  domain ← new_variable (first_of_expression a.expression) v
   stated c.name (statement.New c.line v.row domain)
 
 -- rule 32: what dispose takes is of no pointer type, at its first token
@@ -83,17 +83,17 @@ pointer_some making frame c a true = pointer_one making frame c a.first
 pointer_some making frame c a false = wrong_number frame c.name a
 
 -- a call of new if it makes a variable, and else of dispose
-abbrev pub pointer : Bool → ℕ → Call → Option (Box Actuals) → Step ℕ
-pointer making frame c None = without_actuals c.name
-pointer making frame c (Some a) = pointer_some making frame c a.value (nat_eq (length a.value.others.items) 0)
+abbrev pub pointer_call : Bool → ℕ → Call → Option (Box Actuals) → Step ℕ
+pointer_call making frame c None = without_actuals c.name
+pointer_call making frame c (Some a) = pointer_some making frame c a.value (nat_eq (length a.value.others.items) 0)
 
 -- ---- packed arrays
 
 -- the component type of an array type that is packed or not
-abbrev pub component_in : Bool → Option TypeRow → Option ℕ
-component_in wanted (Some (kind.Array packed index component cells)) =
+abbrev pub component_type_in : Bool → Option TypeRow → Option ℕ
+component_type_in wanted (Some (kind.Array packed index component cells)) =
     if (if packed then wanted else not wanted) then Some component else None
-component_in wanted r = None
+component_type_in wanted r = None
 
 abbrev pub index_in : Option TypeRow → Option ℕ
 index_in (Some (kind.Array packed index component cells)) = Some index
@@ -102,7 +102,7 @@ index_in r = None
 -- an access of an array type that is packed or not; what is of unknown type breaks no further rule
 abbrev pub is_array : Known → Bool → Typed → Bool
 is_array k wanted v = is_unknown (shape_of k v.of)
-    || (is_access v.location && is_some (component_in wanted (type_row k v.of)))
+    || (is_access v.location && is_some (component_type_in wanted (type_row k v.of)))
 
 abbrev pub same_or : Known → Option ℕ → Option ℕ → Bool
 same_or k (Some s) (Some t) = is_same_type k s t
@@ -111,7 +111,7 @@ same_or k s t = true
 -- the packed array has the component type of the unpacked one, as far as both are known
 abbrev pub is_like : Known → Typed → Typed → Bool
 is_like k unpacked packed =
-    same_or k (component_in false (type_row k unpacked.of)) (component_in true (type_row k packed.of))
+    same_or k (component_type_in false (type_row k unpacked.of)) (component_type_in true (type_row k packed.of))
 
 abbrev pub assignable_or : Known → Option ℕ → ExpressionType → Bool
 assignable_or k (Some index) value = is_assignable k index value
@@ -122,8 +122,8 @@ is_index_of k unpacked i = assignable_or k (index_in (type_row k unpacked.of)) i
 
 -- Rule 32, each at its first token: the unpacked array is none; the index is not assignment-compatible with its index
 -- type; the packed array is none, or has another component type.
-unfoldable pub moved : Operand → Operand → Operand → Step (Unit {0})
-moved u i p = do
+unfoldable pub move_checked : Operand → Operand → Operand → Step (Unit {0})
+move_checked u i p = do
   array ← look (λ k. is_array k false u.value)
   _ ← late 32 u.first array
   index ← look (λ k. is_index_of k u.value i.value)
@@ -132,8 +132,8 @@ moved u i p = do
   late 32 p.first like
 
 -- an actual with its first token
-unfoldable pub operand : ℕ → Actual → Step Operand
-operand frame a = do
+unfoldable pub operand_actual : ℕ → Actual → Step Operand
+operand_actual frame a = do
   v ← plain_actual frame a
   give (record { first = first_of_expression a.expression; value = v })
 
@@ -142,18 +142,18 @@ pack_row packing line u i p = statement.Pack packing line u.value.row i.value.ro
 
 unfoldable pub pack_three : ℕ → Call → Actual → Actual → Actual → Step ℕ
 pack_three frame c a b d = do
-  u ← operand frame a
-  i ← operand frame b
-  p ← operand frame d
-  _ ← moved u i p
+  u ← operand_actual frame a
+  i ← operand_actual frame b
+  p ← operand_actual frame d
+  _ ← move_checked u i p
   stated c.name (pack_row true c.line u i p)
 
 unfoldable pub unpack_three : ℕ → Call → Actual → Actual → Actual → Step ℕ
 unpack_three frame c a b d = do
-  p ← operand frame a
-  u ← operand frame b
-  i ← operand frame d
-  _ ← moved u i p
+  p ← operand_actual frame a
+  u ← operand_actual frame b
+  i ← operand_actual frame d
+  _ ← move_checked u i p
   stated c.name (pack_row false c.line u i p)
 
 abbrev pub three : Bool → ℕ → Call → Actual → Actual → Actual → Step ℕ
@@ -166,6 +166,6 @@ pack_some packing frame c a (b ∷ d ∷ []) = three packing frame c a.first b.a
 pack_some packing frame c a others = wrong_number frame c.name a
 
 -- a call of pack, and else of unpack
-abbrev pub pack : Bool → ℕ → Call → Option (Box Actuals) → Step ℕ
-pack packing frame c None = without_actuals c.name
-pack packing frame c (Some a) = pack_some packing frame c a.value a.value.others.items
+abbrev pub pack_call : Bool → ℕ → Call → Option (Box Actuals) → Step ℕ
+pack_call packing frame c None = without_actuals c.name
+pack_call packing frame c (Some a) = pack_some packing frame c a.value a.value.others.items

@@ -31,7 +31,7 @@ use Rattle.statement_rules.specs.Sequences.{stated}
 use Rattle.required_checker.specs.declared.actuals.Call.{Call}
 use Rattle.required_checker.specs.declared.transfers.Transfer.{Transfer}
 use Rattle.required_checker.specs.declared.transfers.Transfer.TheVariants.{Reading, Writing}
-use Rattle.required_checker.specs.Actuals.{add_item, file_in, link, plain_actual, wrong_number}
+use Rattle.required_checker.specs.Actuals.{add_item, actual_file, link, plain_actual, wrong_number}
 
 -- ---- what is read
 
@@ -75,16 +75,16 @@ abbrev pub written_type : ExpressionType → ℕ → ℕ
 written_type (expression.Of t) number = t
 written_type t number = number
 
-abbrev pub written : Typed → Option ℕ → ItemRow
-written v None = item.Written v.row (written_type v.of v.row) 0
-written v (Some width) = item.WrittenWide v.row (written_type v.of v.row) width 0
+abbrev pub written_item : Typed → Option ℕ → ItemRow
+written_item v None = item.Written v.row (written_type v.of v.row) 0
+written_item v (Some width) = item.WrittenWide v.row (written_type v.of v.row) width 0
 
 -- an actual and its width; where the last item of the list stands is given
 abbrev pub put_written : ℕ → ℕ → Typed → ℕ → Option Width → Step ℕ
-put_written frame last v slot None = add_item last slot (written v None)
+put_written frame last v slot None = add_item last slot (written_item v None)
 put_written frame last v slot (Some w) = do
   n ← width frame w
-  add_item last slot (written v (Some n))
+  add_item last slot (written_item v (Some n))
 
 -- rule 32: an actual of write is no integer, char, Boolean or string, at its first token
 unfoldable pub write_item : ℕ → ℕ → ℕ → Actual → Step ℕ
@@ -145,7 +145,7 @@ is_enough ends_line (Some file) a = ends_line || nat_lt 0 (length a.others.items
 -- a call with actuals of read, write, or of readln and writeln, which end a line
 unfoldable pub transfer_with : Transfer → Bool → ℕ → Call → Actuals → Step ℕ
 transfer_with t ends_line frame c a = do
-  file ← look (λ k. file_in k frame a.first)
+  file ← look (λ k. actual_file k frame a.first)
   _ ← late 26 c.name (is_enough ends_line file a)
   list ← items t frame c.name a file
   stated c.name (transfer_row t ends_line c.line list)
@@ -156,9 +156,9 @@ transfer_alone t ends_line c = do
   _ ← late 26 c.name ends_line
   stated c.name (transfer_row t ends_line c.line c.name)
 
-abbrev pub transferred : Transfer → Bool → ℕ → Call → Option (Box Actuals) → Step ℕ
-transferred t ends_line frame c None = transfer_alone t ends_line c
-transferred t ends_line frame c (Some a) = transfer_with t ends_line frame c a.value
+abbrev pub transfer_call : Transfer → Bool → ℕ → Call → Option (Box Actuals) → Step ℕ
+transfer_call t ends_line frame c None = transfer_alone t ends_line c
+transfer_call t ends_line frame c (Some a) = transfer_with t ends_line frame c a.value
 
 -- ---- page
 
@@ -176,7 +176,7 @@ paged frame a (Some file) = late 32 (first_of_expression a.expression) (is_file_
 
 unfoldable pub page_one : ℕ → Call → Actual → Step ℕ
 page_one frame c a = do
-  file ← look (λ k. file_in k frame a)
+  file ← look (λ k. actual_file k frame a)
   _ ← paged frame a file
   stated c.name (statement.Page c.line)
 

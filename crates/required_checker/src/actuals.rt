@@ -3,7 +3,7 @@
 ghost use Rattle.std.specs.Prelude.{◌≡◌};
 ghost use Rattle.check_steps.specs.Steps.{Does, each};
 ghost use Rattle.expression_checker.specs.Actuals.{file_of};
-ghost use Rattle.required_checker.specs.Actuals.{add_item, file_in, file_without, going_on, link, named_file};
+ghost use Rattle.required_checker.specs.Actuals.{add_item, actual_file, file_without, going_on, link, named_file};
 ghost use Rattle.required_checker.specs.Actuals.{next_plain, no_width, own_parts, plain_actual, surplus_width};
 ghost use Rattle.required_checker.specs.Actuals.{without_actuals, wrong_number};
 
@@ -114,8 +114,8 @@ fn file_without(width: &Option<Width>, file: Option<TextFile>) -> Option<TextFil
 }
 
 /// The text file that an actual parameter without width names.
-pub(crate) fn file_in(tables: &Tables, frame: u32, a: &Actual) -> Option<TextFile>
-    ensures { result ≡ file_in tables.now frame a.now }
+pub(crate) fn actual_file(tables: &Tables, frame: u32, a: &Actual) -> Option<TextFile>
+    ensures { result ≡ actual_file tables.now frame a.now }
 {
     let file = named_file(tables, frame, name_alone(&a.expression));
     file_without(&a.width, file)

@@ -2,10 +2,12 @@
 
 ghost use Rattle.std.specs.Prelude.{◌≡◌};
 ghost use Rattle.check_steps.specs.Steps.{Does};
-ghost use Rattle.required_checker.specs.Moves.{assignable_or, component_in, dispose_one, domain_in, domain_of};
-ghost use Rattle.required_checker.specs.Moves.{domain_or, index_in, is_array, is_index_of, is_like, is_made, moved};
-ghost use Rattle.required_checker.specs.Moves.{is_pointer, made, new_one, operand, pack, pack_row, pack_some};
-ghost use Rattle.required_checker.specs.Moves.{pack_three, pointer, pointer_one, pointer_some, same_or, three};
+ghost use Rattle.required_checker.specs.Moves.{assignable_or, component_type_in, dispose_one, domain_in, domain_of};
+ghost use Rattle.required_checker.specs.Moves.{domain_or, index_in, is_array, is_index_of, is_like, is_made};
+ghost use Rattle.required_checker.specs.Moves.{move_checked};
+ghost use Rattle.required_checker.specs.Moves.{is_pointer, new_variable, new_one, operand_actual, pack_call, pack_row};
+ghost use Rattle.required_checker.specs.Moves.{pack_some};
+ghost use Rattle.required_checker.specs.Moves.{pack_three, pointer_call, pointer_one, pointer_some, same_or, three};
 ghost use Rattle.required_checker.specs.Moves.{unpack_three};
 
 use crate::actuals::{Call, check_plain, check_without_actuals, check_wrong_number};
@@ -66,9 +68,9 @@ fn is_made(tables: &Tables, value: Typed) -> bool
         || (is_access(value.location) && domain_in(type_row(tables, value.of)).is_some())
 }
 
-#[tactic(auto, using(check_steps::proofs::Runs::steps), unfolding(crate::specs::Moves::made))]
+#[tactic(auto, using(check_steps::proofs::Runs::steps), unfolding(crate::specs::Moves::new_variable))]
 fn check_made(work: &mut Work, first: u32, value: Typed) -> u32
-    ensures { Does (made first value) result work.old work.new }
+    ensures { Does (new_variable first value) result work.old work.new }
 {
     let fine = is_made(&work.tables, value);
     work.late(32, first, fine);
@@ -143,7 +145,7 @@ pub(crate) fn check_pointer(
     making: bool,
     call: Call,
 ) -> u32
-    ensures { Does (pointer making frame call actuals.now) result work.old work.new }
+    ensures { Does (pointer_call making frame call actuals.now) result work.old work.new }
 {
     match actuals {
         None => check_without_actuals(work, call.name),
@@ -151,8 +153,8 @@ pub(crate) fn check_pointer(
     }
 }
 
-fn component_in(wanted: bool, row: Option<TypeRow>) -> Option<u32>
-    ensures { result ≡ component_in wanted row }
+fn component_type_in(wanted: bool, row: Option<TypeRow>) -> Option<u32>
+    ensures { result ≡ component_type_in wanted row }
 {
     match row {
         Some(
@@ -185,7 +187,7 @@ fn is_array(tables: &Tables, wanted: bool, value: Typed) -> bool
     ensures { result ≡ is_array tables.now wanted value }
 {
     is_unknown(shape_of(tables, value.of))
-        || (is_access(value.location) && component_in(wanted, type_row(tables, value.of)).is_some())
+        || (is_access(value.location) && component_type_in(wanted, type_row(tables, value.of)).is_some())
 }
 
 fn same_or(tables: &Tables, left: Option<u32>, right: Option<u32>) -> bool
@@ -200,11 +202,11 @@ fn same_or(tables: &Tables, left: Option<u32>, right: Option<u32>) -> bool
 fn is_like(tables: &Tables, unpacked: Typed, packed: Typed) -> bool
     ensures { result ≡ is_like tables.now unpacked packed }
 {
-    let component = component_in(false, type_row(tables, unpacked.of));
+    let component = component_type_in(false, type_row(tables, unpacked.of));
     same_or(
         tables,
         component,
-        component_in(true, type_row(tables, packed.of)),
+        component_type_in(true, type_row(tables, packed.of)),
     )
 }
 
@@ -223,9 +225,9 @@ fn is_index_of(tables: &Tables, unpacked: Typed, index: Typed) -> bool
     assignable_or(tables, index_in(type_row(tables, unpacked.of)), index.of)
 }
 
-#[tactic(auto, using(check_steps::proofs::Runs::steps), unfolding(crate::specs::Moves::moved))]
+#[tactic(auto, using(check_steps::proofs::Runs::steps), unfolding(crate::specs::Moves::move_checked))]
 fn check_moved(work: &mut Work, unpacked: Operand, index: Operand, packed: Operand)
-    ensures { Does (moved unpacked index packed) tt work.old work.new }
+    ensures { Does (move_checked unpacked index packed) tt work.old work.new }
 {
     let array = is_array(&work.tables, false, unpacked.value);
     work.late(32, unpacked.first, array);
@@ -236,9 +238,9 @@ fn check_moved(work: &mut Work, unpacked: Operand, index: Operand, packed: Opera
     work.late(32, packed.first, like);
 }
 
-#[tactic(auto, using(check_steps::proofs::Runs::steps), unfolding(crate::specs::Moves::operand))]
+#[tactic(auto, using(check_steps::proofs::Runs::steps), unfolding(crate::specs::Moves::operand_actual))]
 fn check_operand(work: &mut Work, a: &Actual, frame: u32) -> Operand
-    ensures { Does (operand frame a.now) result work.old work.new }
+    ensures { Does (operand_actual frame a.now) result work.old work.new }
 {
     let value = check_plain(work, a, frame);
     Operand {
@@ -347,7 +349,7 @@ pub(crate) fn check_pack_call(
     packing: bool,
     call: Call,
 ) -> u32
-    ensures { Does (pack packing frame call actuals.now) result work.old work.new }
+    ensures { Does (pack_call packing frame call actuals.now) result work.old work.new }
 {
     match actuals {
         None => check_without_actuals(work, call.name),

@@ -5,10 +5,10 @@ ghost use Rattle.check_steps.specs.Steps.{Does, each};
 ghost use Rattle.required_checker.specs.Transfers.{first_comma, first_item, is_access, is_enough, is_file_of};
 ghost use Rattle.required_checker.specs.Transfers.{is_readable, is_writable, item_by, items, list_of, next_item, page};
 ghost use Rattle.required_checker.specs.Transfers.{page_one, page_other, page_some, paged, put_written, read_item};
-ghost use Rattle.required_checker.specs.Transfers.{transfer_alone, transfer_row, transferred, transfer_with, width};
-ghost use Rattle.required_checker.specs.Transfers.{write_item, written, written_type};
+ghost use Rattle.required_checker.specs.Transfers.{transfer_alone, transfer_row, transfer_call, transfer_with, width};
+ghost use Rattle.required_checker.specs.Transfers.{write_item, written_item, written_type};
 
-use crate::actuals::{Call, check_plain, check_wrong_number, file_in, put_item, put_link};
+use crate::actuals::{Call, check_plain, check_wrong_number, actual_file, put_item, put_link};
 use check_steps::{Tables, Work};
 use expression_checker::actuals::name_alone;
 use expression_checker::expressions::check_expression;
@@ -90,8 +90,8 @@ fn written_type(of: ExpressionType, number: u32) -> u32
     }
 }
 
-fn written(value: Typed, width: Option<u32>) -> ItemRow
-    ensures { result ≡ written value width }
+fn written_item(value: Typed, width: Option<u32>) -> ItemRow
+    ensures { result ≡ written_item value width }
 {
     let of = written_type(value.of, value.row);
     match width {
@@ -121,10 +121,10 @@ fn put_written(
     ensures { Does (put_written frame last value slot w.now) result work.old work.new }
 {
     match w {
-        None => put_item(work, last, slot, written(value, None)),
+        None => put_item(work, last, slot, written_item(value, None)),
         Some(w) => {
             let width = check_width(work, w, frame);
-            put_item(work, last, slot, written(value, Some(width)))
+            put_item(work, last, slot, written_item(value, Some(width)))
         }
     }
 }
@@ -288,7 +288,7 @@ fn check_transfer_with(
 ) -> u32
     ensures { Does (transfer_with transfer ends_line frame call a.now) result work.old work.new }
 {
-    let file = file_in(&work.tables, frame, &a.first);
+    let file = actual_file(&work.tables, frame, &a.first);
     work.late(26, call.name, is_enough(ends_line, file, a));
     let list = check_items(work, a, frame, transfer, call.name, file);
     put_statement(
@@ -319,7 +319,7 @@ pub(crate) fn check_transfer(
     ends_line: bool,
     call: Call,
 ) -> u32
-    ensures { Does (transferred transfer ends_line frame call actuals.now) result work.old work.new }
+    ensures { Does (transfer_call transfer ends_line frame call actuals.now) result work.old work.new }
 {
     match actuals {
         None => check_transfer_alone(work, transfer, ends_line, call),
@@ -353,7 +353,7 @@ fn check_paged(work: &mut Work, a: &Actual, frame: u32, file: Option<TextFile>)
 fn check_page_one(work: &mut Work, a: &Actual, frame: u32, call: Call) -> u32
     ensures { Does (page_one frame call a.now) result work.old work.new }
 {
-    let file = file_in(&work.tables, frame, a);
+    let file = actual_file(&work.tables, frame, a);
     check_paged(work, a, frame, file);
     put_statement(work, call.name, StatementRow::Page { line: call.line })
 }

@@ -17,9 +17,10 @@ use Rattle.cell_value.specs.declared.entries.Change.TheVariants.{Set}
 use Rattle.cell_value.specs.declared.ways_out.Kind.TheVariants as kind
 use Rattle.cell_value.specs.declared.ways_out.Which.TheVariants.{Calls, Depth, Stack, Heap}
 use Rattle.cell_value.specs.Effects.{IsCountable, is_shared, made_by, made_of, taken_by, taken_of, byte_by, given_of}
-use Rattle.program_meaning.specs.State.{State, IsSound, stack_end, heap_end, most_calls, most_depth, is_in_reach}
+use Rattle.cell_value.specs.Effects.{heap_end}
+use Rattle.program_meaning.specs.State.{State, IsSound, stack_end, most_calls, most_depth, is_in_reach}
 use Rattle.program_meaning.specs.Acts.{Fault, OutOfSteps, Act, Spend, ReadCell, HasCell, WriteCell, TakeIf, GiveByte, ActResult, Went, Stops, perform, spent}
-use Rattle.program_meaning.specs.Acts.{with_steps, on_cell, read_as, put, put_asked, after_touches, take_item, take_looked, look, limit_passed}
+use Rattle.program_meaning.specs.Acts.{with_steps, on_cell, read_as, put_value, put_asked, after_touches, take_item, take_looked, look_item, limit_passed}
 use Rattle.program_meaning.specs.Acts.{Limited, MakeBlock, DropBlock, make_block, made_block, drop_block, dropped_block}
 use Rattle.program_meaning.specs.Blocks.{filled, cleared, block_cells}
 use Rattle.program_meaning.proofs.OutcomesCompose.{none_some}
@@ -230,7 +231,7 @@ write_leaves σ addr k v h s there = record {
 
 -- a write to an address in reach
 write_done : (σ : State) (addr k : ℕ) (v : Value) → IsSound σ → is_in_reach σ addr ≡ true → k ≤ σ.steps → DoneLeaves σ
-    (if nat_lt addr stack_end then put addr v (record σ { steps = k }) else put_asked (is_some (get σ.cells addr)) addr v (record σ { steps = k }))
+    (if nat_lt addr stack_end then put_value addr v (record σ { steps = k }) else put_asked (is_some (get σ.cells addr)) addr v (record σ { steps = k }))
 write_done σ addr k v s r h = by (nat_lt addr stack_end) refl
   where
     in_stack : addr < stack_end → (addr < σ.top) ⊎ ((stack_end ≤ addr) × (addr < heap_end)) → IsSome (get σ.cells addr)
@@ -240,10 +241,10 @@ write_done σ addr k v s r h = by (nat_lt addr stack_end) refl
     asked : (there : Bool) → is_some (get σ.cells addr) ≡ there → DoneLeaves σ (put_asked there addr v (record σ { steps = k }))
     asked false e = asked_shown σ addr k false h s e
     asked true e = touches_leave σ (record σ { steps = k }) (touch.Has addr true ∷ []) _ (asked_shown σ addr k true h s e)
-        (stepped (record σ { steps = k }) 1 (put addr v) (sound_steps k s) (λ l m. write_leaves (record σ { steps = k }) addr l v m (sound_steps k s) e))
+        (stepped (record σ { steps = k }) 1 (put_value addr v) (sound_steps k s) (λ l m. write_leaves (record σ { steps = k }) addr l v m (sound_steps k s) e))
 
     by : (b : Bool) → nat_lt addr stack_end ≡ b
-        → DoneLeaves σ (if b then put addr v (record σ { steps = k }) else put_asked (is_some (get σ.cells addr)) addr v (record σ { steps = k }))
+        → DoneLeaves σ (if b then put_value addr v (record σ { steps = k }) else put_asked (is_some (get σ.cells addr)) addr v (record σ { steps = k }))
     by true e = write_leaves σ addr k v h s (in_stack (grind (arith, nat_tests)) (reaches σ addr r))
     by false e = asked (is_some (get σ.cells addr)) refl
 
@@ -421,8 +422,8 @@ act_leaves (ReadCell addr) σ s = celled σ addr (λ τ. read_as addr (get σ.ce
 act_leaves (HasCell addr) σ s = celled σ addr (λ τ. Went (is_some (get σ.cells addr)) (touch.Has addr (is_some (get σ.cells addr)) ∷ []) τ) s
     (λ r k h. asked_shown σ addr k (is_some (get σ.cells addr)) h s refl)
 act_leaves (WriteCell addr v) σ s = celled σ addr
-    (λ τ. if nat_lt addr stack_end then put addr v τ else put_asked (is_some (get τ.cells addr)) addr v τ) s (λ r k h. write_done σ addr k v s r h)
-act_leaves (TakeIf wanted) σ s = stepped σ 1 (look wanted) s (λ k h. touches_leave σ (record σ { steps = k }) (touch.Look σ.place ∷ [])
+    (λ τ. if nat_lt addr stack_end then put_value addr v τ else put_asked (is_some (get τ.cells addr)) addr v τ) s (λ r k h. write_done σ addr k v s r h)
+act_leaves (TakeIf wanted) σ s = stepped σ 1 (look_item wanted) s (λ k h. touches_leave σ (record σ { steps = k }) (touch.Look σ.place ∷ [])
     (take_looked wanted (slice_get σ.items σ.place) (record σ { steps = k })) (look_shown σ k h s)
     (took wanted (slice_get σ.items σ.place) (record σ { steps = k }) (sound_steps k s) refl))
 act_leaves (GiveByte byte) σ s = stepped σ 1 (λ τ. Went tt (touch.Give byte ∷ []) (record τ { output = τ.output ++ byte ∷ [] })) s

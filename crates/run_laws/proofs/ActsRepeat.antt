@@ -15,9 +15,11 @@ use Rattle.cell_value.specs.declared.entries.Change.TheVariants.{Set, Gone}
 use Rattle.cell_value.specs.declared.ways_out.Kind.TheVariants as kind
 use Rattle.cell_value.specs.declared.ways_out.Which.TheVariants.{Calls, Depth, Stack, Heap}
 use Rattle.cell_value.specs.Effects.{change_by, made_of, looked_by, looked_of}
-use Rattle.program_meaning.specs.State.{State, stack_end, heap_end, most_calls, most_depth, is_in_reach}
+use Rattle.cell_value.specs.Effects.{heap_end}
+use Rattle.program_meaning.specs.State.{State, stack_end, most_calls, most_depth, is_in_reach}
 use Rattle.program_meaning.specs.Acts.{Trouble, Fault, OutOfSteps, Act, Spend, ReadCell, HasCell, WriteCell, TakeIf, GiveByte, ActResult, Went, Stops}
-use Rattle.program_meaning.specs.Acts.{perform, spent, with_steps, on_cell, read_as, put, put_if, put_asked, after_touches, take_item, take_looked, look}
+use Rattle.program_meaning.specs.Acts.{perform, spent, with_steps, on_cell, read_as, put_value, put_if, put_asked, after_touches, take_item, take_looked}
+use Rattle.program_meaning.specs.Acts.{look_item}
 use Rattle.program_meaning.specs.Acts.{limit_passed}
 use Rattle.program_meaning.specs.Acts.{Limited, MakeBlock, DropBlock, make_block, made_block, drop_block, dropped_block}
 use Rattle.program_meaning.specs.Blocks.{filled, cleared, block_cells, lies_in_heap}
@@ -301,7 +303,7 @@ module _ (from to : ℕ) where
   asked_first addr b σ τ u d e h = touched_first (touch.Has addr b) (touch.Has addr b) σ τ u d e
       (λ g. record { same = refl; agree = λ w k. after_has addr b w σ τ k }) h
 
-  put_again : (addr : ℕ) (v : Value) (σ τ : State) (u : List Touch) → DoneAgain (put addr v σ) (put addr v τ) σ τ u
+  put_again : (addr : ℕ) (v : Value) (σ τ : State) (u : List Touch) → DoneAgain (put_value addr v σ) (put_value addr v τ) σ τ u
   put_again addr v σ τ u = λ g s i. record {
     log = touch.Write addr v ∷ [];
     after = record τ { cells = insert τ.cells addr v };
@@ -312,7 +314,8 @@ module _ (from to : ℕ) where
   }
 
   put_if_again : (there : Bool) (addr : ℕ) (v : Value) (σ τ : State) (u : List Touch) → DoneAgain (put_if there addr v σ) (put_if there addr v τ) σ τ u
-  put_if_again true addr v σ τ u = stepped 1 σ τ u (put addr v) (λ k l. (omega arith, put_again addr v (record σ { steps = k }) (record τ { steps = l }) u))
+  put_if_again true addr v σ τ u = stepped 1 σ τ u (put_value addr v)
+      (λ k l. (omega arith, put_again addr v (record σ { steps = k }) (record τ { steps = l }) u))
   put_if_again false addr v σ τ u = λ g s i. record { log = []; after = τ; is = refl; same = refl; agree = g; step = step_same σ τ }
 
   asked_again : (there : Bool) (addr : ℕ) (v : Value) (σ τ : State) (u : List Touch) → is_some (get σ.cells addr) ≡ there
@@ -327,21 +330,21 @@ module _ (from to : ℕ) where
   put_no_more true addr v σ = by (nat_lt σ.steps 1)
     where
       by : (b : Bool) → (state_of (after_touches (touch.Has addr true ∷ [])
-          (if b then Stops OutOfSteps [] (spent σ) else put addr v (record σ { steps = σ.steps - 1 })))).steps ≤ σ.steps
+          (if b then Stops OutOfSteps [] (spent σ) else put_value addr v (record σ { steps = σ.steps - 1 })))).steps ≤ σ.steps
       by true = omega arith
       by false = omega arith
   put_no_more false addr v σ = omega arith
 
   abbrev writing : ℕ → Value → State → ActResult Bool
-  writing addr v τ = if nat_lt addr stack_end then put addr v τ else put_asked (is_some (get τ.cells addr)) addr v τ
+  writing addr v τ = if nat_lt addr stack_end then put_value addr v τ else put_asked (is_some (get τ.cells addr)) addr v τ
 
   write_again : (addr : ℕ) (v : Value) (σ τ : State) (u : List Touch) → ((state_of (writing addr v σ)).steps ≤ σ.steps)
       × DoneAgain (writing addr v σ) (writing addr v τ) σ τ u
   write_again addr v σ τ u = by (nat_lt addr stack_end)
     where
-      by : (b : Bool) → ((state_of (if b then put addr v σ else put_asked (is_some (get σ.cells addr)) addr v σ)).steps ≤ σ.steps)
-          × DoneAgain (if b then put addr v σ else put_asked (is_some (get σ.cells addr)) addr v σ)
-          (if b then put addr v τ else put_asked (is_some (get τ.cells addr)) addr v τ) σ τ u
+      by : (b : Bool) → ((state_of (if b then put_value addr v σ else put_asked (is_some (get σ.cells addr)) addr v σ)).steps ≤ σ.steps)
+          × DoneAgain (if b then put_value addr v σ else put_asked (is_some (get σ.cells addr)) addr v σ)
+          (if b then put_value addr v τ else put_asked (is_some (get τ.cells addr)) addr v τ) σ τ u
       by true = (omega arith, put_again addr v σ τ u)
       by false = (put_no_more (is_some (get σ.cells addr)) addr v σ, asked_again (is_some (get σ.cells addr)) addr v σ τ u refl)
 
@@ -506,10 +509,10 @@ module _ (from to : ℕ) where
 
   -- it looks at the item that the first looks at
   look_again : (wanted : ℕ → Bool) (σ τ : State) (u : List Touch)
-      → ((state_of (look wanted σ)).steps ≤ σ.steps) × DoneAgain (look wanted σ) (look wanted τ) σ τ u
+      → ((state_of (look_item wanted σ)).steps ≤ σ.steps) × DoneAgain (look_item wanted σ) (look_item wanted τ) σ τ u
   look_again wanted σ τ u = (
     subst (λ υ. υ.steps ≤ σ.steps) (sym (state_after (touch.Look σ.place ∷ []) looked)) (took_no_more wanted (slice_get σ.items σ.place) σ),
-    told (look wanted σ) (after_touches (touch.Look τ.place ∷ []) (take_looked wanted (slice_get σ.items σ.place) τ)) (look wanted τ) σ τ u
+    told (look_item wanted σ) (after_touches (touch.Look τ.place ∷ []) (take_looked wanted (slice_get σ.items σ.place) τ)) (look_item wanted τ) σ τ u
         (λ g. ap (λ o. after_touches (touch.Look τ.place ∷ []) (take_looked wanted o τ)) (sym (same_item (log_of looked ++ u) σ τ (first g))))
         (touched_first (touch.Look σ.place) (touch.Look τ.place) σ τ u looked (take_looked wanted (slice_get σ.items σ.place) τ)
         (λ g. record { same = ap touch.Look (omega (arith, g.place.0, g.place.1)); agree = λ w k. after_look w σ τ k })
@@ -519,7 +522,7 @@ module _ (from to : ℕ) where
       looked : ActResult (Option ℕ)
       looked = take_looked wanted (slice_get σ.items σ.place) σ
 
-      first : Agree from to (log_of (look wanted σ) ++ u) σ τ → Agree from to (touch.Look σ.place ∷ (log_of looked ++ u)) σ τ
+      first : Agree from to (log_of (look_item wanted σ) ++ u) σ τ → Agree from to (touch.Look σ.place ∷ (log_of looked ++ u)) σ τ
       first g = subst (λ l. Agree from to (l ++ u) σ τ) (touches_after (touch.Look σ.place ∷ []) looked) g
 
   give_again : (byte : ℕ) (σ τ : State) (u : List Touch)
@@ -563,7 +566,7 @@ module _ (from to : ℕ) where
       ))
   act_again (WriteCell addr v) σ τ u = celled addr σ τ u (writing addr v)
       (λ k l. write_again addr v (record σ { steps = k }) (record τ { steps = l }) u)
-  act_again (TakeIf wanted) σ τ u = stepped 1 σ τ u (look wanted)
+  act_again (TakeIf wanted) σ τ u = stepped 1 σ τ u (look_item wanted)
       (λ k l. look_again wanted (record σ { steps = k }) (record τ { steps = l }) u)
   act_again (GiveByte byte) σ τ u = stepped 1 σ τ u (λ τ. Went tt (touch.Give byte ∷ []) (record τ { output = τ.output ++ byte ∷ [] }))
       (λ k l. (omega arith, give_again byte (record σ { steps = k }) (record τ { steps = l }) u))

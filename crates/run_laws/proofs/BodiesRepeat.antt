@@ -28,8 +28,8 @@ use Rattle.program_meaning.specs.Heap.{pointer_result_at}
 use Rattle.program_meaning.specs.Accesses.{scalar}
 use Rattle.program_meaning.specs.Statements.{on_normal}
 use Rattle.program_meaning.specs.Run.{End, Ended, Halted, Marked, Result, later_by, in_front, ends, on_end, joined, on_done, if_allowed, Call, way_out}
-use Rattle.program_meaning.specs.Run.{result_in, record_of, after_all, framed_run, at_work, whole, return_of, result_of_type, result_at, type_in_heading}
-use Rattle.program_meaning.specs.Run.{with_frame, without_frame, opened, closed}
+use Rattle.program_meaning.specs.Run.{result_in, record_of, after_all, framed_run, at_work, whole, return_of, result_of_type, result_read, type_in_heading}
+use Rattle.program_meaning.specs.Run.{with_frame, without_frame, opened, call_closed}
 use Rattle.program_meaning.specs.Apply.{apply}
 use Rattle.program_meaning.specs.Replay.{Event, LineOf, ChildOf, Replaying, Replayed, same_numbers, same_value, same_args, end_of, next_call, on_state}
 use Rattle.program_meaning.specs.Replay.{in_replaying, replaying, replay_of}
@@ -67,8 +67,8 @@ whole_returns : (p : ProgramRows) (f base : ℕ) (q : Routine) → Returns (whol
 whole_returns p f base q = λ out. by q.result out
   where
     bounds : (place : ℕ) (t : Option TypeRow) → Returns (result_of_type q.line (moved base place) t)
-    bounds place (Some (type.Ordinal i j)) = doing_returns q.line (result_at i j (moved base place)) scalar (λ v. tt)
-    bounds place (Some (type.Subrange host i j)) = doing_returns q.line (result_at i j (moved base place)) scalar (λ v. tt)
+    bounds place (Some (type.Ordinal i j)) = doing_returns q.line (result_read i j (moved base place)) scalar (λ v. tt)
+    bounds place (Some (type.Subrange host i j)) = doing_returns q.line (result_read i j (moved base place)) scalar (λ v. tt)
     bounds place (Some (type.Pointer domain)) = doing_returns q.line (pointer_result_at (moved base place)) scalar (λ v. tt)
     bounds place t = tt
 
@@ -372,5 +372,5 @@ module _ (p : ProgramRows) where
   -- a call's own work again
   pub call_redo : {n f : ℕ} {args : List Value} {σ : State} {r : Result State Call} → RanCall p n f args σ r → IsSound σ → MayEnter σ
       → (k : ℕ) (cs : List Call)
-      → Redo k r cs (after_all (on_state (closed σ.depth)) (framed_again n f args (at (opened σ) k (unmarked r.events ++ cs)) (routine_at p f)))
-  call_redo (ways.Closed {σ = σ} c h) s m k cs = changed_redo (closed σ.depth) (frame_redo h (sound_opened σ s m) k cs)
+      → Redo k r cs (after_all (on_state (call_closed σ.depth)) (framed_again n f args (at (opened σ) k (unmarked r.events ++ cs)) (routine_at p f)))
+  call_redo (ways.Closed {σ = σ} c h) s m k cs = changed_redo (call_closed σ.depth) (frame_redo h (sound_opened σ s m) k cs)

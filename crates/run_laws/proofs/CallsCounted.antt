@@ -8,7 +8,7 @@ use Rattle.cell_value.specs.declared.entries.Touch.{Touch}
 use Rattle.cell_value.specs.Effects.{made_of, taken_of}
 use Rattle.program_tables.specs.ProgramRows.{ProgramRows}
 use Rattle.program_meaning.specs.State.{State}
-use Rattle.program_meaning.specs.Run.{Marked, Result, Call, items_of, run}
+use Rattle.program_meaning.specs.Run.{Marked, Result, Call, input_items, run}
 use Rattle.program_meaning.specs.Numbering.{StandsAt}
 use Rattle.program_meaning.proofs.CallsOfRunsNest.{Stand, stand_of}
 use Rattle.run_laws.specs.Laws.{IsCounted, most_bytes}
@@ -19,7 +19,7 @@ use Rattle.run_laws.proofs.LawsOfRuns.{all_recorded, made_countable}
 
 -- ---- the items of an input
 
-few_items : (input : List ℕ) → length (items_of input) ≤ length input + 1
+few_items : (input : List ℕ) → length (input_items input) ≤ length input + 1
 few_items [] = omega arith
 few_items (b ∷ []) = by (b == 10)
   where
@@ -28,8 +28,8 @@ few_items (b ∷ []) = by (b == 10)
     by false = omega arith
 few_items (b ∷ c ∷ bs) = by (b == 10) ((b == 13) && (c == 10)) (few_items (c ∷ bs))
   where
-    by : (t u : Bool) → length (items_of (c ∷ bs)) ≤ length (c ∷ bs) + 1
-        → length (if t then 256 ∷ items_of (c ∷ bs) else if u then items_of (c ∷ bs) else b ∷ items_of (c ∷ bs)) ≤ length (b ∷ c ∷ bs) + 1
+    by : (t u : Bool) → length (input_items (c ∷ bs)) ≤ length (c ∷ bs) + 1
+        → length (if t then 256 ∷ input_items (c ∷ bs) else if u then input_items (c ∷ bs) else b ∷ input_items (c ∷ bs)) ≤ length (b ∷ c ∷ bs) + 1
     by true u h = omega (arith, h)
     by false true h = omega (arith, h)
     by false false h = omega (arith, h)
@@ -77,6 +77,6 @@ module _ (p : ProgramRows) (xs : List ℕ) (log : List Touch) (few : length xs <
       (each_counted es (All-tail (λ c. StandsAt log c.mark c.event.log) e es at) h.2)
 
 pub calls_counted : (p : ProgramRows) (input : List ℕ) (budget : ℕ) (r : Result State Call) → length input ≤ most_bytes → run p input budget ≡ Some r
-    → All (IsCounted (items_of input) r.log) r.events
+    → All (IsCounted (input_items input) r.log) r.events
 calls_counted p input budget r few e =
-    each_counted p (items_of input) r.log (omega (arith, few, few_items input)) r.events (stand_of p input budget r e) (all_recorded p input budget r e)
+    each_counted p (input_items input) r.log (omega (arith, few, few_items input)) r.events (stand_of p input budget r e) (all_recorded p input budget r e)

@@ -12,8 +12,8 @@ use Rattle.program_meaning.specs.State.{State, IsSound, most_calls, most_depth}
 use Rattle.program_meaning.specs.Acts.{Act, ActResult, Went, Stops, perform}
 use Rattle.program_meaning.specs.Tree.{Part}
 use Rattle.program_meaning.specs.Layer.{layer}
-use Rattle.program_meaning.specs.Run.{Marked, Result, Call, way_out, result_in, call_of, run_of, run, block, start, depth_enough, after_all, closed}
-use Rattle.program_meaning.specs.Run.{framed_run, at_work, items_of, opened}
+use Rattle.program_meaning.specs.Run.{Marked, Result, Call, way_out, result_in, call_of, run_of, run, block, start, depth_enough, after_all, call_closed}
+use Rattle.program_meaning.specs.Run.{framed_run, at_work, input_items, opened}
 use Rattle.program_meaning.specs.Replay.{Event, body, on_state, in_replaying, replay_of}
 use Rattle.program_meaning.proofs.OutcomesCompose.{none_some, some_same}
 use Rattle.run_laws.specs.Laws.{calls_in, HasFewItems, IsSoundAfter, IsMet, IsBody, MeetsItems, ShowsCountable}
@@ -58,9 +58,9 @@ calls_sound p depth routine args σ r s m d e = gives_call p depth (run_gives p 
 -- ---- the records of a run
 
 pub all_recorded : (p : ProgramRows) (input : List ℕ) (budget : ℕ) (r : Result State Call) → run p input budget ≡ Some r
-    → Recorded p (items_of input) (calls_in r)
+    → Recorded p (input_items input) (calls_in r)
 all_recorded p input budget r e =
-    ran_records p (items_of input) (run_gives p (depth_enough p budget) block (start input budget) r e) (begins_sound input budget) refl
+    ran_records p (input_items input) (run_gives p (depth_enough p budget) block (start input budget) r e) (begins_sound input budget) refl
 
 one_recorded : (p : ProgramRows) (xs : List ℕ) (cs : List Call) (k : ℕ) (c : Call) → Recorded p xs cs → slice_get cs k ≡ Some c
     → MadeBy p c (drop (k + 1) cs)
@@ -72,7 +72,7 @@ one_recorded p xs (d ∷ cs) (suc k) c h e =
 pub made : (p : ProgramRows) (input : List ℕ) (budget : ℕ) (r : Result State Call) → run p input budget ≡ Some r → (k : ℕ) (c : Call)
     → slice_get (calls_in r) k ≡ Some c
     → MadeBy p c (drop (k + 1) (calls_in r))
-made p input budget r e k c h = one_recorded p (items_of input) (calls_in r) k c (all_recorded p input budget r e) h
+made p input budget r e k c h = one_recorded p (input_items input) (calls_in r) k c (all_recorded p input budget r e) h
 
 pub made_sound : (p : ProgramRows) (c : Call) (cs : List Call) → MadeBy p c cs → IsSound c.entry × IsSound c.exit
 made_sound p c cs h = (h.sound, subst IsSound (ap (λ (c : Call). c.exit) h.record') (call_leaves p h.ran h.sound h.limits).leaves.sound)
@@ -87,8 +87,8 @@ recorded_items p xs (c ∷ cs) h =
     (recorded_items p xs cs h.2)
 
 pub runs_items : (p : ProgramRows) (input : List ℕ) (budget : ℕ) (r : Result State Call) → run p input budget ≡ Some r
-    → All (MeetsItems (items_of input)) (calls_in r)
-runs_items p input budget r e = recorded_items p (items_of input) (calls_in r) (all_recorded p input budget r e)
+    → All (MeetsItems (input_items input)) (calls_in r)
+runs_items p input budget r e = recorded_items p (input_items input) (calls_in r) (all_recorded p input budget r e)
 
 -- ---- what can be counted
 
@@ -129,10 +129,10 @@ body_is p k c cs h depth deep =
     let l : unmarked h.result.events ++ [] ≡ take c.below cs = append-nil (unmarked h.result.events) ∙ h.calls in
     let d : c.entry.depth ≡ c.depth = ap (λ (c : Call). c.depth) h.record' in
     let b : Redo (k + 1) h.result [] (body p depth c k (take c.below cs)) =
-    subst (λ m. Redo (k + 1) h.result [] (after_all (on_state (closed m))
+    subst (λ m. Redo (k + 1) h.result [] (after_all (on_state (call_closed m))
     (framed_run in_replaying (at_work p (replay_of p depth) c.routine) c.args
     (record { state = opened c.entry; number = k + 1; calls = take c.below cs }) (routine_at p c.routine)))) d
-    (subst (λ l. Redo (k + 1) h.result [] (after_all (on_state (closed c.entry.depth))
+    (subst (λ l. Redo (k + 1) h.result [] (after_all (on_state (call_closed c.entry.depth))
     (framed_run in_replaying (at_work p (replay_of p depth) c.routine) c.args
     (record { state = opened c.entry; number = k + 1; calls = l }) (routine_at p c.routine)))) l a) in
     record {

@@ -12,7 +12,7 @@ use Rattle.program_tables.specs.ProgramRows.{ProgramRows}
 use Rattle.program_meaning.specs.State.{State, IsSound, stack_end}
 use Rattle.program_meaning.specs.Acts.{Trouble, Fault, OutOfSteps, Limited, Act, Answer, ActResult, perform, Spend}
 use Rattle.program_meaning.specs.Tree.{Tree, way_of}
-use Rattle.program_meaning.specs.Run.{End, Ended, Halted, Marked, Result, Call, with_frame, without_frame, frame_cells, opened, closed}
+use Rattle.program_meaning.specs.Run.{End, Ended, Halted, Marked, Result, Call, with_frame, without_frame, frame_cells, opened, call_closed}
 use Rattle.program_meaning.specs.Blocks.{filled, cleared}
 use Rattle.run_laws.proofs.Touches.{written, Serves}
 use Rattle.run_laws.proofs.Cells.{filled_below, filled_above, filled_there, frame_length, cleared_below, cleared_above, cleared_gone}
@@ -155,7 +155,7 @@ sound_opened σ s m = record {
 }
 
 -- a call was opened, something was done, and it is closed
-pub closed_leaves : {τ : State} {w : List Touch} {k : ℕ} (σ : State) → IsSound σ → Leaves (opened σ) w k τ → Leaves σ w (suc k) (closed σ.depth τ)
+pub closed_leaves : {τ : State} {w : List Touch} {k : ℕ} (σ : State) → IsSound σ → Leaves (opened σ) w k τ → Leaves σ w (suc k) (call_closed σ.depth τ)
 closed_leaves σ s h = record {
   top = h.top;
   cells = h.cells;

@@ -20,7 +20,7 @@ use Rattle.program_meaning.specs.Run.{End, Ended, Halted, Marked, Result, in_fro
 use Rattle.program_meaning.specs.Run.{after_all, in_frame, at_work, call_of, plain, run_of, whole, with_frame, without_frame, frame_cells}
 use Rattle.program_meaning.specs.Blocks.{filled, cleared}
 use Rattle.program_meaning.specs.Run.{opened}
-use Rattle.program_meaning.specs.Run.{closed}
+use Rattle.program_meaning.specs.Run.{call_closed}
 use Rattle.run_laws.proofs.Touches.{Serves}
 use Rattle.run_laws.proofs.Cells.{Map, got_same, got_other, removed_same, removed_other}
 use Rattle.run_laws.proofs.Events.{unmarked, events_append, events_length}
@@ -348,8 +348,8 @@ module _ (p : ProgramRows) where
           depth = shallow_suc σ.depth τ.depth (unmarked y.events) k.depth;
         }) in
         record {
-          run = record { end = b.run.end; after = closed τ.depth b.run.after; log = b.run.log; events = b.run.events };
-          is = ap (after_all (closed τ.depth)) b.is;
+          run = record { end = b.run.end; after = call_closed τ.depth b.run.after; log = b.run.log; events = b.run.events };
+          is = ap (after_all (call_closed τ.depth)) b.is;
           end = b.end;
           log = b.log;
           agree = record { top = b.agree.top; fresh = b.agree.fresh; cells = b.agree.cells; place = b.agree.place; items = b.agree.items };

@@ -9,7 +9,7 @@ use Rattle.cell_value.specs.declared.entries.Touch.TheVariants as touch
 use Rattle.cell_value.specs.declared.entries.Seen.{Seen}
 use Rattle.cell_value.specs.declared.entries.Change.{Change}
 use Rattle.cell_value.specs.declared.entries.Change.TheVariants.{Set, Gone}
-use Rattle.cell_value.specs.Effects.{change_by, change_at, last_of, first_of, read_by, asked_by, seen_by, seen_at}
+use Rattle.cell_value.specs.Effects.{change_by, change_at, last_of, head_of, read_by, asked_by, seen_by, seen_at}
 use Rattle.program_meaning.specs.Agree.{Shows}
 use Rattle.program_meaning.proofs.OutcomesCompose.{none_some, some_same}
 
@@ -98,30 +98,30 @@ abbrev unchanged : ℕ → List Touch → List Touch
 unchanged a w = before_first (λ touch. is_some (change_by a touch)) w
 
 first_later : {A : Type 0} (a : ℕ) (f : Touch → Option A) (t : Touch) (w : List Touch) (later : Option A)
-    → first_of (filter_map f (unchanged a w)) ≡ later → first_of (filter_map f (unchanged a (t ∷ w))) ≡ or_later (change_by a t) (f t) later
+    → head_of (filter_map f (unchanged a w)) ≡ later → head_of (filter_map f (unchanged a (t ∷ w))) ≡ or_later (change_by a t) (f t) later
 first_later {A} a f t w later e = by (change_by a t)
   where
-    go : (o : Option A) → first_of (cons_option o (filter_map f (unchanged a w))) ≡ or_later None o later
+    go : (o : Option A) → head_of (cons_option o (filter_map f (unchanged a w))) ≡ or_later None o later
     go None = e
     go (Some x) = refl
 
     one : 1 + position_or_len (λ touch. is_some (change_by a touch)) w ≡ suc (position_or_len (λ touch. is_some (change_by a touch)) w)
     one = omega arith
 
-    by : (c : Option Change) → first_of (filter_map f (take (cond (not (is_some c)) (1 + position_or_len (λ touch. is_some (change_by a touch)) w) 0) (t ∷ w)))
+    by : (c : Option Change) → head_of (filter_map f (take (cond (not (is_some c)) (1 + position_or_len (λ touch. is_some (change_by a touch)) w) 0) (t ∷ w)))
         ≡ or_later c (f t) later
     by (Some c) = refl
-    by None = ap (λ k. first_of (filter_map f (take k (t ∷ w)))) one ∙ go (f t)
+    by None = ap (λ k. head_of (filter_map f (take k (t ∷ w)))) one ∙ go (f t)
 
 pub seen_is : (a : ℕ) (w : List Touch) → seen_at a w ≡ seen_by (first_read a w) (first_asked a w)
 unfolding seen_at
-seen_is a w = ap (λ o. seen_by o (first_of (filter_map (asked_by a) (unchanged a w)))) (reads w) ∙ ap (seen_by (first_read a w)) (asks w)
+seen_is a w = ap (λ o. seen_by o (head_of (filter_map (asked_by a) (unchanged a w)))) (reads w) ∙ ap (seen_by (first_read a w)) (asks w)
   where
-    reads : (w : List Touch) → first_of (filter_map (read_by a) (unchanged a w)) ≡ first_read a w
+    reads : (w : List Touch) → head_of (filter_map (read_by a) (unchanged a w)) ≡ first_read a w
     reads [] = refl
     reads (t ∷ w) = first_later a (read_by a) t w (first_read a w) (reads w)
 
-    asks : (w : List Touch) → first_of (filter_map (asked_by a) (unchanged a w)) ≡ first_asked a w
+    asks : (w : List Touch) → head_of (filter_map (asked_by a) (unchanged a w)) ≡ first_asked a w
     asks [] = refl
     asks (t ∷ w) = first_later a (asked_by a) t w (first_asked a w) (asks w)
 

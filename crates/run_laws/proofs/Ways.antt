@@ -16,7 +16,7 @@ use Rattle.program_meaning.specs.Tree.{Out, Part, Tree, Ret, Halt, Do, Sub, Ente
 use Rattle.program_meaning.specs.Layer.{layer}
 use Rattle.program_meaning.specs.Run.{End, Ended, Halted, Marked, Result, later_by, in_front, ends, on_end, joined, on_done, if_allowed, Call, Outcome}
 use Rattle.program_meaning.specs.Run.{record_of, recorded, after_all, in_frame, at_work, call_of, plain, run_of, depth_enough, whole, with_frame, without_frame}
-use Rattle.program_meaning.specs.Run.{opened, closed}
+use Rattle.program_meaning.specs.Run.{opened, call_closed}
 use Rattle.program_meaning.proofs.RunAtAnyDepth.{call_deeper}
 use Rattle.program_meaning.proofs.OutcomesCompose.{none_some, some_same}
 
@@ -38,7 +38,7 @@ of_call f args σ y = record y { events = (record { mark = 0; event = record_of 
 
 -- what a call does, but for its record
 abbrev pub inside : ProgramRows → (Tree → State → Outcome) → ℕ → List Value → State → Outcome
-inside p run f args σ = after_all (closed σ.depth) (in_frame (at_work p run f) args (opened σ) (routine_at p f))
+inside p run f args σ = after_all (call_closed σ.depth) (in_frame (at_work p run f) args (opened σ) (routine_at p f))
 
 mutual
   -- the run of a tree from a state, where parts and calls stand at most so deep in one another
@@ -88,7 +88,7 @@ mutual
   -- a call, but for its record: `inside` gives the result, and it came about so
   pub data RanCall (p : ProgramRows) : ℕ → ℕ → List Value → State → Result State Call → Type 0 where
     Closed : {n f : ℕ} {args : List Value} {σ : State} {y : Result State Call} → in_frame (at_work p (run_of p n) f) args (opened σ) (routine_at p f) ≡ Some y
-        → RanFrame p n f args (opened σ) y → RanCall p n f args σ (changed (closed σ.depth) y)
+        → RanFrame p n f args (opened σ) y → RanCall p n f args σ (changed (call_closed σ.depth) y)
 
 -- ---- each result came about so
 
@@ -134,7 +134,7 @@ module _ (p : ProgramRows) (n : ℕ) (R : (t : Tree) (σ : State) → Gives (Ran
           (λ y c. Worked h t u (R (whole p f σ.top q) (with_frame q.cells args σ) y c))
 
   pub gives_inside : (f : ℕ) (args : List Value) (σ : State) → Gives (RanCall p n f args σ) (inside p (run_of p n) f args σ)
-  gives_inside f args σ = gives_changed (RanCall p n f args σ) (closed σ.depth) (in_frame (at_work p (run_of p n) f) args (opened σ) (routine_at p f))
+  gives_inside f args σ = gives_changed (RanCall p n f args σ) (call_closed σ.depth) (in_frame (at_work p (run_of p n) f) args (opened σ) (routine_at p f))
       (λ y c. Closed c (gives_frame f args (opened σ) (routine_at p f) refl y c))
 
   -- a call's result is that of what goes on inside of it
@@ -186,9 +186,10 @@ run_gives p (suc n) t σ = deeper p n (run_gives p n) t σ
 pub call_at : {p : ProgramRows} {n f : ℕ} {args : List Value} {σ : State} {y : Result State Call} → RanCall p n f args σ y → (m : ℕ)
     → depth_enough p σ.steps ≤ m → RanCall p m f args σ y
 call_at {p = p} (Closed {n = n} {f = f} {args = args} {σ = σ} {y = y} c h) m k =
-    gives_call p m (run_gives p m) (λ r. r ≡ of_call f args σ (changed (closed σ.depth) y) → RanCall p m f args σ (changed (closed σ.depth) y)) f args σ
-    (λ z a e. subst (RanCall p m f args σ) (ap uncalled e) a) (of_call f args σ (changed (closed σ.depth) y))
-    ((call_deeper p n m f args σ k).gives _ (ap (λ x. recorded f args σ (after_all (closed σ.depth) x)) c)) refl
+    gives_call p m (run_gives p m) (λ r. r ≡ of_call f args σ (changed (call_closed σ.depth) y) → RanCall p m f args σ (changed (call_closed σ.depth) y)) f
+        args σ
+    (λ z a e. subst (RanCall p m f args σ) (ap uncalled e) a) (of_call f args σ (changed (call_closed σ.depth) y))
+    ((call_deeper p n m f args σ k).gives _ (ap (λ x. recorded f args σ (after_all (call_closed σ.depth) x)) c)) refl
   where
     rest : List (Marked Call) → List (Marked Call)
     rest [] = []

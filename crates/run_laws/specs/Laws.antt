@@ -10,7 +10,7 @@ use Rattle.program_meaning.specs.Acts.{Act, ActResult, Went, Stops, perform}
 use Rattle.program_meaning.specs.Tree.{Part}
 use Rattle.program_meaning.specs.Layer.{layer}
 use Rattle.program_meaning.specs.Run.{Marked, Result, Call, Outcome, way_out, result_in, call_of, run_of, run, start}
-use Rattle.program_meaning.specs.Run.{depth_enough, items_of}
+use Rattle.program_meaning.specs.Run.{depth_enough, input_items}
 use Rattle.program_meaning.specs.Apply.{apply}
 use Rattle.program_meaning.specs.Agree.{Agrees}
 use Rattle.program_meaning.specs.Replay.{Event, LineOf, ChildOf, Replaying, Replayed, body}
@@ -62,7 +62,7 @@ pub record MeetsItems (items : List ℕ) (c : Call) : Type 0 where
 -- each call of a run meets the items of the run's input
 abbrev pub RunsKeepItems : Type 0
 RunsKeepItems = (p : ProgramRows) (input : List ℕ) (budget : ℕ) (r : Result State Call) → run p input budget ≡ Some r
-    → All (MeetsItems (items_of input)) (calls_in r)
+    → All (MeetsItems (input_items input)) (calls_in r)
 
 -- ---- touches whose effect can be counted
 
@@ -110,7 +110,7 @@ pub record IsCounted (items : List ℕ) (log : List Touch) (c : Marked Call) : T
 -- each call of a run is counted so
 abbrev pub CallsAreCounted : Type 0
 CallsAreCounted = (p : ProgramRows) (input : List ℕ) (budget : ℕ) (r : Result State Call) → length input ≤ most_bytes
-    → run p input budget ≡ Some r → All (IsCounted (items_of input) r.log) r.events
+    → run p input budget ≡ Some r → All (IsCounted (input_items input) r.log) r.events
 
 -- ---- a call's own work
 

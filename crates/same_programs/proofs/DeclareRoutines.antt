@@ -16,7 +16,7 @@ use Rattle.use_checker.specs.Statements.{compound_uses}
 use Rattle.decl_checker.specs.declared.routines.Entered.{Entered}
 use Rattle.decl_checker.specs.Blocks.{parts, put_body}
 use Rattle.decl_checker.specs.Routines.{open_routine, define_body, define_completion, define_inside, result_place, place_after_result, heading_row}
-use Rattle.decl_checker.specs.Routines.{add_heading, first_heading, first_name, enter_at, enter, block, routines_in, body_in}
+use Rattle.decl_checker.specs.Routines.{add_heading, first_heading, first_name, enter_at, enter_heading, block, routines_in, body_in}
 use Rattle.std.proofs.Common.{◌≡◌, refl, ◌∙◌, map, option_map}
 use Rattle.same_programs.proofs.BareTrees.{bare_block, bare_body, bare_routine, bare_routines}
 use Rattle.same_programs.proofs.BareHeadings.{bare_heading}
@@ -79,8 +79,8 @@ pub enter_at-bare : (x : Option ℕ) (frame : ℕ) (rs : List Routine) (r : Rout
 enter_at-bare None frame rs r = λ i. first_heading-bare frame rs r i
 enter_at-bare (Some first) frame rs r = refl
 
-pub enter-bare : (frame : ℕ) (rs : List Routine) (r : Routine) → enter frame (map bare_routine rs) (bare_routine r) ≡ enter frame rs r
-unfolding enter
+pub enter-bare : (frame : ℕ) (rs : List Routine) (r : Routine) → enter_heading frame (map bare_routine rs) (bare_routine r) ≡ enter_heading frame rs r
+unfolding enter_heading
 enter-bare frame rs r = λ i. look (λ k. first_name (row_at k (routine_name-bare r i))) >>= λ first. enter_at-bare first frame rs r i
 
 mutual

@@ -19,7 +19,8 @@ use Rattle.denoter_checker.specs.Arrays.{array, joined, put_index}
 use Rattle.denoter_checker.specs.Variants.{choosing_at, nothing_listed, tag_part, variant_part}
 use Rattle.denoter_checker.specs.declared.variants.Choosing.{Choosing}
 use Rattle.denoter_checker.specs.declared.variants.Listed.{Listed}
-use Rattle.denoter_checker.specs.Denoters.{open_record, inside, field_place, put_record, word_of, held_word, variants_word, part_at, more_choices, choosing}
+use Rattle.denoter_checker.specs.Denoters.{open_record, scope_inside, field_place, put_record, case_word, held_word, variants_word, part_at, more_choices}
+use Rattle.denoter_checker.specs.Denoters.{choosing}
 use Rattle.denoter_checker.specs.Denoters.{joins, denoter, structure, array_denoter, other_indexes, fields_at, fixed_at, sections, variants_held}
 use Rattle.denoter_checker.specs.Denoters.{next_variants, variants_at, arms}
 use Rattle.std.proofs.Common.{◌≡◌, refl}
@@ -31,7 +32,7 @@ use Rattle.same_programs.proofs.KindTypes.{enumeration-bare}
 use Rattle.same_programs.proofs.DenoterDefines.{define_record-bare}
 use Rattle.same_programs.proofs.PlacesDenoters.{first_of_denoter-bare}
 
-pub word_of-bare : (v : VariantsTree) → word_of (bare_variants v) ≡ word_of v
+pub word_of-bare : (v : VariantsTree) → case_word (bare_variants v) ≡ case_word v
 word_of-bare (Variants' word tag of constants colon open' fields close _ others) = refl
 
 pub held_word-bare : (h : Held-Fields-Fixed-1) → held_word (bare_next_variants h) ≡ held_word h
@@ -69,7 +70,7 @@ mutual
   pub structure-bare : (s : Scope) (packed : Bool) (s' : Structure) → structure s packed (bare_structure s') ≡ structure s packed s'
   structure-bare s packed (Array a) = λ i. array_denoter-bare s packed a i
   structure-bare s packed (Record' word fields end) =
-      λ i. open_record s.frame word >>= λ frame. define_record-bare frame fields i >>= λ _. fields_at-bare (inside s frame) word 0 fields i
+      λ i. open_record s.frame word >>= λ frame. define_record-bare frame fields i >>= λ _. fields_at-bare (scope_inside s frame) word 0 fields i
       >>= λ cells. put_record packed word frame cells (variants_word-bare fields i)
   structure-bare s packed (Set' word of base) =
       λ i. denoter-bare s base i >>= λ written. set_type packed word (first_of_denoter-bare base i) of written

@@ -12,7 +12,8 @@ use Rattle.check_steps.specs.Names.{define_in}
 use Rattle.kind_checker.specs.declared.names.Kind.TheVariants as name
 use Rattle.kind_checker.specs.declared.types.Scope.{Scope}
 use Rattle.kind_checker.specs.Names.{define_name, each_name}
-use Rattle.denoter_checker.specs.Parts.{types_in, define_type, type_definition, domains, type_part, define_variable, place, at_names, variable_declaration}
+use Rattle.denoter_checker.specs.Parts.{types_in, define_type, type_definition, domains, type_part, define_variable, place_variable, at_names}
+use Rattle.denoter_checker.specs.Parts.{variable_declaration}
 use Rattle.std.proofs.Common.{◌≡◌}
 use Rattle.same_programs.proofs.Steps.{each-bare}
 use Rattle.same_programs.proofs.BareTrees.{bare_type_definition, bare_type_part, bare_variable_declaration}
@@ -45,4 +46,4 @@ pub variable_declaration-bare : (frame : ℕ) (at : ℕ) (d : VariableDeclaratio
     ≡ variable_declaration frame at d
 unfolding variable_declaration
 variable_declaration-bare frame at d =
-    λ i. look (λ k. (frame_at k frame).level) >>= λ level. denoter-bare (at_names frame) d.denoter i >>= λ t. each_name (place level t) at d.names
+    λ i. look (λ k. (frame_at k frame).level) >>= λ level. denoter-bare (at_names frame) d.denoter i >>= λ t. each_name (place_variable level t) at d.names

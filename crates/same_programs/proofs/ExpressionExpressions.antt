@@ -23,14 +23,14 @@ use Rattle.expression_checker.specs.declared.actuals.Passing.{Passing}
 use Rattle.operand_checker.specs.declared.members.Begun.{Begun}
 use Rattle.operand_checker.specs.declared.members.Gathered.{Gathered}
 use Rattle.operand_checker.specs.declared.typed.Typed.{Typed}
-use Rattle.expression_checker.specs.Actuals.{actual_by, closed}
-use Rattle.expression_checker.specs.Callees.{applied, called}
-use Rattle.operand_checker.specs.Members.{member_range, nothing_gathered, set_at}
+use Rattle.expression_checker.specs.Actuals.{actual_by, actuals_end}
+use Rattle.expression_checker.specs.Callees.{applied, called_function}
+use Rattle.operand_checker.specs.Members.{member_range, nothing_gathered, set_constructor}
 use Rattle.operand_checker.specs.Names.{variable}
 use Rattle.operand_checker.specs.Operations.{adding_operator, multiplying_operator, negated, operated, relational_operator, signed}
 use Rattle.operand_checker.specs.Selectors.{indexed}
 use Rattle.operand_checker.specs.Typed.{bracketed}
-use Rattle.expression_checker.specs.Expressions.{root, count_of, passing_to, expression, relation_held, related, simple, terms, next_term, term, factors}
+use Rattle.expression_checker.specs.Expressions.{root_name, count_of, passing_to, expression, relation_held, related, simple, terms, next_term, term, factors}
 use Rattle.expression_checker.specs.Expressions.{factor, call, more_arguments, next_argument, selected, selector, index_at, more_indexes, next_index}
 use Rattle.expression_checker.specs.Expressions.{constructor, some_members, more_members, next_member, member, range_held, range, actual, access}
 use Rattle.std.proofs.Common.{◌≡◌, refl}
@@ -81,7 +81,7 @@ mutual
   factor-bare frame (Number token) = refl
   factor-bare frame (Text token) = refl
   factor-bare frame (Nil token) = refl
-  factor-bare frame (Access' name _ selectors) = λ i. root frame (is_name-bare selectors i) name >>= λ one. selected-bare frame one selectors i
+  factor-bare frame (Access' name _ selectors) = λ i. root_name frame (is_name-bare selectors i) name >>= λ one. selected-bare frame one selectors i
   factor-bare frame (Call' name _ a) = λ i. call-bare frame name (count_of-bare a i) a i
   factor-bare frame (Paren' open' _ e close) = λ i. expression-bare frame e i >>= λ v. give (bracketed v)
   factor-bare frame (Set' _ m) = λ i. constructor-bare frame m i
@@ -89,9 +89,9 @@ mutual
 
   pub call-bare : (frame : ℕ) (name : ℕ) (count : ℕ) (a : Arguments) → call frame name count (bare_arguments a) ≡ call frame name count a
   call-bare frame name count (Arguments' open' first _ others close) =
-      λ i. called frame name count
+      λ i. called_function frame name count
       >>= λ c. actual_by frame (passing_to c name) open' (name_alone-bare first i) (first_of_expression-bare first i) (expression-bare frame first i)
-      >>= λ one. more_arguments-bare frame one others i >>= λ end. closed end close >>= λ last. applied name c.callee last open'
+      >>= λ one. more_arguments-bare frame one others i >>= λ end. actuals_end end close >>= λ last. applied name c.callee last open'
 
   pub more_arguments-bare : (frame : ℕ) (p : Passing) {m : _} (r : Row_of-NextExpression m) → more_arguments frame p (bare_expressions r)
       ≡ more_arguments frame p r
@@ -130,7 +130,7 @@ mutual
 
   pub some_members-bare : (frame : ℕ) (s : SomeMembers) → some_members frame (bare_some_members s) ≡ some_members frame s
   some_members-bare frame (SomeMembers' open' first _ others close) =
-      λ i. member-bare frame (nothing_gathered close) open' first i >>= λ one. more_members-bare frame one others i >>= λ all. set_at all open' close
+      λ i. member-bare frame (nothing_gathered close) open' first i >>= λ one. more_members-bare frame one others i >>= λ all. set_constructor all open' close
 
   pub more_members-bare : (frame : ℕ) (g : Gathered) {m : _} (r : Row_of-NextMember m) → more_members frame g (bare_more_members r)
       ≡ more_members frame g r

@@ -10,7 +10,8 @@ use Rattle.check_steps.specs.Known.{frame_at}
 use Rattle.check_steps.specs.Steps.{◌>>=◌, look, each}
 use Rattle.kind_checker.specs.declared.names.Kind.TheVariants as kind
 use Rattle.kind_checker.specs.Names.{define_name}
-use Rattle.heading_checker.specs.Formals.{is_function, held_formals, formals_of, result_of, is_complete, opening, closing, first_formal, other_formals}
+use Rattle.heading_checker.specs.Formals.{is_function, held_formals, formals_of, result_of, is_complete, opening_parenthesis, closing_parenthesis, first_formal}
+use Rattle.heading_checker.specs.Formals.{other_formals}
 use Rattle.heading_checker.specs.Formals.{define_formal, define_next_formal, define_each_formal, define_held, define_formals, define_formals_at}
 use Rattle.std.proofs.Common.{◌≡◌, refl, ◌∙◌, map, option_map}
 use Rattle.same_programs.proofs.Steps.{each-bare}
@@ -37,10 +38,10 @@ result_of-bare (Function (FunctionHeading' word name formals result)) = refl
 pub is_complete-bare : (h : Heading) → is_complete (bare_heading h) ≡ is_complete h
 is_complete-bare h = λ i. not (is_function-bare h i) || is_some (result_of-bare h i)
 
-pub opening-bare : (f : Formals) → opening (bare_formals f) ≡ opening f
+pub opening-bare : (f : Formals) → opening_parenthesis (bare_formals f) ≡ opening_parenthesis f
 opening-bare f = formals_open f
 
-pub closing-bare : (f : Formals) → closing (bare_formals f) ≡ closing f
+pub closing-bare : (f : Formals) → closing_parenthesis (bare_formals f) ≡ closing_parenthesis f
 closing-bare f = formals_close f
 
 pub first_formal-bare : (f : Formals) → first_formal (bare_formals f) ≡ bare_formal (first_formal f)

@@ -16,9 +16,9 @@ use Rattle.program_tables.specs.declared.rows.Mode.TheVariants as mode
 use Rattle.program_tables.specs.declared.rows.PartRow.TheVariants as part
 use Rattle.program_tables.specs.declared.rows.ItemRow.TheVariants as item
 use Rattle.check_steps.specs.Known.{frame_at}
-use Rattle.check_steps.specs.Steps.{give, ◌>>=◌, look, rule, put, open_region, each_back}
+use Rattle.check_steps.specs.Steps.{give, ◌>>=◌, look, early, put, open_region, each_back}
 use Rattle.kind_checker.specs.Sizes.{frame_capped}
-use Rattle.heading_checker.specs.Formals.{held_formals, opening, closing, first_formal, other_formals}
+use Rattle.heading_checker.specs.Formals.{held_formals, opening_parenthesis, closing_parenthesis, first_formal, other_formals}
 use Rattle.heading_checker.specs.Headings.{parameters, routine_formal, open_heading, count_of, section_row, put_section, put_next_section, put_sections}
 use Rattle.heading_checker.specs.Headings.{section_list, result_or, procedure_row, function_row, signature, procedure_signature, function_signature}
 use Rattle.heading_checker.specs.Headings.{places_held, places, more_places, formal_place}
@@ -40,7 +40,7 @@ unfolding routine_formal
 routine_formal-bare frame at h =
     λ i. look (λ k. (frame_at k frame).level)
     >>= λ level. put (heading_name-bare h i) (row.Name (named.RoutineFormal at level (heading_word-bare h i)))
-    >>= λ _. rule 9 (heading_name-bare h i) (is_complete-bare h i)
+    >>= λ _. early 9 (heading_name-bare h i) (is_complete-bare h i)
 
 pub open_heading-bare : (frame : ℕ) (h : Heading) → open_heading frame (bare_heading h) ≡ open_heading frame h
 unfolding open_heading
@@ -69,8 +69,8 @@ unfolding put_sections
 put_sections-bare f =
     (λ i. each_back put_next_section (closing-bare f i) (other_formals-bare f i)
     >>= λ next. put_section (opening-bare f i) (first_formal-bare f i) next)
-    ∙ (λ i. each_back-bare put_next_section bare_next_formal put_next_section-bare (closing f) (other_formals f) i
-    >>= λ next. put_section-bare (opening f) (first_formal f) next i)
+    ∙ (λ i. each_back-bare put_next_section bare_next_formal put_next_section-bare (closing_parenthesis f) (other_formals f) i
+    >>= λ next. put_section-bare (opening_parenthesis f) (first_formal f) next i)
 
 pub section_list-bare : (word : ℕ) (f : Option Formals) → section_list word (option_map bare_formals f) ≡ section_list word f
 section_list-bare word None = refl

@@ -10,7 +10,7 @@ use Rattle.check_steps.specs.declared.regions.Def.TheVariants as def
 use Rattle.check_steps.specs.Known.{Known, name_at, row_at}
 use Rattle.check_steps.specs.Regions.{defined_in}
 use Rattle.check_steps.specs.Names.{define_in}
-use Rattle.check_steps.specs.Steps.{give, ◌>>=◌, look, rule, when, put}
+use Rattle.check_steps.specs.Steps.{give, ◌>>=◌, look, early, when, put}
 use Rattle.pas_places.specs.Headings.{heading_name}
 use Rattle.heading_checker.specs.Formals.{is_function, formals_of, result_of}
 use Rattle.heading_checker.specs.RoutineParts.{routine_name, awaiting, completed_by, define_heading, is_forward, directed, directive_in, defining, no_formals}
@@ -35,12 +35,12 @@ pub define_heading-bare : (region : ℕ) (h : Heading) → define_heading region
 unfolding define_heading
 define_heading-bare region h =
     λ i. define_in region (record { def = def.Routine (heading_name-bare h i); token = heading_name-bare h i; end = heading_name-bare h i })
-    >>= λ _. rule 9 (heading_name-bare h i) (is_complete-bare h i)
+    >>= λ _. early 9 (heading_name-bare h i) (is_complete-bare h i)
 
 pub directed-bare : (h : Heading) (directive : ℕ) → directed (bare_heading h) directive ≡ directed h directive
 unfolding directed
 directed-bare h directive =
-    λ i. look (λ k. is_forward k directive) >>= λ forward. rule 10 directive forward
+    λ i. look (λ k. is_forward k directive) >>= λ forward. early 10 directive forward
     >>= λ _. when forward (put (heading_name-bare h i) (row.Part (part.Forward (is_function-bare h i) None)))
 
 pub directive_in-bare : (h : Heading) (b : Body) → directive_in (bare_heading h) (bare_body b) ≡ directive_in h b
@@ -53,7 +53,7 @@ defining-bare region h body = λ i. define_heading-bare region h i >>= λ _. dir
 
 pub no_formals-bare : (f : Option Formals) → no_formals (option_map bare_formals f) ≡ no_formals f
 no_formals-bare None = refl
-no_formals-bare (Some f) = λ i. rule 9 (opening-bare f i) false
+no_formals-bare (Some f) = λ i. early 9 (opening-bare f i) false
 
 pub completing-bare : (first : ℕ) (position : ℕ) (h : Heading) → completing first position (bare_heading h) ≡ completing first position h
 unfolding completing
@@ -78,7 +78,7 @@ define_routine-bare region position r =
 
 pub has_block-bare : (u : Unit {0}) (r : Routine) → has_block u (bare_routine r) ≡ has_block u r
 unfolding has_block
-has_block-bare u r = λ i. look (λ k. is_waiting (row_at k (routine_name-bare r i))) >>= λ waiting. rule 8 (routine_name-bare r i) (not waiting)
+has_block-bare u r = λ i. look (λ k. is_waiting (row_at k (routine_name-bare r i))) >>= λ waiting. early 8 (routine_name-bare r i) (not waiting)
 
 pub define_routines-bare : (region : ℕ) (rs : List Routine) → define_routines region (map bare_routine rs) ≡ define_routines region rs
 define_routines-bare region rs =

@@ -4,7 +4,7 @@ use Rattle.pas_lexer.proofs.OneDivision.{same_tokens}
 use Rattle.pas_tree.specs.declared.blocks.Tree.{Tree}
 use Rattle.pas_tree.specs.SameTrees.{SameTree}
 use Rattle.pas_tree.proofs.TreesTold.{text_told}
-use Rattle.check_steps.specs.Words.{start}
+use Rattle.check_steps.specs.Words.{known_at_start}
 use Rattle.decl_checker.specs.Programs.{program_step, tables_of}
 use Rattle.code_checker.specs.Programs.{check_step}
 use Rattle.check_steps.specs.declared.breaks.Break.{Break}
@@ -25,10 +25,10 @@ same_check a b p = sym (check_step-bare a) ∙ ap check_step (same_tree a b p) �
 
 pub memory_says_nothing : MemorySaysNothing
 memory_says_nothing t a b p = record {
-  broken = λ i. (same_check a b p i (start t)).broken;
-  denoted = λ i. (same_check a b p i (start t)).known.program;
-  declared = λ i. (same_declarations a b p i (start t)).broken;
-  tables = λ i. (same_declarations a b p i (start t)).known;
+  broken = λ i. (same_check a b p i (known_at_start t)).broken;
+  denoted = λ i. (same_check a b p i (known_at_start t)).known.program;
+  declared = λ i. (same_declarations a b p i (known_at_start t)).broken;
+  tables = λ i. (same_declarations a b p i (known_at_start t)).known;
 }
 
 pub one_text : OneTextOneProgram

@@ -7,7 +7,7 @@ use Rattle.pas_tree.specs.declared.statements.Width.{Width}
 use Rattle.program_tables.specs.declared.rows.TextFile.{TextFile}
 use Rattle.check_steps.specs.Known.{Known}
 use Rattle.check_steps.specs.Steps.{give, ◌>>=◌, late}
-use Rattle.required_checker.specs.Actuals.{surplus_width, no_width, plain_actual, next_plain, own_parts, wrong_number, named_file, file_without, file_in}
+use Rattle.required_checker.specs.Actuals.{surplus_width, no_width, plain_actual, next_plain, own_parts, wrong_number, named_file, file_without, actual_file}
 use Rattle.std.proofs.Common.{◌≡◌, refl, option_map}
 use Rattle.same_programs.proofs.Steps.{each-bare}
 use Rattle.same_programs.proofs.BareStatements.{bare_actual, bare_actuals, bare_next_actual, bare_width}
@@ -43,5 +43,5 @@ pub file_without-bare : (w : Option Width) (file : Option TextFile) → file_wit
 file_without-bare None file = refl
 file_without-bare (Some w) file = refl
 
-pub file_in-bare : (k : Known) (frame : ℕ) (a : Actual) → file_in k frame (bare_actual a) ≡ file_in k frame a
+pub file_in-bare : (k : Known) (frame : ℕ) (a : Actual) → actual_file k frame (bare_actual a) ≡ actual_file k frame a
 file_in-bare k frame a = λ i. file_without-bare a.width (named_file k frame (name_alone-bare a.expression i)) i

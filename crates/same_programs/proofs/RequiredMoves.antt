@@ -8,8 +8,9 @@ use Rattle.program_tables.specs.declared.rows.StatementRow.TheVariants as statem
 use Rattle.check_steps.specs.Steps.{give, ◌>>=◌, look, late}
 use Rattle.statement_rules.specs.Sequences.{stated}
 use Rattle.required_checker.specs.declared.actuals.Call.{Call}
-use Rattle.required_checker.specs.Moves.{domain_of, is_pointer, made, new_one, dispose_one, pointer_one, pointer_some, pointer, moved, operand, pack_row}
-use Rattle.required_checker.specs.Moves.{pack_three, unpack_three, three, pack_some, pack}
+use Rattle.required_checker.specs.Moves.{domain_of, is_pointer, new_variable, new_one, dispose_one, pointer_one, pointer_some, pointer_call, move_checked}
+use Rattle.required_checker.specs.Moves.{operand_actual, pack_row}
+use Rattle.required_checker.specs.Moves.{pack_three, unpack_three, three, pack_some, pack_call}
 use Rattle.std.proofs.Common.{◌≡◌, refl, map, option_map}
 use lib.ListN.{length-map}
 use Rattle.same_programs.proofs.BareStatements.{bare_actual, bare_actuals, bare_boxed_actuals, bare_next_actual}
@@ -19,7 +20,7 @@ use Rattle.same_programs.proofs.PlacesExpressions.{first_of_expression-bare}
 pub new_one-bare : (frame : ℕ) (c : Call) (a : Actual) → new_one frame c (bare_actual a) ≡ new_one frame c a
 unfolding new_one
 new_one-bare frame c a =
-    λ i. plain_actual-bare frame a i >>= λ v. made (first_of_expression-bare a.expression i) v
+    λ i. plain_actual-bare frame a i >>= λ v. new_variable (first_of_expression-bare a.expression i) v
     >>= λ domain. stated c.name (statement.New c.line v.row domain)
 
 pub dispose_one-bare : (frame : ℕ) (c : Call) (a : Actual) → dispose_one frame c (bare_actual a) ≡ dispose_one frame c a
@@ -37,27 +38,27 @@ pub pointer_some-bare : (making : Bool) (frame : ℕ) (c : Call) (a : Actuals) (
 pointer_some-bare making frame c a true = λ i. pointer_one-bare making frame c a.first i
 pointer_some-bare making frame c a false = λ i. wrong_number-bare frame c.name a i
 
-pub pointer-bare : (making : Bool) (frame : ℕ) (c : Call) (a : Option (Box Actuals)) → pointer making frame c (option_map bare_boxed_actuals a)
-    ≡ pointer making frame c a
+pub pointer-bare : (making : Bool) (frame : ℕ) (c : Call) (a : Option (Box Actuals)) → pointer_call making frame c (option_map bare_boxed_actuals a)
+    ≡ pointer_call making frame c a
 pointer-bare making frame c None = refl
 pointer-bare making frame c (Some a) = λ i. pointer_some-bare making frame c a.value (nat_eq (length-map a.value.others.items bare_next_actual i) 0) i
 
-pub operand-bare : (frame : ℕ) (a : Actual) → operand frame (bare_actual a) ≡ operand frame a
-unfolding operand
+pub operand-bare : (frame : ℕ) (a : Actual) → operand_actual frame (bare_actual a) ≡ operand_actual frame a
+unfolding operand_actual
 operand-bare frame a = λ i. plain_actual-bare frame a i >>= λ v. give (record { first = first_of_expression-bare a.expression i; value = v })
 
 pub pack_three-bare : (frame : ℕ) (c : Call) (a : Actual) (b : Actual) (d : Actual)
     → pack_three frame c (bare_actual a) (bare_actual b) (bare_actual d) ≡ pack_three frame c a b d
 unfolding pack_three
 pack_three-bare frame c a b d =
-    λ j. operand-bare frame a j >>= λ u. operand-bare frame b j >>= λ i. operand-bare frame d j >>= λ p. moved u i p
+    λ j. operand-bare frame a j >>= λ u. operand-bare frame b j >>= λ i. operand-bare frame d j >>= λ p. move_checked u i p
     >>= λ _. stated c.name (pack_row true c.line u i p)
 
 pub unpack_three-bare : (frame : ℕ) (c : Call) (a : Actual) (b : Actual) (d : Actual)
     → unpack_three frame c (bare_actual a) (bare_actual b) (bare_actual d) ≡ unpack_three frame c a b d
 unfolding unpack_three
 unpack_three-bare frame c a b d =
-    λ j. operand-bare frame a j >>= λ p. operand-bare frame b j >>= λ u. operand-bare frame d j >>= λ i. moved u i p
+    λ j. operand-bare frame a j >>= λ p. operand-bare frame b j >>= λ u. operand-bare frame d j >>= λ i. move_checked u i p
     >>= λ _. stated c.name (pack_row false c.line u i p)
 
 pub three-bare : (b : Bool) (frame : ℕ) (c : Call) (a : Actual) (a' : Actual) (d : Actual)
@@ -70,7 +71,7 @@ pub pack_some-bare : (packing : Bool) (frame : ℕ) (c : Call) (a : Actuals) (ot
 pack_some-bare packing frame c a (b ∷ d ∷ []) = λ i. three-bare packing frame c a.first b.actual d.actual i
 pack_some-bare packing frame c a others = λ i. wrong_number-bare frame c.name a i
 
-pub pack-bare : (packing : Bool) (frame : ℕ) (c : Call) (a : Option (Box Actuals)) → pack packing frame c (option_map bare_boxed_actuals a)
-    ≡ pack packing frame c a
+pub pack-bare : (packing : Bool) (frame : ℕ) (c : Call) (a : Option (Box Actuals)) → pack_call packing frame c (option_map bare_boxed_actuals a)
+    ≡ pack_call packing frame c a
 pack-bare packing frame c None = refl
 pack-bare packing frame c (Some a) = λ i. pack_some-bare packing frame c a.value a.value.others.items i

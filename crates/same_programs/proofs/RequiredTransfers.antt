@@ -18,8 +18,8 @@ use Rattle.required_checker.specs.declared.actuals.Call.{Call}
 use Rattle.required_checker.specs.declared.transfers.Transfer.{Transfer}
 use Rattle.required_checker.specs.declared.transfers.Transfer.TheVariants.{Reading, Writing}
 use Rattle.required_checker.specs.Actuals.{add_item, link}
-use Rattle.required_checker.specs.Transfers.{is_readable, read_item, is_writable, width, written, put_written, write_item, item_by, next_item, is_file_of}
-use Rattle.required_checker.specs.Transfers.{first_item, first_comma, list_of, items, transfer_row, is_enough, transfer_with, transferred, page_other, paged}
+use Rattle.required_checker.specs.Transfers.{is_readable, read_item, is_writable, width, written_item, put_written, write_item, item_by, next_item, is_file_of}
+use Rattle.required_checker.specs.Transfers.{first_item, first_comma, list_of, items, transfer_row, is_enough, transfer_with, transfer_call, page_other, paged}
 use Rattle.required_checker.specs.Transfers.{page_one, page_some, page}
 use Rattle.std.proofs.Common.{◌≡◌, refl, map, option_map}
 use Rattle.same_programs.proofs.Steps.{each-bare}
@@ -44,7 +44,7 @@ width-bare frame w =
 pub put_written-bare : (frame : ℕ) (last : ℕ) (v : Typed) (slot : ℕ) (w : Option Width) → put_written frame last v slot (option_map bare_width w)
     ≡ put_written frame last v slot w
 put_written-bare frame last v slot None = refl
-put_written-bare frame last v slot (Some w) = λ i. width-bare frame w i >>= λ n. add_item last slot (written v (Some n))
+put_written-bare frame last v slot (Some w) = λ i. width-bare frame w i >>= λ n. add_item last slot (written_item v (Some n))
 
 pub write_item-bare : (frame : ℕ) (last : ℕ) (slot : ℕ) (a : Actual) → write_item frame last slot (bare_actual a) ≡ write_item frame last slot a
 unfolding write_item
@@ -94,7 +94,7 @@ transfer_with-bare t ends_line frame c a =
     >>= λ _. items-bare t frame c.name a file i >>= λ list. stated c.name (transfer_row t ends_line c.line list)
 
 pub transferred-bare : (t : Transfer) (ends_line : Bool) (frame : ℕ) (c : Call) (a : Option (Box Actuals))
-    → transferred t ends_line frame c (option_map bare_boxed_actuals a) ≡ transferred t ends_line frame c a
+    → transfer_call t ends_line frame c (option_map bare_boxed_actuals a) ≡ transfer_call t ends_line frame c a
 transferred-bare t ends_line frame c None = refl
 transferred-bare t ends_line frame c (Some a) = λ i. transfer_with-bare t ends_line frame c a.value i
 

@@ -3,7 +3,7 @@ use Rattle.std.specs.Prelude.{ℕ}
 use Rattle.pas_tree.specs.declared.statements.NextStatement.{NextStatement}
 use Rattle.pas_tree.specs.declared.statements.Statements.{Statements, out-Statements}
 use Rattle.check_steps.specs.Steps.{Step, ◌>>=◌, each}
-use Rattle.statement_rules.specs.Labels.{reach, leave, on_label, on_next, each_label, reach_all, leave_all}
+use Rattle.statement_rules.specs.Labels.{reach_label, leave, on_label, on_next, each_label, reach_all, leave_all}
 use Rattle.std.proofs.Common.{◌≡◌, refl, ◌∙◌}
 use Rattle.same_programs.proofs.Steps.{each-bare}
 use Rattle.same_programs.proofs.BareStatements.{bare_next_statement, bare_statements}
@@ -21,7 +21,7 @@ each_label-bare f s =
 
 pub reach_all-bare : (frame : ℕ) (s : Statements) → reach_all frame (bare_statements s) ≡ reach_all frame s
 unfolding reach_all
-reach_all-bare frame s = λ i. each_label-bare (reach frame) s i
+reach_all-bare frame s = λ i. each_label-bare (reach_label frame) s i
 
 pub leave_all-bare : (frame : ℕ) (s : Statements) → leave_all frame (bare_statements s) ≡ leave_all frame s
 unfolding leave_all

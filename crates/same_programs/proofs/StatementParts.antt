@@ -13,8 +13,8 @@ use Rattle.expression_checker.specs.declared.actuals.Passing.{Passing}
 use Rattle.expression_checker.specs.declared.callees.Callee.{Callee}
 use Rattle.expression_checker.specs.declared.callees.Callee.TheVariants as callee
 use Rattle.operand_checker.specs.Threats.{threat_alone}
-use Rattle.expression_checker.specs.Actuals.{closed}
-use Rattle.expression_checker.specs.Callees.{counted}
+use Rattle.expression_checker.specs.Actuals.{actuals_end}
+use Rattle.expression_checker.specs.Callees.{count_checked}
 use Rattle.expression_checker.specs.Expressions.{passing_to}
 use Rattle.statement_rules.specs.declared.assignments.Target.{Target}
 use Rattle.statement_rules.specs.declared.assignments.Target.TheVariants as target
@@ -27,8 +27,8 @@ use Rattle.statement_rules.specs.Conditions.{condition}
 use Rattle.statement_rules.specs.Loops.{bound, enter_for}
 use Rattle.statement_rules.specs.Records.{inside_record}
 use Rattle.statement_rules.specs.Sequences.{add_element, line_of}
-use Rattle.statement_checker.specs.Parts.{tested, bounded, for_begins, selected, target_access, target_as, assigned_to, assignment, passed_actual}
-use Rattle.statement_checker.specs.Parts.{next_passed, actuals_in, call_with, declared_call, call_as, call, first_record, next_record}
+use Rattle.statement_checker.specs.Parts.{condition_row, bounded, for_begins, selected, target_access, target_as, assigned_to, assignment, passed_actual}
+use Rattle.statement_checker.specs.Parts.{next_passed, actuals_in, call_with, declared_call, call_as, call_statement, first_record, next_record}
 use Rattle.std.proofs.Common.{◌≡◌, refl, option_map}
 use Rattle.same_programs.proofs.Steps.{each-bare}
 use lib.ListN.{length-map}
@@ -40,8 +40,8 @@ use Rattle.same_programs.proofs.ExpressionActuals.{access_name-bare}
 use Rattle.same_programs.proofs.RequiredActuals.{no_width-bare}
 use Rattle.same_programs.proofs.RequiredProcedures.{required_call-bare}
 
-pub tested-bare : (frame : ℕ) (e : Expression) → tested frame (bare_expression e) ≡ tested frame e
-unfolding tested
+pub tested-bare : (frame : ℕ) (e : Expression) → condition_row frame (bare_expression e) ≡ condition_row frame e
+unfolding condition_row
 tested-bare frame e = λ i. expression-bare frame e i >>= λ v. condition (first_of_expression-bare e i) v >>= λ _. give v.row
 
 pub bounded-bare : (frame : ℕ) (c : Control) (e : Expression) → bounded frame c (bare_expression e) ≡ bounded frame c e
@@ -95,8 +95,8 @@ pub call_with-bare : (frame : ℕ) (line : ℕ) (name : ℕ) (c : Callee) (a : A
     ≡ call_with frame line name c a
 unfolding call_with
 call_with-bare frame line name c a =
-    λ i. counted name c (actuals_in-bare a i) >>= λ called. passed_actual-bare frame (passing_to called name) a.«open» a.first i
-    >>= λ one. each-bare (next_passed frame) bare_next_actual (next_passed-bare frame) one a.others.items i >>= λ all. closed all a.close
+    λ i. count_checked name c (actuals_in-bare a i) >>= λ called. passed_actual-bare frame (passing_to called name) a.«open» a.first i
+    >>= λ one. each-bare (next_passed frame) bare_next_actual (next_passed-bare frame) one a.others.items i >>= λ all. actuals_end all a.close
     >>= λ _. call_row line name called.callee a.«open»
 
 pub declared_call-bare : (frame : ℕ) (line : ℕ) (name : ℕ) (c : Callee) (a : Option (Box Actuals))
@@ -110,8 +110,8 @@ call_as-bare frame line name (callee.Required r) actuals = λ i. required_call-b
 call_as-bare frame line name c actuals = λ i. declared_call-bare frame line name c actuals i
 
 pub call-bare : (frame : ℕ) (label : Option ℕ) (name : ℕ) (actuals : Option (Box Actuals))
-    → call frame label name (option_map bare_boxed_actuals actuals) ≡ call frame label name actuals
-unfolding call
+    → call_statement frame label name (option_map bare_boxed_actuals actuals) ≡ call_statement frame label name actuals
+unfolding call_statement
 call-bare frame label name actuals =
     λ i. procedure_at frame name >>= λ c. look (λ k. line_of k label name) >>= λ line. call_as-bare frame line name c actuals i
 

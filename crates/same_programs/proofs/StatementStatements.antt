@@ -12,7 +12,7 @@ use Rattle.statement_rules.specs.declared.sequences.Branching.{Branching}
 use Rattle.statement_rules.specs.declared.sequences.Element.{Element}
 use Rattle.statement_rules.specs.Choices.{case_row}
 use Rattle.statement_checker.specs.Parts.{for_ends, next_record}
-use Rattle.statement_rules.specs.Records.{with_row}
+use Rattle.statement_rules.specs.Records.{put_with}
 use Rattle.statement_rules.specs.Sequences.{add_element, compound_row, if_else_row, link_element, repeat_row, while_row}
 use Rattle.statement_checker.specs.Statements.{element, branching, label_token, labelled_by, plain, compound, sequence, more_statements, if_statement}
 use Rattle.statement_checker.specs.Statements.{else_held, case_statement, more_branches, repeat_statement}
@@ -43,7 +43,7 @@ mutual
   plain-bare frame label (With' _ word first others do_word inner p) =
       λ i. first_record-bare frame word first i >>= λ one. each-bare next_record bare_next_access next_record-bare one others.items i
       >>= λ all. link_element all.last do_word >>= λ _. labelled_by all.frame inner (plain-bare all.frame (label_token inner) p i)
-      >>= λ body. with_row label word do_word body
+      >>= λ body. put_with label word do_word body
 
   pub compound-bare : (frame : ℕ) (c : Compound) → compound frame (bare_compound c) ≡ compound frame c
   compound-bare frame (CompoundTree' begin statements end) =

@@ -18,7 +18,7 @@ use Rattle.pas_tree.specs.declared.expressions.NextMember.{NextMember, NextMembe
 use Rattle.pas_tree.specs.declared.expressions.Member.{Member, Member', Held-Member-last, Member-last-None', Member-last-Some'}
 use Rattle.pas_tree.specs.declared.expressions.RangeEnd.{RangeEnd, RangeEnd'}
 use Rattle.check_steps.specs.Steps.{give, ◌>>=◌}
-use Rattle.use_checker.specs.Accesses.{name_use, named_variable, component, expression_uses, relation_uses, related_uses, simple_uses, more_terms, next_term}
+use Rattle.use_checker.specs.Accesses.{name_use, named_variable, indexed_type, expression_uses, relation_uses, related_uses, simple_uses, more_terms, next_term}
 use Rattle.use_checker.specs.Accesses.{term_uses, more_factors, factor_uses, selected, selector, indices, more_indices, next_index, arguments_uses}
 use Rattle.use_checker.specs.Accesses.{more_arguments, next_argument, members_uses, some_members_uses, more_members, next_member, member_uses, range_end_uses}
 use Rattle.use_checker.specs.Accesses.{last_uses, access_type, access_uses}
@@ -79,7 +79,7 @@ mutual
 
   pub indices-bare : (frame : ℕ) (unknown : ℕ) (t : ℕ) (i : IndexTree) → indices frame unknown t (bare_index i) ≡ indices frame unknown t i
   indices-bare frame unknown t (Index' open' first _ others close) =
-      λ i. expression_uses-bare frame first i >>= λ _. component unknown t >>= λ part. more_indices-bare frame unknown part others i
+      λ i. expression_uses-bare frame first i >>= λ _. indexed_type unknown t >>= λ part. more_indices-bare frame unknown part others i
 
   pub more_indices-bare : (frame : ℕ) (unknown : ℕ) (t : ℕ) {m : _} (r : Row_of-NextExpression m) → more_indices frame unknown t (bare_expressions r)
       ≡ more_indices frame unknown t r
@@ -89,7 +89,7 @@ mutual
 
   pub next_index-bare : (frame : ℕ) (unknown : ℕ) (t : ℕ) (n : NextExpression) → next_index frame unknown t (bare_next_expression n)
       ≡ next_index frame unknown t n
-  next_index-bare frame unknown t (NextExpression' comma e) = λ i. expression_uses-bare frame e i >>= λ _. component unknown t
+  next_index-bare frame unknown t (NextExpression' comma e) = λ i. expression_uses-bare frame e i >>= λ _. indexed_type unknown t
 
   pub arguments_uses-bare : (frame : ℕ) (a : Arguments) → arguments_uses frame (bare_arguments a) ≡ arguments_uses frame a
   arguments_uses-bare frame (Arguments' open' first _ others close) =

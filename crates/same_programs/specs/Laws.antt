@@ -16,7 +16,7 @@ use Rattle.source_checker.specs.Programs.{IsChecked, IsUnchecked}
 pub record AreOneProgram (t : Lexed) (a b : Tree) : Type 0 where
   pub broken : program.broken t a ≡ program.broken t b
   pub denoted : program.program_of t a ≡ program.program_of t b
-  pub declared : declarations.broken t a ≡ declarations.broken t b
+  pub declared : declarations.broken_early t a ≡ declarations.broken_early t b
   pub tables : declarations.tables_of t a ≡ declarations.tables_of t b
 
 -- Where the boxes and vectors of a tree lie in memory says nothing.

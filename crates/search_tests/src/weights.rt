@@ -3,7 +3,7 @@
 ghost use Rattle.std.specs.Prelude.{◌≡◌, ◌<◌, [], IfOk, Some, length, slice_get};
 ghost use Rattle.call_tree.specs.declared.records.Mark.TheVariants.{Right, Wrong};
 ghost use Rattle.subtree_weights.specs.RunColumns.{columns_of};
-ghost use Rattle.subtree_weights.specs.Weighed.{calls_in, with_marks, unjudged};
+ghost use Rattle.subtree_weights.specs.Weighed.{call_count, with_marks, unjudged};
 
 use crate::trees::grown;
 use call_tree::{Calls, Mark};
@@ -17,7 +17,7 @@ use subtree_weights::Weights;
 fn weighed(rt: &impl Abort, alloc: Global, calls: &Calls, marks: &[Mark]) -> Result<Weights, Memory>
     requires all_left { calls.now.open_calls ≡ [] }
     ensures weighed { IfOk result (λ weights. weights ≡ with_marks (unjudged calls.now.calls) marks.now) }
-    ensures long { IfOk result (λ weights. calls_in weights ≡ length marks.now) }
+    ensures long { IfOk result (λ weights. call_count weights ≡ length marks.now) }
 {
     assert!(rt; calls.len() > 0 && marks.len() == calls.len() as usize);
     let mut weights = Weights::new(alloc, calls)?;
@@ -28,7 +28,7 @@ fn weighed(rt: &impl Abort, alloc: Global, calls: &Calls, marks: &[Mark]) -> Res
 
 /// The weights are these, and this many suspects stand under call 1.
 fn are(rt: &impl Abort, weights: &Weights, column: &[u32], under: u32)
-    requires a_call { 1 < calls_in weights.now }
+    requires a_call { 1 < call_count weights.now }
 {
     assert_eq!(rt; weights.column(), column);
     assert_eq!(rt; weights.under(1), under);
@@ -37,7 +37,7 @@ fn are(rt: &impl Abort, weights: &Weights, column: &[u32], under: u32)
 /// Takes the marks of the calls 2 and 1 back.
 fn take_marks_back(rt: &impl Abort, calls: &Calls, weights: &mut Weights)
     requires those_calls { columns_of calls.now.calls ≡ weights.old.columns }
-    requires four { calls_in weights.old ≡ 4 }
+    requires four { call_count weights.old ≡ 4 }
     requires wrong { slice_get weights.old.marks 2 ≡ Some Wrong }
     requires right { slice_get weights.old.marks 1 ≡ Some Right }
 {

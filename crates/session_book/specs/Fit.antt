@@ -5,7 +5,7 @@ use Rattle.std.specs.Str.{bytes_eq}
 use Rattle.answer_book.specs.declared.entries.Entry.{Entry}
 use Rattle.answer_book.specs.declared.entries.What.{What}
 use Rattle.answer_book.specs.declared.entries.What.TheVariants.{Judged, Trusted}
-use Rattle.dialog_replies.specs.Subject.{Subject, calls_of}
+use Rattle.dialog_replies.specs.Subject.{Subject, calls_recorded}
 use Rattle.session_file.specs.declared.session.Session.{Session}
 use Rattle.session_book.specs.declared.misfits.Misfit.{Misfit}
 use Rattle.session_book.specs.declared.misfits.Misfit.TheVariants.{Source, Input, Budget, Call, Routine}
@@ -13,7 +13,7 @@ use Rattle.session_book.specs.declared.start.Start.{Start}
 
 -- the entry of this number names a call or a routine that there is not
 abbrev pub named_beyond : Subject → ℕ → What → Option Misfit
-named_beyond s number (Judged call judgement) = if nat_lt call (calls_of s) then None else Some (Call number call)
+named_beyond s number (Judged call judgement) = if nat_lt call (calls_recorded s) then None else Some (Call number call)
 named_beyond s number (Trusted routine) = if nat_lt routine s.routines then None else Some (Routine number routine)
 
 -- the first such entry, where the first of these has this number; whether an entry stands says nothing

@@ -2,7 +2,7 @@
 ghost use Rattle.std.specs.Prelude.{◌≡◌, ◌≤◌, All, IfOk, None, length};
 ghost use Rattle.answer_book.specs.InRange.{IsInRange};
 ghost use Rattle.dialog_replies.specs.Kept.{IsSearchOf};
-ghost use Rattle.dialog_replies.specs.Subject.{calls_of};
+ghost use Rattle.dialog_replies.specs.Subject.{calls_recorded};
 ghost use Rattle.session_book.specs.Fit.{misfit};
 ghost use Rattle.session_book.specs.Start.{IsWholeStart, entries_at_start};
 
@@ -21,8 +21,8 @@ fn resume_with<'a, D: Debugged>(
     entries: &[Entry],
 ) -> Result<Debug<'a>, Memory>
     requires few { length entries.now ≤ 100000 }
-    requires named { All (λ entry. IsInRange (calls_of (D.subject run.now)) (D.subject run.now).routines entry.what)
-        entries.now }
+    requires named { All (λ entry.
+        IsInRange (calls_recorded (D.subject run.now)) (D.subject run.now).routines entry.what) entries.now }
     ensures search { IfOk result (λ debug. IsSearchOf (D.subject run.now) debug) }
     ensures entries { IfOk result (λ debug. debug.book.entries ≡ entries.now) }
 {

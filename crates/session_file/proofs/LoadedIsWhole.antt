@@ -22,9 +22,9 @@ use Rattle.session_file.specs.declared.session.Field.{Field}
 use Rattle.session_file.specs.declared.session.Field.TheVariants.{Version, Source, Input, Budget, Entries}
 use Rattle.session_file.specs.declared.session.LoadFault.{LoadFault}
 use Rattle.session_file.specs.declared.session.LoadFault.TheVariants.{BadVersion, Memory}
-use Rattle.session_file.specs.Text.{this_version, word_of}
-use Rattle.session_file.specs.Reading.{only_if, whole_at, word_at, text_at, digest_at, said_as, entry_in, entries_in, are_few, begins_wrong}
-use Rattle.session_file.specs.Reading.{is_budget, budget_at, values_at, entries_at, with_field, fields_in, session_in, json_of, session_or_fault}
+use Rattle.session_file.specs.Text.{this_version, judgement_word}
+use Rattle.session_file.specs.Reading.{only_if, whole_under, word_under, text_under, digest_at, said_as, entry_in, entries_in, has_allowed_length, begins_wrong}
+use Rattle.session_file.specs.Reading.{is_budget, budget_at, values_at, entries_at, with_field, fields_read, session_in, json_of, session_or_fault}
 use Rattle.session_file.specs.Reading.{session_of}
 use Rattle.session_file.specs.Whole.{IsDigest, NumberFits, IsWhole}
 
@@ -54,8 +54,8 @@ stood field (Some a) rest s e = (a, refl, e)
 
 -- ---- entries
 
-word_small : (key : List ℕ) (d : Data) (n : ℕ) → word_at key d ≡ Some n → n < 2 ^ 32
-word_small key d n e = ltb-true n (2 ^ 32) (passed (λ n. nat_lt n (2 ^ 32)) (whole_at key d) n e).1
+word_small : (key : List ℕ) (d : Data) (n : ℕ) → word_under key d ≡ Some n → n < 2 ^ 32
+word_small key d n e = ltb-true n (2 ^ 32) (passed (λ n. nat_lt n (2 ^ 32)) (whole_under key d) n e).1
 
 -- what holds of either branch's value holds of the one that is taken
 either : {A : Type 0} (b : Bool) (x y : Option A) (a : A) (P : A → Type 0) → (x ≡ Some a → P a) → (y ≡ Some a → P a)
@@ -67,27 +67,27 @@ none_said : (what : What) → None ≡ Some what → NumberFits what
 none_said what e = absurd cc
 
 judged_small : (judgement : Judgement) (d : Data) (what : What)
-    → option_map (λ call. Judged call judgement) (word_at (codes "call") d) ≡ Some what → NumberFits what
+    → option_map (λ call. Judged call judgement) (word_under (codes "call") d) ≡ Some what → NumberFits what
 judged_small judgement d what e =
-    let m = mapped (λ call. Judged call judgement) (word_at (codes "call") d) what e in
+    let m = mapped (λ call. Judged call judgement) (word_under (codes "call") d) what e in
     subst NumberFits m.2 (word_small (codes "call") d m.0 m.1)
 
-trusted_small : (d : Data) (what : What) → option_map Trusted (word_at (codes "routine") d) ≡ Some what → NumberFits what
+trusted_small : (d : Data) (what : What) → option_map Trusted (word_under (codes "routine") d) ≡ Some what → NumberFits what
 trusted_small d what e =
-    let m = mapped Trusted (word_at (codes "routine") d) what e in
+    let m = mapped Trusted (word_under (codes "routine") d) what e in
     subst NumberFits m.2 (word_small (codes "routine") d m.0 m.1)
 
 said_small : (kind : List ℕ) (d : Data) (what : What) → said_as kind d ≡ Some what → NumberFits what
 said_small kind d what e =
-    either (bytes_eq kind (word_of Right)) _ _ what NumberFits (judged_small Right d what)
-    (either (bytes_eq kind (word_of Wrong)) _ _ what NumberFits (judged_small Wrong d what)
-    (either (bytes_eq kind (word_of Unknown)) _ _ what NumberFits (judged_small Unknown d what)
+    either (bytes_eq kind (judgement_word Right)) _ _ what NumberFits (judged_small Right d what)
+    (either (bytes_eq kind (judgement_word Wrong)) _ _ what NumberFits (judged_small Wrong d what)
+    (either (bytes_eq kind (judgement_word Unknown)) _ _ what NumberFits (judged_small Unknown d what)
     (either (bytes_eq kind (codes "trust")) _ _ what NumberFits (trusted_small d what) (none_said what)))) e
 
 entry_small : (d : Data) (entry : Entry) → entry_in d ≡ Some entry → NumberFits entry.what
 entry_small d entry e =
-    let a = followed _ (option_and_then (λ kind. said_as kind d) (text_at (codes "kind") d)) entry e in
-    let b = followed (λ kind. said_as kind d) (text_at (codes "kind") d) a.0 a.1 in
+    let a = followed _ (option_and_then (λ kind. said_as kind d) (text_under (codes "kind") d)) entry e in
+    let b = followed (λ kind. said_as kind d) (text_under (codes "kind") d) a.0 a.1 in
     let c = mapped _ (option_and_then as_bool (get (codes "standing") d)) entry a.2 in
     subst NumberFits (ap (λ (x : Entry). x.what) c.2) (said_small b.0 d a.0 b.2)
 
@@ -112,7 +112,7 @@ decoded (Err fault) bytes e = absurd cc
 
 digest_whole : (key : List ℕ) (d : Data) (bytes : List ℕ) → digest_at key d ≡ Some bytes → IsDigest bytes
 digest_whole key d bytes e =
-    let a = followed (λ text. result_ok (decode_sized text 32)) (text_at key d) bytes e in
+    let a = followed (λ text. result_ok (decode_sized text 32)) (text_under key d) bytes e in
     let sized = decoded (decode_sized a.0 32) bytes a.2 in
     let size = decode_sized-ok a.0 32 bytes sized in
     let all = decode_of-ok a.0 bytes (sym (decode_sized-twice a.0 32 size) ∙ sized) in
@@ -121,16 +121,16 @@ digest_whole key d bytes e =
 same_session : (a b : Session) → ◌≡◌ {A = Result Session LoadFault} (Ok a) (Ok b) → a ≡ b
 same_session a b e = cc
 
-fields_whole : (d : Data) (s : Session) → fields_in d ≡ Ok s → IsWhole s
+fields_whole : (d : Data) (s : Session) → fields_read d ≡ Ok s → IsWhole s
 fields_whole d s e =
     let a = stood Source (digest_at (codes "source") d) _ s e in
     let b = stood Input (digest_at (codes "input") d) _ s a.2 in
     let c = stood Budget (budget_at d) _ s b.2 in
     let f = stood Entries (entries_at d) _ s c.2 in
-    let steps = and_parts _ _ (passed is_budget (whole_at (codes "budget") d) c.0 c.1).1 in
+    let steps = and_parts _ _ (passed is_budget (whole_under (codes "budget") d) c.0 c.1).1 in
     let begins = passed begins_wrong (option_and_then entries_in (values_at d)) f.0 f.1 in
     let values = followed entries_in (values_at d) f.0 begins.0 in
-    let few = and_parts _ _ (passed are_few (option_and_then as_array (get (codes "entries") d)) values.0 values.1).1 in
+    let few = and_parts _ _ (passed has_allowed_length (option_and_then as_array (get (codes "entries") d)) values.0 values.1).1 in
     let entries = entries_small values.0 f.0 values.2 in
     subst IsWhole (same_session _ s f.2) (record {
       source = digest_whole (codes "source") d a.0 a.1;
@@ -149,8 +149,8 @@ versioned false r n s e = absurd cc
 
 session_whole : (d : Data) (s : Session) → session_in d ≡ Ok s → IsWhole s
 session_whole d s e =
-    let v = stood Version (whole_at (codes "version") d) _ s e in
-    fields_whole d s (versioned (v.0 == this_version) (fields_in d) v.0 s v.2)
+    let v = stood Version (whole_under (codes "version") d) _ s e in
+    fields_whole d s (versioned (v.0 == this_version) (fields_read d) v.0 s v.2)
 
 read_whole : (found : Option Data) (s : Session) → session_or_fault found ≡ Ok s → IsWhole s
 read_whole (Some d) s e = session_whole d s e

@@ -20,7 +20,7 @@ use Rattle.answer_book.specs.declared.entries.Judgement.TheVariants.{Right, Wron
 use Rattle.answer_book.specs.declared.entries.What.{What}
 use Rattle.answer_book.specs.declared.entries.What.TheVariants.{Judged, Trusted}
 use Rattle.session_file.specs.declared.session.Session.{Session}
-use Rattle.session_file.specs.Text.{word_of, said_data, entry_data, session_data, session_text}
+use Rattle.session_file.specs.Text.{judgement_word, said_data, entry_data, session_data, session_text}
 use Rattle.session_file.specs.Whole.{NumberFits, IsWhole}
 
 -- ---- a value whose numbers, strings and keys are UTF-8 has a text that is
@@ -76,7 +76,7 @@ mutual
 number_utf8 : (n : ℕ) → n < 2 ^ 64 → IsUtf8 (decimal n)
 number_utf8 n small = IsUtf8-from_ascii (decimal n) (IsAscii-decimal n small)
 
-word_utf8 : (judgement : Judgement) → IsUtf8 (word_of judgement)
+word_utf8 : (judgement : Judgement) → IsUtf8 (judgement_word judgement)
 word_utf8 Right = ascii (codes "right") refl
 word_utf8 Wrong = ascii (codes "wrong") refl
 word_utf8 Unknown = ascii (codes "unknown") refl

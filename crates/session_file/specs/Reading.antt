@@ -17,7 +17,7 @@ use Rattle.session_file.specs.declared.session.Field.{Field}
 use Rattle.session_file.specs.declared.session.Field.TheVariants.{Version, Source, Input, Budget, Entries}
 use Rattle.session_file.specs.declared.session.LoadFault.{LoadFault}
 use Rattle.session_file.specs.declared.session.LoadFault.TheVariants.{NotJson, BadShape, BadVersion}
-use Rattle.session_file.specs.Text.{this_version, word_of}
+use Rattle.session_file.specs.Text.{this_version, judgement_word}
 
 -- ---- what stands under a key
 
@@ -27,30 +27,32 @@ only_if passes None = None
 only_if passes (Some a) = if passes a then Some a else None
 
 -- a whole number, below 2^64 as all that JSON gives
-abbrev pub whole_at : List ℕ → Data → Option ℕ
-whole_at key d = option_and_then as_u64 (option_and_then as_number (get key d))
+abbrev pub whole_under : List ℕ → Data → Option ℕ
+whole_under key d = option_and_then as_u64 (option_and_then as_number (get key d))
 
 -- a whole number of 32 bits
-abbrev pub word_at : List ℕ → Data → Option ℕ
-word_at key d = only_if (λ n. nat_lt n (2 ^ 32)) (whole_at key d)
+abbrev pub word_under : List ℕ → Data → Option ℕ
+word_under key d = only_if (λ n. nat_lt n (2 ^ 32)) (whole_under key d)
 
 -- a text
-abbrev pub text_at : List ℕ → Data → Option (List ℕ)
-text_at key d = option_and_then as_str (get key d)
+abbrev pub text_under : List ℕ → Data → Option (List ℕ)
+text_under key d = option_and_then as_str (get key d)
 
 -- the 32 bytes of 64 hexadecimal digits, each of either case
 abbrev pub digest_at : List ℕ → Data → Option (List ℕ)
-digest_at key d = option_and_then (λ text. result_ok (decode_sized text 32)) (text_at key d)
+digest_at key d = option_and_then (λ text. result_ok (decode_sized text 32)) (text_under key d)
 
 -- ---- an entry
 
 -- what an entry of this kind says
 abbrev pub said_as : List ℕ → Data → Option What
 said_as kind d =
-    if bytes_eq kind (word_of Right) then option_map (λ call. Judged call Right) (word_at (codes "call") d)
-    else if bytes_eq kind (word_of Wrong) then option_map (λ call. Judged call Wrong) (word_at (codes "call") d)
-    else if bytes_eq kind (word_of Unknown) then option_map (λ call. Judged call Unknown) (word_at (codes "call") d)
-    else if bytes_eq kind (codes "trust") then option_map Trusted (word_at (codes "routine") d)
+    if bytes_eq kind (judgement_word Right) then option_map (λ call. Judged call Right) (word_under (codes "call") d)
+    else if bytes_eq kind (judgement_word Wrong) then
+        option_map (λ call. Judged call Wrong) (word_under (codes "call") d)
+    else if bytes_eq kind (judgement_word Unknown) then
+        option_map (λ call. Judged call Unknown) (word_under (codes "call") d)
+    else if bytes_eq kind (codes "trust") then option_map Trusted (word_under (codes "routine") d)
     else None
 
 -- the entry that a value is
@@ -58,7 +60,7 @@ abbrev pub entry_in : Data → Option Entry
 entry_in d =
     option_and_then (λ what. option_map (λ standing. record { what = what; standing = standing })
     (option_and_then as_bool (get (codes "standing") d)))
-    (option_and_then (λ kind. said_as kind d) (text_at (codes "kind") d))
+    (option_and_then (λ kind. said_as kind d) (text_under (codes "kind") d))
 
 -- the entries that these values are, if each is one
 abbrev pub entries_in : Items → Option (List Entry)
@@ -66,8 +68,8 @@ entries_in no_items = Some []
 entries_in (item d ds) = option_and_then (λ entry. option_map (λ entries. entry ∷ entries) (entries_in ds)) (entry_in d)
 
 -- 1 to 100,000 values
-abbrev pub are_few : Items → Bool
-are_few ds = nat_le 1 (items_len ds) && nat_le (items_len ds) 100000
+abbrev pub has_allowed_length : Items → Bool
+has_allowed_length ds = nat_le 1 (items_len ds) && nat_le (items_len ds) 100000
 
 -- the first entry says that call 0 is wrong
 abbrev pub says_wrong : What → Bool
@@ -88,11 +90,11 @@ abbrev pub is_budget : ℕ → Bool
 is_budget n = nat_le 1 n && nat_le n 4000000
 
 abbrev pub budget_at : Data → Option ℕ
-budget_at d = only_if is_budget (whole_at (codes "budget") d)
+budget_at d = only_if is_budget (whole_under (codes "budget") d)
 
 -- the values under "entries", if there are 1 to 100,000
 abbrev pub values_at : Data → Option Items
-values_at d = only_if are_few (option_and_then as_array (get (codes "entries") d))
+values_at d = only_if has_allowed_length (option_and_then as_array (get (codes "entries") d))
 
 -- the entries that they are, if each is one and the first says that call 0 is wrong
 abbrev pub entries_at : Data → Option (List Entry)
@@ -104,8 +106,8 @@ with_field field (Some a) rest = rest a
 with_field field None rest = Err (BadShape field)
 
 -- the fields after the version, in the order in which they are looked at
-abbrev pub fields_in : Data → Result Session LoadFault
-fields_in d =
+abbrev pub fields_read : Data → Result Session LoadFault
+fields_read d =
     with_field Source (digest_at (codes "source") d) (λ source.
     with_field Input (digest_at (codes "input") d) (λ input.
     with_field Budget (budget_at d) (λ budget.
@@ -115,8 +117,8 @@ fields_in d =
 -- the session that a value is: the version is looked at first
 abbrev pub session_in : Data → Result Session LoadFault
 session_in d =
-    with_field Version (whole_at (codes "version") d) (λ version.
-    if version == this_version then fields_in d else Err (BadVersion version))
+    with_field Version (whole_under (codes "version") d) (λ version.
+    if version == this_version then fields_read d else Err (BadVersion version))
 
 -- the value that the bytes are, if they are JSON in UTF-8 that nests no deeper than 127
 abbrev pub json_of : List ℕ → Option Data

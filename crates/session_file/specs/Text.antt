@@ -16,17 +16,17 @@ abbrev pub this_version : ℕ
 this_version = 1
 
 -- the word for a judgement
-abbrev pub word_of : Judgement → List ℕ
-word_of Right = codes "right"
-word_of Wrong = codes "wrong"
-word_of Unknown = codes "unknown"
+abbrev pub judgement_word : Judgement → List ℕ
+judgement_word Right = codes "right"
+judgement_word Wrong = codes "wrong"
+judgement_word Unknown = codes "unknown"
 
 -- what is said, and whether it stands: `{"call":K,"kind":"right","standing":true}` or
 -- `{"kind":"trust","routine":R,"standing":true}`
 abbrev pub said_data : What → Bool → Data
 said_data (Judged call judgement) standing =
     object (member (codes "call") (number (unsigned call))
-    (member (codes "kind") (string (word_of judgement))
+    (member (codes "kind") (string (judgement_word judgement))
     (member (codes "standing") (boolean standing) no_members)))
 said_data (Trusted routine) standing =
     object (member (codes "kind") (string (codes "trust"))

@@ -5,8 +5,9 @@ ghost use Rattle.std.specs.Str.{bytes_eq};
 ghost use Rattle.serde_json.specs.View.{view, items_view};
 ghost use Rattle.serde_json.specs.Find.{as_bool, get};
 ghost use Rattle.answer_book.specs.declared.entries.What.TheVariants as what;
-ghost use Rattle.session_file.specs.Reading.{word_at, text_at, digest_at, said_as, says_wrong, entry_in, entries_in};
-ghost use Rattle.session_file.specs.Reading.{begins_wrong, budget_at, values_at, entries_at, fields_in, session_in};
+ghost use Rattle.session_file.specs.Reading.{word_under, text_under, digest_at, said_as, says_wrong, entry_in};
+ghost use Rattle.session_file.specs.Reading.{entries_in};
+ghost use Rattle.session_file.specs.Reading.{begins_wrong, budget_at, values_at, entries_at, fields_read, session_in};
 ghost use Rattle.session_file.specs.Reading.{session_of};
 ghost use Rattle.session_file.specs.Whole.{IsWhole};
 
@@ -67,7 +68,7 @@ fn session_from(alloc: Global, value: &Value) -> Result<Session, LoadFault>
 
 /// The session that the fields after the version are.
 fn fields_from(alloc: Global, value: &Value) -> Result<Session, LoadFault>
-    ensures { (result ≡ Err LoadFault.Memory) ⊎ (result ≡ fields_in (view value.now)) }
+    ensures { (result ≡ Err LoadFault.Memory) ⊎ (result ≡ fields_read (view value.now)) }
 {
     let Some(source) = digest_from(value, "source") else {
         return Err(LoadFault::BadShape(Field::Source));
@@ -111,7 +112,7 @@ fn budget_from(value: &Value) -> Option<u32>
 
 /// A whole number of 32 bits under a key.
 fn number_from(value: &Value, key: &str) -> Option<u32>
-    ensures { result ≡ word_at key.now (view value.now) }
+    ensures { result ≡ word_under key.now (view value.now) }
 {
     match value.get(key).and_then(Value::as_u64) {
         Some(number) if number < NUMBERS => Some(number as u32),
@@ -121,7 +122,7 @@ fn number_from(value: &Value, key: &str) -> Option<u32>
 
 /// A judgement on the call that is named.
 fn judged(value: &Value, judgement: Judgement) -> Option<What>
-    ensures { result ≡ option_map (λ call. what.Judged call judgement) (word_at (codes "call") (view value.now)) }
+    ensures { result ≡ option_map (λ call. what.Judged call judgement) (word_under (codes "call") (view value.now)) }
 {
     match number_from(value, "call") {
         Some(call) => Some(What::Judged(call, judgement)),
@@ -131,7 +132,7 @@ fn judged(value: &Value, judgement: Judgement) -> Option<What>
 
 /// Trust in the routine that is named.
 fn trusted(value: &Value) -> Option<What>
-    ensures { result ≡ option_map what.Trusted (word_at (codes "routine") (view value.now)) }
+    ensures { result ≡ option_map what.Trusted (word_under (codes "routine") (view value.now)) }
 {
     match number_from(value, "routine") {
         Some(routine) => Some(What::Trusted(routine)),
@@ -159,7 +160,7 @@ fn said_by(kind: &str, value: &Value) -> Option<What>
 /// What an entry says.
 fn what_from(value: &Value) -> Option<What>
     ensures { result ≡ option_and_then (λ kind. said_as kind (view value.now))
-        (text_at (codes "kind") (view value.now)) }
+        (text_under (codes "kind") (view value.now)) }
 {
     match value.get("kind").and_then(Value::as_str) {
         Some(kind) => said_by(kind, value),

@@ -1,7 +1,7 @@
 //! From a session to its text.
 ghost use Rattle.std.specs.Prelude.{◌≡◌, IfOk, map};
 ghost use Rattle.serde_json.specs.View.{view};
-ghost use Rattle.session_file.specs.Text.{entry_data, session_data, session_text, word_of};
+ghost use Rattle.session_file.specs.Text.{entry_data, session_data, session_text, judgement_word};
 
 use crate::entries::Entries;
 use crate::session::Session;
@@ -15,7 +15,7 @@ pub(crate) const VERSION: u64 = 1;
 
 /// The word for a judgement.
 fn kind(judgement: Judgement) -> &'static str
-    ensures { result.now ≡ word_of judgement }
+    ensures { result.now ≡ judgement_word judgement }
 {
     match judgement {
         Judgement::Right => "right",

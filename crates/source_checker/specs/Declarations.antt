@@ -10,7 +10,7 @@ use Rattle.pas_parser.specs.Formed.{IsFormed, items_of}
 use Rattle.check_steps.specs.Known.{Known}
 use Rattle.check_steps.specs.declared.breaks.CheckFault.TheVariants as fault
 use Rattle.decl_checker.specs.Answers.{EarlyFaultIs, IsWithoutEarly}
-use Rattle.decl_checker.specs.Programs.{broken, tables_of}
+use Rattle.decl_checker.specs.Programs.{broken_early, tables_of}
 use Rattle.source_checker.specs.declared.declarations.DeclarationFault.{DeclarationFault}
 use Rattle.source_checker.specs.declared.declarations.DeclarationFault.TheVariants as declared
 use Rattle.source_checker.specs.Places.{TokenOrLastBegins}
@@ -27,7 +27,7 @@ pub record IsTextOf (t : Lexed) (x : Tree) : Type 0 where
 
 -- No rule that can be told from declarations and names alone is broken, and these are the tables.
 abbrev pub IsDeclaredBy : Lexed → Tree → Known → Type 0
-IsDeclaredBy t x known = IsWithoutEarly (broken t x) × (known ≡ tables_of t x)
+IsDeclaredBy t x known = IsWithoutEarly (broken_early t x) × (known ≡ tables_of t x)
 
 -- the source is the text of a program with these tables
 abbrev pub IsDeclared : List ℕ → Known → Type 0
@@ -36,7 +36,7 @@ IsDeclared source known = (t : Lexed) × (x : Tree) × HasTokens source t × IsT
 -- this is the first of the broken rules, at a token that stands there
 abbrev pub BreaksFirst : Lexed → Tree → (rule line byte : ℕ) → Type 0
 BreaksFirst t x rule line byte =
-    (token : ℕ) × EarlyFaultIs (broken t x) (fault.Rule rule token) × TokenOrLastBegins t token line byte
+    (token : ℕ) × EarlyFaultIs (broken_early t x) (fault.Rule rule token) × TokenOrLastBegins t token line byte
 
 -- why a tree gives no tables
 abbrev pub IsUndeclaredBy : Lexed → Tree → DeclarationFault → Type 0

@@ -16,8 +16,8 @@ use Rattle.expression_checker.specs.declared.callees.Callee.{Callee}
 use Rattle.expression_checker.specs.declared.callees.Callee.TheVariants as callee
 use Rattle.operand_checker.specs.declared.typed.Typed.{Typed}
 use Rattle.operand_checker.specs.Threats.{threat_alone}
-use Rattle.expression_checker.specs.Actuals.{access_name, closed}
-use Rattle.expression_checker.specs.Callees.{counted}
+use Rattle.expression_checker.specs.Actuals.{access_name, actuals_end}
+use Rattle.expression_checker.specs.Callees.{count_checked}
 use Rattle.expression_checker.specs.Expressions.{access, actual, expression, passing_to}
 use Rattle.statement_rules.specs.declared.assignments.Target.{Target}
 use Rattle.statement_rules.specs.declared.assignments.Target.TheVariants as target
@@ -29,7 +29,7 @@ use Rattle.statement_rules.specs.Assignments.{assigned, blockless_target, result
 use Rattle.statement_rules.specs.Calls.{call_row, procedure_at}
 use Rattle.statement_rules.specs.Choices.{selector}
 use Rattle.statement_rules.specs.Conditions.{condition}
-use Rattle.statement_rules.specs.Loops.{bound, enter_for, for_row, leave_for, turns_row}
+use Rattle.statement_rules.specs.Loops.{bound, enter_for, for_row, leave_for, put_turns}
 use Rattle.statement_rules.specs.Records.{inside_record}
 use Rattle.statement_rules.specs.Sequences.{add_element, line_of}
 use Rattle.required_checker.specs.Actuals.{no_width}
@@ -38,8 +38,8 @@ use Rattle.required_checker.specs.Procedures.{required_call}
 -- ---- expressions
 
 -- a condition, by its number
-unfoldable pub tested : ℕ → Expression → Step ℕ
-tested frame e = do
+unfoldable pub condition_row : ℕ → Expression → Step ℕ
+condition_row frame e = do
   v ← expression frame e
   _ ← condition (first_of_expression e) v
   give v.row
@@ -63,7 +63,7 @@ for_begins frame name initial last = do
 unfoldable pub for_ends : Option ℕ → ℕ → Direction → Begun → ℕ → Step ℕ
 for_ends label word direction b body = do
   _ ← leave_for b.control
-  turns ← turns_row direction b.last b.control body
+  turns ← put_turns direction b.last b.control body
   for_row label word b.initial turns
 
 -- the selector of a case statement before the word `of`
@@ -117,16 +117,16 @@ actuals_in a = length a.others.items + 1
 -- a call with actual parameters, at the procedure's name: their list stands at the `(`
 unfoldable pub call_with : ℕ → ℕ → ℕ → Callee → Actuals → Step ℕ
 call_with frame line name c a = do
-  called ← counted name c (actuals_in a)
+  called ← count_checked name c (actuals_in a)
   one ← passed_actual frame (passing_to called name) a.«open» a.first
   all ← each (next_passed frame) one a.others.items
-  _ ← closed all a.close
+  _ ← actuals_end all a.close
   call_row line name called.callee a.«open»
 
 -- a call without actual parameters: no item stands at the procedure's name
 unfoldable pub call_alone : ℕ → ℕ → Callee → Step ℕ
 call_alone line name c = do
-  called ← counted name c 0
+  called ← count_checked name c 0
   call_row line name called.callee name
 
 abbrev pub declared_call : ℕ → ℕ → ℕ → Callee → Option (Box Actuals) → Step ℕ
@@ -139,8 +139,8 @@ call_as frame line name (callee.Required r) actuals =
 call_as frame line name c actuals = declared_call frame line name c actuals
 
 -- a procedure statement
-unfoldable pub call : ℕ → Option ℕ → ℕ → Option (Box Actuals) → Step ℕ
-call frame label name actuals = do
+unfoldable pub call_statement : ℕ → Option ℕ → ℕ → Option (Box Actuals) → Step ℕ
+call_statement frame label name actuals = do
   c ← procedure_at frame name
   line ← look (λ k. line_of k label name)
   call_as frame line name c actuals

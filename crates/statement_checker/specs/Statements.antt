@@ -19,10 +19,11 @@ use Rattle.denoter_checker.specs.Variants.{choices}
 use Rattle.statement_rules.specs.declared.sequences.Branching.{Branching}
 use Rattle.statement_rules.specs.declared.sequences.Element.{Element}
 use Rattle.statement_rules.specs.Choices.{case_row}
-use Rattle.statement_rules.specs.Labels.{jump, labelled, leave, leave_all, mark, reach, reach_all}
-use Rattle.statement_checker.specs.Parts.{assignment, call, first_record, for_begins, for_ends, next_record, selected}
-use Rattle.statement_checker.specs.Parts.{tested}
-use Rattle.statement_rules.specs.Records.{with_row}
+use Rattle.statement_rules.specs.Labels.{jump, labelled, leave, leave_all, mark, reach_label, reach_all}
+use Rattle.statement_checker.specs.Parts.{assignment, call_statement, first_record, for_begins, for_ends, next_record}
+use Rattle.statement_checker.specs.Parts.{selected}
+use Rattle.statement_checker.specs.Parts.{condition_row}
+use Rattle.statement_rules.specs.Records.{put_with}
 use Rattle.statement_rules.specs.Sequences.{add_element, compound_row, empty, if_else_row, if_row}
 use Rattle.statement_rules.specs.Sequences.{link_element, repeat_row, while_row}
 
@@ -42,7 +43,7 @@ abbrev pub labelled_by : ℕ → Option Label → Step ℕ → Step ℕ
 labelled_by frame None m = m
 labelled_by frame (Some l) m = do
   _ ← mark frame l.number
-  _ ← reach frame l.number
+  _ ← reach_label frame l.number
   n ← m
   _ ← leave frame l.number
   labelled l.number n
@@ -52,14 +53,14 @@ abbrev mutual
   pub plain : ℕ → Option ℕ → Plain → Step ℕ
   plain frame label Empty = empty
   plain frame label (Assignment' a) = assignment frame label a.value
-  plain frame label (Call name actuals) = call frame label name actuals
+  plain frame label (Call name actuals) = call_statement frame label name actuals
   plain frame label (Goto word target) = jump frame label word target
   plain frame label (Compound' _ c) = compound frame c
   plain frame label (If' _ i) = if_statement frame label i
   plain frame label (Case' _ c) = case_statement frame label c
   plain frame label (Repeat' _ r) = repeat_statement frame label r
   plain frame label (While' _ word condition do_word inner p) = do
-    c ← tested frame condition
+    c ← condition_row frame condition
     body ← labelled_by frame inner (plain frame (label_token inner) p)
     while_row label word c body
   plain frame label (For' _ word name becomes initial direction last do_word inner p) = do
@@ -71,7 +72,7 @@ abbrev mutual
     all ← each next_record one others.items
     _ ← link_element all.last do_word
     body ← labelled_by all.frame inner (plain all.frame (label_token inner) p)
-    with_row label word do_word body
+    put_with label word do_word body
 
   -- The list of the statements stands at `begin`. From within all of them may be reached.
   pub compound : ℕ → Compound → Step ℕ
@@ -97,7 +98,7 @@ abbrev mutual
 
   pub if_statement : ℕ → Option ℕ → If → Step ℕ
   if_statement frame label (IfTree' word condition then' inner p alternative) = do
-    c ← tested frame condition
+    c ← condition_row frame condition
     n ← labelled_by frame inner (plain frame (label_token inner) p)
     else_held frame (branching label word c n) alternative
 
@@ -130,25 +131,25 @@ abbrev mutual
     last ← sequence frame word statements
     _ ← leave_all frame statements
     _ ← link_element last until
-    c ← tested frame condition
+    c ← condition_row frame condition
     repeat_row label word until c
 
 -- a statement that may have a label
-abbrev pub statement : ℕ → Option Label → Plain → Step ℕ
-statement frame label p = labelled_by frame label (plain frame (label_token label) p)
+abbrev pub statement_step : ℕ → Option Label → Plain → Step ℕ
+statement_step frame label p = labelled_by frame label (plain frame (label_token label) p)
 
 -- ---- the same over lists
 
 unfoldable pub next_statement : ℕ → Element → NextStatement → Step Element
 next_statement frame last n = do
-  m ← statement frame n.statement.label n.statement.plain
+  m ← statement_step frame n.statement.label n.statement.plain
   add_element last n.semicolon m
 
 unfoldable pub next_branch : ℕ → Choosing → ℕ → NextBranch → Step ℕ
 next_branch frame c last n = do
-  m ← statement frame n.branch.statement.label n.branch.statement.plain
+  m ← statement_step frame n.branch.statement.label n.branch.statement.plain
   choices c m last n.semicolon n.branch.constants
 
 abbrev pub else_of : ℕ → Branching → Option Else → Step ℕ
 else_of frame b None = if_row b
-else_of frame b (Some e) = statement frame e.statement.label e.statement.plain >>= λ n. if_else_row b n
+else_of frame b (Some e) = statement_step frame e.statement.label e.statement.plain >>= λ n. if_else_row b n

@@ -3,10 +3,11 @@
 ghost use Rattle.std.specs.Prelude.{◌≡◌, IfOk};
 ghost use Rattle.check_steps.specs.Steps.{Does, each};
 ghost use Rattle.expression_checker.specs.Expressions.{passing_to};
-ghost use Rattle.statement_checker.specs.Parts.{actuals_in, assigned_to, assignment, bounded, call, call_alone};
+ghost use Rattle.statement_checker.specs.Parts.{actuals_in, assigned_to, assignment, bounded, call_statement};
+ghost use Rattle.statement_checker.specs.Parts.{call_alone};
 ghost use Rattle.statement_checker.specs.Parts.{call_as, call_with, declared_call, first_record, next_passed};
 ghost use Rattle.statement_checker.specs.Parts.{next_record, passed_actual, selected, target_access, target_as};
-ghost use Rattle.statement_checker.specs.Parts.{for_begins, for_ends, tested};
+ghost use Rattle.statement_checker.specs.Parts.{for_begins, for_ends, condition_row};
 
 use check_steps::Work;
 use denoter_checker::variants::Choosing;
@@ -58,9 +59,9 @@ pub struct Opened {
 }
 
 /// A condition, by its number.
-#[tactic(auto, using(check_steps::proofs::Runs::steps), unfolding(crate::specs::Parts::tested))]
+#[tactic(auto, using(check_steps::proofs::Runs::steps), unfolding(crate::specs::Parts::condition_row))]
 pub fn check_tested(work: &mut Work, e: &Expression, frame: u32) -> u32
-    ensures { Does (tested frame e.now) result work.old work.new }
+    ensures { Does (condition_row frame e.now) result work.old work.new }
 {
     let value = check_expression(work, e, frame);
     check_condition(work, first_of_expression(e), value);
@@ -282,7 +283,7 @@ fn check_call_as(
 }
 
 /// A procedure statement, which may have a label: its number is the procedure's name.
-#[tactic(auto, using(check_steps::proofs::Runs::steps), unfolding(crate::specs::Parts::call))]
+#[tactic(auto, using(check_steps::proofs::Runs::steps), unfolding(crate::specs::Parts::call_statement))]
 pub fn check_call(
     work: &mut Work,
     actuals: &Option<Box<Actuals>>,
@@ -290,7 +291,7 @@ pub fn check_call(
     label: Option<u32>,
     name: u32,
 ) -> u32
-    ensures { Does (call frame label name actuals.now) result work.old work.new }
+    ensures { Does (call_statement frame label name actuals.now) result work.old work.new }
 {
     let callee = check_procedure(work, frame, name);
     let line = line_of(&work.tables, label, name);

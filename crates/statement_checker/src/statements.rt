@@ -4,7 +4,7 @@ ghost use Rattle.std.specs.Prelude.{◌≡◌, IfOk};
 ghost use Rattle.check_steps.specs.Steps.{Does, each};
 ghost use Rattle.statement_checker.specs.Statements.{case_statement, compound, element, if_statement};
 ghost use Rattle.statement_checker.specs.Statements.{next_branch, next_statement, plain, repeat_statement, sequence};
-ghost use Rattle.statement_checker.specs.Statements.{statement};
+ghost use Rattle.statement_checker.specs.Statements.{statement_step};
 
 use crate::parts::{
     begin_for, check_assignment, check_call, check_selected, check_tested, end_for,
@@ -17,7 +17,7 @@ use pas_tree::statements::{
 };
 use statement_rules::choices::put_case;
 use statement_rules::labels::{
-    check_goto, check_mark, leave, leave_all, put_labelled, reach, reach_all,
+    check_goto, check_mark, leave, leave_all, put_labelled, reach_label, reach_all,
 };
 use statement_rules::records::put_with;
 use statement_rules::sequences::{
@@ -36,13 +36,13 @@ fn element(slot: u32, item: u32) -> Element
 #[cycle(statements)]
 #[tactic(auto, using(check_steps::proofs::Runs::steps))]
 fn check_statement(work: &mut Work, s: &Statement, frame: u32) -> Result<u32, AllocError>
-    ensures { IfOk result (λ n. Does (statement frame s.now.label s.now.plain) n work.old work.new) }
+    ensures { IfOk result (λ n. Does (statement_step frame s.now.label s.now.plain) n work.old work.new) }
 {
     match &s.label {
         None => check_plain(work, &s.plain, frame, None),
         Some(label) => {
             check_mark(work, frame, label.number);
-            reach(work, frame, label.number);
+            reach_label(work, frame, label.number);
             let number = check_plain(work, &s.plain, frame, Some(label.number))?;
             leave(work, frame, label.number);
             Ok(put_labelled(work, label.number, number))

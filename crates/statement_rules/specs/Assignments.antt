@@ -41,16 +41,17 @@ result_at k frame r (Some place) (Some of') = target.Result (record {
 })
 result_at k frame r place of' = target.Access
 
-abbrev pub result_of : Known → ℕ → Option Routine → Target
-result_of k frame None = target.Access
-result_of k frame (Some r) = result_at k frame r r.result (signature_at k r.heading).result
+abbrev pub target_of_result : Known → ℕ → Option Routine → Target
+target_of_result k frame None = target.Access
+target_of_result k frame (Some r) = result_at k frame r r.result (signature_at k r.heading).result
 
 -- a function that has no block in the program
 abbrev pub blockless_if : Bool → Target
 blockless_if function = if function then target.Blockless else target.Access
 
 abbrev pub target_in : Known → ℕ → Row → Target
-target_in k frame (row.Name (named.Routine assigned number region)) = result_of k frame (routine_at k.program number)
+target_in k frame (row.Name (named.Routine assigned number region)) =
+    target_of_result k frame (routine_at k.program number)
 target_in k frame (row.Name (named.RoutineFormal place level heading)) =
     blockless_if (is_some (signature_at k heading).result)
 target_in k frame (row.Name (named.Required routine)) = blockless_if (is_required_function routine)

@@ -56,8 +56,8 @@ with_ways (row.Name (named.Label marked value level ways)) n = row.Name (named.L
 with_ways r n = r
 
 -- from here on there is one more way to a statement with this label
-unfoldable pub reach : ℕ → ℕ → Step (Unit {0})
-reach frame token = do
+unfoldable pub reach_label : ℕ → ℕ → Step (Unit {0})
+reach_label frame token = do
   d ← look (λ k. own_label k frame token)
   r ← look (λ k. row_of k d)
   put_label d (with_ways r (min (ways_in r + 1) 4294967295))
@@ -85,7 +85,7 @@ each_label f s = do
 
 -- from here on there is one more way to each statement of a sequence
 unfoldable pub reach_all : ℕ → Statements → Step (Unit {0})
-reach_all frame s = each_label (reach frame) s
+reach_all frame s = each_label (reach_label frame) s
 
 -- from here on there is one way fewer
 unfoldable pub leave_all : ℕ → Statements → Step (Unit {0})
@@ -97,9 +97,9 @@ abbrev pub is_unmarked : Row → Bool
 is_unmarked (row.Name (named.Label marked value level ways)) = not marked
 is_unmarked r = false
 
-abbrev pub with_mark : Row → Row
-with_mark (row.Name (named.Label marked value level ways)) = row.Name (named.Label true value level ways)
-with_mark r = r
+abbrev pub marked_label : Row → Row
+marked_label (row.Name (named.Label marked value level ways)) = row.Name (named.Label true value level ways)
+marked_label r = r
 
 -- rule 15: a statement's label is not declared in the closest block, or marks a second statement, at the label
 unfoldable pub mark : ℕ → ℕ → Step (Unit {0})
@@ -107,7 +107,7 @@ mark frame token = do
   d ← look (λ k. own_label k frame token)
   r ← look (λ k. row_of k d)
   _ ← late 15 token (is_unmarked r)
-  put_label d (with_mark r)
+  put_label d (marked_label r)
 
 -- a labelled statement, at its label
 unfoldable pub labelled : ℕ → ℕ → Step ℕ

@@ -135,15 +135,15 @@ abbrev pub place_of : Control → ℕ
 place_of (control.Own variable of' place) = place
 place_of c = 0
 
-abbrev pub number_of : Control → ℕ
-number_of (control.Own variable of' place) = of'
-number_of (control.Other variable of') = of'
-number_of c = 0
+abbrev pub control_type_number : Control → ℕ
+control_type_number (control.Own variable of' place) = of'
+control_type_number (control.Other variable of') = of'
+control_type_number c = 0
 
 -- the turns of a for statement, at `to` or `downto`
-unfoldable pub turns_row : DirectionTree → ℕ → Control → ℕ → Step ℕ
-turns_row d last c body =
-    stated (direction_token d) (statement.Turns (direction_of d) last (place_of c) (number_of c) body)
+unfoldable pub put_turns : DirectionTree → ℕ → Control → ℕ → Step ℕ
+put_turns d last c body =
+    stated (direction_token d) (statement.Turns (direction_of d) last (place_of c) (control_type_number c) body)
 
 unfoldable pub for_row : Option ℕ → ℕ → ℕ → ℕ → Step ℕ
 for_row label word initial turns = do

@@ -16,7 +16,7 @@ inside_record frame first v = do
   inside_of frame (fields_in r)
 
 -- a with statement, at its `do`; the list of its records stands at its word
-unfoldable pub with_row : Option ℕ → ℕ → ℕ → ℕ → Step ℕ
-with_row label word do_word body = do
+unfoldable pub put_with : Option ℕ → ℕ → ℕ → ℕ → Step ℕ
+put_with label word do_word body = do
   line ← look (λ k. line_of k label word)
   stated do_word (statement.With line word body)

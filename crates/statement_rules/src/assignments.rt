@@ -4,7 +4,8 @@ ghost use Rattle.std.specs.Prelude.{◌≡◌};
 ghost use Rattle.check_steps.specs.Steps.{Does, when};
 ghost use Rattle.operand_checker.specs.Selectors.{type_number};
 ghost use Rattle.statement_rules.specs.Assignments.{assigned, assigned_in, begins_at, blockless_if, blockless_target};
-ghost use Rattle.statement_rules.specs.Assignments.{is_assigned, is_inside, result_assigned, result_at, result_of};
+ghost use Rattle.statement_rules.specs.Assignments.{is_assigned, is_inside, result_assigned, result_at};
+ghost use Rattle.statement_rules.specs.Assignments.{target_of_result};
 ghost use Rattle.statement_rules.specs.Assignments.{result_target, takes, target_at, target_in, target_of};
 ghost use Rattle.statement_rules.specs.Assignments.{with_value};
 
@@ -63,8 +64,8 @@ fn result_at(
     }
 }
 
-fn result_of(tables: &Tables, frame: u32, routine: Option<Routine>) -> Target
-    ensures { result ≡ result_of tables.now frame routine }
+fn target_of_result(tables: &Tables, frame: u32, routine: Option<Routine>) -> Target
+    ensures { result ≡ target_of_result tables.now frame routine }
 {
     match routine {
         None => Target::Access,
@@ -90,7 +91,7 @@ fn target_in(tables: &Tables, frame: u32, row: Row) -> Target
 {
     match row {
         Row::Name(NameRow::Routine { number, .. }) => {
-            result_of(tables, frame, tables.program().routine(number))
+            target_of_result(tables, frame, tables.program().routine(number))
         }
         Row::Name(NameRow::RoutineFormal { heading, .. }) => {
             blockless_if(signature_at(tables, heading).result.is_some())

@@ -3,8 +3,9 @@
 ghost use Rattle.std.specs.Prelude.{◌≡◌};
 ghost use Rattle.check_steps.specs.Steps.{Does, each};
 ghost use Rattle.statement_rules.specs.Labels.{is_unmarked, jump, label_of, labelled, leave, leave_all, levels_in};
-ghost use Rattle.statement_rules.specs.Labels.{mark, on_label, on_next, own_label, put_label, reach, reach_all, row_of};
-ghost use Rattle.statement_rules.specs.Labels.{ways_in, with_mark, with_ways};
+ghost use Rattle.statement_rules.specs.Labels.{mark, on_label, on_next, own_label, put_label, reach_label, reach_all};
+ghost use Rattle.statement_rules.specs.Labels.{row_of};
+ghost use Rattle.statement_rules.specs.Labels.{ways_in, marked_label, with_ways};
 
 use crate::sequences::{line_of, put_statement};
 use check_steps::{Tables, Work};
@@ -88,9 +89,9 @@ fn with_ways(row: Row, ways: u32) -> Row
 }
 
 /// From here on there is one more way to a statement with the label at this token.
-#[tactic(auto, using(check_steps::proofs::Runs::steps), unfolding(crate::specs::Labels::reach))]
-pub fn reach(work: &mut Work, frame: u32, token: u32)
-    ensures { Does (reach frame token) tt work.old work.new }
+#[tactic(auto, using(check_steps::proofs::Runs::steps), unfolding(crate::specs::Labels::reach_label))]
+pub fn reach_label(work: &mut Work, frame: u32, token: u32)
+    ensures { Does (reach_label frame token) tt work.old work.new }
 {
     let declared = own_label(&work.tables, frame, token);
     let row = row_of(&work.tables, declared);
@@ -111,11 +112,11 @@ pub fn leave(work: &mut Work, frame: u32, token: u32)
 
 #[tactic(auto, using(check_steps::proofs::Runs::steps))]
 fn reach_held(work: &mut Work, label: &Option<Label>, frame: u32)
-    ensures { Does (on_label (reach frame) label.now) tt work.old work.new }
+    ensures { Does (on_label (reach_label frame) label.now) tt work.old work.new }
 {
     match label {
         None => {}
-        Some(label) => reach(work, frame, label.number),
+        Some(label) => reach_label(work, frame, label.number),
     }
 }
 
@@ -131,7 +132,7 @@ fn leave_held(work: &mut Work, label: &Option<Label>, frame: u32)
 
 #[tactic(auto, unfolding(crate::specs::Labels::on_next))]
 fn reach_next(work: &mut Work, n: &NextStatement, frame: u32)
-    ensures { Does (on_next (reach frame) tt n.now) tt work.old work.new }
+    ensures { Does (on_next (reach_label frame) tt n.now) tt work.old work.new }
 {
     reach_held(work, &n.statement.label, frame);
 }
@@ -145,7 +146,7 @@ fn leave_next(work: &mut Work, n: &NextStatement, frame: u32)
 
 #[tactic(auto, using(check_steps::proofs::Runs::loops))]
 fn reach_others(work: &mut Work, others: &[NextStatement], frame: u32)
-    ensures { Does (each (on_next (reach frame)) tt others.now) tt work.old work.new }
+    ensures { Does (each (on_next (reach_label frame)) tt others.now) tt work.old work.new }
 {
     'others: for other in others {
         reach_next(work, other, frame);
@@ -189,8 +190,8 @@ fn is_unmarked(row: Row) -> bool
     }
 }
 
-fn with_mark(row: Row) -> Row
-    ensures { result ≡ with_mark row }
+fn marked_label(row: Row) -> Row
+    ensures { result ≡ marked_label row }
 {
     match row {
         Row::Name(
@@ -218,7 +219,7 @@ pub fn check_mark(work: &mut Work, frame: u32, token: u32)
     let declared = own_label(&work.tables, frame, token);
     let row = row_of(&work.tables, declared);
     work.late(15, token, is_unmarked(row));
-    put_label(work, declared, with_mark(row));
+    put_label(work, declared, marked_label(row));
 }
 
 /// A labelled statement, at its label.

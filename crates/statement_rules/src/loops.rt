@@ -4,8 +4,9 @@ ghost use Rattle.std.specs.Prelude.{◌≡◌, IfOk};
 ghost use Rattle.check_steps.specs.Steps.{Does};
 ghost use Rattle.statement_rules.specs.Loops.{bound, control_at, control_in, control_of, control_type, controlled};
 ghost use Rattle.statement_rules.specs.Loops.{direction_of, enter_for, for_row, held, held_by, hold_if, is_own};
-ghost use Rattle.statement_rules.specs.Loops.{is_variable, leave_for, number_of, own_if, place_of, release_if};
-ghost use Rattle.statement_rules.specs.Loops.{turns_row, unthreatened};
+ghost use Rattle.statement_rules.specs.Loops.{is_variable, leave_for, control_type_number, own_if, place_of};
+ghost use Rattle.statement_rules.specs.Loops.{release_if};
+ghost use Rattle.statement_rules.specs.Loops.{put_turns, unthreatened};
 
 use crate::sequences::{line_of, put_statement};
 use check_steps::{Found, Tables, Work};
@@ -235,8 +236,8 @@ fn place_of(control: Control) -> u32
     }
 }
 
-fn number_of(control: Control) -> u32
-    ensures { result ≡ number_of control }
+fn control_type_number(control: Control) -> u32
+    ensures { result ≡ control_type_number control }
 {
     match control {
         Control::Own { of, .. } => of,
@@ -246,7 +247,7 @@ fn number_of(control: Control) -> u32
 }
 
 /// The turns of a for statement, at `to` or `downto`: up or down to a last value, with a body.
-#[tactic(auto, using(check_steps::proofs::Runs::steps), unfolding(crate::specs::Loops::turns_row))]
+#[tactic(auto, using(check_steps::proofs::Runs::steps), unfolding(crate::specs::Loops::put_turns))]
 pub fn put_turns(
     work: &mut Work,
     direction: &DirectionTree,
@@ -254,13 +255,13 @@ pub fn put_turns(
     control: Control,
     body: u32,
 ) -> u32
-    ensures { Does (turns_row direction.now last control body) result work.old work.new }
+    ensures { Does (put_turns direction.now last control body) result work.old work.new }
 {
     let row = StatementRow::Turns {
         direction: direction_of(direction),
         last,
         place: place_of(control),
-        of: number_of(control),
+        of: control_type_number(control),
         body,
     };
     put_statement(work, direction_token(direction), row)

@@ -3,7 +3,7 @@
 ghost use Rattle.std.specs.Prelude.{◌≡◌, IfOk};
 ghost use Rattle.check_steps.specs.Steps.{Does};
 ghost use Rattle.use_checker.specs.Statements.{inside_of};
-ghost use Rattle.statement_rules.specs.Records.{inside_record, with_row};
+ghost use Rattle.statement_rules.specs.Records.{inside_record, put_with};
 
 use crate::sequences::{line_of, put_statement};
 use check_steps::Work;
@@ -34,9 +34,9 @@ pub fn open_record(work: &mut Work, frame: u32, first: u32, value: Typed) -> Res
 }
 
 /// A with statement, at its `do`. Its records are a list at its word.
-#[tactic(auto, using(check_steps::proofs::Runs::steps), unfolding(crate::specs::Records::with_row))]
+#[tactic(auto, using(check_steps::proofs::Runs::steps), unfolding(crate::specs::Records::put_with))]
 pub fn put_with(work: &mut Work, label: Option<u32>, word: u32, do_word: u32, body: u32) -> u32
-    ensures { Does (with_row label word do_word body) result work.old work.new }
+    ensures { Does (put_with label word do_word body) result work.old work.new }
 {
     let line = line_of(&work.tables, label, word);
     let row = StatementRow::With {

@@ -23,8 +23,8 @@ abbrev pub with_marks : Weighed → List Mark → Weighed
 with_marks weighed marks = record weighed { marks = marks }
 
 -- how many calls there are
-abbrev pub calls_in : Weighed → ℕ
-calls_in weighed = length weighed.columns.last
+abbrev pub call_count : Weighed → ℕ
+call_count weighed = length weighed.columns.last
 
 -- the weight of a call, how many suspects stand under it, and the weight of each call
 abbrev pub weight_in : Weighed → ℕ → ℕ

@@ -2,7 +2,7 @@
 ghost use Rattle.std.specs.Prelude.{◌≡◌, ◌+◌, ◌*◌, ◌<◌, ◌≤◌, [], IfOk, Some, length, slice_get, slice_index};
 ghost use Rattle.call_tree.specs.Recording.{parents_of};
 ghost use Rattle.subtree_weights.specs.RunColumns.{columns_of};
-ghost use Rattle.subtree_weights.specs.Weighed.{calls_in, under_in, unjudged, weight_in};
+ghost use Rattle.subtree_weights.specs.Weighed.{call_count, under_in, unjudged, weight_in};
 ghost use Rattle.subtree_weights.specs.Weighed.{weights_in, with_mark, with_marks};
 
 use crate::changes::{Change, carry, weight_given};
@@ -93,7 +93,7 @@ impl Weights {
         steps: &mut Steps<L>,
     )
         requires those_calls { columns_of calls.now.calls ≡ self.old.columns }
-        requires a_call { call < calls_in self.old }
+        requires a_call { call < call_count self.old }
         requires in_force { slice_get self.old.marks call ≡ Some before }
         ensures changed { self.new ≡ with_mark self.old call after }
         ensures not_fallen { steps.old ≤ steps.new }
@@ -123,10 +123,10 @@ impl Weights {
     /// Takes these marks in place of all, one for each call. The calls are those of `new`.
     pub fn recount<L>(&mut self, calls: &Calls, marks: &[Mark], steps: &mut Steps<L>)
         requires those_calls { columns_of calls.now.calls ≡ self.old.columns }
-        requires each { length marks.now ≡ calls_in self.old }
+        requires each { length marks.now ≡ call_count self.old }
         ensures recounted { self.new ≡ with_marks self.old marks.now }
         ensures not_fallen { steps.old ≤ steps.new }
-        ensures cost { steps.new ≤ steps.old + 3 * calls_in self.old }
+        ensures cost { steps.new ≤ steps.old + 3 * call_count self.old }
     {
         start_anew(
             &mut self.marks,
@@ -147,7 +147,7 @@ impl Weights {
 
     /// The weight of a call: how many suspects stand in its subtree, and 0 for a clear call.
     pub fn weight(&self, call: u32) -> u32
-        requires a_call { call < calls_in self.now }
+        requires a_call { call < call_count self.now }
         ensures { result ≡ weight_in self.now call }
     {
         self.weights[call as usize]
@@ -155,7 +155,7 @@ impl Weights {
 
     /// How many suspects stand below a call: the sum of the weights of its children.
     pub fn under(&self, call: u32) -> u32
-        requires a_call { call < calls_in self.now }
+        requires a_call { call < call_count self.now }
         ensures { result ≡ under_in self.now call }
     {
         self.unders[call as usize]

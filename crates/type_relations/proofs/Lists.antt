@@ -1,11 +1,11 @@
 -- One section further in two lists.
 use Rattle.std.proofs.Common.{◌≡◌, ℕ, suc, ◌+◌, ◌-◌, ◌<◌, false, ap, arith}
 use Rattle.check_steps.specs.Known.{Known}
-use Rattle.type_relations.specs.Headings.{both, lists_match, section_at, sections_match}
+use Rattle.type_relations.specs.Headings.{both_match, lists_match, section_at, sections_match}
 
 pub lists-onward : (k : Known) (n i a b : ℕ) → i < n
     → lists_match (n - i) k a b
-    ≡ both (section_at k a) (section_at k b) (sections_match k (lists_match (n - (i + 1)) k)) (lists_match (n - (i + 1)) k)
+    ≡ both_match (section_at k a) (section_at k b) (sections_match k (lists_match (n - (i + 1)) k)) (lists_match (n - (i + 1)) k)
 lists-onward k n i a b below =
     let e : n - i ≡ suc (n - (i + 1)) = omega arith in
     ap (λ m. lists_match m k a b) e

@@ -62,16 +62,16 @@ sections_match k lists (section.Heading g) (section.Heading h) =
     signatures_match k lists (signature_at k g) (signature_at k h)
 sections_match k lists s t = false
 
-abbrev pub both : Option (Section × ℕ) → Option (Section × ℕ) → (Section → Section → Bool) → (ℕ → ℕ → Bool) → Bool
-both None None match rest = true
-both (Some a) (Some b) match rest = match a.0 b.0 && rest a.1 b.1
-both a b match rest = false
+abbrev pub both_match : Option (Section × ℕ) → Option (Section × ℕ) → (Section → Section → Bool) → (ℕ → ℕ → Bool) → Bool
+both_match None None match rest = true
+both_match (Some a) (Some b) match rest = match a.0 b.0 && rest a.1 b.1
+both_match a b match rest = false
 
 -- Two lists have equally many sections, at most this many, and these match in turn.
 abbrev pub lists_match : ℕ → Known → ℕ → ℕ → Bool
 lists_match zero k a b = false
 lists_match (suc n) k a b =
-    both (section_at k a) (section_at k b) (sections_match k (lists_match n k)) (lists_match n k)
+    both_match (section_at k a) (section_at k b) (sections_match k (lists_match n k)) (lists_match n k)
 
 -- Two headings are both procedures, or both functions with the same result type, and their lists are congruous. No
 -- list has more sections than there are tokens.

@@ -118,11 +118,11 @@ fits o l r = is_unknown l || is_unknown r || is_some (operation_of o l r)
 
 -- ---- what comes of it
 
-abbrev pub result_of : Option Operation → ExpressionType
-result_of None = expression.Unknown
-result_of (Some (operation.Arithmetic o)) = expression.Of 0
-result_of (Some (operation.Sets o host packing)) = expression.Set host packing
-result_of (Some o) = expression.Of 1
+abbrev pub operation_type : Option Operation → ExpressionType
+operation_type None = expression.Unknown
+operation_type (Some (operation.Arithmetic o)) = expression.Of 0
+operation_type (Some (operation.Sets o host packing)) = expression.Set host packing
+operation_type (Some o) = expression.Of 1
 
 -- the row of an operation on operands of these numbers
 abbrev pub operation_row : Option Operation → ℕ → ℕ → Row

@@ -4,7 +4,7 @@ ghost use Rattle.std.specs.Prelude.{◌≡◌};
 ghost use Rattle.type_relations.specs.Operators.{equality, fits, is_of_host, is_operand, is_ordinal, is_unknown};
 ghost use Rattle.type_relations.specs.Operators.{joined_packing};
 ghost use Rattle.type_relations.specs.Operators.{member_of, on_booleans, on_integers, on_sets, operation_of};
-ghost use Rattle.type_relations.specs.Operators.{operation_row, pointers_by, related, relates_sets, result_of};
+ghost use Rattle.type_relations.specs.Operators.{operation_row, pointers_by, related, relates_sets, operation_type};
 
 use crate::shapes::{ExpressionType, Packing, Shape, hosts_agree, packings_agree};
 use cell_value::{ArithOp, Order};
@@ -271,8 +271,8 @@ pub fn fits(operator: Operator, left: Shape, right: Shape) -> bool
 }
 
 /// The type of what an operation gives.
-pub fn result_of(operation: Option<Operation>) -> ExpressionType
-    ensures { result ≡ result_of operation }
+pub fn operation_type(operation: Option<Operation>) -> ExpressionType
+    ensures { result ≡ operation_type operation }
 {
     match operation {
         None => ExpressionType::Unknown,

@@ -26,7 +26,7 @@ use Rattle.pas_tree.specs.declared.expressions.Member.{Member, out-Member, is-Me
 use Rattle.pas_tree.specs.declared.expressions.RangeEnd.{RangeEnd, out-RangeEnd, is-RangeEnd'}
 use Rattle.check_steps.specs.Steps.{Step, give, ◌>>=◌, each}
 use Rattle.check_steps.proofs.Runs.{bind-assoc}
-use Rattle.use_checker.specs.Accesses.{access_type, access_uses, arguments_uses, component, expression_uses, factor_uses, indices, last_uses}
+use Rattle.use_checker.specs.Accesses.{access_type, access_uses, arguments_uses, indexed_type, expression_uses, factor_uses, indices, last_uses}
 use Rattle.use_checker.specs.Accesses.{member_uses, more_arguments, more_factors, more_indices, more_members, more_terms, named_variable}
 use Rattle.use_checker.specs.Accesses.{next_argument, next_factor, next_index, next_member, next_term, range_end_uses, related_uses}
 use Rattle.use_checker.specs.Accesses.{relation_uses, selected, selector, simple_uses, some_members_uses, term_uses}
@@ -92,16 +92,16 @@ indices_each frame unknown _ (more_of-NextExpression n rest) t =
     ap (λ (h : ℕ → Step ℕ). next_index frame unknown t n >>= h) (λ i v. indices_each frame unknown _ rest v i)
 
 pub indices_out : (frame unknown t : ℕ) (x : Index) → indices frame unknown t x ≡ (expression_uses frame (out-Index x).first
-    >>= λ _. component unknown t >>= λ part. each (next_index frame unknown) part (out-Index x).others.items)
+    >>= λ _. indexed_type unknown t >>= λ part. each (next_index frame unknown) part (out-Index x).others.items)
 indices_out frame unknown t x =
     let o = out-Index x in
     ap (indices frame unknown t) (is-Index' x)
-    ∙ (λ i. expression_uses frame o.first >>= λ _. component unknown t
+    ∙ (λ i. expression_uses frame o.first >>= λ _. indexed_type unknown t
     >>= λ part. (indices_each frame unknown _ (hidden-the_row-NextExpression-1 o.others) part
     ∙ ap (each (next_index frame unknown) part) (items_hidden-the_row-NextExpression-1 o.others)) i)
 
 pub next_index_out : (frame unknown t : ℕ) (n : NextExpression) → next_index frame unknown t n
-    ≡ (expression_uses frame (out-NextExpression n).expression >>= λ _. component unknown t)
+    ≡ (expression_uses frame (out-NextExpression n).expression >>= λ _. indexed_type unknown t)
 next_index_out frame unknown t n = ap (next_index frame unknown t) (is-NextExpression' n)
 
 arguments_each : (frame n : _) (r : Row_of-NextExpression n) (u : Unit {0})

@@ -83,8 +83,8 @@ field_type k (Some (kind.Record packed region cells variants)) name unknown =
 field_type k t name unknown = unknown
 
 -- an index selects a component, whatever its own value is
-unfoldable pub component : ℕ → ℕ → Step ℕ
-component unknown t = look (λ k. component_type (type_at k t) unknown)
+unfoldable pub indexed_type : ℕ → ℕ → Step ℕ
+indexed_type unknown t = look (λ k. component_type (type_at k t) unknown)
 
 -- The name of a field is no use of a name: it is looked up in the record alone.
 unfoldable pub field : ℕ → ℕ → ℕ → Step ℕ
@@ -165,7 +165,7 @@ abbrev mutual
   pub indices : ℕ → ℕ → ℕ → IndexTree → Step ℕ
   indices frame unknown t (Index' open' first _ others close) = do
     _ ← expression_uses frame first
-    part ← component unknown t
+    part ← indexed_type unknown t
     more_indices frame unknown part others
 
   pub more_indices : ℕ → ℕ → ℕ → {m : _} → Row_of-NextExpression m → Step ℕ
@@ -177,7 +177,7 @@ abbrev mutual
   pub next_index : ℕ → ℕ → ℕ → NextExpression → Step ℕ
   next_index frame unknown t (NextExpression' comma e) = do
     _ ← expression_uses frame e
-    component unknown t
+    indexed_type unknown t
 
   pub arguments_uses : ℕ → Arguments → Step (Unit {0})
   arguments_uses frame (Arguments' open' first _ others close) = do

@@ -2,7 +2,7 @@
 
 ghost use Rattle.std.specs.Prelude.{◌≡◌};
 ghost use Rattle.check_steps.specs.Steps.{Does};
-ghost use Rattle.use_checker.specs.Accesses.{component, component_type, domain, domain_type, field, field_type};
+ghost use Rattle.use_checker.specs.Accesses.{indexed_type, component_type, domain, domain_type, field, field_type};
 ghost use Rattle.use_checker.specs.Accesses.{name_use, named_variable, type_defined, type_found, variable_type};
 
 use check_steps::{Definition, Found, Tables, Work};
@@ -84,9 +84,9 @@ fn field_type(tables: &Tables, row: Option<TypeRow>, name: u32, unknown: u32) ->
 }
 
 /// The type of the components of an array type, and else a number at which no type stands.
-#[tactic(auto, using(check_steps::proofs::Runs::steps), unfolding(crate::specs::Accesses::component))]
+#[tactic(auto, using(check_steps::proofs::Runs::steps), unfolding(crate::specs::Accesses::indexed_type))]
 pub fn component(work: &mut Work, unknown: u32, kind: u32) -> u32
-    ensures { Does (component unknown kind) result work.old work.new }
+    ensures { Does (indexed_type unknown kind) result work.old work.new }
 {
     component_type(work.tables.type_row(kind), unknown)
 }

@@ -35,10 +35,10 @@ pub record IsLeastBelow (f : ℕ → ℕ) (count least : ℕ) : Type 0 where
 
 -- how many suspects the worse answer leaves, at a place that may be asked about, and 2 ^ 32 - 1, which is more than any
 -- such number, at any other place
-abbrev pub number_at : List ℕ → List ℕ → ℕ → ℕ → ℕ
-number_at weights askable total place =
+abbrev pub lane_number : List ℕ → List ℕ → ℕ → ℕ → ℕ
+lane_number weights askable total place =
     if slice_index askable place == 0 then 4294967295 else left_at weights total place
 
 -- the place has this number
 abbrev pub HasNumber : List ℕ → List ℕ → ℕ → ℕ → ℕ → Type 0
-HasNumber weights askable total number place = number_at weights askable total place ≡ number
+HasNumber weights askable total number place = lane_number weights askable total place ≡ number

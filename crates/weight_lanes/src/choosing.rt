@@ -2,7 +2,7 @@
 //! finds the least number, a second one the first place that has it.
 
 ghost use Rattle.std.specs.Prelude.{◌≡◌, ◌≢◌, ℕ, ◌<◌, ◌≤◌, ◌↔◌, All, IsNone, IfSome, length, slice_index};
-ghost use Rattle.weight_lanes.specs.Lanes.{HasNumber, IsFirstBelow, IsLeastBelow, NoneIn, number_at};
+ghost use Rattle.weight_lanes.specs.Lanes.{HasNumber, IsFirstBelow, IsLeastBelow, NoneIn, lane_number};
 ghost use Rattle.weight_lanes.specs.Places.{AreWeighed, IsSet, left_at};
 
 use crate::bits::lowest;
@@ -15,7 +15,7 @@ fn number(weights: &[u32], askable: &[u8], total: u32, place: usize) -> u32
     requires inside { place < length weights.now }
     requires same_length { length weights.now ≡ length askable.now }
     requires weighed { AreWeighed weights.now askable.now total }
-    ensures { result ≡ number_at weights.now askable.now total place }
+    ensures { result ≡ lane_number weights.now askable.now total place }
 {
     if askable[place] == 0 {
         u32::MAX
@@ -41,8 +41,8 @@ fn least_of_rest(weights: &[u32], askable: &[u8], total: u32, from: usize, so_fa
     requires inside { from ≤ length weights.now }
     requires same_length { length weights.now ≡ length askable.now }
     requires weighed { AreWeighed weights.now askable.now total }
-    requires before { IsLeastBelow (number_at weights.now askable.now total) from so_far }
-    ensures { IsLeastBelow (number_at weights.now askable.now total) (length weights.now) result }
+    requires before { IsLeastBelow (lane_number weights.now askable.now total) from so_far }
+    ensures { IsLeastBelow (lane_number weights.now askable.now total) (length weights.now) result }
 {
     let mut least = so_far;
     for place in from..weights.len() {
@@ -55,7 +55,7 @@ fn least_of_rest(weights: &[u32], askable: &[u8], total: u32, from: usize, so_fa
 fn least_number(weights: &[u32], askable: &[u8], total: u32) -> u32
     requires same_length { length weights.now ≡ length askable.now }
     requires weighed { AreWeighed weights.now askable.now total }
-    ensures { IsLeastBelow (number_at weights.now askable.now total) (length weights.now) result }
+    ensures { IsLeastBelow (lane_number weights.now askable.now total) (length weights.now) result }
 {
     let mut lanes = u32x16::splat(u32::MAX);
     let mut seen = 0;

@@ -1,7 +1,7 @@
 //! One block of a column as a vector.
 
 ghost use Rattle.std.specs.Prelude.{◌≡◌, ◌≢◌, ◌+◌, ◌-◌, ◌%◌, ◌≤◌, ◌==◌, if◌then◌else◌, max, min, length, slice_index};
-ghost use Rattle.weight_lanes.specs.Lanes.{HasLanes, HasNumber, MarksLanes, number_at};
+ghost use Rattle.weight_lanes.specs.Lanes.{HasLanes, HasNumber, MarksLanes, lane_number};
 ghost use Rattle.weight_lanes.specs.Places.{AreWeighed};
 
 use std::simd::prelude::*;
@@ -106,7 +106,7 @@ pub(crate) fn numbers_from(weights: &[u32], askable: &[u8], total: u32, at: usiz
     requires in_weights { at + 16 ≤ length weights.now }
     requires same_length { length weights.now ≡ length askable.now }
     requires weighed { AreWeighed weights.now askable.now total }
-    ensures { HasLanes (λ lane. number_at weights.now askable.now total (at + lane)) result }
+    ensures { HasLanes (λ lane. lane_number weights.now askable.now total (at + lane)) result }
 {
     where_set(
         flags_from(askable, at),

@@ -1,7 +1,7 @@
 use Rattle.std.proofs.Common.{ℕ, ◌++◌, ◌∷◌, [], ap, sym, ◌∙◌}
 use Rattle.std.specs.Global.{Vec}
 use Rattle.std.proofs.lemmas.List.{map_push}
-use Rattle.check_steps.specs.Words.{items_of, kept_of, kept_text}
+use Rattle.check_steps.specs.Words.{texts_in, kept_of, kept_text}
 use Rattle.check_steps.proofs.NameLists.{map_more}
 use Rattle.check_steps.proofs.words.texts.Goals as goal
 
@@ -10,7 +10,7 @@ tokens-preserved c =
     let l = c.args.tokens.now in
     let t = c.at-token.result in
     let at = c.at-token.ensures.token in
-    ap items_of c.in_ok-push.ensures.items
+    ap texts_in c.in_ok-push.ensures.items
     ∙ map_push (λ (v : Vec ℕ). v.items) c.tokens.texts.items c.in_ok-text.text
     ∙ (λ i. c.tokens.invariant i ++ (c.in_ok-text.ensures ∙ (λ j. kept_text t.kind (c.text.ensures t at j) (c.spelling.ensures t at j))) i ∷ [])
     ∙ sym (map_more (kept_of l.source) l.tokens c.tokens.i t at)

@@ -1,6 +1,6 @@
 use Rattle.std.proofs.Common.{◌≡◌, take}
-use Rattle.check_steps.specs.Words.{items_of, words_of}
+use Rattle.check_steps.specs.Words.{texts_in, words_of}
 use Rattle.check_steps.proofs.words.words.Given as goal
 
 abbrev pub invariant-tokens : goal.invariant-tokens
-invariant-tokens l = l.words.items ≡ words_of (items_of l.names.keys) l.tokens.source (take l.i l.tokens.tokens)
+invariant-tokens l = l.words.items ≡ words_of (texts_in l.names.keys) l.tokens.source (take l.i l.tokens.tokens)

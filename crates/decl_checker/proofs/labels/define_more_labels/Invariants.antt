@@ -1,8 +1,8 @@
 use Rattle.std.proofs.Common.{◌≡◌, drop}
-use Rattle.check_steps.specs.Steps.{run, each}
+use Rattle.check_steps.specs.Steps.{run_step, each}
 use Rattle.decl_checker.specs.Labels.{define_next_label}
 use Rattle.decl_checker.proofs.labels.define_more_labels.Given as goal
 
 abbrev pub invariant-labels : goal.invariant-labels
 invariant-labels l =
-    run (each (define_next_label l.here) tt (drop l.label-index l.labels)) l.work ≡ run (each (define_next_label l.here) tt l.labels) l.fn.work
+    run_step (each (define_next_label l.here) tt (drop l.label-index l.labels)) l.work ≡ run_step (each (define_next_label l.here) tt l.labels) l.fn.work

@@ -1,9 +1,10 @@
 use Rattle.std.proofs.Common.{◌≡◌, drop}
-use Rattle.check_steps.specs.Steps.{run, each}
+use Rattle.check_steps.specs.Steps.{run_step, each}
 use Rattle.kind_checker.specs.Names.{on_name}
-use Rattle.decl_checker.specs.Parameters.{parameter}
+use Rattle.decl_checker.specs.Parameters.{program_parameter}
 use Rattle.decl_checker.proofs.parameters.check_more_parameters.Given as goal
 
 abbrev pub invariant-names : goal.invariant-names
 invariant-names l =
-    run (each (on_name (parameter l.region)) tt (drop l.name-index l.names)) l.work ≡ run (each (on_name (parameter l.region)) tt l.names) l.fn.work
+    run_step (each (on_name (program_parameter l.region)) tt (drop l.name-index l.names)) l.work
+        ≡ run_step (each (on_name (program_parameter l.region)) tt l.names) l.fn.work

@@ -1,8 +1,9 @@
 use Rattle.std.proofs.Common.{◌≡◌, drop}
-use Rattle.check_steps.specs.Steps.{run, each}
+use Rattle.check_steps.specs.Steps.{run_step, each}
 use Rattle.decl_checker.specs.Routines.{routine}
 use Rattle.decl_checker.proofs.routines.+blocks.Given as goal
 
 abbrev pub invariant-check_routines-routines : goal.invariant-check_routines-routines
 invariant-check_routines-routines l =
-    run (each (routine l.frame l.routines) tt (drop l.routine-index l.routines)) l.work ≡ run (each (routine l.frame l.routines) tt l.routines) l.fn.work
+    run_step (each (routine l.frame l.routines) tt (drop l.routine-index l.routines)) l.work
+        ≡ run_step (each (routine l.frame l.routines) tt l.routines) l.fn.work

@@ -1,10 +1,10 @@
 use Rattle.std.proofs.Common.{◌≡◌, drop}
-use Rattle.check_steps.specs.Steps.{run, each}
+use Rattle.check_steps.specs.Steps.{run_step, each}
 use Rattle.kind_checker.specs.Names.{on_name}
-use Rattle.denoter_checker.specs.Parts.{place}
+use Rattle.denoter_checker.specs.Parts.{place_variable}
 use Rattle.denoter_checker.proofs.parts.check_more_places.Given as goal
 
 abbrev pub invariant-names : goal.invariant-names
 invariant-names l =
-    run (each (on_name (place l.level l.of)) l.next (drop l.name-index l.names)) l.work
-    ≡ run (each (on_name (place l.level l.of)) l.at l.names) l.fn.work
+    run_step (each (on_name (place_variable l.level l.of)) l.next (drop l.name-index l.names)) l.work
+    ≡ run_step (each (on_name (place_variable l.level l.of)) l.at l.names) l.fn.work

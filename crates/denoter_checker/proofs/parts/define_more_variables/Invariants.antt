@@ -1,8 +1,8 @@
 use Rattle.std.proofs.Common.{◌≡◌, drop}
-use Rattle.check_steps.specs.Steps.{run, each}
+use Rattle.check_steps.specs.Steps.{run_step, each}
 use Rattle.denoter_checker.specs.Parts.{define_variable}
 use Rattle.denoter_checker.proofs.parts.define_more_variables.Given as goal
 
 abbrev pub invariant-parts : goal.invariant-parts
 invariant-parts l =
-    run (each (define_variable l.region) tt (drop l.part-index l.parts)) l.work ≡ run (each (define_variable l.region) tt l.parts) l.fn.work
+    run_step (each (define_variable l.region) tt (drop l.part-index l.parts)) l.work ≡ run_step (each (define_variable l.region) tt l.parts) l.fn.work

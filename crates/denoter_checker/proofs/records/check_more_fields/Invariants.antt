@@ -1,10 +1,10 @@
 use Rattle.std.proofs.Common.{◌≡◌, drop}
-use Rattle.check_steps.specs.Steps.{run, each}
+use Rattle.check_steps.specs.Steps.{run_step, each}
 use Rattle.kind_checker.specs.Names.{on_name}
 use Rattle.denoter_checker.specs.Denoters.{field_place}
 use Rattle.denoter_checker.proofs.records.check_more_fields.Given as goal
 
 abbrev pub invariant-names : goal.invariant-names
 invariant-names l =
-    run (each (on_name (field_place l.holder l.of)) l.next (drop l.name-index l.names)) l.work
-    ≡ run (each (on_name (field_place l.holder l.of)) l.offset l.names) l.fn.work
+    run_step (each (on_name (field_place l.holder l.of)) l.next (drop l.name-index l.names)) l.work
+    ≡ run_step (each (on_name (field_place l.holder l.of)) l.offset l.names) l.fn.work

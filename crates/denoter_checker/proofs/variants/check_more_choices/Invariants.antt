@@ -1,9 +1,9 @@
 use Rattle.std.proofs.Common.{◌≡◌, drop}
-use Rattle.check_steps.specs.Steps.{run, each}
+use Rattle.check_steps.specs.Steps.{run_step, each}
 use Rattle.denoter_checker.specs.Variants.{next_choice}
 use Rattle.denoter_checker.proofs.variants.check_more_choices.Given as goal
 
 abbrev pub invariant-constants : goal.invariant-constants
 invariant-constants l =
-    run (each (next_choice l.choosing l.chosen) l.end (drop l.constant-index l.constants)) l.work
-    ≡ run (each (next_choice l.choosing l.chosen) l.last l.constants) l.fn.work
+    run_step (each (next_choice l.choosing l.chosen) l.end (drop l.constant-index l.constants)) l.work
+    ≡ run_step (each (next_choice l.choosing l.chosen) l.last l.constants) l.fn.work

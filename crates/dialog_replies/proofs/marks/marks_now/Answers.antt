@@ -3,7 +3,7 @@ use Rattle.std.specs.Prelude.{map}
 use Rattle.std.proofs.lemmas.List.FromFn.{length-map-range_with_len, map-range_with_len_more}
 use Rattle.call_tree.specs.declared.records.Mark.{Mark}
 use Rattle.answer_book.specs.Numbers.{numbers_below}
-use Rattle.dialog_replies.specs.Subject.{calls_of}
+use Rattle.dialog_replies.specs.Subject.{calls_recorded}
 use Rattle.dialog_replies.proofs.ColumnsOfCalls.{calls_counted}
 use Rattle.dialog_replies.proofs.marks.marks_now.Goals as goal
 
@@ -25,4 +25,5 @@ loop-call-preserved g c =
 pub returns-clause-each : goal.returns-clause-each
 returns-clause-each g c =
     let s = g.D.Debugged.subject c.args.run.now in
-    as_many _ c.loop-call.marks.items c.loop-call.call (calls_of s) c.loop-call.invariant (omega (arith, calls_counted s c.calls.result.now c.calls.ensures))
+    as_many _ c.loop-call.marks.items c.loop-call.call (calls_recorded s) c.loop-call.invariant
+        (omega (arith, calls_counted s c.calls.result.now c.calls.ensures))

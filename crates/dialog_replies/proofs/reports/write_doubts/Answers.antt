@@ -2,7 +2,7 @@ use Rattle.std.proofs.Common.{◌≡◌, ◌++◌, ℕ, List, ap, sym, ◌∙◌
 use Rattle.std.specs.Prelude.{Some, None, filter, find}
 use Rattle.std.specs.List.{flat_map}
 use Rattle.optimal_query.specs.Region.{is_after}
-use Rattle.dialog_replies.specs.Subject.{calls_of, doubts_after}
+use Rattle.dialog_replies.specs.Subject.{calls_recorded, doubts_after}
 use Rattle.dialog_replies.specs.Texts.{doubt_line, doubt_lines}
 use Rattle.dialog_replies.proofs.LinesInTurn.{all_written, line_written, shorter}
 use Rattle.dialog_replies.proofs.NamedCalls.{all_rise, next_of_doubts}
@@ -20,7 +20,7 @@ write_doubt-requires g c =
     let ds = doubts_after s c.args.debug.now.book.entries in
     let found : find (is_after c.doubts.last) ds ≡ Some c.in-Some.doubt =
     sym (next_of_doubts s c.args.debug.now c.doubts.last c.requires) ∙ sym c.next_unknown.ensures ∙ c.in-Some.is in
-    (found_within (is_after c.doubts.last) 0 (calls_of s) ds c.in-Some.doubt (all_rise s c.args.debug.now.book.entries) found).1
+    (found_within (is_after c.doubts.last) 0 (calls_recorded s) ds c.in-Some.doubt (all_rise s c.args.debug.now.book.entries) found).1
 
 pub doubts-smaller : goal.doubts-smaller
 doubts-smaller g c =
@@ -29,7 +29,7 @@ doubts-smaller g c =
     let found : find (is_after c.doubts.last) ds ≡ Some c.in-Some.doubt =
     sym (next_of_doubts s c.args.debug.now c.doubts.last c.requires) ∙ sym c.next_unknown.ensures ∙ c.in-Some.is in
     shorter (filter (is_after c.doubts.last) ds) (filter (is_after (Some c.in-Some.doubt)) ds) c.in-Some.doubt
-    (next_is c.doubts.last 0 (calls_of s) ds c.in-Some.doubt (all_rise s c.args.debug.now.book.entries) found)
+    (next_is c.doubts.last 0 (calls_recorded s) ds c.in-Some.doubt (all_rise s c.args.debug.now.book.entries) found)
 
 pub doubts-preserved : goal.doubts-preserved
 doubts-preserved g c =
@@ -41,7 +41,8 @@ doubts-preserved g c =
     record {
       written = line_written (doubt_line s) c.doubts.out c.write_doubt.new.out (c.args.out.now ++ doubt_lines s entries) c.in-Some.doubt
           (filter (is_after c.doubts.last) ds) (filter (is_after (Some c.in-Some.doubt)) ds)
-          (next_is c.doubts.last 0 (calls_of s) ds c.in-Some.doubt (all_rise s entries) found) c.in_ok-write_doubt-in-Some.ensures c.doubts.invariant.written;
+          (next_is c.doubts.last 0 (calls_recorded s) ds c.in-Some.doubt (all_rise s entries) found) c.in_ok-write_doubt-in-Some.ensures
+              c.doubts.invariant.written;
     }
 
 pub returns-in-None : goal.returns-in-None

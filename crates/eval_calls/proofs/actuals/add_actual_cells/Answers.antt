@@ -1,7 +1,7 @@
 use Rattle.std.proofs.Common.{reverse}
 use Rattle.eval_tasks.specs.declared.tasks.Part.TheVariants as part
 use Rattle.std.proofs.Common.{◌∷◌, ◌++◌, sym, ap, ◌∙◌}
-use Rattle.eval_tasks.specs.Rest.{top_list, below, at_work}
+use Rattle.eval_tasks.specs.Rest.{top_list, below_top, left_now}
 use Rattle.eval_tasks.specs.declared.tasks.Now.TheVariants.{Begin}
 use Rattle.eval_tasks.proofs.Moves.{comes_same}
 use Rattle.eval_tasks.proofs.Turning.{reverse_pushed}
@@ -12,7 +12,7 @@ returns-clause-turns c m =
     let p = c.args.program.now in
     let k = c.take_list-values.ensures in
     let l = c.take_list-list.ensures in
-    comes_same (sym (λ i. at_work p ((l.home ∙ k.home) i) (Begin (part.Pass c.args.next c.args.line)) (reverse ((l.tasks ∙ k.tasks) i))
+    comes_same (sym (λ i. left_now p ((l.home ∙ k.home) i) (Begin (part.Pass c.args.next c.args.line)) (reverse ((l.tasks ∙ k.tasks) i))
     (reverse ((l.values ∙ k.values) i))
     ((reverse_pushed c.take_list-list.new.self.lists.items _ _ c.in_ok-push.ensures.items
-    ∙ (λ j. (c.in_ok-append_all.ensures.added ∙ (λ n. (l.result ∙ ap top_list k.lists) n ++ k.result n)) j ∷ (l.lists ∙ ap below k.lists) j)) i)))
+    ∙ (λ j. (c.in_ok-append_all.ensures.added ∙ (λ n. (l.result ∙ ap top_list k.lists) n ++ k.result n)) j ∷ (l.lists ∙ ap below_top k.lists) j)) i)))

@@ -4,7 +4,7 @@ use Rattle.program_tables.specs.declared.rows.Row.TheVariants as rows
 use Rattle.program_meaning.specs.Cells.{routine_out}
 use Rattle.program_meaning.specs.Expressions.{of_actual}
 use Rattle.program_meaning.specs.Tree.{bind, doing}
-use Rattle.eval_tasks.specs.Rest.{declared, here, pass, resume, top_list, below, tasks_of, values_of, lists_of}
+use Rattle.eval_tasks.specs.Rest.{declared, here, pass, resume, top_list, below_top, tasks_of, values_of, lists_of}
 use Rattle.eval_tasks.proofs.Turning.{spent, not_spent, spent_less, turns_after, turns_failed, fails_after, falls_failed}
 use Rattle.eval_tasks.proofs.Moves.{comes_then, comes_same}
 use Rattle.eval_tasks.proofs.StepsFall.{falls_so}
@@ -29,7 +29,7 @@ returns-in-Ok-clause-turns c =
     let a = c.args.body.now in
     let h = here a.home c.args.line in
     let i = c.in-Routine in
-    let K = resume p a.home (tasks_of a) (values_of a) (below (lists_of a)) in
+    let K = resume p a.home (tasks_of a) (values_of a) (below_top (lists_of a)) in
     let found = declared i.routine i.levels a.home.base in
     let m' = moment_of c.spend.new.machine in
     turns_after p _ _ _ _ _ c.add_routine.result c.add_routine.new.body
@@ -52,7 +52,7 @@ returns-in-Err-clause-turns c =
     let a = c.args.body.now in
     let h = here a.home c.args.line in
     let i = c.in-Routine in
-    let K = resume p a.home (tasks_of a) (values_of a) (below (lists_of a)) in
+    let K = resume p a.home (tasks_of a) (values_of a) (below_top (lists_of a)) in
     let found = declared i.routine i.levels a.home.base in
     turns_failed p _ _ _ c.args.line c.in-Err.halt c.fail.new.self c.fail.result c.fail.ensures.line c.fail.ensures.fails
     (fails_after p _ _ _ _ _ c.args.line c.in-Err.halt
@@ -69,7 +69,7 @@ returns-in-Ok-spend-clause-turns c =
     let a = c.args.body.now in
     let h = here a.home c.args.line in
     let i = c.in-RoutineFormal in
-    let K = resume p a.home (tasks_of a) (values_of a) (below (lists_of a)) in
+    let K = resume p a.home (tasks_of a) (values_of a) (below_top (lists_of a)) in
     let found = routine_out i.levels a.home.base i.place in
     let m' = moment_of c.spend-in-RoutineFormal.new.machine in
     turns_after p _ _ _ _ _ c.add_routine-in-Ok-spend.result c.add_routine-in-Ok-spend.new.body
@@ -93,7 +93,7 @@ returns-in-Err-spend-clause-turns c =
     let a = c.args.body.now in
     let h = here a.home c.args.line in
     let i = c.in-RoutineFormal in
-    let K = resume p a.home (tasks_of a) (values_of a) (below (lists_of a)) in
+    let K = resume p a.home (tasks_of a) (values_of a) (below_top (lists_of a)) in
     let found = routine_out i.levels a.home.base i.place in
     turns_failed p _ _ _ c.args.line c.in-Err-spend.halt c.fail-in-Err-spend.new.self c.fail-in-Err-spend.result c.fail-in-Err-spend.ensures.line
     c.fail-in-Err-spend.ensures.fails

@@ -7,7 +7,7 @@ use Rattle.program_tables.specs.ProgramRows.{ProgramRows, row_at}
 use Rattle.program_meaning.specs.Tree.{Here, Pass, Ret, Cells}
 use Rattle.program_meaning.specs.Expressions.{of_actual}
 use Rattle.eval_machine.specs.Machines.{moment_of}
-use Rattle.eval_tasks.specs.Rest.{here, resume, top_list, below, tasks_of, values_of, lists_of}
+use Rattle.eval_tasks.specs.Rest.{here, resume, top_list, below_top, tasks_of, values_of, lists_of}
 use Rattle.eval_tasks.proofs.StepsFall.{falls_so}
 use Rattle.eval_tasks.proofs.Turning.{part_comes, turns_after}
 use Rattle.eval_calls.proofs.actuals.pass_actuals.Goals as goal
@@ -25,7 +25,7 @@ returns-in-Item-clause-turns c =
     let ls = lists_of a in
     let e : row_at p c.args.at ≡ rows.Item c.in-Item.item = cc in
     turns_after p _ _ _ _ _ c.pass_actual.result c.pass_actual.new.body
-    (part_comes p (Pass c.args.at (top_list ls) h) (resume p a.home (tasks_of a) (values_of a) (below ls)) (moment_of c.args.machine.now) _
+    (part_comes p (Pass c.args.at (top_list ls) h) (resume p a.home (tasks_of a) (values_of a) (below_top ls)) (moment_of c.args.machine.now) _
     (ap (of_actual p (top_list ls) h) e))
     c.pass_actual.ensures.turns
 
@@ -36,7 +36,7 @@ returns-in_default-clause-turns c =
     let h = here a.home c.args.line in
     let ls = lists_of a in
     turns_after p _ _ _ _ _ c.go.result c.go.new.self
-    (part_comes p (Pass c.args.at (top_list ls) h) (resume p a.home (tasks_of a) (values_of a) (below ls)) (moment_of c.args.machine.now) _
+    (part_comes p (Pass c.args.at (top_list ls) h) (resume p a.home (tasks_of a) (values_of a) (below_top ls)) (moment_of c.args.machine.now) _
     (ap (of_actual p (top_list ls) h) (sym c.row.ensures)
     ∙ no_actual p (top_list ls) h c.row.result c.in_default.not-Item))
     (c.go.ensures.turns p (moment_of c.args.machine.now))

@@ -1,5 +1,5 @@
 use Rattle.std.proofs.Common.{◌∷◌, sym, ap, ◌∙◌}
-use Rattle.eval_tasks.specs.Rest.{tasks_of, values_of, lists_of, at_work}
+use Rattle.eval_tasks.specs.Rest.{tasks_of, values_of, lists_of, left_now}
 use Rattle.eval_tasks.specs.declared.tasks.Now.TheVariants.{Begin}
 use Rattle.eval_tasks.specs.declared.tasks.Part.TheVariants as part
 use Rattle.eval_tasks.proofs.Moves.{comes_same}
@@ -11,7 +11,7 @@ returns-clause-turns c p m =
     let a = c.args.body.now in
     let now = Begin (part.Pass c.args.actuals c.args.line) in
     comes_same (sym (
-    ap (λ ts. at_work p a.home now ts (values_of a) (lists_of (record a { lists = c.push.new.self })))
+    ap (λ ts. left_now p a.home now ts (values_of a) (lists_of (record a { lists = c.push.new.self })))
     (reverse_pushed a.tasks.items _ c.args.task c.in_ok-push-2.ensures.items)
-    ∙ ap (λ ls. at_work p a.home now (c.args.task ∷ tasks_of a) (values_of a) ls) (reverse_pushed a.lists.items _ _ c.in_ok-push.ensures.items)
-    ∙ ap (λ l. at_work p a.home now (c.args.task ∷ tasks_of a) (values_of a) (l ∷ lists_of a)) c.new.ensures))
+    ∙ ap (λ ls. left_now p a.home now (c.args.task ∷ tasks_of a) (values_of a) ls) (reverse_pushed a.lists.items _ _ c.in_ok-push.ensures.items)
+    ∙ ap (λ l. left_now p a.home now (c.args.task ∷ tasks_of a) (values_of a) (l ∷ lists_of a)) c.new.ensures))

@@ -5,7 +5,7 @@ use Rattle.program_meaning.specs.Cells.{frame_out}
 use Rattle.program_meaning.specs.Expressions.{with_frame_size}
 use Rattle.program_meaning.specs.Tree.{Enter, bind, doing}
 use Rattle.eval_machine.specs.Machines.{moment_of}
-use Rattle.eval_tasks.specs.Rest.{returned, resume, top_list, below, tasks_of, values_of, lists_of}
+use Rattle.eval_tasks.specs.Rest.{after_call, resume, top_list, below_top, tasks_of, values_of, lists_of}
 use Rattle.eval_tasks.proofs.Moves.{comes_then, comes_same}
 use Rattle.eval_tasks.proofs.Turning.{turns_after, turns_same, turns_failed, fails_after, did, fails}
 use Rattle.eval_calls.proofs.calls.call.Goals as goal
@@ -14,15 +14,15 @@ pub returns-in-Ok-clause-turns : goal.returns-in-Ok-clause-turns
 returns-in-Ok-clause-turns c =
     let p = c.args.program.now in
     let a = c.args.body.now in
-    let K = resume p a.home (tasks_of a) (values_of a) (below (lists_of a)) in
+    let K = resume p a.home (tasks_of a) (values_of a) (below_top (lists_of a)) in
     let args = top_list (lists_of a) in
     let r = c.in-Some.found in
     let h : routine_at p c.args.routine ≡ Some r = sym c.routine.ensures ∙ c.in-Some.is in
     turns_after p _ _ _ _ _ c.enter.result c.enter.new.body
     (comes_then (comes_same (ap (λ x. bind (with_frame_size x (λ cells. doing c.args.line (frame_out c.args.levels a.home.base) (λ frame.
-    Enter c.args.routine cells (value.Frame frame ∷ args) (returned c.args.procedure)))) K) h))
+    Enter c.args.routine cells (value.Frame frame ∷ args) (after_call c.args.procedure)))) K) h))
     (did {X = ℕ} p c.args.line (frame_out c.args.levels a.home.base) (λ frame. Enter c.args.routine r.cells (value.Frame frame ∷ args)
-    (returned c.args.procedure)) K (λ b. b) c.in-Ok.frame (moment_of c.args.machine.now) (moment_of c.frame_out.new.machine) c.in-Ok.ensures.action))
+    (after_call c.args.procedure)) K (λ b. b) c.in-Ok.frame (moment_of c.args.machine.now) (moment_of c.frame_out.new.machine) c.in-Ok.ensures.action))
     (c.enter.ensures.turns p r h refl)
 
 pub returns-in-Ok-clause-falls : goal.returns-in-Ok-clause-falls
@@ -32,26 +32,26 @@ pub returns-in-Err-clause-turns : goal.returns-in-Err-clause-turns
 returns-in-Err-clause-turns c =
     let p = c.args.program.now in
     let a = c.args.body.now in
-    let K = resume p a.home (tasks_of a) (values_of a) (below (lists_of a)) in
+    let K = resume p a.home (tasks_of a) (values_of a) (below_top (lists_of a)) in
     let args = top_list (lists_of a) in
     let r = c.in-Some.found in
     let h : routine_at p c.args.routine ≡ Some r = sym c.routine.ensures ∙ c.in-Some.is in
     turns_failed p _ _ _ c.args.line c.in-Err.halt c.fail.new.self c.fail.result c.fail.ensures.line c.fail.ensures.fails
     (fails_after p _ _ _ _ _ c.args.line c.in-Err.halt
     (comes_same (ap (λ x. bind (with_frame_size x (λ cells. doing c.args.line (frame_out c.args.levels a.home.base) (λ frame.
-    Enter c.args.routine cells (value.Frame frame ∷ args) (returned c.args.procedure)))) K) h))
+    Enter c.args.routine cells (value.Frame frame ∷ args) (after_call c.args.procedure)))) K) h))
     (fails {X = ℕ} p c.args.line (frame_out c.args.levels a.home.base) (λ frame. Enter c.args.routine r.cells (value.Frame frame ∷ args)
-    (returned c.args.procedure)) K (λ b. b)
+    (after_call c.args.procedure)) K (λ b. b)
     c.in-Err.halt (moment_of c.args.machine.now) (moment_of c.frame_out.new.machine) c.in-Err.ensures.action))
 
 pub returns-in-None-clause-turns : goal.returns-in-None-clause-turns
 returns-in-None-clause-turns c =
     let p = c.args.program.now in
     let a = c.args.body.now in
-    let K = resume p a.home (tasks_of a) (values_of a) (below (lists_of a)) in
+    let K = resume p a.home (tasks_of a) (values_of a) (below_top (lists_of a)) in
     let args = top_list (lists_of a) in
     let h : routine_at p c.args.routine ≡ None = sym c.routine.ensures ∙ c.in-None.is in
     turns_same p _ _ _ _ c.no_row.result c.no_row.new.self
     (ap (λ x. bind (with_frame_size x (λ cells. doing c.args.line (frame_out c.args.levels a.home.base) (λ frame.
-    Enter c.args.routine cells (value.Frame frame ∷ args) (returned c.args.procedure)))) K) h)
+    Enter c.args.routine cells (value.Frame frame ∷ args) (after_call c.args.procedure)))) K) h)
     (c.no_row.ensures.turns p _)

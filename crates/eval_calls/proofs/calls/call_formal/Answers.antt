@@ -5,7 +5,7 @@ use Rattle.program_meaning.specs.Cells.{routine_out}
 use Rattle.program_meaning.specs.Expressions.{with_frame_size, enter}
 use Rattle.program_meaning.specs.Tree.{Enter, bind}
 use Rattle.eval_machine.specs.Machines.{moment_of}
-use Rattle.eval_tasks.specs.Rest.{returned, resume, top_list, below, tasks_of, values_of, lists_of}
+use Rattle.eval_tasks.specs.Rest.{after_call, resume, top_list, below_top, tasks_of, values_of, lists_of}
 use Rattle.eval_tasks.proofs.Moves.{comes_then, comes_same}
 use Rattle.eval_tasks.proofs.StepsFall.{falls_so}
 use Rattle.eval_tasks.proofs.Turning.{turns_after, turns_failed, did, fails, falls_failed}
@@ -15,15 +15,15 @@ pub returns-in-Some-clause-turns : goal.returns-in-Some-clause-turns
 returns-in-Some-clause-turns c =
     let p = c.args.program.now in
     let a = c.args.body.now in
-    let K = resume p a.home (tasks_of a) (values_of a) (below (lists_of a)) in
+    let K = resume p a.home (tasks_of a) (values_of a) (below_top (lists_of a)) in
     let args = top_list (lists_of a) in
     let r = c.in-Some.found in
     let h : routine_at p c.in-Ok.routine ≡ Some r = sym c.routine.ensures ∙ c.in-Some.is in
     turns_after p _ _ _ _ _ c.enter.result c.enter.new.body
-    (comes_then (did {X = ℕ × ℕ} p c.args.line (routine_out c.args.levels a.home.base c.args.place) (λ x. enter p x.0 x.1 args (returned c.args.procedure))
+    (comes_then (did {X = ℕ × ℕ} p c.args.line (routine_out c.args.levels a.home.base c.args.place) (λ x. enter p x.0 x.1 args (after_call c.args.procedure))
     K (λ x. x) (c.in-Ok.routine, c.in-Ok.frame) (moment_of c.args.machine.now) (moment_of c.routine_out.new.machine) c.in-Ok.ensures.action)
     (comes_same (ap (λ x. bind (with_frame_size x (λ cells. Enter c.in-Ok.routine cells (value.Frame c.in-Ok.frame ∷ args)
-    (returned c.args.procedure))) K) h)))
+    (after_call c.args.procedure))) K) h)))
     (c.enter.ensures.turns p r h refl)
 
 pub returns-in-Some-clause-falls : goal.returns-in-Some-clause-falls
@@ -33,14 +33,14 @@ pub returns-in-None-clause-turns : goal.returns-in-None-clause-turns
 returns-in-None-clause-turns c =
     let p = c.args.program.now in
     let a = c.args.body.now in
-    let K = resume p a.home (tasks_of a) (values_of a) (below (lists_of a)) in
+    let K = resume p a.home (tasks_of a) (values_of a) (below_top (lists_of a)) in
     let args = top_list (lists_of a) in
     let h : routine_at p c.in-Ok.routine ≡ None = sym c.routine.ensures ∙ c.in-None.is in
     turns_after p _ _ _ _ _ c.no_row.result c.no_row.new.self
-    (comes_then (did {X = ℕ × ℕ} p c.args.line (routine_out c.args.levels a.home.base c.args.place) (λ x. enter p x.0 x.1 args (returned c.args.procedure))
+    (comes_then (did {X = ℕ × ℕ} p c.args.line (routine_out c.args.levels a.home.base c.args.place) (λ x. enter p x.0 x.1 args (after_call c.args.procedure))
     K (λ x. x) (c.in-Ok.routine, c.in-Ok.frame) (moment_of c.args.machine.now) (moment_of c.routine_out.new.machine) c.in-Ok.ensures.action)
     (comes_same (ap (λ x. bind (with_frame_size x (λ cells. Enter c.in-Ok.routine cells (value.Frame c.in-Ok.frame ∷ args)
-    (returned c.args.procedure))) K) h)))
+    (after_call c.args.procedure))) K) h)))
     (c.no_row.ensures.turns p _)
 
 pub returns-in-None-clause-falls : goal.returns-in-None-clause-falls
@@ -50,10 +50,10 @@ pub returns-in-Err-clause-turns : goal.returns-in-Err-clause-turns
 returns-in-Err-clause-turns c =
     let p = c.args.program.now in
     let a = c.args.body.now in
-    let K = resume p a.home (tasks_of a) (values_of a) (below (lists_of a)) in
+    let K = resume p a.home (tasks_of a) (values_of a) (below_top (lists_of a)) in
     turns_failed p _ _ _ c.args.line c.in-Err.halt c.fail.new.self c.fail.result c.fail.ensures.line c.fail.ensures.fails
     (fails {X = ℕ × ℕ} p c.args.line (routine_out c.args.levels a.home.base c.args.place)
-    (λ x. enter p x.0 x.1 (top_list (lists_of a)) (returned c.args.procedure)) K (λ x. x) c.in-Err.halt (moment_of c.args.machine.now)
+    (λ x. enter p x.0 x.1 (top_list (lists_of a)) (after_call c.args.procedure)) K (λ x. x) c.in-Err.halt (moment_of c.args.machine.now)
     (moment_of c.routine_out.new.machine) c.in-Err.ensures.action)
 
 pub returns-in-Err-clause-falls : goal.returns-in-Err-clause-falls

@@ -4,7 +4,7 @@ use Rattle.program_meaning.specs.Acts.{limit_passed}
 use Rattle.program_meaning.specs.Tree.{bind}
 use Rattle.eval_machine.specs.declared.halt.Halt.TheVariants as halts
 use Rattle.eval_machine.specs.Machines.{moment_of}
-use Rattle.eval_tasks.specs.Rest.{returned, resume, top_list, below, tasks_of, values_of, lists_of}
+use Rattle.eval_tasks.specs.Rest.{after_call, resume, top_list, below_top, tasks_of, values_of, lists_of}
 use Rattle.eval_tasks.proofs.Moves.{limit_here}
 use Rattle.eval_tasks.proofs.Turning.{turns_failed, entered_turns, falls_failed}
 use Rattle.eval_calls.proofs.calls.enter.Goals as goal
@@ -23,9 +23,9 @@ pub returns-in-Some-clause-turns : goal.returns-in-Some-clause-turns
 returns-in-Some-clause-turns c p r h e =
     let a = c.args.body.now in
     let m = moment_of c.args.machine.now in
-    let K = resume p a.home (tasks_of a) (values_of a) (below (lists_of a)) in
+    let K = resume p a.home (tasks_of a) (values_of a) (below_top (lists_of a)) in
     turns_failed p _ m m c.args.line (halts.Limited c.in-Some.which) c.fail.new.self c.fail.result c.fail.ensures.line c.fail.ensures.fails
-    (limit_here {p = p} c.args.routine c.args.cells (value.Frame c.args.frame ∷ top_list (lists_of a)) (λ x. bind (returned c.args.procedure x) K)
+    (limit_here {p = p} c.args.routine c.args.cells (value.Frame c.args.frame ∷ top_list (lists_of a)) (λ x. bind (after_call c.args.procedure x) K)
     c.in-Some.which m (sym c.limit_passed.ensures ∙ c.in-Some.is))
 
 pub returns-in-Some-clause-falls : goal.returns-in-Some-clause-falls

@@ -8,5 +8,5 @@ abbrev pub invariant-cells : goal.invariant-cells
 invariant-cells l = record {
   ready : IsReady l.machine;
   count : length l.values ≡ l.counter;
-  came : CameTo (cells.reads [] l.addr l.cells) (moment_of l.fn.machine) (cells.reads l.values l.at (l.cells - l.counter)) (moment_of l.machine);
+  came : CameTo (cells.read_values [] l.addr l.cells) (moment_of l.fn.machine) (cells.read_values l.values l.at (l.cells - l.counter)) (moment_of l.machine);
 }

@@ -1,5 +1,5 @@
 use Rattle.std.proofs.Common.{List}
-use Rattle.program_meaning.specs.Cells.{reads}
+use Rattle.program_meaning.specs.Cells.{read_values}
 use Rattle.cell_value.specs.declared.values.Value.{Value}
 use Rattle.program_meaning.specs.Tree.{Cells}
 use Rattle.std.proofs.Common.{[], arith}
@@ -14,13 +14,13 @@ pub returns-in-Ok-clause-turns : goal.returns-in-Ok-clause-turns
 returns-in-Ok-clause-turns c =
     let p = c.args.program.now in
     turns_after p _ _ _ _ _ c.give_cells.result c.give_cells.new.self
-    (did {X = List Value} p c.args.line (reads [] c.args.addr c.args.cells) (λ vs. Ret (Cells vs)) (waiting p c.args.body.now) (λ vs. vs) c.in-Ok.values
+    (did {X = List Value} p c.args.line (read_values [] c.args.addr c.args.cells) (λ vs. Ret (Cells vs)) (waiting p c.args.body.now) (λ vs. vs) c.in-Ok.values
     (moment_of c.args.machine.now) (moment_of c.read_cells.new.machine) c.in-Ok.ensures.action)
     (c.give_cells.ensures.turns p _)
 
 pub returns-in-Ok-clause-falls : goal.returns-in-Ok-clause-falls
 returns-in-Ok-clause-falls c = falls_so c.give_cells.result _ _ _ _
-    (λ k. let l = steps_fall {X = List Value} (λ vs. vs) (reads [] c.args.addr c.args.cells) c.in-Ok.values (moment_of c.args.machine.now)
+    (λ k. let l = steps_fall {X = List Value} (λ vs. vs) (read_values [] c.args.addr c.args.cells) c.in-Ok.values (moment_of c.args.machine.now)
     (moment_of c.read_cells.new.machine)
     c.in-Ok.ensures.action in omega arith) c.give_cells.ensures.falls
 
@@ -28,5 +28,5 @@ pub returns-in-Err-clause-turns : goal.returns-in-Err-clause-turns
 returns-in-Err-clause-turns c =
     let p = c.args.program.now in
     turns_failed p _ _ _ c.args.line c.in-Err.halt c.fail.new.self c.fail.result c.fail.ensures.line c.fail.ensures.fails
-    (fails {X = List Value} p c.args.line (reads [] c.args.addr c.args.cells) (λ vs. Ret (Cells vs)) (waiting p c.args.body.now) (λ vs. vs) c.in-Err.halt
+    (fails {X = List Value} p c.args.line (read_values [] c.args.addr c.args.cells) (λ vs. Ret (Cells vs)) (waiting p c.args.body.now) (λ vs. vs) c.in-Err.halt
     (moment_of c.args.machine.now) (moment_of c.read_cells.new.machine) c.in-Err.ensures.action)

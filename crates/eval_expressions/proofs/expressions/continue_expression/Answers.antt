@@ -3,11 +3,11 @@ use Rattle.std.proofs.Common.{◌≡◌, ◌∷◌, sym, ap, ◌∙◌}
 use Rattle.cell_value.specs.declared.values.Value.{Value}
 use Rattle.program_meaning.specs.Tree.{Scalar, bind, doing}
 use Rattle.program_meaning.specs.Accesses.{address, with_components}
-use Rattle.program_meaning.specs.Expressions.{result_of}
-use Rattle.program_meaning.specs.Values.{or_fault, signed, function_of, truth, is_true}
+use Rattle.program_meaning.specs.Expressions.{operation_result}
+use Rattle.program_meaning.specs.Values.{or_fault, with_sign_of, function_of, truth, is_true}
 use Rattle.program_meaning.specs.Cells as action
 use Rattle.eval_rules.specs.Operators.{dyadic_of}
-use Rattle.eval_tasks.specs.Rest.{here, waiting, resume, below, tasks_of, values_of, lists_of}
+use Rattle.eval_tasks.specs.Rest.{here, waiting, resume, below_top, tasks_of, values_of, lists_of}
 use Rattle.eval_tasks.specs.declared.tasks.Task.TheVariants as tasks
 use Rattle.eval_tasks.proofs.Turning.{turns_same, given}
 use Rattle.eval_expressions.proofs.expressions.continue_expression.Goals as goal
@@ -16,8 +16,8 @@ pub returns-in-Sign-clause-turns : goal.returns-in-Sign-clause-turns
 returns-in-Sign-clause-turns c m =
     turns_same c.args.program.now _ _ m m c.scalar.result c.scalar.new.self (ap (λ t. resume c.args.program.now c.args.body.now.home
     (tasks.Operand t ∷ tasks_of c.args.body.now) (values_of c.args.body.now) (lists_of c.args.body.now) (Scalar c.args.value)) c.in-Sign.is)
-    (c.scalar.ensures.turns c.args.program.now (or_fault (signed c.in-Sign.minus c.args.value)) m m
-    (given {X = Value} (λ v. v) (or_fault (signed c.in-Sign.minus c.args.value)) c.passed.result m
+    (c.scalar.ensures.turns c.args.program.now (or_fault (with_sign_of c.in-Sign.minus c.args.value)) m m
+    (given {X = Value} (λ v. v) (or_fault (with_sign_of c.in-Sign.minus c.args.value)) c.passed.result m
     (rw c.sign.ensures at c.passed.ensures)))
 
 pub returns-in-Not-clause-turns : goal.returns-in-Not-clause-turns
@@ -35,7 +35,7 @@ returns-in-Function-clause-turns c m =
     let r : function_of c.in-Function.function c.in-Function.least c.in-Function.greatest c.args.value ≡ c.ordinal_function-done.result = search rules in
     turns_same p _ _ m m c.scalar-in-Function.result c.scalar-in-Function.new.self
     (ap (λ t. resume p a.home (tasks.Operand t ∷ tasks_of a) (values_of a) (lists_of a) (Scalar c.args.value)) c.in-Function.is
-    ∙ ap (λ r. bind (result_of h r) (waiting p a)) r)
+    ∙ ap (λ r. bind (operation_result h r) (waiting p a)) r)
     (c.scalar-in-Function.ensures.turns p (or_fault c.ordinal_function-done.result) m m
     (given {X = Value} (λ v. v) (or_fault c.ordinal_function-done.result) c.passed-in-Function.result m c.passed-in-Function.ensures))
 
@@ -61,12 +61,12 @@ returns-in-Both-clause-turns c m =
     let n = c.in-Both in
     let h = here a.home n.line in
     let l = c.take_value-left in
-    let K = resume p a.home (tasks_of a) (below (values_of a)) (lists_of a) in
+    let K = resume p a.home (tasks_of a) (below_top (values_of a)) (lists_of a) in
     turns_same p _ _ m m c.scalar-in-Both.result c.scalar-in-Both.new.self
     (ap (λ t. resume p a.home (tasks.Operand t ∷ tasks_of a) (values_of a) (lists_of a) (Scalar c.args.value)) n.is
-    ∙ ap (λ x. bind (result_of h (dyadic_of n.dyadic x c.args.value)) K) (sym l.ensures.result)
-    ∙ ap (λ r. bind (result_of h r) K) (sym c.apply.ensures)
-    ∙ ap (bind (result_of h c.apply.result)) (sym (l.ensures.waits p)))
+    ∙ ap (λ x. bind (operation_result h (dyadic_of n.dyadic x c.args.value)) K) (sym l.ensures.result)
+    ∙ ap (λ r. bind (operation_result h r) K) (sym c.apply.ensures)
+    ∙ ap (bind (operation_result h c.apply.result)) (sym (l.ensures.waits p)))
     (c.scalar-in-Both.ensures.turns p (or_fault c.apply.result) m m
     (given {X = Value} (λ v. v) (or_fault c.apply.result) c.passed-in-Both.result m c.passed-in-Both.ensures))
 

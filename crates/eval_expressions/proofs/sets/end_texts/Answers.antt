@@ -1,9 +1,9 @@
 use Rattle.std.proofs.Common.{◌≡◌, reverse, sym, ap, ◌∙◌, sum_by, arith}
 use Rattle.cell_value.specs.declared.values.Value.{Value}
 use Rattle.program_meaning.specs.Tree.{bind}
-use Rattle.program_meaning.specs.Expressions.{result_of}
+use Rattle.program_meaning.specs.Expressions.{operation_result}
 use Rattle.program_meaning.specs.Values.{or_fault, texts_compared}
-use Rattle.eval_tasks.specs.Rest.{here, resume, waiting, top_list, below, tasks_of, values_of, lists_of}
+use Rattle.eval_tasks.specs.Rest.{here, resume, waiting, top_list, below_top, tasks_of, values_of, lists_of}
 use Rattle.eval_tasks.specs.Weight.{task_weight}
 use Rattle.eval_tasks.proofs.StepsFall.{falls_so}
 use Rattle.eval_tasks.proofs.Turning.{turns_same, given}
@@ -14,16 +14,16 @@ returns-clause-turns c p m =
     let a = c.args.body.now in
     let o = c.args.order in
     let h = here a.home c.args.line in
-    let K = resume p a.home (tasks_of a) (values_of a) (below (below (lists_of a))) in
+    let K = resume p a.home (tasks_of a) (values_of a) (below_top (below_top (lists_of a))) in
     let r = c.take_list-right.ensures in
     let l = c.take_list-left.ensures in
     let rest : waiting p c.take_list-left.new.self ≡ K =
-    l.waits p ∙ (λ i. resume p (r.home i) (reverse (r.tasks i)) (reverse (r.values i)) (below (r.lists i))) in
+    l.waits p ∙ (λ i. resume p (r.home i) (reverse (r.tasks i)) (reverse (r.values i)) (below_top (r.lists i))) in
     turns_same p _ _ m m c.scalar.result c.scalar.new.self
-    (ap (λ y. bind (result_of h (texts_compared o (top_list (below (lists_of a))) y)) K) (sym r.result)
-    ∙ ap (λ x. bind (result_of h (texts_compared o x c.take_list-right.result)) K) (ap top_list (sym r.lists) ∙ sym l.result)
-    ∙ ap (λ v. bind (result_of h v) K) (sym c.compare_texts.ensures)
-    ∙ ap (bind (result_of h c.compare_texts.result)) (sym rest))
+    (ap (λ y. bind (operation_result h (texts_compared o (top_list (below_top (lists_of a))) y)) K) (sym r.result)
+    ∙ ap (λ x. bind (operation_result h (texts_compared o x c.take_list-right.result)) K) (ap top_list (sym r.lists) ∙ sym l.result)
+    ∙ ap (λ v. bind (operation_result h v) K) (sym c.compare_texts.ensures)
+    ∙ ap (bind (operation_result h c.compare_texts.result)) (sym rest))
     (c.scalar.ensures.turns p (or_fault c.compare_texts.result) m m
     (given {X = Value} (λ v. v) (or_fault c.compare_texts.result) c.passed.result m c.passed.ensures))
 

@@ -7,7 +7,7 @@ use Rattle.program_tables.specs.ProgramRows.{row_at}
 use Rattle.program_meaning.specs.Tree.{Here, Gather}
 use Rattle.program_meaning.specs.Accesses.{scalar}
 use Rattle.program_meaning.specs.Expressions.{of_members}
-use Rattle.eval_tasks.specs.Rest.{here, resume, top, below, tasks_of, values_of, lists_of}
+use Rattle.eval_tasks.specs.Rest.{here, resume, top, below_top, tasks_of, values_of, lists_of}
 use Rattle.eval_tasks.proofs.Turning.{part_comes, turns_after}
 use Rattle.eval_expressions.proofs.sets.gather.Goals as goal
 
@@ -23,7 +23,7 @@ returns-in-Item-clause-turns c m =
     let set = top (values_of a) in
     let e : row_at p c.args.at ≡ rows.Item c.in-Item.item = cc in
     turns_after p _ _ _ _ _ c.gather_item.result c.gather_item.new.body
-    (part_comes p (Gather c.args.at set h) (resume p a.home (tasks_of a) (below (values_of a)) (lists_of a)) m _ (ap (of_members set h) e))
+    (part_comes p (Gather c.args.at set h) (resume p a.home (tasks_of a) (below_top (values_of a)) (lists_of a)) m _ (ap (of_members set h) e))
     (c.gather_item.ensures.turns p m)
 
 pub returns-in_default-clause-turns : goal.returns-in_default-clause-turns
@@ -33,6 +33,6 @@ returns-in_default-clause-turns c m =
     let h = here a.home c.args.line in
     let set = top (values_of a) in
     turns_after p _ _ _ _ _ c.give_set.result c.give_set.new.body
-    (part_comes p (Gather c.args.at set h) (resume p a.home (tasks_of a) (below (values_of a)) (lists_of a)) m _
+    (part_comes p (Gather c.args.at set h) (resume p a.home (tasks_of a) (below_top (values_of a)) (lists_of a)) m _
     (ap (of_members set h) (sym c.row.ensures) ∙ no_member set h c.row.result c.in_default.not-Item))
     (c.give_set.ensures.turns p m)

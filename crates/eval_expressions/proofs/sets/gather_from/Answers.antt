@@ -1,7 +1,7 @@
 use Rattle.std.proofs.Common.{sym, ap}
 use Rattle.eval_tasks.specs.declared.tasks.Part.TheVariants as part
 use Rattle.eval_tasks.specs.declared.tasks.Now.TheVariants.{Begin}
-use Rattle.eval_tasks.specs.Rest.{at_work, tasks_of, lists_of}
+use Rattle.eval_tasks.specs.Rest.{left_now, tasks_of, lists_of}
 use Rattle.eval_tasks.proofs.Moves.{comes_same}
 use Rattle.eval_tasks.proofs.Turning.{reverse_pushed}
 use Rattle.eval_expressions.proofs.sets.gather_from.Goals as goal
@@ -9,5 +9,5 @@ use Rattle.eval_expressions.proofs.sets.gather_from.Goals as goal
 pub returns-clause-turns : goal.returns-clause-turns
 returns-clause-turns c p m =
     let a = c.args.body.now in
-    comes_same (sym (ap (λ vs. at_work p a.home (Begin (part.Gather c.args.at c.args.line)) (tasks_of a) vs (lists_of a))
+    comes_same (sym (ap (λ vs. left_now p a.home (Begin (part.Gather c.args.at c.args.line)) (tasks_of a) vs (lists_of a))
     (reverse_pushed a.values.items _ c.args.set c.in_ok-push.ensures.items)))

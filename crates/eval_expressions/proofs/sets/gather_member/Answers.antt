@@ -2,7 +2,7 @@ use Rattle.std.proofs.Common.{◌≡◌, sym, ap, ◌∙◌}
 use Rattle.program_meaning.specs.Tree.{bind}
 use Rattle.program_meaning.specs.Expressions.{gather}
 use Rattle.program_meaning.specs.Values.{members_added}
-use Rattle.eval_tasks.specs.Rest.{here, waiting, resume, below, tasks_of, values_of, lists_of}
+use Rattle.eval_tasks.specs.Rest.{here, waiting, resume, below_top, tasks_of, values_of, lists_of}
 use Rattle.eval_tasks.proofs.Turning.{turns_same}
 use Rattle.eval_expressions.proofs.sets.gather_member.Goals as goal
 
@@ -12,7 +12,7 @@ returns-clause-turns c p m =
     let next = c.args.next in
     let h = here a.home c.args.line in
     let l = c.take_value-set in
-    let K = resume p a.home (tasks_of a) (below (values_of a)) (lists_of a) in
+    let K = resume p a.home (tasks_of a) (below_top (values_of a)) (lists_of a) in
     let r : members_added c.take_value-set.result c.args.value c.args.value ≡ c.add_members.result = cc in
     turns_same p _ _ m m c.gathered.result c.gathered.new.body
     (ap (λ x. bind (gather h next (members_added x c.args.value c.args.value)) K) (sym l.ensures.result)

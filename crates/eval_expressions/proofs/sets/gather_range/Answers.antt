@@ -2,7 +2,7 @@ use Rattle.std.proofs.Common.{◌≡◌, reverse, sym, ap, ◌∙◌, sum_by, ar
 use Rattle.program_meaning.specs.Tree.{bind}
 use Rattle.program_meaning.specs.Expressions.{gather}
 use Rattle.program_meaning.specs.Values.{members_added}
-use Rattle.eval_tasks.specs.Rest.{here, resume, waiting, top, below, tasks_of, values_of, lists_of}
+use Rattle.eval_tasks.specs.Rest.{here, resume, waiting, top, below_top, tasks_of, values_of, lists_of}
 use Rattle.eval_tasks.specs.Weight.{task_weight}
 use Rattle.eval_tasks.proofs.StepsFall.{falls_so}
 use Rattle.eval_tasks.proofs.Turning.{turns_same}
@@ -14,13 +14,13 @@ returns-clause-turns c p m =
     let n = c.args.next in
     let v = c.args.value in
     let h = here a.home c.args.line in
-    let K = resume p a.home (tasks_of a) (below (below (values_of a))) (lists_of a) in
+    let K = resume p a.home (tasks_of a) (below_top (below_top (values_of a))) (lists_of a) in
     let f = c.take_value-first.ensures in
     let s = c.take_value-set.ensures in
     let rest : waiting p c.take_value-set.new.self ≡ K =
-    s.waits p ∙ (λ i. resume p (f.home i) (reverse (f.tasks i)) (below (f.values i)) (reverse (f.lists i))) in
+    s.waits p ∙ (λ i. resume p (f.home i) (reverse (f.tasks i)) (below_top (f.values i)) (reverse (f.lists i))) in
     turns_same p _ _ m m c.gathered.result c.gathered.new.body
-    (ap (λ x. bind (gather h n (members_added (top (below (values_of a))) x v)) K) (sym f.result)
+    (ap (λ x. bind (gather h n (members_added (top (below_top (values_of a))) x v)) K) (sym f.result)
     ∙ ap (λ x. bind (gather h n (members_added x c.take_value-first.result v)) K) (ap top (sym f.values) ∙ sym s.result)
     ∙ ap (λ r. bind (gather h n r) K) (sym c.add_members.ensures)
     ∙ sym (λ i. bind (gather (here ((s.home ∙ f.home) i) c.args.line) n c.add_members.result) (rest i)))

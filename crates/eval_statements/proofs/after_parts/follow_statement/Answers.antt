@@ -3,7 +3,7 @@ use Rattle.program_tables.specs.ProgramRows.{row_at}
 use Rattle.program_meaning.specs.Output.{end_line}
 use Rattle.program_meaning.specs.Tree.{bind}
 use Rattle.eval_machine.specs.Machines.{moment_of}
-use Rattle.eval_tasks.specs.Rest.{waiting, resume, top, below, tasks_of, values_of, lists_of, counted, with_numbers}
+use Rattle.eval_tasks.specs.Rest.{waiting, resume, top, below_top, tasks_of, values_of, lists_of, after_turn, with_numbers}
 use Rattle.eval_tasks.specs.declared.tasks.Now.TheVariants.{Came}
 use Rattle.eval_tasks.specs.Weight.{task_weight}
 use Rattle.eval_tasks.specs.declared.tasks.Way.TheVariants as way
@@ -41,25 +41,25 @@ pub returns-in-Counted-clause-turns : goal.returns-in-Counted-clause-turns
 returns-in-Counted-clause-turns c =
     let p = c.args.program.now in
     let w = c.take_value-value.ensures.waits p
-    ∙ ap (λ hm. resume p hm (tasks_of c.take_value-last.new.self) (below (values_of c.take_value-last.new.self)) (lists_of c.take_value-last.new.self))
+    ∙ ap (λ hm. resume p hm (tasks_of c.take_value-last.new.self) (below_top (values_of c.take_value-last.new.self)) (lists_of c.take_value-last.new.self))
     c.take_value-last.ensures.home
-    ∙ ap (λ ts. resume p c.args.body.now.home (reverse ts) (below (values_of c.take_value-last.new.self)) (lists_of c.take_value-last.new.self))
+    ∙ ap (λ ts. resume p c.args.body.now.home (reverse ts) (below_top (values_of c.take_value-last.new.self)) (lists_of c.take_value-last.new.self))
     c.take_value-last.ensures.tasks
-    ∙ ap (λ vs. resume p c.args.body.now.home (tasks_of c.args.body.now) (below vs) (lists_of c.take_value-last.new.self)) c.take_value-last.ensures.values
-    ∙ ap (λ ls. resume p c.args.body.now.home (tasks_of c.args.body.now) (below (below (values_of c.args.body.now))) (reverse ls))
+    ∙ ap (λ vs. resume p c.args.body.now.home (tasks_of c.args.body.now) (below_top vs) (lists_of c.take_value-last.new.self)) c.take_value-last.ensures.values
+    ∙ ap (λ ls. resume p c.args.body.now.home (tasks_of c.args.body.now) (below_top (below_top (values_of c.args.body.now))) (reverse ls))
     c.take_value-last.ensures.lists in
     let x = c.take_value-value.ensures.result ∙ ap top c.take_value-last.ensures.values in
     turns_same p _ _ (moment_of c.args.machine.now) _ c.turn_ended.result c.turn_ended.new.body
     (ap (λ t. from_under p c.args.body.now (Came way.Nothing) (tasks.Next t)) c.in-Counted.is
-    ∙ ap (λ k. bind (with_numbers (top (below (values_of c.args.body.now))) (top (values_of c.args.body.now))
-    (λ i last. counted c.args.body.now.home c.in-Counted.row c.in-Counted.line i last (row_at p c.in-Counted.row))) k) (sym w)
+    ∙ ap (λ k. bind (with_numbers (top (below_top (values_of c.args.body.now))) (top (values_of c.args.body.now))
+    (λ i last. after_turn c.args.body.now.home c.in-Counted.row c.in-Counted.line i last (row_at p c.in-Counted.row))) k) (sym w)
     ∙ ap (λ y. bind (with_numbers y (top (values_of c.args.body.now))
-    (λ i last. counted c.args.body.now.home c.in-Counted.row c.in-Counted.line i last (row_at p c.in-Counted.row)))
+    (λ i last. after_turn c.args.body.now.home c.in-Counted.row c.in-Counted.line i last (row_at p c.in-Counted.row)))
     (waiting p c.take_value-value.new.self)) (sym x) ∙ ap (λ y. bind
-    (with_numbers c.take_value-value.result y (λ i last. counted c.args.body.now.home c.in-Counted.row c.in-Counted.line i last
+    (with_numbers c.take_value-value.result y (λ i last. after_turn c.args.body.now.home c.in-Counted.row c.in-Counted.line i last
     (row_at p c.in-Counted.row))) (waiting p c.take_value-value.new.self)) (sym c.take_value-last.ensures.result)
     ∙ ap (λ hm. bind (with_numbers c.take_value-value.result c.take_value-last.result
-    (λ i last. counted hm c.in-Counted.row c.in-Counted.line i last (row_at p c.in-Counted.row))) (waiting p c.take_value-value.new.self))
+    (λ i last. after_turn hm c.in-Counted.row c.in-Counted.line i last (row_at p c.in-Counted.row))) (waiting p c.take_value-value.new.self))
     (sym (c.take_value-value.ensures.home ∙ c.take_value-last.ensures.home)))
     (c.turn_ended.ensures.turns)
 

@@ -8,7 +8,7 @@ use Rattle.program_meaning.specs.Cells.{write}
 use Rattle.program_meaning.specs.Statements as meaning
 use Rattle.program_meaning.specs.Actions.{performs}
 use Rattle.eval_machine.specs.Machines.{DoesAll, machine_state, moment_of}
-use Rattle.eval_tasks.specs.Rest.{here, waiting, counted}
+use Rattle.eval_tasks.specs.Rest.{here, waiting, after_turn}
 use Rattle.eval_tasks.proofs.Moves.{comes_then}
 use Rattle.eval_tasks.proofs.StepsFall.{steps_fall, falls_so}
 use Rattle.eval_tasks.proofs.Turning.{part_comes, turns_after, turns_same, turns_failed, did, fails}
@@ -19,9 +19,9 @@ returns-in-Ok-clause-turns c p e =
     let h = here c.args.body.now.home c.args.line in
     let rest = waiting p c.args.body.now in
     let w = rw (c.moved-variable.ensures, c.turn_value.ensures) at c.in-Ok.ensures.action in
-    let k : counted c.args.body.now.home c.args.row c.args.line c.args.span.value c.args.span.last (row_at p c.args.row)
+    let k : after_turn c.args.body.now.home c.args.row c.args.line c.args.span.value c.args.span.last (row_at p c.args.row)
     ≡ meaning.turn_after c.args.row h c.args.counting.direction c.args.counting.place c.args.span.value c.args.span.last =
-    ap (counted c.args.body.now.home c.args.row c.args.line c.args.span.value c.args.span.last) e
+    ap (after_turn c.args.body.now.home c.args.row c.args.line c.args.span.value c.args.span.last) e
     ∙ ap (λ b. if b then meaning.turn_after c.args.row h c.args.counting.direction c.args.counting.place c.args.span.value c.args.span.last else no_row)
     c.requires.turn in
     turns_after p _ _ (moment_of c.args.machine.now) (moment_of c.write_cell.new.machine) _ c.do_body.result c.do_body.new.body

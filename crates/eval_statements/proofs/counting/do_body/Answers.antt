@@ -5,7 +5,7 @@ use Rattle.eval_tasks.specs.declared.tasks.Now.TheVariants.{Begin}
 use Rattle.eval_tasks.specs.declared.tasks.Part.TheVariants as part
 use Rattle.eval_tasks.specs.declared.tasks.Task.TheVariants as tasks
 use Rattle.eval_tasks.specs.declared.tasks.Next.TheVariants as nexts
-use Rattle.eval_tasks.specs.Rest.{at_work}
+use Rattle.eval_tasks.specs.Rest.{left_now}
 use Rattle.eval_tasks.proofs.StepsFall.{falls_so}
 use Rattle.eval_tasks.proofs.Turning.{turns_same, reverse_pushed}
 use Rattle.eval_statements.proofs.counting.do_body.Goals as goal
@@ -13,10 +13,10 @@ use Rattle.eval_statements.proofs.counting.do_body.Goals as goal
 pub returns-clause-turns : goal.returns-clause-turns
 returns-clause-turns c p m =
     turns_same p _ _ m m c.hold.result c.hold.new.self
-    (ap (λ v. at_work p c.args.body.now.home (Begin (part.Exec c.args.inner c.args.line))
+    (ap (λ v. left_now p c.args.body.now.home (Begin (part.Exec c.args.inner c.args.line))
     (tasks.Next (nexts.Counted c.args.row c.args.line) ∷ tasks_of c.args.body.now) (v ∷ value.Number c.args.span.value ∷ values_of c.args.body.now)
     (lists_of c.args.body.now)) (sym c.last_value.ensures)
-    ∙ ap (λ vs. at_work p c.args.body.now.home (Begin (part.Exec c.args.inner c.args.line))
+    ∙ ap (λ vs. left_now p c.args.body.now.home (Begin (part.Exec c.args.inner c.args.line))
     (tasks.Next (nexts.Counted c.args.row c.args.line) ∷ tasks_of c.args.body.now) (c.last_value.result ∷ vs) (lists_of c.args.body.now))
     (sym (reverse_pushed c.args.body.now.values.items _ (value.Number c.args.span.value)
     (c.in_ok-push.ensures.items ∙ ap (λ v. c.args.body.now.values.items ++ v ∷ []) c.turn_value.ensures))))

@@ -5,7 +5,7 @@ use Rattle.program_meaning.specs.Tree.{bind}
 use Rattle.program_meaning.specs.Statements as meaning
 use Rattle.eval_machine.specs.Machines.{moment_of}
 use Rattle.eval_tasks.specs.Rest.{here, waiting}
-use Rattle.eval_rules.specs.Counting.{turns_row, turns_in, span_in, both}
+use Rattle.eval_rules.specs.Counting.{turns_row, turns_in, span_in, both_there}
 use Rattle.eval_statements.proofs.StatementsByRow.{first_both, row_of_both, with_both}
 use Rattle.eval_tasks.proofs.StepsFall.{falls_so}
 use Rattle.eval_tasks.proofs.Turning.{turns_same}
@@ -15,7 +15,7 @@ pub begin_turns-requires-clause-row : goal.begin_turns-requires-clause-row
 begin_turns-requires-clause-row c =
     let p = c.args.program.now in
     row_of_both (row_at p c.args.turns) (span_in c.args.first c.args.last) c.in-Some.counting c.in-Some.span
-    (let e : both (turns_in (row_at p c.args.turns)) (span_in c.args.first c.args.last) ≡ Some (c.in-Some.counting, c.in-Some.span) = cc in e)
+    (let e : both_there (turns_in (row_at p c.args.turns)) (span_in c.args.first c.args.last) ≡ Some (c.in-Some.counting, c.in-Some.span) = cc in e)
 
 pub returns-in-Some-clause-turns : goal.returns-in-Some-clause-turns
 returns-in-Some-clause-turns c =
@@ -25,7 +25,7 @@ returns-in-Some-clause-turns c =
     turns_same p _ _ (moment_of c.args.machine.now) _ c.begin_turns.result c.begin_turns.new.body
     (ap (λ t. bind t rest) (first_both p h c.args.turns (row_at p c.args.turns) c.args.first c.args.last
     ∙ ap (λ o. with_both o (λ k s. meaning.first_turn p h c.args.turns (turns_row k) (value.Number s.value) (value.Number s.last)))
-    (let e : both (turns_in (row_at p c.args.turns)) (span_in c.args.first c.args.last) ≡ Some (c.in-Some.counting, c.in-Some.span) = cc in e)))
+    (let e : both_there (turns_in (row_at p c.args.turns)) (span_in c.args.first c.args.last) ≡ Some (c.in-Some.counting, c.in-Some.span) = cc in e)))
     (c.begin_turns.ensures.turns)
 
 pub returns-in-Some-clause-falls : goal.returns-in-Some-clause-falls
@@ -40,7 +40,7 @@ returns-in-None-clause-turns c =
     turns_same p _ _ (moment_of c.args.machine.now) (moment_of c.args.machine.now) c.no_row.result c.no_row.new.self
     (ap (λ t. bind t rest) (first_both p h c.args.turns (row_at p c.args.turns) c.args.first c.args.last
     ∙ ap (λ o. with_both o (λ k s. meaning.first_turn p h c.args.turns (turns_row k) (value.Number s.value) (value.Number s.last)))
-    (let e : both (turns_in (row_at p c.args.turns)) (span_in c.args.first c.args.last) ≡ None = cc in e)))
+    (let e : both_there (turns_in (row_at p c.args.turns)) (span_in c.args.first c.args.last) ≡ None = cc in e)))
     (c.no_row.ensures.turns p _)
 
 pub returns-in-None-clause-falls : goal.returns-in-None-clause-falls

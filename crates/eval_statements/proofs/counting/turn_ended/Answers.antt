@@ -2,8 +2,8 @@ use Rattle.std.proofs.Common.{◌≡◌, Some, None, ap, ◌∙◌, arith}
 use Rattle.program_tables.specs.ProgramRows.{row_at}
 use Rattle.program_meaning.specs.Tree.{bind}
 use Rattle.eval_machine.specs.Machines.{moment_of}
-use Rattle.eval_tasks.specs.Rest.{waiting, counted}
-use Rattle.eval_rules.specs.Counting.{turns_row, turns_in, span_in, both}
+use Rattle.eval_tasks.specs.Rest.{waiting, after_turn}
+use Rattle.eval_rules.specs.Counting.{turns_row, turns_in, span_in, both_there}
 use Rattle.eval_statements.proofs.StatementsByRow.{counted_both, row_of_both, with_both}
 use Rattle.eval_tasks.proofs.StepsFall.{falls_so}
 use Rattle.eval_tasks.proofs.Turning.{turns_same}
@@ -15,10 +15,10 @@ returns-in-Some-clause-turns c =
     let rest = waiting p c.args.body.now in
     turns_same p _ _ (moment_of c.args.machine.now) _ c.next_turn.result c.next_turn.new.body
     (ap (λ t. bind t rest) (counted_both c.args.body.now.home c.args.row c.args.line (row_at p c.args.row) c.args.value c.args.last
-    ∙ ap (λ o. with_both o (λ k s. counted c.args.body.now.home c.args.row c.args.line s.value s.last (turns_row k)))
-    (let e : both (turns_in (row_at p c.args.row)) (span_in c.args.value c.args.last) ≡ Some (c.in-Some.counting, c.in-Some.span) = cc in e)))
+    ∙ ap (λ o. with_both o (λ k s. after_turn c.args.body.now.home c.args.row c.args.line s.value s.last (turns_row k)))
+    (let e : both_there (turns_in (row_at p c.args.row)) (span_in c.args.value c.args.last) ≡ Some (c.in-Some.counting, c.in-Some.span) = cc in e)))
     (c.next_turn.ensures.turns p (row_of_both (row_at p c.args.row) (span_in c.args.value c.args.last) c.in-Some.counting c.in-Some.span
-    (let e : both (turns_in (row_at p c.args.row)) (span_in c.args.value c.args.last) ≡ Some (c.in-Some.counting, c.in-Some.span) = cc in e)))
+    (let e : both_there (turns_in (row_at p c.args.row)) (span_in c.args.value c.args.last) ≡ Some (c.in-Some.counting, c.in-Some.span) = cc in e)))
 
 pub returns-in-Some-clause-falls : goal.returns-in-Some-clause-falls
 returns-in-Some-clause-falls c =
@@ -30,8 +30,8 @@ returns-in-None-clause-turns c =
     let rest = waiting p c.args.body.now in
     turns_same p _ _ (moment_of c.args.machine.now) (moment_of c.args.machine.now) c.no_row.result c.no_row.new.self
     (ap (λ t. bind t rest) (counted_both c.args.body.now.home c.args.row c.args.line (row_at p c.args.row) c.args.value c.args.last
-    ∙ ap (λ o. with_both o (λ k s. counted c.args.body.now.home c.args.row c.args.line s.value s.last (turns_row k)))
-    (let e : both (turns_in (row_at p c.args.row)) (span_in c.args.value c.args.last) ≡ None = cc in e)))
+    ∙ ap (λ o. with_both o (λ k s. after_turn c.args.body.now.home c.args.row c.args.line s.value s.last (turns_row k)))
+    (let e : both_there (turns_in (row_at p c.args.row)) (span_in c.args.value c.args.last) ≡ None = cc in e)))
     (c.no_row.ensures.turns p _)
 
 pub returns-in-None-clause-falls : goal.returns-in-None-clause-falls

@@ -1,6 +1,6 @@
 use Rattle.std.proofs.Common.{Bool, arith, if◌then◌else◌}
 use Rattle.program_meaning.specs.Acts.{TakeIf}
-use Rattle.program_meaning.specs.Input.{any_item, ends_line, past_item}
+use Rattle.program_meaning.specs.Input.{any_item, tells_line_end, past_item}
 use Rattle.program_meaning.specs.Statements.{nothing}
 use Rattle.program_meaning.specs.Tree.{RestOfLine, Ret, Sub}
 use Rattle.eval_machine.specs.Machines.{moment_of}
@@ -25,7 +25,7 @@ returns-in-Ok-clause-turns c p =
 
 pub returns-in-Ok-clause-falls : goal.returns-in-Ok-clause-falls
 returns-in-Ok-clause-falls c =
-    let l = first_falls {X = Bool} (λ e. e) (TakeIf any_item) ends_line c.in-Ok.ended (moment_of c.args.machine.now) (moment_of c.past_item.new.machine)
+    let l = first_falls {X = Bool} (λ e. e) (TakeIf any_item) tells_line_end c.in-Ok.ended (moment_of c.args.machine.now) (moment_of c.past_item.new.machine)
     c.in-Ok.ensures.action in
     falls_so c.either.result _ _ _ _ (λ h. omega (arith, h, l)) c.either.ensures.falls
 

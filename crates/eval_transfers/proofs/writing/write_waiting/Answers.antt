@@ -3,7 +3,7 @@ use Rattle.program_meaning.specs.Output.{host_at, scalar_text}
 use Rattle.program_meaning.specs.Transfers.{print}
 use Rattle.program_meaning.specs.Tree.{bind}
 use Rattle.eval_machine.specs.Machines.{moment_of}
-use Rattle.eval_tasks.specs.Rest.{here, waiting, resume, below, tasks_of, values_of, lists_of}
+use Rattle.eval_tasks.specs.Rest.{here, waiting, resume, below_top, tasks_of, values_of, lists_of}
 use Rattle.eval_tasks.specs.Weight.{task_weight}
 use Rattle.eval_tasks.proofs.StepsFall.{falls_so}
 use Rattle.eval_tasks.proofs.Turning.{turns_same}
@@ -14,7 +14,7 @@ returns-clause-turns c =
     let p = c.args.program.now in
     let a = c.args.body.now in
     let l = c.take_value-value in
-    let K = resume p a.home (tasks_of a) (below (values_of a)) (lists_of a) in
+    let K = resume p a.home (tasks_of a) (below_top (values_of a)) (lists_of a) in
     turns_same p _ _ (moment_of c.args.machine.now) _ c.write.result c.write.new.body
     (ap (λ v. bind (print (here a.home c.args.line) c.args.next (scalar_text (host_at p c.args.of) v) (Some c.args.width)) K) (sym l.ensures.result)
     ∙ ap (bind (print (here a.home c.args.line) c.args.next (scalar_text (host_at p c.args.of) l.result) (Some c.args.width))) (sym (l.ensures.waits p))

@@ -6,7 +6,7 @@ use Rattle.eval_tasks.specs.declared.tasks.Now.TheVariants.{Begin, Came}
 use Rattle.eval_tasks.specs.declared.tasks.Part.TheVariants as part
 use Rattle.eval_tasks.specs.declared.tasks.Way.TheVariants as way
 use Rattle.eval_tasks.specs.declared.tasks.Task.TheVariants as tasks
-use Rattle.eval_tasks.specs.Rest.{at_work, from, from_under, here, waiting, resume, tasks_of, values_of, lists_of, values_below, lists_below}
+use Rattle.eval_tasks.specs.Rest.{left_now, from, from_under, here, waiting, resume, tasks_of, values_of, lists_of, values_below, lists_below}
 use Rattle.eval_tasks.specs.Weight.{task_weight}
 use Rattle.eval_tasks.proofs.Moves.{bind_if}
 use Rattle.evaluator.proofs.AfterStatements.{other_lands, each_weighs}
@@ -94,7 +94,7 @@ returns-in_default c =
       turns = λ m. turns_same p _ _ m m c.go-in_default.result c.go-in_default.new.self
           (ap (λ x. bind x (resume p a.home (tasks_of a) (values_below t (values_of a)) (lists_below t (lists_of a))))
           (other_lands p a.home c.args.next (values_of a) c.args.label c.args.base c.in_default.not-Sequence c.in_default.not-Labelled)
-          ∙ sym (λ i. at_work p (g.home i) (Came (way.Jump c.args.label c.args.base)) (reverse (g.tasks i)) (g.values i) (g.lists i)))
+          ∙ sym (λ i. left_now p (g.home i) (Came (way.Jump c.args.label c.args.base)) (reverse (g.tasks i)) (g.values i) (g.lists i)))
           (c.go-in_default.ensures.turns p m);
       falls = let k = ap (sum_by task_weight) g.tasks in let e = each_weighs t in
           falls_so c.go-in_default.result _ _ _ _ (λ h. omega (arith, h, k, e)) c.go-in_default.ensures.falls;

@@ -2,7 +2,7 @@ use Rattle.std.proofs.Common.{sym, ap, subst, ◌∙◌, reverse, sum_by, arith}
 use Rattle.program_meaning.specs.Tree.{bind}
 use Rattle.eval_tasks.specs.declared.tasks.Now.TheVariants.{Came}
 use Rattle.eval_tasks.specs.declared.tasks.Way.TheVariants as way
-use Rattle.eval_tasks.specs.Rest.{at_work, from_under, home_below, resume, tasks_of, values_of, lists_of, values_below, lists_below}
+use Rattle.eval_tasks.specs.Rest.{left_now, from_under, home_below, resume, tasks_of, values_of, lists_of, values_below, lists_below}
 use Rattle.eval_tasks.specs.Records.{SameFrame}
 use Rattle.eval_tasks.specs.Weight.{task_weight}
 use Rattle.evaluator.proofs.AfterStatements.{other_leaps, each_weighs, same_below}
@@ -32,7 +32,7 @@ returns-in_default c =
       turns = λ m. turns_same p _ _ m m c.go.result c.go.new.self
           (ap (λ x. bind x (resume p (home_below t a.home) (tasks_of a) (values_below t (values_of a)) (lists_below t (lists_of a))))
           (other_leaps p a.home t (values_of a) (lists_of a) c.args.label c.args.base c.in_default.not-Next)
-          ∙ sym (λ i. at_work p (g.home i) (Came (way.Jump c.args.label c.args.base)) (reverse (g.tasks i)) (g.values i) (g.lists i)))
+          ∙ sym (λ i. left_now p (g.home i) (Came (way.Jump c.args.label c.args.base)) (reverse (g.tasks i)) (g.values i) (g.lists i)))
           (c.go.ensures.turns p m);
       falls = let k = ap (sum_by task_weight) g.tasks in let e = each_weighs t in
           falls_so c.go.result _ _ _ _ (λ h. omega (arith, h, k, e)) c.go.ensures.falls;

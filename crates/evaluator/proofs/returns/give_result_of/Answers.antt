@@ -1,4 +1,4 @@
-use Rattle.program_meaning.specs.Run.{result_at, result_of_type}
+use Rattle.program_meaning.specs.Run.{result_read, result_of_type}
 use Rattle.program_meaning.specs.Heap.{pointer_result_at}
 use Rattle.program_meaning.specs.State as state
 use mir.Syntax.{w32}
@@ -19,7 +19,7 @@ returns-in-Some-Ordinal-clause-turns c =
     let g : to_z w32 (of_z w32 c.in-Some-Ordinal.greatest) ≡ c.in-Some-Ordinal.greatest = search rules in
     turns_same p _ _ _ _ c.give.result c.give.new.body
     (ap (result_of_type c.args.line (state.moved c.args.body.now.home.base c.args.place)) e)
-    (c.give.ensures.turns p (result_at c.in-Some-Ordinal.least c.in-Some-Ordinal.greatest (state.moved c.args.body.now.home.base c.args.place))
+    (c.give.ensures.turns p (result_read c.in-Some-Ordinal.least c.in-Some-Ordinal.greatest (state.moved c.args.body.now.home.base c.args.place))
     (moment_of c.args.machine.now)
     (moment_of c.result_at.new.machine) (rw (l, g, c.moved.ensures) at c.result_at.ensures.action))
 
@@ -32,7 +32,7 @@ returns-in-Some-Subrange-clause-turns c =
     let g : to_z w32 (of_z w32 c.in-Some-Subrange.greatest) ≡ c.in-Some-Subrange.greatest = search rules in
     turns_same p _ _ _ _ c.give-in-Some-Subrange.result c.give-in-Some-Subrange.new.body
     (ap (result_of_type c.args.line (state.moved c.args.body.now.home.base c.args.place)) e)
-    (c.give-in-Some-Subrange.ensures.turns p (result_at c.in-Some-Subrange.least c.in-Some-Subrange.greatest
+    (c.give-in-Some-Subrange.ensures.turns p (result_read c.in-Some-Subrange.least c.in-Some-Subrange.greatest
     (state.moved c.args.body.now.home.base c.args.place)) (moment_of c.args.machine.now)
     (moment_of c.result_at-in-Some-Subrange.new.machine) (rw (l, g, c.moved-in-Some-Subrange.ensures) at c.result_at-in-Some-Subrange.ensures.action))
 

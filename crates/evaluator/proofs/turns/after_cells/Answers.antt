@@ -1,5 +1,5 @@
 use Rattle.eval_tasks.specs.declared.tasks.Way.TheVariants as way
-use Rattle.eval_tasks.specs.Rest.{from_under, at_work, resume, top_list, below, tasks_of, values_of, lists_of, values_below, lists_below}
+use Rattle.eval_tasks.specs.Rest.{from_under, left_now, resume, top_list, below_top, tasks_of, values_of, lists_of, values_below, lists_below}
 use Rattle.eval_tasks.specs.Weight.{task_weight}
 use Rattle.eval_tasks.specs.declared.tasks.Task.TheVariants as tasks
 use Rattle.evaluator.proofs.AfterStatements.{statement_ended}
@@ -26,9 +26,9 @@ returns-in-Next-clause-turns c =
     let b = c.drop_list.ensures in
     turns_same p _ _ _ _ c.follow_statement.result c.follow_statement.new.body
     (ap (from_under p a (Came way.Cells)) c.in-Next.is
-    ∙ ap (λ x. bind x (resume p a.home (tasks_of a) (values_below t (values_of a)) (lists_below t (below (lists_of a)))))
+    ∙ ap (λ x. bind x (resume p a.home (tasks_of a) (values_below t (values_of a)) (lists_below t (below_top (lists_of a)))))
     ((statement_ended p a.home c.in-Next.next (values_of a)).cells (top_list (lists_of a)))
-    ∙ sym (λ i. at_work p (b.home i) (Came way.Nothing) (t ∷ reverse (b.tasks i)) (reverse (b.values i)) (b.lists i)))
+    ∙ sym (λ i. left_now p (b.home i) (Came way.Nothing) (t ∷ reverse (b.tasks i)) (reverse (b.values i)) (b.lists i)))
     c.follow_statement.ensures.turns
 
 pub returns-in-Next-clause-falls : goal.returns-in-Next-clause-falls

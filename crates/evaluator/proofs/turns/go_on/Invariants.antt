@@ -2,7 +2,7 @@ use Rattle.eval_tasks.specs.Records.{SameFrame}
 use Rattle.eval_machine.specs.Machines.{IsReady, moment_of}
 use Rattle.eval_tasks.specs.Rest.{rest_of}
 use Rattle.eval_tasks.specs.Stops.{Comes}
-use Rattle.eval_tasks.specs.Weight.{left_of}
+use Rattle.eval_tasks.specs.Weight.{measure_of}
 use Rattle.evaluator.proofs.turns.go_on.Given as goal
 
 abbrev pub invariant-turns : goal.invariant-turns
@@ -13,4 +13,4 @@ invariant-turns l = record {
 }
 
 abbrev pub decreases-turns : goal.decreases-turns
-decreases-turns l = left_of l.body l.machine
+decreases-turns l = measure_of l.body l.machine

@@ -4,9 +4,9 @@ use Rattle.pas_tree.specs.declared.expressions.Index.{out-Index}
 use Rattle.pas_tree.specs.declared.expressions.Simple.{out-Simple}
 use Rattle.pas_tree.specs.declared.expressions.SomeMembers.{out-SomeMembers}
 use Rattle.pas_tree.specs.declared.expressions.Term.{out-Term}
-use Rattle.check_steps.specs.Steps.{◌>>=◌, run, each}
-use Rattle.operand_checker.specs.Members.{set_at}
-use Rattle.expression_checker.specs.Actuals.{closed}
+use Rattle.check_steps.specs.Steps.{◌>>=◌, run_step, each}
+use Rattle.operand_checker.specs.Members.{set_constructor}
+use Rattle.expression_checker.specs.Actuals.{actuals_end}
 use Rattle.expression_checker.specs.Callees.{applied}
 use Rattle.expression_checker.specs.Expressions.{call, constructor, index_at, simple, term}
 use Rattle.expression_checker.specs.Expressions.{next_argument, next_factor, next_index, next_member, next_term, selector}
@@ -14,29 +14,29 @@ use Rattle.expression_checker.proofs.expressions.+expressions.Given as goal
 
 abbrev pub invariant-check_simple-others : goal.invariant-check_simple-others
 invariant-check_simple-others l =
-    run (each (next_term l.frame) l.value (drop l.other-index (out-Simple l.s).others.items)) l.work ≡ run (simple l.frame l.s) l.fn.work
+    run_step (each (next_term l.frame) l.value (drop l.other-index (out-Simple l.s).others.items)) l.work ≡ run_step (simple l.frame l.s) l.fn.work
 
 abbrev pub invariant-check_term-others : goal.invariant-check_term-others
 invariant-check_term-others l =
-    run (each (next_factor l.frame) l.value (drop l.other-index (out-Term l.t).others.items)) l.work ≡ run (term l.frame l.t) l.fn.work
+    run_step (each (next_factor l.frame) l.value (drop l.other-index (out-Term l.t).others.items)) l.work ≡ run_step (term l.frame l.t) l.fn.work
 
 abbrev pub invariant-check_call-others : goal.invariant-check_call-others
 invariant-check_call-others l =
-    run (each (next_argument l.frame) l.passing (drop l.other-index (out-Arguments l.a).others.items)
-    >>= λ end. closed end (out-Arguments l.a).close
+    run_step (each (next_argument l.frame) l.passing (drop l.other-index (out-Arguments l.a).others.items)
+    >>= λ end. actuals_end end (out-Arguments l.a).close
     >>= λ last. applied l.name l.called.callee last (out-Arguments l.a).«open») l.work
-    ≡ run (call l.frame l.name l.fn.count l.a) l.fn.work
+    ≡ run_step (call l.frame l.name l.fn.count l.a) l.fn.work
 
 abbrev pub invariant-check_selectors-selectors : goal.invariant-check_selectors-selectors
 invariant-check_selectors-selectors l =
-    run (each (selector l.frame) l.place (drop l.selector-index l.selectors)) l.work ≡ run (each (selector l.frame) l.fn.root l.selectors) l.fn.work
+    run_step (each (selector l.frame) l.place (drop l.selector-index l.selectors)) l.work ≡ run_step (each (selector l.frame) l.fn.root l.selectors) l.fn.work
 
 abbrev pub invariant-check_index-others : goal.invariant-check_index-others
 invariant-check_index-others l =
-    run (each (next_index l.frame) l.part (drop l.other-index (out-Index l.x).others.items)) l.work ≡ run (index_at l.frame l.fn.place l.x) l.fn.work
+    run_step (each (next_index l.frame) l.part (drop l.other-index (out-Index l.x).others.items)) l.work ≡ run_step (index_at l.frame l.fn.place l.x) l.fn.work
 
 abbrev pub invariant-check_constructor-others : goal.invariant-check_constructor-others
 invariant-check_constructor-others l =
-    run (each (next_member l.frame) l.gathered (drop l.other-index (out-SomeMembers l.members).others.items)
-    >>= λ all. set_at all (out-SomeMembers l.members).«open» (out-SomeMembers l.members).close) l.work
-    ≡ run (constructor l.frame l.m) l.fn.work
+    run_step (each (next_member l.frame) l.gathered (drop l.other-index (out-SomeMembers l.members).others.items)
+    >>= λ all. set_constructor all (out-SomeMembers l.members).«open» (out-SomeMembers l.members).close) l.work
+    ≡ run_step (constructor l.frame l.m) l.fn.work

@@ -1,8 +1,8 @@
 use Rattle.std.proofs.Common.{◌≡◌, drop}
-use Rattle.check_steps.specs.Steps.{run, each}
+use Rattle.check_steps.specs.Steps.{run_step, each}
 use Rattle.kind_checker.specs.Constants.{constant_part}
 use Rattle.kind_checker.proofs.constants.check_more_constants.Given as goal
 
 abbrev pub invariant-parts : goal.invariant-parts
 invariant-parts l =
-    run (each (constant_part l.frame) tt (drop l.part-index l.parts)) l.work ≡ run (each (constant_part l.frame) tt l.parts) l.fn.work
+    run_step (each (constant_part l.frame) tt (drop l.part-index l.parts)) l.work ≡ run_step (each (constant_part l.frame) tt l.parts) l.fn.work

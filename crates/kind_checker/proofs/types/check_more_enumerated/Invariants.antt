@@ -1,9 +1,10 @@
 use Rattle.std.proofs.Common.{◌≡◌, drop}
-use Rattle.check_steps.specs.Steps.{run, each}
+use Rattle.check_steps.specs.Steps.{run_step, each}
 use Rattle.kind_checker.specs.Names.{on_name}
 use Rattle.kind_checker.specs.Types.{enumerated}
 use Rattle.kind_checker.proofs.types.check_more_enumerated.Given as goal
 
 abbrev pub invariant-names : goal.invariant-names
 invariant-names l =
-    run (each (on_name (enumerated l.of)) l.ordinal (drop l.name-index l.names)) l.work ≡ run (each (on_name (enumerated l.of)) l.last l.names) l.fn.work
+    run_step (each (on_name (enumerated l.of)) l.ordinal (drop l.name-index l.names)) l.work
+        ≡ run_step (each (on_name (enumerated l.of)) l.last l.names) l.fn.work

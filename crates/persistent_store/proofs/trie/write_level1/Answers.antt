@@ -1,5 +1,5 @@
 use Rattle.std.proofs.Common.{◌∙◌, arith, ◌/◌}
-use Rattle.persistent_store.specs.Nodes.{entry_at}
+use Rattle.persistent_store.specs.Nodes.{node_entry}
 use Rattle.persistent_store.proofs.NodeLemmas.{on_err, restored, there_at, written_below}
 use Rattle.persistent_store.proofs.trie.write_level1.Goals as goal
 
@@ -11,4 +11,4 @@ returns-in_err-write_leaf-in-Some-clause-unchanged g c =
 pub returns-in_ok-write_leaf-in-Some-clause-written : goal.returns-in_ok-write_leaf-in-Some-clause-written
 returns-in_ok-write_leaf-in-Some-clause-written g c =
     let there = there_at (c.args.addr / 16) c.node.invariant (omega arith) (c.node.view_is ∙ c.in-Some.ensures.value) c.in-Some.ensures.there in
-    written_below 16 entry_at c.args.addr _ _ there c.in_ok-write_leaf-in-Some.ensures.written
+    written_below 16 node_entry c.args.addr _ _ there c.in_ok-write_leaf-in-Some.ensures.written

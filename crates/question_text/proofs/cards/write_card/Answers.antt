@@ -1,6 +1,6 @@
 use Rattle.std.proofs.Common.{◌++◌, sym, ap, ◌∙◌, append-nil, arith}
 use Rattle.question_text.specs.Cards.{recorded_in}
-use Rattle.cell_names.specs.Finding.{found_in}
+use Rattle.cell_names.specs.Finding.{finding_in}
 use Rattle.cell_names.specs.Places.{finds}
 use Rattle.question_text.proofs.CardsWhole.{card_is, no_card}
 use Rattle.question_text.proofs.cards.write_card.Goals as goal
@@ -15,6 +15,6 @@ write_lines-requires c = c.requires.told c.call-call.result.now c.call-call.ensu
 
 pub returns : goal.returns
 returns c =
-    card_is (recorded_in c.args.from.now) c.args.number c.call-call.result.now (found_in c.args.from.now.names.now) c.routine_column.result.now
+    card_is (recorded_in c.args.from.now) c.args.number c.call-call.result.now (finding_in c.args.from.now.names.now) c.routine_column.result.now
     (finds c.in_ok-opened.opened) c.args.out.now c.write_call_line.new.out c.write_lines.new.out c.call-call.ensures.found c.requires.names
     c.routine_column.ensures c.in_ok-opened.ensures c.in_ok-write_call_line.ensures c.in_ok-write_lines.ensures

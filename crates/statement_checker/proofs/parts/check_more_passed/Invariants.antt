@@ -1,9 +1,9 @@
 use Rattle.std.proofs.Common.{◌≡◌, drop}
-use Rattle.check_steps.specs.Steps.{run, each}
+use Rattle.check_steps.specs.Steps.{run_step, each}
 use Rattle.statement_checker.specs.Parts.{next_passed}
 use Rattle.statement_checker.proofs.parts.check_more_passed.Given as goal
 
 abbrev pub invariant-others : goal.invariant-others
 invariant-others l =
-    run (each (next_passed l.frame) l.passing (drop l.other-index l.others)) l.work
-    ≡ run (each (next_passed l.frame) l.fn.first l.others) l.fn.work
+    run_step (each (next_passed l.frame) l.passing (drop l.other-index l.others)) l.work
+    ≡ run_step (each (next_passed l.frame) l.fn.first l.others) l.fn.work

@@ -1,13 +1,14 @@
 use Rattle.std.proofs.Common.{◌≡◌, drop}
-use Rattle.check_steps.specs.Steps.{run, each}
+use Rattle.check_steps.specs.Steps.{run_step, each}
 use Rattle.statement_checker.specs.Statements.{next_branch, next_statement}
 use Rattle.statement_checker.proofs.statements.+statements.Given as goal
 
 abbrev pub invariant-check_more_statements-others : goal.invariant-check_more_statements-others
 invariant-check_more_statements-others l =
-    run (each (next_statement l.frame) l.last (drop l.other-index l.others)) l.work ≡ run (each (next_statement l.frame) l.fn.first l.others) l.fn.work
+    run_step (each (next_statement l.frame) l.last (drop l.other-index l.others)) l.work
+        ≡ run_step (each (next_statement l.frame) l.fn.first l.others) l.fn.work
 
 abbrev pub invariant-check_more_branches-others : goal.invariant-check_more_branches-others
 invariant-check_more_branches-others l =
-    run (each (next_branch l.frame l.choosing) l.last (drop l.other-index l.others)) l.work
-    ≡ run (each (next_branch l.frame l.choosing) l.fn.first l.others) l.fn.work
+    run_step (each (next_branch l.frame l.choosing) l.last (drop l.other-index l.others)) l.work
+    ≡ run_step (each (next_branch l.frame l.choosing) l.fn.first l.others) l.fn.work

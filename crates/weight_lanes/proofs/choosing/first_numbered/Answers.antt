@@ -1,5 +1,5 @@
 use Rattle.std.proofs.Common.{◌≡◌, ℕ, ◌+◌, refl, arith}
-use Rattle.weight_lanes.specs.Lanes.{number_at}
+use Rattle.weight_lanes.specs.Lanes.{lane_number}
 use Rattle.weight_lanes.proofs.MaskMarksPlaces.{NoneIn-join, none_marked, none_before}
 use Rattle.weight_lanes.proofs.choosing.first_numbered.Goals as goal
 
@@ -7,7 +7,7 @@ pub returns-then-hits-ne0-clause-first : goal.returns-then-hits-ne0-clause-first
 returns-then-hits-ne0-clause-first c =
     let at = c.search.at in
     let lane = c.lowest.result in
-    let Q : ℕ → Type 0 = λ place. number_at c.args.weights.now c.args.askable.now c.args.total place ≡ c.args.sought in
+    let Q : ℕ → Type 0 = λ place. lane_number c.args.weights.now c.args.askable.now c.args.total place ≡ c.args.sought in
     let marks = c.numbered_at-hits.ensures in
     let small = marks.inside lane c.lowest.ensures.set in
     record {
@@ -20,7 +20,7 @@ returns-then-hits-ne0-clause-first c =
 pub search-preserved : goal.search-preserved
 search-preserved c =
     let at = c.search.at in
-    let Q : ℕ → Type 0 = λ place. number_at c.args.weights.now c.args.askable.now c.args.total place ≡ c.args.sought in
+    let Q : ℕ → Type 0 = λ place. lane_number c.args.weights.now c.args.askable.now c.args.total place ≡ c.args.sought in
     record {
       high = omega arith;
       none = NoneIn-join Q 0 at (at + 16) c.search.invariant.none (none_marked Q at (at + 16) 16 c.numbered_at-hits.result refl c.numbered_at-hits.ensures

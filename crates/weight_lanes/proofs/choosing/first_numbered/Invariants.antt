@@ -1,11 +1,11 @@
 use Rattle.std.proofs.Common.{◌≡◌, ◌-◌, ◌≤◌, length}
-use Rattle.weight_lanes.specs.Lanes.{NoneIn, number_at}
+use Rattle.weight_lanes.specs.Lanes.{NoneIn, lane_number}
 use Rattle.weight_lanes.proofs.choosing.first_numbered.Given as goal
 
 abbrev pub invariant-search : goal.invariant-search
 invariant-search l = record {
   high : l.at ≤ length l.weights;
-  none : NoneIn (λ place. number_at l.weights l.askable l.total place ≡ l.sought) 0 l.at;
+  none : NoneIn (λ place. lane_number l.weights l.askable l.total place ≡ l.sought) 0 l.at;
 }
 
 abbrev pub decreases-search : goal.decreases-search

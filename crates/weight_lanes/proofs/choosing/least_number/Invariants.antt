@@ -1,12 +1,12 @@
 use Rattle.std.proofs.Common.{◌-◌, ◌≤◌, length}
-use Rattle.weight_lanes.specs.Lanes.{number_at}
+use Rattle.weight_lanes.specs.Lanes.{lane_number}
 use Rattle.weight_lanes.proofs.LeastBelowBound.{HasLeast}
 use Rattle.weight_lanes.proofs.choosing.least_number.Given as goal
 
 abbrev pub invariant-search : goal.invariant-search
 invariant-search l = record {
   high : l.seen ≤ length l.weights;
-  least : HasLeast (number_at l.weights l.askable l.total) l.seen l.lanes;
+  least : HasLeast (lane_number l.weights l.askable l.total) l.seen l.lanes;
 }
 
 abbrev pub decreases-search : goal.decreases-search

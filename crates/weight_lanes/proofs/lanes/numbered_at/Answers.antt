@@ -1,13 +1,13 @@
 use Rattle.std.proofs.Common.{◌≡◌, ◌+◌, eqb, eq-eqb, get_or, sym, subst, ◌∙◌, arith, w32}
 use Rattle.std.proofs.lemmas.Bool.{eqb-true}
 use Rattle.std.proofs.lemmas.Simd.{bitmask_splat}
-use Rattle.weight_lanes.specs.Lanes.{MarksLanes, number_at}
+use Rattle.weight_lanes.specs.Lanes.{MarksLanes, lane_number}
 use Rattle.weight_lanes.proofs.MaskMarksPlaces.{Marks-mask_l}
 use Rattle.weight_lanes.proofs.lanes.numbered_at.Goals as goal
 
 pub returns : goal.returns
 returns c =
-    let number = λ (lane : _). number_at c.args.weights.now c.args.askable.now c.args.total (c.args.at + lane) in
+    let number = λ (lane : _). lane_number c.args.weights.now c.args.askable.now c.args.total (c.args.at + lane) in
     let lanes = c.numbers_from.result in
     let has = c.numbers_from.ensures in
     let sought = c.args.number in

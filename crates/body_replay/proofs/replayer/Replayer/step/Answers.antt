@@ -3,7 +3,8 @@ use Rattle.eval_machine.specs.declared.machine.Machine.{Machine}
 use Rattle.eval_machine.specs.Machines.{moment_of}
 use Rattle.eval_tasks.specs.Stops.{AtCall, AtEnd, AtLine, NextStopIs}
 use Rattle.eval_tasks.specs.Rest.{rest_of, waiting}
-use Rattle.eval_tasks.specs.Turns.{end_of, stop_of}
+use Rattle.program_meaning.specs.Replay.{end_of}
+use Rattle.eval_tasks.specs.Turns.{stop_of}
 use Rattle.body_replay.specs.Counting.{Counts, Tally}
 use Rattle.body_replay.specs.Traces.{tally}
 use Rattle.body_replay.proofs.StepsAreCounted.{counts_fell, counts_line}

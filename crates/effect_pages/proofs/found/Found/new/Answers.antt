@@ -2,10 +2,10 @@ use Rattle.std.proofs.Common.{List, [], refl, subst, sym}
 use Rattle.cell_value.specs.Effects.{change_at}
 use Rattle.cell_value.specs.declared.entries.Touch.{Touch}
 use Rattle.effect_pages.specs.Marks.{IsMarked}
-use Rattle.effect_pages.specs.Paging.{nothing}
+use Rattle.effect_pages.specs.Paging.{blank_cell}
 use Rattle.effect_pages.proofs.found.Found.new.Goals as goal
 
-nothing_marked : (log : List Touch) (addr : _) → IsMarked log [] addr nothing
+nothing_marked : (log : List Touch) (addr : _) → IsMarked log [] addr blank_cell
 unfolding change_at
 nothing_marked log addr = record {
   read = record { there = refl; says = refl };

@@ -1,6 +1,6 @@
 use Rattle.std.proofs.Common.{◌≡◌, ◌∙◌, ℕ, List, Some, sym, ap, arith}
 use Rattle.answer_book.specs.Entries.{entry_at, entry_saying}
-use Rattle.optimal_query.specs.Changed.{most_steps, most_steps_at}
+use Rattle.optimal_query.specs.Changed.{change_steps, most_steps_at}
 use Rattle.optimal_query.specs.Search.{Search}
 use Rattle.optimal_query.proofs.Changes.{entry_before, stood, were_withdrawn}
 use Rattle.optimal_query.proofs.search.Debug.take_back.Goals as goal
@@ -26,7 +26,7 @@ returns-in-Ok-clause-cost g c =
     let depth : c.args.self.now.depth ≡ c.self.inside.markings.columns.depth =
     sym (ap (λ (s : Search). s.depth) c.self.view_is) ∙ ap (λ (k : Columns). k.depth) c.self.invariant.columns in
     let most : most_steps_at c.args.self.now (entry_at c.args.self.now.book.entries c.args.entry)
-    ≡ most_steps c.self.inside.markings.columns.depth book.routine what =
-    ap (most_steps_at c.args.self.now) entry ∙ ap (λ (d : List ℕ). most_steps d c.args.self.now.book.routine what) depth
-    ∙ ap (λ (s : Search). most_steps c.self.inside.markings.columns.depth s.book.routine what) (sym c.self.view_is) in
+    ≡ change_steps c.self.inside.markings.columns.depth book.routine what =
+    ap (most_steps_at c.args.self.now) entry ∙ ap (λ (d : List ℕ). change_steps d c.args.self.now.book.routine what) depth
+    ∙ ap (λ (s : Search). change_steps c.self.inside.markings.columns.depth s.book.routine what) (sym c.self.view_is) in
     omega (arith, rw c.in-Ok.ensures.taken_back at c.follow.ensures.cost, most)

@@ -3,7 +3,7 @@ use Rattle.std.specs.Prelude.{reverse}
 use Rattle.std.specs.Option.{option_to_list}
 use Rattle.std.proofs.lemmas.List.{reverse-append}
 use Rattle.call_tree.specs.Recording.{left}
-use Rattle.program_meaning.specs.Run.{closed, without_frame}
+use Rattle.program_meaning.specs.Run.{call_closed, without_frame}
 use Rattle.eval_machine.specs.Machines.{moment_of}
 use Rattle.program_run.specs.Table.{side_of}
 use Rattle.program_run.specs.Tower.{TowerAt, stage_after}
@@ -22,8 +22,8 @@ returns-clause-left c p first e t =
     let removed = c.in_ok-remove_frame.ensures.removed in
     let closes = c.close_call.ensures.closed in
     let log : new.log ≡ old.log = ap (λ m. m.log) closes ∙ ap (λ m. m.log) removed in
-    let state : new.state ≡ closed c.saturating_sub-depth.result (without_frame call.base call.cells old.state) =
-    ap (λ m. m.state) closes ∙ ap (λ m. closed c.saturating_sub-depth.result m.state) removed in
+    let state : new.state ≡ call_closed c.saturating_sub-depth.result (without_frame call.base call.cells old.state) =
+    ap (λ m. m.state) closes ∙ ap (λ m. call_closed c.saturating_sub-depth.result m.state) removed in
     let depth : c.saturating_sub-depth.result ≡ old.state.depth - 1 = c.saturating_sub-depth.ensures ∙ ap (λ m. m.state.depth - 1) removed in
     let items : c.args.self.now.opens.items ≡ c.pop.new.self.items ++ call ∷ [] =
     c.pop.ensures.items ∙ ap (λ o. c.pop.new.self.items ++ option_to_list o) c.unwrap-open.ensures in
