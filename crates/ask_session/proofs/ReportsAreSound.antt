@@ -6,7 +6,7 @@ use Rattle.call_tree.specs.Recording.{Recording, lasts_of, parents_of}
 use Rattle.answer_book.specs.declared.entries.Entry.{Entry}
 use Rattle.answer_book.specs.Accused.{accused_of}
 use Rattle.answer_book.specs.Entries.{standing_answers}
-use Rattle.optimal_query.specs.declared.state.State.TheVariants.{Found, Narrowed}
+use Rattle.optimal_query.specs.declared.state.SearchState.TheVariants.{Found, Narrowed}
 use Rattle.optimal_query.specs.Laws.{IsCallTree, doubts_in, suspects_in}
 use Rattle.optimal_query.specs.Question.{question_of}
 use Rattle.optimal_query.specs.State.{state_by, state_with, verdict_by}

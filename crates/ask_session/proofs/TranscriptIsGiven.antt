@@ -76,7 +76,7 @@ module _ (s : Subject) (start : Start) where
   said_ended : (saves : List Bool) (ls ms : List (List ℕ)) → ends_among ls ≡ true → said s start saves (ls ++ ms) ≡ said s start saves ls
   said_ended saves ls ms e =
       ap (λ (text : List ℕ). said_if_fits (misfit s start) (opening s (entries_at_start start) ++ text))
-          (replies_ended s (entries_at_start start) saves ls ms e)
+      (replies_ended s (entries_at_start start) saves ls ms e)
 
   module _ (left left' : Option (List ℕ)) (bytes : List ℕ) (told : left ≡ Some bytes) where
     -- the bytes heard are the first of those told

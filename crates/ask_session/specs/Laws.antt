@@ -3,7 +3,7 @@ use Rattle.std.specs.Prelude.{◌≡◌, ◌⊎◌, ℕ, List, Option, Some}
 use Rattle.answer_book.specs.declared.entries.Entry.{Entry}
 use Rattle.answer_book.specs.Accused.{accused_of}
 use Rattle.answer_book.specs.Entries.{standing_answers}
-use Rattle.optimal_query.specs.declared.state.State.TheVariants.{Ask, Found, Narrowed}
+use Rattle.optimal_query.specs.declared.state.SearchState.TheVariants.{Ask, Found, Narrowed}
 use Rattle.optimal_query.specs.Laws.{IsAsked, IsAtFault, IsCallTree, IsOptimal}
 use Rattle.optimal_query.specs.Narrowing.{AgreesWithMarks, IsBuggy, IsLeft, Truth}
 use Rattle.dialog_replies.specs.Subject.{Subject, state_after}

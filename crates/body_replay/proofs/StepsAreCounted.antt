@@ -5,7 +5,7 @@ use Rattle.call_tree.specs.declared.records.Call.{Call}
 use Rattle.call_tree.specs.declared.events.Event.{Event}
 use Rattle.call_tree.specs.declared.events.Event.TheVariants.{Line, Child}
 use Rattle.program_run.specs.declared.history.History.{History}
-use Rattle.body_replay.specs.Counting.{Counts, Tally, changes_in, changes_met, counted_if_there, own_steps, steps_met, steps_of, sum_of_children}
+use Rattle.body_replay.specs.Counting.{CountsEachStep, Tally, changes_in, changes_met, counted_if_there, own_steps, steps_met, steps_of, sum_of_children}
 
 more_line : (f : Call → ℕ) (calls : List Call) (es : List Event) (line : ℕ)
     → sum_of_children f calls (es ++ Line line ∷ []) ≡ sum_of_children f calls es
@@ -23,22 +23,22 @@ more_child f calls (Child other ∷ es) number =
     let c = counted_if_there f (slice_get calls number) in
     ap (λ n. a + n) (more_child f calls es number) ∙ (let e : a + (b + c) ≡ a + b + c = omega arith in e)
 
-module _ {h : History} {first old : Tally} (c : Counts h first old) where
+module _ {h : History} {first old : Tally} (c : CountsEachStep h first old) where
   -- this many steps were taken, and counted
   pub counts_fell : (counted left : ℕ) → left ≤ old.left → counted ≡ old.counted + (old.left - left)
-      → Counts h first (record { counted = counted; left = left; events = old.events })
+      → CountsEachStep h first (record { counted = counted; left = left; events = old.events })
   counts_fell counted left fell same =
       let w = c.within in
       let b = c.exact in
       record { within = omega (arith, w, fell); exact = omega (arith, b, fell, same) }
 
   -- what is left is the same
-  pub counts_left : (left : ℕ) → left ≡ old.left → Counts h first (record { counted = old.counted; left = left; events = old.events })
-  counts_left left e = subst (λ n. Counts h first (record { counted = old.counted; left = n; events = old.events })) (sym e) c
+  pub counts_left : (left : ℕ) → left ≡ old.left → CountsEachStep h first (record { counted = old.counted; left = left; events = old.events })
+  counts_left left e = subst (λ n. CountsEachStep h first (record { counted = old.counted; left = n; events = old.events })) (sym e) c
 
   -- a line began
   pub counts_line : (events : List Event) (line : ℕ) → events ≡ old.events ++ Line line ∷ []
-      → Counts h first (record { counted = old.counted; left = old.left; events = events })
+      → CountsEachStep h first (record { counted = old.counted; left = old.left; events = events })
   counts_line events line e =
       let steps : steps_met h events ≡ steps_met h old.events = ap (steps_met h) e ∙ more_line steps_of h.calls.calls old.events line in
       let changes : changes_met h events ≡ changes_met h old.events = ap (changes_met h) e
@@ -50,7 +50,7 @@ module _ {h : History} {first old : Tally} (c : Counts h first old) where
   -- the effect of a call was put in place of its run
   pub counts_child : (now : Tally) (number : ℕ) (row : Call) → now.events ≡ old.events ++ Child number ∷ [] → slice_get h.calls.calls number ≡ Some row
       → (old.left ≡ row.entry.steps) × (now.left ≡ old.left - steps_of row) × (now.counted ≡ old.counted + changes_in h.log row)
-      → Counts h first now
+      → CountsEachStep h first now
   counts_child now number row e at f =
       let steps : steps_met h now.events ≡ steps_met h old.events + steps_of row = ap (steps_met h) e
       ∙ more_child steps_of h.calls.calls old.events number ∙ ap (λ o. steps_met h old.events + counted_if_there steps_of o) at in
@@ -67,14 +67,14 @@ module _ {h : History} {first old : Tally} (c : Counts h first old) where
         exact = omega (arith, b, steps, changes, left, taken, counted);
       }
 
-pub counts_none : {h : History} {first : Tally} → first.events ≡ [] → Counts h first first
+pub counts_none : {h : History} {first : Tally} → first.events ≡ [] → CountsEachStep h first first
 counts_none {h = h} {first = first} e =
     let steps : steps_met h first.events ≡ 0 = ap (steps_met h) e in
     let changes : changes_met h first.events ≡ 0 = ap (changes_met h) e in
     record { within = omega (arith, steps); exact = omega (arith, steps, changes) }
 
 -- at the end
-pub counted_at_end : {h : History} {first now : Tally} (row : Call) → Counts h first now → first.left ≡ row.entry.steps → now.left ≡ row.exit.steps
+pub counted_at_end : {h : History} {first now : Tally} (row : Call) → CountsEachStep h first now → first.left ≡ row.entry.steps → now.left ≡ row.exit.steps
     → now.counted ≡ first.counted + own_steps h.calls.calls row now.events + changes_met h now.events
 counted_at_end {h = h} {first = first} {now = now} row c begin end =
     let w = c.within in

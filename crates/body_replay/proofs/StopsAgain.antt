@@ -10,7 +10,7 @@ use Rattle.cell_value.specs.declared.ways_out.Which.{Which}
 use Rattle.program_tables.specs.ProgramRows.{ProgramRows}
 use Rattle.program_meaning.specs.State.{State}
 use Rattle.program_meaning.specs.Acts.{Answer, Spend, ActResult, Went, Stops, perform, limit_passed}
-use Rattle.program_meaning.specs.Tree.{Out, Tree, Ret, Halt, Do, Sub, Enter, Line, way_of, bind}
+use Rattle.program_meaning.specs.Tree.{Out, ActTree, Ret, Halt, Do, Sub, Enter, Line, way_of, bind}
 use Rattle.program_meaning.specs.Layer.{layer}
 use Rattle.program_meaning.specs.Run.{End, Ended, Halted, Marked, Result, Call, in_front, ends, on_end, joined, on_done, if_allowed}
 use Rattle.program_meaning.specs.Replay.{Event, ChildOf, Replaying, Replayed, same_args, end_of, next_call, replaying, replay_of}
@@ -86,7 +86,7 @@ module _ (p : ProgramRows) (told : List Event) (r : Result Replaying Event) (sto
       at_once (AtEnd (Halted (way_of line why))) (record { state = τ; log = l ++ w }) s h
       (over_is told (Halted (way_of line why)) (with_state s τ) r f.rest f.is (past_more g f.past))
 
-  at_a_call : (n f : ℕ) (args : List Value) (next : Out → Tree) (s : Replaying) (l : List Touch) (rest : Result Replaying Event) (o : Option Which)
+  at_a_call : (n f : ℕ) (args : List Value) (next : Out → ActTree) (s : Replaying) (l : List Touch) (rest : Result Replaying Event) (o : Option Which)
       → ◌≡◌ {A = Found} (Some (at_call o f args next, record { state = s.state; log = l })) (Some (stop, m'))
       → if_allowed o s (joined (next_call f args s.state s.number s.calls) (λ out τ. replay_of p (suc n) (next out) τ)) ≡ Some rest → Past told r rest
       → Stands p told stop (with_state s m'.state) r
@@ -94,7 +94,7 @@ module _ (p : ProgramRows) (told : List Event) (r : Result Replaying Event) (sto
   at_a_call n f args next s l rest (Some which) h e g =
       at_once (AtEnd (Halted (way.Limited which))) _ s h (over_is told (Halted (way.Limited which)) s r rest e g)
 
-  onward : (k n : ℕ) (t : Tree) (s : Replaying) (l : List Touch) (rest : Result Replaying Event)
+  onward : (k n : ℕ) (t : ActTree) (s : Replaying) (l : List Touch) (rest : Result Replaying Event)
       → next_stop p k t (record { state = s.state; log = l }) ≡ Some (stop, m') → replay_of p n t s ≡ Some rest → Past told r rest
       → Stands p told stop (with_state s m'.state) r
   onward zero n t s l rest h e g = absurd (none_some h)
@@ -125,14 +125,14 @@ module _ (p : ProgramRows) (told : List Event) (r : Result Replaying Event) (sto
           (record { depth = suc n; rest = y.rest; is = y.is; past = past_then (past_more g f) y.past })
 
 -- from a stop of what has still to be done
-pub stops_again : {p : ProgramRows} {told : List Event} {t : Tree} {s : Replaying} {r : Result Replaying Event} (l : List Touch) (k : ℕ)
+pub stops_again : {p : ProgramRows} {told : List Event} {t : ActTree} {s : Replaying} {r : Result Replaying Event} (l : List Touch) (k : ℕ)
     (stop : Stop) (m' : Moment) → LeadsTo p told t s r
     → next_stop p k t (record { state = s.state; log = l }) ≡ Some (stop, m') → Stands p told stop (with_state s m'.state) r
 stops_again {p = p} {told = told} {t = t} {s = s} {r = r} l k stop m' g h = onward p told r stop m' k g.depth t s l g.rest h g.is g.past
 
 -- ---- a call that is met
 
-module _ (p : ProgramRows) (told : List Event) (next : Out → Tree) (n : ℕ) (s : Replaying) (r rest : Result Replaying Event) (g : Past told r rest) where
+module _ (p : ProgramRows) (told : List Event) (next : Out → ActTree) (n : ℕ) (s : Replaying) (r rest : Result Replaying Event) (g : Past told r rest) where
   abbrev met_now : Event
   met_now = ChildOf s.number s.state
 
@@ -185,7 +185,7 @@ module _ (p : ProgramRows) (told : List Event) (next : Out → Tree) (n : ℕ) (
   met_first f args (c ∷ cs) q e = met_if c cs q ((c.routine == f) && same_args c.args args) e
 
 -- the call is the next one of the run
-pub meets_next : {p : ProgramRows} {told : List Event} {f : ℕ} {args : List Value} {next : Out → Tree} {s : Replaying} {r : Result Replaying Event}
+pub meets_next : {p : ProgramRows} {told : List Event} {f : ℕ} {args : List Value} {next : Out → ActTree} {s : Replaying} {r : Result Replaying Event}
     → Meeting p told (record { routine = f; args = args; next = next }) s r → Met p told next s r
 meets_next {p = p} {told = told} {f = f} {args = args} {next = next} {s = s} {r = r} h =
     met_first p told next (suc h.depth) s r h.rest h.past f args s.calls refl h.is

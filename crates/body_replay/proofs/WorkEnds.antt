@@ -8,7 +8,7 @@ use Rattle.call_tree.specs.declared.records.Call as table
 use Rattle.program_tables.specs.declared.program.Routine.{Routine}
 use Rattle.program_tables.specs.ProgramRows.{ProgramRows, routine_at}
 use Rattle.program_meaning.specs.State.{State}
-use Rattle.program_meaning.specs.Tree.{Tree}
+use Rattle.program_meaning.specs.Tree.{ActTree}
 use Rattle.program_meaning.specs.Run.{End, Halted, Result, ends, framed_run, at_work, way_out, result_in, whole, without_frame}
 use Rattle.program_meaning.specs.Replay.{Event, Replaying, in_replaying, on_state, replay_of}
 use Rattle.program_meaning.proofs.OutcomesCompose.{some_same}
@@ -97,7 +97,7 @@ module _ {p : ProgramRows} {h : History} {j : Job h} {row : table.Call} {σ : St
     begun = record { state = τ; events = []; next = j.number + 1 }
 
     -- at the beginning all of the routine is to be done
-    pub rests_at_first : (t : Tree) → t ≡ whole p row.routine σ.top r → (v : ReplayView) → v ≡ begun
+    pub rests_at_first : (t : ActTree) → t ≡ whole p row.routine σ.top r → (v : ReplayView) → v ≡ begun
         → Reached h job_in_frame (λ told s. LeadsTo p told t s job_in_frame.work) v
     unfolding job_in_frame framed
     rests_at_first t e v same =

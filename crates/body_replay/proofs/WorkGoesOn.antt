@@ -13,7 +13,7 @@ use Rattle.call_tree.specs.declared.events.Event as kept
 use Rattle.call_tree.specs.declared.events.Event.TheVariants.{Line, Child}
 use Rattle.program_tables.specs.ProgramRows.{ProgramRows}
 use Rattle.program_meaning.specs.State.{State}
-use Rattle.program_meaning.specs.Tree.{Out, Tree}
+use Rattle.program_meaning.specs.Tree.{Out, ActTree}
 use Rattle.program_meaning.specs.Run.{End, Call}
 use Rattle.program_meaning.specs.Apply.{apply}
 use Rattle.program_meaning.specs.Replay.{Event, LineOf, ChildOf, Replaying, end_of}
@@ -49,7 +49,7 @@ pub record Applied (c : Call) (v v' : ReplayView) (w : WayOut) (answer : Option 
   pub ended : w ≡ c.way
   pub gave : answer ≡ c.result
 
-module _ {p : ProgramRows} {h : History} {j : Job h} {next : Out → Tree} {v : ReplayView} (a : Reached h j (λ told s. Met p told next s j.work) v) where
+module _ {p : ProgramRows} {h : History} {j : Job h} {next : Out → ActTree} {v : ReplayView} (a : Reached h j (λ told s. Met p told next s j.work) v) where
   abbrev so_far : ℕ
   so_far = v.next - (j.number + 1)
 
@@ -128,7 +128,7 @@ fell_at before (AtLine line rest) left h = omega (arith, h)
 fell_at before (AtCall f args rest) left h = h
 fell_at before (AtEnd end) left h = h
 
-module _ {p : ProgramRows} {h : History} {j : Job h} {t : Tree} {v : ReplayView} (a : Reached h j (λ told s. LeadsTo p told t s j.work) v) (l : List Touch)
+module _ {p : ProgramRows} {h : History} {j : Job h} {t : ActTree} {v : ReplayView} (a : Reached h j (λ told s. LeadsTo p told t s j.work) v) (l : List Touch)
     (k : ℕ)
     (m' : Moment) where
   -- where it stops
@@ -138,7 +138,7 @@ module _ {p : ProgramRows} {h : History} {j : Job h} {t : Tree} {v : ReplayView}
   same_calls : (stop : Stop) → Stopped stop → m'.state.calls ≡ v.state.calls
   same_calls stop e = (onward p k t (record { state = v.state; log = l }) stop m' e).same.calls
 
-  pub line_told : (line : ℕ) (rest : Tree) (events : List kept.Event) → Stopped (AtLine line rest) → events ≡ v.events ++ Line line ∷ []
+  pub line_told : (line : ℕ) (rest : ActTree) (events : List kept.Event) → Stopped (AtLine line rest) → events ≡ v.events ++ Line line ∷ []
       → Reached h j (λ told s. LeadsTo p told rest s j.work) (record { state = m'.state; events = events; next = v.next })
   line_told line rest events e q =
       let less = left_at_stop p v.state.steps k t (record { state = v.state; log = l }) (AtLine line rest) m' (omega arith) e in
@@ -173,7 +173,7 @@ module _ {p : ProgramRows} {h : History} {j : Job h} {t : Tree} {v : ReplayView}
         stands = s;
       }
 
-  pub call_met : (f : ℕ) (args : List Value) (next : Out → Tree) → Stopped (AtCall f args next)
+  pub call_met : (f : ℕ) (args : List Value) (next : Out → ActTree) → Stopped (AtCall f args next)
       → Reached h j (λ told s. Met p told next s j.work) (record { state = m'.state; events = v.events; next = v.next })
   call_met f args next e = still (λ told s. Met p told next s j.work) (AtCall f args next) e (meets_next (stops_again l k (AtCall f args next) m' a.stands e))
 
@@ -182,11 +182,11 @@ module _ {p : ProgramRows} {h : History} {j : Job h} {t : Tree} {v : ReplayView}
   end_come end e = still (λ told s. Over told end s j.work) (AtEnd end) e (stops_again l k (AtEnd end) m' a.stands e)
 
 -- what a stop leaves of the steps and the calls
-pub stop_steps : {p : ProgramRows} {t : Tree} {m : Moment} {stop : Stop} {m' : Moment} → NextStopIs p t m stop m' → LeftAt m.state.steps stop m'.state.steps
+pub stop_steps : {p : ProgramRows} {t : ActTree} {m : Moment} {stop : Stop} {m' : Moment} → NextStopIs p t m stop m' → LeftAt m.state.steps stop m'.state.steps
 stop_steps {p = p} {t = t} {m = m} {stop = stop} {m' = m'} s = left_at_stop p m.state.steps s.moves t m stop m' (omega arith) s.is
 
-pub stop_fell : {p : ProgramRows} {t : Tree} {m : Moment} {stop : Stop} {m' : Moment} → NextStopIs p t m stop m' → m'.state.steps ≤ m.state.steps
+pub stop_fell : {p : ProgramRows} {t : ActTree} {m : Moment} {stop : Stop} {m' : Moment} → NextStopIs p t m stop m' → m'.state.steps ≤ m.state.steps
 stop_fell {m = m} {stop = stop} {m' = m'} s = fell_at m.state.steps stop m'.state.steps (stop_steps s)
 
-pub stop_calls : {p : ProgramRows} {t : Tree} {m : Moment} {stop : Stop} {m' : Moment} → NextStopIs p t m stop m' → m'.state.calls ≡ m.state.calls
+pub stop_calls : {p : ProgramRows} {t : ActTree} {m : Moment} {stop : Stop} {m' : Moment} → NextStopIs p t m stop m' → m'.state.calls ≡ m.state.calls
 stop_calls {p = p} {t = t} {m = m} {stop = stop} {m' = m'} s = (onward p s.moves t m stop m' s.is).same.calls

@@ -9,7 +9,7 @@ use Rattle.call_tree.specs.declared.records.Call as table
 use Rattle.call_tree.specs.declared.events.Event as kept
 use Rattle.program_tables.specs.ProgramRows.{ProgramRows}
 use Rattle.program_meaning.specs.State.{State, most_calls}
-use Rattle.program_meaning.specs.Tree.{Out, Tree}
+use Rattle.program_meaning.specs.Tree.{Out, ActTree}
 use Rattle.program_meaning.specs.Run.{End, Marked, Result, Call, joined}
 use Rattle.program_meaning.specs.Apply.{apply}
 use Rattle.program_meaning.specs.Replay.{Event, LineOf, ChildOf, Replaying, end_of, next_call, replay_of}
@@ -34,7 +34,7 @@ pub record Past (told : List Event) (r rest : Result Replaying Event) : Type 0 w
   pub events : happened r.events ≡ told ++ happened rest.events
 
 -- what has still to be done again, after these events, gives the result
-pub record LeadsTo (p : ProgramRows) (told : List Event) (t : Tree) (s : Replaying) (r : Result Replaying Event) :
+pub record LeadsTo (p : ProgramRows) (told : List Event) (t : ActTree) (s : Replaying) (r : Result Replaying Event) :
     Type 0
   where
     pub depth : ℕ
@@ -52,7 +52,7 @@ pub record Over (told : List Event) (end : End) (s : Replaying) (r : Result Repl
 pub record Pending : Type 0 where
   pub routine : ℕ
   pub args : List Value
-  pub next : Out → Tree
+  pub next : Out → ActTree
 
 -- a call is to be met
 pub record Meeting (p : ProgramRows) (told : List Event) (c : Pending) (s : Replaying) (r : Result Replaying Event) :
@@ -82,7 +82,8 @@ Resumed p told (Ends end) s r = Over told end s r
 abbrev pub after_child : Call → List Call → Replaying → Replaying
 after_child c cs s = record { state = apply c s.state; number = s.number + (c.below + 1); calls = drop c.below cs }
 
-pub record Met (p : ProgramRows) (told : List Event) (next : Out → Tree) (s : Replaying) (r : Result Replaying Event) :
+pub record Met (p : ProgramRows) (told : List Event) (next : Out → ActTree) (s : Replaying)
+    (r : Result Replaying Event) :
     Type 0
   where
     pub call : Call

@@ -52,7 +52,7 @@ at_entry counted call = record { counted = counted; left = call.entry.steps; eve
 
 -- Since the first tally, before which nothing had happened, a step was counted for each step that was taken outside of
 -- the calls that were met, and for each change of the effects of these.
-pub record Counts (h : History) (first now : Tally) : Type 0 where
+pub record CountsEachStep (h : History) (first now : Tally) : Type 0 where
   pub within : steps_met h now.events + now.left ≤ first.left
   pub exact : now.counted + (steps_met h now.events + now.left) ≡
       first.counted + first.left + changes_met h now.events

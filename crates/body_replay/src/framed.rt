@@ -7,7 +7,7 @@ ghost use Rattle.eval_machine.specs.Frames.{framing};
 ghost use Rattle.eval_machine.specs.Machines.{IsReady, machine_state};
 ghost use Rattle.program_meaning.specs.Replay.{end_of};
 ghost use Rattle.body_replay.specs.Again.{AtBody, Job};
-ghost use Rattle.body_replay.specs.Counting.{Counts, Tally};
+ghost use Rattle.body_replay.specs.Counting.{CountsEachStep, Tally};
 ghost use Rattle.body_replay.specs.Traces.{EndsAs, FrameToMake, FrameMade, changed_result, tally, tally_of};
 
 use crate::counted::count_steps;
@@ -79,8 +79,8 @@ fn in_frame<L>(
     ensures ends { (j : Job run.now) → AtBody program.now run.now j replayer
         → IfOk result (λ e. EndsAs (changed_result (without_frame base cells) j.work) e) }
     ensures ready { IfOk result (λ e. IsReady e.machine) }
-    ensures counts { (first : Tally) → Counts run.now first (tally_of steps.old replayer)
-        → IfOk result (λ e. Counts run.now first (tally steps.new e.machine e.events)) }
+    ensures counts { (first : Tally) → CountsEachStep run.now first (tally_of steps.old replayer)
+        → IfOk result (λ e. CountsEachStep run.now first (tally steps.new e.machine e.events)) }
 {
     let mut replayer = replayer;
     let (way, answer) = replayer.go(alloc, program, run, steps)?;
@@ -116,8 +116,8 @@ pub(crate) fn work<L>(
     ensures ends { (j : Job run.now) → j.number ≡ number
         → FrameToMake program.now run.now j row.now (machine_state machine) → IfOk result (λ e. EndsAs j.work e) }
     ensures ready { IfOk result (λ e. IsReady e.machine) }
-    ensures counts { (first : Tally) → Counts run.now first (tally steps.old machine [])
-        → IfOk result (λ e. Counts run.now first (tally steps.new e.machine e.events)) }
+    ensures counts { (first : Tally) → CountsEachStep run.now first (tally steps.old machine [])
+        → IfOk result (λ e. CountsEachStep run.now first (tally steps.new e.machine e.events)) }
 {
     let mut machine = machine;
     let Some(routine) = program.routine(row.routine) else {

@@ -5,7 +5,7 @@ ghost use Rattle.program_tables.specs.ProgramRows.{ProgramRows};
 ghost use Rattle.eval_machine.specs.Machines.{IsReady};
 ghost use Rattle.program_run.specs.declared.history.History as kept;
 ghost use Rattle.body_replay.specs.Again.{AfterChild, AtChild, AtBody, Job, AfterTurn, work_left};
-ghost use Rattle.body_replay.specs.Counting.{Counts, Tally};
+ghost use Rattle.body_replay.specs.Counting.{CountsEachStep, Tally};
 ghost use Rattle.body_replay.specs.Traces.{tally_of};
 
 use crate::applied::apply;
@@ -44,8 +44,8 @@ impl Replayer {
             → IfOk result (λ end. AfterChild p run.now j end self.new) }
         ensures ready { OnOk result (IsReady self.new.machine) }
         ensures less { OnOk result (work_left self.new < work_left self.old) }
-        ensures counts { (first : Tally) → Counts run.now first (tally_of steps.old self.old)
-            → OnOk result (Counts run.now first (tally_of steps.new self.new)) }
+        ensures counts { (first : Tally) → CountsEachStep run.now first (tally_of steps.old self.old)
+            → OnOk result (CountsEachStep run.now first (tally_of steps.new self.new)) }
     {
         let number = self.next;
         let call = run.calls.call(number);
@@ -89,8 +89,8 @@ impl Replayer {
             → IfOk result (λ end. AfterTurn program.now run.now j end self.new) }
         ensures ready { OnOk result (IsReady self.new.machine) }
         ensures less { IfOk result (λ end. end ≡ None → work_left self.new < work_left self.old) }
-        ensures counts { (first : Tally) → Counts run.now first (tally_of steps.old self.old)
-            → OnOk result (Counts run.now first (tally_of steps.new self.new)) }
+        ensures counts { (first : Tally) → CountsEachStep run.now first (tally_of steps.old self.old)
+            → OnOk result (CountsEachStep run.now first (tally_of steps.new self.new)) }
     {
         let before = self.machine.steps;
         let stop = go_on(&mut self.body, alloc, program, &mut self.machine)?;
@@ -124,8 +124,8 @@ impl Replayer {
         ensures over { (j : Job run.now) → AtBody program.now run.now j self.old
             → IfOk result (λ end. AfterTurn program.now run.now j (Some end) self.new) }
         ensures ready { OnOk result (IsReady self.new.machine) }
-        ensures counts { (first : Tally) → Counts run.now first (tally_of steps.old self.old)
-            → OnOk result (Counts run.now first (tally_of steps.new self.new)) }
+        ensures counts { (first : Tally) → CountsEachStep run.now first (tally_of steps.old self.old)
+            → OnOk result (CountsEachStep run.now first (tally_of steps.new self.new)) }
     {
         'stops: loop {
             match self.step(alloc, program, run, steps)? {

@@ -7,7 +7,7 @@ ghost use Rattle.program_meaning.specs.Run.{result_in, way_out};
 ghost use Rattle.eval_machine.specs.Machines.{IsReady};
 ghost use Rattle.run_laws.specs.Laws.{most_bytes};
 ghost use Rattle.program_run.specs.History.{IsOfRun};
-ghost use Rattle.body_replay.specs.Counting.{Counts, at_entry, changes_met, own_steps};
+ghost use Rattle.body_replay.specs.Counting.{CountsEachStep, at_entry, changes_met, own_steps};
 ghost use Rattle.body_replay.specs.Replays.{events_in, work_in};
 ghost use Rattle.body_replay.specs.Traces.{IsEndOf, kept_state, tally};
 
@@ -47,7 +47,7 @@ fn work_again<L>(
     requires row { slice_get run.now.calls.calls number ≡ Some row.now }
     ensures work { IfOk result (λ e. (input : List ℕ) → IsOfRun program.now input run.now.budget run.now
         → IsEndOf (work_in program.now input run.now number) row.now e) }
-    ensures counts { IfOk result (λ e. Counts run.now (at_entry steps.old row.now)
+    ensures counts { IfOk result (λ e. CountsEachStep run.now (at_entry steps.old row.now)
         (tally steps.new e.machine e.events)) }
     ensures ready { IfOk result (λ e. IsReady e.machine) }
 {

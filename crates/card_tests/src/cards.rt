@@ -2,7 +2,7 @@
 use crate::tables::table;
 use crate::told::write_if_told;
 use call_tree::{Calls, Side};
-use cell_names::Names;
+use cell_names::NameFinder;
 use cell_value::{Cells, Items, SetBits, Touch, Value, WayOut};
 use edge_ports::Bytes;
 use effect_log::Log;
@@ -107,7 +107,7 @@ fn cards(rt: HostRuntime) -> Result<(), Fail> {
     let mut items = Items::new(alloc);
     items.push(104)?;
     items.push(256)?;
-    let names = Names::new(alloc, &program, 130, &log)?;
+    let names = NameFinder::new(alloc, &program, 130, &log)?;
     let from = Recorded {
         program: &program,
         tokens: 130,

@@ -7,7 +7,7 @@ use Rattle.std.proofs.lemmas.Option.{slice_get_past, unwrap_or-slice_get}
 use Rattle.std.proofs.lemmas.Bool.Decides.{nat_tests}
 use Rattle.cell_value.specs.declared.entries.Touch.{Touch}
 use Rattle.program_tables.specs.ProgramRows.{ProgramRows}
-use Rattle.cell_names.specs.declared.places.Part.{Part}
+use Rattle.cell_names.specs.declared.places.PlacedPart.{PlacedPart}
 use Rattle.cell_names.specs.Places.{finds}
 use Rattle.cell_names.specs.Layouts.{frame_parts, frame_parts_in}
 use Rattle.cell_names.specs.Records.{record_parts}
@@ -16,7 +16,7 @@ use Rattle.cell_names.proofs.PartsInTurn.{finds_on}
 use Rattle.cell_names.proofs.WrittenInTurn.{drop_get}
 
 -- one more touch is gone over
-pub blocks_on : (old new all : List Part) (log : List Touch) (at : ℕ) (touch : Touch) → slice_get log at ≡ Some touch
+pub blocks_on : (old new all : List PlacedPart) (log : List Touch) (at : ℕ) (touch : Touch) → slice_get log at ≡ Some touch
     → finds new ≡ finds (old ++ block_by touch) → finds (old ++ blocks_of (drop at log)) ≡ finds all
     → finds (new ++ blocks_of (drop (at + 1) log)) ≡ finds all
 blocks_on old new all log at touch found added so_far =
@@ -24,15 +24,16 @@ blocks_on old new all log at touch found added so_far =
     (ap (λ l. finds (old ++ blocks_of l)) (sym (drop_get log at touch found)) ∙ so_far))
 
 -- there is a list for each of the first routines
-pub record IsFramed (p : ProgramRows) (lists : List (List Part)) (routine : ℕ) : Type 0 where
+pub record IsFramed (p : ProgramRows) (lists : List (List PlacedPart)) (routine : ℕ) : Type 0 where
   pub as_many : length lists ≡ routine
   pub so_far : (n : ℕ) → n < routine → finds (list_at lists n) ≡ finds (frame_parts p n)
 
-last_list : (lists : List (List Part)) (x : List Part) → list_at (lists ++ x ∷ []) (length lists) ≡ x
+last_list : (lists : List (List PlacedPart)) (x : List PlacedPart) → list_at (lists ++ x ∷ []) (length lists) ≡ x
 last_list [] x = refl
 last_list (y ∷ ys) x = last_list ys x
 
-frame_by : (p : ProgramRows) (old : List (List Part)) (frame : List Part) (routine : ℕ) → IsFramed p old routine → finds frame ≡ finds (frame_parts p routine)
+frame_by : (p : ProgramRows) (old : List (List PlacedPart)) (frame : List PlacedPart) (routine : ℕ) → IsFramed p old routine
+    → finds frame ≡ finds (frame_parts p routine)
     → (n : ℕ) → n < routine + 1 → (b : Bool) → nat_lt n routine ≡ b → finds (list_at (old ++ frame ∷ []) n) ≡ finds (frame_parts p n)
 frame_by p old frame routine so_far is n below true e =
     let h : n < routine = grind (arith, nat_tests, e) in
@@ -43,14 +44,14 @@ frame_by p old frame routine so_far is n below false e =
     ap (λ k. finds (list_at (old ++ frame ∷ []) k)) (s ∙ sym so_far.as_many) ∙ ap finds (last_list old frame) ∙ is
     ∙ ap (λ k. finds (frame_parts p k)) (sym s)
 
-pub frames_on : (p : ProgramRows) (old new : List (List Part)) (frame : List Part) (routine : ℕ) → new ≡ old ++ frame ∷ [] → IsFramed p old routine
+pub frames_on : (p : ProgramRows) (old new : List (List PlacedPart)) (frame : List PlacedPart) (routine : ℕ) → new ≡ old ++ frame ∷ [] → IsFramed p old routine
     → finds frame ≡ finds (frame_parts p routine) → IsFramed p new (routine + 1)
 frames_on p old new frame routine pushed so_far is = rw pushed (record {
   as_many = length-append old (frame ∷ []) ∙ ap (λ n. n + 1) so_far.as_many;
   so_far = λ n below. frame_by p old frame routine so_far is n below (nat_lt n routine) refl;
 })
 
-frames_by : (p : ProgramRows) (lists : List (List Part)) (routine : ℕ) → IsFramed p lists routine → length p.routines ≤ routine → (n : ℕ) (b : Bool)
+frames_by : (p : ProgramRows) (lists : List (List PlacedPart)) (routine : ℕ) → IsFramed p lists routine → length p.routines ≤ routine → (n : ℕ) (b : Bool)
     → nat_lt n routine ≡ b → finds (list_at lists n) ≡ finds (frame_parts p n)
 frames_by p lists routine so_far all n true e = so_far.so_far n (let h : n < routine = grind (arith, nat_tests, e) in h)
 frames_by p lists routine so_far all n false e =
@@ -61,7 +62,7 @@ frames_by p lists routine so_far all n false e =
     ∙ ap (λ r. finds (frame_parts_in p n r)) (sym (slice_get_past p.routines n j))
 
 -- there is one for each routine
-pub frames_end : (p : ProgramRows) (lists : List (List Part)) (routine : ℕ) → IsFramed p lists routine → length p.routines ≤ routine → (n : ℕ)
+pub frames_end : (p : ProgramRows) (lists : List (List PlacedPart)) (routine : ℕ) → IsFramed p lists routine → length p.routines ≤ routine → (n : ℕ)
     → finds (list_at lists n) ≡ finds (frame_parts p n)
 frames_end p lists routine so_far all n = frames_by p lists routine so_far all n (nat_lt n routine) refl
 

@@ -6,7 +6,7 @@ use Rattle.std.specs.List.{cons_option, range_with_len}
 use Rattle.std.proofs.lemmas.List.Elements.{filter-append}
 use Rattle.cell_value.specs.Effects.{last_of}
 use Rattle.program_tables.specs.ProgramRows.{ProgramRows, row_at}
-use Rattle.cell_names.specs.declared.places.Part.{Part}
+use Rattle.cell_names.specs.declared.places.PlacedPart.{PlacedPart}
 use Rattle.cell_names.specs.Places.{finds, is_begun, last_at}
 use Rattle.cell_names.specs.Layouts.{block_start, is_name_of, most_sections, next_name, section_after, own_between, own_in, parts_at, parts_after}
 use Rattle.cell_names.specs.Layouts.{section_of, section_parts, sections_parts, token_or_zero}
@@ -36,32 +36,32 @@ last_later (x ∷ []) [] = refl
 last_later (x ∷ []) (y ∷ ys) = some_last y ys (Some x)
 last_later (x ∷ z ∷ zs) ys = last_later (z ∷ zs) ys
 
-last_at_later : (at : ℕ) (xs ys : List Part) → last_at at (xs ++ ys) ≡ later (last_at at ys) (last_at at xs)
+last_at_later : (at : ℕ) (xs ys : List PlacedPart) → last_at at (xs ++ ys) ≡ later (last_at at ys) (last_at at xs)
 unfolding last_at
 last_at_later at xs ys = ap last_of (filter-append (is_begun at) xs ys) ∙ last_later (filter (is_begun at) xs) (filter (is_begun at) ys)
 
 -- lists that find the same do so with more after them
-pub finds_more : (xs ys more : List Part) → finds xs ≡ finds ys → finds (xs ++ more) ≡ finds (ys ++ more)
+pub finds_more : (xs ys more : List PlacedPart) → finds xs ≡ finds ys → finds (xs ++ more) ≡ finds (ys ++ more)
 finds_more xs ys more same = λ i at.
-    (last_at_later at xs more ∙ ap (λ (f : ℕ → Option Part). later (last_at at more) (f at)) same ∙ sym (last_at_later at ys more)) i
+    (last_at_later at xs more ∙ ap (λ (f : ℕ → Option PlacedPart). later (last_at at more) (f at)) same ∙ sym (last_at_later at ys more)) i
 
 -- one list and then another
-pub finds_both : (old mid new first second : List Part) → finds mid ≡ finds (old ++ first) → finds new ≡ finds (mid ++ second)
+pub finds_both : (old mid new first second : List PlacedPart) → finds mid ≡ finds (old ++ first) → finds new ≡ finds (mid ++ second)
     → finds new ≡ finds (old ++ (first ++ second))
 finds_both old mid new first second a b =
     b ∙ finds_more mid (old ++ first) second a ∙ ap finds (append_assoc old first second)
 
 -- one list and then what is left
-pub finds_on : (old new first rest all : List Part) → finds new ≡ finds (old ++ first) → finds (old ++ (first ++ rest)) ≡ finds all
+pub finds_on : (old new first rest all : List PlacedPart) → finds new ≡ finds (old ++ first) → finds (old ++ (first ++ rest)) ≡ finds all
     → finds (new ++ rest) ≡ finds all
 finds_on old new first rest all a b =
     finds_more new (old ++ first) rest a ∙ ap finds (append_assoc old first rest) ∙ b
 
-pub finds_all : (xs all : List Part) → finds (xs ++ []) ≡ finds all → finds xs ≡ finds all
+pub finds_all : (xs all : List PlacedPart) → finds (xs ++ []) ≡ finds all → finds xs ≡ finds all
 finds_all xs all e = ap finds (sym (append-nil xs)) ∙ e
 
 -- one more name of a section
-pub section_on : (p : ProgramRows) (old new all : List Part) (count counter token next : ℕ) → counter < count → next ≡ next_name token
+pub section_on : (p : ProgramRows) (old new all : List PlacedPart) (count counter token next : ℕ) → counter < count → next ≡ next_name token
     → finds new ≡ finds (old ++ parts_at p token) → finds (old ++ section_parts p (count - counter) token) ≡ finds all
     → finds (new ++ section_parts p (count - (counter + 1)) next) ≡ finds all
 section_on p old new all count counter token next below is pushed so_far =
@@ -70,14 +70,15 @@ section_on p old new all count counter token next below is pushed so_far =
     ap (λ n. finds (old ++ section_parts p n token)) (sym e) ∙ so_far in
     rw is (finds_on old new (parts_at p token) (section_parts p (count - (counter + 1)) (next_name token)) all pushed s)
 
-sections_on_by : (p : ProgramRows) (old new all : List Part) (most slot : ℕ) (next : Option ℕ) → next ≡ section_after (row_at p slot)
+sections_on_by : (p : ProgramRows) (old new all : List PlacedPart) (most slot : ℕ) (next : Option ℕ) → next ≡ section_after (row_at p slot)
     → finds new ≡ finds (old ++ section_of p (row_at p slot)) → finds (old ++ sections_parts p (suc most) slot) ≡ finds all
     → finds (new ++ parts_after (sections_parts p most) next) ≡ finds all
 sections_on_by p old new all most slot next is pushed so_far =
     rw is (finds_on old new (section_of p (row_at p slot)) (parts_after (sections_parts p most) (section_after (row_at p slot))) all pushed so_far)
 
 -- one more section
-pub sections_on : (p : ProgramRows) (old new all : List Part) (most counter slot : ℕ) (next : Option ℕ) → counter < most → next ≡ section_after (row_at p slot)
+pub sections_on : (p : ProgramRows) (old new all : List PlacedPart) (most counter slot : ℕ) (next : Option ℕ) → counter < most
+    → next ≡ section_after (row_at p slot)
     → finds new ≡ finds (old ++ section_of p (row_at p slot)) → finds (old ++ sections_parts p (most - counter) slot) ≡ finds all
     → finds (new ++ parts_after (sections_parts p (most - (counter + 1))) next) ≡ finds all
 sections_on p old new all most counter slot next below is pushed so_far =
@@ -91,7 +92,7 @@ unfolding most_sections
 most_is = refl
 
 -- no more sections are gone through
-pub sections_end : (p : ProgramRows) (old all : List Part) (counter slot : ℕ) → 1048576 ≤ counter
+pub sections_end : (p : ProgramRows) (old all : List PlacedPart) (counter slot : ℕ) → 1048576 ≤ counter
     → finds (old ++ sections_parts p (most_sections - counter) slot) ≡ finds all → finds old ≡ finds all
 sections_end p old all counter slot past so_far =
     let m = most_is in
@@ -161,7 +162,8 @@ own_none p level from to past =
     ap (λ n. filter_map (λ t. own_in level t (row_at p t)) (range_with_len from n)) (let e : to - from ≡ zero = omega (arith, past) in e)
 
 -- one more token is gone over
-pub own_on : (p : ProgramRows) (old new all : List Part) (level token to : ℕ) (one : Option Part) → token < to → one ≡ own_in level token (row_at p token)
+pub own_on : (p : ProgramRows) (old new all : List PlacedPart) (level token to : ℕ) (one : Option PlacedPart) → token < to
+    → one ≡ own_in level token (row_at p token)
     → finds new ≡ finds (old ++ option_to_list one) → finds (old ++ own_between p level token to) ≡ finds all
     → finds (new ++ own_between p level (token + 1) to) ≡ finds all
 own_on p old new all level token to one below is pushed so_far =
@@ -169,6 +171,6 @@ own_on p old new all level token to one below is pushed so_far =
     finds_on old new (option_to_list one) rest all pushed
     (ap (λ o. finds (old ++ (option_to_list o ++ rest))) is ∙ ap (λ l. finds (old ++ l)) (sym (own_first p level token to below)) ∙ so_far)
 
-pub own_end : (p : ProgramRows) (old all : List Part) (level token to : ℕ) → to ≤ token → finds (old ++ own_between p level token to) ≡ finds all
+pub own_end : (p : ProgramRows) (old all : List PlacedPart) (level token to : ℕ) → to ≤ token → finds (old ++ own_between p level token to) ≡ finds all
     → finds old ≡ finds all
 own_end p old all level token to past so_far = finds_all old all (ap (λ l. finds (old ++ l)) (sym (own_none p level token to past)) ∙ so_far)

@@ -5,7 +5,7 @@ use Rattle.std.specs.Prelude.{filter, nat_le, nat_lt, slice_index_or}
 use Rattle.std.proofs.lemmas.List.Elements.{filter-append}
 use Rattle.std.proofs.lemmas.Bool.Decides.{nat_tests}
 use Rattle.cell_value.specs.Effects.{last_of}
-use Rattle.cell_names.specs.declared.places.Part.{Part}
+use Rattle.cell_names.specs.declared.places.PlacedPart.{PlacedPart}
 use Rattle.cell_names.specs.Places.{IsRising, IsSplit, is_begun, last_at}
 
 pub get_or_any : {X : Type 0} (xs : List X) (k : ℕ) (d e : X) → k < length xs → get_or xs k d ≡ get_or xs k e
@@ -13,10 +13,10 @@ get_or_any [] k d e h = absurd (omega (arith, h))
 get_or_any (x ∷ xs) zero d e h = refl
 get_or_any (x ∷ xs) (suc k) d e h = get_or_any xs k d e (omega (arith, h))
 
-begun : (at : ℕ) (part : Part) → part.place < at + 1 → is_begun at part ≡ true
+begun : (at : ℕ) (part : PlacedPart) → part.place < at + 1 → is_begun at part ≡ true
 begun at part h = grind (arith, nat_tests, h)
 
-not_begun : (at : ℕ) (part : Part) → at + 1 ≤ part.place → is_begun at part ≡ false
+not_begun : (at : ℕ) (part : PlacedPart) → at + 1 ≤ part.place → is_begun at part ≡ false
 not_begun at part h = grind (arith, nat_tests, h)
 
 kept : {X : Type 0} (test : X → Bool) (x : X) (xs : List X) → test x ≡ true → filter test (x ∷ xs) ≡ x ∷ filter test xs
@@ -26,7 +26,7 @@ dropped : {X : Type 0} (test : X → Bool) (x : X) (xs : List X) → test x ≡ 
 dropped test x xs e = simp e refl
 
 -- none of them has begun
-none_begun : (at : ℕ) (parts : List Part) → ((k : ℕ) (d : Part) → k < length parts → at + 1 ≤ (slice_index_or parts k d).place)
+none_begun : (at : ℕ) (parts : List PlacedPart) → ((k : ℕ) (d : PlacedPart) → k < length parts → at + 1 ≤ (slice_index_or parts k d).place)
     → filter (is_begun at) parts ≡ []
 none_begun at [] after = refl
 none_begun at (x ∷ xs) after =
@@ -34,8 +34,8 @@ none_begun at (x ∷ xs) after =
     ∙ none_begun at xs (λ k d h. after (suc k) d (omega (arith, h)))
 
 -- those before the split are the ones that have begun
-begun_are_first : (at : ℕ) (parts : List Part) (n : ℕ) → ((k : ℕ) (d : Part) → k < n → (slice_index_or parts k d).place < at + 1)
-    → ((k : ℕ) (d : Part) → n ≤ k → k < length parts → at + 1 ≤ (slice_index_or parts k d).place) → filter (is_begun at) parts ≡ take n parts
+begun_are_first : (at : ℕ) (parts : List PlacedPart) (n : ℕ) → ((k : ℕ) (d : PlacedPart) → k < n → (slice_index_or parts k d).place < at + 1)
+    → ((k : ℕ) (d : PlacedPart) → n ≤ k → k < length parts → at + 1 ≤ (slice_index_or parts k d).place) → filter (is_begun at) parts ≡ take n parts
 begun_are_first at parts zero before after = none_begun at parts (λ k d h. after k d (omega arith) h)
 begun_are_first at [] (suc n) before after = refl
 begun_are_first at (x ∷ xs) (suc n) before after =
@@ -43,41 +43,42 @@ begun_are_first at (x ∷ xs) (suc n) before after =
     ∙ ap (λ l. x ∷ l) (begun_are_first at xs n (λ k d h. before (suc k) d (omega (arith, h)))
     (λ k d h i. after (suc k) d (omega (arith, h)) (omega (arith, i))))
 
-first_by : (at : ℕ) (x : Part) (xs : List Part) (n : ℕ) → filter (is_begun at) xs ≡ filter (is_begun at) (take n xs) → (b : Bool) → is_begun at x ≡ b
+first_by : (at : ℕ) (x : PlacedPart) (xs : List PlacedPart) (n : ℕ) → filter (is_begun at) xs ≡ filter (is_begun at) (take n xs) → (b : Bool)
+    → is_begun at x ≡ b
     → filter (is_begun at) (x ∷ xs) ≡ filter (is_begun at) (x ∷ take n xs)
 first_by at x xs n rest true e = kept (is_begun at) x xs e ∙ ap (λ l. x ∷ l) rest ∙ sym (kept (is_begun at) x (take n xs) e)
 first_by at x xs n rest false e = dropped (is_begun at) x xs e ∙ rest ∙ sym (dropped (is_begun at) x (take n xs) e)
 
 -- where the later ones have not begun, those that have are among the first
-only_first : (at : ℕ) (parts : List Part) (n : ℕ) → ((k : ℕ) (d : Part) → n ≤ k → k < length parts → at + 1 ≤ (slice_index_or parts k d).place)
+only_first : (at : ℕ) (parts : List PlacedPart) (n : ℕ) → ((k : ℕ) (d : PlacedPart) → n ≤ k → k < length parts → at + 1 ≤ (slice_index_or parts k d).place)
     → filter (is_begun at) parts ≡ filter (is_begun at) (take n parts)
 only_first at parts zero after = none_begun at parts (λ k d h. after k d (omega arith) h)
 only_first at [] (suc n) after = refl
 only_first at (x ∷ xs) (suc n) after =
     first_by at x xs n (only_first at xs n (λ k d h i. after (suc k) d (omega (arith, h)) (omega (arith, i)))) (is_begun at x) refl
 
-last_taken : (parts : List Part) (n : ℕ) (d : Part) → n < length parts → last_of (take (suc n) parts) ≡ Some (get_or parts n d)
+last_taken : (parts : List PlacedPart) (n : ℕ) (d : PlacedPart) → n < length parts → last_of (take (suc n) parts) ≡ Some (get_or parts n d)
 last_taken [] n d h = absurd (omega (arith, h))
 last_taken (x ∷ xs) zero d h = refl
 last_taken (x ∷ []) (suc n) d h = absurd (omega (arith, h))
 last_taken (x ∷ y ∷ ys) (suc n) d h = last_taken (y ∷ ys) n d (omega (arith, h))
 
-pub none_at : (at : ℕ) (parts : List Part) → IsSplit (at + 1) parts 0 → last_at at parts ≡ None
+pub none_at : (at : ℕ) (parts : List PlacedPart) → IsSplit (at + 1) parts 0 → last_at at parts ≡ None
 unfolding last_at
 none_at at parts s = ap last_of (begun_are_first at parts 0 s.before s.after)
 
-pub found_at : (at : ℕ) (parts : List Part) (n : ℕ) (d : Part) → IsSplit (at + 1) parts (suc n) → last_at at parts ≡ Some (get_or parts n d)
+pub found_at : (at : ℕ) (parts : List PlacedPart) (n : ℕ) (d : PlacedPart) → IsSplit (at + 1) parts (suc n) → last_at at parts ≡ Some (get_or parts n d)
 unfolding last_at
 found_at at parts n d s = ap last_of (begun_are_first at parts (suc n) s.before s.after) ∙ last_taken parts n d (let h = s.inside in omega (arith, h))
 
 -- the first parts begin before a place, and the last ones there or after it
-pub record IsHalved (place : ℕ) (parts : List Part) (low high : ℕ) : Type 0 where
+pub record IsHalved (place : ℕ) (parts : List PlacedPart) (low high : ℕ) : Type 0 where
   pub in_order : low ≤ high
   pub inside : high ≤ length parts
-  pub before : (k : ℕ) (d : Part) → k < low → (slice_index_or parts k d).place < place
-  pub after : (k : ℕ) (d : Part) → high ≤ k → k < length parts → place ≤ (slice_index_or parts k d).place
+  pub before : (k : ℕ) (d : PlacedPart) → k < low → (slice_index_or parts k d).place < place
+  pub after : (k : ℕ) (d : PlacedPart) → high ≤ k → k < length parts → place ≤ (slice_index_or parts k d).place
 
-pub whole : (place : ℕ) (parts : List Part) → IsHalved place parts 0 (length parts)
+pub whole : (place : ℕ) (parts : List PlacedPart) → IsHalved place parts 0 (length parts)
 whole place parts = record {
   in_order = omega arith;
   inside = omega arith;
@@ -85,7 +86,7 @@ whole place parts = record {
   after = λ k d h i. absurd (omega (arith, h, i));
 }
 
-rises_by : (parts : List Part) → IsRising parts → (k m : ℕ) (d : Part) → k ≤ m → m < length parts → (b : Bool) → nat_lt k m ≡ b
+rises_by : (parts : List PlacedPart) → IsRising parts → (k m : ℕ) (d : PlacedPart) → k ≤ m → m < length parts → (b : Bool) → nat_lt k m ≡ b
     → (slice_index_or parts k d).place ≤ (slice_index_or parts m d).place
 rises_by parts rising k m d h inside true e =
     let l : k < m = grind (arith, nat_tests, e) in let r = rising k m d l inside in omega (arith, r)
@@ -95,11 +96,11 @@ rises_by parts rising k m d h inside false e =
     omega (arith, t)
 
 -- no part before one begins after it
-rises_to : (parts : List Part) → IsRising parts → (k m : ℕ) (d : Part) → k ≤ m → m < length parts
+rises_to : (parts : List PlacedPart) → IsRising parts → (k m : ℕ) (d : PlacedPart) → k ≤ m → m < length parts
     → (slice_index_or parts k d).place ≤ (slice_index_or parts m d).place
 rises_to parts rising k m d h inside = rises_by parts rising k m d h inside (nat_lt k m) refl
 
-pub go_up : (place : ℕ) (parts : List Part) (low high middle : ℕ) (d : Part) → IsRising parts → IsHalved place parts low high → middle < high
+pub go_up : (place : ℕ) (parts : List PlacedPart) (low high middle : ℕ) (d : PlacedPart) → IsRising parts → IsHalved place parts low high → middle < high
     → (slice_index_or parts middle d).place < place → IsHalved place parts (middle + 1) high
 go_up place parts low high middle d rising so_far below less =
     let inside : middle < length parts = let i = so_far.inside in omega (arith, i, below) in
@@ -114,7 +115,7 @@ go_up place parts low high middle d rising so_far below less =
       after = so_far.after;
     }
 
-pub go_down : (place : ℕ) (parts : List Part) (low high middle : ℕ) (d : Part) → IsRising parts → IsHalved place parts low high → low ≤ middle
+pub go_down : (place : ℕ) (parts : List PlacedPart) (low high middle : ℕ) (d : PlacedPart) → IsRising parts → IsHalved place parts low high → low ≤ middle
     → middle < high → place ≤ (slice_index_or parts middle d).place → IsHalved place parts low middle
 go_down place parts low high middle d rising so_far above below least =
     let inside : middle < length parts = let i = so_far.inside in omega (arith, i, below) in
@@ -129,19 +130,19 @@ go_down place parts low high middle d rising so_far above below least =
           omega (arith, r, s, least);
     }
 
-pub split_found : (place : ℕ) (parts : List Part) (low high : ℕ) → IsHalved place parts low high → high ≤ low → IsSplit place parts low
+pub split_found : (place : ℕ) (parts : List PlacedPart) (low high : ℕ) → IsHalved place parts low high → high ≤ low → IsSplit place parts low
 split_found place parts low high so_far met = record {
   inside = let o = so_far.in_order in let i = so_far.inside in omega (arith, o, i);
   before = so_far.before;
   after = λ k d h i. so_far.after k d (omega (arith, met, h)) i;
 }
 
-pub none_by : (at : ℕ) (parts slice : List Part) (place n : ℕ) → slice ≡ parts → place ≡ at → IsSplit (place + 1) slice n → n ≡ 0
+pub none_by : (at : ℕ) (parts slice : List PlacedPart) (place n : ℕ) → slice ≡ parts → place ≡ at → IsSplit (place + 1) slice n → n ≡ 0
     → None ≡ last_at at parts
 none_by at parts slice place n e f s z =
     let t : IsSplit (at + 1) parts 0 = rw (← e, ← f, ← z) s in sym (none_at at parts t)
 
-pub found_by : (at : ℕ) (parts slice : List Part) (place n : ℕ) (x : Part) → slice ≡ parts → place ≡ at → IsSplit (place + 1) slice n → (n ≡ 0 → ⊥)
+pub found_by : (at : ℕ) (parts slice : List PlacedPart) (place n : ℕ) (x : PlacedPart) → slice ≡ parts → place ≡ at → IsSplit (place + 1) slice n → (n ≡ 0 → ⊥)
     → x ≡ get_or parts (n - 1) x → Some x ≡ last_at at parts
 found_by at parts slice place n x e f s some is =
     let m : n ≡ suc (n - 1) = omega (arith, some) in
@@ -154,24 +155,24 @@ last_pushed (y ∷ []) x = refl
 last_pushed (y ∷ z ∷ zs) x = last_pushed (z ∷ zs) x
 
 -- a part that has begun is the last of all
-begun_last : (at : ℕ) (parts : List Part) (part : Part) → is_begun at part ≡ true → last_at at (parts ++ part ∷ []) ≡ Some part
+begun_last : (at : ℕ) (parts : List PlacedPart) (part : PlacedPart) → is_begun at part ≡ true → last_at at (parts ++ part ∷ []) ≡ Some part
 unfolding last_at
 begun_last at parts part e =
     ap last_of (filter-append (is_begun at) parts (part ∷ []) ∙ ap (λ l. filter (is_begun at) parts ++ l) (kept (is_begun at) part [] e))
     ∙ last_pushed (filter (is_begun at) parts) part
 
 -- one that has not begun is none of them
-not_begun_last : (at : ℕ) (parts : List Part) (part : Part) → is_begun at part ≡ false → last_at at (parts ++ part ∷ []) ≡ last_at at parts
+not_begun_last : (at : ℕ) (parts : List PlacedPart) (part : PlacedPart) → is_begun at part ≡ false → last_at at (parts ++ part ∷ []) ≡ last_at at parts
 unfolding last_at
 not_begun_last at parts part e =
     ap last_of (filter-append (is_begun at) parts (part ∷ []) ∙ ap (λ l. filter (is_begun at) parts ++ l) (dropped (is_begun at) part [] e)
     ∙ append-nil (filter (is_begun at) parts))
 
-none_later : (at : ℕ) (parts : List Part) (n place : ℕ) → IsSplit place parts n → at < place → last_at at (take n parts) ≡ last_at at parts
+none_later : (at : ℕ) (parts : List PlacedPart) (n place : ℕ) → IsSplit place parts n → at < place → last_at at (take n parts) ≡ last_at at parts
 unfolding last_at
 none_later at parts n place s below = ap last_of (sym (only_first at parts n (λ k d h i. let a = s.after k d h i in omega (arith, a, below))))
 
-pushed_by : (parts : List Part) (n : ℕ) (part : Part) → IsSplit part.place parts n → (at : ℕ) (b : Bool) → is_begun at part ≡ b
+pushed_by : (parts : List PlacedPart) (n : ℕ) (part : PlacedPart) → IsSplit part.place parts n → (at : ℕ) (b : Bool) → is_begun at part ≡ b
     → last_at at (take n parts ++ part ∷ []) ≡ last_at at (parts ++ part ∷ [])
 pushed_by parts n part s at true e = begun_last at (take n parts) part e ∙ sym (begun_last at parts part e)
 pushed_by parts n part s at false e =
@@ -179,7 +180,7 @@ pushed_by parts n part s at false e =
     not_begun_last at (take n parts) part e ∙ none_later at parts n part.place s below ∙ sym (not_begun_last at parts part e)
 
 -- one more part after those that begin before it: parts that begin there or after it are not found any more
-pub pushed : (parts slice : List Part) (place n : ℕ) (part : Part) → slice ≡ parts → place ≡ part.place → IsSplit place slice n
+pub pushed : (parts slice : List PlacedPart) (place n : ℕ) (part : PlacedPart) → slice ≡ parts → place ≡ part.place → IsSplit place slice n
     → (at : ℕ) → last_at at (take n parts ++ part ∷ []) ≡ last_at at (parts ++ part ∷ [])
 pushed parts slice place n part e f s at =
     let t : IsSplit part.place parts n = rw (← e, ← f) s in pushed_by parts n part t at (nat_le part.place at) refl

@@ -6,7 +6,7 @@ use Rattle.std.specs.List.{range_with_len}
 use Rattle.std.proofs.lemmas.List.{get_or-set_same, get_or-set_other, length-set}
 use Rattle.std.proofs.lemmas.Bool.Decides.{nat_tests}
 use Rattle.program_tables.specs.ProgramRows.{ProgramRows, row_at}
-use Rattle.cell_names.specs.declared.places.Part.{Part}
+use Rattle.cell_names.specs.declared.places.PlacedPart.{PlacedPart}
 use Rattle.cell_names.specs.declared.records.Placed.{Placed}
 use Rattle.cell_names.specs.Places.{finds}
 use Rattle.cell_names.specs.Finding.{Adds, list_at}
@@ -37,7 +37,7 @@ pub record_nowhere : (p : ProgramRows) (counter at : ℕ) → 200 ≤ counter �
 unfolding most_nesting
 record_nowhere p counter at past = ap (λ n. holding_record p n at) (let e : 200 - counter ≡ zero = omega (arith, past) in e)
 
-adds_by : (lists : List (List Part)) (placed : Placed) (old new : List Part) → placed.owner < length lists → old ≡ list_at lists placed.owner
+adds_by : (lists : List (List PlacedPart)) (placed : Placed) (old new : List PlacedPart) → placed.owner < length lists → old ≡ list_at lists placed.owner
     → finds new ≡ finds (old ++ placed.part ∷ []) → (n : ℕ) (b : Bool) → (placed.owner == n) ≡ b
     → finds (list_at (slice_set lists placed.owner new) n) ≡ finds (list_at lists n ++ (if b && nat_lt n (length lists) then placed.part ∷ [] else []))
 adds_by lists placed old new inside was added n true e =
@@ -51,7 +51,7 @@ adds_by lists placed old new inside was added n false e =
     ∙ ap finds (sym (append-nil (list_at lists n)))
 
 -- a part is put at the end of the list of its record
-pub placed_adds : (lists : List (List Part)) (placed : Placed) (old new d : List Part) → placed.owner < length lists
+pub placed_adds : (lists : List (List PlacedPart)) (placed : Placed) (old new d : List PlacedPart) → placed.owner < length lists
     → old ≡ slice_index_or lists placed.owner d → finds new ≡ finds (old ++ placed.part ∷ [])
     → Adds (λ owner. within (length lists) owner (Some placed)) lists (slice_set lists placed.owner new)
 placed_adds lists placed old new d inside was added = record {
@@ -72,7 +72,7 @@ part_none p tokens owner token past =
     ap (λ n. flat_map (λ t. within tokens owner (placed_at p t)) (range_with_len token n)) (let e : tokens - token ≡ zero = omega (arith, past) in e)
 
 -- one more token is gone over
-pub record_parts_on : (p : ProgramRows) (old new all : List Part) (tokens many owner token : ℕ) (one : Option Placed) → token < tokens → many ≡ tokens
+pub record_parts_on : (p : ProgramRows) (old new all : List PlacedPart) (tokens many owner token : ℕ) (one : Option Placed) → token < tokens → many ≡ tokens
     → one ≡ placed_at p token → finds new ≡ finds (old ++ within many owner one) → finds (old ++ record_parts_from p tokens owner token) ≡ finds all
     → finds (new ++ record_parts_from p tokens owner (token + 1)) ≡ finds all
 record_parts_on p old new all tokens many owner token one below same is added so_far =
@@ -81,7 +81,7 @@ record_parts_on p old new all tokens many owner token one below same is added so
     (ap (λ m. finds (old ++ (within m owner one ++ rest))) same ∙ ap (λ o. finds (old ++ (within tokens owner o ++ rest))) is
     ∙ ap (λ l. finds (old ++ l)) (sym (part_first p tokens owner token below)) ∙ so_far)
 
-pub record_parts_end : (p : ProgramRows) (old all : List Part) (tokens owner token : ℕ) → tokens ≤ token
+pub record_parts_end : (p : ProgramRows) (old all : List PlacedPart) (tokens owner token : ℕ) → tokens ≤ token
     → finds (old ++ record_parts_from p tokens owner token) ≡ finds all → finds old ≡ finds all
 record_parts_end p old all tokens owner token past so_far =
     finds_all old all (ap (λ l. finds (old ++ l)) (sym (part_none p tokens owner token past)) ∙ so_far)

@@ -2,7 +2,7 @@
 use Rattle.std.proofs.Common.{◌≡◌, ℕ, zero, suc, ◌+◌, ◌-◌, ◌<◌, ◌≤◌, List, ◌++◌, Option, Some, None, sym, ap, ◌∙◌, arith, append_assoc, append-nil}
 use Rattle.cell_names.specs.declared.names.Spot.{Spot}
 use Rattle.cell_names.specs.declared.names.Step.{Step}
-use Rattle.cell_names.specs.Names.{Scene, Way, WentDown, way_after, way_here, most_types, next_step, selector_text, way_by, way_down, way_within}
+use Rattle.cell_names.specs.Names.{Scene, WayDown, WentDown, way_after, way_here, most_types, next_step, selector_text, way_by, way_down, way_within}
 
 -- this many steps were taken, and what is left of the way begins here
 pub record IsOnWay (s : Scene) (wanted : Option ℕ) (from : Spot) (before now : List ℕ) (at : Spot) (taken : ℕ) : Type 0 where
@@ -33,8 +33,8 @@ ends_here s wanted from before now at taken o below is none on =
     let w : way_within s wanted (most_types - taken) at ≡ way_here at =
     next_way s wanted at taken o below is ∙ ap (way_by s.program (way_within s wanted (most_types - (taken + 1))) at) none in
     record {
-      writes = sym (append-nil now) ∙ ap (λ (v : Way). now ++ v.text) (sym w) ∙ on.text;
-      ends = ap (λ (v : Way). v.end) (sym w) ∙ on.end;
+      writes = sym (append-nil now) ∙ ap (λ (v : WayDown). now ++ v.text) (sym w) ∙ on.text;
+      ends = ap (λ (v : WayDown). v.end) (sym w) ∙ on.end;
     }
 
 -- one more step is taken
@@ -46,9 +46,9 @@ goes_on s wanted from before now more at taken o x below is some written on =
     let w : way_within s wanted (most_types - taken) at ≡ way_after (selector_text s.program x.selector) rest =
     next_way s wanted at taken o below is ∙ ap (way_by s.program (way_within s wanted (most_types - (taken + 1))) at) some in
     record {
-      text = ap (λ t. t ++ rest.text) written ∙ append_assoc now (selector_text s.program x.selector) rest.text ∙ ap (λ (v : Way). now ++ v.text) (sym w)
+      text = ap (λ t. t ++ rest.text) written ∙ append_assoc now (selector_text s.program x.selector) rest.text ∙ ap (λ (v : WayDown). now ++ v.text) (sym w)
           ∙ on.text;
-      end = ap (λ (v : Way). v.end) (sym w) ∙ on.end;
+      end = ap (λ (v : WayDown). v.end) (sym w) ∙ on.end;
     }
 
 -- no more steps are taken
@@ -59,6 +59,6 @@ all_taken s wanted from before now at taken past on =
     let e : 1048576 - taken ≡ zero = omega (arith, past) in
     let w : way_within s wanted (1048576 - taken) at ≡ way_here at = ap (λ n. way_within s wanted n at) e in
     record {
-      writes = sym (append-nil now) ∙ ap (λ (v : Way). now ++ v.text) (sym w) ∙ on.text;
-      ends = ap (λ (v : Way). v.end) (sym w) ∙ on.end;
+      writes = sym (append-nil now) ∙ ap (λ (v : WayDown). now ++ v.text) (sym w) ∙ on.text;
+      ends = ap (λ (v : WayDown). v.end) (sym w) ∙ on.end;
     }

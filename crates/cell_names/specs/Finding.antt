@@ -3,25 +3,25 @@ use Rattle.std.specs.Prelude.{◌≡◌, ℕ, List, [], ◌∷◌, ◌++◌, fla
 use Rattle.cell_value.specs.declared.entries.Touch.{Touch}
 use Rattle.cell_value.specs.declared.entries.Touch.TheVariants.{Make}
 use Rattle.program_tables.specs.ProgramRows.{ProgramRows}
-use Rattle.cell_names.specs.declared.places.Part.{Part}
+use Rattle.cell_names.specs.declared.places.PlacedPart.{PlacedPart}
 use Rattle.cell_names.specs.Places.{finds}
 use Rattle.cell_names.specs.Layouts.{part, frame_parts}
 use Rattle.cell_names.specs.Records.{record_parts}
 
 -- the block of the heap that a touch makes, with its type as its number
-abbrev pub block_by : Touch → List Part
+abbrev pub block_by : Touch → List PlacedPart
 block_by (Make first cells kind) = part first kind ∷ []
 block_by touch = []
 
 -- the blocks of the heap that are made, in order
-abbrev pub blocks_of : List Touch → List Part
+abbrev pub blocks_of : List Touch → List PlacedPart
 blocks_of touches = flat_map block_by touches
 
 -- what has a place of a routine's frame, a place of a record, and an address of the heap
 pub record Finding : Type 0 where
-  pub frame : (routine : ℕ) → (place : ℕ) → Option Part
-  pub component : (owner : ℕ) → (place : ℕ) → Option Part
-  pub block : (address : ℕ) → Option Part
+  pub frame : (routine : ℕ) → (place : ℕ) → Option PlacedPart
+  pub component : (owner : ℕ) → (place : ℕ) → Option PlacedPart
+  pub block : (address : ℕ) → Option PlacedPart
 
 -- what is found in a program of this many tokens, in whose run this was done
 abbrev pub finding_of : ProgramRows → (tokens : ℕ) → List Touch → Finding
@@ -33,11 +33,11 @@ finding_of p tokens log = record {
 
 -- the lists in which it is found
 pub record NameLists : Type 0 where
-  pub frames : List (List Part)
-  pub records : List (List Part)
-  pub blocks : List Part
+  pub frames : List (List PlacedPart)
+  pub records : List (List PlacedPart)
+  pub blocks : List PlacedPart
 
-abbrev pub list_at : List (List Part) → ℕ → List Part
+abbrev pub list_at : List (List PlacedPart) → ℕ → List PlacedPart
 list_at lists n = slice_index_or lists n []
 
 -- what is found in such lists
@@ -49,6 +49,6 @@ finding_in lists = record {
 }
 
 -- each of some lists gets more at its end
-pub record Adds (more : (n : ℕ) → List Part) (old new : List (List Part)) : Type 0 where
+pub record Adds (more : (n : ℕ) → List PlacedPart) (old new : List (List PlacedPart)) : Type 0 where
   pub as_many : length new ≡ length old
   pub finds_more : (n : ℕ) → finds (list_at new n) ≡ finds (list_at old n ++ more n)

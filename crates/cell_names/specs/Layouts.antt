@@ -12,18 +12,18 @@ use Rattle.program_tables.specs.declared.rows.PartRow.TheVariants as constituent
 use Rattle.program_tables.specs.declared.rows.ItemRow.TheVariants as item
 use Rattle.program_tables.specs.declared.rows.Mode.TheVariants as mode
 use Rattle.program_tables.specs.ProgramRows.{ProgramRows, row_at, routine_at}
-use Rattle.cell_names.specs.declared.places.Part.{Part}
+use Rattle.cell_names.specs.declared.places.PlacedPart.{PlacedPart}
 
-abbrev pub part : (place number : ℕ) → Part
+abbrev pub part : (place number : ℕ) → PlacedPart
 part place number = record { place = place; number = number }
 
-abbrev pub named_part : (number : ℕ) → Row → Option Part
+abbrev pub named_part : (number : ℕ) → Row → Option PlacedPart
 named_part number (row.Name (named.Variable mode' of' place level)) = Some (part place number)
 named_part number (row.Name (named.RoutineFormal place level heading)) = Some (part place number)
 named_part number r = None
 
 -- what the name at a token is in its frame
-abbrev pub parts_at : ProgramRows → (token : ℕ) → List Part
+abbrev pub parts_at : ProgramRows → (token : ℕ) → List PlacedPart
 parts_at p token = option_to_list (named_part token (row_at p token))
 
 -- the name after the next comma; numbers of tokens end with the last of 32 bits
@@ -31,17 +31,17 @@ abbrev pub next_name : (token : ℕ) → ℕ
 next_name token = min (token + 2) 4294967295
 
 -- this many names of a section of parameters, from one on
-abbrev pub section_parts : ProgramRows → (count : ℕ) → (token : ℕ) → List Part
+abbrev pub section_parts : ProgramRows → (count : ℕ) → (token : ℕ) → List PlacedPart
 section_parts p zero token = []
 section_parts p (suc count) token = parts_at p token ++ section_parts p count (next_name token)
 
 -- a procedure or function as a parameter, by its heading
-abbrev pub heading_part : ProgramRows → Row → List Part
+abbrev pub heading_part : ProgramRows → Row → List PlacedPart
 heading_part p (row.Part (constituent.Heading name sections result)) = parts_at p name
 heading_part p r = []
 
 -- the parameters of a section
-abbrev pub section_of : ProgramRows → Row → List Part
+abbrev pub section_of : ProgramRows → Row → List PlacedPart
 section_of p (row.Item (item.Section mode' first count next)) = section_parts p count first
 section_of p (row.Item (item.RoutineSection heading next)) = heading_part p (row_at p heading)
 section_of p r = []
@@ -52,12 +52,12 @@ section_after (row.Item (item.Section mode' first count next)) = Some next
 section_after (row.Item (item.RoutineSection heading next)) = Some next
 section_after r = None
 
-abbrev pub parts_after : (rest : ℕ → List Part) → Option ℕ → List Part
+abbrev pub parts_after : (rest : ℕ → List PlacedPart) → Option ℕ → List PlacedPart
 parts_after rest None = []
 parts_after rest (Some next) = rest next
 
 -- the parameters in the sections from one on, of which at most this many are gone through
-abbrev pub sections_parts : ProgramRows → (most : ℕ) → (slot : ℕ) → List Part
+abbrev pub sections_parts : ProgramRows → (most : ℕ) → (slot : ℕ) → List PlacedPart
 sections_parts p zero slot = []
 sections_parts p (suc most) slot =
     section_of p (row_at p slot) ++ parts_after (sections_parts p most) (section_after (row_at p slot))
@@ -66,12 +66,12 @@ sections_parts p (suc most) slot =
 unfoldable pub most_sections : ℕ
 most_sections = 1048576
 
-abbrev pub parameters_in : ProgramRows → Row → List Part
+abbrev pub parameters_in : ProgramRows → Row → List PlacedPart
 parameters_in p (row.Part (constituent.Heading name sections result)) = sections_parts p most_sections sections
 parameters_in p r = []
 
 -- the parameters of a routine, in order
-abbrev pub parameters_of : ProgramRows → Routine → List Part
+abbrev pub parameters_of : ProgramRows → Routine → List PlacedPart
 parameters_of p r = parameters_in p (row_at p r.heading)
 
 abbrev pub is_name_of : Row → (number name : ℕ) → Bool
@@ -89,25 +89,25 @@ unfoldable pub block_start : ProgramRows → (number : ℕ) → (name before : �
 block_start p number name before =
     token_or_zero (last_of (filter (λ token. is_name_of (row_at p token) number name) (range_with_len 0 before)))
 
-abbrev pub own_in : (level number : ℕ) → Row → Option Part
+abbrev pub own_in : (level number : ℕ) → Row → Option PlacedPart
 own_in level number (row.Name (named.Variable mode.Own of' place l)) =
     if l == level then Some (part place number) else None
 own_in level number r = None
 
 -- the variables of a block with this many others around, which stand between two tokens
-unfoldable pub own_between : ProgramRows → (level from to : ℕ) → List Part
+unfoldable pub own_between : ProgramRows → (level from to : ℕ) → List PlacedPart
 own_between p level from to =
     filter_map (λ token. own_in level token (row_at p token)) (range_with_len from (to - from))
 
 -- The variables of a routine's block, in order. They stand before its statement part; so do those of the blocks inside,
 -- which have more blocks around.
-abbrev pub variables_of : ProgramRows → (number : ℕ) → Routine → List Part
+abbrev pub variables_of : ProgramRows → (number : ℕ) → Routine → List PlacedPart
 variables_of p number r = own_between p r.level (block_start p number r.name r.statements) r.statements
 
-abbrev pub frame_parts_in : ProgramRows → (number : ℕ) → Option Routine → List Part
+abbrev pub frame_parts_in : ProgramRows → (number : ℕ) → Option Routine → List PlacedPart
 frame_parts_in p number None = []
 frame_parts_in p number (Some r) = parameters_of p r ++ variables_of p number r
 
 -- what the frame of a routine has but for its link and its result: the parameters, and the variables of the block
-abbrev pub frame_parts : ProgramRows → (number : ℕ) → List Part
+abbrev pub frame_parts : ProgramRows → (number : ℕ) → List PlacedPart
 frame_parts p number = frame_parts_in p number (routine_at p number)

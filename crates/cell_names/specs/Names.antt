@@ -12,7 +12,7 @@ use Rattle.program_tables.specs.declared.rows.TypeRow.{TypeRow}
 use Rattle.program_tables.specs.declared.rows.TypeRow.TheVariants as kind
 use Rattle.program_tables.specs.declared.rows.Mode.TheVariants as mode
 use Rattle.program_tables.specs.ProgramRows.{ProgramRows, name_of, routine_at, row_at, size_of, text_at, type_at}
-use Rattle.cell_names.specs.declared.places.Part.{Part}
+use Rattle.cell_names.specs.declared.places.PlacedPart.{PlacedPart}
 use Rattle.cell_names.specs.declared.values.Bounds.{Bounds}
 use Rattle.cell_names.specs.declared.names.Held.{Held}
 use Rattle.cell_names.specs.declared.names.Held.TheVariants as held
@@ -34,14 +34,14 @@ pub record Scene : Type 0 where
   pub program : ProgramRows
   pub finding : Finding
   pub routines : List ℕ
-  pub opened : (address : ℕ) → Option Part
+  pub opened : (address : ℕ) → Option PlacedPart
 
 -- the same, by the lists in which it is found
 pub record SceneLists : Type 0 where
   pub program : ProgramRows
   pub names : NameLists
   pub routines : List ℕ
-  pub opened : List Part
+  pub opened : List PlacedPart
 
 abbrev pub scene_in : SceneLists → Scene
 scene_in s = record {
@@ -77,7 +77,7 @@ field_step number place (row.Part r) = Some (step selector.Case (spot held.Hidde
 field_step number place r = None
 
 -- the field or the tag of a record that has a place of it
-abbrev pub record_step : ProgramRows → (place : ℕ) → Option Part → Option Step
+abbrev pub record_step : ProgramRows → (place : ℕ) → Option PlacedPart → Option Step
 record_step p place None = None
 record_step p place (Some part) = field_step part.number (place - part.place) (row_at p part.number)
 
@@ -112,17 +112,17 @@ is_wanted None at = false
 is_wanted (Some of') at = is_of_type of' at.held
 
 -- the selectors on a way down, and where it ends
-pub record Way : Type 0 where
+pub record WayDown : Type 0 where
   pub text : List ℕ
   pub end : Spot
 
-abbrev pub way_here : Spot → Way
+abbrev pub way_here : Spot → WayDown
 way_here at = record { text = []; end = at }
 
-abbrev pub way_after : List ℕ → Way → Way
+abbrev pub way_after : List ℕ → WayDown → WayDown
 way_after text w = record { text = text ++ w.text; end = w.end }
 
-abbrev pub way_by : ProgramRows → (go : Spot → Way) → Spot → Option Step → Way
+abbrev pub way_by : ProgramRows → (go : Spot → WayDown) → Spot → Option Step → WayDown
 way_by p go at None = way_here at
 way_by p go at (Some s) = way_after (selector_text p s.selector) (go s.spot)
 
@@ -132,7 +132,7 @@ next_step s wanted at = if is_wanted wanted at then None else step_down s at
 
 -- The way down to a cell: to the cell itself, or to the first variable of a wanted type. At most this many steps are
 -- taken.
-abbrev pub way_within : Scene → (wanted : Option ℕ) → (most : ℕ) → Spot → Way
+abbrev pub way_within : Scene → (wanted : Option ℕ) → (most : ℕ) → Spot → WayDown
 way_within s wanted zero at = way_here at
 way_within s wanted (suc most) at = way_by s.program (way_within s wanted most) at (next_step s wanted at)
 
@@ -140,11 +140,11 @@ way_within s wanted (suc most) at = way_by s.program (way_within s wanted most) 
 unfoldable pub most_types : ℕ
 most_types = 1048576
 
-abbrev pub way_down : Scene → (wanted : Option ℕ) → Spot → Way
+abbrev pub way_down : Scene → (wanted : Option ℕ) → Spot → WayDown
 way_down s wanted at = way_within s wanted most_types at
 
 -- the selectors of a way were written, and this is where it ends
-pub record WentDown (before : List ℕ) (w : Way) (after : List ℕ) (end : Spot) : Type 0 where
+pub record WentDown (before : List ℕ) (w : WayDown) (after : List ℕ) (end : Spot) : Type 0 where
   pub writes : after ≡ before ++ w.text
   pub ends : end ≡ w.end
 
@@ -167,7 +167,7 @@ named_local token place (row.Name (named.Variable mode' of' at level)) =
 named_local token place (row.Name (named.RoutineFormal at level heading)) = Some (local token held.Routine place)
 named_local token place r = None
 
-abbrev pub part_local : ProgramRows → (place : ℕ) → Option Part → Option Local
+abbrev pub part_local : ProgramRows → (place : ℕ) → Option PlacedPart → Option Local
 part_local p place None = None
 part_local p place (Some part) = named_local part.number (place - part.place) (row_at p part.number)
 
@@ -198,11 +198,11 @@ abbrev pub root_in : Scene → (call place : ℕ) → (routine : Option ℕ) →
 root_in s call place None = None
 root_in s call place (Some routine) = local_root call routine (local_at s routine place)
 
-abbrev pub stack_root : Scene → (address : ℕ) → Option Part → Option Root
+abbrev pub stack_root : Scene → (address : ℕ) → Option PlacedPart → Option Root
 stack_root s address None = None
 stack_root s address (Some part) = root_in s part.number (address - part.place) (slice_get s.routines part.number)
 
-abbrev pub heap_root : (address : ℕ) → Option Part → Option Root
+abbrev pub heap_root : (address : ℕ) → Option PlacedPart → Option Root
 heap_root address None = None
 heap_root address (Some part) =
     Some (root (origin.Heap part.place) (spot (held.Variable part.number) (address - part.place)))

@@ -9,7 +9,7 @@ use Rattle.program_tables.specs.declared.rows.NameRow.TheVariants as named
 use Rattle.program_tables.specs.declared.rows.PartRow.TheVariants as constituent
 use Rattle.program_tables.specs.declared.rows.TypeRow.TheVariants as kind
 use Rattle.program_tables.specs.ProgramRows.{ProgramRows, row_at}
-use Rattle.cell_names.specs.declared.places.Part.{Part}
+use Rattle.cell_names.specs.declared.places.PlacedPart.{PlacedPart}
 use Rattle.cell_names.specs.declared.records.Component.{Component}
 use Rattle.cell_names.specs.declared.records.Placed.{Placed}
 use Rattle.cell_names.specs.Layouts.{part}
@@ -63,15 +63,15 @@ abbrev pub placed_at : ProgramRows → (token : ℕ) → Option Placed
 placed_at p token = placed_by p token (component_in (row_at p token))
 
 -- what of that is one record's, which is one of this many tokens
-abbrev pub within : (tokens owner : ℕ) → Option Placed → List Part
+abbrev pub within : (tokens owner : ℕ) → Option Placed → List PlacedPart
 within tokens owner None = []
 within tokens owner (Some x) = if (x.owner == owner) && nat_lt owner tokens then x.part ∷ [] else []
 
 -- the fields and tags of a record that stand at a token or after it, of this many tokens, in order
-unfoldable pub record_parts_from : ProgramRows → (tokens owner from : ℕ) → List Part
+unfoldable pub record_parts_from : ProgramRows → (tokens owner from : ℕ) → List PlacedPart
 record_parts_from p tokens owner from =
     flat_map (λ token. within tokens owner (placed_at p token)) (range_with_len from (tokens - from))
 
 -- the fields and tags of a record, in order
-abbrev pub record_parts : ProgramRows → (tokens owner : ℕ) → List Part
+abbrev pub record_parts : ProgramRows → (tokens owner : ℕ) → List PlacedPart
 record_parts p tokens owner = record_parts_from p tokens owner 0

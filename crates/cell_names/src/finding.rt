@@ -6,7 +6,7 @@ ghost use Rattle.cell_names.specs.Layouts.{frame_parts};
 ghost use Rattle.cell_names.specs.Finding.{block_by, blocks_of, finding_of, finding_in, list_at};
 
 use crate::layouts::frame_places;
-use crate::places::{Part, Places};
+use crate::places::{PlacedPart, PlacedParts};
 use crate::records::record_places;
 use cell_value::Touch;
 use effect_log::Log;
@@ -16,15 +16,15 @@ use std::marker::Model;
 
 /// What is found by its place in the frames of a program's routines, in its records, and in the heap of its run.
 #[derive(Drop)]
-pub struct Names {
+pub struct NameFinder {
     /// By the number of a routine.
-    frames: Vec<Places>,
+    frames: Vec<PlacedParts>,
     /// By the number of a record.
-    records: Vec<Places>,
-    blocks: Places,
+    records: Vec<PlacedParts>,
+    blocks: PlacedParts,
 }
 
-impl Model for Names {
+impl Model for NameFinder {
     ghost use Rattle.cell_names.specs.Finding.{NameLists};
 
     ghost Value = { NameLists };
@@ -37,7 +37,7 @@ impl Model for Names {
 }
 
 /// What the frame of each routine has.
-fn frames_of(alloc: Global, program: &Program) -> Result<Vec<Places>, AllocError>
+fn frames_of(alloc: Global, program: &Program) -> Result<Vec<PlacedParts>, AllocError>
     ensures { IfOk result (λ lists. (routine : ℕ)
         → finds (list_at lists.items routine) ≡ finds (frame_parts program.now routine)) }
 {
@@ -49,11 +49,11 @@ fn frames_of(alloc: Global, program: &Program) -> Result<Vec<Places>, AllocError
 }
 
 /// A block of the heap, if the touch makes one.
-fn push_block(blocks: &mut Places, touch: Touch) -> Result<(), AllocError>
+fn push_block(blocks: &mut PlacedParts, touch: Touch) -> Result<(), AllocError>
     ensures { OnOk result (finds blocks.new ≡ finds (blocks.old ++ block_by touch)) }
 {
     match touch {
-        Touch::Make(first, _, kind) => blocks.push(Part {
+        Touch::Make(first, _, kind) => blocks.push(PlacedPart {
             place: first,
             number: kind,
         }),
@@ -62,10 +62,10 @@ fn push_block(blocks: &mut Places, touch: Touch) -> Result<(), AllocError>
 }
 
 /// The blocks of the heap that are made in a run.
-fn blocks_of(alloc: Global, log: &Log) -> Result<Places, AllocError>
+fn blocks_of(alloc: Global, log: &Log) -> Result<PlacedParts, AllocError>
     ensures { IfOk result (λ blocks. finds blocks ≡ finds (blocks_of log.now)) }
 {
-    let mut blocks = Places::new(alloc);
+    let mut blocks = PlacedParts::new(alloc);
     'touches: for place in 0..log.len() {
         push_block(&mut blocks, log.at(place))?;
     }
@@ -74,7 +74,7 @@ fn blocks_of(alloc: Global, log: &Log) -> Result<Places, AllocError>
 
 /// What has a place in the list of a number.
 #[tactic(auto, unfolding(crate::specs::Places::last_at))]
-fn find_in(lists: &[Places], number: u32, place: u32) -> Option<Part>
+fn find_in(lists: &[PlacedParts], number: u32, place: u32) -> Option<PlacedPart>
     ensures { result ≡ finds (list_at lists.now number) place }
 {
     let number = number as usize;
@@ -85,20 +85,20 @@ fn find_in(lists: &[Places], number: u32, place: u32) -> Option<Part>
     }
 }
 
-impl Names {
+impl NameFinder {
     /// What is found by its place in a program of this many tokens, in whose run this was done. It takes memory.
     pub fn new(
         alloc: Global,
         program: &Program,
         tokens: u32,
         log: &Log,
-    ) -> Result<Names, AllocError>
+    ) -> Result<NameFinder, AllocError>
         ensures { IfOk result (λ names. finding_in names ≡ finding_of program.now tokens log.now) }
     {
         let frames = frames_of(alloc, program)?;
         let records = record_places(alloc, program, tokens)?;
         let blocks = blocks_of(alloc, log)?;
-        Ok(Names {
+        Ok(NameFinder {
             frames,
             records,
             blocks,
@@ -106,21 +106,21 @@ impl Names {
     }
 
     /// What has a place of the frame of a routine: a parameter or a variable, by the token that names it.
-    pub(crate) fn local(&self, routine: u32, place: u32) -> Option<Part>
+    pub(crate) fn local(&self, routine: u32, place: u32) -> Option<PlacedPart>
         ensures { result ≡ (finding_in self.now).frame routine place }
     {
         find_in(&self.frames, routine, place)
     }
 
     /// What has a place of a record: a field or a tag, by its number.
-    pub(crate) fn component(&self, owner: u32, place: u32) -> Option<Part>
+    pub(crate) fn component(&self, owner: u32, place: u32) -> Option<PlacedPart>
         ensures { result ≡ (finding_in self.now).component owner place }
     {
         find_in(&self.records, owner, place)
     }
 
     /// The variable of the heap that has an address, by its type.
-    pub(crate) fn block(&self, address: u32) -> Option<Part>
+    pub(crate) fn block(&self, address: u32) -> Option<PlacedPart>
         ensures { result ≡ (finding_in self.now).block address }
     {
         self.blocks.find(address)

@@ -8,21 +8,21 @@ ghost use Rattle.cell_names.specs.Layouts.{next_name, section_after, own_between
 ghost use Rattle.cell_names.specs.Layouts.{named_part, parts_at, section_of, section_parts, sections_parts};
 ghost use Rattle.cell_names.specs.Layouts.{variables_of};
 
-use crate::places::{Part, Places};
+use crate::places::{PlacedPart, PlacedParts};
 use program_tables::rows::{ItemRow, Mode, NameRow, PartRow, Row};
 use program_tables::{Program, Routine};
 use std::alloc::{AllocError, Global};
 
 /// What the name at a token is in its frame, by its row.
-fn named_part(token: u32, row: Row) -> Option<Part>
+fn named_part(token: u32, row: Row) -> Option<PlacedPart>
     ensures { result ≡ named_part token row }
 {
     match row {
-        Row::Name(NameRow::Variable { place, .. }) => Some(Part {
+        Row::Name(NameRow::Variable { place, .. }) => Some(PlacedPart {
             place,
             number: token,
         }),
-        Row::Name(NameRow::RoutineFormal { place, .. }) => Some(Part {
+        Row::Name(NameRow::RoutineFormal { place, .. }) => Some(PlacedPart {
             place,
             number: token,
         }),
@@ -31,7 +31,7 @@ fn named_part(token: u32, row: Row) -> Option<Part>
 }
 
 /// One more part, if there is one.
-fn push_part(places: &mut Places, part: Option<Part>) -> Result<(), AllocError>
+fn push_part(places: &mut PlacedParts, part: Option<PlacedPart>) -> Result<(), AllocError>
     ensures { OnOk result (finds places.new ≡ finds (places.old ++ option_to_list part)) }
 {
     match part {
@@ -41,7 +41,7 @@ fn push_part(places: &mut Places, part: Option<Part>) -> Result<(), AllocError>
 }
 
 /// What the name at a token is in its frame.
-fn push_name(places: &mut Places, program: &Program, token: u32) -> Result<(), AllocError>
+fn push_name(places: &mut PlacedParts, program: &Program, token: u32) -> Result<(), AllocError>
     ensures { OnOk result (finds places.new ≡ finds (places.old ++ parts_at program.now token)) }
 {
     push_part(places, named_part(token, program.row(token)))
@@ -56,7 +56,7 @@ fn next_name(token: u32) -> u32
 
 /// The names of a section of parameters.
 fn push_section(
-    places: &mut Places,
+    places: &mut PlacedParts,
     program: &Program,
     count: u32,
     first: u32,
@@ -72,7 +72,7 @@ fn push_section(
 }
 
 /// A procedure or function as a parameter, by its heading.
-fn push_heading(places: &mut Places, program: &Program, heading: Row) -> Result<(), AllocError>
+fn push_heading(places: &mut PlacedParts, program: &Program, heading: Row) -> Result<(), AllocError>
     ensures { OnOk result (finds places.new ≡ finds (places.old ++ heading_part program.now heading)) }
 {
     match heading {
@@ -82,7 +82,11 @@ fn push_heading(places: &mut Places, program: &Program, heading: Row) -> Result<
 }
 
 /// The parameters of a section, by its row.
-fn push_section_of(places: &mut Places, program: &Program, section: Row) -> Result<(), AllocError>
+fn push_section_of(
+    places: &mut PlacedParts,
+    program: &Program,
+    section: Row,
+) -> Result<(), AllocError>
     ensures { OnOk result (finds places.new ≡ finds (places.old ++ section_of program.now section)) }
 {
     match section {
@@ -109,7 +113,7 @@ fn next_section(section: Row) -> Option<u32>
 
 /// The parameters of the section at a token; where the next one stands is given.
 fn push_section_at(
-    places: &mut Places,
+    places: &mut PlacedParts,
     program: &Program,
     slot: u32,
 ) -> Result<Option<u32>, AllocError>
@@ -123,7 +127,11 @@ fn push_section_at(
 }
 
 /// The parameters of the sections from one on.
-fn push_sections(places: &mut Places, program: &Program, sections: u32) -> Result<(), AllocError>
+fn push_sections(
+    places: &mut PlacedParts,
+    program: &Program,
+    sections: u32,
+) -> Result<(), AllocError>
     ensures { OnOk result (finds places.new
         ≡ finds (places.old ++ sections_parts program.now most_sections sections)) }
 {
@@ -139,7 +147,7 @@ fn push_sections(places: &mut Places, program: &Program, sections: u32) -> Resul
 
 /// The parameters of a heading, by its row.
 fn push_parameters_in(
-    places: &mut Places,
+    places: &mut PlacedParts,
     program: &Program,
     heading: Row,
 ) -> Result<(), AllocError>
@@ -153,7 +161,7 @@ fn push_parameters_in(
 
 /// The parameters of a routine.
 fn push_parameters(
-    places: &mut Places,
+    places: &mut PlacedParts,
     program: &Program,
     routine: Routine,
 ) -> Result<(), AllocError>
@@ -188,7 +196,7 @@ fn block_start(program: &Program, number: u32, name: u32, before: u32) -> u32
 }
 
 /// A variable of a block with this many others around, by its row.
-fn own_in(level: u32, token: u32, row: Row) -> Option<Part>
+fn own_in(level: u32, token: u32, row: Row) -> Option<PlacedPart>
     ensures { result ≡ own_in level token row }
 {
     match row {
@@ -201,7 +209,7 @@ fn own_in(level: u32, token: u32, row: Row) -> Option<Part>
             },
         ) => {
             if found == level {
-                Some(Part {
+                Some(PlacedPart {
                     place,
                     number: token,
                 })
@@ -215,7 +223,7 @@ fn own_in(level: u32, token: u32, row: Row) -> Option<Part>
 
 /// The variables of a block with this many others around, from a token on and before another.
 fn push_own(
-    places: &mut Places,
+    places: &mut PlacedParts,
     program: &Program,
     level: u32,
     from: u32,
@@ -231,7 +239,7 @@ fn push_own(
 
 /// The variables of a routine's block.
 fn push_variables(
-    places: &mut Places,
+    places: &mut PlacedParts,
     program: &Program,
     number: u32,
     routine: Routine,
@@ -244,7 +252,7 @@ fn push_variables(
 
 /// What a routine's frame has but for its link and its result.
 fn push_frame(
-    places: &mut Places,
+    places: &mut PlacedParts,
     program: &Program,
     number: u32,
     routine: Routine,
@@ -263,10 +271,10 @@ pub(crate) fn frame_places(
     alloc: Global,
     program: &Program,
     number: u32,
-) -> Result<Places, AllocError>
+) -> Result<PlacedParts, AllocError>
     ensures { IfOk result (λ places. finds places ≡ finds (frame_parts program.now number)) }
 {
-    let mut places = Places::new(alloc);
+    let mut places = PlacedParts::new(alloc);
     match program.routine(number) {
         None => Ok(places),
         Some(routine) => {

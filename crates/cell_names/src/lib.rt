@@ -1,6 +1,6 @@
 //! Names of the cells of a run, and texts of what they hold: variables have the names that the source gives them, with
-//! selectors down to the cell, and values the texts of their types. `Names` is made once for a run; with it a name is
-//! found without a look at all variables.
+//! selectors down to the cell, and values the texts of their types. `NameFinder` is made once for a run; with it a
+//! name is found without a look at all variables.
 #![tactic(auto)]
 
 mod finding;
@@ -11,10 +11,10 @@ mod places;
 mod records;
 mod values;
 
-pub use finding::Names;
+pub use finding::NameFinder;
 pub use names::{
     Held, Local, Origin, Root, Scene, Spot, local_at, result_of, root_at, write_root, write_way,
 };
 pub use pieces::{write_long, write_number, write_quoted, write_quoted_items};
-pub use places::{Part, Places};
+pub use places::{PlacedPart, PlacedParts};
 pub use values::write_typed;

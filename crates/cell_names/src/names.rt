@@ -8,9 +8,9 @@ ghost use Rattle.cell_names.specs.Names.{named_local, next_step, origin_text, pa
 ghost use Rattle.cell_names.specs.Names.{result_of, root_at, root_in, scene_in, selector_text, stack_root, step_down};
 ghost use Rattle.cell_names.specs.Names.{typed_step, way_down, whose_text};
 
-use crate::finding::Names;
+use crate::finding::NameFinder;
 use crate::pieces::write_number;
-use crate::places::{Part, Places};
+use crate::places::{PlacedPart, PlacedParts};
 use crate::values::{Bounds, bounds_of, write_ordinal};
 use edge_ports::Bytes;
 use program_tables::rows::{Mode, NameRow, PartRow, Row, TypeRow};
@@ -23,9 +23,9 @@ use std::marker::Model;
 #[derive(Drop)]
 pub struct Scene<'a> {
     pub program: &'a Program,
-    pub names: &'a Names,
+    pub names: &'a NameFinder,
     pub routines: &'a [u32],
-    pub opened: &'a Places,
+    pub opened: &'a PlacedParts,
 }
 
 impl<'a> Model for Scene<'a> {
@@ -169,7 +169,7 @@ fn field_step(number: u32, place: u32, row: Row) -> Option<Step>
 }
 
 /// The field or the tag of a record that was found for a place of it.
-fn record_step(program: &Program, place: u32, part: Option<Part>) -> Option<Step>
+fn record_step(program: &Program, place: u32, part: Option<PlacedPart>) -> Option<Step>
     ensures { result ≡ record_step program.now place part }
 {
     match part {
@@ -341,7 +341,7 @@ fn named_local(token: u32, place: u32, row: Row) -> Option<Local>
 }
 
 /// What was found for a place of a frame.
-fn part_local(program: &Program, place: u32, part: Option<Part>) -> Option<Local>
+fn part_local(program: &Program, place: u32, part: Option<PlacedPart>) -> Option<Local>
     ensures { result ≡ part_local program.now place part }
 {
     match part {
@@ -417,7 +417,7 @@ fn root_in(scene: &Scene, call: u32, place: u32) -> Option<Root>
 }
 
 /// What has an address of the stack.
-fn stack_root(scene: &Scene, address: u32, part: Option<Part>) -> Option<Root>
+fn stack_root(scene: &Scene, address: u32, part: Option<PlacedPart>) -> Option<Root>
     ensures { result ≡ stack_root (scene_in scene.now) address part }
 {
     match part {
@@ -427,7 +427,7 @@ fn stack_root(scene: &Scene, address: u32, part: Option<Part>) -> Option<Root>
 }
 
 /// What has an address of the heap.
-fn heap_root(address: u32, part: Option<Part>) -> Option<Root>
+fn heap_root(address: u32, part: Option<PlacedPart>) -> Option<Root>
     ensures { result ≡ heap_root address part }
 {
     match part {

@@ -8,7 +8,7 @@ use std::marker::Model;
 
 /// A part of a frame, of a record or of the heap: the place where it begins, and its number.
 #[derive(Clone, Copy)]
-pub struct Part {
+pub struct PlacedPart {
     pub place: u32,
     pub number: u32,
 }
@@ -16,16 +16,16 @@ pub struct Part {
 /// Parts in order, of which the last that begins at a place or before it can be found. Only those are kept that can be
 /// found so; their places rise. Clauses see the list of them.
 #[derive(Drop)]
-pub struct Places {
-    parts: Vec<Part>,
+pub struct PlacedParts {
+    parts: Vec<PlacedPart>,
 }
 
-impl Model for Places {
+impl Model for PlacedParts {
     ghost use Rattle.std.specs.Prelude.{List};
-    ghost use Rattle.cell_names.specs.declared.places.Part.{Part};
+    ghost use Rattle.cell_names.specs.declared.places.PlacedPart.{PlacedPart};
     ghost use Rattle.cell_names.specs.Places.{IsRising as IsInOrder};
 
-    ghost Value = { List Part };
+    ghost Value = { List PlacedPart };
 
     ghost view = { λ p. p.parts.items };
 
@@ -33,7 +33,7 @@ impl Model for Places {
 }
 
 /// How many of some parts, whose places rise, begin before a place.
-fn count_before(parts: &[Part], place: u64) -> usize
+fn count_before(parts: &[PlacedPart], place: u64) -> usize
     requires { IsRising parts.now }
     ensures { IsSplit place parts.now result }
 {
@@ -50,18 +50,18 @@ fn count_before(parts: &[Part], place: u64) -> usize
     low
 }
 
-impl Places {
+impl PlacedParts {
     /// No parts. It takes no memory.
-    pub fn new(alloc: Global) -> Places
+    pub fn new(alloc: Global) -> PlacedParts
         ensures { result ≡ [] }
     {
-        Places {
+        PlacedParts {
             parts: Vec::new(alloc),
         }
     }
 
     /// One more part after the others.
-    pub fn push(&mut self, part: Part) -> Result<(), AllocError>
+    pub fn push(&mut self, part: PlacedPart) -> Result<(), AllocError>
         ensures { OnOk result (finds self.new ≡ finds (self.old ++ part ∷ [])) }
     {
         let before = count_before(&self.parts, u64::from(part.place));
@@ -71,7 +71,7 @@ impl Places {
     }
 
     /// The part that has a place: the last that begins there or before.
-    pub fn find(&self, at: u32) -> Option<Part>
+    pub fn find(&self, at: u32) -> Option<PlacedPart>
         ensures { result ≡ finds self.now at }
     {
         let begun = count_before(&self.parts, u64::from(at) + 1);

@@ -7,7 +7,7 @@ ghost use Rattle.cell_names.specs.Records.{component_in, holder_around, part_hol
 ghost use Rattle.cell_names.specs.Records.{placed_at};
 ghost use Rattle.cell_names.specs.Records.{holding_record, record_parts, within};
 
-use crate::places::{Part, Places};
+use crate::places::{PlacedPart, PlacedParts};
 use program_tables::Program;
 use program_tables::rows::{NameRow, PartRow, Row, TypeRow};
 use std::alloc::{AllocError, Global};
@@ -25,7 +25,7 @@ pub(crate) struct Component {
 pub(crate) struct Placed {
     /// The number of the record.
     pub(crate) owner: u32,
-    pub(crate) part: Part,
+    pub(crate) part: PlacedPart,
 }
 
 /// A field, a tag field or a hidden tag, by its row.
@@ -108,7 +108,7 @@ fn placed_at(program: &Program, token: u32) -> Option<Placed>
             None => None,
             Some(owner) => Some(Placed {
                 owner,
-                part: Part {
+                part: PlacedPart {
                     place: component.offset,
                     number: token,
                 },
@@ -118,18 +118,18 @@ fn placed_at(program: &Program, token: u32) -> Option<Placed>
 }
 
 /// This many lists, each empty.
-pub(crate) fn blank_lists(alloc: Global, count: u32) -> Result<Vec<Places>, AllocError>
+pub(crate) fn blank_lists(alloc: Global, count: u32) -> Result<Vec<PlacedParts>, AllocError>
     ensures { IfOk result (λ lists. lists.items ≡ replicate count []) }
 {
     let mut lists = Vec::new(alloc);
     'lists: for _ in 0..count {
-        lists.push(Places::new(alloc))?;
+        lists.push(PlacedParts::new(alloc))?;
     }
     Ok(lists)
 }
 
 /// One more part of a record, in the list of its number, if there is one.
-fn push_placed(lists: &mut Vec<Places>, placed: Placed) -> Result<(), AllocError>
+fn push_placed(lists: &mut Vec<PlacedParts>, placed: Placed) -> Result<(), AllocError>
     ensures { OnOk result (Adds (λ owner. within (length lists.old.items) owner (Some placed)) lists.old.items
         lists.new.items) }
 {
@@ -141,7 +141,7 @@ fn push_placed(lists: &mut Vec<Places>, placed: Placed) -> Result<(), AllocError
 }
 
 /// What the name or the word at a token adds to the list of its record.
-fn push_component(lists: &mut Vec<Places>, placed: Option<Placed>) -> Result<(), AllocError>
+fn push_component(lists: &mut Vec<PlacedParts>, placed: Option<Placed>) -> Result<(), AllocError>
     ensures { OnOk result (Adds (λ owner. within (length lists.old.items) owner placed) lists.old.items
         lists.new.items) }
 {
@@ -156,7 +156,7 @@ pub(crate) fn record_places(
     alloc: Global,
     program: &Program,
     tokens: u32,
-) -> Result<Vec<Places>, AllocError>
+) -> Result<Vec<PlacedParts>, AllocError>
     ensures { IfOk result (λ lists. (owner : ℕ)
         → finds (list_at lists.items owner) ≡ finds (record_parts program.now tokens owner)) }
 {

@@ -13,7 +13,7 @@ use Rattle.program_tables.specs.ProgramRows.{ProgramRows}
 use Rattle.program_tables.specs.ProgramRows as program
 use Rattle.check_steps.specs.declared.words.Spelled.{Spelled}
 use Rattle.check_steps.specs.declared.words.Spelled.TheVariants as spelled
-use Rattle.check_steps.specs.declared.words.Word.{Word}
+use Rattle.check_steps.specs.declared.words.SpelledToken.{SpelledToken}
 use Rattle.check_steps.specs.declared.regions.Definition.{Definition}
 use Rattle.check_steps.specs.declared.regions.Found.{Found}
 use Rattle.check_steps.specs.declared.regions.Frame.{Frame}
@@ -24,7 +24,7 @@ pub record Known : Type 0 where
   -- the spellings of names, each once; a name's number is its place here
   pub names : List (List ℕ)
   -- what each token spells
-  pub words : List Word
+  pub words : List SpelledToken
   -- the program as far as it is known
   pub program : ProgramRows
   pub regions : List RegionRows
@@ -41,7 +41,7 @@ pub record Known : Type 0 where
 
 -- ---- words
 
-abbrev pub word_at : Known → ℕ → Word
+abbrev pub word_at : Known → ℕ → SpelledToken
 word_at k token = unwrap_or (slice_get k.words token) (record { spelled = spelled.Other; line = 0 })
 
 abbrev pub spelled_at : Known → ℕ → Spelled

@@ -4,14 +4,14 @@ use Rattle.std.specs.Prelude.{if◌then◌else◌, nat_eq, unwrap_or}
 use Rattle.std.specs.Global.{Vec}
 use Rattle.std.specs.List.{list_any}
 use Rattle.std.specs.Cmp.Lexicographic.{pointwise}
-use Rattle.pas_lexer.specs.declared.kinds.Kind.{Kind}
-use Rattle.pas_lexer.specs.declared.kinds.Kind.TheVariants as kind
+use Rattle.pas_lexer.specs.declared.kinds.TokenKind.{TokenKind}
+use Rattle.pas_lexer.specs.declared.kinds.TokenKind.TheVariants as kind
 use Rattle.pas_lexer.specs.declared.kinds.Token.{Token}
 use Rattle.pas_lexer.specs.Lexed.{Lexed, spelling_of, text_of}
 use Rattle.program_tables.specs.ProgramRows.{blank_tables}
 use Rattle.check_steps.specs.declared.words.Spelled.{Spelled}
 use Rattle.check_steps.specs.declared.words.Spelled.TheVariants as spelled
-use Rattle.check_steps.specs.declared.words.Word.{Word}
+use Rattle.check_steps.specs.declared.words.SpelledToken.{SpelledToken}
 use Rattle.check_steps.specs.Known.{Known}
 
 -- the required names in the order of their numbers: types, constants, functions, procedures, text files
@@ -45,7 +45,7 @@ abbrev pub with_name : List (List ℕ) → List ℕ → List (List ℕ)
 with_name names s = if list_any (same_name s) names then names else names ++ s ∷ []
 
 -- these names and the one that a token spells
-abbrev pub with_name_of : Kind → List (List ℕ) → List ℕ → List (List ℕ)
+abbrev pub with_name_of : TokenKind → List (List ℕ) → List ℕ → List (List ℕ)
 with_name_of kind.Name names s = with_name names s
 with_name_of k names s = names
 
@@ -69,20 +69,20 @@ texts_in vs = map (λ v. v.items) vs
 
 -- ---- words
 
-abbrev pub spelled_by : List (List ℕ) → Kind → List ℕ → Spelled
+abbrev pub spelled_by : List (List ℕ) → TokenKind → List ℕ → Spelled
 spelled_by names kind.Name s = spelled.Name (name_number names s)
 spelled_by names (kind.Number n) s = spelled.Number n
 spelled_by names kind.Text s = spelled.Text
 spelled_by names k s = spelled.Other
 
-abbrev pub word_of : List (List ℕ) → List ℕ → Token → Word
+abbrev pub word_of : List (List ℕ) → List ℕ → Token → SpelledToken
 word_of names source t = record { spelled = spelled_by names t.kind (spelling_of source t); line = t.line }
 
-abbrev pub words_of : List (List ℕ) → List ℕ → List Token → List Word
+abbrev pub words_of : List (List ℕ) → List ℕ → List Token → List SpelledToken
 words_of names source tokens = map (word_of names source) tokens
 
 -- of a name its text, of a string its characters, and nothing of another token
-abbrev pub kept_text : Kind → List ℕ → List ℕ → List ℕ
+abbrev pub kept_text : TokenKind → List ℕ → List ℕ → List ℕ
 kept_text kind.Name text spelling = text
 kept_text kind.Text text spelling = spelling
 kept_text k text spelling = []

@@ -13,5 +13,5 @@ pub mod work;
 pub use breaks::{Break, Broken, CheckFault};
 pub use regions::{Def, Definition, Found, Frame, Span};
 pub use tables::Tables;
-pub use words::{Spelled, Word};
+pub use words::{Spelled, SpelledToken};
 pub use work::Work;

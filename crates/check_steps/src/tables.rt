@@ -12,7 +12,7 @@ ghost use Rattle.check_steps.specs.Regions.{declared_in, defined_in, region_at};
 ghost use Rattle.check_steps.specs.Words.{number_of_name, known_at_start};
 
 use crate::regions::{Definition, Found, Frame, Region, Span};
-use crate::words::{REQUIRED_NAMES, Spelled, Word, names, texts, words};
+use crate::words::{REQUIRED_NAMES, Spelled, SpelledToken, names, texts, words};
 use indexmap::{IndexMap, IndexSet};
 use pas_lexer::Tokens;
 use program_tables::rows::{Row, TypeRow};
@@ -24,7 +24,7 @@ use std::marker::Model;
 #[derive(Drop)]
 pub struct Tables {
     names: IndexSet<Vec<u8>>,
-    words: Vec<Word>,
+    words: Vec<SpelledToken>,
     program: Program,
     regions: Vec<Region>,
     frames: Vec<Frame>,
@@ -115,12 +115,12 @@ impl Tables {
     }
 
     /// What a token is.
-    pub fn word(&self, token: u32) -> Word
+    pub fn word(&self, token: u32) -> SpelledToken
         ensures { result ≡ word_at self.now token }
     {
         match self.words.get(token as usize) {
             Some(word) => *word,
-            None => Word {
+            None => SpelledToken {
                 spelled: Spelled::Other,
                 line: 0,
             },

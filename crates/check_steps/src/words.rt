@@ -7,7 +7,7 @@ ghost use Rattle.check_steps.specs.Words.{required_files, required_functions, re
 ghost use Rattle.check_steps.specs.Words.{required_types, spelled_by, texts_of, with_name, with_name_of, words_of};
 
 use indexmap::IndexSet;
-use pas_lexer::{Kind, Tokens};
+use pas_lexer::{TokenKind, Tokens};
 use std::alloc::{AllocError, Global};
 
 /// How many names are required.
@@ -27,7 +27,7 @@ pub enum Spelled {
 
 /// A token as the check sees it.
 #[derive(Clone, Copy)]
-pub struct Word {
+pub struct SpelledToken {
     pub spelled: Spelled,
     /// The line on which it stands.
     pub line: u32,
@@ -117,13 +117,13 @@ fn start_names(alloc: Global) -> Result<IndexSet<Vec<u8>>, AllocError>
 fn add_spelling(
     alloc: Global,
     names: &mut IndexSet<Vec<u8>>,
-    kind: Kind,
+    kind: TokenKind,
     spelling: &[u8],
 ) -> Result<(), AllocError>
     ensures { OnOk result (texts_in names.new.keys ≡ with_name_of kind (texts_in names.old.keys) spelling.now) }
 {
     match kind {
-        Kind::Name => add_name(alloc, names, spelling),
+        TokenKind::Name => add_name(alloc, names, spelling),
         _ => Ok(()),
     }
 }
@@ -152,14 +152,14 @@ fn number(names: &IndexSet<Vec<u8>>, name: &[u8]) -> u32
 }
 
 /// What a token of this kind and spelling spells.
-fn spelling_of(names: &IndexSet<Vec<u8>>, kind: Kind, spelling: &[u8]) -> Spelled
+fn spelling_of(names: &IndexSet<Vec<u8>>, kind: TokenKind, spelling: &[u8]) -> Spelled
     requires { index_set_len names.now < 2 ^ 32 }
     ensures { result ≡ spelled_by (texts_in names.now.keys) kind spelling.now }
 {
     match kind {
-        Kind::Name => Spelled::Name(number(names, spelling)),
-        Kind::Number(value) => Spelled::Number(value),
-        Kind::Text => Spelled::Text,
+        TokenKind::Name => Spelled::Name(number(names, spelling)),
+        TokenKind::Number(value) => Spelled::Number(value),
+        TokenKind::Text => Spelled::Text,
         _ => Spelled::Other,
     }
 }
@@ -169,7 +169,7 @@ pub fn words(
     alloc: Global,
     names: &IndexSet<Vec<u8>>,
     tokens: &Tokens,
-) -> Result<Vec<Word>, AllocError>
+) -> Result<Vec<SpelledToken>, AllocError>
     requires { index_set_len names.now < 2 ^ 32 }
     ensures { IfOk result (λ words.
         words.items ≡ words_of (texts_in names.now.keys) tokens.now.source tokens.now.tokens) }
@@ -177,7 +177,7 @@ pub fn words(
     let mut words = Vec::new(alloc);
     'tokens: for i in 0..tokens.len() {
         let token = tokens.at(i);
-        words.push(Word {
+        words.push(SpelledToken {
             spelled: spelling_of(names, token.kind, tokens.spelling(i)),
             line: token.line,
         })?;
@@ -186,12 +186,12 @@ pub fn words(
 }
 
 /// Of a name its text, of a string its characters, and nothing of another token.
-fn kept(alloc: Global, kind: Kind, text: &[u8], spelling: &[u8]) -> Result<Vec<u8>, AllocError>
+fn kept(alloc: Global, kind: TokenKind, text: &[u8], spelling: &[u8]) -> Result<Vec<u8>, AllocError>
     ensures { IfOk result (λ v. v.items ≡ kept_text kind text.now spelling.now) }
 {
     match kind {
-        Kind::Name => text.to_vec(alloc),
-        Kind::Text => spelling.to_vec(alloc),
+        TokenKind::Name => text.to_vec(alloc),
+        TokenKind::Text => spelling.to_vec(alloc),
         _ => Ok(Vec::new(alloc)),
     }
 }

@@ -2,7 +2,7 @@
 use Rattle.std.proofs.Common.{◌≡◌, ℕ, List, refl, sym, ap, ◌∙◌}
 use Rattle.pas_tree.specs.declared.blocks.Block.{Block, out-Block, is-Block', Row_of-Routine, end_of-Routine, more_of-Routine}
 use Rattle.pas_tree.specs.declared.blocks.Block.{items-the_row-Routine, items_hidden-the_row-Routine-0}
-use Rattle.pas_tree.specs.declared.blocks.Body.TheBlock.{hidden-the_row-Routine-0}
+use Rattle.pas_tree.specs.declared.blocks.RoutineBody.TheBlock.{hidden-the_row-Routine-0}
 use Rattle.pas_tree.specs.declared.blocks.Routine.{Routine}
 use Rattle.pas_tree.specs.declared.statements.Compound.{out-Compound}
 use Rattle.check_steps.specs.Steps.{Step, ◌>>=◌, each}

@@ -3,7 +3,7 @@ use Rattle.std.specs.Prelude.{ℕ, Bool}
 use Rattle.pas_tree.specs.declared.blocks.Block.{Block, Block' as BlockTree', Row_of-Routine}
 use Rattle.pas_tree.specs.declared.blocks.Block.{end_of-Routine, more_of-Routine}
 use Rattle.pas_tree.specs.declared.blocks.Routine.{Routine}
-use Rattle.pas_tree.specs.declared.blocks.Body.{Body, Directive, Block'}
+use Rattle.pas_tree.specs.declared.blocks.RoutineBody.{RoutineBody, Directive, Block'}
 use Rattle.pas_tree.specs.declared.statements.Compound.{Compound, out-Compound}
 use Rattle.check_steps.specs.declared.regions.Span.{Span}
 use Rattle.check_steps.specs.Steps.{Step, give, ◌>>=◌, look, enter_block}
@@ -37,7 +37,7 @@ abbrev mutual
     code_routines rest
 
   -- what stands after the heading of a function or a procedure with this name
-  pub code_body : Bool → ℕ → Body → Step (Unit {0})
+  pub code_body : Bool → ℕ → RoutineBody → Step (Unit {0})
   code_body function name (Directive directive) = give tt
   code_body function name (Block' _ b) = do
     frame ← look (λ k. own_frame k (name_in_first k name))

@@ -10,7 +10,7 @@ use check_steps::{Span, Work};
 use decl_checker::routines::own_frame;
 use heading_checker::is_function;
 use pas_places::heading_name;
-use pas_tree::blocks::{Block, Body, Routine};
+use pas_tree::blocks::{Block, Routine, RoutineBody};
 use pas_tree::statements::Compound;
 use statement_checker::statements::check_compound;
 use statement_rules::labels::reach_all;
@@ -67,12 +67,17 @@ fn check_routine(work: &mut Work, routine: &Routine) -> Result<(), AllocError>
 /// What stands after the heading of a function or a procedure with this name.
 #[cycle(code)]
 #[tactic(auto, using(check_steps::proofs::Runs::steps))]
-fn check_body(work: &mut Work, body: &Body, function: bool, name: u32) -> Result<(), AllocError>
+fn check_body(
+    work: &mut Work,
+    body: &RoutineBody,
+    function: bool,
+    name: u32,
+) -> Result<(), AllocError>
     ensures { IfOk result (λ _. Does (code_body function name body.now) tt work.old work.new) }
 {
     match body {
-        Body::Directive(_) => Ok(()),
-        Body::Block(block) => {
+        RoutineBody::Directive(_) => Ok(()),
+        RoutineBody::Block(block) => {
             let frame = own_frame(&work.tables, name_in_first(&work.tables, name));
             check_code(work, block, frame)?;
             check_result(work, function, name);

@@ -11,7 +11,7 @@ use Rattle.program_meaning.specs.Replay.{Replayed}
 use Rattle.command_words.specs.Meaning.{Requested}
 use Rattle.answer_book.specs.declared.entries.Entry.{Entry}
 use Rattle.answer_book.specs.Entries.{standing_answers}
-use Rattle.optimal_query.specs.declared.state.State.TheVariants.{Found}
+use Rattle.optimal_query.specs.declared.state.SearchState.TheVariants.{Found}
 use Rattle.optimal_query.specs.Laws.{IsAtFault}
 use Rattle.dialog_replies.specs.Subject.{state_after}
 use Rattle.ask_session.specs.Dialog.{transcript}

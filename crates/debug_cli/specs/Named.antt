@@ -16,7 +16,7 @@ use Rattle.session_file.specs.declared.session.LoadFault.{LoadFault}
 use Rattle.session_file.specs.declared.session.Session.{Session}
 use Rattle.session_file.specs.Reading.{session_of}
 use Rattle.session_book.specs.declared.start.Start.{Start}
-use Rattle.debuggee.specs.declared.refusal.Refusal.{Refusal}
+use Rattle.debuggee.specs.declared.refusal.SourceRefusal.{SourceRefusal}
 use Rattle.debuggee.specs.Program.{IsProgram, NoProgram, Refuses}
 use Rattle.debuggee.specs.Execution.{execution_of}
 use Rattle.debuggee.specs.Limits.{input_bytes, most_steps}
@@ -115,7 +115,7 @@ pub record SourceRefused (m : Meant) (files : Option FileMap) : Type 0 where
   pub bytes : List ℕ
   pub source : IsSource m files bytes
   pub none : NoProgram bytes
-  pub why : Refusal
+  pub why : SourceRefusal
   pub line : ℕ
   pub byte : ℕ
   pub place : Refuses bytes why line byte

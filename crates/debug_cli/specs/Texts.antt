@@ -1,11 +1,11 @@
 -- What is printed of words, files, sources and sessions that are refused.
 use Rattle.std.specs.Prelude.{ℕ, List, [], ◌++◌, codes, decimal}
-use Rattle.debuggee.specs.declared.refusal.Refusal.{Refusal}
-use Rattle.debuggee.specs.declared.refusal.Refusal.TheVariants as refusal
+use Rattle.debuggee.specs.declared.refusal.SourceRefusal.{SourceRefusal}
+use Rattle.debuggee.specs.declared.refusal.SourceRefusal.TheVariants as refusal
 use Rattle.edge_ports.specs.declared.ports.FetchFault.{FetchFault}
 use Rattle.edge_ports.specs.declared.ports.FetchFault.TheVariants as fetch
-use Rattle.session_file.specs.declared.session.Field.{Field}
-use Rattle.session_file.specs.declared.session.Field.TheVariants as field
+use Rattle.session_file.specs.declared.session.SessionField.{SessionField}
+use Rattle.session_file.specs.declared.session.SessionField.TheVariants as field
 use Rattle.session_file.specs.declared.session.LoadFault.{LoadFault}
 use Rattle.session_file.specs.declared.session.LoadFault.TheVariants as load
 
@@ -29,7 +29,7 @@ file_line (fetch.TooLong limit) name = too_long_line name
 file_line fetch.Memory name = []
 
 -- the name of a reason for which a source is refused
-abbrev pub refusal_name : Refusal → List ℕ
+abbrev pub refusal_name : SourceRefusal → List ℕ
 refusal_name refusal.BadByte = codes "BadByte"
 refusal_name refusal.OpenComment = codes "OpenComment"
 refusal_name refusal.OpenString = codes "OpenString"
@@ -43,18 +43,18 @@ refusal_name (refusal.Rule rule) = codes "Rule"
 refusal_name refusal.TooBig = codes "TooBig"
 
 -- why a source is refused: the reason's name, and after it the number of a rule
-abbrev pub refusal_text : Refusal → List ℕ
+abbrev pub refusal_text : SourceRefusal → List ℕ
 refusal_text (refusal.Rule rule) = codes "Rule " ++ decimal rule
 refusal_text why = refusal_name why
 
 -- a source that is no program of the language, at a place of it
-abbrev pub refused_line : Refusal → (line byte : ℕ) → List ℕ
+abbrev pub refused_line : SourceRefusal → (line byte : ℕ) → List ℕ
 refused_line why line byte =
     codes "refused: " ++ refusal_text why ++ codes ", line " ++ decimal line ++ codes ", byte " ++ decimal byte
     ++ codes "\n"
 
 -- the key of a field of a session's text
-abbrev pub field_key : Field → List ℕ
+abbrev pub field_key : SessionField → List ℕ
 field_key field.Version = codes "version"
 field_key field.Source = codes "source"
 field_key field.Input = codes "input"

@@ -7,7 +7,7 @@ ghost use Rattle.debug_cli.specs.Texts.{file_line, refused_line, session_line};
 
 use crate::status::{Status, give_text};
 use crate::texts::{absent_text, failed_text, refused_text, session_text, too_long_text};
-use debuggee::Refusal;
+use debuggee::SourceRefusal;
 use edge_ports::{Bytes, FetchFault, Sink};
 use session_file::LoadFault;
 use std::alloc::{AllocError, Global};
@@ -15,7 +15,7 @@ use std::alloc::{AllocError, Global};
 /// Says why and where a source is refused.
 pub fn refuse_source<O: Sink>(
     alloc: Global,
-    why: Refusal,
+    why: SourceRefusal,
     line: u32,
     byte: u32,
     screen: &mut O,

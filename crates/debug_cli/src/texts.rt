@@ -4,10 +4,10 @@ ghost use Rattle.debug_cli.specs.Texts.{absent_line, failed_line, too_long_line}
 ghost use Rattle.debug_cli.specs.Texts.{field_key, refusal_name, refusal_text, refused_line, session_line};
 
 use cell_names::write_number;
-use debuggee::Refusal;
+use debuggee::SourceRefusal;
 use edge_ports::Bytes;
 use itoa::Buffer;
-use session_file::{Field, LoadFault};
+use session_file::{LoadFault, SessionField};
 use std::alloc::{AllocError, Global};
 
 /// Begin, name and line end.
@@ -43,30 +43,30 @@ pub fn too_long_text(alloc: Global, name: &[u8]) -> Result<Bytes, AllocError>
 }
 
 /// The name of a reason for which a source is refused.
-fn refusal_name(why: Refusal) -> &'static str
+fn refusal_name(why: SourceRefusal) -> &'static str
     ensures { result.now ≡ refusal_name why }
 {
     match why {
-        Refusal::BadByte => "BadByte",
-        Refusal::OpenComment => "OpenComment",
-        Refusal::OpenString => "OpenString",
-        Refusal::EmptyString => "EmptyString",
-        Refusal::RealWord => "RealWord",
-        Refusal::TooLarge => "TooLarge",
-        Refusal::Joined => "Joined",
-        Refusal::NotProgram => "NotProgram",
-        Refusal::TooDeep => "TooDeep",
-        Refusal::Rule(_) => "Rule",
-        Refusal::TooBig => "TooBig",
+        SourceRefusal::BadByte => "BadByte",
+        SourceRefusal::OpenComment => "OpenComment",
+        SourceRefusal::OpenString => "OpenString",
+        SourceRefusal::EmptyString => "EmptyString",
+        SourceRefusal::RealWord => "RealWord",
+        SourceRefusal::TooLarge => "TooLarge",
+        SourceRefusal::Joined => "Joined",
+        SourceRefusal::NotProgram => "NotProgram",
+        SourceRefusal::TooDeep => "TooDeep",
+        SourceRefusal::Rule(_) => "Rule",
+        SourceRefusal::TooBig => "TooBig",
     }
 }
 
 /// Appends why a source is refused, with the number of a rule.
-fn write_refusal(out: &mut Bytes, why: Refusal) -> Result<(), AllocError>
+fn write_refusal(out: &mut Bytes, why: SourceRefusal) -> Result<(), AllocError>
     ensures { OnOk result (out.new ≡ out.old ++ refusal_text why) }
 {
     match why {
-        Refusal::Rule(rule) => {
+        SourceRefusal::Rule(rule) => {
             out.append(b"Rule ")?;
             write_number(out, rule)?;
         }
@@ -76,7 +76,12 @@ fn write_refusal(out: &mut Bytes, why: Refusal) -> Result<(), AllocError>
 }
 
 /// The line on a source that is refused for this reason at this place.
-pub fn refused_text(alloc: Global, why: Refusal, line: u32, byte: u32) -> Result<Bytes, AllocError>
+pub fn refused_text(
+    alloc: Global,
+    why: SourceRefusal,
+    line: u32,
+    byte: u32,
+) -> Result<Bytes, AllocError>
     ensures { IfOk result (λ text. text ≡ refused_line why line byte) }
 {
     let mut text = Bytes::new(alloc);
@@ -91,15 +96,15 @@ pub fn refused_text(alloc: Global, why: Refusal, line: u32, byte: u32) -> Result
 }
 
 /// The key of a field of a session's text.
-fn field_key(field: Field) -> &'static str
+fn field_key(field: SessionField) -> &'static str
     ensures { result.now ≡ field_key field }
 {
     match field {
-        Field::Version => "version",
-        Field::Source => "source",
-        Field::Input => "input",
-        Field::Budget => "budget",
-        Field::Entries => "entries",
+        SessionField::Version => "version",
+        SessionField::Source => "source",
+        SessionField::Input => "input",
+        SessionField::Budget => "budget",
+        SessionField::Entries => "entries",
     }
 }
 

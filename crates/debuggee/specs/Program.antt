@@ -14,8 +14,8 @@ use Rattle.source_checker.specs.declared.programs.ProgramFault.TheVariants as re
 use Rattle.source_checker.specs.Declarations.{IsTextOf}
 use Rattle.source_checker.specs.Places.{TokenBegins}
 use Rattle.source_checker.specs.Programs.{IsBrokenAt, IsChecked, IsUnchecked}
-use Rattle.debuggee.specs.declared.refusal.Refusal.{Refusal}
-use Rattle.debuggee.specs.declared.refusal.Refusal.TheVariants as refusal
+use Rattle.debuggee.specs.declared.refusal.SourceRefusal.{SourceRefusal}
+use Rattle.debuggee.specs.declared.refusal.SourceRefusal.TheVariants as refusal
 use Rattle.debuggee.specs.declared.source.SourceFault.{SourceFault}
 use Rattle.debuggee.specs.declared.source.SourceFault.TheVariants.{Refused, Memory}
 use Rattle.debuggee.specs.declared.source.SourceProgram.{SourceProgram}
@@ -39,7 +39,7 @@ NoProgram source = (t : Lexed) (p : ProgramRows) → IsProgram source t p → �
 -- ---- why and where a source is refused
 
 -- its first piece that does not fit, which begins at this byte, fails for this reason
-abbrev pub PieceFailsFor : List ℕ → Refusal → (byte : ℕ) → Type 0
+abbrev pub PieceFailsFor : List ℕ → SourceRefusal → (byte : ℕ) → Type 0
 PieceFailsFor source refusal.BadByte byte = IsFault source (lexis.BadByte byte)
 PieceFailsFor source refusal.OpenComment byte = IsFault source (lexis.OpenComment byte)
 PieceFailsFor source refusal.OpenString byte = IsFault source (lexis.OpenString byte)
@@ -50,23 +50,23 @@ PieceFailsFor source refusal.Joined byte = IsFault source (lexis.Joined byte)
 PieceFailsFor source _ byte = ⊥
 
 -- a piece does not fit
-abbrev pub RefusesPiece : List ℕ → Refusal → (line byte : ℕ) → Type 0
+abbrev pub RefusesPiece : List ℕ → SourceRefusal → (line byte : ℕ) → Type 0
 RefusesPiece source why line byte = PieceFailsFor source why byte × (line ≡ line_at source byte)
 
 -- Tokens are refused at this one: it is the first that is too deep, or else the first with which no tree of the grammar
 -- goes on.
-abbrev pub RefusesAt : Lexed → Refusal → (number : ℕ) → Type 0
+abbrev pub RefusesAt : Lexed → SourceRefusal → (number : ℕ) → Type 0
 RefusesAt t refusal.NotProgram number = IsExact t.tokens (Err (parser.NotProgram number))
 RefusesAt t refusal.TooDeep number = IsExact t.tokens (Err (parser.TooDeep number))
 RefusesAt t _ number = ⊥
 
 -- they are refused at a token that stands there
-abbrev pub RefusesToken : Lexed → Refusal → (line byte : ℕ) → Type 0
+abbrev pub RefusesToken : Lexed → SourceRefusal → (line byte : ℕ) → Type 0
 RefusesToken t why line byte = (number : ℕ) × TokenBegins t number line byte × RefusesAt t why number
 
 -- They are the text of a tree in which this is the first broken rule, or the first that is too big where no rule is
 -- broken; and what is broken stands at this byte, on this line.
-abbrev pub RefusesTree : Lexed → Refusal → (line byte : ℕ) → Type 0
+abbrev pub RefusesTree : Lexed → SourceRefusal → (line byte : ℕ) → Type 0
 RefusesTree t (refusal.Rule rule) line byte =
     (x : Tree) × IsTextOf t x × IsBrokenAt t x (fault.Rule rule) line byte
 RefusesTree t refusal.TooBig line byte = (x : Tree) × IsTextOf t x × IsBrokenAt t x fault.TooBig line byte
@@ -74,7 +74,7 @@ RefusesTree t _ line byte = ⊥
 
 -- A source is refused at the first piece that does not fit; or, where all pieces fit, at a token: for the grammar,
 -- or for a rule.
-abbrev pub Refuses : List ℕ → Refusal → (line byte : ℕ) → Type 0
+abbrev pub Refuses : List ℕ → SourceRefusal → (line byte : ℕ) → Type 0
 Refuses source why line byte =
     RefusesPiece source why line byte
     ⊎ ((t : Lexed) × (t.source ≡ source) × IsLexed source t.tokens

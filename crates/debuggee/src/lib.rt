@@ -6,6 +6,6 @@ mod refusal;
 mod runs;
 mod source;
 
-pub use refusal::Refusal;
+pub use refusal::SourceRefusal;
 pub use runs::Debuggee;
 pub use source::{INPUT_BYTES, SourceFault, SourceProgram, read_source, run_program};

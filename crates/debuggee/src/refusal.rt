@@ -2,7 +2,7 @@
 
 /// Why a source is refused: the name that is printed.
 #[derive(Clone, Copy, Debug, PartialEq, Eq)]
-pub enum Refusal {
+pub enum SourceRefusal {
     /// No piece of a source begins with this byte.
     BadByte,
     /// A comment is not closed.

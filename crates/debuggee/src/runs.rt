@@ -9,7 +9,7 @@ ghost use Rattle.std.proofs.Props.{props};
 
 use body_replay::replay;
 use call_tree::{Calls, Mark};
-use cell_names::Names;
+use cell_names::NameFinder;
 use cell_value::Steps;
 use dialog_replies::Debugged;
 use edge_ports::{Bytes, Memory};
@@ -31,7 +31,7 @@ pub struct Debuggee<'a> {
     /// What the run left: the calls, in order of entry; call 0 is the program.
     pub history: History,
     /// What is found by its place in the program, and in the heap of its run.
-    pub names: Names,
+    pub names: NameFinder,
     // What is kept of the run is all that of the program's run, whose input and budget are not too large.
     pub ghost short: { length input.now ≤ input_bytes },
     pub ghost few_steps: { history.budget ≤ most_steps },

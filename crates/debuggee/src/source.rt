@@ -12,9 +12,9 @@ ghost use Rattle.debuggee.specs.Program.{fault_of_check, TokensAre};
 ghost use Rattle.debuggee.specs.Execution.{execution, execution_of};
 ghost use Rattle.debuggee.specs.Limits.{input_bytes, most_steps};
 
-use crate::refusal::Refusal;
+use crate::refusal::SourceRefusal;
 use crate::runs::Debuggee;
-use cell_names::Names;
+use cell_names::NameFinder;
 use pas_lexer::{LexFault, Tokens, lex, line_at};
 use program_meaning::{every_program_runs, every_run_has_a_call};
 use program_run::{calls_are_told, run};
@@ -42,7 +42,11 @@ pub enum SourceFault {
     /// The source is no program of the language, or it breaks a static rule. The line is counted from 1, the byte from
     /// 0.
     #[error("refused at line {line}, byte {byte}")]
-    Refused { why: Refusal, line: u32, byte: u32 },
+    Refused {
+        why: SourceRefusal,
+        line: u32,
+        byte: u32,
+    },
     /// Memory ran out.
     #[error("out of memory")]
     Memory,
@@ -59,7 +63,7 @@ impl From<AllocError> for SourceFault {
 }
 
 /// The refusal of a source at a piece that does not fit.
-fn refused_at(source: &[u8], why: Refusal, byte: u32) -> SourceFault
+fn refused_at(source: &[u8], why: SourceRefusal, byte: u32) -> SourceFault
     requires { length source.now ≤ source_bytes }
     ensures { result ≡ Refused why (line_at source.now byte) byte }
 {
@@ -78,13 +82,13 @@ fn misfit(source: &[u8], fault: LexFault) -> SourceFault
     ensures memory { fault ≡ LexFault.Memory → result ≡ Memory }
 {
     match fault {
-        LexFault::BadByte(byte) => refused_at(source, Refusal::BadByte, byte),
-        LexFault::OpenComment(byte) => refused_at(source, Refusal::OpenComment, byte),
-        LexFault::OpenString(byte) => refused_at(source, Refusal::OpenString, byte),
-        LexFault::EmptyString(byte) => refused_at(source, Refusal::EmptyString, byte),
-        LexFault::RealWord(byte) => refused_at(source, Refusal::RealWord, byte),
-        LexFault::TooLarge(byte) => refused_at(source, Refusal::TooLarge, byte),
-        LexFault::Joined(byte) => refused_at(source, Refusal::Joined, byte),
+        LexFault::BadByte(byte) => refused_at(source, SourceRefusal::BadByte, byte),
+        LexFault::OpenComment(byte) => refused_at(source, SourceRefusal::OpenComment, byte),
+        LexFault::OpenString(byte) => refused_at(source, SourceRefusal::OpenString, byte),
+        LexFault::EmptyString(byte) => refused_at(source, SourceRefusal::EmptyString, byte),
+        LexFault::RealWord(byte) => refused_at(source, SourceRefusal::RealWord, byte),
+        LexFault::TooLarge(byte) => refused_at(source, SourceRefusal::TooLarge, byte),
+        LexFault::Joined(byte) => refused_at(source, SourceRefusal::Joined, byte),
         LexFault::Memory => SourceFault::Memory,
     }
 }
@@ -107,10 +111,10 @@ fn fault_of_check(fault: ProgramFault) -> SourceFault
     ensures { result ≡ fault_of_check fault }
 {
     let (why, line, byte) = match fault {
-        ProgramFault::NotProgram { line, byte } => (Refusal::NotProgram, line, byte),
-        ProgramFault::TooDeep { line, byte } => (Refusal::TooDeep, line, byte),
-        ProgramFault::Rule { rule, line, byte } => (Refusal::Rule(rule), line, byte),
-        ProgramFault::TooBig { line, byte } => (Refusal::TooBig, line, byte),
+        ProgramFault::NotProgram { line, byte } => (SourceRefusal::NotProgram, line, byte),
+        ProgramFault::TooDeep { line, byte } => (SourceRefusal::TooDeep, line, byte),
+        ProgramFault::Rule { rule, line, byte } => (SourceRefusal::Rule(rule), line, byte),
+        ProgramFault::TooBig { line, byte } => (SourceRefusal::TooBig, line, byte),
         ProgramFault::Memory => return SourceFault::Memory,
     };
     SourceFault::Refused { why, line, byte }
@@ -171,7 +175,7 @@ pub fn run_program<'a>(
         return Err(AllocError);
     }
     let history = run(alloc, &program, input, budget)?;
-    let names = Names::new(alloc, &program, tokens.len(), &history.log)?;
+    let names = NameFinder::new(alloc, &program, tokens.len(), &history.log)?;
     Ok(Debuggee {
         tokens,
         program,

@@ -3,7 +3,7 @@ use Rattle.std.specs.Prelude.{ℕ, ◌+◌, Bool, false, List, Option, Some, Non
 use Rattle.pas_tree.specs.declared.blocks.Block.{Block, Block' as BlockTree', Row_of-Routine}
 use Rattle.pas_tree.specs.declared.blocks.Block.{end_of-Routine, more_of-Routine, items-the_row-Routine}
 use Rattle.pas_tree.specs.declared.blocks.Routine.{Routine}
-use Rattle.pas_tree.specs.declared.blocks.Body.{Body, Directive, Block'}
+use Rattle.pas_tree.specs.declared.blocks.RoutineBody.{RoutineBody, Directive, Block'}
 use Rattle.pas_tree.specs.declared.headings.Heading.{Heading}
 use Rattle.pas_tree.specs.declared.statements.Compound.{out-Compound}
 use Rattle.program_tables.specs.declared.program.Routine.{Routine as RoutineRow}
@@ -37,7 +37,7 @@ open_routine frame name = do
   level ← look (λ k. one_deeper (frame_at k frame).level)
   open_region name (Some frame) level
 
-abbrev pub define_body : ℕ → Body → Step (Unit {0})
+abbrev pub define_body : ℕ → RoutineBody → Step (Unit {0})
 define_body frame (Directive directive) = give tt
 define_body frame (Block' _ b) = define_block frame b
 
@@ -46,7 +46,7 @@ define_completion frame None = give tt
 define_completion frame (Some r) = define_body frame r.body
 
 -- The formals and the block of a routine are one region; the block may be that of a later heading.
-unfoldable pub define_inside : ℕ → Heading → Body → Option Routine → Step (Unit {0})
+unfoldable pub define_inside : ℕ → Heading → RoutineBody → Option Routine → Step (Unit {0})
 define_inside frame h body completion = do
   _ ← define_formals_at frame h
   _ ← define_body frame body
@@ -141,7 +141,7 @@ abbrev mutual
     _ ← body_in e body
     routines_in frame rs rest
 
-  pub body_in : Entered → Body → Step (Unit {0})
+  pub body_in : Entered → RoutineBody → Step (Unit {0})
   body_in e (Directive directive) = give tt
   body_in e (Block' _ b) = block e.frame e.number e.place b
 

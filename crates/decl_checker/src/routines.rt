@@ -9,12 +9,12 @@ ghost use Rattle.decl_checker.specs.Routines.{open_routine, own_frame, place_aft
 ghost use Rattle.decl_checker.specs.Routines.{routine};
 
 use crate::blocks::{check_parts, define_block, put_body};
-use crate::scopes::{routine_region, routine_in};
+use crate::scopes::{routine_in, routine_region};
 use check_steps::{Tables, Work};
 use heading_checker::{check_signature, completion_of, define_formals_at, is_function};
 use kind_checker::sizes::place_after;
 use pas_places::{heading_name, heading_word};
-use pas_tree::blocks::{Block, Body, Routine};
+use pas_tree::blocks::{Block, Routine, RoutineBody};
 use pas_tree::headings::Heading;
 use program_tables::Routine as RoutineRow;
 use program_tables::rows::{NameRow, PartRow, Row};
@@ -47,12 +47,12 @@ fn open_routine(work: &mut Work, alloc: Global, frame: u32, name: u32) -> Result
 }
 
 #[tactic(auto, using(check_steps::proofs::Runs::steps))]
-fn define_body(work: &mut Work, body: &Body, frame: u32) -> Result<(), AllocError>
+fn define_body(work: &mut Work, body: &RoutineBody, frame: u32) -> Result<(), AllocError>
     ensures { IfOk result (λ _. Does (define_body frame body.now) tt work.old work.new) }
 {
     match body {
-        Body::Directive(_) => Ok(()),
-        Body::Block(block) => define_block(work, block, frame),
+        RoutineBody::Directive(_) => Ok(()),
+        RoutineBody::Block(block) => define_block(work, block, frame),
     }
 }
 
@@ -241,13 +241,13 @@ fn check_routines(
 fn check_body(
     work: &mut Work,
     alloc: Global,
-    body: &Body,
+    body: &RoutineBody,
     entered: Entered,
 ) -> Result<(), AllocError>
     ensures { IfOk result (λ _. Does (body_in entered body.now) tt work.old work.new) }
 {
     match body {
-        Body::Directive(_) => Ok(()),
-        Body::Block(block) => check_block(work, alloc, block, entered),
+        RoutineBody::Directive(_) => Ok(()),
+        RoutineBody::Block(block) => check_block(work, alloc, block, entered),
     }
 }

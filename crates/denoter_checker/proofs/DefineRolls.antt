@@ -16,7 +16,7 @@ use Rattle.pas_tree.specs.declared.denoters.Variants.{Variants, out-Variants, is
 use Rattle.pas_tree.specs.declared.denoters.Variants.{items-the_row-NextArm, items_hidden-the_row-NextArm-2}
 use Rattle.pas_tree.specs.declared.denoters.NextArm.{NextArm}
 use Rattle.check_steps.specs.Steps.{Step, give, ◌>>=◌, each}
-use Rattle.kind_checker.specs.declared.names.Kind.TheVariants as kind
+use Rattle.kind_checker.specs.declared.names.NameKind.TheVariants as kind
 use Rattle.kind_checker.specs.Names.{define_name, each_name}
 use Rattle.denoter_checker.specs.declared.defines.Wanted.{Wanted}
 use Rattle.denoter_checker.specs.Defines.{by, define_array, define_arms, define_denoter, define_fixed, define_fixed_part, define_in_fields}

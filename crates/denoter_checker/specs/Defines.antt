@@ -20,7 +20,7 @@ use Rattle.pas_tree.specs.declared.denoters.Tag.{Tag}
 use Rattle.pas_tree.specs.declared.denoters.TagField.{TagField}
 use Rattle.check_steps.specs.Known.{frame_at}
 use Rattle.check_steps.specs.Steps.{Step, give, ◌>>=◌, look, each}
-use Rattle.kind_checker.specs.declared.names.Kind.TheVariants as kind
+use Rattle.kind_checker.specs.declared.names.NameKind.TheVariants as kind
 use Rattle.kind_checker.specs.Names.{define_name, each_name}
 use Rattle.denoter_checker.specs.declared.defines.Wanted.{Wanted}
 use Rattle.denoter_checker.specs.declared.defines.Wanted.TheVariants as wanted

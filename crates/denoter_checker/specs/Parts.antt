@@ -14,7 +14,7 @@ use Rattle.check_steps.specs.declared.regions.Def.TheVariants as def
 use Rattle.check_steps.specs.Known.{Known, frame_at, row_at}
 use Rattle.check_steps.specs.Steps.{Step, give, ◌>>=◌, look, put, too_big, each}
 use Rattle.check_steps.specs.Names.{define_in}
-use Rattle.kind_checker.specs.declared.names.Kind.TheVariants as name
+use Rattle.kind_checker.specs.declared.names.NameKind.TheVariants as name
 use Rattle.kind_checker.specs.declared.types.Scope.{Scope}
 use Rattle.kind_checker.specs.Names.{define_name, each_name}
 use Rattle.kind_checker.specs.Sizes.{frame_capped}

@@ -14,8 +14,8 @@ use Rattle.program_tables.specs.declared.rows.ItemRow.TheVariants as item
 use Rattle.check_steps.specs.Known.{Known, is_chosen, row_at, type_at}
 use Rattle.check_steps.specs.Steps.{Step, give, ◌>>=◌, add_chosen, look, late, put, each}
 use Rattle.pas_places.specs.Denoters.{first_of_constant}
-use Rattle.kind_checker.specs.declared.constants.Value.{Value}
-use Rattle.kind_checker.specs.declared.constants.Value.TheVariants.{Ordinal, Text}
+use Rattle.kind_checker.specs.declared.constants.ConstantValue.{ConstantValue}
+use Rattle.kind_checker.specs.declared.constants.ConstantValue.TheVariants.{Ordinal, Text}
 use Rattle.kind_checker.specs.Constants.{constant}
 use Rattle.kind_checker.specs.Sizes.{capped, host_of}
 use Rattle.kind_checker.specs.Types.{named_type, ordinal}
@@ -50,13 +50,13 @@ tag_part p (Some f) name = named_tag p f.name name
 -- ---- lists of the values that choose
 
 -- A case constant of unknown value, and one for a selector or tag of unknown type, breaks no further rule.
-abbrev pub is_choice : Known → Choosing → Option Value → Bool
+abbrev pub is_choice : Known → Choosing → Option ConstantValue → Bool
 is_choice k c None = true
 is_choice k c (Some (Text token)) = is_none (type_at k c.host)
 is_choice k c (Some (Ordinal of' value)) =
     is_none (type_at k c.host) || (nat_eq of' c.host && not (is_chosen k c.list value))
 
-abbrev pub value_if : Bool → Option Value → Option ℤ
+abbrev pub value_if : Bool → Option ConstantValue → Option ℤ
 value_if true (Some (Ordinal of' value)) = Some value
 value_if ok v = None
 

@@ -8,7 +8,7 @@ ghost use Rattle.denoter_checker.specs.Defines.{define_other, define_record, def
 ghost use Rattle.denoter_checker.specs.Defines.{define_structure, define_tag, define_variants};
 
 use check_steps::Work;
-use kind_checker::names::{Kind, define_name, define_names};
+use kind_checker::names::{NameKind, define_name, define_names};
 use pas_tree::denoters::{
     ArrayDenoter, Denoter, Fields, Fixed, NextArm, NextDenoter, NextSection, Section, Structure,
     TagField, Variants,
@@ -30,7 +30,7 @@ fn define_field(work: &mut Work, region: u32, field: &Option<TagField>) -> Resul
 {
     match field {
         None => Ok(()),
-        Some(field) => define_name(work, region, Kind::Field, field.name),
+        Some(field) => define_name(work, region, NameKind::Field, field.name),
     }
 }
 
@@ -57,7 +57,7 @@ pub fn define_denoter(work: &mut Work, d: &Denoter, region: u32) -> Result<(), A
 {
     match d {
         Denoter::Name(_) => Ok(()),
-        Denoter::Enumeration(e) => define_names(work, region, Kind::Constant, &e.names),
+        Denoter::Enumeration(e) => define_names(work, region, NameKind::Constant, &e.names),
         Denoter::Subrange(_, _, _) => Ok(()),
         Denoter::Pointer(_, _) => Ok(()),
         Denoter::Structure(_, s) => define_structure(work, s, region),
@@ -169,7 +169,7 @@ fn define_section(
     ensures { IfOk result (λ _. Does (define_section wanted region s.now) tt work.old work.new) }
 {
     match wanted {
-        Wanted::Fields => define_names(work, region, Kind::Field, &s.names),
+        Wanted::Fields => define_names(work, region, NameKind::Field, &s.names),
         Wanted::Constants => define_denoter(work, &s.denoter, region),
     }
 }

@@ -12,7 +12,7 @@ use crate::defines::define_denoter;
 use crate::denoters::check_denoter;
 use check_steps::{Def, Definition, Tables, Work};
 use kind_checker::Scope;
-use kind_checker::names::{Kind, define_names};
+use kind_checker::names::{NameKind, define_names};
 use kind_checker::sizes::place_after;
 use kind_checker::types::type_named;
 use pas_tree::blocks::{TypeDefinition, TypePart, VariableDeclaration, VariablePart};
@@ -155,7 +155,7 @@ pub fn check_types(
 fn define_variable(work: &mut Work, region: u32, d: &VariableDeclaration) -> Result<(), AllocError>
     ensures { IfOk result (λ _. Does (define_variable region tt d.now) tt work.old work.new) }
 {
-    define_names(work, region, Kind::Variable, &d.names)?;
+    define_names(work, region, NameKind::Variable, &d.names)?;
     define_denoter(work, &d.denoter, region)?;
     Ok(())
 }

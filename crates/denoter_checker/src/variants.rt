@@ -9,7 +9,7 @@ ghost use Rattle.denoter_checker.specs.Variants.{next_arm_choices, next_choice, 
 ghost use Rattle.denoter_checker.specs.Variants.{tag_type, value_if, variant_part};
 
 use check_steps::{Tables, Work};
-use kind_checker::Value;
+use kind_checker::ConstantValue;
 use kind_checker::constants::check_constant;
 use kind_checker::sizes::{host_of, offset_after};
 use kind_checker::types::{check_named_type, check_ordinal};
@@ -96,27 +96,27 @@ pub(crate) fn check_tag(work: &mut Work, place: PartPlace, tag: &Tag) -> u32
     }
 }
 
-fn is_choice(tables: &Tables, choosing: Choosing, value: Option<Value>) -> bool
+fn is_choice(tables: &Tables, choosing: Choosing, value: Option<ConstantValue>) -> bool
     ensures { result ≡ is_choice tables.now choosing value }
 {
     match value {
         None => true,
-        Some(Value::Text { .. }) => tables.type_row(choosing.host).is_none(),
-        Some(Value::Ordinal { of, value }) => {
+        Some(ConstantValue::Text { .. }) => tables.type_row(choosing.host).is_none(),
+        Some(ConstantValue::Ordinal { of, value }) => {
             tables.type_row(choosing.host).is_none()
                 || (of == choosing.host && !tables.is_chosen(choosing.list, value))
         }
     }
 }
 
-fn value_if(fine: bool, value: Option<Value>) -> Option<i32>
+fn value_if(fine: bool, value: Option<ConstantValue>) -> Option<i32>
     ensures { result ≡ value_if fine value }
 {
     if !fine {
         return None;
     }
     match value {
-        Some(Value::Ordinal { value, .. }) => Some(value),
+        Some(ConstantValue::Ordinal { value, .. }) => Some(value),
         _ => None,
     }
 }

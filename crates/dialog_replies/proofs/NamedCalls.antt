@@ -8,8 +8,8 @@ use Rattle.answer_book.specs.Entries.{standing_answers}
 use Rattle.answer_book.specs.Marks.{mark_of, marks_of}
 use Rattle.answer_book.specs.Numbers.{numbers_below}
 use Rattle.answer_book.proofs.LastWhere.{last_where_is}
-use Rattle.optimal_query.specs.declared.state.State.{State}
-use Rattle.optimal_query.specs.declared.state.State.TheVariants.{Ask, Found, Narrowed, NothingWrong, Unclear}
+use Rattle.optimal_query.specs.declared.state.SearchState.{SearchState}
+use Rattle.optimal_query.specs.declared.state.SearchState.TheVariants.{Ask, Found, Narrowed, NothingWrong, Unclear}
 use Rattle.optimal_query.specs.Question.{leaves_least, question_of}
 use Rattle.optimal_query.specs.Region.{doubts_of, is_after, next_after, suspects_of}
 use Rattle.optimal_query.specs.Search.{Search, answers_in, next_doubt}
@@ -32,7 +32,7 @@ doubts_rise last marks accused =
     filter_rises _ 0 (length last) _ (filter_rises (is_searched last marks accused) 0 (length last) (numbers_below (length last)) (numbers_rise (length last)))
 
 -- the call that a state names, if it names one, is below a number
-abbrev pub NamesBelow : ℕ → State → Type 0
+abbrev pub NamesBelow : ℕ → SearchState → Type 0
 NamesBelow n (Ask call weight suspects left) = call < n
 NamesBelow n (Found call) = call < n
 NamesBelow n (Narrowed call) = call < n
@@ -45,7 +45,7 @@ verdict_below n (Some a) (d ∷ ds) h = h a refl
 verdict_below n None [] h = tt
 verdict_below n None (d ∷ ds) h = tt
 
-asked_below : (n : ℕ) (last suspects : List ℕ) (question : Option ℕ) (verdict : State) → ((call : ℕ) → question ≡ Some call → call < n)
+asked_below : (n : ℕ) (last suspects : List ℕ) (question : Option ℕ) (verdict : SearchState) → ((call : ℕ) → question ≡ Some call → call < n)
     → NamesBelow n verdict → NamesBelow n (state_by last suspects question verdict)
 asked_below n last suspects (Some call) verdict h v = h call refl
 asked_below n last suspects None verdict h v = v
@@ -69,7 +69,7 @@ state_below last routine answers same =
     (verdict_below (length last) accused (doubts_of last marks accused) (λ a h. subst (λ n. a < n) same (accused_below routine answers a h)))
 
 -- the calls that the state names
-pub names_a_call : (s : Subject) (entries : List Entry) (state : State) → length s.tree.routine ≡ length s.tree.last
+pub names_a_call : (s : Subject) (entries : List Entry) (state : SearchState) → length s.tree.routine ≡ length s.tree.last
     → state ≡ state_after s entries → NamesBelow (calls_recorded s) state
 names_a_call s entries state same is =
     subst (NamesBelow (calls_recorded s)) (sym is) (state_below s.tree.last s.tree.routine (standing_answers entries) same)
@@ -79,7 +79,7 @@ pub routines_match : (s : Subject) (search : Search) → IsSearchOf s search →
 routines_match s search h = sym (ap length h.routine) ∙ h.of_routines ∙ ap length h.last
 
 -- the call that a state of this search names
-pub named_below : (s : Subject) (search : Search) (state : State) → IsSearchOf s search → state ≡ state_after s search.book.entries
+pub named_below : (s : Subject) (search : Search) (state : SearchState) → IsSearchOf s search → state ≡ state_after s search.book.entries
     → NamesBelow (calls_recorded s) state
 named_below s search state h is = names_a_call s search.book.entries state (routines_match s search h) is
 

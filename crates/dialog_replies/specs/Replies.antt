@@ -9,8 +9,8 @@ use Rattle.answer_book.specs.declared.entries.What.{What}
 use Rattle.answer_book.specs.declared.entries.What.TheVariants.{Judged, Trusted}
 use Rattle.answer_book.specs.Answers.{judge_answer, take_back_answer, take_back_last_answer, trust_answer}
 use Rattle.answer_book.specs.Entries.{entries_with, entries_without}
-use Rattle.optimal_query.specs.declared.state.State.{State}
-use Rattle.optimal_query.specs.declared.state.State.TheVariants.{Ask}
+use Rattle.optimal_query.specs.declared.state.SearchState.{SearchState}
+use Rattle.optimal_query.specs.declared.state.SearchState.TheVariants.{Ask}
 use Rattle.dialog_lines.specs.declared.instructions.Instruction.{Instruction}
 use Rattle.dialog_lines.specs.declared.instructions.Instruction.TheVariants as asked
 use Rattle.dialog_replies.specs.Subject.{Subject, book_of, calls_recorded, routine_named, state_after}
@@ -50,7 +50,7 @@ abbrev pub judges : Subject → List Entry → Judgement → ℕ → LineOutcome
 judges s entries judgement call = adds s entries (Judged call judgement) (judge_answer (book_of s entries) call)
 
 -- a judgement on the call that is asked about
-abbrev pub judges_asked : Subject → List Entry → Judgement → State → LineOutcome
+abbrev pub judges_asked : Subject → List Entry → Judgement → SearchState → LineOutcome
 judges_asked s entries judgement (Ask call weight suspects left) = judges s entries judgement call
 judges_asked s entries judgement state = replied entries (codes "no question\n")
 

@@ -8,7 +8,7 @@ use Rattle.answer_book.specs.Marks.{marks_of}
 use Rattle.answer_book.specs.Numbers.{numbers_below}
 use Rattle.call_tree.specs.declared.records.Mark.{Mark}
 use Rattle.call_tree.specs.Recording.{Recording, lasts_of, parents_of, routines_of}
-use Rattle.optimal_query.specs.declared.state.State.{State}
+use Rattle.optimal_query.specs.declared.state.SearchState.{SearchState}
 use Rattle.optimal_query.specs.Laws.{CallTree, doubts_in, state_in}
 
 -- the columns of the calls of a run, how many routines the program has, and the name of each; the texts on each call:
@@ -30,7 +30,7 @@ abbrev pub calls_recorded : Subject → ℕ
 calls_recorded s = length s.tree.last
 
 -- the state, the doubts and the marks of all calls in order of entry, by the entries that stand
-abbrev pub state_after : Subject → List Entry → State
+abbrev pub state_after : Subject → List Entry → SearchState
 state_after s entries = state_in s.tree (standing_answers entries)
 
 abbrev pub doubts_after : Subject → List Entry → List ℕ

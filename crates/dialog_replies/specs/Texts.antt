@@ -2,8 +2,8 @@
 use Rattle.std.specs.Prelude.{ℕ, List, ◌++◌, codes, decimal, slice_index}
 use Rattle.std.specs.List.{flat_map}
 use Rattle.answer_book.specs.declared.entries.Entry.{Entry}
-use Rattle.optimal_query.specs.declared.state.State.{State}
-use Rattle.optimal_query.specs.declared.state.State.TheVariants.{Ask, Found, Narrowed, NothingWrong, Unclear}
+use Rattle.optimal_query.specs.declared.state.SearchState.{SearchState}
+use Rattle.optimal_query.specs.declared.state.SearchState.TheVariants.{Ask, Found, Narrowed, NothingWrong, Unclear}
 use Rattle.dialog_replies.specs.Subject.{Subject, doubts_after, marks_after, state_after}
 
 -- the routine of a call
@@ -32,7 +32,7 @@ doubt_line s call = codes "  doubt " ++ named_call s call ++ codes "\n"
 abbrev pub doubt_lines : Subject → List Entry → List ℕ
 doubt_lines s entries = flat_map (doubt_line s) (doubts_after s entries)
 
-abbrev pub report_on : Subject → List Entry → State → List ℕ
+abbrev pub report_on : Subject → List Entry → SearchState → List ℕ
 report_on s entries (Ask call weight suspects left) = question_line call suspects left ++ s.card call
 report_on s entries (Found call) = codes "found call " ++ named_call s call ++ codes "\n" ++ s.trace call
 report_on s entries (Narrowed call) =

@@ -14,7 +14,7 @@ use crate::reports::{state_now, write_report};
 use answer_book::{BookFault, Judgement};
 use dialog_lines::Instruction;
 use edge_ports::{Bytes, Memory};
-use optimal_query::{Debug, State};
+use optimal_query::{Debug, SearchState};
 use std::alloc::Global;
 
 /// What a session opens with, as its entries stand: the card of call 0, and a report.
@@ -42,10 +42,11 @@ fn judge_asked<D: Debugged>(
     ensures search { IsSearchOf (D.subject run.now) debug.new }
 {
     match state_now(run, debug) {
-        State::Ask { call, .. } => judge(alloc, run, debug, judgement, call),
-        State::Found(_) | State::Narrowed(_) | State::NothingWrong | State::Unclear => {
-            text_of(alloc, b"no question\n")
-        }
+        SearchState::Ask { call, .. } => judge(alloc, run, debug, judgement, call),
+        SearchState::Found(_)
+        | SearchState::Narrowed(_)
+        | SearchState::NothingWrong
+        | SearchState::Unclear => { text_of(alloc, b"no question\n") }
     }
 }
 

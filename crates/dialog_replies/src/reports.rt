@@ -7,7 +7,7 @@ ghost use Rattle.dialog_replies.specs.Texts.{doubt_line, doubt_lines, question_l
 use crate::calls::{write_named_call, write_number};
 use crate::debugged::Debugged;
 use edge_ports::{Bytes, Memory};
-use optimal_query::{Debug, State};
+use optimal_query::{Debug, SearchState};
 use std::alloc::Global;
 
 /// Appends the line of a question.
@@ -53,7 +53,7 @@ fn write_doubts<D: Debugged>(out: &mut Bytes, run: &D, debug: &Debug) -> Result<
 }
 
 /// The state of the search.
-pub fn state_now<D: Debugged>(run: &D, debug: &Debug) -> State
+pub fn state_now<D: Debugged>(run: &D, debug: &Debug) -> SearchState
     requires { IsSearchOf (D.subject run.now) debug.now }
     ensures { result ≡ state_after (D.subject run.now) debug.now.book.entries }
 {
@@ -72,7 +72,7 @@ pub fn write_report<D: Debugged>(
     ensures { OnOk result (out.new ≡ out.old ++ report (D.subject run.now) debug.now.book.entries) }
 {
     match state_now(run, debug) {
-        State::Ask {
+        SearchState::Ask {
             call,
             suspects,
             left,
@@ -81,20 +81,20 @@ pub fn write_report<D: Debugged>(
             write_question(out, call, suspects, left)?;
             run.write_card(alloc, out, call)
         }
-        State::Found(call) => {
+        SearchState::Found(call) => {
             out.append(b"found call ")?;
             write_named_call(out, run, call)?;
             out.append(b"\n")?;
             run.write_trace(alloc, out, call)
         }
-        State::Narrowed(call) => {
+        SearchState::Narrowed(call) => {
             out.append(b"narrowed to call ")?;
             write_named_call(out, run, call)?;
             out.append(b"\n")?;
             write_doubts(out, run, debug)
         }
-        State::NothingWrong => out.append(b"nothing wrong\n"),
-        State::Unclear => {
+        SearchState::NothingWrong => out.append(b"nothing wrong\n"),
+        SearchState::Unclear => {
             out.append(b"unclear\n")?;
             write_doubts(out, run, debug)
         }

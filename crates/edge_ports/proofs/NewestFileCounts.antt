@@ -8,7 +8,7 @@ use Rattle.std.specs.Cmp.Lexicographic.{slice_cmp, pointwise}
 use Rattle.std.proofs.lemmas.Cmp.{tied_itself, nat_list_cmp_total}
 use Rattle.std.proofs.lemmas.Slice.Eq.{bytes_eq-Decides}
 use Rattle.std.specs.FinMap.{get-insert, get-empty, slice_cmp-IsAntisymmetric, nat_cmp-IsAntisymmetric}
-use Rattle.edge_ports.specs.declared.shelf.Entry.{Entry}
+use Rattle.edge_ports.specs.declared.shelf.ShelvedFile.{ShelvedFile}
 use Rattle.edge_ports.specs.Files.{file_at}
 use Rattle.edge_ports.specs.Entries.{files_of}
 
@@ -27,7 +27,7 @@ tied_by_cmp q k = (
 pub same_key : (q k : List ℕ) → eq_by_cmp (slice_cmp nat_cmp) q k ≡ pointwise eqb k q
 same_key q k = one_answer (eq_by_cmp (slice_cmp nat_cmp) q k) (pointwise eqb k q) (tied_by_cmp q k) (bytes_eq-Decides k q)
 
-pub file_at_newest : (entry : Entry) (entries : List Entry) (name : List ℕ)
+pub file_at_newest : (entry : ShelvedFile) (entries : List ShelvedFile) (name : List ℕ)
     → file_at (files_of (entry ∷ entries)) name ≡ cond (pointwise eqb entry.name.items name) (Some entry.bytes.items) (file_at (files_of entries) name)
 file_at_newest entry entries name =
     get-insert nat_list_cmp_total (files_of entries) entry.name.items entry.bytes.items name

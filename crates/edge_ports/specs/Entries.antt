@@ -1,13 +1,13 @@
 -- The files of a shelf, as the entries that stand for them: the newest entry of a name counts.
 use Rattle.std.specs.Prelude.{ℕ, List, map}
 use Rattle.std.specs.FinMap.{from_entries}
-use Rattle.edge_ports.specs.declared.shelf.Entry.{Entry}
+use Rattle.edge_ports.specs.declared.shelf.ShelvedFile.{ShelvedFile}
 use Rattle.edge_ports.specs.Files.{FileMap}
 
 -- a name and its file
-abbrev pub entry_of : Entry → List ℕ × List ℕ
+abbrev pub entry_of : ShelvedFile → List ℕ × List ℕ
 entry_of entry = (entry.name.items, entry.bytes.items)
 
 -- the files that these entries stand for, the newest first
-abbrev pub files_of : List Entry → FileMap
+abbrev pub files_of : List ShelvedFile → FileMap
 files_of entries = from_entries (map entry_of entries)

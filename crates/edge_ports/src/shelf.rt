@@ -18,7 +18,7 @@ use std::marker::Model;
 
 /// A name and the bytes of its file.
 #[derive(Debug, Drop)]
-pub struct Entry {
+pub struct ShelvedFile {
     name: Vec<u8>,
     bytes: Vec<u8>,
 }
@@ -27,7 +27,7 @@ pub struct Entry {
 #[derive(Debug, Drop)]
 pub struct Shelf {
     alloc: Global,
-    entries: VecDeque<Entry>,
+    entries: VecDeque<ShelvedFile>,
     plan: Plan,
     counts: Counts,
 }
@@ -70,14 +70,14 @@ impl Shelf {
     {
         let name = name.as_bytes().to_vec(self.alloc)?;
         let bytes = bytes.to_vec(self.alloc)?;
-        self.entries.push_front(Entry { name, bytes })?;
+        self.entries.push_front(ShelvedFile { name, bytes })?;
         Ok(())
     }
 }
 
 // The bytes of the newest entry of this name.
 #[tactic(auto, using(crate::proofs::NewestFileCounts::file_at_newest, crate::proofs::NewestFileCounts::file_at_none))]
-fn find<'a>(entries: &'a VecDeque<Entry>, name: &[u8]) -> Option<&'a [u8]>
+fn find<'a>(entries: &'a VecDeque<ShelvedFile>, name: &[u8]) -> Option<&'a [u8]>
     ensures { option_map (λ bytes. bytes.now) result ≡ file_at (files_of entries.now.items) name.now }
 {
     for entry in entries {

@@ -3,7 +3,7 @@ use Rattle.std.proofs.Common.{◌≡◌, ℕ, Option, Some, None, refl}
 use Rattle.program_tables.specs.declared.rows.ExpressionRow.{ExpressionRow}
 use Rattle.program_tables.specs.declared.rows.ExpressionRow.TheVariants as expressions
 use Rattle.program_tables.specs.ProgramRows.{ProgramRows}
-use Rattle.program_meaning.specs.Tree.{Here, Tree}
+use Rattle.program_meaning.specs.Tree.{Here, ActTree}
 use Rattle.program_meaning.specs.Accesses.{eval}
 use Rattle.program_meaning.specs.Expressions.{of_expression, operation_result}
 use Rattle.eval_rules.specs.Operators.{dyadic_in, dyadic_of}
@@ -11,7 +11,7 @@ use Rattle.eval_rules.specs.declared.operators.Dyadic.{Dyadic}
 use Rattle.eval_expressions.specs.Families.{of_operation, of_other}
 
 -- an expression, by its dyadic operator if it has one
-abbrev pub by_dyadic : ProgramRows → Here → ExpressionRow → Option (Dyadic × ℕ × ℕ) → Tree
+abbrev pub by_dyadic : ProgramRows → Here → ExpressionRow → Option (Dyadic × ℕ × ℕ) → ActTree
 by_dyadic p h e (Some (d, left, right)) = eval left h (λ x. eval right h (λ y. operation_result h (dyadic_of d x y)))
 by_dyadic p h e None = of_other p h e
 

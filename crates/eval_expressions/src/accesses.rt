@@ -3,7 +3,7 @@
 ghost use Rattle.std.specs.Prelude.{◌≡◌, ℕ, ◌+◌, slice_get};
 ghost use Rattle.program_tables.specs.ProgramRows.{ProgramRows};
 ghost use Rattle.eval_machine.specs.Machines.{IsReady, Moment, moment_of};
-ghost use Rattle.program_meaning.specs.Tree.{Locate, Sub, Tree, bind, doing};
+ghost use Rattle.program_meaning.specs.Tree.{Locate, Sub, ActTree, bind, doing};
 ghost use Rattle.program_meaning.specs.Cells as action;
 ghost use Rattle.program_meaning.specs.Cells.{cell_out, reference_out};
 ghost use Rattle.program_meaning.specs.Heap.{pointed_at as pointed_at_in};
@@ -20,7 +20,7 @@ use eval_calls::add_cell;
 use eval_cells::{cell_out, component, ordinal_at, read_cells, reference_out, set_at};
 use eval_heap::{pointed_at, pointer_at};
 use eval_machine::{Machine, spend};
-use eval_tasks::{Body, Located, Now, Operand, Part, Task, Turned, Way};
+use eval_tasks::{Body, Located, Now, OperandTask, Part, Task, Turned, Way};
 use eval_variants::field_at;
 use program_meaning::Components;
 use program_tables::Program;
@@ -186,7 +186,7 @@ pub fn continue_access(
         ),
         Located::Index { index, array, line } => match spend(machine, 1) {
             Ok(()) => body.wait(
-                Task::Operand(Operand::Component { array, addr, line }),
+                Task::Operand(OperandTask::Component { array, addr, line }),
                 Now::Begin(Part::Eval { row: index, line }),
             ),
             Err(halt) => body.fail(line, halt),
@@ -222,7 +222,7 @@ fn locate_first(
     target: bool,
     line: u32,
 ) -> Turned
-    ensures turns { (p : ProgramRows) (go : ℕ → Tree) (m : Moment)
+    ensures turns { (p : ProgramRows) (go : ℕ → ActTree) (m : Moment)
         → from_under p body.old (Now.Begin (Part.Locate access target line)) (Task.Located located)
         ≡ bind (Sub (Locate access target (here body.old.home line)) (on_address go)) (waiting p body.old)
         → Turns p (configuration (bind (locate_before row access target (here body.old.home line) go)

@@ -19,7 +19,7 @@ use eval_calls::begin_call;
 use eval_heap::compare_pointers;
 use eval_machine::{Machine, passed, spend};
 use eval_rules::{Dyadic, combine, constant, dyadic_in, type_accessed};
-use eval_tasks::{Body, Located, Now, Operand, Part, Task, Turned, Way};
+use eval_tasks::{Body, Located, Now, OperandTask, Part, Task, Turned, Way};
 use eval_textfiles::{at_end, at_line_end};
 use eval_values::{
     combine_sets, compare_ordinals, compare_sets, is_in, is_true, no_members, ordinal_function,
@@ -127,7 +127,7 @@ fn begin_expression(
 {
     match dyadic_in(expression) {
         Some((dyadic, left, right)) => body.wait(
-            Task::Operand(Operand::Right {
+            Task::Operand(OperandTask::Right {
                 dyadic,
                 right,
                 line,
@@ -180,11 +180,11 @@ fn monadic(body: &mut Body, expression: ExpressionRow, line: u32) -> Turned
 {
     match expression {
         ExpressionRow::Sign { minus, operand } => body.wait(
-            Task::Operand(Operand::Sign { minus, line }),
+            Task::Operand(OperandTask::Sign { minus, line }),
             Now::Begin(Part::Eval { row: operand, line }),
         ),
         ExpressionRow::Not { operand } => body.wait(
-            Task::Operand(Operand::Not),
+            Task::Operand(OperandTask::Not),
             Now::Begin(Part::Eval { row: operand, line }),
         ),
         ExpressionRow::Function {
@@ -193,7 +193,7 @@ fn monadic(body: &mut Body, expression: ExpressionRow, line: u32) -> Turned
             least,
             greatest,
         } => body.wait(
-            Task::Operand(Operand::Function {
+            Task::Operand(OperandTask::Function {
                 function,
                 least,
                 greatest,
@@ -253,7 +253,7 @@ fn designator(body: &mut Body, alloc: Global, expression: ExpressionRow, line: u
 pub fn continue_expression(
     body: &mut Body,
     program: &Program,
-    operand: Operand,
+    operand: OperandTask,
     value: Value,
 ) -> Turned
     ensures turns { (m : Moment) → Turns program.now (configuration (from_under program.now body.old
@@ -264,28 +264,28 @@ pub fn continue_expression(
     ensures home { body.new.home ≡ body.old.home }
 {
     match operand {
-        Operand::Sign { minus, line } => body.scalar(line, passed(sign(minus, value))),
-        Operand::Not => body.go(Now::Came(Way::Scalar(truth(!is_true(value))))),
-        Operand::Right {
+        OperandTask::Sign { minus, line } => body.scalar(line, passed(sign(minus, value))),
+        OperandTask::Not => body.go(Now::Came(Way::Scalar(truth(!is_true(value))))),
+        OperandTask::Right {
             dyadic,
             right,
             line,
         } => body.hold(
             value,
-            Task::Operand(Operand::Both { dyadic, line }),
+            Task::Operand(OperandTask::Both { dyadic, line }),
             Now::Begin(Part::Eval { row: right, line }),
         ),
-        Operand::Both { dyadic, line } => {
+        OperandTask::Both { dyadic, line } => {
             let left = body.take_value();
             body.scalar(line, passed(apply(dyadic, left, value)))
         }
-        Operand::Member { next, line } => gather_member(body, next, line, value),
-        Operand::First { last, next, line } => body.hold(
+        OperandTask::Member { next, line } => gather_member(body, next, line, value),
+        OperandTask::First { last, next, line } => body.hold(
             value,
             Task::Range { next, line },
             Now::Begin(Part::Eval { row: last, line }),
         ),
-        Operand::Function {
+        OperandTask::Function {
             function,
             least,
             greatest,
@@ -294,7 +294,7 @@ pub fn continue_expression(
             let done = ordinal_function(function, least, greatest, value);
             body.scalar(line, passed(done))
         }
-        Operand::Component { array, addr, line } => {
+        OperandTask::Component { array, addr, line } => {
             let found = program.type_row(array);
             locate_component(body, program, found, addr, line, value)
         }

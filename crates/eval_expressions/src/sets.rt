@@ -14,7 +14,7 @@ ghost use Rattle.eval_tasks.specs.Weight.{Falls, body_weight, come, part_weight,
 
 use cell_value::{OpFault, Order, Value};
 use eval_machine::passed;
-use eval_tasks::{Body, Now, Operand, Part, Task, Turned, Way};
+use eval_tasks::{Body, Now, OperandTask, Part, Task, Turned, Way};
 use eval_values::{add_members, compare_texts, string_of};
 use program_tables::Program;
 use program_tables::rows::{ItemRow, Row};
@@ -95,11 +95,11 @@ fn gather_item(body: &mut Body, item: ItemRow, line: u32) -> Turned
 {
     match item {
         ItemRow::Member { value, next } => body.wait(
-            Task::Operand(Operand::Member { next, line }),
+            Task::Operand(OperandTask::Member { next, line }),
             Now::Begin(Part::Eval { row: value, line }),
         ),
         ItemRow::Members { first, last, next } => body.wait(
-            Task::Operand(Operand::First { last, next, line }),
+            Task::Operand(OperandTask::First { last, next, line }),
             Now::Begin(Part::Eval { row: first, line }),
         ),
         _ => give_set(body),
@@ -140,9 +140,9 @@ pub(crate) fn gathered(
 pub(crate) fn gather_member(body: &mut Body, next: u32, line: u32, value: Value) -> Turned
     ensures turns { (p : ProgramRows) (m : Moment) → Turns p (configuration
         (from_under p body.old (Now.Came (Way.Scalar value))
-        (Task.Operand (Operand.Member next line))) m) result body.new m }
+        (Task.Operand (OperandTask.Member next line))) m) result body.new m }
     ensures falls { Falls result (body_weight body.new)
-        (come + task_weight (Task.Operand (Operand.Member next line)) + tasks_weight body.old) }
+        (come + task_weight (Task.Operand (OperandTask.Member next line)) + tasks_weight body.old) }
     ensures home { body.new.home ≡ body.old.home }
 {
     let set = body.take_value();

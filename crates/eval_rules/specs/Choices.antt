@@ -2,10 +2,10 @@
 use Rattle.std.specs.Prelude.{ℕ, ◌<◌, Option, Some, None}
 use Rattle.cell_value.specs.declared.ways_out.Kind.TheVariants as kind
 use Rattle.program_meaning.specs.Acts.{Fault}
-use Rattle.program_meaning.specs.Tree.{Here, Tree, Exec, Ret, Halt, Sub}
+use Rattle.program_meaning.specs.Tree.{Here, ActTree, Exec, Ret, Halt, Sub}
 use Rattle.program_meaning.specs.Accesses.{no_row}
-use Rattle.eval_rules.specs.declared.choices.Case.{Case}
-use Rattle.eval_rules.specs.declared.choices.Case.TheVariants.{Statement, NoCase, NoNumber}
+use Rattle.eval_rules.specs.declared.choices.CaseOutcome.{CaseOutcome}
+use Rattle.eval_rules.specs.declared.choices.CaseOutcome.TheVariants.{Statement, NoCase, NoNumber}
 use Rattle.eval_rules.specs.declared.choices.Said.{Said}
 use Rattle.eval_rules.specs.declared.choices.Said.TheVariants.{Chosen, After, Nothing}
 
@@ -21,7 +21,7 @@ Rises at (After next) = at < next
 Rises at s = Unit {0}
 
 -- what is done by the value of the index (6.8.3.5)
-abbrev pub case_tree : Here → Case → Tree
+abbrev pub case_tree : Here → CaseOutcome → ActTree
 case_tree h (Statement s) = Sub (Exec s h) Ret
 case_tree h NoCase = Halt h.line (Fault kind.NoCase)
 case_tree h NoNumber = no_row

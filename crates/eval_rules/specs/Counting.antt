@@ -6,7 +6,7 @@ use Rattle.program_tables.specs.declared.rows.Row.{Row}
 use Rattle.program_tables.specs.declared.rows.Row.TheVariants as rows
 use Rattle.program_tables.specs.declared.rows.StatementRow.TheVariants.{Turns}
 use Rattle.eval_rules.specs.declared.counting.Counting.{Counting}
-use Rattle.eval_rules.specs.declared.counting.Span.{Span}
+use Rattle.eval_rules.specs.declared.counting.ForProgress.{ForProgress}
 
 -- the row of the turns of a for statement
 abbrev pub turns_row : Counting → Row
@@ -24,11 +24,11 @@ turns_in (rows.Statement (Turns direction last place of' body)) = Some (record {
 turns_in r = None
 
 -- two values, if both are numbers
-abbrev pub span_in : Value → Value → Option Span
+abbrev pub span_in : Value → Value → Option ForProgress
 span_in (value.Number i) (value.Number last) = Some (record { value = i; last = last })
 span_in i last = None
 
 -- both, if both are there
-abbrev pub both_there : Option Counting → Option Span → Option (Counting × Span)
+abbrev pub both_there : Option Counting → Option ForProgress → Option (Counting × ForProgress)
 both_there (Some c) (Some s) = Some (c, s)
 both_there c s = None

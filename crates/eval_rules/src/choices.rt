@@ -63,7 +63,7 @@ pub fn chosen(program: &Program, choices: u32, value: i64) -> Option<u32>
 
 /// What a case statement does by the value of its index (6.8.3.5).
 #[derive(Clone, Copy)]
-pub enum Case {
+pub enum CaseOutcome {
     /// It goes on with the statement of this row.
     Statement(u32),
     /// No case constant is the value, which is an error of the program.
@@ -74,14 +74,14 @@ pub enum Case {
 
 /// What a case statement does by the value of its index. The items of its case constants stand from the row `choices`
 /// on, each after the one before it.
-pub fn case_of(program: &Program, choices: u32, value: Value) -> Case
+pub fn case_of(program: &Program, choices: u32, value: Value) -> CaseOutcome
     ensures { (h : Here) → chosen_by program.now h choices value ≡ case_tree h result }
 {
     match value {
         Value::Number(number) => match chosen(program, choices, number) {
-            Some(statement) => Case::Statement(statement),
-            None => Case::NoCase,
+            Some(statement) => CaseOutcome::Statement(statement),
+            None => CaseOutcome::NoCase,
         },
-        _ => Case::NoNumber,
+        _ => CaseOutcome::NoNumber,
     }
 }

@@ -13,7 +13,7 @@ use program_tables::rows::{Direction, Row, StatementRow};
 
 /// How far a for statement has come.
 #[derive(Clone, Copy)]
-pub struct Span {
+pub struct ForProgress {
     /// The control variable's value in a turn.
     pub value: i64,
     /// Its value in the last turn.
@@ -59,11 +59,11 @@ pub fn turns_of(program: &Program, row: u32) -> Option<Counting>
 }
 
 /// How far a for statement has come, if both values are numbers.
-fn span_of(value: Value, last: Value) -> Option<Span>
+fn span_of(value: Value, last: Value) -> Option<ForProgress>
     ensures { result ≡ span_in value last }
 {
     match (value, last) {
-        (Value::Number(value), Value::Number(last)) => Some(Span { value, last }),
+        (Value::Number(value), Value::Number(last)) => Some(ForProgress { value, last }),
         _ => None,
     }
 }
@@ -74,7 +74,7 @@ pub fn counting_at(
     row: u32,
     value: Value,
     last: Value,
-) -> Option<(Counting, Span)>
+) -> Option<(Counting, ForProgress)>
     ensures { result ≡ both_there (turns_in (row_at program.now row)) (span_in value last) }
 {
     match (turns_of(program, row), span_of(value, last)) {
@@ -84,21 +84,21 @@ pub fn counting_at(
 }
 
 /// The value of a turn.
-pub fn turn_value(span: Span) -> Value
+pub fn turn_value(span: ForProgress) -> Value
     ensures { result ≡ CellValue.Number span.value }
 {
     Value::Number(span.value)
 }
 
 /// The value of the last turn.
-pub fn last_value(span: Span) -> Value
+pub fn last_value(span: ForProgress) -> Value
     ensures { result ≡ CellValue.Number span.last }
 {
     Value::Number(span.last)
 }
 
 /// Whether a for statement has a turn with the value, where it counts to the last one (6.8.3.9).
-pub fn has_turn(direction: Direction, span: Span) -> bool
+pub fn has_turn(direction: Direction, span: ForProgress) -> bool
     ensures { result ≡ statements.has_turn direction span.value span.last }
 {
     match direction {
@@ -108,14 +108,14 @@ pub fn has_turn(direction: Direction, span: Span) -> bool
 }
 
 /// Whether a turn of a for statement is its last one.
-pub fn is_last(span: Span) -> bool
+pub fn is_last(span: ForProgress) -> bool
     ensures { result ≡ int_eq span.value span.last }
 {
     span.value == span.last
 }
 
 /// The turn after one that is not the last. Its value does not pass that of the last turn (6.8.3.9).
-pub fn turn_after(direction: Direction, span: Span) -> Span
+pub fn turn_after(direction: Direction, span: ForProgress) -> ForProgress
     requires turn { statements.has_turn direction span.value span.last ≡ true }
     requires not_last { int_eq span.value span.last ≡ false }
     ensures value { result.value ≡ statements.value_after direction span.value }
@@ -126,7 +126,7 @@ pub fn turn_after(direction: Direction, span: Span) -> Span
         Direction::Up => span.value + 1,
         Direction::Down => span.value - 1,
     };
-    Span {
+    ForProgress {
         value,
         last: span.last,
     }

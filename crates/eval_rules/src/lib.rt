@@ -12,9 +12,10 @@ mod operators;
 mod statements;
 
 pub use arrays::array_of;
-pub use choices::{Case, case_of, chosen};
+pub use choices::{CaseOutcome, case_of, chosen};
 pub use counting::{
-    Counting, Span, counting_at, has_turn, is_last, last_value, turn_after, turn_value, turns_of,
+    Counting, ForProgress, counting_at, has_turn, is_last, last_value, turn_after, turn_value,
+    turns_of,
 };
 pub use expressions::{combine, constant, type_accessed};
 pub use labels::labelled_in;

@@ -30,7 +30,7 @@ use Rattle.program_tables.specs.declared.rows.StatementRow.TheVariants.{
   Pack,
 }
 use Rattle.program_tables.specs.ProgramRows.{ProgramRows, row_at}
-use Rattle.program_meaning.specs.Tree.{Here, Tree, Ret, Sub, Line}
+use Rattle.program_meaning.specs.Tree.{Here, ActTree, Ret, Sub, Line}
 use Rattle.program_meaning.specs.Tree as parts
 use Rattle.program_meaning.specs.Accesses.{no_row, eval, locate}
 use Rattle.program_meaning.specs.Statements.{
@@ -52,7 +52,7 @@ use Rattle.eval_rules.specs.Counting.{turns_in, turns_row, span_in, both_there}
 use Rattle.eval_rules.specs.Items.{element_in}
 use Rattle.eval_tasks.specs.Rest.{carried, carry_with, after_turn, with_numbers}
 use Rattle.eval_rules.specs.declared.counting.Counting.{Counting}
-use Rattle.eval_rules.specs.declared.counting.Span.{Span}
+use Rattle.eval_rules.specs.declared.counting.ForProgress.{ForProgress}
 use Rattle.eval_tasks.specs.declared.tasks.Home.{Home}
 
 -- ---- a statement begins
@@ -129,7 +129,7 @@ other_carried p home n s o = refl
 
 -- ---- records of with statements
 
-abbrev pub from_record : Here → (body : ℕ) → Option (ℕ × ℕ) → Tree
+abbrev pub from_record : Here → (body : ℕ) → Option (ℕ × ℕ) → ActTree
 from_record h body (Some (access, next)) = locate access h (λ addr. Sub (parts.Establish next body (inside h addr)) Ret)
 from_record h body None = Sub (parts.Exec body h) Ret
 
@@ -139,7 +139,7 @@ records_by h body r = refl
 
 -- ---- sequences and turns
 
-abbrev pub in_sequence : ProgramRows → Here → (first : ℕ) → Option (ℕ × ℕ) → Tree
+abbrev pub in_sequence : ProgramRows → Here → (first : ℕ) → Option (ℕ × ℕ) → ActTree
 in_sequence p h first (Some (s, next)) = Sub (parts.Exec s h) (on_statement p h first next)
 in_sequence p h first None = nothing
 
@@ -159,11 +159,11 @@ other_turn n h s f g = refl
 
 -- ---- for statements
 
-abbrev pub with_turns : Option Counting → (Counting → Tree) → Tree
+abbrev pub with_turns : Option Counting → (Counting → ActTree) → ActTree
 with_turns None go = no_row
 with_turns (Some c) go = go c
 
-abbrev pub with_span : Option Span → (Span → Tree) → Tree
+abbrev pub with_span : Option ForProgress → (ForProgress → ActTree) → ActTree
 with_span None go = no_row
 with_span (Some s) go = go s
 
@@ -182,7 +182,7 @@ pub first_of_numbers : (p : ProgramRows) (h : Here) (n : ℕ) (c : Counting) (v 
 first_of_numbers p h n c (value.Number i) (value.Number j) = refl
 first_of_numbers p h n c v w = refl
 
-pub numbers_by : (v w : Value) (go : ℤ → ℤ → Tree) → with_numbers v w go ≡ with_span (span_in v w) (λ s. go s.value s.last)
+pub numbers_by : (v w : Value) (go : ℤ → ℤ → ActTree) → with_numbers v w go ≡ with_span (span_in v w) (λ s. go s.value s.last)
 numbers_by (value.Number i) (value.Number j) go = refl
 numbers_by v w go = refl
 
@@ -198,19 +198,19 @@ turns_row_is : (r : Row) (c : Counting) → turns_in r ≡ Some c → r ≡ turn
 turns_row_is (rows.Statement (Turns direction last place of' body)) c e = turns_same_some _ _ c e refl
 turns_row_is r c e = absurd (let q : ⊥ = cc in q)
 
-first_of_both : (a : Option Counting) (b : Option Span) (c : Counting) (s : Span) → both_there a b ≡ Some (c, s) → a ≡ Some c
+first_of_both : (a : Option Counting) (b : Option ForProgress) (c : Counting) (s : ForProgress) → both_there a b ≡ Some (c, s) → a ≡ Some c
 first_of_both (Some c') (Some s') c s e = ap (option_map (λ q. q.0)) e
 first_of_both (Some c') None c s e = absurd (let q : ⊥ = cc in q)
 first_of_both None b c s e = absurd (let q : ⊥ = cc in q)
 
-pub row_of_both : (r : Row) (b : Option Span) (c : Counting) (s : Span) → both_there (turns_in r) b ≡ Some (c, s) → r ≡ turns_row c
+pub row_of_both : (r : Row) (b : Option ForProgress) (c : Counting) (s : ForProgress) → both_there (turns_in r) b ≡ Some (c, s) → r ≡ turns_row c
 row_of_both r b c s e = turns_row_is r c (first_of_both (turns_in r) b c s e)
 
-abbrev pub with_both : Option (Counting × Span) → (Counting → Span → Tree) → Tree
+abbrev pub with_both : Option (Counting × ForProgress) → (Counting → ForProgress → ActTree) → ActTree
 with_both None go = no_row
 with_both (Some (c, s)) go = go c s
 
-span_both : (c : Counting) (b : Option Span) (go : Counting → Span → Tree) → with_span b (go c) ≡ with_both (both_there (Some c) b) go
+span_both : (c : Counting) (b : Option ForProgress) (go : Counting → ForProgress → ActTree) → with_span b (go c) ≡ with_both (both_there (Some c) b) go
 span_both c None go = refl
 span_both c (Some s) go = refl
 
@@ -229,8 +229,8 @@ pub counted_both : (home : Home) (n line : ℕ) (r : Row) (v w : Value) → with
 counted_both home n line r v w = numbers_by v w (λ i last. after_turn home n line i last r)
     ∙ by (turns_in r) (span_in v w) (λ s. counted_by home n line s.value s.last r)
   where
-    by : (a : Option Counting) (b : Option Span)
-        → ((s : Span) → after_turn home n line s.value s.last r ≡ with_turns a (λ c. after_turn home n line s.value s.last (turns_row c)))
+    by : (a : Option Counting) (b : Option ForProgress)
+        → ((s : ForProgress) → after_turn home n line s.value s.last r ≡ with_turns a (λ c. after_turn home n line s.value s.last (turns_row c)))
         → with_span b (λ s. after_turn home n line s.value s.last r) ≡ with_both (both_there a b) (λ c s. after_turn home n line s.value s.last (turns_row c))
     by None None h = refl
     by (Some c) None h = refl

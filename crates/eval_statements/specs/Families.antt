@@ -3,14 +3,14 @@ use Rattle.std.specs.Prelude.{ℕ}
 use Rattle.program_tables.specs.declared.rows.StatementRow.{StatementRow}
 use Rattle.program_tables.specs.declared.rows.StatementRow.TheVariants as statements
 use Rattle.program_tables.specs.ProgramRows.{ProgramRows}
-use Rattle.program_meaning.specs.Tree.{Tree}
+use Rattle.program_meaning.specs.Tree.{ActTree}
 use Rattle.program_meaning.specs.Accesses.{no_row}
 use Rattle.program_meaning.specs.Statements.{of_statement}
 use Rattle.eval_tasks.specs.Rest.{here}
 use Rattle.eval_tasks.specs.declared.tasks.Home.{Home}
 
 -- a procedure statement (6.8.2.3) whose line is told
-abbrev pub of_procedure : ProgramRows → Home → (row : ℕ) → StatementRow → Tree
+abbrev pub of_procedure : ProgramRows → Home → (row : ℕ) → StatementRow → ActTree
 of_procedure p home row (statements.Call line routine levels actuals) =
     of_statement p row (here home line) (statements.Call line routine levels actuals)
 of_procedure p home row (statements.CallFormal line place levels actuals) =
@@ -18,7 +18,7 @@ of_procedure p home row (statements.CallFormal line place levels actuals) =
 of_procedure p home row s = no_row
 
 -- a conditional statement (6.8.3.3) whose line is told
-abbrev pub of_conditional : ProgramRows → Home → (row : ℕ) → StatementRow → Tree
+abbrev pub of_conditional : ProgramRows → Home → (row : ℕ) → StatementRow → ActTree
 of_conditional p home row (statements.If line condition then') =
     of_statement p row (here home line) (statements.If line condition then')
 of_conditional p home row (statements.IfElse line condition then' otherwise) =
@@ -28,7 +28,7 @@ of_conditional p home row (statements.Case line index choices) =
 of_conditional p home row s = no_row
 
 -- a repetitive statement (6.8.3.6) whose line is told
-abbrev pub of_repetitive : ProgramRows → Home → (row : ℕ) → StatementRow → Tree
+abbrev pub of_repetitive : ProgramRows → Home → (row : ℕ) → StatementRow → ActTree
 of_repetitive p home row (statements.Repeat line list condition) =
     of_statement p row (here home line) (statements.Repeat line list condition)
 of_repetitive p home row (statements.While line condition body) =
@@ -38,7 +38,7 @@ of_repetitive p home row (statements.For line initial turns) =
 of_repetitive p home row s = no_row
 
 -- a statement on a variable of the heap (6.6.5.3) whose line is told
-abbrev pub of_heap : ProgramRows → Home → (row : ℕ) → StatementRow → Tree
+abbrev pub of_heap : ProgramRows → Home → (row : ℕ) → StatementRow → ActTree
 of_heap p home row (statements.New line access of') =
     of_statement p row (here home line) (statements.New line access of')
 of_heap p home row (statements.Dispose line value of') =

@@ -13,8 +13,8 @@ use crate::counting::{first_turn, turn_ended};
 use crate::statements::by_value;
 use cell_value::{Kind, Value};
 use eval_machine::{Halt, Machine};
-use eval_rules::{Case, case_of};
-use eval_tasks::{Body, Choice, Next, Now, Part, Task, Turned, Way};
+use eval_rules::{CaseOutcome, case_of};
+use eval_tasks::{Body, ChoiceTask, Next, Now, Part, Task, Turned, Way};
 use eval_textfiles::end_line;
 use eval_values::is_true;
 use program_tables::Program;
@@ -26,7 +26,7 @@ pub fn continue_statement(
     alloc: Global,
     program: &Program,
     machine: &mut Machine,
-    choice: Choice,
+    choice: ChoiceTask,
     value: Value,
 ) -> Turned
     requires ready { IsReady machine.old }
@@ -39,11 +39,11 @@ pub fn continue_statement(
     ensures ready { IsReady machine.new }
 {
     match choice {
-        Choice::If { then, line } => {
+        ChoiceTask::If { then, line } => {
             let part = Part::Exec { row: then, line };
             body.either(is_true(value), Now::Begin(part), Now::Came(Way::Nothing))
         }
-        Choice::IfElse {
+        ChoiceTask::IfElse {
             then,
             otherwise,
             line,
@@ -55,24 +55,24 @@ pub fn continue_statement(
             };
             body.either(is_true(value), Now::Begin(part), Now::Begin(other))
         }
-        Choice::Case { choices, line } => choose_case(body, program, choices, line, value),
-        Choice::While {
+        ChoiceTask::Case { choices, line } => choose_case(body, program, choices, line, value),
+        ChoiceTask::While {
             row,
             body: inner,
             line,
         } => again(body, is_true(value), row, inner, line),
-        Choice::Until { row, line } => {
+        ChoiceTask::Until { row, line } => {
             let part = Part::Turn { row, line };
             body.either(is_true(value), Now::Came(Way::Nothing), Now::Begin(part))
         }
-        Choice::First { last, turns, line } => {
+        ChoiceTask::First { last, turns, line } => {
             body.hold(
                 value,
-                Task::Choice(Choice::Last { turns, line }),
+                Task::Choice(ChoiceTask::Last { turns, line }),
                 Now::Begin(Part::Eval { row: last, line }),
             )
         }
-        Choice::Last { turns, line } => {
+        ChoiceTask::Last { turns, line } => {
             let first = body.take_value();
             first_turn(body, alloc, program, machine, turns, line, first, value)
         }
@@ -107,9 +107,9 @@ fn choose_case(body: &mut Body, program: &Program, choices: u32, line: u32, valu
     ensures home { body.new.home ≡ body.old.home }
 {
     match case_of(program, choices, value) {
-        Case::Statement(row) => body.go(Now::Begin(Part::Exec { row, line })),
-        Case::NoCase => body.fail(line, Halt::Fault(Kind::NoCase)),
-        Case::NoNumber => body.no_row(),
+        CaseOutcome::Statement(row) => body.go(Now::Begin(Part::Exec { row, line })),
+        CaseOutcome::NoCase => body.fail(line, Halt::Fault(Kind::NoCase)),
+        CaseOutcome::NoNumber => body.no_row(),
     }
 }
 
@@ -139,7 +139,7 @@ pub fn follow_statement(
             row,
             condition,
             line,
-        } => by_value(body, line, condition, Choice::Until { row, line }),
+        } => by_value(body, line, condition, ChoiceTask::Until { row, line }),
         Next::Counted { row, line } => {
             let last = body.take_value();
             let value = body.take_value();

@@ -15,7 +15,7 @@ use cell_value::Value;
 use eval_cells::moved;
 use eval_machine::{Halt, Machine, passed, write_cell};
 use eval_rules::{
-    Counting, Span, counting_at, has_turn, is_last, last_value, turn_after, turn_value,
+    Counting, ForProgress, counting_at, has_turn, is_last, last_value, turn_after, turn_value,
 };
 use eval_tasks::{Body, Next, Now, Part, Task, Turned};
 use eval_values::test;
@@ -24,7 +24,7 @@ use program_tables::rows::TypeRow;
 use std::alloc::Global;
 
 /// The test of both bounds of a for statement that has a turn, for the type of its control variable.
-fn bounds_tested(program: &Program, kind: Option<TypeRow>, span: Span) -> Result<Value, Halt>
+fn bounds_tested(program: &Program, kind: Option<TypeRow>, span: ForProgress) -> Result<Value, Halt>
     ensures { Gives (λ v. v) (statements.bounds_tested program.now kind span.value span.last) result }
 {
     passed(test(program, kind, Value::Number(span.value)))?;
@@ -68,7 +68,7 @@ fn begin_turns(
     turns: u32,
     line: u32,
     counting: Counting,
-    span: Span,
+    span: ForProgress,
 ) -> Turned
     requires ready { IsReady machine.old }
     requires row { row_at program.now turns ≡ turns_row counting }
@@ -117,7 +117,7 @@ fn count(
     row: u32,
     line: u32,
     counting: Counting,
-    span: Span,
+    span: ForProgress,
 ) -> Turned
     requires ready { IsReady machine.old }
     requires turn { statements.has_turn counting.direction span.value span.last ≡ true }
@@ -137,7 +137,7 @@ fn count(
 }
 
 /// The body of a for statement begins, in a turn whose value the control variable has.
-fn do_body(body: &mut Body, row: u32, line: u32, inner: u32, span: Span) -> Turned
+fn do_body(body: &mut Body, row: u32, line: u32, inner: u32, span: ForProgress) -> Turned
     ensures turns { (p : ProgramRows) (m : Moment) → Turns p (configuration
         (Sub (Exec inner (here body.old.home line)) (λ out. bind
         (statements.on_normal (after_turn body.old.home row line span.value span.last (row_at p row)) out)
@@ -187,7 +187,7 @@ fn next_turn(
     row: u32,
     line: u32,
     counting: Counting,
-    span: Span,
+    span: ForProgress,
 ) -> Turned
     requires ready { IsReady machine.old }
     ensures turns { (p : ProgramRows) → row_at p row ≡ turns_row counting → Turns p

@@ -19,7 +19,7 @@ use eval_calls::begin_call;
 use eval_cells::frame_out;
 use eval_machine::{Machine, spend};
 use eval_rules::{element_of, line_of, turns_of};
-use eval_tasks::{Body, Choice, Next, Now, Part, Pause, Task, Turned, Way};
+use eval_tasks::{Body, ChoiceTask, Next, Now, Part, Pause, Task, Turned, Way};
 use eval_transfers::transfer_statement;
 use program_tables::Program;
 use program_tables::rows::{Row, StatementRow};
@@ -283,7 +283,7 @@ fn conditional(body: &mut Body, statement: StatementRow) -> Turned
             line,
             condition,
             then,
-        } => { by_value(body, line, condition, Choice::If { then, line }) }
+        } => { by_value(body, line, condition, ChoiceTask::If { then, line }) }
         StatementRow::IfElse {
             line,
             condition,
@@ -294,7 +294,7 @@ fn conditional(body: &mut Body, statement: StatementRow) -> Turned
                 body,
                 line,
                 condition,
-                Choice::IfElse {
+                ChoiceTask::IfElse {
                     then,
                     otherwise,
                     line,
@@ -305,14 +305,14 @@ fn conditional(body: &mut Body, statement: StatementRow) -> Turned
             line,
             selector,
             choices,
-        } => { by_value(body, line, selector, Choice::Case { choices, line }) }
+        } => { by_value(body, line, selector, ChoiceTask::Case { choices, line }) }
         _ => body.no_row(),
     }
 }
 
 /// An expression of a statement begins, and the statement is to go on by its value.
 #[inline(always)]
-pub(crate) fn by_value(body: &mut Body, line: u32, expression: u32, choice: Choice) -> Turned
+pub(crate) fn by_value(body: &mut Body, line: u32, expression: u32, choice: ChoiceTask) -> Turned
     ensures turns { (p : ProgramRows) (m : Moment) → Turns p
         (configuration (from_under p body.old (Now.Begin (Part.Eval expression line)) (Task.Choice choice)) m) result
         body.new m }
@@ -357,7 +357,7 @@ fn begin_for(body: &mut Body, program: &Program, line: u32, initial: u32, turns:
 {
     match turns_of(program, turns) {
         Some(counting) => {
-            let first = Choice::First {
+            let first = ChoiceTask::First {
                 last: counting.last,
                 turns,
                 line,
@@ -421,7 +421,7 @@ fn turn_of(body: &mut Body, row: u32, line: u32, statement: StatementRow) -> Tur
                 body,
                 line,
                 condition,
-                Choice::While {
+                ChoiceTask::While {
                     row,
                     body: inner,
                     line,

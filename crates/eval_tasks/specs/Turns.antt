@@ -5,7 +5,7 @@ use Rattle.program_tables.specs.ProgramRows.{ProgramRows, routine_at}
 use Rattle.program_tables.specs.declared.program.Routine.{Routine}
 use Rattle.program_meaning.specs.State.{State}
 use Rattle.program_meaning.specs.Acts.{limit_passed}
-use Rattle.program_meaning.specs.Tree.{Out, Nothing, Scalar, Jump, Tree}
+use Rattle.program_meaning.specs.Tree.{Out, Nothing, Scalar, Jump, ActTree}
 use Rattle.program_meaning.specs.Run.{Ended, Halted}
 use Rattle.program_meaning.specs.Replay.{end_of}
 use Rattle.eval_machine.specs.Machines.{Moment}
@@ -44,10 +44,10 @@ pause_of p a pauses.Ended = AtEnd (Ended (ended_by a.now))
 
 -- a point of a run, as a configuration of structural operational semantics: what is still to be done, and the moment
 pub record Configuration : Type 0 where
-  pub tree : Tree
+  pub tree : ActTree
   pub moment : Moment
 
-abbrev pub configuration : Tree → Moment → Configuration
+abbrev pub configuration : ActTree → Moment → Configuration
 configuration t m = record { tree = t; moment = m }
 
 -- it stops for good there, unless memory ran out

@@ -6,8 +6,8 @@ use Rattle.eval_tasks.specs.declared.tasks.Part.{Part}
 use Rattle.eval_tasks.specs.declared.tasks.Part.TheVariants as part
 use Rattle.eval_tasks.specs.declared.tasks.Now.{Now}
 use Rattle.eval_tasks.specs.declared.tasks.Now.TheVariants.{Begin, Carry, Came}
-use Rattle.eval_tasks.specs.declared.tasks.Operand.TheVariants as operands
-use Rattle.eval_tasks.specs.declared.tasks.Choice.TheVariants as choices
+use Rattle.eval_tasks.specs.declared.tasks.OperandTask.TheVariants as operands
+use Rattle.eval_tasks.specs.declared.tasks.ChoiceTask.TheVariants as choices
 use Rattle.eval_tasks.specs.declared.tasks.Located.TheVariants as locateds
 use Rattle.eval_tasks.specs.declared.tasks.Next.TheVariants as nexts
 use Rattle.eval_machine.specs.declared.halt.Halt.{Halt}

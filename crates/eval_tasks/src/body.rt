@@ -18,7 +18,9 @@ ghost use Rattle.eval_tasks.specs.Turns.{Turns, configuration};
 ghost use Rattle.eval_tasks.specs.Weight.{Falls, body_weight, come, left_with, now_weight, task_weight, tasks_weight};
 
 use crate::records::Records;
-use crate::tasks::{Choice, Home, Located, Next, Now, Operand, Part, Pause, Task, Transfer, Way};
+use crate::tasks::{
+    ChoiceTask, Home, Located, Next, Now, OperandTask, Part, Pause, Task, TransferTask, Way,
+};
 use cell_value::{Cells, Kind, Value, WayOut};
 use eval_machine::Halt;
 use std::alloc::Global;
@@ -265,9 +267,9 @@ impl Body {
         ensures home { self.new.home ≡ home_below task self.old.home }
     {
         match task {
-            Task::Operand(Operand::Both { .. }) => self.drop_value(),
-            Task::Operand(Operand::Member { .. }) => self.drop_value(),
-            Task::Operand(Operand::First { .. }) => self.drop_value(),
+            Task::Operand(OperandTask::Both { .. }) => self.drop_value(),
+            Task::Operand(OperandTask::Member { .. }) => self.drop_value(),
+            Task::Operand(OperandTask::First { .. }) => self.drop_value(),
             Task::Range { .. } => {
                 self.drop_value();
                 self.drop_value();
@@ -275,7 +277,7 @@ impl Body {
             Task::Texts { .. } => self.drop_list(alloc),
             Task::Located(Located::Passed { .. }) => self.drop_list(alloc),
             Task::Actual { .. } => self.drop_list(alloc),
-            Task::Choice(Choice::Last { .. }) => self.drop_value(),
+            Task::Choice(ChoiceTask::Last { .. }) => self.drop_value(),
             Task::Put { .. } => self.drop_value(),
             Task::PutCells { .. } => self.drop_list(alloc),
             Task::Point { .. } => self.drop_value(),
@@ -283,9 +285,9 @@ impl Body {
                 self.drop_value();
                 self.drop_value();
             }
-            Task::Transfer(Transfer::Into { .. }) => self.drop_value(),
-            Task::Transfer(Transfer::Width { .. }) => self.drop_value(),
-            Task::Transfer(Transfer::TextWidth { .. }) => self.drop_list(alloc),
+            Task::Transfer(TransferTask::Into { .. }) => self.drop_value(),
+            Task::Transfer(TransferTask::Width { .. }) => self.drop_value(),
+            Task::Transfer(TransferTask::TextWidth { .. }) => self.drop_list(alloc),
             Task::Leave => self.home.records.leave(),
             _ => {}
         }

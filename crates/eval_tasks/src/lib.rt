@@ -9,5 +9,5 @@ mod tasks;
 pub use body::{Body, Turned};
 pub use records::Records;
 pub use tasks::{
-    Choice, Home, Located, Next, Now, Operand, Part, Pause, Stop, Task, Transfer, Way,
+    ChoiceTask, Home, Located, Next, Now, OperandTask, Part, Pause, Stop, Task, TransferTask, Way,
 };

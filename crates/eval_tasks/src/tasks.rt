@@ -70,7 +70,7 @@ pub enum Now {
 
 /// What waits for the value of an operand, an index or an argument.
 #[derive(Clone, Copy)]
-pub enum Operand {
+pub enum OperandTask {
     Sign {
         minus: bool,
         line: u32,
@@ -127,7 +127,7 @@ pub enum Located {
 
 /// What waits for a value by which a statement goes on.
 #[derive(Clone, Copy)]
-pub enum Choice {
+pub enum ChoiceTask {
     If {
         then: u32,
         line: u32,
@@ -188,7 +188,7 @@ pub enum Next {
 
 /// What waits for a part of an actual of a read or a write statement.
 #[derive(Clone, Copy)]
-pub enum Transfer {
+pub enum TransferTask {
     /// An integer that is read for a variable, which is located once the integer is known.
     Integer {
         access: u32,
@@ -232,7 +232,7 @@ pub enum Transfer {
 /// What waits for a part that is at work.
 #[derive(Clone, Copy)]
 pub enum Task {
-    Operand(Operand),
+    Operand(OperandTask),
     Located(Located),
     /// An actual value parameter. The cells of the actuals before it are the last list that waits.
     Actual {
@@ -271,7 +271,7 @@ pub enum Task {
         order: Order,
         line: u32,
     },
-    Choice(Choice),
+    Choice(ChoiceTask),
     /// An assignment, whose target is located once the value is known.
     Target {
         target: u32,
@@ -304,7 +304,7 @@ pub enum Task {
         line: u32,
     },
     Next(Next),
-    Transfer(Transfer),
+    Transfer(TransferTask),
     /// The first array of a pack or an unpack statement, before the second one.
     PackFirst {
         packing: bool,

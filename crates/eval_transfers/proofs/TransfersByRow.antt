@@ -19,7 +19,7 @@ use Rattle.program_meaning.specs.Input.{further, is_digit, leading, leads_on, sc
 use Rattle.program_meaning.specs.Packing.{with_array}
 use Rattle.program_meaning.specs.Statements.{nothing}
 use Rattle.program_meaning.specs.Transfers.{of_printed, of_received, received}
-use Rattle.program_meaning.specs.Tree.{Here, Tree}
+use Rattle.program_meaning.specs.Tree.{Here, ActTree}
 use Rattle.eval_machine.specs.Machines.{DoesAll, Moment}
 use Rattle.eval_rules.specs.Arrays.{array_in, components_in, components_of}
 use Rattle.eval_rules.specs.Items.{element_in}
@@ -29,7 +29,7 @@ pub no_printed : (p : ProgramRows) (h : Here) (r : Row) → ((i : ItemRow) → r
 no_printed p h (rows.Item i) f = absurd (f i refl)
 no_printed p h r f = refl
 
-abbrev pub with_element : ProgramRows → Here → Option (ℕ × ℕ) → Tree
+abbrev pub with_element : ProgramRows → Here → Option (ℕ × ℕ) → ActTree
 with_element p h (Some (access, next)) = received p h access next (row_at p access)
 with_element p h None = nothing
 
@@ -50,29 +50,29 @@ scan_falls (Digits minus number) x m m' h = first_falls {X = Scanned} (λ s. s) 
 
 -- ---- arrays
 
-abbrev pub with_found : Option (ℕ × Components) → (ℕ → Components → Tree) → Tree
+abbrev pub with_found : Option (ℕ × Components) → (ℕ → Components → ActTree) → ActTree
 with_found (Some (cells, components)) go = go cells components
 with_found None go = no_row
 
-abbrev with_some : Option Components → (Components → Tree) → Tree
+abbrev with_some : Option Components → (Components → ActTree) → ActTree
 with_some (Some components) go = go components
 with_some None go = no_row
 
-bounds_by : (size : ℕ) (t : Option TypeRow) (go : Components → Tree)
+bounds_by : (size : ℕ) (t : Option TypeRow) (go : Components → ActTree)
     → with_bounds t (λ least greatest. go (record { least = least; greatest = greatest; size = size })) ≡ with_some (components_of size t) go
 bounds_by size (Some (Ordinal least greatest)) go = refl
 bounds_by size (Some (Subrange host least greatest)) go = refl
 bounds_by size t go = refl
 
-components_by : (p : ProgramRows) (t : Option TypeRow) (go : Components → Tree) → with_components p t go ≡ with_some (components_in p t) go
+components_by : (p : ProgramRows) (t : Option TypeRow) (go : Components → ActTree) → with_components p t go ≡ with_some (components_in p t) go
 components_by p (Some (Array packed index component cells)) go = bounds_by (size_of p component) (type_at p index) go
 components_by p t go = refl
 
-found_by : (cells : ℕ) (o : Option Components) (go : ℕ → Components → Tree) → with_some o (go cells) ≡ with_found (option_map (λ c. (cells, c)) o) go
+found_by : (cells : ℕ) (o : Option Components) (go : ℕ → Components → ActTree) → with_some o (go cells) ≡ with_found (option_map (λ c. (cells, c)) o) go
 found_by cells (Some c) go = refl
 found_by cells None go = refl
 
-pub array_by : (p : ProgramRows) (r : Row) (go : ℕ → Components → Tree) → with_array p r go ≡ with_found (array_in p r) go
+pub array_by : (p : ProgramRows) (r : Row) (go : ℕ → Components → ActTree) → with_array p r go ≡ with_found (array_in p r) go
 array_by p (rows.Access a) go = components_by p (type_at p (type_accessed a)) (go (size_of p (type_accessed a)))
     ∙ found_by (size_of p (type_accessed a)) (components_in p (type_at p (type_accessed a))) go
 array_by p r go = refl

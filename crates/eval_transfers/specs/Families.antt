@@ -3,14 +3,14 @@ use Rattle.std.specs.Prelude.{ℕ}
 use Rattle.program_tables.specs.declared.rows.StatementRow.{StatementRow}
 use Rattle.program_tables.specs.declared.rows.StatementRow.TheVariants as statements
 use Rattle.program_tables.specs.ProgramRows.{ProgramRows}
-use Rattle.program_meaning.specs.Tree.{Tree}
+use Rattle.program_meaning.specs.Tree.{ActTree}
 use Rattle.program_meaning.specs.Accesses.{no_row}
 use Rattle.program_meaning.specs.Statements.{of_statement}
 use Rattle.eval_tasks.specs.Rest.{here}
 use Rattle.eval_tasks.specs.declared.tasks.Home.{Home}
 
 -- one whose line is told
-abbrev pub of_transfer : ProgramRows → Home → (row : ℕ) → StatementRow → Tree
+abbrev pub of_transfer : ProgramRows → Home → (row : ℕ) → StatementRow → ActTree
 of_transfer p home row (statements.Read ends_line line actuals) =
     of_statement p row (here home line) (statements.Read ends_line line actuals)
 of_transfer p home row (statements.Write ends_line line actuals) =

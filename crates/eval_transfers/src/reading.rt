@@ -16,7 +16,7 @@ use crate::writing::{go_after, host_of};
 use cell_value::Value;
 use eval_machine::Machine;
 use eval_rules::{element_of, type_accessed};
-use eval_tasks::{Body, Now, Part, Task, Transfer, Turned, Way};
+use eval_tasks::{Body, Now, Part, Task, TransferTask, Turned, Way};
 use eval_textfiles::{next_char, past_item, scan_on};
 use eval_variants::{assign_to, tag_accessed};
 use program_meaning::{Scan, Scanned};
@@ -104,7 +104,7 @@ fn read_for(
         read_char(body, machine, access, of, next, line)
     } else {
         body.wait(
-            Task::Transfer(Transfer::Integer {
+            Task::Transfer(TransferTask::Integer {
                 access,
                 of,
                 next,
@@ -159,7 +159,7 @@ pub(crate) fn locate_read(
 {
     body.hold(
         value,
-        Task::Transfer(Transfer::Into {
+        Task::Transfer(TransferTask::Into {
             access,
             of,
             next,
@@ -228,7 +228,7 @@ pub fn store_read(
     alloc: Global,
     program: &Program,
     machine: &mut Machine,
-    transfer: Transfer,
+    transfer: TransferTask,
     addr: u32,
 ) -> Turned
     requires ready { IsReady machine.old }
@@ -241,17 +241,17 @@ pub fn store_read(
     ensures ready { IsReady machine.new }
 {
     match transfer {
-        Transfer::Into {
+        TransferTask::Into {
             access,
             of,
             next,
             line,
         } => store(body, alloc, program, machine, access, of, next, line, addr),
-        Transfer::Integer { .. } => body.no_row(),
-        Transfer::Written { .. } => body.no_row(),
-        Transfer::Wide { .. } => body.no_row(),
-        Transfer::Width { .. } => body.no_row(),
-        Transfer::TextWidth { .. } => body.no_row(),
+        TransferTask::Integer { .. } => body.no_row(),
+        TransferTask::Written { .. } => body.no_row(),
+        TransferTask::Wide { .. } => body.no_row(),
+        TransferTask::Width { .. } => body.no_row(),
+        TransferTask::TextWidth { .. } => body.no_row(),
     }
 }
 
@@ -269,7 +269,7 @@ fn store(
 ) -> Turned
     requires ready { IsReady machine.old }
     ensures turns { Turns program.now (configuration (from_under program.now body.old (Now.Came (Way.Address addr))
-        (Task.Transfer (Transfer.Into access of next line))) (moment_of machine.old)) result body.new
+        (Task.Transfer (TransferTask.Into access of next line))) (moment_of machine.old)) result body.new
         (moment_of machine.new) }
     ensures falls { Falls result (measure_of body.new machine.new)
         (left_with machine.old.steps (come + 2 + tasks_weight body.old)) }

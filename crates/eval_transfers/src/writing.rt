@@ -5,7 +5,7 @@ ghost use Rattle.program_tables.specs.ProgramRows.{ProgramRows};
 ghost use Rattle.program_meaning.specs.Actions.{Action, performs};
 ghost use Rattle.program_meaning.specs.Output as output;
 ghost use Rattle.program_meaning.specs.Transfers as transfers;
-ghost use Rattle.program_meaning.specs.Tree.{Tree, bind, doing};
+ghost use Rattle.program_meaning.specs.Tree.{ActTree, bind, doing};
 ghost use Rattle.eval_machine.specs.Machines.{DoesAll, IsReady, Moment, moment_of};
 ghost use Rattle.eval_tasks.specs.Rest.{below_top, from, from_under, here, lists_of, resume, tasks_of, top_list};
 ghost use Rattle.eval_tasks.specs.Rest.{values_of, waiting};
@@ -16,7 +16,7 @@ ghost use Rattle.eval_tasks.specs.Weight.{task_weight, tasks_weight};
 use crate::reading::locate_read;
 use cell_value::Value;
 use eval_machine::{Halt, Machine};
-use eval_tasks::{Body, Now, Part, Task, Transfer, Turned, Way};
+use eval_tasks::{Body, Now, Part, Task, TransferTask, Turned, Way};
 use eval_textfiles::{write_scalar, write_string};
 use program_tables::Program;
 use program_tables::rows::{ItemRow, Row, TypeRow};
@@ -34,7 +34,7 @@ pub(crate) fn host_of(program: &Program, of: u32) -> u32
 
 /// An action on a line was done, and then this is at work, or it was not done.
 pub(crate) fn go_after(body: &mut Body, line: u32, done: Result<(), Halt>, now: Now) -> Turned
-    ensures turns { (p : ProgramRows) (a : Action (Unit {0})) (t : Tree) (m m' : Moment)
+    ensures turns { (p : ProgramRows) (a : Action (Unit {0})) (t : ActTree) (m m' : Moment)
         → bind t (waiting p body.old) ≡ from p body.old now → DoesAll (λ _. tt) (performs a m.state) done m m'
         → Turns p (configuration (bind (doing line a (λ _. t)) (waiting p body.old)) m) result body.new m' }
     ensures less { (a : Action (Unit {0})) (m m' : Moment) → DoesAll (λ _. tt) (performs a m.state) done m m'
@@ -71,7 +71,7 @@ fn print_item(body: &mut Body, item: ItemRow, line: u32) -> Turned
 {
     match item {
         ItemRow::Written { value, of, next } => {
-            evaluate(body, value, Transfer::Written { of, next, line }, line)
+            evaluate(body, value, TransferTask::Written { of, next, line }, line)
         }
         ItemRow::WrittenWide {
             value,
@@ -79,7 +79,7 @@ fn print_item(body: &mut Body, item: ItemRow, line: u32) -> Turned
             width,
             next,
         } => {
-            let wide = Transfer::Wide {
+            let wide = TransferTask::Wide {
                 of,
                 width,
                 next,
@@ -93,7 +93,7 @@ fn print_item(body: &mut Body, item: ItemRow, line: u32) -> Turned
 
 /// An expression of an actual begins, and the actual is to go on by its value.
 #[inline(always)]
-fn evaluate(body: &mut Body, expression: u32, transfer: Transfer, line: u32) -> Turned
+fn evaluate(body: &mut Body, expression: u32, transfer: TransferTask, line: u32) -> Turned
     ensures turns { (p : ProgramRows) (m : Moment) → Turns p
         (configuration (from_under p body.old (Now.Begin (Part.Eval expression line)) (Task.Transfer transfer)) m)
         result body.new m }
@@ -145,7 +145,7 @@ fn write_waiting(
     requires ready { IsReady machine.old }
     ensures turns { Turns program.now
         (configuration (from_under program.now body.old (Now.Came (Way.Scalar width))
-        (Task.Transfer (Transfer.Width of next line)))
+        (Task.Transfer (TransferTask.Width of next line)))
         (moment_of machine.old)) result body.new (moment_of machine.new) }
     ensures falls { Falls result (measure_of body.new machine.new)
         (left_with machine.old.steps (come + 2 + tasks_weight body.old)) }
@@ -187,7 +187,7 @@ pub fn continue_transfer(
     alloc: Global,
     program: &Program,
     machine: &mut Machine,
-    transfer: Transfer,
+    transfer: TransferTask,
     value: Value,
 ) -> Turned
     requires ready { IsReady machine.old }
@@ -200,30 +200,30 @@ pub fn continue_transfer(
     ensures ready { IsReady machine.new }
 {
     match transfer {
-        Transfer::Integer {
+        TransferTask::Integer {
             access,
             of,
             next,
             line,
         } => locate_read(body, access, of, next, line, value),
-        Transfer::Into { .. } => body.no_row(),
-        Transfer::Written { of, next, line } => {
+        TransferTask::Into { .. } => body.no_row(),
+        TransferTask::Written { of, next, line } => {
             write(body, program, machine, of, next, line, value, None)
         }
-        Transfer::Wide {
+        TransferTask::Wide {
             of,
             width,
             next,
             line,
         } => body.hold(
             value,
-            Task::Transfer(Transfer::Width { of, next, line }),
+            Task::Transfer(TransferTask::Width { of, next, line }),
             Now::Begin(Part::Eval { row: width, line }),
         ),
-        Transfer::Width { of, next, line } => {
+        TransferTask::Width { of, next, line } => {
             write_waiting(body, program, machine, of, next, line, value)
         }
-        Transfer::TextWidth { next, line } => {
+        TransferTask::TextWidth { next, line } => {
             write_text(body, alloc, machine, next, line, Some(value))
         }
     }
@@ -234,7 +234,7 @@ pub fn continue_with_text(
     body: &mut Body,
     alloc: Global,
     machine: &mut Machine,
-    transfer: Transfer,
+    transfer: TransferTask,
 ) -> Turned
     requires ready { IsReady machine.old }
     ensures turns { (p : ProgramRows) → Turns p
@@ -246,16 +246,18 @@ pub fn continue_with_text(
     ensures ready { IsReady machine.new }
 {
     match transfer {
-        Transfer::Written { next, line, .. } => write_text(body, alloc, machine, next, line, None),
-        Transfer::Wide {
+        TransferTask::Written { next, line, .. } => write_text(
+            body, alloc, machine, next, line, None,
+        ),
+        TransferTask::Wide {
             width,
             next,
             line,
             ..
-        } => evaluate(body, width, Transfer::TextWidth { next, line }, line),
-        Transfer::Integer { .. } => body.no_row(),
-        Transfer::Into { .. } => body.no_row(),
-        Transfer::Width { .. } => body.no_row(),
-        Transfer::TextWidth { .. } => body.no_row(),
+        } => evaluate(body, width, TransferTask::TextWidth { next, line }, line),
+        TransferTask::Integer { .. } => body.no_row(),
+        TransferTask::Into { .. } => body.no_row(),
+        TransferTask::Width { .. } => body.no_row(),
+        TransferTask::TextWidth { .. } => body.no_row(),
     }
 }

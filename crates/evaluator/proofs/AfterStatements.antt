@@ -2,7 +2,7 @@
 use Rattle.std.proofs.Common.{◌≡◌, ℕ, List, ◌≤◌, refl, arith}
 use Rattle.cell_value.specs.declared.values.Value.{Value}
 use Rattle.program_tables.specs.ProgramRows.{ProgramRows}
-use Rattle.program_meaning.specs.Tree.{Out, Tree, Ret}
+use Rattle.program_meaning.specs.Tree.{Out, ActTree, Ret}
 use Rattle.program_meaning.specs.Tree as parts
 use Rattle.program_meaning.specs.Accesses.{no_row}
 use Rattle.eval_tasks.specs.Rest.{after_part, after_statement, home_below}
@@ -11,20 +11,20 @@ use Rattle.eval_tasks.specs.Weight.{task_weight}
 use Rattle.eval_tasks.specs.declared.tasks.Home.{Home}
 use Rattle.eval_tasks.specs.declared.tasks.Next.{Next}
 use Rattle.eval_tasks.specs.declared.tasks.Next.TheVariants as nexts
-use Rattle.eval_tasks.specs.declared.tasks.Operand.TheVariants as operands
-use Rattle.eval_tasks.specs.declared.tasks.Choice.TheVariants as choices
+use Rattle.eval_tasks.specs.declared.tasks.OperandTask.TheVariants as operands
+use Rattle.eval_tasks.specs.declared.tasks.ChoiceTask.TheVariants as choices
 use Rattle.eval_tasks.specs.declared.tasks.Located.TheVariants as locateds
-use Rattle.eval_tasks.specs.declared.tasks.Transfer.TheVariants as transfers
+use Rattle.eval_tasks.specs.declared.tasks.TransferTask.TheVariants as transfers
 use Rattle.eval_tasks.specs.declared.tasks.Task.{Task}
 use Rattle.eval_tasks.specs.declared.tasks.Task.TheVariants as tasks
 
 -- what ended, if not by a jump, is all one
-pub record IsAllOne (t : Out → Tree) : Type 0 where
+pub record IsAllOne (t : Out → ActTree) : Type 0 where
   pub scalar : (v : Value) → t (parts.Scalar v) ≡ t parts.Nothing
   pub cells : (vs : List Value) → t (parts.Cells vs) ≡ t parts.Nothing
   pub address : (addr : ℕ) → t (parts.Address addr) ≡ t parts.Nothing
 
-all_one : {t : Out → Tree} → ((v : Value) → t (parts.Scalar v) ≡ t parts.Nothing) → ((vs : List Value) → t (parts.Cells vs) ≡ t parts.Nothing)
+all_one : {t : Out → ActTree} → ((v : Value) → t (parts.Scalar v) ≡ t parts.Nothing) → ((vs : List Value) → t (parts.Cells vs) ≡ t parts.Nothing)
     → ((addr : ℕ) → t (parts.Address addr) ≡ t parts.Nothing) → IsAllOne t
 all_one f g h = record { scalar = f; cells = g; address = h }
 

@@ -13,7 +13,7 @@ use Rattle.pas_tree.specs.declared.expressions.RangeEnd.{RangeEnd, out-RangeEnd,
 use Rattle.check_steps.specs.Steps.{Step, ◌>>=◌, each}
 use Rattle.pas_places.specs.Expressions.{first_of_expression}
 use Rattle.expression_checker.specs.declared.actuals.Passing.{Passing}
-use Rattle.operand_checker.specs.declared.members.Begun.{Begun}
+use Rattle.operand_checker.specs.declared.members.MemberStart.{MemberStart}
 use Rattle.operand_checker.specs.declared.members.Gathered.{Gathered}
 use Rattle.operand_checker.specs.declared.typed.Typed.{Typed}
 use Rattle.expression_checker.specs.Actuals.{actuals_end}
@@ -98,14 +98,14 @@ pub next_member_out : (frame : ℕ) (g : Gathered) (n : NextMember)
     → next_member frame g n ≡ member frame g (out-NextMember n).comma (out-NextMember n).member
 next_member_out frame g n = ap (next_member frame g) (is-NextMember' n)
 
-abbrev pub begun_at : ℕ → Member → Typed → Begun
+abbrev pub begun_at : ℕ → Member → Typed → MemberStart
 begun_at slot m v = record { slot = slot; first = first_of_expression (out-Member m).first; value = v }
 
-abbrev pub range_of : ℕ → Gathered → Begun → Option RangeEnd → Step Gathered
+abbrev pub range_of : ℕ → Gathered → MemberStart → Option RangeEnd → Step Gathered
 range_of frame g b None = one_member g b
 range_of frame g b (Some r) = range frame g b r
 
-held : (frame : ℕ) (g : Gathered) (b : Begun) (o : Option RangeEnd) → range_held frame g b (back-Member-last o) ≡ range_of frame g b o
+held : (frame : ℕ) (g : Gathered) (b : MemberStart) (o : Option RangeEnd) → range_held frame g b (back-Member-last o) ≡ range_of frame g b o
 held frame g b None = refl
 held frame g b (Some r) = refl
 
@@ -116,6 +116,6 @@ member_out frame g slot m =
     ap (member frame g slot) (is-Member' m)
     ∙ ap (λ (h : Typed → Step Gathered). expression frame o.first >>= h) (λ i v. held frame g (begun_at slot m v) o.last i)
 
-pub range_out : (frame : ℕ) (g : Gathered) (b : Begun) (r : RangeEnd)
+pub range_out : (frame : ℕ) (g : Gathered) (b : MemberStart) (r : RangeEnd)
     → range frame g b r ≡ (expression frame (out-RangeEnd r).last >>= λ v. member_range g b v)
 range_out frame g b r = ap (range frame g b) (is-RangeEnd' r)

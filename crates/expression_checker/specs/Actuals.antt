@@ -20,8 +20,8 @@ use Rattle.check_steps.specs.declared.regions.Found.{Found}
 use Rattle.check_steps.specs.Known.{Known, find, name_at, row_at}
 use Rattle.check_steps.specs.Names.{usable, use_at}
 use Rattle.check_steps.specs.Steps.{Step, give, ◌>>=◌, look, late}
-use Rattle.type_relations.specs.declared.headings.Section.{Section}
-use Rattle.type_relations.specs.declared.headings.Section.TheVariants as section
+use Rattle.type_relations.specs.declared.headings.FormalSection.{FormalSection}
+use Rattle.type_relations.specs.declared.headings.FormalSection.TheVariants as section
 use Rattle.type_relations.specs.declared.shapes.ExpressionType.{ExpressionType}
 use Rattle.type_relations.specs.declared.shapes.ExpressionType.TheVariants as expression
 use Rattle.type_relations.specs.declared.shapes.Shape.{Shape}
@@ -29,15 +29,15 @@ use Rattle.type_relations.specs.Headings.{congruous, section_at}
 use Rattle.type_relations.specs.Operators.{is_operand, is_ordinal, is_unknown}
 use Rattle.type_relations.specs.Shapes.{is_assignable, is_same_type, shape_of}
 use Rattle.expression_checker.specs.declared.actuals.Argument.{Argument}
-use Rattle.expression_checker.specs.declared.actuals.Formal.{Formal}
-use Rattle.expression_checker.specs.declared.actuals.Formal.TheVariants as formal
+use Rattle.expression_checker.specs.declared.actuals.ExpectedFormal.{ExpectedFormal}
+use Rattle.expression_checker.specs.declared.actuals.ExpectedFormal.TheVariants as formal
 use Rattle.expression_checker.specs.declared.actuals.Lone.{Lone}
 use Rattle.expression_checker.specs.declared.actuals.Lone.TheVariants as lone
 use Rattle.expression_checker.specs.declared.actuals.Passing.{Passing}
 use Rattle.expression_checker.specs.declared.callees.Callee.{Callee}
 use Rattle.expression_checker.specs.declared.callees.Callee.TheVariants as callee
-use Rattle.expression_checker.specs.declared.callees.Formals.{Formals}
-use Rattle.expression_checker.specs.declared.callees.Formals.TheVariants as formals
+use Rattle.expression_checker.specs.declared.callees.ExpectedFormals.{ExpectedFormals}
+use Rattle.expression_checker.specs.declared.callees.ExpectedFormals.TheVariants as formals
 use Rattle.operand_checker.specs.declared.typed.Location.{Location}
 use Rattle.operand_checker.specs.declared.typed.Location.TheVariants as location
 use Rattle.operand_checker.specs.declared.typed.Typed.{Typed}
@@ -48,26 +48,26 @@ use Rattle.operand_checker.specs.Typed.{unknown_at}
 
 -- ---- the formal parameter of the next actual
 
-abbrev pub formal_in : Option (Section × ℕ) → Formal
+abbrev pub formal_in : Option (FormalSection × ℕ) → ExpectedFormal
 formal_in None = formal.Unknown
 formal_in (Some (section.Names mode.Place of' count, next)) = formal.Variable of'
 formal_in (Some (section.Names m of' count, next)) = formal.Value of'
 formal_in (Some (section.Heading heading, next)) = formal.Routine heading
 
-abbrev pub formal_at : Known → Formals → Formal
+abbrev pub formal_at : Known → ExpectedFormals → ExpectedFormal
 formal_at k formals.Unknown = formal.Unknown
 formal_at k (formals.Declared section passed) = formal_in (section_at k section)
 formal_at k formals.File = formal.File
 formal_at k (formals.Operand f) = formal.Operand f
 
-abbrev pub after_section : Option (Section × ℕ) → ℕ → ℕ → Formals
+abbrev pub after_section : Option (FormalSection × ℕ) → ℕ → ℕ → ExpectedFormals
 after_section None section passed = formals.Unknown
 after_section (Some (section.Names m of' count, next)) at passed =
     if nat_lt (passed + 1) count then formals.Declared at (passed + 1) else formals.Declared next 0
 after_section (Some (section.Heading heading, next)) at passed = formals.Declared next 0
 
 -- the formal parameters after one that is passed
-abbrev pub formals_after : Known → Formals → Formals
+abbrev pub formals_after : Known → ExpectedFormals → ExpectedFormals
 formals_after k (formals.Declared section passed) = after_section (section_at k section) section passed
 formals_after k f = formals.Unknown
 
@@ -94,7 +94,7 @@ is_argument function.Pred s = is_ordinal s
 is_argument f s = is_operand 0 s
 
 -- What an actual is to be. A name alone of a routine, and of a text file, is looked at elsewhere.
-abbrev pub is_actual : Known → Formal → Typed → Bool
+abbrev pub is_actual : Known → ExpectedFormal → Typed → Bool
 is_actual k formal.Unknown v = true
 is_actual k (formal.Value of') v = is_assignable k of' v.of
 is_actual k (formal.Variable of') v = is_variable_actual k of' v
@@ -106,7 +106,7 @@ is_actual k (formal.Operand f) v = is_argument f (shape_of k v.of)
 -- rule 28: a variable actual is not an access of the same type, or is a component of a packed variable, or a tag field
 -- rule 29: a routine actual is not the name of a routine
 -- rule 32: an actual of a required routine is not as it is to be
-abbrev pub rule_of : Formal → ℕ
+abbrev pub rule_of : ExpectedFormal → ℕ
 rule_of formal.Unknown = 27
 rule_of (formal.Value of') = 27
 rule_of (formal.Variable of') = 28
@@ -114,18 +114,18 @@ rule_of (formal.Routine heading) = 29
 rule_of formal.File = 32
 rule_of (formal.Operand f) = 32
 
-abbrev pub item_of : Formal → Typed → Option ItemRow
+abbrev pub item_of : ExpectedFormal → Typed → Option ItemRow
 item_of (formal.Value of') v = Some (item.Value v.row of' 0)
 item_of (formal.Variable of') v = Some (item.Place v.row 0)
 item_of f v = None
 
 -- A required function that takes its type from its actual takes it from this.
-abbrev pub operand_in : Formal → Typed → Typed
+abbrev pub operand_in : ExpectedFormal → Typed → Typed
 operand_in (formal.Operand f) v = v
 operand_in f v = unknown_at v.row
 
 -- an actual, once its parts are checked, which begins at a first token
-unfoldable pub argued : Formal → ℕ → Typed → Step Argument
+unfoldable pub argued : ExpectedFormal → ℕ → Typed → Step Argument
 argued f first v = do
   fine ← look (λ k. is_actual k f v)
   _ ← late (rule_of f) first fine
@@ -176,7 +176,7 @@ lone_file name None = lone.None
 
 -- What is passed by a name alone: to a routine parameter the name of a routine, whatever it stands for; and a text
 -- file, where one may stand.
-abbrev pub lone_of : Known → ℕ → Formal → Option ℕ → Lone
+abbrev pub lone_of : Known → ℕ → ExpectedFormal → Option ℕ → Lone
 lone_of k frame (formal.Routine heading) (Some name) = lone.Routine name heading
 lone_of k frame formal.File (Some name) = lone_file name (file_of k (usable name (find k frame (name_at k name))))
 lone_of k frame f name = lone.None
@@ -213,13 +213,13 @@ file_argued name file = do
   give (record { item = None; value = unknown_at name })
 
 -- an actual by what is passed by a name alone, and else by walking it
-abbrev pub argued_as : ℕ → Formal → Lone → ℕ → Step Typed → Step Argument
+abbrev pub argued_as : ℕ → ExpectedFormal → Lone → ℕ → Step Typed → Step Argument
 argued_as frame f lone.None first walk = walk >>= λ v. argued f first v
 argued_as frame f (lone.Routine name heading) first walk = routine_argued frame name heading
 argued_as frame f (lone.File name file) first walk = file_argued name file
 
 -- A variable as a whole that is passed to a variable parameter is threatened.
-abbrev pub threat_by : ℕ → Formal → Option ℕ → Step (Unit {0})
+abbrev pub threat_by : ℕ → ExpectedFormal → Option ℕ → Step (Unit {0})
 threat_by frame (formal.Variable of') name = threat_alone frame name
 threat_by frame f name = give tt
 

@@ -17,8 +17,8 @@ use Rattle.check_steps.specs.declared.regions.Found.{Found}
 use Rattle.check_steps.specs.Known.{Known, row_at, type_at}
 use Rattle.check_steps.specs.Names.{use_at}
 use Rattle.check_steps.specs.Steps.{Step, give, ◌>>=◌, look, late, put}
-use Rattle.type_relations.specs.declared.headings.Section.{Section}
-use Rattle.type_relations.specs.declared.headings.Section.TheVariants as section
+use Rattle.type_relations.specs.declared.headings.FormalSection.{FormalSection}
+use Rattle.type_relations.specs.declared.headings.FormalSection.TheVariants as section
 use Rattle.type_relations.specs.declared.shapes.ExpressionType.{ExpressionType}
 use Rattle.type_relations.specs.declared.shapes.ExpressionType.TheVariants as expression
 use Rattle.type_relations.specs.declared.shapes.Shape.{Shape}
@@ -28,8 +28,8 @@ use Rattle.type_relations.specs.Shapes.{shape_of}
 use Rattle.expression_checker.specs.declared.callees.Callee.{Callee}
 use Rattle.expression_checker.specs.declared.callees.Callee.TheVariants as callee
 use Rattle.expression_checker.specs.declared.callees.Called.{Called}
-use Rattle.expression_checker.specs.declared.callees.Formals.{Formals}
-use Rattle.expression_checker.specs.declared.callees.Formals.TheVariants as formals
+use Rattle.expression_checker.specs.declared.callees.ExpectedFormals.{ExpectedFormals}
+use Rattle.expression_checker.specs.declared.callees.ExpectedFormals.TheVariants as formals
 use Rattle.operand_checker.specs.declared.typed.Typed.{Typed}
 use Rattle.operand_checker.specs.Names.{levels_to}
 use Rattle.operand_checker.specs.Typed.{typed_value}
@@ -79,11 +79,11 @@ is_function k (callee.Required r) = is_required_function r
 
 -- ---- how many actuals there are
 
-abbrev pub names_in : Section → ℕ
+abbrev pub names_in : FormalSection → ℕ
 names_in (section.Names m of' count) = count
 names_in (section.Heading heading) = 1
 
-abbrev pub taken_or : Option (Section × ℕ) → ℕ → (ℕ → ℕ → Bool) → Bool
+abbrev pub taken_or : Option (FormalSection × ℕ) → ℕ → (ℕ → ℕ → Bool) → Bool
 taken_or None n rest = nat_eq n 0
 taken_or (Some s) n rest = nat_le (names_in s.0) n && rest s.1 (n - names_in s.0)
 
@@ -107,16 +107,16 @@ takes_count k (callee.Formal place levels heading) n = has_formals k (signature_
 takes_count k (callee.Required r) n = required_takes r n
 takes_count k c n = true
 
-abbrev pub operand_of : Option OrdinalFunction → Formals
+abbrev pub operand_of : Option OrdinalFunction → ExpectedFormals
 operand_of (Some f) = formals.Operand f
 operand_of None = formals.Unknown
 
-abbrev pub required_formals : Required → Formals
+abbrev pub required_formals : Required → ExpectedFormals
 required_formals required.Eof = formals.File
 required_formals required.Eoln = formals.File
 required_formals r = operand_of (ordinal_function r)
 
-abbrev pub formals_of : Known → Callee → Formals
+abbrev pub formals_of : Known → Callee → ExpectedFormals
 formals_of k (callee.Routine number levels heading) = formals.Declared (signature_at k heading).sections 0
 formals_of k (callee.Formal place levels heading) = formals.Declared (signature_at k heading).sections 0
 formals_of k (callee.Required r) = required_formals r

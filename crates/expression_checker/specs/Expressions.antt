@@ -30,7 +30,7 @@ use Rattle.pas_places.specs.Expressions.{first_of_expression}
 use Rattle.pas_places.specs.Operators.{adding_token, multiplying_token, relational_token}
 use Rattle.expression_checker.specs.declared.actuals.Passing.{Passing}
 use Rattle.expression_checker.specs.declared.callees.Called.{Called}
-use Rattle.operand_checker.specs.declared.members.Begun.{Begun}
+use Rattle.operand_checker.specs.declared.members.MemberStart.{MemberStart}
 use Rattle.operand_checker.specs.declared.members.Gathered.{Gathered}
 use Rattle.operand_checker.specs.declared.names.Meaning.{Meaning}
 use Rattle.operand_checker.specs.declared.names.Meaning.TheVariants as meaning
@@ -212,11 +212,11 @@ abbrev mutual
     v ← expression frame first
     range_held frame g (record { slot = slot; first = first_of_expression first; value = v }) last
 
-  pub range_held : ℕ → Gathered → Begun → Held-Member-last → Step Gathered
+  pub range_held : ℕ → Gathered → MemberStart → Held-Member-last → Step Gathered
   range_held frame g b Member-last-None' = one_member g b
   range_held frame g b (Member-last-Some' r) = range frame g b r
 
-  pub range : ℕ → Gathered → Begun → RangeEnd → Step Gathered
+  pub range : ℕ → Gathered → MemberStart → RangeEnd → Step Gathered
   range frame g b (RangeEnd' dots last) = do
     v ← expression frame last
     member_range g b v

@@ -10,21 +10,21 @@ ghost use Rattle.expression_checker.specs.Actuals.{lone_of, name_alone, name_if,
 ghost use Rattle.expression_checker.specs.Actuals.{routine_argued, routine_item, rule_of, simple_name, term_name};
 ghost use Rattle.expression_checker.specs.Actuals.{threat_by};
 
-use crate::callees::{Callee, Formals, callee_of};
+use crate::callees::{Callee, ExpectedFormals, callee_of};
 use check_steps::{Found, Tables, Work};
 use operand_checker::items::{put_item, put_link};
 use operand_checker::threats::check_threat_alone;
 use operand_checker::typed::{Location, Typed, unknown_at};
 use pas_tree::expressions::{Access, Expression, Factor, Simple, Term};
 use program_tables::rows::{INTEGER, ItemRow, Mode, NameRow, OrdinalFunction, Row, TextFile};
-use type_relations::headings::{Section, congruous, section_at};
+use type_relations::headings::{FormalSection, congruous, section_at};
 use type_relations::operators::{is_operand, is_ordinal, is_unknown};
 use type_relations::shapes::{is_assignable, is_same_type, shape_of};
 use type_relations::{ExpressionType, Shape};
 
 /// What an actual parameter stands for.
 #[derive(Clone, Copy)]
-pub enum Formal {
+pub enum ExpectedFormal {
     /// Nothing that is known.
     Unknown,
     /// A value parameter of a type.
@@ -63,70 +63,70 @@ pub struct Passing {
     /// Where the item of the last one stands; before the first, a number at which no item does.
     pub last: u32,
     /// What the next ones stand for.
-    pub formals: Formals,
+    pub formals: ExpectedFormals,
     /// The last one where it is the operand of a required function, and else nothing that is known.
     pub value: Typed,
 }
 
-fn formal_in(section: Option<(Section, u32)>) -> Formal
+fn formal_in(section: Option<(FormalSection, u32)>) -> ExpectedFormal
     ensures { result ≡ formal_in section }
 {
     match section {
-        None => Formal::Unknown,
+        None => ExpectedFormal::Unknown,
         Some((section, _)) => match section {
-            Section::Names { mode, of, .. } => match mode {
-                Mode::Place => Formal::Variable(of),
-                _ => Formal::Value(of),
+            FormalSection::Names { mode, of, .. } => match mode {
+                Mode::Place => ExpectedFormal::Variable(of),
+                _ => ExpectedFormal::Value(of),
             },
-            Section::Heading(heading) => Formal::Routine(heading),
+            FormalSection::Heading(heading) => ExpectedFormal::Routine(heading),
         },
     }
 }
 
 /// What the next actual parameter stands for.
-pub fn formal_at(tables: &Tables, formals: Formals) -> Formal
+pub fn formal_at(tables: &Tables, formals: ExpectedFormals) -> ExpectedFormal
     ensures { result ≡ formal_at tables.now formals }
 {
     match formals {
-        Formals::Unknown => Formal::Unknown,
-        Formals::Declared { section, .. } => formal_in(section_at(tables, section)),
-        Formals::File => Formal::File,
-        Formals::Operand(function) => Formal::Operand(function),
+        ExpectedFormals::Unknown => ExpectedFormal::Unknown,
+        ExpectedFormals::Declared { section, .. } => formal_in(section_at(tables, section)),
+        ExpectedFormals::File => ExpectedFormal::File,
+        ExpectedFormals::Operand(function) => ExpectedFormal::Operand(function),
     }
 }
 
-fn after_section(section: Option<(Section, u32)>, at: u32, passed: u32) -> Formals
+fn after_section(section: Option<(FormalSection, u32)>, at: u32, passed: u32) -> ExpectedFormals
     ensures { result ≡ after_section section at passed }
 {
     let Some((section, next)) = section else {
-        return Formals::Unknown;
+        return ExpectedFormals::Unknown;
     };
     match section {
-        Section::Names { count, .. } => match passed.checked_add(1) {
-            Some(more) if more < count => Formals::Declared {
+        FormalSection::Names { count, .. } => match passed.checked_add(1) {
+            Some(more) if more < count => ExpectedFormals::Declared {
                 section: at,
                 passed: more,
             },
-            _ => Formals::Declared {
+            _ => ExpectedFormals::Declared {
                 section: next,
                 passed: 0,
             },
         },
-        Section::Heading(_) => Formals::Declared {
+        FormalSection::Heading(_) => ExpectedFormals::Declared {
             section: next,
             passed: 0,
         },
     }
 }
 
-fn formals_after(tables: &Tables, formals: Formals) -> Formals
+fn formals_after(tables: &Tables, formals: ExpectedFormals) -> ExpectedFormals
     ensures { result ≡ formals_after tables.now formals }
 {
     match formals {
-        Formals::Declared { section, passed } => {
+        ExpectedFormals::Declared { section, passed } => {
             after_section(section_at(tables, section), section, passed)
         }
-        _ => Formals::Unknown,
+        _ => ExpectedFormals::Unknown,
     }
 }
 
@@ -166,42 +166,42 @@ fn is_argument(function: OrdinalFunction, shape: Shape) -> bool
     }
 }
 
-fn is_actual(tables: &Tables, formal: Formal, value: Typed) -> bool
+fn is_actual(tables: &Tables, formal: ExpectedFormal, value: Typed) -> bool
     ensures { result ≡ is_actual tables.now formal value }
 {
     match formal {
-        Formal::Unknown => true,
-        Formal::Value(kind) => is_assignable(tables, kind, value.of),
-        Formal::Variable(kind) => is_variable_actual(tables, kind, value),
-        Formal::Routine(_) => is_unknown(shape_of(tables, value.of)),
-        Formal::File => is_unknown(shape_of(tables, value.of)),
-        Formal::Operand(function) => is_argument(function, shape_of(tables, value.of)),
+        ExpectedFormal::Unknown => true,
+        ExpectedFormal::Value(kind) => is_assignable(tables, kind, value.of),
+        ExpectedFormal::Variable(kind) => is_variable_actual(tables, kind, value),
+        ExpectedFormal::Routine(_) => is_unknown(shape_of(tables, value.of)),
+        ExpectedFormal::File => is_unknown(shape_of(tables, value.of)),
+        ExpectedFormal::Operand(function) => is_argument(function, shape_of(tables, value.of)),
     }
 }
 
-fn rule_of(formal: Formal) -> u32
+fn rule_of(formal: ExpectedFormal) -> u32
     ensures { result ≡ rule_of formal }
 {
     match formal {
-        Formal::Unknown => 27,
-        Formal::Value(_) => 27,
-        Formal::Variable(_) => 28,
-        Formal::Routine(_) => 29,
-        Formal::File => 32,
-        Formal::Operand(_) => 32,
+        ExpectedFormal::Unknown => 27,
+        ExpectedFormal::Value(_) => 27,
+        ExpectedFormal::Variable(_) => 28,
+        ExpectedFormal::Routine(_) => 29,
+        ExpectedFormal::File => 32,
+        ExpectedFormal::Operand(_) => 32,
     }
 }
 
-fn item_of(formal: Formal, value: Typed) -> Option<ItemRow>
+fn item_of(formal: ExpectedFormal, value: Typed) -> Option<ItemRow>
     ensures { result ≡ item_of formal value }
 {
     match formal {
-        Formal::Value(of) => Some(ItemRow::Value {
+        ExpectedFormal::Value(of) => Some(ItemRow::Value {
             value: value.row,
             of,
             next: 0,
         }),
-        Formal::Variable(_) => Some(ItemRow::Place {
+        ExpectedFormal::Variable(_) => Some(ItemRow::Place {
             access: value.row,
             next: 0,
         }),
@@ -209,18 +209,23 @@ fn item_of(formal: Formal, value: Typed) -> Option<ItemRow>
     }
 }
 
-fn operand_in(formal: Formal, value: Typed) -> Typed
+fn operand_in(formal: ExpectedFormal, value: Typed) -> Typed
     ensures { result ≡ operand_in formal value }
 {
     match formal {
-        Formal::Operand(_) => value,
+        ExpectedFormal::Operand(_) => value,
         _ => unknown_at(value.row),
     }
 }
 
 /// An actual parameter, once its parts are checked, which begins at a first token.
 #[tactic(auto, using(check_steps::proofs::Runs::steps), unfolding(crate::specs::Actuals::argued))]
-pub(crate) fn check_argued(work: &mut Work, formal: Formal, first: u32, value: Typed) -> Argument
+pub(crate) fn check_argued(
+    work: &mut Work,
+    formal: ExpectedFormal,
+    first: u32,
+    value: Typed,
+) -> Argument
     ensures { Does (argued formal first value) result work.old work.new }
 {
     let fine = is_actual(&work.tables, formal, value);
@@ -311,12 +316,17 @@ fn lone_file(name: u32, file: Option<TextFile>) -> Lone
 }
 
 /// What is passed by a name alone that is no expression, seen from a frame.
-pub(crate) fn lone_of(tables: &Tables, frame: u32, formal: Formal, name: Option<u32>) -> Lone
+pub(crate) fn lone_of(
+    tables: &Tables,
+    frame: u32,
+    formal: ExpectedFormal,
+    name: Option<u32>,
+) -> Lone
     ensures { result ≡ lone_of tables.now frame formal name }
 {
     match (formal, name) {
-        (Formal::Routine(heading), Some(name)) => Lone::Routine { name, heading },
-        (Formal::File, Some(name)) => {
+        (ExpectedFormal::Routine(heading), Some(name)) => Lone::Routine { name, heading },
+        (ExpectedFormal::File, Some(name)) => {
             let found = tables.usable(frame, name, name);
             lone_file(name, file_of(tables, found))
         }
@@ -395,11 +405,16 @@ pub(crate) fn check_file(work: &mut Work, name: u32, file: TextFile) -> Argument
 
 /// What may be a name alone is passed to a formal parameter.
 #[tactic(auto, using(check_steps::proofs::Runs::steps))]
-pub(crate) fn check_threat_by(work: &mut Work, frame: u32, formal: Formal, name: Option<u32>)
+pub(crate) fn check_threat_by(
+    work: &mut Work,
+    frame: u32,
+    formal: ExpectedFormal,
+    name: Option<u32>,
+)
     ensures { Does (threat_by frame formal name) tt work.old work.new }
 {
     match formal {
-        Formal::Variable(_) => check_threat_alone(work, frame, name),
+        ExpectedFormal::Variable(_) => check_threat_alone(work, frame, name),
         _ => {}
     }
 }

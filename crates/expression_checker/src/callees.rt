@@ -18,7 +18,7 @@ use program_tables::Routine;
 use program_tables::rows::{
     BOOLEAN, CHAR, ExpressionRow, INTEGER, NameRow, OrdinalFunction, Required, Row, TypeRow,
 };
-use type_relations::headings::{Section, section_at, signature_at};
+use type_relations::headings::{FormalSection, section_at, signature_at};
 use type_relations::shapes::shape_of;
 use type_relations::{ExpressionType, Shape};
 
@@ -46,7 +46,7 @@ pub enum Callee {
 
 /// What the next actual parameters stand for.
 #[derive(Clone, Copy)]
-pub enum Formals {
+pub enum ExpectedFormals {
     /// Nothing that is known: their own parts alone are checked.
     Unknown,
     /// The formal parameters of a section on, of which this many are passed.
@@ -61,7 +61,7 @@ pub enum Formals {
 #[derive(Clone, Copy)]
 pub struct Called {
     pub callee: Callee,
-    pub formals: Formals,
+    pub formals: ExpectedFormals,
 }
 
 fn declared_routine(tables: &Tables, frame: u32, number: u32, routine: Option<Routine>) -> Callee
@@ -148,12 +148,12 @@ fn is_function(tables: &Tables, callee: Callee) -> bool
     }
 }
 
-fn names_in(section: Section) -> usize
+fn names_in(section: FormalSection) -> usize
     ensures { result ≡ names_in section }
 {
     match section {
-        Section::Names { count, .. } => count as usize,
-        Section::Heading(_) => 1,
+        FormalSection::Names { count, .. } => count as usize,
+        FormalSection::Heading(_) => 1,
     }
 }
 
@@ -203,40 +203,40 @@ fn takes_count(tables: &Tables, callee: Callee, count: usize) -> bool
     }
 }
 
-fn operand_of(function: Option<OrdinalFunction>) -> Formals
+fn operand_of(function: Option<OrdinalFunction>) -> ExpectedFormals
     ensures { result ≡ operand_of function }
 {
     match function {
-        Some(function) => Formals::Operand(function),
-        None => Formals::Unknown,
+        Some(function) => ExpectedFormals::Operand(function),
+        None => ExpectedFormals::Unknown,
     }
 }
 
-fn required_formals(required: Required) -> Formals
+fn required_formals(required: Required) -> ExpectedFormals
     ensures { result ≡ required_formals required }
 {
     match required {
-        Required::Eof => Formals::File,
-        Required::Eoln => Formals::File,
+        Required::Eof => ExpectedFormals::File,
+        Required::Eoln => ExpectedFormals::File,
         _ => operand_of(ordinal_function(required)),
     }
 }
 
 /// The formal parameters of what is called, from the first on.
-pub fn formals_of(tables: &Tables, callee: Callee) -> Formals
+pub fn formals_of(tables: &Tables, callee: Callee) -> ExpectedFormals
     ensures { result ≡ formals_of tables.now callee }
 {
     match callee {
-        Callee::Routine { heading, .. } => Formals::Declared {
+        Callee::Routine { heading, .. } => ExpectedFormals::Declared {
             section: signature_at(tables, heading).sections,
             passed: 0,
         },
-        Callee::Formal { heading, .. } => Formals::Declared {
+        Callee::Formal { heading, .. } => ExpectedFormals::Declared {
             section: signature_at(tables, heading).sections,
             passed: 0,
         },
         Callee::Required(required) => required_formals(required),
-        _ => Formals::Unknown,
+        _ => ExpectedFormals::Unknown,
     }
 }
 
@@ -263,7 +263,11 @@ pub fn check_counted(work: &mut Work, name: u32, callee: Callee, count: usize) -
     let known = formals_of(&work.tables, callee);
     Called {
         callee,
-        formals: if fine { known } else { Formals::Unknown },
+        formals: if fine {
+            known
+        } else {
+            ExpectedFormals::Unknown
+        },
     }
 }
 

@@ -9,13 +9,13 @@ ghost use Rattle.expression_checker.specs.Expressions.{expression, factor, index
 ghost use Rattle.expression_checker.specs.Expressions.{passing_to, root_name, selector, simple, term};
 
 use crate::actuals::{
-    Argument, Formal, Lone, Passing, check_argued, check_closed, check_file, check_passed,
+    Argument, ExpectedFormal, Lone, Passing, check_argued, check_closed, check_file, check_passed,
     check_routine, check_threat_by, formal_at, lone_of, name_alone,
 };
 use crate::callees::{Called, check_applied, check_called};
 use check_steps::Work;
 use operand_checker::members::{
-    Begun, Gathered, check_member_range, check_one_member, check_set, nothing_gathered,
+    Gathered, MemberStart, check_member_range, check_one_member, check_set, nothing_gathered,
 };
 use operand_checker::names::{Meaning, check_accessed, check_variable, meaning_of};
 use operand_checker::operations::{
@@ -207,7 +207,7 @@ fn check_argument(
     work: &mut Work,
     e: &Expression,
     frame: u32,
-    formal: Formal,
+    formal: ExpectedFormal,
     lone: Lone,
 ) -> Argument
     ensures { Does (argued_as frame formal lone (first_of_expression e.now) (expression frame e.now)) result
@@ -295,7 +295,7 @@ fn check_member(work: &mut Work, m: &Member, frame: u32, gathered: Gathered, slo
     ensures { Does (member frame gathered slot m.now) result work.old work.new }
 {
     let value = check_expression(work, &m.first, frame);
-    let begun = Begun {
+    let begun = MemberStart {
         slot,
         first: first_of_expression(&m.first),
         value,

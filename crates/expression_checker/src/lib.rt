@@ -6,5 +6,5 @@ pub mod actuals;
 pub mod callees;
 pub mod expressions;
 
-pub use actuals::{Argument, Formal, Lone, Passing};
-pub use callees::{Called, Callee, Formals};
+pub use actuals::{Argument, ExpectedFormal, Lone, Passing};
+pub use callees::{Called, Callee, ExpectedFormals};

@@ -71,7 +71,7 @@ module _ (t : LevelTables) (sane_rule : (l : Level) → sane (t.rule l) ≡ true
         let whole = turning (reads (levels t n) body) in
         turning_again (reads (levels t n) body) (body_guards body many_guarded) l
         ∙ cond_same (passes ks (next l)) (then_pair (reads (levels t n) g whole l) whole) (then_pair (reads (levels t n) g unfit_here l) whole)
-            (Ok (Nothing, l))
+        (Ok (Nothing, l))
         (Ok (Nothing, l))
         (ap (λ (r : Read). then_pair r whole) (closed_read g c whole l)) refl
 

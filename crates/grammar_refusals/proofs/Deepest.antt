@@ -229,7 +229,7 @@ module _ (t : LevelTables) (whole : Grammar) (ok : IsDecided t whole ≡ true) w
       expected t whole ok v x rest m.1 al in (([], spell x, refl, rw e refl), [], m.0)
   level_deep (suc n) v x rest f al m =
       deep n (level_deep n) (t.rule v) none false none (t.follow_of v) (rule_sane t whole ok v) (level_parts t whole ok v).decided IsNone IsNone nowhere
-          unfit_here
+      unfit_here
       (none_around n) x rest f al m
 
   pub whole_deep : (n : ℕ) (x : Node) (f : List Item) → BeginsDeep t n whole x f → DeepBefore (read t n whole) x [] f

@@ -11,7 +11,7 @@ use Rattle.pas_tree.specs.declared.headings.Formal.{Formal, Value, Variable, Rou
 use Rattle.check_steps.specs.Known.{frame_at}
 use Rattle.check_steps.specs.Steps.{Step, give, ◌>>=◌, look, each}
 use Rattle.pas_places.specs.Headings.{heading_name}
-use Rattle.kind_checker.specs.declared.names.Kind.TheVariants as kind
+use Rattle.kind_checker.specs.declared.names.NameKind.TheVariants as kind
 use Rattle.kind_checker.specs.Names.{define_name, each_name}
 
 -- ---- what a heading has

@@ -6,7 +6,7 @@ use Rattle.pas_tree.specs.declared.headings.Heading.{Heading}
 use Rattle.pas_tree.specs.declared.headings.Formals.{Formals}
 use Rattle.pas_tree.specs.declared.headings.ResultType.{ResultType}
 use Rattle.pas_tree.specs.declared.blocks.Routine.{Routine}
-use Rattle.pas_tree.specs.declared.blocks.Body.{Body, Directive, Block'}
+use Rattle.pas_tree.specs.declared.blocks.RoutineBody.{RoutineBody, Directive, Block'}
 use Rattle.program_tables.specs.declared.rows.Row.{Row}
 use Rattle.program_tables.specs.declared.rows.Row.TheVariants as row
 use Rattle.program_tables.specs.declared.rows.PartRow.TheVariants as part
@@ -37,7 +37,7 @@ awaiting k function (Some d) = if awaits function (row_at k d.token) then Some d
 
 -- The name in the forward heading that a heading with this body completes. It has a block, and its region defines its
 -- name as a forward heading of its kind without a block so far.
-abbrev pub completed_by : Known → ℕ → Heading → Body → Option ℕ
+abbrev pub completed_by : Known → ℕ → Heading → RoutineBody → Option ℕ
 completed_by k region h (Directive directive) = None
 completed_by k region h (Block' _ b) =
     awaiting k (is_function h) (defined_in k.regions region (name_at k (heading_name h)))
@@ -70,11 +70,11 @@ directed h directive = do
   _ ← early 10 directive forward
   when forward (put (heading_name h) (row.Part (part.Forward (is_function h) None)))
 
-abbrev pub directive_in : Heading → Body → Step (Unit {0})
+abbrev pub directive_in : Heading → RoutineBody → Step (Unit {0})
 directive_in h (Directive directive) = directed h directive
 directive_in h (Block' _ b) = give tt
 
-unfoldable pub defining : ℕ → Heading → Body → Step (Unit {0})
+unfoldable pub defining : ℕ → Heading → RoutineBody → Step (Unit {0})
 defining region h body = do
   _ ← define_heading region h
   directive_in h body
@@ -100,7 +100,7 @@ completing first position h = do
   _ ← put first (row.Part (part.Forward (is_function h) (Some position)))
   put (heading_name h) (row.Part (part.Completing first))
 
-abbrev pub complete_or_define : Option ℕ → ℕ → ℕ → Heading → Body → Step (Unit {0})
+abbrev pub complete_or_define : Option ℕ → ℕ → ℕ → Heading → RoutineBody → Step (Unit {0})
 complete_or_define None region position h body = defining region h body
 complete_or_define (Some first) region position h body = completing first position h
 

@@ -6,7 +6,7 @@ ghost use Rattle.heading_checker.specs.Formals.{define_each_formal, define_forma
 ghost use Rattle.heading_checker.specs.Formals.{define_next_formal, formals_of, is_complete, is_function, result_of};
 
 use check_steps::Work;
-use kind_checker::names::{Kind, define_name, define_names};
+use kind_checker::names::{NameKind, define_name, define_names};
 use pas_places::heading_name;
 use pas_tree::headings::{Formal, Formals, Heading, NextFormal, ResultType};
 use std::alloc::AllocError;
@@ -59,9 +59,19 @@ fn define_formal(work: &mut Work, region: u32, formal: &Formal) -> Result<(), Al
     ensures { IfOk result (λ _. Does (define_formal region formal.now) tt work.old work.new) }
 {
     match formal {
-        Formal::Value(section) => define_names(work, region, Kind::Formal, &section.names),
-        Formal::Variable(_, section) => define_names(work, region, Kind::Formal, &section.names),
-        Formal::Routine(heading) => define_name(work, region, Kind::Formal, heading_name(heading)),
+        Formal::Value(section) => define_names(work, region, NameKind::Formal, &section.names),
+        Formal::Variable(_, section) => define_names(
+            work,
+            region,
+            NameKind::Formal,
+            &section.names,
+        ),
+        Formal::Routine(heading) => define_name(
+            work,
+            region,
+            NameKind::Formal,
+            heading_name(heading),
+        ),
     }
 }
 

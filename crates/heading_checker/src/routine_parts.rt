@@ -12,7 +12,7 @@ ghost use Rattle.heading_checker.specs.RoutineParts.{is_forward, is_waiting, no_
 use crate::formals::{formals_of, is_complete, is_function, result_of};
 use check_steps::{Def, Definition, Tables, Work};
 use pas_places::heading_name;
-use pas_tree::blocks::{Body, Routine};
+use pas_tree::blocks::{Routine, RoutineBody};
 use pas_tree::headings::{Formals, Heading, ResultType};
 use program_tables::rows::{PartRow, Row};
 use std::alloc::AllocError;
@@ -54,12 +54,12 @@ fn awaiting(tables: &Tables, function: bool, held: Option<Definition>) -> Option
 }
 
 /// The name in the forward heading that a heading with this body completes.
-fn completed_by(tables: &Tables, region: u32, heading: &Heading, body: &Body) -> Option<u32>
+fn completed_by(tables: &Tables, region: u32, heading: &Heading, body: &RoutineBody) -> Option<u32>
     ensures { result ≡ completed_by tables.now region heading.now body.now }
 {
     match body {
-        Body::Directive(_) => None,
-        Body::Block(_) => {
+        RoutineBody::Directive(_) => None,
+        RoutineBody::Block(_) => {
             let name = tables.name(heading_name(heading));
             awaiting(
                 tables,
@@ -110,17 +110,22 @@ fn check_directive(work: &mut Work, heading: &Heading, directive: u32)
 }
 
 #[tactic(auto, using(check_steps::proofs::Runs::steps))]
-fn check_body(work: &mut Work, heading: &Heading, body: &Body)
+fn check_body(work: &mut Work, heading: &Heading, body: &RoutineBody)
     ensures { Does (directive_in heading.now body.now) tt work.old work.new }
 {
     match body {
-        Body::Directive(directive) => check_directive(work, heading, *directive),
-        Body::Block(_) => {}
+        RoutineBody::Directive(directive) => check_directive(work, heading, *directive),
+        RoutineBody::Block(_) => {}
     }
 }
 
 #[tactic(auto, using(check_steps::proofs::Runs::steps), unfolding(crate::specs::RoutineParts::defining))]
-fn define(work: &mut Work, region: u32, heading: &Heading, body: &Body) -> Result<(), AllocError>
+fn define(
+    work: &mut Work,
+    region: u32,
+    heading: &Heading,
+    body: &RoutineBody,
+) -> Result<(), AllocError>
     ensures { IfOk result (λ _. Does (defining region heading.now body.now) tt work.old work.new) }
 {
     define_heading(work, region, heading)?;

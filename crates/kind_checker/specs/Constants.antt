@@ -22,13 +22,13 @@ use Rattle.check_steps.specs.Known.{Known, row_at, spelled_at}
 use Rattle.check_steps.specs.Steps.{Step, give, ◌>>=◌, look, early, late, put}
 use Rattle.check_steps.specs.Names.{define_in, use_at}
 use Rattle.pas_places.specs.Operators.{sign_token}
-use Rattle.kind_checker.specs.declared.constants.Value.{Value}
-use Rattle.kind_checker.specs.declared.constants.Value.TheVariants.{Ordinal, Text}
+use Rattle.kind_checker.specs.declared.constants.ConstantValue.{ConstantValue}
+use Rattle.kind_checker.specs.declared.constants.ConstantValue.TheVariants.{Ordinal, Text}
 
 -- ---- signs
 
 -- A constant of unknown value breaks no further rule.
-abbrev pub is_integer : Option Value → Bool
+abbrev pub is_integer : Option ConstantValue → Bool
 is_integer None = true
 is_integer (Some (Ordinal of' v)) = nat_eq of' 0
 is_integer (Some (Text token)) = false
@@ -41,29 +41,29 @@ abbrev pub with_sign : Sign → ℤ → ℤ
 with_sign (sign.Plus t) v = v
 with_sign (sign.Minus t) v = opposite v
 
-abbrev pub signed_value : Sign → Option Value → Option Value
+abbrev pub signed_value : Sign → Option ConstantValue → Option ConstantValue
 signed_value s (Some (Ordinal of' v)) = if nat_eq of' 0 then Some (Ordinal of' (with_sign s v)) else None
 signed_value s v = None
 
 -- rule 4: a sign before a constant that is not an integer
-unfoldable pub sign_before : Sign → Option Value → Step (Option Value)
+unfoldable pub sign_before : Sign → Option ConstantValue → Step (Option ConstantValue)
 sign_before s v = do
   _ ← early 4 (sign_token s) (is_integer v)
   give (signed_value s v)
 
-abbrev pub signed : Option Sign → Option Value → Step (Option Value)
+abbrev pub signed : Option Sign → Option ConstantValue → Step (Option ConstantValue)
 signed None v = give v
 signed (Some s) v = sign_before s v
 
 -- ---- constants
 
 -- an unsigned integer up to maxint
-abbrev pub integer_in : Spelled → Option Value
+abbrev pub integer_in : Spelled → Option ConstantValue
 integer_in (spelled.Number n) = if nat_le n 2147483647 then Some (Ordinal 0 (pos n)) else None
 integer_in s = None
 
 -- a string of one character is a char
-abbrev pub text_value : ℕ → List ℕ → Value
+abbrev pub text_value : ℕ → List ℕ → ConstantValue
 text_value token (c ∷ []) = Ordinal 2 (pos c)
 text_value token l = Text token
 
@@ -76,25 +76,25 @@ abbrev pub is_constant : Option Found → Bool
 is_constant None = true
 is_constant (Some f) = is_constant_def f.definition.def
 
-abbrev pub value_in : Row → Option Value
+abbrev pub value_in : Row → Option ConstantValue
 value_in (row.Name (named.Constant of' v)) = Some (Ordinal of' v)
 value_in (row.Name (named.Text token)) = Some (Text token)
 value_in r = None
 
 -- what a name stands for as a constant, if it is known
-abbrev pub value_of : Known → Option Found → Option Value
+abbrev pub value_of : Known → Option Found → Option ConstantValue
 value_of k None = None
 value_of k (Some f) = value_in (row_at k f.definition.token)
 
 -- rule 3: the name stands for another kind of thing
-unfoldable pub named_constant : ℕ → ℕ → Step (Option Value)
+unfoldable pub named_constant : ℕ → ℕ → Step (Option ConstantValue)
 named_constant frame token = do
   found ← use_at frame token token
   _ ← late 3 token (is_constant found)
   look (λ k. value_of k found)
 
 -- what a constant stands for, seen from a frame
-abbrev pub constant : ℕ → Constant → Step (Option Value)
+abbrev pub constant : ℕ → Constant → Step (Option ConstantValue)
 constant frame (tree.Number s n) = do
   v ← look (λ k. integer_in (spelled_at k n))
   signed s v
@@ -112,7 +112,7 @@ constants_in p = p.first ∷ p.others.items
 unfoldable pub define_constant : ℕ → Unit {0} → ConstantDefinition → Step (Unit {0})
 define_constant region u d = define_in region (record { def = def.Constant d.name; token = d.name; end = d.semicolon })
 
-abbrev pub value_row : Option Value → Row
+abbrev pub value_row : Option ConstantValue → Row
 value_row None = row.Nothing
 value_row (Some (Ordinal of' v)) = row.Name (named.Constant of' v)
 value_row (Some (Text token)) = row.Name (named.Text token)

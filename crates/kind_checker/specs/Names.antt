@@ -6,8 +6,8 @@ use Rattle.check_steps.specs.declared.regions.Def.{Def}
 use Rattle.check_steps.specs.declared.regions.Def.TheVariants as def
 use Rattle.check_steps.specs.Steps.{Step, ◌>>=◌, each}
 use Rattle.check_steps.specs.Names.{define_in}
-use Rattle.kind_checker.specs.declared.names.Kind.{Kind}
-use Rattle.kind_checker.specs.declared.names.Kind.TheVariants as kind
+use Rattle.kind_checker.specs.declared.names.NameKind.{NameKind}
+use Rattle.kind_checker.specs.declared.names.NameKind.TheVariants as kind
 
 unfoldable pub on_name : {A : Type 0} → (A → ℕ → Step A) → A → NextName → Step A
 on_name f a n = f a n.name
@@ -18,12 +18,12 @@ each_name f a n = do
   b ← f a n.first
   each (on_name f) b n.others.items
 
-abbrev pub defined_as : Kind → ℕ → Def
+abbrev pub defined_as : NameKind → ℕ → Def
 defined_as kind.Constant token = def.Constant token
 defined_as kind.Variable token = def.Variable token
 defined_as kind.Field token = def.Field token
 defined_as kind.Formal token = def.Formal token
 
 -- a name of a list, which may be used from its own token on
-unfoldable pub define_name : ℕ → Kind → Unit {0} → ℕ → Step (Unit {0})
+unfoldable pub define_name : ℕ → NameKind → Unit {0} → ℕ → Step (Unit {0})
 define_name region k u token = define_in region (record { def = defined_as k token; token = token; end = token })

@@ -13,8 +13,8 @@ use Rattle.check_steps.specs.declared.regions.Found.{Found}
 use Rattle.check_steps.specs.Known.{Known, row_at, type_at}
 use Rattle.check_steps.specs.Steps.{Step, give, ◌>>=◌, look, early, late, put}
 use Rattle.check_steps.specs.Names.{use_at}
-use Rattle.kind_checker.specs.declared.constants.Value.{Value}
-use Rattle.kind_checker.specs.declared.constants.Value.TheVariants.{Ordinal}
+use Rattle.kind_checker.specs.declared.constants.ConstantValue.{ConstantValue}
+use Rattle.kind_checker.specs.declared.constants.ConstantValue.TheVariants.{Ordinal}
 use Rattle.kind_checker.specs.declared.types.Scope.{Scope}
 use Rattle.kind_checker.specs.Names.{each_name}
 use Rattle.kind_checker.specs.Sizes.{is_ordinal, is_within_bytes}
@@ -49,18 +49,18 @@ named_type frame token = do
 -- ---- subranges
 
 -- a constant of unknown value breaks no further rule
-abbrev pub is_range : Option Value → Option Value → Bool
+abbrev pub is_range : Option ConstantValue → Option ConstantValue → Bool
 is_range (Some (Ordinal g a)) (Some (Ordinal h b)) = nat_eq g h && int_le a b
 is_range (Some a) (Some b) = false
 is_range a b = true
 
-abbrev pub range_row : Option Value → Option Value → Row
+abbrev pub range_row : Option ConstantValue → Option ConstantValue → Row
 range_row (Some (Ordinal g a)) (Some (Ordinal h b)) =
     if nat_eq g h && int_le a b then row.Type (kind.Subrange g a b) else row.Nothing
 range_row a b = row.Nothing
 
 -- rule 5: a subrange's constants are not of one ordinal type, or the first is greater
-unfoldable pub subrange : Option Value → ℕ → Option Value → Step ℕ
+unfoldable pub subrange : Option ConstantValue → ℕ → Option ConstantValue → Step ℕ
 subrange first dots last = do
   _ ← early 5 dots (is_range first last)
   _ ← put dots (range_row first last)

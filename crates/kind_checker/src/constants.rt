@@ -17,20 +17,20 @@ use std::alloc::AllocError;
 
 /// What a constant stands for.
 #[derive(Clone, Copy, PartialEq, Eq)]
-pub enum Value {
+pub enum ConstantValue {
     /// An ordinal of a host type.
     Ordinal { of: u32, value: i32 },
     /// The string that this token spells, of at least two characters.
     Text { token: u32 },
 }
 
-fn is_integer(value: Option<Value>) -> bool
+fn is_integer(value: Option<ConstantValue>) -> bool
     ensures { result ≡ is_integer value }
 {
     match value {
         None => true,
-        Some(Value::Ordinal { of, .. }) => of == INTEGER,
-        Some(Value::Text { .. }) => false,
+        Some(ConstantValue::Ordinal { of, .. }) => of == INTEGER,
+        Some(ConstantValue::Text { .. }) => false,
     }
 }
 
@@ -49,13 +49,13 @@ fn with_sign(sign: &Sign, value: i32) -> i32
     }
 }
 
-fn signed_value(sign: &Sign, value: Option<Value>) -> Option<Value>
+fn signed_value(sign: &Sign, value: Option<ConstantValue>) -> Option<ConstantValue>
     ensures { result ≡ signed_value sign.now value }
 {
     match value {
-        Some(Value::Ordinal { of, value }) => {
+        Some(ConstantValue::Ordinal { of, value }) => {
             if of == INTEGER {
-                Some(Value::Ordinal {
+                Some(ConstantValue::Ordinal {
                     of,
                     value: with_sign(sign, value),
                 })
@@ -68,7 +68,11 @@ fn signed_value(sign: &Sign, value: Option<Value>) -> Option<Value>
 }
 
 #[tactic(auto, using(check_steps::proofs::Runs::steps), unfolding(crate::specs::Constants::sign_before))]
-fn check_sign_before(work: &mut Work, sign: &Sign, value: Option<Value>) -> Option<Value>
+fn check_sign_before(
+    work: &mut Work,
+    sign: &Sign,
+    value: Option<ConstantValue>,
+) -> Option<ConstantValue>
     ensures { Does (sign_before sign.now value) result work.old work.new }
 {
     work.early(4, sign_token(sign), is_integer(value));
@@ -76,7 +80,11 @@ fn check_sign_before(work: &mut Work, sign: &Sign, value: Option<Value>) -> Opti
 }
 
 #[tactic(auto, using(check_steps::proofs::Runs::steps))]
-fn check_signed(work: &mut Work, sign: &Option<Sign>, value: Option<Value>) -> Option<Value>
+fn check_signed(
+    work: &mut Work,
+    sign: &Option<Sign>,
+    value: Option<ConstantValue>,
+) -> Option<ConstantValue>
     ensures { Does (signed sign.now value) result work.old work.new }
 {
     match sign {
@@ -85,13 +93,13 @@ fn check_signed(work: &mut Work, sign: &Option<Sign>, value: Option<Value>) -> O
     }
 }
 
-fn integer_in(spelled: Spelled) -> Option<Value>
+fn integer_in(spelled: Spelled) -> Option<ConstantValue>
     ensures { result ≡ integer_in spelled }
 {
     match spelled {
         Spelled::Number(n) => {
             if n <= 2_147_483_647 {
-                Some(Value::Ordinal {
+                Some(ConstantValue::Ordinal {
                     of: INTEGER,
                     value: n as i32,
                 })
@@ -104,15 +112,15 @@ fn integer_in(spelled: Spelled) -> Option<Value>
 }
 
 /// What a string of these characters stands for.
-fn text_value(token: u32, text: &[u8]) -> Value
+fn text_value(token: u32, text: &[u8]) -> ConstantValue
     ensures { result ≡ text_value token text.now }
 {
     match text {
-        [c] => Value::Ordinal {
+        [c] => ConstantValue::Ordinal {
             of: CHAR,
             value: i32::from(*c),
         },
-        _ => Value::Text { token },
+        _ => ConstantValue::Text { token },
     }
 }
 
@@ -128,17 +136,17 @@ fn is_constant(found: Option<Found>) -> bool
     }
 }
 
-fn value_in(row: Row) -> Option<Value>
+fn value_in(row: Row) -> Option<ConstantValue>
     ensures { result ≡ value_in row }
 {
     match row {
-        Row::Name(NameRow::Constant { of, value }) => Some(Value::Ordinal { of, value }),
-        Row::Name(NameRow::Text { token }) => Some(Value::Text { token }),
+        Row::Name(NameRow::Constant { of, value }) => Some(ConstantValue::Ordinal { of, value }),
+        Row::Name(NameRow::Text { token }) => Some(ConstantValue::Text { token }),
         _ => None,
     }
 }
 
-fn value_of(tables: &Tables, found: Option<Found>) -> Option<Value>
+fn value_of(tables: &Tables, found: Option<Found>) -> Option<ConstantValue>
     ensures { result ≡ value_of tables.now found }
 {
     match found {
@@ -148,7 +156,7 @@ fn value_of(tables: &Tables, found: Option<Found>) -> Option<Value>
 }
 
 #[tactic(auto, using(check_steps::proofs::Runs::steps), unfolding(crate::specs::Constants::named_constant))]
-fn check_named_constant(work: &mut Work, frame: u32, token: u32) -> Option<Value>
+fn check_named_constant(work: &mut Work, frame: u32, token: u32) -> Option<ConstantValue>
     ensures { Does (named_constant frame token) result work.old work.new }
 {
     let found = work.use_at(frame, token, token);
@@ -158,7 +166,7 @@ fn check_named_constant(work: &mut Work, frame: u32, token: u32) -> Option<Value
 
 /// What a constant stands for, seen from a frame.
 #[tactic(auto, using(check_steps::proofs::Runs::steps))]
-pub fn check_constant(work: &mut Work, frame: u32, c: &Constant) -> Option<Value>
+pub fn check_constant(work: &mut Work, frame: u32, c: &Constant) -> Option<ConstantValue>
     ensures { Does (constant frame c.now) result work.old work.new }
 {
     match c {
@@ -211,13 +219,13 @@ pub fn define_constants(work: &mut Work, region: u32, part: &ConstantPart) -> Re
 }
 
 /// The row of a constant of this value.
-fn value_row(value: Option<Value>) -> Row
+fn value_row(value: Option<ConstantValue>) -> Row
     ensures { result ≡ value_row value }
 {
     match value {
         None => Row::Nothing,
-        Some(Value::Ordinal { of, value }) => Row::Name(NameRow::Constant { of, value }),
-        Some(Value::Text { token }) => Row::Name(NameRow::Text { token }),
+        Some(ConstantValue::Ordinal { of, value }) => Row::Name(NameRow::Constant { of, value }),
+        Some(ConstantValue::Text { token }) => Row::Name(NameRow::Text { token }),
     }
 }
 

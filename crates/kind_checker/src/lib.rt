@@ -7,5 +7,5 @@ pub mod names;
 pub mod sizes;
 pub mod types;
 
-pub use constants::Value;
+pub use constants::ConstantValue;
 pub use types::Scope;

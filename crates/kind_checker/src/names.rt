@@ -10,7 +10,7 @@ use std::alloc::AllocError;
 
 /// What a name that a list defines stands for.
 #[derive(Clone, Copy, PartialEq, Eq)]
-pub enum Kind {
+pub enum NameKind {
     /// A constant of an enumeration.
     Constant,
     Variable,
@@ -19,20 +19,25 @@ pub enum Kind {
 }
 
 /// The definition of a name of a kind at a token.
-fn defined_as(kind: Kind, token: u32) -> Def
+fn defined_as(kind: NameKind, token: u32) -> Def
     ensures { result ≡ defined_as kind token }
 {
     match kind {
-        Kind::Constant => Def::Constant(token),
-        Kind::Variable => Def::Variable(token),
-        Kind::Field => Def::Field(token),
-        Kind::Formal => Def::Formal(token),
+        NameKind::Constant => Def::Constant(token),
+        NameKind::Variable => Def::Variable(token),
+        NameKind::Field => Def::Field(token),
+        NameKind::Formal => Def::Formal(token),
     }
 }
 
 /// Defines a name, which may be used from its own token on.
 #[tactic(auto, unfolding(crate::specs::Names::define_name))]
-pub fn define_name(work: &mut Work, region: u32, kind: Kind, token: u32) -> Result<(), AllocError>
+pub fn define_name(
+    work: &mut Work,
+    region: u32,
+    kind: NameKind,
+    token: u32,
+) -> Result<(), AllocError>
     ensures { IfOk result (λ _. Does (define_name region kind tt token) tt work.old work.new) }
 {
     let definition = Definition {
@@ -47,7 +52,7 @@ pub fn define_name(work: &mut Work, region: u32, kind: Kind, token: u32) -> Resu
 fn define_next_name(
     work: &mut Work,
     region: u32,
-    kind: Kind,
+    kind: NameKind,
     next: &NextName,
 ) -> Result<(), AllocError>
     ensures { IfOk result (λ _. Does (on_name (define_name region kind) tt next.now) tt work.old work.new) }
@@ -59,7 +64,7 @@ fn define_next_name(
 fn define_more_names(
     work: &mut Work,
     region: u32,
-    kind: Kind,
+    kind: NameKind,
     names: &[NextName],
 ) -> Result<(), AllocError>
     ensures { IfOk result (λ _. Does (each (on_name (define_name region kind)) tt names.now) tt work.old work.new) }
@@ -75,7 +80,7 @@ fn define_more_names(
 pub fn define_names(
     work: &mut Work,
     region: u32,
-    kind: Kind,
+    kind: NameKind,
     names: &Names,
 ) -> Result<(), AllocError>
     ensures { IfOk result (λ _. Does (each_name (define_name region kind) tt names.now) tt work.old work.new) }

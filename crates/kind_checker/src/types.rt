@@ -8,7 +8,7 @@ ghost use Rattle.kind_checker.specs.Types.{successor, base_type, definition_of, 
 ghost use Rattle.kind_checker.specs.Types.{enumeration, is_range, is_type_name, named_type, ordinal, pointer_type};
 ghost use Rattle.kind_checker.specs.Types.{range_row, set_type, subrange, type_named, type_of};
 
-use crate::constants::Value;
+use crate::constants::ConstantValue;
 use crate::sizes::{is_ordinal, is_within_bytes};
 use check_steps::{Def, Found, Tables, Work};
 use pas_tree::constants::{Names, NextName};
@@ -66,14 +66,14 @@ pub fn check_named_type(work: &mut Work, frame: u32, token: u32) -> u32
     type_of(&work.tables, found, token)
 }
 
-fn is_range(first: Option<Value>, last: Option<Value>) -> bool
+fn is_range(first: Option<ConstantValue>, last: Option<ConstantValue>) -> bool
     ensures { result ≡ is_range first last }
 {
     match (first, last) {
         (
-            Some(Value::Ordinal { of: host, value: a }),
+            Some(ConstantValue::Ordinal { of: host, value: a }),
             Some(
-                Value::Ordinal {
+                ConstantValue::Ordinal {
                     of: other,
                     value: b,
                 },
@@ -84,19 +84,19 @@ fn is_range(first: Option<Value>, last: Option<Value>) -> bool
     }
 }
 
-fn range_row(first: Option<Value>, last: Option<Value>) -> Row
+fn range_row(first: Option<ConstantValue>, last: Option<ConstantValue>) -> Row
     ensures { result ≡ range_row first last }
 {
     match (first, last) {
         (
             Some(
-                Value::Ordinal {
+                ConstantValue::Ordinal {
                     of: host,
                     value: least,
                 },
             ),
             Some(
-                Value::Ordinal {
+                ConstantValue::Ordinal {
                     of: other,
                     value: greatest,
                 },
@@ -118,7 +118,12 @@ fn range_row(first: Option<Value>, last: Option<Value>) -> Row
 
 /// A subrange type, at its `..`.
 #[tactic(auto, using(check_steps::proofs::Runs::steps), unfolding(crate::specs::Types::subrange))]
-pub fn check_subrange(work: &mut Work, first: Option<Value>, dots: u32, last: Option<Value>) -> u32
+pub fn check_subrange(
+    work: &mut Work,
+    first: Option<ConstantValue>,
+    dots: u32,
+    last: Option<ConstantValue>,
+) -> u32
     ensures { Does (subrange first dots last) result work.old work.new }
 {
     work.early(5, dots, is_range(first, last));

@@ -2,7 +2,7 @@
 ghost use Rattle.eval_machine.specs.Machines.{IsReady};
 
 use crate::machines::{
-    Answer, Call, DONE, address, fault, machine_with, number, rows_hold, truth, value,
+    DONE, MachineAnswer, MachineCall, address, fault, machine_with, number, rows_hold, truth, value,
 };
 use crate::tables::{DIGIT, DIGITS};
 use cell_value::{Kind, SetBits, Touch, Value};
@@ -67,48 +67,50 @@ fn has_letters(
     Ok(held.as_slice() == want.as_slice())
 }
 
-impl<'a> Call for OnCells<'a> {
+impl<'a> MachineCall for OnCells<'a> {
     fn answer(
         self,
         alloc: Global,
         program: &Program,
         machine: &mut Machine,
-    ) -> Result<Answer, Halt> {
+    ) -> Result<MachineAnswer, Halt> {
         Ok(match self {
-            OnCells::Read(addr) => Answer::Value(read_cell(machine, addr)?),
-            OnCells::Has(addr) => Answer::Truth(has_cell(machine, addr)?),
+            OnCells::Read(addr) => MachineAnswer::Value(read_cell(machine, addr)?),
+            OnCells::Has(addr) => MachineAnswer::Truth(has_cell(machine, addr)?),
             OnCells::Write(addr, value) => {
                 write_cell(alloc, machine, addr, value)?;
-                Answer::Done
+                MachineAnswer::Done
             }
-            OnCells::Digit(addr) => Answer::Value(ordinal_at(machine, 1, 9, addr)?),
-            OnCells::Set(addr) => Answer::Value(set_at(machine, addr)?),
-            OnCells::DigitReturned(addr) => Answer::Value(result_at(machine, 1, 9, addr)?),
+            OnCells::Digit(addr) => MachineAnswer::Value(ordinal_at(machine, 1, 9, addr)?),
+            OnCells::Set(addr) => MachineAnswer::Value(set_at(machine, addr)?),
+            OnCells::DigitReturned(addr) => MachineAnswer::Value(result_at(machine, 1, 9, addr)?),
             OnCells::Assign(of, addr, value) => {
                 assign(alloc, program, machine, program.type_row(of), addr, value)?;
-                Answer::Done
+                MachineAnswer::Done
             }
-            OnCells::FrameOut(levels, base) => Answer::Address(frame_out(machine, levels, base)?),
+            OnCells::FrameOut(levels, base) => MachineAnswer::Address(frame_out(
+                machine, levels, base,
+            )?),
             OnCells::CellOut(levels, base, place) => {
-                Answer::Address(cell_out(machine, levels, base, place)?)
+                MachineAnswer::Address(cell_out(machine, levels, base, place)?)
             }
             OnCells::ReferenceOut(levels, base, place) => {
-                Answer::Address(reference_out(machine, levels, base, place)?)
+                MachineAnswer::Address(reference_out(machine, levels, base, place)?)
             }
             OnCells::RoutineOut(levels, base, place) => {
                 let (routine, frame) = routine_out(machine, levels, base, place)?;
-                Answer::Routine(routine, frame)
+                MachineAnswer::Routine(routine, frame)
             }
             OnCells::Copy(from, to, cells) => {
                 copy_cells(alloc, machine, from, to, cells)?;
-                Answer::Done
+                MachineAnswer::Done
             }
             OnCells::WriteLetters(addr, letters) => {
                 write_letters(alloc, machine, addr, letters)?;
-                Answer::Done
+                MachineAnswer::Done
             }
             OnCells::HasLetters(addr, letters) => {
-                Answer::Truth(has_letters(alloc, machine, addr, letters)?)
+                MachineAnswer::Truth(has_letters(alloc, machine, addr, letters)?)
             }
         })
     }
@@ -166,7 +168,10 @@ fn places_in_frames(rt: HostRuntime) -> Result<(), Fail> {
         (OnCells::CellOut(0, 4, 2), address(6)),
         (OnCells::CellOut(1, 4, 2), address(2)),
         (OnCells::ReferenceOut(0, 4, 1), address(3)),
-        (OnCells::RoutineOut(0, 4, 2), Ok(Answer::Routine(2, 0))),
+        (
+            OnCells::RoutineOut(0, 4, 2),
+            Ok(MachineAnswer::Routine(2, 0)),
+        ),
     ];
     rows_hold(&rt, rt.alloc(), b"".as_slice(), 9, &rows)?;
     Ok(())

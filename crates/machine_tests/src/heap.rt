@@ -1,5 +1,7 @@
 //! Variables of the heap, and pointers to them.
-use crate::machines::{Answer, Call, DONE, address, fault, number, rows_hold, truth, value};
+use crate::machines::{
+    DONE, MachineAnswer, MachineCall, address, fault, number, rows_hold, truth, value,
+};
 use cell_value::{Kind, Value, Which};
 use eval_heap::{dispose, make_variable, pointed_at, pointer_at, pointer_result_at};
 use eval_machine::{Halt, Machine, drop_block, has_cell, make_block, read_cell, write_cell};
@@ -23,35 +25,39 @@ enum OnHeap {
     Pointed(u32),
 }
 
-impl Call for OnHeap {
+impl MachineCall for OnHeap {
     fn answer(
         self,
         alloc: Global,
         _program: &Program,
         machine: &mut Machine,
-    ) -> Result<Answer, Halt> {
+    ) -> Result<MachineAnswer, Halt> {
         Ok(match self {
-            OnHeap::Read(addr) => Answer::Value(read_cell(machine, addr)?),
-            OnHeap::Has(addr) => Answer::Truth(has_cell(machine, addr)?),
+            OnHeap::Read(addr) => MachineAnswer::Value(read_cell(machine, addr)?),
+            OnHeap::Has(addr) => MachineAnswer::Truth(has_cell(machine, addr)?),
             OnHeap::Write(addr, value) => {
                 write_cell(alloc, machine, addr, value)?;
-                Answer::Done
+                MachineAnswer::Done
             }
-            OnHeap::MakeBlock(cells, of) => Answer::Address(make_block(alloc, machine, cells, of)?),
+            OnHeap::MakeBlock(cells, of) => MachineAnswer::Address(make_block(
+                alloc, machine, cells, of,
+            )?),
             OnHeap::MakeVariable(cells, of) => {
-                Answer::Value(make_variable(alloc, machine, cells, of)?)
+                MachineAnswer::Value(make_variable(alloc, machine, cells, of)?)
             }
             OnHeap::DropBlock(addr, cells) => {
                 drop_block(alloc, machine, addr, cells)?;
-                Answer::Done
+                MachineAnswer::Done
             }
             OnHeap::Dispose(cells, pointer) => {
                 dispose(alloc, machine, cells, pointer)?;
-                Answer::Done
+                MachineAnswer::Done
             }
-            OnHeap::Pointer(addr) => Answer::Value(pointer_at(machine, addr)?),
-            OnHeap::PointerReturned(addr) => Answer::Value(pointer_result_at(machine, addr)?),
-            OnHeap::Pointed(addr) => Answer::Address(pointed_at(machine, addr)?),
+            OnHeap::Pointer(addr) => MachineAnswer::Value(pointer_at(machine, addr)?),
+            OnHeap::PointerReturned(addr) => MachineAnswer::Value(pointer_result_at(
+                machine, addr,
+            )?),
+            OnHeap::Pointed(addr) => MachineAnswer::Address(pointed_at(machine, addr)?),
         })
     }
 }

@@ -64,7 +64,7 @@ pub fn machine_with(
 
 /// What a call answers.
 #[derive(Clone, Copy, Debug, PartialEq, Eq)]
-pub enum Answer {
+pub enum MachineAnswer {
     Done,
     Value(Value),
     Address(u32),
@@ -73,46 +73,51 @@ pub enum Answer {
     Truth(bool),
 }
 
-pub const DONE: Result<Answer, Halt> = Ok(Answer::Done);
+pub const DONE: Result<MachineAnswer, Halt> = Ok(MachineAnswer::Done);
 
-pub fn value(value: Value) -> Result<Answer, Halt> {
-    Ok(Answer::Value(value))
+pub fn value(value: Value) -> Result<MachineAnswer, Halt> {
+    Ok(MachineAnswer::Value(value))
 }
 
-pub fn number(number: i64) -> Result<Answer, Halt> {
+pub fn number(number: i64) -> Result<MachineAnswer, Halt> {
     value(Value::Number(number))
 }
 
-pub fn address(addr: u32) -> Result<Answer, Halt> {
-    Ok(Answer::Address(addr))
+pub fn address(addr: u32) -> Result<MachineAnswer, Halt> {
+    Ok(MachineAnswer::Address(addr))
 }
 
-pub fn truth(holds: bool) -> Result<Answer, Halt> {
-    Ok(Answer::Truth(holds))
+pub fn truth(holds: bool) -> Result<MachineAnswer, Halt> {
+    Ok(MachineAnswer::Truth(holds))
 }
 
-pub fn fault(kind: Kind) -> Result<Answer, Halt> {
+pub fn fault(kind: Kind) -> Result<MachineAnswer, Halt> {
     Err(Halt::Fault(kind))
 }
 
 /// A call on a machine, over the tables of a program.
-pub trait Call: Copy {
-    fn answer(self, alloc: Global, program: &Program, machine: &mut Machine) -> Result<Answer, Halt>
+pub trait MachineCall: Copy {
+    fn answer(
+        self,
+        alloc: Global,
+        program: &Program,
+        machine: &mut Machine,
+    ) -> Result<MachineAnswer, Halt>
         requires ready { IsReady machine.old }
         ensures ready { IsReady machine.new };
 }
 
 /// A call, and what it is to answer.
-pub type Row<C> = (C, Result<Answer, Halt>);
+pub type CallRow<C> = (C, Result<MachineAnswer, Halt>);
 
 /// Does the calls one after the other on a machine with this input and a frame of this many cells, and compares what
 /// they answer.
-pub fn rows_hold<C: Call>(
+pub fn rows_hold<C: MachineCall>(
     rt: &impl Abort,
     alloc: Global,
     input: &[u8],
     cells: u32,
-    rows: &[Row<C>],
+    rows: &[CallRow<C>],
 ) -> Result<(), AllocError> {
     let program = table(alloc)?;
     let mut machine = machine_with(rt, alloc, input, cells)?;
@@ -120,12 +125,12 @@ pub fn rows_hold<C: Call>(
     Ok(())
 }
 
-fn answers_hold<C: Call>(
+fn answers_hold<C: MachineCall>(
     rt: &impl Abort,
     alloc: Global,
     program: &Program,
     machine: &mut Machine,
-    rows: &[Row<C>],
+    rows: &[CallRow<C>],
 )
     requires ready { IsReady machine.old }
 {

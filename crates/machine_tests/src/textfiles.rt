@@ -2,7 +2,7 @@
 ghost use Rattle.eval_machine.specs.Machines.{IsReady};
 ghost use Rattle.eval_machine.specs.Machines.{IsReady};
 
-use crate::machines::{Answer, Call, fault, machine_of, number, rows_hold, truth};
+use crate::machines::{MachineAnswer, MachineCall, fault, machine_of, number, rows_hold, truth};
 use cell_value::{Kind, Memory, Value};
 use eval_machine::{Halt, Machine};
 use eval_textfiles::{
@@ -43,19 +43,19 @@ fn integer(machine: &mut Machine) -> Result<Value, Halt>
     Ok(Value::Undefined)
 }
 
-impl Call for OnInput {
+impl MachineCall for OnInput {
     fn answer(
         self,
         _alloc: Global,
         _program: &Program,
         machine: &mut Machine,
-    ) -> Result<Answer, Halt> {
+    ) -> Result<MachineAnswer, Halt> {
         Ok(match self {
-            OnInput::Eof => Answer::Value(at_end(machine)?),
-            OnInput::Eoln => Answer::Value(at_line_end(machine)?),
-            OnInput::Char => Answer::Value(next_char(machine)?),
-            OnInput::Integer => Answer::Value(integer(machine)?),
-            OnInput::Item => Answer::Truth(past_item(machine)?),
+            OnInput::Eof => MachineAnswer::Value(at_end(machine)?),
+            OnInput::Eoln => MachineAnswer::Value(at_line_end(machine)?),
+            OnInput::Char => MachineAnswer::Value(next_char(machine)?),
+            OnInput::Integer => MachineAnswer::Value(integer(machine)?),
+            OnInput::Item => MachineAnswer::Truth(past_item(machine)?),
         })
     }
 }

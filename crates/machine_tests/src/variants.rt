@@ -1,5 +1,5 @@
 //! A record with variants.
-use crate::machines::{Answer, Call, DONE, address, fault, number, rows_hold, value};
+use crate::machines::{DONE, MachineAnswer, MachineCall, address, fault, number, rows_hold, value};
 use crate::tables::{A, C, COLOUR, I, M, N, OUTER, T};
 use cell_value::{Kind, Value};
 use eval_machine::{Halt, Machine, read_cell, write_cell};
@@ -22,35 +22,35 @@ enum OnShape {
     Activate(VariantPart, u32, Value),
 }
 
-impl Call for OnShape {
+impl MachineCall for OnShape {
     fn answer(
         self,
         alloc: Global,
         program: &Program,
         machine: &mut Machine,
-    ) -> Result<Answer, Halt> {
+    ) -> Result<MachineAnswer, Halt> {
         Ok(match self {
-            OnShape::Read(addr) => Answer::Value(read_cell(machine, addr)?),
+            OnShape::Read(addr) => MachineAnswer::Value(read_cell(machine, addr)?),
             OnShape::Write(addr, value) => {
                 write_cell(alloc, machine, addr, value)?;
-                Answer::Done
+                MachineAnswer::Done
             }
             OnShape::Field(field) => {
                 let row = program.row(field);
-                Answer::Address(field_at(alloc, program, machine, false, 1, row)?)
+                MachineAnswer::Address(field_at(alloc, program, machine, false, 1, row)?)
             }
             OnShape::TargetField(field) => {
                 let row = program.row(field);
-                Answer::Address(field_at(alloc, program, machine, true, 1, row)?)
+                MachineAnswer::Address(field_at(alloc, program, machine, true, 1, row)?)
             }
             OnShape::Tag(tag) => {
                 let colour = program.type_row(COLOUR);
                 assign_to(alloc, program, machine, Some(OUTER), colour, 2, tag)?;
-                Answer::Done
+                MachineAnswer::Done
             }
             OnShape::Activate(part, addr, tag) => {
                 activate(alloc, program, machine, part, addr, tag)?;
-                Answer::Done
+                MachineAnswer::Done
             }
         })
     }

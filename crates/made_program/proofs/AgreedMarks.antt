@@ -16,8 +16,8 @@ use Rattle.answer_book.specs.declared.entries.What.TheVariants.{Judged}
 use Rattle.answer_book.specs.Entries.{entries_with, entry_saying, said_by, standing_answers}
 use Rattle.answer_book.specs.Marks.{mark_by, mark_of}
 use Rattle.subtree_weights.specs.Searched.{is_in}
-use Rattle.optimal_query.specs.declared.state.State.{State}
-use Rattle.optimal_query.specs.declared.state.State.TheVariants.{Ask, Found, Narrowed, NothingWrong, Unclear}
+use Rattle.optimal_query.specs.declared.state.SearchState.{SearchState}
+use Rattle.optimal_query.specs.declared.state.SearchState.TheVariants.{Ask, Found, Narrowed, NothingWrong, Unclear}
 use Rattle.optimal_query.specs.Laws.{judged, mark_in}
 use Rattle.optimal_query.proofs.OneMoreAnswer.{new_mark, old_mark}
 use Rattle.dialog_replies.specs.Subject.{Subject, state_after}
@@ -122,7 +122,7 @@ pub one_more_stands : (entries : List Entry) (call : ℕ) (answer : Judgement)
     → standing_answers (entries_with entries (Judged call answer)) ≡ judged (standing_answers entries) call answer
 one_more_stands entries call answer = filter_map-append said_by entries (entry_saying (Judged call answer) ∷ [])
 
-agreed_by : (s : Subject) (entries : List Entry) (state : State) → IsSmallTree s → AreAgreed s (standing_answers entries)
+agreed_by : (s : Subject) (entries : List Entry) (state : SearchState) → IsSmallTree s → AreAgreed s (standing_answers entries)
     → AreAgreed s (standing_answers (answered_to s entries state))
 agreed_by s entries (Ask call weight suspects left) small are =
     subst (λ (answers : List What). AreAgreed s answers) (sym (one_more_stands entries call (judgement_of s call)))

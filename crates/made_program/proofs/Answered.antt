@@ -7,8 +7,8 @@ use Rattle.answer_book.specs.Answers.{Answers, judge_answer}
 use Rattle.answer_book.specs.Entries.{entry_saying, first_entries}
 use Rattle.std.specs.Prelude.{Ok}
 use Rattle.std.proofs.lemmas.Bool.{cond-false, lt-leb}
-use Rattle.optimal_query.specs.declared.state.State.{State}
-use Rattle.optimal_query.specs.declared.state.State.TheVariants.{Ask, Found, Narrowed, NothingWrong, Unclear}
+use Rattle.optimal_query.specs.declared.state.SearchState.{SearchState}
+use Rattle.optimal_query.specs.declared.state.SearchState.TheVariants.{Ask, Found, Narrowed, NothingWrong, Unclear}
 use Rattle.optimal_query.specs.Search.{Search}
 use Rattle.dialog_replies.specs.Kept.{IsSearchOf}
 use Rattle.dialog_replies.specs.Subject.{Subject, calls_recorded, state_after}
@@ -20,7 +20,7 @@ pub one_more : (s : Subject) (entries : List Entry) {entries' : List Entry} (n :
 unfolding entries_answered
 one_more s entries n e step = rw add-one (step ∙ ap (λ (es : List Entry). answered_to s es (state_after s es)) e)
 
-longer : (s : Subject) (entries : List Entry) (state : State) → asks state ≡ true → length (answered_to s entries state) ≡ length entries + 1
+longer : (s : Subject) (entries : List Entry) (state : SearchState) → asks state ≡ true → length (answered_to s entries state) ≡ length entries + 1
 longer s entries (Ask call weight suspects left) h = length-append entries (entry_saying (Judged call (judgement_of s call)) ∷ [])
 longer s entries (Found call) h = absurd (let l : ⊥ = cc in l)
 longer s entries (Narrowed call) h = absurd (let l : ⊥ = cc in l)
@@ -32,7 +32,7 @@ pub one_longer : (s : Subject) (entries : List Entry) {entries' : List Entry} (n
     → entries' ≡ answered_to s entries (state_after s entries) → length entries ≡ n → length entries' ≡ n + 1
 one_longer s entries n asked step e = ap length step ∙ longer s entries (state_after s entries) asked ∙ ap (λ (k : ℕ). k + 1) e
 
-pub as_they_were : (s : Subject) (entries : List Entry) (state : State) → asks state ≡ false → answered_to s entries state ≡ entries
+pub as_they_were : (s : Subject) (entries : List Entry) (state : SearchState) → asks state ≡ false → answered_to s entries state ≡ entries
 as_they_were s entries (Ask call weight suspects left) h = absurd (let l : ⊥ = cc in l)
 as_they_were s entries (Found call) h = refl
 as_they_were s entries (Narrowed call) h = refl

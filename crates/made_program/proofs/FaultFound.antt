@@ -13,8 +13,8 @@ use Rattle.answer_book.specs.Entries.{standing_answers}
 use Rattle.answer_book.specs.Marks.{mark_of, marks_of}
 use Rattle.answer_book.specs.Numbers.{numbers_below}
 use Rattle.subtree_weights.specs.Searched.{is_in, is_searched, mark_at}
-use Rattle.optimal_query.specs.declared.state.State.{State}
-use Rattle.optimal_query.specs.declared.state.State.TheVariants.{Found}
+use Rattle.optimal_query.specs.declared.state.SearchState.{SearchState}
+use Rattle.optimal_query.specs.declared.state.SearchState.TheVariants.{Found}
 use Rattle.optimal_query.specs.Laws.{NothingWrongIsNothing, QuestionIsLeast, doubts_in, mark_in, state_in, suspects_in}
 use Rattle.optimal_query.specs.Narrowing.{AgreesWithMarks, FoundIsBuggy, IsBuggy}
 use Rattle.optimal_query.specs.Question.{question_of}
@@ -49,7 +49,7 @@ no_doubt s answers are =
 
 -- ---- the verdict
 
-verdict_of : (last suspects : List ℕ) (question : Option ℕ) (verdict : State) → asks (state_by last suspects question verdict) ≡ false
+verdict_of : (last suspects : List ℕ) (question : Option ℕ) (verdict : SearchState) → asks (state_by last suspects question verdict) ≡ false
     → state_by last suspects question verdict ≡ verdict
 verdict_of last suspects None verdict none = refl
 verdict_of last suspects (Some call) verdict none = absurd (true≢false none)

@@ -14,8 +14,8 @@ use Rattle.answer_book.specs.Numbers.{numbers_below}
 use Rattle.call_tree.specs.Clear.{is_unjudged}
 use Rattle.call_tree.specs.declared.records.Mark.{Mark}
 use Rattle.subtree_weights.specs.Searched.{is_searched, mark_at}
-use Rattle.optimal_query.specs.declared.state.State.{State}
-use Rattle.optimal_query.specs.declared.state.State.TheVariants.{Ask, Found, Narrowed, NothingWrong, Unclear}
+use Rattle.optimal_query.specs.declared.state.SearchState.{SearchState}
+use Rattle.optimal_query.specs.declared.state.SearchState.TheVariants.{Ask, Found, Narrowed, NothingWrong, Unclear}
 use Rattle.optimal_query.specs.Laws.{QuestionIsLeast, judged, suspects_in}
 use Rattle.optimal_query.specs.Region.{suspects_of}
 use Rattle.dialog_replies.specs.Subject.{Subject, calls_recorded, state_after}
@@ -41,14 +41,14 @@ suspects_few last marks accused =
     )
 
 -- what is asked
-pub record Question (state : State) : Type 0 where
+pub record Question (state : SearchState) : Type 0 where
   pub call : ℕ
   pub weight : ℕ
   pub suspects : ℕ
   pub left : ℕ
   pub is : state ≡ Ask call weight suspects left
 
-question_in : (state : State) → asks state ≡ true → Question state
+question_in : (state : SearchState) → asks state ≡ true → Question state
 question_in (Ask call weight suspects left) h = record { call = call; weight = weight; suspects = suspects; left = left; is = refl }
 question_in (Found call) h = absurd (let l : ⊥ = cc in l)
 question_in (Narrowed call) h = absurd (let l : ⊥ = cc in l)
@@ -67,7 +67,7 @@ fewer s entries small least asked =
     let answers = standing_answers entries in
     let told = least s.tree answers q.call q.weight q.suspects q.left small.tree q.is in
     let after : suspects_left s (answered_to s entries (state_after s entries)) ≡ length (suspects_in s.tree (judged answers q.call (judgement_of s q.call))) =
-    ap (λ (state : State). suspects_left s (answered_to s entries state)) q.is
+    ap (λ (state : SearchState). suspects_left s (answered_to s entries state)) q.is
     ∙ ap (λ (said : List What). length (suspects_in s.tree said)) (one_more_stands entries q.call (judgement_of s q.call)) in
     omega (arith, after, told.1.fewer (judgement_of s q.call), told.1.all_suspects)
 

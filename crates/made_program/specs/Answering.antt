@@ -7,8 +7,8 @@ use Rattle.answer_book.specs.declared.entries.Judgement.TheVariants.{Right, Wron
 use Rattle.answer_book.specs.declared.entries.What.TheVariants.{Judged}
 use Rattle.answer_book.specs.Entries.{entries_with, first_entries}
 use Rattle.subtree_weights.specs.Searched.{is_in}
-use Rattle.optimal_query.specs.declared.state.State.{State}
-use Rattle.optimal_query.specs.declared.state.State.TheVariants.{Ask}
+use Rattle.optimal_query.specs.declared.state.SearchState.{SearchState}
+use Rattle.optimal_query.specs.declared.state.SearchState.TheVariants.{Ask}
 use Rattle.dialog_replies.specs.Subject.{Subject, calls_recorded, state_after}
 
 -- the call at fault: a third of the calls were entered before it
@@ -20,7 +20,7 @@ abbrev pub judgement_of : Subject → ℕ → Judgement
 judgement_of s call = if is_in s.tree.last call (call_at_fault s) then Wrong else Right
 
 -- the entries with an answer, where the state is a question
-abbrev pub answered_to : Subject → List Entry → State → List Entry
+abbrev pub answered_to : Subject → List Entry → SearchState → List Entry
 answered_to s entries (Ask call weight suspects left) = entries_with entries (Judged call (judgement_of s call))
 answered_to s entries _ = entries
 

@@ -1,6 +1,6 @@
 -- That the search finds the call that it was to find.
 use Rattle.std.specs.Prelude.{◌≡◌, ◌+◌, ◌<◌, slice_index}
-use Rattle.optimal_query.specs.declared.state.State.TheVariants.{Found}
+use Rattle.optimal_query.specs.declared.state.SearchState.TheVariants.{Found}
 use Rattle.optimal_query.specs.Laws.{IsCallTree}
 use Rattle.dialog_replies.specs.Subject.{Subject, calls_recorded, state_after}
 use Rattle.made_program.specs.Answering.{entries_at_end, call_at_fault}

@@ -1,7 +1,7 @@
 -- What is printed of the run of a made program.
 use Rattle.std.specs.Prelude.{ℕ, List, [], ◌++◌, codes, decimal}
-use Rattle.optimal_query.specs.declared.state.State.{State}
-use Rattle.optimal_query.specs.declared.state.State.TheVariants.{Found}
+use Rattle.optimal_query.specs.declared.state.SearchState.{SearchState}
+use Rattle.optimal_query.specs.declared.state.SearchState.TheVariants.{Found}
 use Rattle.dialog_replies.specs.Subject.{Subject, calls_recorded, state_after}
 use Rattle.dialog_replies.specs.Texts.{named_call}
 use Rattle.made_program.specs.Answering.{entries_at_end, call_at_fault, questions_of}
@@ -11,12 +11,12 @@ abbrev pub counted_line : List ℕ → ℕ → List ℕ
 counted_line word number = word ++ codes " " ++ decimal number ++ codes "\n"
 
 -- the call that is found, as a dialog names it; no line where none is
-abbrev pub found_line : Subject → State → List ℕ
+abbrev pub found_line : Subject → SearchState → List ℕ
 found_line s (Found call) = codes "found call " ++ named_call s call ++ codes "\n"
 found_line s _ = []
 
 -- how many calls there are, how many questions were answered, and the call that is found in this state
-abbrev pub summary_lines : Subject → State → List ℕ
+abbrev pub summary_lines : Subject → SearchState → List ℕ
 summary_lines s state =
     counted_line (codes "calls") (calls_recorded s) ++ counted_line (codes "questions") (questions_of s)
     ++ found_line s state

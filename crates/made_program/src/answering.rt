@@ -10,7 +10,7 @@ ghost use Rattle.made_program.specs.Asked.{asks};
 use answer_book::Judgement;
 use cell_value::Steps;
 use dialog_replies::{Debugged, state_now};
-use optimal_query::{Debug, State};
+use optimal_query::{Debug, SearchState};
 
 /// What the steps of the search are counted by.
 struct Uncounted;
@@ -53,11 +53,14 @@ fn answer_next<D: Debugged>(run: &D, debug: &mut Debug) -> bool
     ensures search { IsSearchOf (D.subject run.now) debug.new }
 {
     match state_now(run, debug) {
-        State::Ask { call, .. } => {
+        SearchState::Ask { call, .. } => {
             judge(run, debug, call);
             true
         }
-        State::Found(_) | State::Narrowed(_) | State::NothingWrong | State::Unclear => false,
+        SearchState::Found(_)
+        | SearchState::Narrowed(_)
+        | SearchState::NothingWrong
+        | SearchState::Unclear => false,
     }
 }
 

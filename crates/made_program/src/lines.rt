@@ -8,7 +8,7 @@ use crate::answering::answer_all;
 use crate::laws::run_finds_the_fault;
 use dialog_replies::{Debugged, begin, state_now, write_named_call, write_number};
 use edge_ports::{Bytes, Memory};
-use optimal_query::{Debug, State};
+use optimal_query::{Debug, SearchState};
 use std::alloc::Global;
 
 /// Appends a line of a word and a number.
@@ -29,12 +29,15 @@ fn write_found<D: Debugged>(out: &mut Bytes, run: &D, debug: &Debug) -> Result<(
         (state_after (D.subject run.now) debug.now.book.entries)) }
 {
     match state_now(run, debug) {
-        State::Found(call) => {
+        SearchState::Found(call) => {
             out.append(b"found call ")?;
             write_named_call(out, run, call)?;
             out.append(b"\n")
         }
-        State::Ask { .. } | State::Narrowed(_) | State::NothingWrong | State::Unclear => Ok(()),
+        SearchState::Ask { .. }
+        | SearchState::Narrowed(_)
+        | SearchState::NothingWrong
+        | SearchState::Unclear => Ok(()),
     }
 }
 

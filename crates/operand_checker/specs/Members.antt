@@ -11,7 +11,7 @@ use Rattle.type_relations.specs.declared.shapes.Shape.{Shape}
 use Rattle.type_relations.specs.declared.shapes.Shape.TheVariants as shape
 use Rattle.type_relations.specs.Operators.{is_unknown}
 use Rattle.type_relations.specs.Shapes.{shape_of}
-use Rattle.operand_checker.specs.declared.members.Begun.{Begun}
+use Rattle.operand_checker.specs.declared.members.MemberStart.{MemberStart}
 use Rattle.operand_checker.specs.declared.members.Gathered.{Gathered}
 use Rattle.operand_checker.specs.declared.typed.Typed.{Typed}
 use Rattle.operand_checker.specs.Items.{add_item, link}
@@ -41,7 +41,7 @@ gathered_with g last s =
     record { last = last; host = host_with g.host s; known = g.known && is_member g.host s }
 
 -- rule 31: members of a constructor are not ordinal or not of one host, at the first token of the member
-unfoldable pub one_member : Gathered → Begun → Step Gathered
+unfoldable pub one_member : Gathered → MemberStart → Step Gathered
 one_member g b = do
   s ← look (λ k. shape_of k b.value.of)
   _ ← late 31 b.first (fits_members g.host s)
@@ -49,7 +49,7 @@ one_member g b = do
   give (gathered_with g last s)
 
 -- the same of a range, whose last value may be the wrong one
-unfoldable pub member_range : Gathered → Begun → Typed → Step Gathered
+unfoldable pub member_range : Gathered → MemberStart → Typed → Step Gathered
 member_range g b v = do
   s ← look (λ k. shape_of k b.value.of)
   t ← look (λ k. shape_of k v.of)

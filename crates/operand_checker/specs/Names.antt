@@ -13,7 +13,7 @@ use Rattle.check_steps.specs.declared.regions.Found.{Found}
 use Rattle.check_steps.specs.Known.{Known, frame_at, row_at}
 use Rattle.check_steps.specs.Names.{use_at}
 use Rattle.check_steps.specs.Steps.{Step, give, ◌>>=◌, look, late, put}
-use Rattle.kind_checker.specs.declared.constants.Value.TheVariants as value
+use Rattle.kind_checker.specs.declared.constants.ConstantValue.TheVariants as value
 use Rattle.type_relations.specs.declared.shapes.ExpressionType.TheVariants as expression
 use Rattle.operand_checker.specs.declared.names.Meaning.{Meaning}
 use Rattle.operand_checker.specs.declared.names.Meaning.TheVariants as meaning

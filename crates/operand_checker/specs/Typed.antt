@@ -7,8 +7,8 @@ use Rattle.program_tables.specs.declared.rows.ExpressionRow.TheVariants as writt
 use Rattle.program_tables.specs.ProgramRows.{text_at}
 use Rattle.check_steps.specs.Known.{Known}
 use Rattle.check_steps.specs.Steps.{Step, give, ◌>>=◌, look, put}
-use Rattle.kind_checker.specs.declared.constants.Value.{Value}
-use Rattle.kind_checker.specs.declared.constants.Value.TheVariants as value
+use Rattle.kind_checker.specs.declared.constants.ConstantValue.{ConstantValue}
+use Rattle.kind_checker.specs.declared.constants.ConstantValue.TheVariants as value
 use Rattle.kind_checker.specs.Constants.{constant}
 use Rattle.type_relations.specs.declared.shapes.ExpressionType.{ExpressionType}
 use Rattle.type_relations.specs.declared.shapes.ExpressionType.TheVariants as expression
@@ -28,18 +28,18 @@ bracketed v = typed_value v.row v.of
 
 -- ---- constants
 
-abbrev pub constant_row : Option Value → Row
+abbrev pub constant_row : Option ConstantValue → Row
 constant_row None = row.Nothing
 constant_row (Some (value.Ordinal of' v)) = row.Expression (written.Constant v)
 constant_row (Some (value.Text token)) = row.Expression (written.Text token)
 
-abbrev pub constant_type : Known → Option Value → ExpressionType
+abbrev pub constant_type : Known → Option ConstantValue → ExpressionType
 constant_type k None = expression.Unknown
 constant_type k (Some (value.Ordinal of' v)) = expression.Of of'
 constant_type k (Some (value.Text token)) = expression.Text (length (text_at k.program token))
 
 -- a constant as a factor, at its only token
-unfoldable pub constant_at : ℕ → Option Value → Step Typed
+unfoldable pub constant_at : ℕ → Option ConstantValue → Step Typed
 constant_at token v = do
   of' ← look (λ k. constant_type k v)
   _ ← put token (constant_row v)

@@ -10,7 +10,7 @@ pub mod selectors;
 pub mod threats;
 pub mod typed;
 
-pub use members::{Begun, Gathered};
+pub use members::{Gathered, MemberStart};
 pub use names::Meaning;
 pub use threats::Whole;
 pub use typed::{Location, Typed};

@@ -15,7 +15,7 @@ use type_relations::{ExpressionType, Packing, Shape};
 
 /// The first value of a member designator.
 #[derive(Clone, Copy)]
-pub struct Begun {
+pub struct MemberStart {
     /// The opening bracket or the comma before it.
     pub slot: u32,
     /// Its first token.
@@ -82,7 +82,7 @@ fn gathered_with(gathered: Gathered, last: u32, shape: Shape) -> Gathered
 
 /// A member of one value.
 #[tactic(auto, using(check_steps::proofs::Runs::steps), unfolding(crate::specs::Members::one_member))]
-pub fn check_one_member(work: &mut Work, gathered: Gathered, begun: Begun) -> Gathered
+pub fn check_one_member(work: &mut Work, gathered: Gathered, begun: MemberStart) -> Gathered
     ensures { Does (one_member gathered begun) result work.old work.new }
 {
     let shape = shape_of(&work.tables, begun.value.of);
@@ -97,7 +97,12 @@ pub fn check_one_member(work: &mut Work, gathered: Gathered, begun: Begun) -> Ga
 
 /// The members from one value to another.
 #[tactic(auto, using(check_steps::proofs::Runs::steps), unfolding(crate::specs::Members::member_range))]
-pub fn check_member_range(work: &mut Work, gathered: Gathered, begun: Begun, end: Typed) -> Gathered
+pub fn check_member_range(
+    work: &mut Work,
+    gathered: Gathered,
+    begun: MemberStart,
+    end: Typed,
+) -> Gathered
     ensures { Does (member_range gathered begun end) result work.old work.new }
 {
     let shape = shape_of(&work.tables, begun.value.of);

@@ -8,7 +8,7 @@ ghost use Rattle.operand_checker.specs.Names.{with_position};
 
 use crate::typed::{Location, Typed, unknown_at};
 use check_steps::{Found, Tables, Work};
-use kind_checker::Value;
+use kind_checker::ConstantValue;
 use program_tables::rows::{AccessRow, Mode, NameRow, PartRow, Row, TypeRow};
 use type_relations::ExpressionType;
 
@@ -18,7 +18,7 @@ pub enum Meaning {
     /// Nothing that is known.
     Unknown,
     /// A constant, and what it stands for, if that is known.
-    Constant(Option<Value>),
+    Constant(Option<ConstantValue>),
     /// A variable, a parameter or a field of the record of a with statement: the row of its access, its type, and
     /// where it lies.
     Variable {
@@ -103,9 +103,11 @@ fn meaning_in(tables: &Tables, frame: u32, found: Found, row: Row) -> Meaning
 {
     match row {
         Row::Name(NameRow::Constant { of, value }) => {
-            Meaning::Constant(Some(Value::Ordinal { of, value }))
+            Meaning::Constant(Some(ConstantValue::Ordinal { of, value }))
         }
-        Row::Name(NameRow::Text { token }) => Meaning::Constant(Some(Value::Text { token })),
+        Row::Name(NameRow::Text { token }) => Meaning::Constant(Some(ConstantValue::Text {
+            token,
+        })),
         Row::Nothing => Meaning::Constant(None),
         Row::Name(
             NameRow::Variable {

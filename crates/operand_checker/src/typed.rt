@@ -7,7 +7,7 @@ ghost use Rattle.operand_checker.specs.Typed.{bracketed, constant_at, constant_r
 ghost use Rattle.operand_checker.specs.Typed.{unknown_at, typed_value};
 
 use check_steps::{Tables, Work};
-use kind_checker::Value;
+use kind_checker::ConstantValue;
 use kind_checker::constants::check_constant;
 use pas_tree::constants::Constant;
 use program_tables::rows::{ExpressionRow, Row};
@@ -59,29 +59,33 @@ pub fn bracketed(value: Typed) -> Typed
     typed_value(value.row, value.of)
 }
 
-fn constant_row(value: Option<Value>) -> Row
+fn constant_row(value: Option<ConstantValue>) -> Row
     ensures { result ≡ constant_row value }
 {
     match value {
         None => Row::Nothing,
-        Some(Value::Ordinal { value, .. }) => Row::Expression(ExpressionRow::Constant { value }),
-        Some(Value::Text { token }) => Row::Expression(ExpressionRow::Text { token }),
+        Some(ConstantValue::Ordinal { value, .. }) => Row::Expression(ExpressionRow::Constant {
+            value,
+        }),
+        Some(ConstantValue::Text { token }) => Row::Expression(ExpressionRow::Text { token }),
     }
 }
 
-fn constant_type(tables: &Tables, value: Option<Value>) -> ExpressionType
+fn constant_type(tables: &Tables, value: Option<ConstantValue>) -> ExpressionType
     ensures { result ≡ constant_type tables.now value }
 {
     match value {
         None => ExpressionType::Unknown,
-        Some(Value::Ordinal { of, .. }) => ExpressionType::Of(of),
-        Some(Value::Text { token }) => ExpressionType::Text(tables.program().text(token).len()),
+        Some(ConstantValue::Ordinal { of, .. }) => ExpressionType::Of(of),
+        Some(ConstantValue::Text { token }) => ExpressionType::Text(
+            tables.program().text(token).len(),
+        ),
     }
 }
 
 /// A constant as a factor, at its only token.
 #[tactic(auto, using(check_steps::proofs::Runs::steps), unfolding(crate::specs::Typed::constant_at))]
-pub fn check_constant_at(work: &mut Work, token: u32, value: Option<Value>) -> Typed
+pub fn check_constant_at(work: &mut Work, token: u32, value: Option<ConstantValue>) -> Typed
     ensures { Does (constant_at token value) result work.old work.new }
 {
     let of = constant_type(&work.tables, value);

@@ -13,7 +13,7 @@ use Rattle.call_tree.specs.Clear.{is_clear, is_unjudged, is_unknown}
 use Rattle.answer_book.specs.Marks.{mark_of, marks_of}
 use Rattle.answer_book.specs.Numbers.{last_where, numbers_below}
 use Rattle.answer_book.proofs.LastWhere.{IsLast, last_where_is, none_passes_where}
-use Rattle.optimal_query.specs.declared.state.State.TheVariants.{Found, NothingWrong}
+use Rattle.optimal_query.specs.declared.state.SearchState.TheVariants.{Found, NothingWrong}
 use Rattle.optimal_query.specs.Laws.{IsCallTree, CallTree, IsAtFault, NothingIsWrong, doubts_in, mark_in, region_in, state_in, suspects_in}
 use Rattle.optimal_query.specs.Narrowing.{AgreesWithMarks, IsBuggy, IsLeft, Truth}
 use Rattle.optimal_query.specs.Region.{doubts_of, suspects_of}

@@ -13,8 +13,8 @@ use Rattle.answer_book.specs.Accused.{accused_of}
 use Rattle.call_tree.specs.Clear.{is_unjudged}
 use Rattle.answer_book.specs.Marks.{marks_of}
 use Rattle.answer_book.specs.Numbers.{numbers_below}
-use Rattle.optimal_query.specs.declared.state.State.{State}
-use Rattle.optimal_query.specs.declared.state.State.TheVariants.{Ask}
+use Rattle.optimal_query.specs.declared.state.SearchState.{SearchState}
+use Rattle.optimal_query.specs.declared.state.SearchState.TheVariants.{Ask}
 use Rattle.optimal_query.specs.Laws.{IsCallTree, CallTree, IsAsked, IsOptimal, doubts_in, left_after, state_in, suspects_in, worse_leaves}
 use Rattle.optimal_query.specs.Question.{leaves_least, left_of, question_of, weight_of}
 use Rattle.subtree_weights.specs.Searched.{is_in}
@@ -25,11 +25,11 @@ use Rattle.optimal_query.proofs.PassingNumbers.{contains_of_passes, counts_one, 
 use Rattle.optimal_query.proofs.Searched.{in_from, is_marked, suspected_of, suspects_are}
 
 -- what a state of the search is made of
-pub record Parts (calls : CallTree) (answers : List What) (state : State) : Type 0 where
+pub record Parts (calls : CallTree) (answers : List What) (state : SearchState) : Type 0 where
   pub is : state_by calls.last (suspects_in calls answers) (question_of calls.last (suspects_in calls answers))
       (verdict_by (accused_of calls.routine answers) (doubts_in calls answers)) ≡ state
 
-pub parts_of : (calls : CallTree) (answers : List What) (state : State) → state_in calls answers ≡ state → Parts calls answers state
+pub parts_of : (calls : CallTree) (answers : List What) (state : SearchState) → state_in calls answers ≡ state → Parts calls answers state
 unfolding state_with
 parts_of calls answers state h = record { is = h }
 
@@ -62,11 +62,11 @@ ask_cases last suspects (Some c) accused doubts call weight many left h =
     }
 
 -- with a verdict there is no question
-pub record Ends (question accused : Option ℕ) (doubts : List ℕ) (verdict : State) : Type 0 where
+pub record Ends (question accused : Option ℕ) (doubts : List ℕ) (verdict : SearchState) : Type 0 where
   pub no_question : question ≡ None
   pub verdict_is : verdict_by accused doubts ≡ verdict
 
-end_cases : (last suspects : List ℕ) (q : Option ℕ) (accused : Option ℕ) (doubts : List ℕ) (state : State)
+end_cases : (last suspects : List ℕ) (q : Option ℕ) (accused : Option ℕ) (doubts : List ℕ) (state : SearchState)
     → ((call weight many left : ℕ) → Ask call weight many left ≢ state)
     → state_by last suspects q (verdict_by accused doubts) ≡ state → Ends q accused doubts state
 end_cases last suspects None accused doubts state differs h = record { no_question = refl; verdict_is = h }
@@ -80,7 +80,7 @@ asks calls answers call weight many left h =
     ask_cases calls.last (suspects_in calls answers) (question_of calls.last (suspects_in calls answers)) (accused_of calls.routine answers)
     (doubts_in calls answers) call weight many left parts.is
 
-pub ends : (calls : CallTree) (answers : List What) (state : State) → ((call weight many left : ℕ) → Ask call weight many left ≢ state)
+pub ends : (calls : CallTree) (answers : List What) (state : SearchState) → ((call weight many left : ℕ) → Ask call weight many left ≢ state)
     → state_in calls answers ≡ state
     → Ends (question_of calls.last (suspects_in calls answers)) (accused_of calls.routine answers) (doubts_in calls answers) state
 ends calls answers state differs h =

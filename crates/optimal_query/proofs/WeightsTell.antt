@@ -16,7 +16,7 @@ use Rattle.weight_lanes.specs.declared.choice.Choice.{Choice}
 use Rattle.weight_lanes.specs.Places.{left_at}
 use Rattle.subtree_weights.specs.Sums.{SuspectsAreWeighed}
 use Rattle.subtree_weights.specs.Weights.{suspects_below, under_of, weight_by, weight_of as weight_in_tree, weights_of}
-use Rattle.optimal_query.specs.declared.state.State.TheVariants.{Ask}
+use Rattle.optimal_query.specs.declared.state.SearchState.TheVariants.{Ask}
 use Rattle.optimal_query.specs.Markings.{askable_flag, verdict_from}
 use Rattle.optimal_query.specs.Nested.{end_below, start_below}
 use Rattle.optimal_query.specs.Question.{question_of, weight_of}

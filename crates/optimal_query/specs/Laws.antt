@@ -11,8 +11,8 @@ use Rattle.answer_book.specs.declared.entries.What.TheVariants.{Judged}
 use Rattle.answer_book.specs.Accused.{accused_of}
 use Rattle.call_tree.specs.Clear.{is_clear}
 use Rattle.answer_book.specs.Marks.{mark_of, marks_of}
-use Rattle.optimal_query.specs.declared.state.State.{State}
-use Rattle.optimal_query.specs.declared.state.State.TheVariants.{Ask, Found, NothingWrong}
+use Rattle.optimal_query.specs.declared.state.SearchState.{SearchState}
+use Rattle.optimal_query.specs.declared.state.SearchState.TheVariants.{Ask, Found, NothingWrong}
 use Rattle.optimal_query.specs.Question.{weight_of}
 use Rattle.optimal_query.specs.Region.{region_of}
 use Rattle.optimal_query.specs.State.{doubts_after, state_of, suspects_after}
@@ -41,7 +41,7 @@ suspects_in calls answers = suspects_after calls.last calls.routine answers
 abbrev pub doubts_in : CallTree → List What → List ℕ
 doubts_in calls answers = doubts_after calls.last calls.routine answers
 
-abbrev pub state_in : CallTree → List What → State
+abbrev pub state_in : CallTree → List What → SearchState
 state_in calls answers = state_of calls.last calls.routine answers
 
 -- each call of the region is a suspect or a doubt

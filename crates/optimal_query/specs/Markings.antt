@@ -4,8 +4,8 @@ use Rattle.std.specs.Prelude.{◌≡◌, ℕ, List, Option, Some, None, length, 
 use Rattle.call_tree.specs.declared.records.Mark.{Mark}
 use Rattle.call_tree.specs.declared.records.Mark.TheVariants.{Unjudged}
 use Rattle.optimal_query.specs.declared.markings.Markings.TheInside.{Inside}
-use Rattle.optimal_query.specs.declared.state.State.{State}
-use Rattle.optimal_query.specs.declared.state.State.TheVariants.{Found, Narrowed, NothingWrong, Unclear}
+use Rattle.optimal_query.specs.declared.state.SearchState.{SearchState}
+use Rattle.optimal_query.specs.declared.state.SearchState.TheVariants.{Found, Narrowed, NothingWrong, Unclear}
 use Rattle.subtree_weights.specs.Weighed.{Weighed, call_count}
 
 -- the flag of a call with this mark
@@ -25,7 +25,7 @@ abbrev pub AreKeptMarkings : Inside → Type 0
 AreKeptMarkings kept = AreMarkings kept.weights kept.marks.items kept.askable.items kept.depths.items
 
 -- the verdict, by the accused and the first doubt
-abbrev pub verdict_from : Option ℕ → Option ℕ → State
+abbrev pub verdict_from : Option ℕ → Option ℕ → SearchState
 verdict_from (Some accused) None = Found accused
 verdict_from (Some accused) (Some doubt) = Narrowed accused
 verdict_from None None = NothingWrong

@@ -6,7 +6,7 @@ use Rattle.call_tree.specs.declared.records.Mark.TheVariants as mark
 use Rattle.answer_book.specs.declared.entries.What.{What}
 use Rattle.answer_book.specs.Accused.{accused_of}
 use Rattle.call_tree.specs.Clear.{is_clear}
-use Rattle.optimal_query.specs.declared.state.State.TheVariants.{Found}
+use Rattle.optimal_query.specs.declared.state.SearchState.TheVariants.{Found}
 use Rattle.optimal_query.specs.Laws.{IsCallTree, CallTree, doubts_in, mark_in, state_in, suspects_in}
 
 -- for each call whether it went wrong

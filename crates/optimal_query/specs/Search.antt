@@ -9,7 +9,7 @@ use Rattle.answer_book.specs.Entries.{first_entries, standing_answers}
 use Rattle.answer_book.specs.Marks.{mark_of, marks_of}
 use Rattle.call_tree.specs.Recording.{Recording, depths_of, lasts_of}
 use Rattle.call_tree.specs.declared.records.Mark.{Mark}
-use Rattle.optimal_query.specs.declared.state.State.{State}
+use Rattle.optimal_query.specs.declared.state.SearchState.{SearchState}
 use Rattle.optimal_query.specs.Region.{next_after}
 use Rattle.optimal_query.specs.State.{doubts_after, state_of}
 
@@ -47,7 +47,7 @@ marks_now search = marks_of search.book.routine (answers_in search)
 abbrev pub accused_now : Search → Option ℕ
 accused_now search = accused_of search.book.routine (answers_in search)
 
-abbrev pub state_now : Search → State
+abbrev pub state_now : Search → SearchState
 state_now search = state_of search.last search.book.routine (answers_in search)
 
 -- the least doubt, or the least one after the call that is given

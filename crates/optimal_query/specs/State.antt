@@ -5,26 +5,26 @@ use Rattle.call_tree.specs.declared.records.Mark.{Mark}
 use Rattle.answer_book.specs.declared.entries.What.{What}
 use Rattle.answer_book.specs.Accused.{accused_of}
 use Rattle.answer_book.specs.Marks.{marks_of}
-use Rattle.optimal_query.specs.declared.state.State.{State}
-use Rattle.optimal_query.specs.declared.state.State.TheVariants.{Ask, Found, Narrowed, NothingWrong, Unclear}
+use Rattle.optimal_query.specs.declared.state.SearchState.{SearchState}
+use Rattle.optimal_query.specs.declared.state.SearchState.TheVariants.{Ask, Found, Narrowed, NothingWrong, Unclear}
 use Rattle.optimal_query.specs.Question.{left_of, question_of, weight_of}
 use Rattle.optimal_query.specs.Region.{doubts_of, suspects_of}
 
 -- with no suspect left, by the accused and the doubts
-abbrev pub verdict_by : Option ℕ → List ℕ → State
+abbrev pub verdict_by : Option ℕ → List ℕ → SearchState
 verdict_by (Some accused) [] = Found accused
 verdict_by (Some accused) (doubt ∷ doubts) = Narrowed accused
 verdict_by None [] = NothingWrong
 verdict_by None (doubt ∷ doubts) = Unclear
 
 -- a question where there is one, with its numbers; else the verdict
-abbrev pub state_by : List ℕ → List ℕ → Option ℕ → State → State
+abbrev pub state_by : List ℕ → List ℕ → Option ℕ → SearchState → SearchState
 state_by last suspects (Some call) verdict =
     Ask call (weight_of last suspects call) (length suspects) (left_of last suspects call)
 state_by last suspects None verdict = verdict
 
 -- the state, from the marks and the accused
-unfoldable pub state_with : List ℕ → List Mark → Option ℕ → State
+unfoldable pub state_with : List ℕ → List Mark → Option ℕ → SearchState
 state_with last marks accused =
     let suspects = suspects_of last marks accused in
     state_by last suspects (question_of last suspects) (verdict_by accused (doubts_of last marks accused))
@@ -37,5 +37,5 @@ abbrev pub doubts_after : List ℕ → List ℕ → List What → List ℕ
 doubts_after last routine answers = doubts_of last (marks_of routine answers) (accused_of routine answers)
 
 -- the state of the search
-abbrev pub state_of : List ℕ → List ℕ → List What → State
+abbrev pub state_of : List ℕ → List ℕ → List What → SearchState
 state_of last routine answers = state_with last (marks_of routine answers) (accused_of routine answers)

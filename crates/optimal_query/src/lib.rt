@@ -14,4 +14,4 @@ mod state;
 
 pub use plain_debug::PlainDebug;
 pub use search::Debug;
-pub use state::State;
+pub use state::SearchState;

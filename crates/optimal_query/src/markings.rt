@@ -16,7 +16,7 @@ ghost use Rattle.subtree_weights.specs.Weights.{suspects_below};
 use crate::region::{end, next_doubt, start};
 use crate::routine_calls::{has_few, next_call};
 use crate::runs::best_of_runs;
-use crate::state::State;
+use crate::state::SearchState;
 use answer_book::Book;
 use call_tree::{Calls, Mark};
 use cell_value::{Memory, Steps};
@@ -123,14 +123,14 @@ fn look_up_each<L>(
 }
 
 /// With no suspect left, what the search has come to.
-fn verdict(accused: Option<u32>, doubt: Option<u32>) -> State
+fn verdict(accused: Option<u32>, doubt: Option<u32>) -> SearchState
     ensures { result ≡ verdict_from accused doubt }
 {
     match (accused, doubt) {
-        (Some(call), None) => State::Found(call),
-        (Some(call), Some(_)) => State::Narrowed(call),
-        (None, None) => State::NothingWrong,
-        (None, Some(_)) => State::Unclear,
+        (Some(call), None) => SearchState::Found(call),
+        (Some(call), Some(_)) => SearchState::Narrowed(call),
+        (None, None) => SearchState::NothingWrong,
+        (None, Some(_)) => SearchState::Unclear,
     }
 }
 
@@ -270,7 +270,7 @@ impl Markings {
     }
 
     /// The state of the search, in which this call is accused.
-    pub fn state(&self, calls: &Calls, accused: Option<u32>) -> State
+    pub fn state(&self, calls: &Calls, accused: Option<u32>) -> SearchState
         requires those_calls { columns_of calls.now.calls ≡ self.now.columns }
         requires a_call { 0 < call_count self.now }
         requires all_left { calls.now.open_calls ≡ [] }
@@ -292,7 +292,7 @@ impl Markings {
             to,
         );
         match best {
-            Some(choice) => State::Ask {
+            Some(choice) => SearchState::Ask {
                 call: choice.at as u32,
                 weight: self.weights.weight(choice.at as u32),
                 suspects,

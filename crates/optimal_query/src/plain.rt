@@ -9,7 +9,7 @@ ghost use Rattle.subtree_weights.specs.Searched.{is_below, is_cleared, is_in, is
 ghost use Rattle.optimal_query.specs.Region.{is_after, next_after};
 ghost use Rattle.optimal_query.specs.State.{state_with, verdict_by};
 
-use crate::state::State;
+use crate::state::SearchState;
 use call_tree::Mark;
 use cell_value::Memory;
 use std::alloc::Global;
@@ -193,14 +193,14 @@ pub fn question(last: &[u32], suspects: &[u32]) -> Option<u32>
 }
 
 /// With no suspect left, what the search has come to.
-pub fn verdict(accused: Option<u32>, doubts: &[u32]) -> State
+pub fn verdict(accused: Option<u32>, doubts: &[u32]) -> SearchState
     ensures { result ≡ verdict_by accused doubts.now }
 {
     match (accused, doubts) {
-        (Some(call), []) => State::Found(call),
-        (Some(call), _) => State::Narrowed(call),
-        (None, []) => State::NothingWrong,
-        (None, _) => State::Unclear,
+        (Some(call), []) => SearchState::Found(call),
+        (Some(call), _) => SearchState::Narrowed(call),
+        (None, []) => SearchState::NothingWrong,
+        (None, _) => SearchState::Unclear,
     }
 }
 
@@ -211,7 +211,7 @@ pub fn state(
     last: &[u32],
     marks: &[Mark],
     accused: Option<u32>,
-) -> Result<State, Memory>
+) -> Result<SearchState, Memory>
     requires same_length { length marks.now ≡ length last.now }
     requires few { length last.now < 2 ^ 32 }
     requires accused_is_a_call { ForSome accused (λ accused. accused < length last.now) }
@@ -220,7 +220,7 @@ pub fn state(
     let suspects = suspects(alloc, last, marks, accused)?;
     let doubts = doubts(alloc, last, marks, accused)?;
     let state = match question(last, &suspects) {
-        Some(call) => State::Ask {
+        Some(call) => SearchState::Ask {
             call,
             weight: weight(last, &suspects, call),
             suspects: suspects.len() as u32,

@@ -9,7 +9,7 @@ ghost use Rattle.answer_book.specs.declared.entries.What.TheVariants as what;
 ghost use Rattle.optimal_query.specs.Search.{mark_now, new_search, next_doubt, search_with, search_without, state_now};
 
 use crate::plain::{next_unknown, state};
-use crate::state::State;
+use crate::state::SearchState;
 use answer_book::{BookFault, EntryList, Judgement, What};
 use call_tree::{Calls, Mark};
 use cell_value::Memory;
@@ -169,7 +169,7 @@ impl PlainDebug {
     }
 
     /// The state of the search.
-    pub fn state(&self, alloc: Global) -> Result<State, Memory>
+    pub fn state(&self, alloc: Global) -> Result<SearchState, Memory>
         ensures { IfOk result (λ state. state ≡ state_now self.now) }
     {
         let marks = marks_by(alloc, &self.routine, &self.entries)?;

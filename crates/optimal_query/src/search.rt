@@ -15,7 +15,7 @@ ghost use Rattle.subtree_weights.specs.RunColumns.{columns_of};
 ghost use Rattle.subtree_weights.specs.Weighed.{with_marks};
 
 use crate::markings::Markings;
-use crate::state::State;
+use crate::state::SearchState;
 use answer_book::{Book, BookFault, Entry, Judgement, What};
 use call_tree::{Calls, Mark};
 use cell_value::{Memory, Steps};
@@ -214,7 +214,7 @@ impl<'a> Debug<'a> {
     }
 
     /// The state of the search.
-    pub fn state(&self) -> State
+    pub fn state(&self) -> SearchState
         ensures { result ≡ state_now self.now }
     {
         self.markings.state(self.calls, self.book.accused())

@@ -2,7 +2,7 @@
 
 /// What the search has come to.
 #[derive(Clone, Copy, Debug, PartialEq, Eq)]
-pub enum State {
+pub enum SearchState {
     /// There are suspects, and this one is asked about: its number, how many suspects stand in its
     /// subtree, how many there are in all, and how many the worse answer leaves.
     Ask {

@@ -40,8 +40,8 @@ use Rattle.std.proofs.lemmas.List.{append-nil, take_at, drop_at, drop-drop}
 use Rattle.std.proofs.lemmas.List.Sums.{sum_by-append}
 use Rattle.std.proofs.Math.ListN.{drop_of_length-le}
 use Rattle.std.proofs.Math.Seq.{take-add}
-use Rattle.pas_lexer.specs.declared.kinds.Kind.{Kind}
-use Rattle.pas_lexer.specs.declared.kinds.Kind.TheVariants.{Word as WordKind, Name, Number, Text, Symbol as SymbolKind, End}
+use Rattle.pas_lexer.specs.declared.kinds.TokenKind.{TokenKind}
+use Rattle.pas_lexer.specs.declared.kinds.TokenKind.TheVariants.{Word as WordKind, Name, Number, Text, Symbol as SymbolKind, End}
 use Rattle.pas_lexer.specs.declared.kinds.Token.{Token}
 use Rattle.pas_lexer.specs.declared.kinds.LexFault.{LexFault}
 use Rattle.pas_lexer.specs.declared.kinds.LexFault.TheVariants.{BadByte, OpenComment, OpenString, EmptyString, RealWord, TooLarge, Joined, Memory}
@@ -76,7 +76,7 @@ pub nil_fits : NothingFits []
 unfolding piece_at
 nil_fits = nothing_fits [] reason.BadByte refl
 
-piece_of : List ℕ → Option Kind → Piece
+piece_of : List ℕ → Option TokenKind → Piece
 piece_of text kind = record { text = text; kind = kind }
 
 same_piece : (p q : Piece) → p.text ≡ q.text → p.kind ≡ q.kind → p ≡ q
@@ -93,8 +93,8 @@ one_division (p ∷ ps) (q ∷ qs) s a b d e f g =
       q.kind,
       length q.text,
     ) (sym (piece_again p.kind p.text d.0 d.2) ∙ ap piece_at same ∙ piece_again q.kind q.text e.0 e.2) in
-    let kinds : p.kind ≡ q.kind = ap (λ (x : Option Kind × ℕ). x.0) read_both in
-    let lengths : length p.text ≡ length q.text = ap (λ (x : Option Kind × ℕ). x.1) read_both in
+    let kinds : p.kind ≡ q.kind = ap (λ (x : Option TokenKind × ℕ). x.0) read_both in
+    let lengths : length p.text ≡ length q.text = ap (λ (x : Option TokenKind × ℕ). x.1) read_both in
     let texts : p.text ≡ q.text = sym (take_at p.text d.0 (length q.text) lengths) ∙ ap (take (length q.text)) same ∙ take_at q.text e.0 (length q.text) refl in
     let rests : d.0 ≡ e.0 = sym (drop_at p.text d.0 (length q.text) lengths) ∙ ap (drop (length q.text)) same ∙ drop_at q.text e.0 (length q.text) refl in
     let more = one_division ps qs e.0 a b (subst (λ (r : List ℕ). Divides ps r a) rests d.3) e.3 f g in
@@ -138,7 +138,7 @@ never_both source tokens n a b = never_for source tokens b.0 n a b.1
 
 -- ---- the pieces so far
 
-divides_more : (ps : List Piece) (s text rest : List ℕ) (k : Option Kind) → Divides ps s (text ++ rest) → Fits text rest k
+divides_more : (ps : List Piece) (s text rest : List ℕ) (k : Option TokenKind) → Divides ps s (text ++ rest) → Fits text rest k
     → Divides (ps ++ record { text = text; kind = k } ∷ []) s rest
 divides_more [] s text rest k d fits = (rest, d, fits, refl)
 divides_more (p ∷ ps) s text rest k d fits = (d.0, d.1, d.2, divides_more ps d.0 text rest k d.3 fits)
@@ -170,7 +170,7 @@ pub record SoFar (source : List ℕ) (at : ℕ) (tokens : List Token) : Type 0 w
 pub begun : (source : List ℕ) → SoFar source 0 []
 begun source = record { pieces = []; divides = refl; tokens_are = refl; at_is = refl }
 
-pub goes_on : (source : List ℕ) (at n : ℕ) (tokens : List Token) (k : Option Kind) → SoFar source at tokens → piece_at (drop at source) ≡ Ok (k, n)
+pub goes_on : (source : List ℕ) (at n : ℕ) (tokens : List Token) (k : Option TokenKind) → SoFar source at tokens → piece_at (drop at source) ≡ Ok (k, n)
     → SoFar source (at + n) (tokens ++ token_of at (at + n) (line_at source at) k)
 goes_on source at n tokens k so_far e =
     let cut = piece_cut (drop at source) k n e in
@@ -288,7 +288,8 @@ size_is : (ps : List Piece) (source left : List ℕ) → Divides ps source left 
 size_is [] source left d = omega (arith, ap length d)
 size_is (p ∷ ps) source left d = omega (arith, size_is ps d.0 left d.3, ap length d.1, length-append p.text d.0)
 
-token_placed : (source : List ℕ) (start end line : ℕ) (k : Option Kind) → start ≤ end → end ≤ length source → All (IsPlaced source) (token_of start end line k)
+token_placed : (source : List ℕ) (start end line : ℕ) (k : Option TokenKind) → start ≤ end → end ≤ length source
+    → All (IsPlaced source) (token_of start end line k)
 token_placed source start end line None a b = all_nil (IsPlaced source)
 token_placed source start end line (Some k) a b = all_cons (IsPlaced source) (record { kind = k; start = start; end = end; line = line }) [] (
   a,
@@ -311,7 +312,7 @@ placed source tokens is =
 abbrev IsNoEnd : Token → Type 0
 IsNoEnd t = t.kind ≢ End
 
-kind_no_end : (k : Kind) (text rest : List ℕ) → Fits text rest (Some k) → k ≢ End
+kind_no_end : (k : TokenKind) (text rest : List ℕ) → Fits text rest (Some k) → k ≢ End
 kind_no_end (WordKind w) text rest f e = cc
 kind_no_end Name text rest f e = cc
 kind_no_end (Number n) text rest f e = cc
@@ -319,7 +320,7 @@ kind_no_end Text text rest f e = cc
 kind_no_end (SymbolKind s) text rest f e = cc
 kind_no_end End text rest f e = absurd f.0
 
-token_no_end : (start end line : ℕ) (k : Option Kind) (text rest : List ℕ) → Fits text rest k → All IsNoEnd (token_of start end line k)
+token_no_end : (start end line : ℕ) (k : Option TokenKind) (text rest : List ℕ) → Fits text rest k → All IsNoEnd (token_of start end line k)
 token_no_end start end line None text rest f = all_nil IsNoEnd
 token_no_end start end line (Some k) text rest f = all_cons IsNoEnd (record { kind = k; start = start; end = end; line = line }) [] (kind_no_end k text rest f)
     (all_nil IsNoEnd)
@@ -339,12 +340,13 @@ ended source tokens is = (
   tokens_no_end source 0 is.0 source [] is.1,
 )
 
-token_few : (start end line : ℕ) (k : Option Kind) → length (token_of start end line k) ≤ 1
+token_few : (start end line : ℕ) (k : Option TokenKind) → length (token_of start end line k) ≤ 1
 token_few start end line None = omega arith
 token_few start end line (Some k) = omega arith
 
 -- a piece adds at most one token
-pub few_more : (tokens : List Token) (at n line : ℕ) (k : Option Kind) → length tokens ≤ at → 0 < n → length (tokens ++ token_of at (at + n) line k) ≤ at + n
+pub few_more : (tokens : List Token) (at n line : ℕ) (k : Option TokenKind) → length tokens ≤ at → 0 < n
+    → length (tokens ++ token_of at (at + n) line k) ≤ at + n
 few_more tokens at n line k few some = omega (arith, length-append tokens (token_of at (at + n) line k), token_few at (at + n) line k)
 
 pub line_more : (source : List ℕ) (at n line feeds : ℕ) → line ≡ line_at source at

@@ -38,8 +38,8 @@ use Rattle.std.specs.Prelude.{◌&&◌}
 use Rattle.std.proofs.lemmas.Bool.{eqb-true, lt-ltb, eq-eqb}
 use Rattle.std.proofs.lemmas.Bool.Decides.{nat_tests}
 use Rattle.std.proofs.lemmas.List.{take-append-drop}
-use Rattle.pas_lexer.specs.declared.kinds.Kind.{Kind}
-use Rattle.pas_lexer.specs.declared.kinds.Kind.TheVariants.{Number, Text, Symbol as SymbolKind}
+use Rattle.pas_lexer.specs.declared.kinds.TokenKind.{TokenKind}
+use Rattle.pas_lexer.specs.declared.kinds.TokenKind.TheVariants.{Number, Text, Symbol as SymbolKind}
 use Rattle.pas_lexer.specs.declared.kinds.Symbol.TheVariants.{LeftParen}
 use Rattle.pas_lexer.specs.declared.kinds.LexReason.{LexReason}
 use Rattle.pas_lexer.specs.declared.kinds.LexReason.TheVariants.{BadByte, OpenComment, OpenString, EmptyString, RealWord, TooLarge, Joined}
@@ -109,7 +109,7 @@ use Rattle.pas_lexer.proofs.FirstClosingSymbol.{closing_sound, never_closed}
 use Rattle.pas_lexer.proofs.LastApostrophe.{Ended, ended_sound, open_found, doubled_apostrophe, doubled_other}
 use Rattle.pas_lexer.proofs.ReadPieceFits.{piece_again, piece_cut, mark_read, symbol_read, star_there, failed}
 
-abbrev read : Option Kind × ℕ → Reading
+abbrev read : Option TokenKind × ℕ → Reading
 read x = Ok x
 
 pub reason_is : (r q : LexReason) → failed r ≡ Err q → r ≡ q
@@ -118,7 +118,7 @@ reason_is r q e = cc
 reason_same : (l : List ℕ) (r q : LexReason) → failed r ≡ Err q → IsReason r l → IsReason q l
 reason_same l r q e h = subst (λ (x : LexReason). IsReason x l) (reason_is r q e) h
 
-none_failed : (x : Option Kind × ℕ) (r : LexReason) → read x ≡ Err r → ⊥
+none_failed : (x : Option TokenKind × ℕ) (r : LexReason) → read x ≡ Err r → ⊥
 none_failed x r e = cc
 
 -- ---- what is read as a reason is one
@@ -245,7 +245,7 @@ no_star c l e = rw e refl
 
 -- a byte that begins nothing, whatever follows
 no_piece : (c : ℕ) (l : List ℕ) → letter c ≡ false → digit c ≡ false → separator c ≡ false → nat_eq c apostrophe ≡ false → nat_eq c 123 ≡ false
-    → nat_eq c 47 ≡ false → symbol_among all_symbols (c ∷ l) ≡ None → (text rest : List ℕ) (k : Option Kind) → Fits (c ∷ text) rest k → ⊥
+    → nat_eq c 47 ≡ false → symbol_among all_symbols (c ∷ l) ≡ None → (text rest : List ℕ) (k : Option TokenKind) → Fits (c ∷ text) rest k → ⊥
 no_piece c l a b d f g h none text rest k fits =
     let paren : nat_eq c 40 ≡ false = no_paren c l none in
     let is : symbol_piece (symbol_among all_symbols (c ∷ (text ++ rest))) ≡ read (k, suc (length text)) =
@@ -420,14 +420,15 @@ brace_fits = inr (125 ∷ [], inl refl, inl refl)
 paren_fits : Fits (40 ∷ []) [] (Some (SymbolKind LeftParen))
 paren_fits = (inl refl, longest_end (40 ∷ []), tt, refl)
 
-digits_begin : (c : ℕ) (l digits rest : List ℕ) → ((text rest : List ℕ) (k : Option Kind) → Fits (c ∷ text) rest k → ⊥) → FirstDigits (c ∷ l) digits rest → ⊥
+digits_begin : (c : ℕ) (l digits rest : List ℕ) → ((text rest : List ℕ) (k : Option TokenKind) → Fits (c ∷ text) rest k → ⊥) → FirstDigits (c ∷ l) digits rest
+    → ⊥
 digits_begin c l digits rest none f = none [] [] (Some (Number (decimal (c ∷ [])))) (digit_fits c (digit_here c l digits rest f))
 
-begins_with : (c d : ℕ) (text rest : List ℕ) (k : Option Kind) → c ≡ d → ((text rest : List ℕ) (k : Option Kind) → Fits (c ∷ text) rest k → ⊥)
+begins_with : (c d : ℕ) (text rest : List ℕ) (k : Option TokenKind) → c ≡ d → ((text rest : List ℕ) (k : Option TokenKind) → Fits (c ∷ text) rest k → ⊥)
     → Fits (d ∷ text) rest k → ⊥
 begins_with c d text rest k e none fits = none text rest k (subst (λ (x : ℕ). Fits (x ∷ text) rest k) (sym e) fits)
 
-bad_only : (c : ℕ) (l : List ℕ) (r : LexReason) → ((text rest : List ℕ) (k : Option Kind) → Fits (c ∷ text) rest k → ⊥) → (BeginsReal (c ∷ l) → ⊥)
+bad_only : (c : ℕ) (l : List ℕ) (r : LexReason) → ((text rest : List ℕ) (k : Option TokenKind) → Fits (c ∷ text) rest k → ⊥) → (BeginsReal (c ∷ l) → ⊥)
     → IsReason r (c ∷ l) → failed r ≡ Err BadByte
 bad_only c l BadByte none no_real is = refl
 bad_only c l RealWord none no_real is = absurd (no_real is)
@@ -443,7 +444,7 @@ bad_only c l OpenComment none no_real is =
       | inr e ↦ absurd (begins_with c 40 [] [] (Some (SymbolKind LeftParen)) (head_is c 40 l (42 ∷ is.0) e) none paren_fits)
     ]
 
-bad_read : (c : ℕ) (l : List ℕ) → NothingFits (c ∷ l) → ((text rest : List ℕ) (k : Option Kind) → Fits (c ∷ text) rest k → ⊥) → (BeginsReal (c ∷ l) → ⊥)
+bad_read : (c : ℕ) (l : List ℕ) → NothingFits (c ∷ l) → ((text rest : List ℕ) (k : Option TokenKind) → Fits (c ∷ text) rest k → ⊥) → (BeginsReal (c ∷ l) → ⊥)
     → piece_at (c ∷ l) ≡ Err BadByte
 bad_read c l nothing none no_real = let r = some_reason (c ∷ l) nothing in r.1 ∙ bad_only c l r.0 none no_real (piece_fails c l r.0 r.1)
 

@@ -43,8 +43,8 @@ use Rattle.std.proofs.lemmas.List.{take-append-drop, append-nil}
 use Rattle.std.proofs.Math.Seq.{take-append_seam}
 use Rattle.pas_lexer.specs.declared.kinds.Word.{Word}
 use Rattle.pas_lexer.specs.declared.kinds.Symbol.{Symbol}
-use Rattle.pas_lexer.specs.declared.kinds.Kind.{Kind}
-use Rattle.pas_lexer.specs.declared.kinds.Kind.TheVariants.{Word as WordKind, Name, Number, Text, Symbol as SymbolKind, End}
+use Rattle.pas_lexer.specs.declared.kinds.TokenKind.{TokenKind}
+use Rattle.pas_lexer.specs.declared.kinds.TokenKind.TheVariants.{Word as WordKind, Name, Number, Text, Symbol as SymbolKind, End}
 use Rattle.pas_lexer.specs.declared.kinds.LexReason.{LexReason}
 use Rattle.pas_lexer.specs.declared.kinds.LexReason.TheVariants.{BadByte, OpenComment, OpenString, EmptyString, RealWord, TooLarge, Joined}
 use Rattle.pas_lexer.specs.declared.symbols.Written.{Written}
@@ -133,10 +133,10 @@ use Rattle.pas_lexer.proofs.WordsBeforeNames.{identifier_all, identifier_more, w
 use Rattle.pas_lexer.proofs.FirstClosingSymbol.{closing_again, closing_sound}
 use Rattle.pas_lexer.proofs.LastApostrophe.{Ended, ended_sound, ended_found, characters_are, characters_on_line, characters_some}
 
-abbrev read : Option Kind → ℕ → Reading
+abbrev read : Option TokenKind → ℕ → Reading
 read k n = Ok (k, n)
 
-abbrev pub found : Option Kind × ℕ → Reading
+abbrev pub found : Option TokenKind × ℕ → Reading
 found x = Ok x
 
 abbrev pub failed : LexReason → Reading
@@ -283,7 +283,7 @@ written_again w text rest e longest none =
     subst (λ (t : List ℕ). piece_at (t ++ rest) ≡ read (Some (SymbolKind (symbol_of w))) (length t)) (sym e)
     (symbol_piece_again w rest (subst (λ (t : List ℕ). IsLongest t rest) e longest) (subst (λ (t : List ℕ). opens_comment (t ++ rest) ≡ false) e none))
 
-pub piece_again : (k : Option Kind) (text rest : List ℕ) → Fits text rest k → piece_at (text ++ rest) ≡ Ok (k, length text)
+pub piece_again : (k : Option TokenKind) (text rest : List ℕ) → Fits text rest k → piece_at (text ++ rest) ≡ Ok (k, length text)
 piece_again None text rest (inl h) = subst (λ (t : List ℕ). piece_at (t ++ rest) ≡ read None (length t)) (sym h.1) (separator_again h.0 rest h.2)
 piece_again None text rest (inr h) = comment_again text h.0 rest h.1 h.2
 piece_again (Some (WordKind w)) text rest h = identifier_again text rest (word_spelled text w h.0) h.1
@@ -329,7 +329,7 @@ no_quote_digit : (text : List ℕ) (c : ℕ) (cs : List ℕ) → digit c ≡ tru
 no_quote_digit text c cs h e = let f : digit apostrophe ≡ true = subst (λ (x : ℕ). digit x ≡ true) (quoted_first text c cs e) h in
     both_ways (digit apostrophe) f refl
 
-identifier_spelled : (k : Kind) (c : ℕ) (cs : List ℕ) → letter c ≡ true → Spells k (c ∷ cs) → IsIdentifier (c ∷ cs)
+identifier_spelled : (k : TokenKind) (c : ℕ) (cs : List ℕ) → letter c ≡ true → Spells k (c ∷ cs) → IsIdentifier (c ∷ cs)
 identifier_spelled (WordKind w) c cs h f = word_spelled (c ∷ cs) w f
 identifier_spelled Name c cs h f = f.0
 identifier_spelled (Number n) c cs h f = absurd (both_ways (letter c) h (digit_no_letter c f.0.0))
@@ -337,7 +337,7 @@ identifier_spelled Text c cs h f = absurd (no_quote f.0 c cs h f.2)
 identifier_spelled (SymbolKind s) c cs h f = let w = written_of s (c ∷ cs) f in absurd (both_ways (letter c) h (symbol_first w.0 c cs w.1).0)
 identifier_spelled End c cs h f = absurd f
 
-digits_spelled : (k : Kind) (c : ℕ) (cs : List ℕ) → digit c ≡ true → Spells k (c ∷ cs) → IsDigitSequence (c ∷ cs)
+digits_spelled : (k : TokenKind) (c : ℕ) (cs : List ℕ) → digit c ≡ true → Spells k (c ∷ cs) → IsDigitSequence (c ∷ cs)
 digits_spelled (WordKind w) c cs h f = absurd (both_ways (letter c) (word_spelled (c ∷ cs) w f).0 (digit_no_letter c h))
 digits_spelled Name c cs h f = absurd (both_ways (letter c) f.0.0 (digit_no_letter c h))
 digits_spelled (Number n) c cs h f = f.0
@@ -345,7 +345,7 @@ digits_spelled Text c cs h f = absurd (no_quote_digit f.0 c cs h f.2)
 digits_spelled (SymbolKind s) c cs h f = let w = written_of s (c ∷ cs) f in absurd (both_ways (digit c) h (symbol_first w.0 c cs w.1).1)
 digits_spelled End c cs h f = absurd f
 
-string_spelled : (k : Kind) (cs : List ℕ) → Spells k (apostrophe ∷ cs) → Spells Text (apostrophe ∷ cs)
+string_spelled : (k : TokenKind) (cs : List ℕ) → Spells k (apostrophe ∷ cs) → Spells Text (apostrophe ∷ cs)
 string_spelled (WordKind w) cs f = absurd (both_ways (letter apostrophe) (word_spelled (apostrophe ∷ cs) w f).0 refl)
 string_spelled Name cs f = absurd (both_ways (letter apostrophe) f.0.0 refl)
 string_spelled (Number n) cs f = absurd (both_ways (digit apostrophe) f.0.0 refl)
@@ -354,7 +354,7 @@ string_spelled (SymbolKind s) cs f = let w = written_of s (apostrophe ∷ cs) f 
     absurd (both_ways (nat_eq apostrophe apostrophe) refl (symbol_first w.0 apostrophe cs w.1).2)
 string_spelled End cs f = absurd f
 
-symbol_spelled : (k : Kind) (c : ℕ) (cs : List ℕ) → letter c ≡ false → digit c ≡ false → nat_eq c apostrophe ≡ false → Spells k (c ∷ cs)
+symbol_spelled : (k : TokenKind) (c : ℕ) (cs : List ℕ) → letter c ≡ false → digit c ≡ false → nat_eq c apostrophe ≡ false → Spells k (c ∷ cs)
     → (w : Written) × (c ∷ cs ≡ written_text w)
 symbol_spelled (WordKind w) c cs a b d f = absurd (both_ways (letter c) (word_spelled (c ∷ cs) w f).0 a)
 symbol_spelled Name c cs a b d f = absurd (both_ways (letter c) f.0.0 a)
@@ -396,7 +396,7 @@ string_longest l n e found d ds more k f spelled =
     omega (arith, same, longer.2, e.len, quoted_length e.text, quoted_length other, ap length text, length-append (quoted e.text) (d ∷ ds))
 
 -- a piece of a length in front
-pub record Cut (l : List ℕ) (k : Option Kind) (n : ℕ) : Type 0 where
+pub record Cut (l : List ℕ) (k : Option TokenKind) (n : ℕ) : Type 0 where
   pub text : List ℕ
   pub rest : List ℕ
   pub whole : l ≡ text ++ rest
@@ -404,13 +404,13 @@ pub record Cut (l : List ℕ) (k : Option Kind) (n : ℕ) : Type 0 where
   pub some : 0 < n
   pub fits : Fits text rest k
 
-pub pair_is : (x y : Option Kind × ℕ) → found x ≡ Ok y → x ≡ y
+pub pair_is : (x y : Option TokenKind × ℕ) → found x ≡ Ok y → x ≡ y
 pair_is x y e = cc
 
-cut_same : (l : List ℕ) (k j : Option Kind) (m n : ℕ) → read k m ≡ Ok (j, n) → Cut l k m → Cut l j n
-cut_same l k j m n e c = subst (λ (x : Option Kind × ℕ). Cut l x.0 x.1) (pair_is (k, m) (j, n) e) c
+cut_same : (l : List ℕ) (k j : Option TokenKind) (m n : ℕ) → read k m ≡ Ok (j, n) → Cut l k m → Cut l j n
+cut_same l k j m n e c = subst (λ (x : Option TokenKind × ℕ). Cut l x.0 x.1) (pair_is (k, m) (j, n) e) c
 
-pub nothing_read : (r : LexReason) (k : Option Kind) (n : ℕ) → failed r ≡ read k n → ⊥
+pub nothing_read : (r : LexReason) (k : Option TokenKind) (n : ℕ) → failed r ≡ read k n → ⊥
 nothing_read r k n e = cc
 
 word_or_name_allowed : (o : Option Word) (rest : List ℕ) → IsAllowed (word_or_name o) rest
@@ -421,7 +421,7 @@ word_or_name_allowed (Some w) rest = tt
 run_one : (p : ℕ → Bool) (c : ℕ) (l : List ℕ) → p c ≡ true → run_length p (c ∷ l) ≡ suc (run_length p l)
 run_one p c l h = rw h refl
 
-identifier_cut : (c : ℕ) (l : List ℕ) (k : Option Kind) (n : ℕ) → letter c ≡ true → identifier_at (c ∷ l) ≡ Ok (k, n) → Cut (c ∷ l) k n
+identifier_cut : (c : ℕ) (l : List ℕ) (k : Option TokenKind) (n : ℕ) → letter c ≡ true → identifier_at (c ∷ l) ≡ Ok (k, n) → Cut (c ∷ l) k n
 unfolding identifier_at
 identifier_cut c l k n h e =
     let one : run_length letter_or_digit (c ∷ l) ≡ suc (run_length letter_or_digit l) = run_one letter_or_digit c l (letter_passes c h) in
@@ -443,7 +443,7 @@ identifier_cut c l k n h e =
       );
     })
 
-number_cut : (c : ℕ) (l : List ℕ) (k : Option Kind) (n : ℕ) → digit c ≡ true → piece_at (c ∷ l) ≡ Ok (k, n) → Cut (c ∷ l) k n
+number_cut : (c : ℕ) (l : List ℕ) (k : Option TokenKind) (n : ℕ) → digit c ≡ true → piece_at (c ∷ l) ≡ Ok (k, n) → Cut (c ∷ l) k n
 number_cut c l k n h e =
     let digits : List ℕ = c ∷ take (run_length digit l) l in
     let rest : List ℕ = drop (run_length digit l) l in
@@ -476,10 +476,10 @@ number_cut c l k n h e =
           );
         })
 
-string_cut : (l : List ℕ) (k : Option Kind) (n : ℕ) → string_piece l (string_end false l) ≡ Ok (k, n) → Cut (apostrophe ∷ l) k n
+string_cut : (l : List ℕ) (k : Option TokenKind) (n : ℕ) → string_piece l (string_end false l) ≡ Ok (k, n) → Cut (apostrophe ∷ l) k n
 string_cut l k n e = at (string_end false l) refl e
   where
-    short : (l : List ℕ) (k : Option Kind) (n : ℕ) → cond (next_is apostrophe (drop 1 l)) (failed OpenString) (Err EmptyString) ≡ Ok (k, n) → ⊥
+    short : (l : List ℕ) (k : Option TokenKind) (n : ℕ) → cond (next_is apostrophe (drop 1 l)) (failed OpenString) (Err EmptyString) ≡ Ok (k, n) → ⊥
     short l k n e =
         elim (chosen (next_is apostrophe (drop 1 l)) (failed OpenString) (Err EmptyString) (Ok (k, n)) e) [
           | inl h ↦ nothing_read OpenString k n h.1
@@ -505,7 +505,7 @@ string_cut l k n e = at (string_end false l) refl e
           | inr h ↦ absurd (short l k n h.1)
         ]
 
-comment_cut : (whole after : List ℕ) (opened : ℕ) (k : Option Kind) (n : ℕ) → IsOpened whole after
+comment_cut : (whole after : List ℕ) (opened : ℕ) (k : Option TokenKind) (n : ℕ) → IsOpened whole after
     → ((x : List ℕ) → (t : List ℕ) × IsOpened t x × (length t ≡ opened + length x) × ((y : List ℕ) → after ≡ x ++ y → whole ≡ t ++ y)) → 0 < opened
     → comment_piece opened (closing after) ≡ Ok (k, n) → Cut whole k n
 comment_cut whole after opened k n is front some e = at (closing after) refl e
@@ -538,7 +538,7 @@ star_there c l e = let p = and_parts (nat_eq c 40) (next_is 42 l) e in at l p.1 
     at [] e f = absurd cc
     at (d ∷ m) e f = (m, ap (λ (x : ℕ). x ∷ (d ∷ m)) f ∙ ap (λ (x : ℕ). 40 ∷ (x ∷ m)) (eqb-true d 42 e), refl)
 
-symbol_cut : (c : ℕ) (l : List ℕ) (k : Option Kind) (n : ℕ) → opens_comment (c ∷ l) ≡ false → symbol_piece (symbol_among all_symbols (c ∷ l)) ≡ Ok (k, n)
+symbol_cut : (c : ℕ) (l : List ℕ) (k : Option TokenKind) (n : ℕ) → opens_comment (c ∷ l) ≡ false → symbol_piece (symbol_among all_symbols (c ∷ l)) ≡ Ok (k, n)
     → Cut (c ∷ l) k n
 symbol_cut c l k n none e = at (symbol_among all_symbols (c ∷ l)) refl e
   where
@@ -561,7 +561,7 @@ symbol_cut c l k n none e = at (symbol_among all_symbols (c ∷ l)) refl e
           );
         })
 
-mark_cut : (c : ℕ) (l : List ℕ) (k : Option Kind) (n : ℕ) → mark_piece c l ≡ Ok (k, n) → Cut (c ∷ l) k n
+mark_cut : (c : ℕ) (l : List ℕ) (k : Option TokenKind) (n : ℕ) → mark_piece c l ≡ Ok (k, n) → Cut (c ∷ l) k n
 unfolding mark_piece string_at symbol_in
 mark_cut c l k n e =
     elim (chosen (nat_eq c apostrophe) _ _ (Ok (k, n)) e) [
@@ -581,7 +581,7 @@ mark_cut c l k n e =
       ]
     ]
 
-pub piece_cut : (l : List ℕ) (k : Option Kind) (n : ℕ) → piece_at l ≡ Ok (k, n) → Cut l k n
+pub piece_cut : (l : List ℕ) (k : Option TokenKind) (n : ℕ) → piece_at l ≡ Ok (k, n) → Cut l k n
 unfolding piece_at
 piece_cut [] k n e = absurd (nothing_read BadByte k n e)
 piece_cut (c ∷ l) k n e =

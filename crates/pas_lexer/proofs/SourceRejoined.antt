@@ -35,8 +35,8 @@ use Rattle.pas_lexer.proofs.LastApostrophe.{doubled_apostrophe, doubled_other}
 use Rattle.std.specs.Prelude.{◌≢◌, slice_range, All}
 use Rattle.std.proofs.lemmas.List.{append-nil, take_at, drop_at, drop-drop, take-append-drop}
 use Rattle.std.proofs.Math.Seq.{take-add}
-use Rattle.pas_lexer.specs.declared.kinds.Kind.{Kind}
-use Rattle.pas_lexer.specs.declared.kinds.Kind.TheVariants.{Text, End}
+use Rattle.pas_lexer.specs.declared.kinds.TokenKind.{TokenKind}
+use Rattle.pas_lexer.specs.declared.kinds.TokenKind.TheVariants.{Text, End}
 use Rattle.pas_lexer.specs.declared.kinds.Token.{Token}
 use Rattle.pas_lexer.specs.Lexis.{IsSeparator, IsComment, Fits, apostrophe, doubled, quoted}
 use Rattle.pas_lexer.specs.Lexed.{text_of, characters, spelled_as}
@@ -74,7 +74,7 @@ end_of source = token_of (length source) (length source) (line_at source (length
 
 -- ---- whole
 
-whole_step : (source : List ℕ) (before at n : ℕ) (k : Option Kind) (ts : List Token) → before ≤ at
+whole_step : (source : List ℕ) (before at n : ℕ) (k : Option TokenKind) (ts : List Token) → before ≤ at
     → ((from : ℕ) → from ≤ at + n → rejoined source from ts ≡ drop from source) → rejoined source before (token_of at (at + n) (line_at source at) k ++ ts)
     ≡ drop before source
 whole_step source before at n None ts le more = more before (omega arith)
@@ -113,7 +113,7 @@ gap_more : (gs : List (List ℕ)) (gap text : List ℕ) → Gaps gs gap → IsSe
 gap_more [] gap text g h = ([], ap (λ (x : List ℕ). x ++ text) g ∙ sym (append-nil text), h, refl)
 gap_more (t ∷ gs) gap text g h = (g.0 ++ text, ap (λ (x : List ℕ). x ++ text) g.1 ∙ append_assoc t g.0 text, g.2, gap_more gs g.0 text g.3 h)
 
-order_step : (source : List ℕ) (before at n : ℕ) (k : Option Kind) (text rest : List ℕ) (ts : List Token) → before ≤ at → at + n ≤ length source
+order_step : (source : List ℕ) (before at n : ℕ) (k : Option TokenKind) (text rest : List ℕ) (ts : List Token) → before ≤ at → at + n ≤ length source
     → take n (drop at source) ≡ text → IsGap (slice_range source before at) → Fits text rest k
     → ((from : ℕ) → from ≤ at + n → IsGap (slice_range source from (at + n)) → InOrder source from ts)
     → InOrder source before (token_of at (at + n) (line_at source at) k ++ ts)
@@ -151,7 +151,7 @@ in_order source tokens is = subst (InOrder source 0) (sym is.2) (order_from sour
 abbrev FitsThere : List ℕ → Token → Type 0
 FitsThere source t = t.kind ≢ End → Fits (text_of source t) (drop t.end source) (Some t.kind)
 
-token_fits : (source : List ℕ) (at : ℕ) (k : Option Kind) (text rest : List ℕ) → drop at source ≡ text ++ rest → Fits text rest k
+token_fits : (source : List ℕ) (at : ℕ) (k : Option TokenKind) (text rest : List ℕ) → drop at source ≡ text ++ rest → Fits text rest k
     → All (FitsThere source) (token_of at (at + length text) (line_at source at) k)
 token_fits source at None text rest e h = all_nil (FitsThere source)
 token_fits source at (Some k) text rest e h =

@@ -21,8 +21,8 @@ use Rattle.std.specs.Prelude.{
   Err,
   ◌⊎◌,
 }
-use Rattle.pas_lexer.specs.declared.kinds.Kind.{Kind}
-use Rattle.pas_lexer.specs.declared.kinds.Kind.TheVariants.{End}
+use Rattle.pas_lexer.specs.declared.kinds.TokenKind.{TokenKind}
+use Rattle.pas_lexer.specs.declared.kinds.TokenKind.TheVariants.{End}
 use Rattle.pas_lexer.specs.declared.kinds.Token.{Token}
 use Rattle.pas_lexer.specs.declared.kinds.LexReason.{LexReason}
 use Rattle.pas_lexer.specs.declared.kinds.LexReason.TheVariants as reason
@@ -43,7 +43,7 @@ use Rattle.pas_lexer.specs.Lexed.{Lexed, text_of}
 -- a separator or a comment, which have no kind, or a token
 pub record Piece : Type 0 where
   pub text : List ℕ
-  pub kind : Option Kind
+  pub kind : Option TokenKind
 
 -- The source is these pieces and then what is left, and each piece fits at its place.
 abbrev pub Divides : List Piece → List ℕ → List ℕ → Type 0
@@ -65,7 +65,7 @@ abbrev pub line_at : List ℕ → ℕ → ℕ
 line_at source place = 1 + count_by (λ c. nat_eq c line_feed) (take place source)
 
 -- the token of a piece, and none of a separator or a comment
-abbrev pub token_of : ℕ → ℕ → ℕ → Option Kind → List Token
+abbrev pub token_of : ℕ → ℕ → ℕ → Option TokenKind → List Token
 token_of start end line None = []
 token_of start end line (Some k) = record { kind = k; start = start; end = end; line = line } ∷ []
 

@@ -24,8 +24,8 @@ use Rattle.std.specs.Prelude.{
   Some,
   All,
 }
-use Rattle.pas_lexer.specs.declared.kinds.Kind.{Kind}
-use Rattle.pas_lexer.specs.declared.kinds.Kind.TheVariants.{Name, Text, End}
+use Rattle.pas_lexer.specs.declared.kinds.TokenKind.{TokenKind}
+use Rattle.pas_lexer.specs.declared.kinds.TokenKind.TheVariants.{Name, Text, End}
 use Rattle.pas_lexer.specs.declared.kinds.Token.{Token}
 use Rattle.pas_lexer.specs.declared.spellings.Place.{Place}
 use Rattle.pas_lexer.specs.Lexis.{apostrophe, lower_case}
@@ -47,7 +47,7 @@ characters pending (c ∷ l) = if nat_eq c apostrophe && not pending then charac
 
 -- Of a name the text in lower case, since the case of a letter does not matter (6.1.1), of a string its characters, and
 -- of any other token the text.
-abbrev pub spelled_as : Kind → List ℕ → List ℕ
+abbrev pub spelled_as : TokenKind → List ℕ → List ℕ
 spelled_as Name text = lower_case text
 spelled_as Text text = characters false (drop 1 text)
 spelled_as _ text = text

@@ -33,8 +33,8 @@ use Rattle.std.specs.Prelude.{
 use Rattle.std.specs.List.{AllPass}
 use Rattle.std.specs.Char.{is_ascii_digit, is_ascii_alphabetic, is_ascii_alphanumeric, to_ascii_lowercase}
 use Rattle.pas_lexer.specs.declared.kinds.Word.{Word}
-use Rattle.pas_lexer.specs.declared.kinds.Kind.{Kind}
-use Rattle.pas_lexer.specs.declared.kinds.Kind.TheVariants.{
+use Rattle.pas_lexer.specs.declared.kinds.TokenKind.{TokenKind}
+use Rattle.pas_lexer.specs.declared.kinds.TokenKind.TheVariants.{
   Word as WordKind,
   Name,
   Number,
@@ -139,7 +139,7 @@ quoted characters = apostrophe ∷ (doubled characters ++ apostrophe ∷ [])
 
 -- The spellings of each kind of token. A name is no word symbol (6.1.3). A number is not limited here, so that digits
 -- that stand together are one number however many there are.
-abbrev pub Spells : Kind → List ℕ → Type 0
+abbrev pub Spells : TokenKind → List ℕ → Type 0
 Spells (WordKind w) text = lower_case text ≡ word_text w
 Spells Name text = IsIdentifier text × ((w : Word) → lower_case text ≢ word_text w)
 Spells (Number n) text = IsDigitSequence text × (decimal text ≡ n)
@@ -175,7 +175,8 @@ IsSeparator text = (c : ℕ) × (text ≡ c ∷ []) × (separator c ≡ true)
 
 -- no token is longer at this place
 abbrev pub IsLongest : List ℕ → List ℕ → Type 0
-IsLongest text rest = (c : ℕ) (cs more : List ℕ) (k : Kind) → rest ≡ (c ∷ cs) ++ more → Spells k (text ++ (c ∷ cs)) → ⊥
+IsLongest text rest = (c : ℕ) (cs more : List ℕ) (k : TokenKind) → rest ≡ (c ∷ cs) ++ more
+    → Spells k (text ++ (c ∷ cs)) → ⊥
 
 -- 6.1.5: a scale factor goes on with digits, or with a sign and digits
 abbrev pub scale_first : List ℕ → Bool
@@ -189,20 +190,20 @@ real_follows (c ∷ l) = if nat_eq c 46 then digit_first l else (if nat_eq c 101
     else false)
 
 -- a number is no part of a real one, no letter follows it (6.1.8), and it is not too large
-abbrev pub IsAllowed : Kind → List ℕ → Type 0
+abbrev pub IsAllowed : TokenKind → List ℕ → Type 0
 IsAllowed (Number n) rest = (real_follows rest ≡ false) × (letter_first rest ≡ false) × (n ≤ maxint)
 IsAllowed _ rest = Unit {0}
 
 -- A piece in front of a rest: a separator or a comment, which have no kind, or the longest token, where no comment
 -- opens.
-abbrev pub Fits : List ℕ → List ℕ → Option Kind → Type 0
+abbrev pub Fits : List ℕ → List ℕ → Option TokenKind → Type 0
 Fits text rest None = IsSeparator text ⊎ IsComment text
 Fits text rest (Some k) = Spells k text × IsLongest text rest × IsAllowed k rest
     × (opens_comment (text ++ rest) ≡ false)
 
 -- no piece fits in front
 abbrev pub NothingFits : List ℕ → Type 0
-NothingFits left = (text rest : List ℕ) (k : Option Kind) → left ≡ text ++ rest → Fits text rest k → ⊥
+NothingFits left = (text rest : List ℕ) (k : Option TokenKind) → left ≡ text ++ rest → Fits text rest k → ⊥
 
 -- ---- why nothing fits
 
@@ -240,7 +241,7 @@ BeginsOpenComment left = (after : List ℕ) × IsOpened left after
 -- a byte with which no piece begins, whatever follows it
 abbrev pub BeginsBadByte : List ℕ → Type 0
 BeginsBadByte left = (c : ℕ) × (more : List ℕ) × (left ≡ c ∷ more)
-    × ((text rest : List ℕ) (k : Option Kind) → Fits (c ∷ text) rest k → ⊥)
+    × ((text rest : List ℕ) (k : Option TokenKind) → Fits (c ∷ text) rest k → ⊥)
 
 -- The reason for which nothing fits. Of several, a real number goes first, then a letter after a number, and then a
 -- number that is too large. The others exclude one another.

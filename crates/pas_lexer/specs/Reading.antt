@@ -87,8 +87,9 @@ use Rattle.pas_lexer.specs.declared.kinds.Symbol.TheVariants.{
   Becomes,
   Range,
 }
-use Rattle.pas_lexer.specs.declared.kinds.Kind.{Kind}
-use Rattle.pas_lexer.specs.declared.kinds.Kind.TheVariants.{Word as WordKind, Name, Number, Text, Symbol as SymbolKind}
+use Rattle.pas_lexer.specs.declared.kinds.TokenKind.{TokenKind}
+use Rattle.pas_lexer.specs.declared.kinds.TokenKind.TheVariants.{Word as WordKind, Name, Number, Text}
+use Rattle.pas_lexer.specs.declared.kinds.TokenKind.TheVariants.{Symbol as SymbolKind}
 use Rattle.pas_lexer.specs.declared.kinds.LexReason.{LexReason}
 use Rattle.pas_lexer.specs.declared.kinds.LexReason.TheVariants.{
   BadByte,
@@ -185,9 +186,9 @@ string_end false (c ∷ l) = if nat_eq c apostrophe then or_else (more_by 1 (str
 
 -- a piece's kind, or none for a separator or a comment, and its length; or the reason for which no piece fits
 abbrev pub Reading : Type 0
-Reading = Result (Option Kind × ℕ) LexReason
+Reading = Result (Option TokenKind × ℕ) LexReason
 
-abbrev pub word_or_name : Option Word → Kind
+abbrev pub word_or_name : Option Word → TokenKind
 word_or_name None = Name
 word_or_name (Some w) = WordKind w
 

@@ -94,7 +94,7 @@ pub enum Symbol {
 
 /// What a token is. A number has its value, at most maxint, which is 2147483647. `Text` is a string.
 #[derive(Clone, Copy, Debug, PartialEq, Eq)]
-pub enum Kind {
+pub enum TokenKind {
     Word(Word),
     Name,
     Number(u32),
@@ -108,7 +108,7 @@ pub enum Kind {
 /// is counted from 1.
 #[derive(Clone, Copy, Debug, PartialEq, Eq)]
 pub struct Token {
-    pub kind: Kind,
+    pub kind: TokenKind,
     pub start: u32,
     pub end: u32,
     pub line: u32,

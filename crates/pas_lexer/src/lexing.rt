@@ -22,7 +22,7 @@ ghost use Rattle.std.specs.Prelude.{
   count_by,
   vec_len,
 };
-ghost use Rattle.pas_lexer.specs.declared.kinds.Kind.TheVariants.{Text, End};
+ghost use Rattle.pas_lexer.specs.declared.kinds.TokenKind.TheVariants.{Text, End};
 ghost use Rattle.pas_lexer.specs.declared.kinds.LexFault.TheVariants.{Memory};
 ghost use Rattle.pas_lexer.specs.declared.kinds.LexReason.{LexReason};
 ghost use Rattle.pas_lexer.specs.declared.kinds.Token.{Token};
@@ -47,7 +47,7 @@ ghost use Rattle.pas_lexer.specs.Division.{
   InOrder,
 };
 
-use crate::kinds::{Kind, LexFault, LexReason, Token};
+use crate::kinds::{LexFault, LexReason, Token, TokenKind};
 use crate::piece::piece;
 use crate::tokens::Tokens;
 use std::alloc::Global;
@@ -56,7 +56,7 @@ use std::alloc::Global;
 pub const MAX_SOURCE_BYTES: usize = 1_048_576;
 
 /// The piece at a place, or the reason for which none fits.
-fn piece_from(bytes: &[u8], at: usize) -> Result<(Option<Kind>, usize), LexReason>
+fn piece_from(bytes: &[u8], at: usize) -> Result<(Option<TokenKind>, usize), LexReason>
     requires { at ≤ length bytes.now }
     ensures gives { result ≡ piece_at (drop at bytes.now) }
     ensures inside { IfOk result (λ x. (0 < x.1) × (at + x.1 ≤ length bytes.now)) }
@@ -84,7 +84,7 @@ pub fn line_at(source: &[u8], byte: u32) -> u32
 /// Adds the token of a piece, and none of a separator or a comment.
 fn push_piece(
     tokens: &mut Vec<Token>,
-    kind: Option<Kind>,
+    kind: Option<TokenKind>,
     start: usize,
     end: usize,
     line: usize,
@@ -126,7 +126,7 @@ fn scan(alloc: Global, bytes: &[u8]) -> Result<Vec<Token>, LexFault>
         line += line_feeds(&bytes[at..end]);
         at = end;
     }
-    push_piece(&mut tokens, Some(Kind::End), at, at, line)?;
+    push_piece(&mut tokens, Some(TokenKind::End), at, at, line)?;
     Ok(tokens)
 }
 

@@ -10,6 +10,6 @@ mod symbols;
 pub mod tokens;
 mod words;
 
-pub use kinds::{Kind, LexFault, Symbol, Token, Word};
+pub use kinds::{LexFault, Symbol, Token, TokenKind, Word};
 pub use lexing::{MAX_SOURCE_BYTES, lex, line_at};
 pub use tokens::Tokens;

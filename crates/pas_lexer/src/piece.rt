@@ -18,7 +18,7 @@ use crate::bytes::{
     begins_with, begins_with_letter, comment_end, digits_length, identifier_length, is_pair,
     is_separator, last_apostrophe, real_goes_on,
 };
-use crate::kinds::{Kind, LexReason};
+use crate::kinds::{LexReason, TokenKind};
 use crate::symbols::symbol_begun;
 use crate::words::word_of;
 
@@ -28,7 +28,7 @@ const MAXINT: u64 = 2_147_483_647;
 /// The first piece: its kind, or none for a separator or a comment, and its length in bytes. The error is
 /// the reason for which no piece fits.
 #[tactic(auto, unfolding(crate::specs::Reading::piece_at))]
-pub fn piece(bytes: &[u8]) -> Result<(Option<Kind>, usize), LexReason>
+pub fn piece(bytes: &[u8]) -> Result<(Option<TokenKind>, usize), LexReason>
     ensures { result ≡ piece_at bytes.now }
 {
     match bytes {
@@ -51,7 +51,7 @@ pub fn piece(bytes: &[u8]) -> Result<(Option<Kind>, usize), LexReason>
 
 /// The string, the comment or the symbol that stands first.
 #[tactic(auto, unfolding(crate::specs::Reading::mark_piece))]
-fn mark(c: u8, bytes: &[u8], rest: &[u8]) -> Result<(Option<Kind>, usize), LexReason>
+fn mark(c: u8, bytes: &[u8], rest: &[u8]) -> Result<(Option<TokenKind>, usize), LexReason>
     requires { bytes.now ≡ c ∷ rest.now }
     ensures { result ≡ mark_piece c rest.now }
 {
@@ -69,26 +69,29 @@ fn mark(c: u8, bytes: &[u8], rest: &[u8]) -> Result<(Option<Kind>, usize), LexRe
     }
     match symbol_begun(bytes) {
         None => Err(LexReason::BadByte),
-        Some(written) => Ok((Some(Kind::Symbol(written.symbol())), written.text().len())),
+        Some(written) => Ok((
+            Some(TokenKind::Symbol(written.symbol())),
+            written.text().len(),
+        )),
     }
 }
 
 /// The word symbol or the name that stands first.
 #[tactic(auto, unfolding(crate::specs::Reading::identifier_at))]
-fn identifier(bytes: &[u8]) -> (Option<Kind>, usize)
+fn identifier(bytes: &[u8]) -> (Option<TokenKind>, usize)
     ensures { Ok result ≡ identifier_at bytes.now }
 {
     let n = identifier_length(bytes);
     match word_of(&bytes[..n]) {
-        None => (Some(Kind::Name), n),
-        Some(word) => (Some(Kind::Word(word)), n),
+        None => (Some(TokenKind::Name), n),
+        Some(word) => (Some(TokenKind::Word(word)), n),
     }
 }
 
 /// The number that stands first, if it goes on as no real one, no letter follows it, and it is not too
 /// large.
 #[tactic(auto, unfolding(crate::specs::Reading::number_at))]
-fn number(bytes: &[u8]) -> Result<(Option<Kind>, usize), LexReason>
+fn number(bytes: &[u8]) -> Result<(Option<TokenKind>, usize), LexReason>
     ensures { result ≡ number_at bytes.now }
 {
     let n = digits_length(bytes);
@@ -100,7 +103,7 @@ fn number(bytes: &[u8]) -> Result<(Option<Kind>, usize), LexReason>
     }
     match number_of(&bytes[..n]) {
         None => Err(LexReason::TooLarge),
-        Some(value) => Ok((Some(Kind::Number(value)), n)),
+        Some(value) => Ok((Some(TokenKind::Number(value)), n)),
     }
 }
 
@@ -121,7 +124,7 @@ fn number_of(digits: &[u8]) -> Option<u32>
 }
 
 /// The comment after whose opening symbol, of `opened` bytes, these stand.
-fn comment(opened: usize, after: &[u8]) -> Result<(Option<Kind>, usize), LexReason>
+fn comment(opened: usize, after: &[u8]) -> Result<(Option<TokenKind>, usize), LexReason>
     requires { opened ≤ 2 }
     ensures { result ≡ comment_piece opened (closing after.now) }
 {
@@ -133,14 +136,14 @@ fn comment(opened: usize, after: &[u8]) -> Result<(Option<Kind>, usize), LexReas
 
 /// The string after whose first apostrophe these stand.
 #[tactic(auto, unfolding(crate::specs::Reading::string_at))]
-fn string(after: &[u8]) -> Result<(Option<Kind>, usize), LexReason>
+fn string(after: &[u8]) -> Result<(Option<TokenKind>, usize), LexReason>
     ensures { result ≡ string_at after.now }
 {
     match last_apostrophe(after) {
         None => Err(LexReason::OpenString),
         Some(n) => {
             if n > 1 {
-                return Ok((Some(Kind::Text), 1 + n));
+                return Ok((Some(TokenKind::Text), 1 + n));
             }
             if begins_with(&after[1..], b'\'') {
                 return Err(LexReason::OpenString);

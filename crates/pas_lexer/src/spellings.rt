@@ -4,7 +4,7 @@ ghost use Rattle.std.specs.Prelude.{◌≡◌, ◌++◌, false, IfOk, OnOk, All}
 ghost use Rattle.pas_lexer.specs.Lexis.{lower_case};
 ghost use Rattle.pas_lexer.specs.Lexed.{characters, spelled_as, IsPlaced, AreSpelled};
 
-use crate::kinds::{Kind, Token};
+use crate::kinds::{Token, TokenKind};
 use std::alloc::{AllocError, Global};
 
 /// Where a spelling stands: the bytes from `start` up to, and without, `end`.
@@ -39,12 +39,12 @@ fn push_characters(spellings: &mut Vec<u8>, text: &[u8]) -> Result<(), AllocErro
 }
 
 /// Appends the spelling of a token of this kind and text.
-fn push_spelling(spellings: &mut Vec<u8>, kind: Kind, text: &[u8]) -> Result<(), AllocError>
+fn push_spelling(spellings: &mut Vec<u8>, kind: TokenKind, text: &[u8]) -> Result<(), AllocError>
     ensures { OnOk result (spellings.new.items ≡ spellings.old.items ++ spelled_as kind text.now) }
 {
     match kind {
-        Kind::Name => push_lower_case(spellings, text),
-        Kind::Text => match text {
+        TokenKind::Name => push_lower_case(spellings, text),
+        TokenKind::Text => match text {
             [] => Ok(()),
             [_, after @ ..] => push_characters(spellings, after),
         },

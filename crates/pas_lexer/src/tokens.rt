@@ -1,7 +1,7 @@
 //! A source with its tokens.
 
 ghost use Rattle.std.specs.Prelude.{◌≡◌, ◌↔◌, ℕ, ◌+◌, ◌<◌, ◌^◌, IfOk, length, slice_get, All, vec_len};
-ghost use Rattle.pas_lexer.specs.declared.kinds.Kind.TheVariants.{End};
+ghost use Rattle.pas_lexer.specs.declared.kinds.TokenKind.TheVariants.{End};
 ghost use Rattle.pas_lexer.specs.declared.kinds.Token.{Token};
 ghost use Rattle.pas_lexer.specs.Lexed.{text_of, spelling_of, IsPlaced, EndsOnce};
 

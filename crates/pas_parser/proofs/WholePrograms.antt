@@ -9,7 +9,7 @@ use Rattle.grammar.specs.Laws.{NoneGoesOn}
 use Rattle.grammar.specs.Ending.{IsLast, Has}
 use Rattle.grammar.proofs.Ending.{refused_inside}
 use Rattle.grammar.specs.declared.terminals.Terminal.TheVariants as k
-use Rattle.pas_lexer.specs.declared.kinds.Kind.{Kind}
+use Rattle.pas_lexer.specs.declared.kinds.TokenKind.{TokenKind}
 use Rattle.pas_lexer.specs.declared.kinds.Token.{Token}
 use Rattle.pas_lexer.specs.Lexed.{EndsOnce}
 use Rattle.pas_tree.specs.Rules as r
@@ -95,7 +95,7 @@ unfolding items_from
 ends_there tokens e =
     let f : Token → Terminal = λ t. terminal_of t.kind in
     let same : terminals_of tokens ≡ terminals_of e.0 ++ k.End ∷ [] =
-    ap terminals_of e.2 ∙ map_push f e.0 e.1 ∙ ap (λ (x : Kind). terminals_of e.0 ++ terminal_of x ∷ []) e.3 in
+    ap terminals_of e.2 ∙ map_push f e.0 e.1 ∙ ap (λ (x : TokenKind). terminals_of e.0 ++ terminal_of x ∷ []) e.3 in
     subst (λ (l : List Terminal). Has k.End (numbered 0 l)) (sym same) (has_numbered (terminals_of e.0) 0)
 
 no_formed_goes_on : (ks : List Terminal) (i : ℕ) → i < length ks → NoneGoesOn IsFormed (items_from ks 0) (items_from ks i) → NoFormedGoesOn ks i

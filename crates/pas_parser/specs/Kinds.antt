@@ -2,8 +2,8 @@
 use Rattle.std.specs.Prelude.{List, map}
 use Rattle.grammar.specs.declared.terminals.Terminal.{Terminal}
 use Rattle.grammar.specs.declared.terminals.Terminal.TheVariants as k
-use Rattle.pas_lexer.specs.declared.kinds.Kind.{Kind}
-use Rattle.pas_lexer.specs.declared.kinds.Kind.TheVariants as kind
+use Rattle.pas_lexer.specs.declared.kinds.TokenKind.{TokenKind}
+use Rattle.pas_lexer.specs.declared.kinds.TokenKind.TheVariants as kind
 use Rattle.pas_lexer.specs.declared.kinds.Word.{Word}
 use Rattle.pas_lexer.specs.declared.kinds.Word.TheVariants as word
 use Rattle.pas_lexer.specs.declared.kinds.Symbol.{Symbol}
@@ -69,7 +69,7 @@ symbol_terminal symbol.AtLeast = k.AtLeast
 symbol_terminal symbol.Becomes = k.Becomes
 symbol_terminal symbol.Range = k.Range
 
-abbrev pub terminal_of : Kind → Terminal
+abbrev pub terminal_of : TokenKind → Terminal
 terminal_of (kind.Word w) = word_terminal w
 terminal_of kind.Name = k.Name
 terminal_of (kind.Number n) = k.Number

@@ -23,12 +23,12 @@ use grammar::Terminal;
 use pas_denoters::{read_denoter, read_heading};
 use pas_phrases::ParseFault;
 use pas_phrases::constants::{read_constant, read_names};
-use pas_phrases::lists::{Part, read_list};
+use pas_phrases::lists::{ListPart, read_list};
 use pas_phrases::looking::TerminalList;
 use pas_statements::read_compound;
 use pas_tree::blocks::{
-    Block, Body, ConstantDefinition, ConstantPart, LabelPart, NextLabel, Parameters, Routine, Tree,
-    TypeDefinition, TypePart, VariableDeclaration, VariablePart,
+    Block, ConstantDefinition, ConstantPart, LabelPart, NextLabel, Parameters, Routine,
+    RoutineBody, Tree, TypeDefinition, TypePart, VariableDeclaration, VariablePart,
 };
 use std::alloc::Global;
 
@@ -210,16 +210,16 @@ fn read_body(
     tokens: &TerminalList,
     at: u32,
     depth: u32,
-) -> Result<(Body, u32), ParseFault>
+) -> Result<(RoutineBody, u32), ParseFault>
     ensures gives { ReadsAs tokens.now body_node result (read pascal depth body_rule (items_from tokens.now at)) }
     ensures forward { IfOk result (λ x. at ≤ x.1) }
 {
     if tokens.is_next(at, Terminal::Name) {
         let (directive, after) = tokens.expect(at, Terminal::Name)?;
-        return Ok((Body::Directive(directive), after));
+        return Ok((RoutineBody::Directive(directive), after));
     }
     let (block, after) = read_block(alloc, tokens, at, depth)?;
-    Ok((Body::Block(Box::new(alloc, block)?), after))
+    Ok((RoutineBody::Block(Box::new(alloc, block)?), after))
 }
 
 #[tactic(auto, unfolding(grammar::specs::Reading::read, pas_tree::specs::Rules::label_part_rule))]
@@ -252,7 +252,7 @@ fn read_label_part(
 /// The labels after the first one.
 struct NextLabels;
 
-impl Part for NextLabels {
+impl ListPart for NextLabels {
     type Tree = NextLabel;
 
     ghost node = { next_label_node };
@@ -308,7 +308,7 @@ fn read_constant_part(
 /// The definitions of constants.
 struct ConstantDefinitions;
 
-impl Part for ConstantDefinitions {
+impl ListPart for ConstantDefinitions {
     type Tree = ConstantDefinition;
 
     ghost node = { constant_definition_node };
@@ -372,7 +372,7 @@ fn read_type_part(
 /// The definitions of types.
 struct TypeDefinitions;
 
-impl Part for TypeDefinitions {
+impl ListPart for TypeDefinitions {
     type Tree = TypeDefinition;
 
     ghost node = { type_definition_node };
@@ -436,7 +436,7 @@ fn read_variable_part(
 /// The declarations of variables.
 struct VariableDeclarations;
 
-impl Part for VariableDeclarations {
+impl ListPart for VariableDeclarations {
     type Tree = VariableDeclaration;
 
     ghost node = { variable_declaration_node };

@@ -5,7 +5,7 @@ ghost use Rattle.pas_lexer.specs.Lexed.{EndsOnce};
 ghost use Rattle.pas_parser.specs.Kinds.{symbol_terminal, terminal_of, terminals_of, word_terminal};
 
 use grammar::Terminal;
-use pas_lexer::{Kind, Symbol, Tokens, Word};
+use pas_lexer::{Symbol, TokenKind, Tokens, Word};
 use pas_phrases::looking::TerminalList;
 use std::alloc::{AllocError, Global};
 
@@ -26,16 +26,16 @@ pub fn terminals(alloc: Global, tokens: &Tokens) -> Result<TerminalList, AllocEr
 }
 
 /// The terminal of a kind of token.
-fn terminal(kind: Kind) -> Terminal
+fn terminal(kind: TokenKind) -> Terminal
     ensures { result ≡ terminal_of kind }
 {
     match kind {
-        Kind::Word(word) => word_terminal(word),
-        Kind::Name => Terminal::Name,
-        Kind::Number(_) => Terminal::Number,
-        Kind::Text => Terminal::Text,
-        Kind::Symbol(symbol) => symbol_terminal(symbol),
-        Kind::End => Terminal::End,
+        TokenKind::Word(word) => word_terminal(word),
+        TokenKind::Name => Terminal::Name,
+        TokenKind::Number(_) => Terminal::Number,
+        TokenKind::Text => Terminal::Text,
+        TokenKind::Symbol(symbol) => symbol_terminal(symbol),
+        TokenKind::End => Terminal::End,
     }
 }
 

@@ -14,7 +14,7 @@ ghost use Rattle.pas_tree.proofs.Parts.{parts};
 ghost use Rattle.pas_phrases.specs.Items.{ReadsAs, items_from, signed_plain};
 
 use crate::fault::ParseFault;
-use crate::lists::{Part, read_list};
+use crate::lists::{ListPart, read_list};
 use crate::looking::TerminalList;
 use crate::operators::{expect_sign, is_next_sign};
 use grammar::Terminal;
@@ -40,7 +40,7 @@ pub fn read_names(
 
 struct NextNames;
 
-impl Part for NextNames {
+impl ListPart for NextNames {
     type Tree = NextName;
 
     ghost node = { next_name_node };
@@ -149,7 +149,7 @@ pub fn read_constants(
 
 struct NextConstants;
 
-impl Part for NextConstants {
+impl ListPart for NextConstants {
     type Tree = NextConstant;
 
     ghost node = { next_constant_node };

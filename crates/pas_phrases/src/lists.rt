@@ -16,7 +16,7 @@ use std::alloc::Global;
 
 /// What a list repeats: how a part is read, and where another one comes. A type that implements it names a list,
 /// and has no values.
-pub trait Part {
+pub trait ListPart {
     /// A part that was read.
     type Tree: Drop;
 
@@ -47,7 +47,7 @@ pub trait Part {
 /// Reads parts as long as another one comes, in which `depth` more levels may be nested: the parts in their order,
 /// and the place after the last one. The first part that can't be read is the failure of the whole.
 #[tactic(auto, using(crate::proofs::ReadLists::list_reading))]
-pub fn read_list<P: Part>(
+pub fn read_list<P: ListPart>(
     alloc: Global,
     tokens: &TerminalList,
     at: u32,

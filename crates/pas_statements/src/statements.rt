@@ -24,7 +24,7 @@ use grammar::Terminal;
 use pas_expressions::{read_access, read_expression, read_selectors};
 use pas_phrases::ParseFault;
 use pas_phrases::constants::read_constants;
-use pas_phrases::lists::{Part, read_list};
+use pas_phrases::lists::{ListPart, read_list};
 use pas_phrases::looking::{TerminalList, is_one_of};
 use pas_phrases::operators::expect_direction;
 use pas_phrases::separators::{expect_else, is_next_case, read_last_semicolon};
@@ -232,7 +232,7 @@ fn read_actuals(
 /// The actual parameters after the first one.
 struct NextActuals;
 
-impl Part for NextActuals {
+impl ListPart for NextActuals {
     type Tree = NextActual;
 
     ghost node = { next_actual_node };
@@ -526,7 +526,7 @@ fn read_with(
 /// The accesses of a with statement after the first one.
 struct NextAccesses;
 
-impl Part for NextAccesses {
+impl ListPart for NextAccesses {
     type Tree = NextAccess;
 
     ghost node = { next_access_node };

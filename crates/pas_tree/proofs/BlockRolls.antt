@@ -3,7 +3,7 @@ use Rattle.std.proofs.Common.{◌≡◌, map, refl, Vec, Global, Option}
 use denote.Hole.Carrier.{roll}
 use Rattle.grammar.specs.Nodes.{Pair, row}
 use Rattle.pas_tree.specs.declared.statements.Compound.{Compound}
-use Rattle.pas_tree.specs.declared.blocks.Body.TheBlock as b
+use Rattle.pas_tree.specs.declared.blocks.RoutineBody.TheBlock as b
 use Rattle.pas_tree.specs.declared.blocks.Block.{roll-Block}
 use Rattle.pas_tree.specs.declared.blocks.LabelPart.{LabelPart}
 use Rattle.pas_tree.specs.declared.blocks.ConstantPart.{ConstantPart}

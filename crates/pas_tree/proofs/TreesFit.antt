@@ -12,7 +12,7 @@ use Rattle.pas_tree.specs.declared.blocks.TypePart.{TypePart}
 use Rattle.pas_tree.specs.declared.blocks.TypeDefinition.{TypeDefinition}
 use Rattle.pas_tree.specs.declared.blocks.VariablePart.{VariablePart}
 use Rattle.pas_tree.specs.declared.blocks.VariableDeclaration.{VariableDeclaration}
-use Rattle.pas_tree.specs.declared.blocks.Body.{Body, Directive, Block'}
+use Rattle.pas_tree.specs.declared.blocks.RoutineBody.{RoutineBody, Directive, Block'}
 use Rattle.pas_tree.specs.Blocks as node
 use Rattle.pas_tree.specs.Rules as r
 use Rattle.pas_tree.proofs.Fits.{Fits, loose_rule, one, pair, left, right, absent, deeper, nil, cons, listed}
@@ -70,7 +70,7 @@ mutual
   routines_fits (more_of-Routine head semicolon body last_semicolon rest) =
       cons (pair (deeper (heading_fits head)) (pair (one refl) (pair (body_fits body) (one refl)))) (routines_fits rest)
 
-  body_fits : (b : Body) → Fits r.body_rule (node.body_node b)
+  body_fits : (b : RoutineBody) → Fits r.body_rule (node.body_node b)
   body_fits (Directive n) = left (one refl)
   body_fits (Block' _ b) = right (deeper (block_fits b))
 

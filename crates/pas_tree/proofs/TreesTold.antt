@@ -11,7 +11,7 @@ use Rattle.pas_tree.specs.declared.blocks.TypePart.{TypePart}
 use Rattle.pas_tree.specs.declared.blocks.TypeDefinition.{TypeDefinition}
 use Rattle.pas_tree.specs.declared.blocks.VariablePart.{VariablePart}
 use Rattle.pas_tree.specs.declared.blocks.VariableDeclaration.{VariableDeclaration}
-use Rattle.pas_tree.specs.declared.blocks.Body.{Body, Directive, Block'}
+use Rattle.pas_tree.specs.declared.blocks.RoutineBody.{RoutineBody, Directive, Block'}
 use Rattle.grammar.proofs.Texts.{one_tree}
 use Rattle.pas_tree.specs.Rules.{program_rule}
 use Rattle.pas_tree.specs.FirstFollow.{pascal}
@@ -107,7 +107,7 @@ mutual
       )
   routines_told r s q = absurd (omega (arith, ap form q))
 
-  body_told : (x y : Body) → node.body_node x ≡ node.body_node y → same.SameBody x y
+  body_told : (x y : RoutineBody) → node.body_node x ≡ node.body_node y → same.SameBody x y
   body_told (Directive n) (Directive m) q = ap number q
   body_told (Block' _ a) (Block' _ b) q = block_told a b q
   body_told (Directive n) (Block' _ b) q = absurd (omega (arith, ap form q, block_form b))

@@ -15,7 +15,7 @@ use Rattle.pas_tree.specs.declared.blocks.TypeDefinition.{TypeDefinition}
 use Rattle.pas_tree.specs.declared.blocks.VariablePart.{VariablePart}
 use Rattle.pas_tree.specs.declared.blocks.VariableDeclaration.{VariableDeclaration}
 use Rattle.pas_tree.specs.declared.blocks.Routine.{Routine}
-use Rattle.pas_tree.specs.declared.blocks.Body.{Body, Directive, Block'}
+use Rattle.pas_tree.specs.declared.blocks.RoutineBody.{RoutineBody, Directive, Block'}
 use Rattle.pas_tree.specs.Constants.{names_node, constant_node}
 use Rattle.pas_tree.specs.Denoters.{denoter_node}
 use Rattle.pas_tree.specs.Headings.{heading_node}
@@ -69,7 +69,7 @@ abbrev mutual
       Pair (Pair (heading_node heading) (Pair (leaf k.Semicolon semicolon)
       (Pair (body_node body) (leaf k.Semicolon last_semicolon)))) (routines_node rest)
 
-  pub body_node : Body → Node
+  pub body_node : RoutineBody → Node
   body_node (Directive n) = leaf k.Name n
   body_node (Block' _ b) = block_node b
 

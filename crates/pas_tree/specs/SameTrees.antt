@@ -15,7 +15,7 @@ use Rattle.pas_tree.specs.declared.blocks.TypePart.{TypePart}
 use Rattle.pas_tree.specs.declared.blocks.TypeDefinition.{TypeDefinition}
 use Rattle.pas_tree.specs.declared.blocks.VariablePart.{VariablePart}
 use Rattle.pas_tree.specs.declared.blocks.VariableDeclaration.{VariableDeclaration}
-use Rattle.pas_tree.specs.declared.blocks.Body.{Body, Directive, Block'}
+use Rattle.pas_tree.specs.declared.blocks.RoutineBody.{RoutineBody, Directive, Block'}
 use Rattle.pas_tree.specs.SameConstants.{AllSame, SameNames}
 use Rattle.pas_tree.specs.SameDenoters.{SameDenoter}
 use Rattle.pas_tree.specs.SameHeadings.{SameHeading}
@@ -78,7 +78,7 @@ abbrev mutual
       SameHeading h g × (n ≡ m) × SameBody a b × (o ≡ p) × SameRoutines r s
   SameRoutines r s = ⊥
 
-  pub SameBody : Body → Body → Type 0
+  pub SameBody : RoutineBody → RoutineBody → Type 0
   SameBody (Directive n) (Directive m) = n ≡ m
   SameBody (Block' _ a) (Block' _ b) = SameBlock a b
   SameBody a b = ⊥

@@ -110,14 +110,14 @@ pub struct VariableDeclaration {
 pub struct Routine {
     pub heading: Heading,
     pub semicolon: u32,
-    pub body: Body,
+    pub body: RoutineBody,
     pub last_semicolon: u32,
 }
 
 /// A directive's name, or a block.
 #[derive(Drop)]
 #[cycle(blocks)]
-pub enum Body {
+pub enum RoutineBody {
     Directive(u32),
     Block(Box<Block>),
 }

@@ -14,7 +14,7 @@ use Rattle.program_tables.specs.declared.program.Routine.{Routine}
 use Rattle.program_tables.specs.ProgramRows.{ProgramRows, routine_at}
 use Rattle.program_meaning.specs.State.{State, stack_end}
 use Rattle.program_meaning.specs.Acts.{ActResult, Went, Stops, Spend, perform, spent, limit_passed}
-use Rattle.program_meaning.specs.Tree.{Out, Part, Tree, Ret, Halt, Do, Sub, Enter, Line, way_of}
+use Rattle.program_meaning.specs.Tree.{Out, Part, ActTree, Ret, Halt, Do, Sub, Enter, Line, way_of}
 use Rattle.program_meaning.specs.Layer.{layer}
 use Rattle.program_meaning.specs.Run.{
   End,
@@ -153,7 +153,7 @@ good_if : (b : Bool) (x y : Outcome) → Good x → Good y → Good (if b then x
 good_if true x y g h = g
 good_if false x y g h = h
 
-good_frame : (p : ProgramRows) (go : Tree → State → Outcome) → ((t : Tree) (σ : State) → Good (go t σ)) → (f : ℕ) (args : List Value) (σ : State)
+good_frame : (p : ProgramRows) (go : ActTree → State → Outcome) → ((t : ActTree) (σ : State) → Good (go t σ)) → (f : ℕ) (args : List Value) (σ : State)
     (o : Option Routine) → Good (in_frame (at_work p go f) args σ o)
 good_frame p go h f args σ None = good_ends _ σ
 good_frame p go h f args σ (Some r) =
@@ -161,13 +161,13 @@ good_frame p go h f args σ (Some r) =
     (good_if (nat_lt σ.steps r.cells) _ _ (good_ends _ (spent σ))
     (good_after (without_frame σ.top r.cells) _ (h (whole p f σ.top r) (with_frame r.cells args σ))))
 
-good_call : (p : ProgramRows) (go : Tree → State → Outcome) → ((t : Tree) (σ : State) → Good (go t σ)) → (f : ℕ) (args : List Value) (σ : State)
+good_call : (p : ProgramRows) (go : ActTree → State → Outcome) → ((t : ActTree) (σ : State) → Good (go t σ)) → (f : ℕ) (args : List Value) (σ : State)
     → Good (call_of p go f args σ)
 good_call p go h f args σ = good_recorded f args σ _ (good_after (call_closed σ.depth) _ (good_frame p go h f args (opened σ) (routine_at p f)))
 
 good_walk : (p : ProgramRows) (sub : Part → State → Outcome) (call : ℕ → List Value → State → Outcome) → ((part : Part) (σ : State) → Good (sub part σ))
     → ((f : ℕ) (args : List Value) (σ : State) → Good (call f args σ))
-    → (t : Tree) (σ : State) → Good (walk (plain p) sub call t σ)
+    → (t : ActTree) (σ : State) → Good (walk (plain p) sub call t σ)
 good_walk p sub call hs hc (Ret out) σ = good_ends _ σ
 good_walk p sub call hs hc (Halt line why) σ = good_ends _ σ
 good_walk p sub call hs hc (Do line act next) σ = good_done p line σ (perform act σ) _ (λ x τ. good_walk p sub call hs hc (next x) τ)
@@ -177,7 +177,7 @@ good_walk p sub call hs hc (Enter f cells args next) σ = good_allowed (limit_pa
 good_walk p sub call hs hc (Line line next) σ = good_done p line σ (perform (Spend 1) σ) _
     (λ x τ. good_front [] [] _ (fits_none []) (good_walk p sub call hs hc next τ))
 
-good_run : (p : ProgramRows) (n : ℕ) (t : Tree) (σ : State) → Good (run_of p n t σ)
+good_run : (p : ProgramRows) (n : ℕ) (t : ActTree) (σ : State) → Good (run_of p n t σ)
 good_run p zero t σ = good_none
 good_run p (suc n) t σ = good_walk p _ _ (λ part τ. good_run p n (layer p part) τ) (λ f args τ. good_call p (run_of p n) (good_run p n) f args τ) t σ
 

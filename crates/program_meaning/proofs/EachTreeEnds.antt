@@ -39,7 +39,7 @@ use Rattle.program_meaning.specs.Tree.{
   RestOfLine,
   Print,
   Body,
-  Tree,
+  ActTree,
   Ret,
   Halt,
   Do,
@@ -118,7 +118,7 @@ pays (RestOfLine here) = true
 pays part = false
 
 -- A tree of a rank; and where it is said to pay, it does not end without a step.
-abbrev Ranked : (R r : ℕ) → (pays : Bool) → Tree → Type 0
+abbrev Ranked : (R r : ℕ) → (pays : Bool) → ActTree → Type 0
 Ranked R r b (Ret out) = b ≡ false
 Ranked R r b (Halt line why) = Unit {0}
 Ranked R r b (Do line act next) = (1 ≤ cost act) ⊎ ((x : Answer act) → Ranked R r b (next x))
@@ -143,7 +143,7 @@ below_all R (RestOfLine here) = omega arith
 below_all R (Print at here) = omega arith
 
 -- each tree has this rank
-any_tree : (R : ℕ) (t : Tree) → Ranked R (R + 3) false t
+any_tree : (R : ℕ) (t : ActTree) → Ranked R (R + 3) false t
 any_tree R (Ret out) = refl
 any_tree R (Halt line why) = tt
 any_tree R (Do line act next) = inr (λ x. any_tree R (next x))
@@ -162,13 +162,13 @@ module _ (p : ProgramRows) where
   abbrev R : ℕ
   R = length p.rows
 
-  abbrev Fits : Part → Tree → Type 0
+  abbrev Fits : Part → ActTree → Type 0
   Fits part t = Ranked R (rank R part) (pays part) t
 
   one : 1 ≤ 1
   one = omega arith
 
-  locates : (row access : ℕ) (target : Bool) (here : Here) (go : ℕ → Tree) → row < R
+  locates : (row access : ℕ) (target : Bool) (here : Here) (go : ℕ → ActTree) → row < R
       → Fits (Locate row target here) (locate_before row access target here go)
   locates row access target here go h = by (nat_lt access row) refl
     where
@@ -259,7 +259,7 @@ module _ (p : ProgramRows) where
   in_sequence first at here (rows.Item (item.Element s next)) = (omega arith, inl refl)
   in_sequence first at here r = refl
 
-  repeated : (row condition : ℕ) (here : Here) (go : Value → Tree) (out : Out) → Ranked R (R + 2) false (on_normal (eval condition here go) out)
+  repeated : (row condition : ℕ) (here : Here) (go : Value → ActTree) (out : Out) → Ranked R (R + 2) false (on_normal (eval condition here go) out)
   repeated row condition here go (Jump label base) = refl
   repeated row condition here go out = (omega arith, inl refl)
 
@@ -272,7 +272,7 @@ module _ (p : ProgramRows) where
   counted row i last here (rows.Statement (statement.Turns direction last' place of' body)) = inl one
   counted row i last here r = tt
 
-  read_for_fits : (at host : ℕ) (here : Here) (go : Value → Tree) → Fits (Receive at here) (read_for here host go)
+  read_for_fits : (at host : ℕ) (here : Here) (go : Value → ActTree) → Fits (Receive at here) (read_for here host go)
   read_for_fits at host here go = by (host == char_type)
     where
       by : (b : Bool) → Fits (Receive at here) (if b then doing here.line next_char go else Sub (Scanning Blanks here) (on_scalar go))
@@ -409,9 +409,9 @@ module _ (p : ProgramRows) where
   K = length p.rows + 4
 
   abbrev Enough : ℕ → Type 0
-  Enough n = (t : Tree) (b : Bool) (r : ℕ) → Ranked (length p.rows) r b t → (σ : State) → need K r σ.steps < n → Ends b σ.steps (run_of p n t σ)
+  Enough n = (t : ActTree) (b : Bool) (r : ℕ) → Ranked (length p.rows) r b t → (σ : State) → need K r σ.steps < n → Ends b σ.steps (run_of p n t σ)
 
-  call_ends : (run : Tree → State → Outcome) (f : ℕ) (args : List Value) (σ : State)
+  call_ends : (run : ActTree → State → Outcome) (f : ℕ) (args : List Value) (σ : State)
       → ((r : Routine) (τ : State) → τ.steps ≤ σ.steps → Ends true τ.steps (run (whole p f σ.top r) τ)) → Ends true σ.steps (call_of p run f args σ)
   call_ends run f args σ h = rec (after_all (call_closed σ.depth) (in_frame (at_work p run f) args (opened σ) (routine_at p f)))
       (ends_after true σ.steps (call_closed σ.depth) (λ τ. refl) _ (framed_so (routine_at p f)))
@@ -440,7 +440,7 @@ module _ (p : ProgramRows) where
       go (Went x w τ) e = ends_front b σ.steps w [] _ (h x τ e)
       go (Stops why w τ) e = ends_front b σ.steps w [] _ (halts b σ.steps _ τ e)
 
-  abbrev whatever : (t : Tree) → Ranked (length p.rows) (length p.rows + 3) false t
+  abbrev whatever : (t : ActTree) → Ranked (length p.rows) (length p.rows + 3) false t
   whatever t = any_tree (length p.rows) t
 
   -- a tree after a step
@@ -477,7 +477,7 @@ module _ (p : ProgramRows) where
   enough (suc n) = ends_more n (enough n)
 
   -- every tree has a run: this depth is enough
-  pub total : (t : Tree) (σ : State) (n : ℕ) → (length p.rows + 4) * (σ.steps + 1) ≤ n → Ends false σ.steps (run_of p n t σ)
+  pub total : (t : ActTree) (σ : State) (n : ℕ) → (length p.rows + 4) * (σ.steps + 1) ≤ n → Ends false σ.steps (run_of p n t σ)
   total t σ n k = enough n t false (length p.rows + 3) (any_tree (length p.rows) t) σ (omega (arith, k))
 
   -- and so has every call

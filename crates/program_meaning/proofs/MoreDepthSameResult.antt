@@ -29,7 +29,7 @@ use Rattle.program_tables.specs.declared.program.Routine.{Routine}
 use Rattle.program_tables.specs.ProgramRows.{ProgramRows, routine_at}
 use Rattle.program_meaning.specs.State.{State, stack_end}
 use Rattle.program_meaning.specs.Acts.{ActResult, Went, Stops, Spend, perform, limit_passed}
-use Rattle.program_meaning.specs.Tree.{Out, Part, Tree, Ret, Halt, Do, Sub, Enter, Line}
+use Rattle.program_meaning.specs.Tree.{Out, Part, ActTree, Ret, Halt, Do, Sub, Enter, Line}
 use Rattle.program_meaning.specs.Layer.{layer}
 use Rattle.program_meaning.specs.Run.{
   End,
@@ -97,7 +97,7 @@ module _ {S E : Type 0} where
 
   pub walk_less : (rules : Rules S E) (sub sub' : Part → S → Option (Result S E)) (call call' : ℕ → List Value → S → Option (Result S E))
       → ((part : Part) (σ : S) → Less (sub part σ) (sub' part σ)) → ((f : ℕ) (args : List Value) (σ : S) → Less (call f args σ) (call' f args σ))
-      → (t : Tree) (σ : S) → Less (walk rules sub call t σ) (walk rules sub' call' t σ)
+      → (t : ActTree) (σ : S) → Less (walk rules sub call t σ) (walk rules sub' call' t σ)
   walk_less rules sub sub' call call' hs hc (Ret out) σ = less_same _
   walk_less rules sub sub' call call' hs hc (Halt line why) σ = less_same _
   walk_less rules sub sub' call call' hs hc (Do line act next) σ =
@@ -123,7 +123,7 @@ if_less : (t : Bool) (a b c d : Outcome) → Less a c → Less b d → Less (if 
 if_less true a b c d h k = h
 if_less false a b c d h k = k
 
-frame_less : (p : ProgramRows) (run run' : Tree → State → Outcome) → ((t : Tree) (σ : State) → Less (run t σ) (run' t σ)) → (f : ℕ) (args : List Value)
+frame_less : (p : ProgramRows) (run run' : ActTree → State → Outcome) → ((t : ActTree) (σ : State) → Less (run t σ) (run' t σ)) → (f : ℕ) (args : List Value)
     (σ : State) (o : Option Routine) → Less (in_frame (at_work p run f) args σ o) (in_frame (at_work p run' f) args σ o)
 frame_less p run run' h f args σ None = less_same _
 frame_less p run run' h f args σ (Some r) =
@@ -131,35 +131,35 @@ frame_less p run run' h f args σ (Some r) =
     (if_less (nat_lt σ.steps r.cells) _ _ _ _ (less_same _)
     (after_less (without_frame σ.top r.cells) _ _ (h (whole p f σ.top r) (with_frame r.cells args σ))))
 
-pub call_less : (p : ProgramRows) (run run' : Tree → State → Outcome) → ((t : Tree) (σ : State) → Less (run t σ) (run' t σ))
+pub call_less : (p : ProgramRows) (run run' : ActTree → State → Outcome) → ((t : ActTree) (σ : State) → Less (run t σ) (run' t σ))
     → (f : ℕ) (args : List Value) (σ : State) → Less (call_of p run f args σ) (call_of p run' f args σ)
 call_less p run run' h f args σ =
     recorded_less f args σ _ _ (after_less (call_closed σ.depth) _ _ (frame_less p run run' h f args (opened σ) (routine_at p f)))
 
 -- a call does no less where the trees that it runs do no less
 pub record Grows {S E : Type 0} (rules : Rules S E) : Type 0 where
-  pub call : (run run' : Tree → S → Option (Result S E)) → ((t : Tree) (σ : S) → Less (run t σ) (run' t σ)) → (f : ℕ) (args : List Value) (σ : S)
+  pub call : (run run' : ActTree → S → Option (Result S E)) → ((t : ActTree) (σ : S) → Less (run t σ) (run' t σ)) → (f : ℕ) (args : List Value) (σ : S)
       → Less (rules.call run f args σ) (rules.call run' f args σ)
 
 pub plain_grows : (p : ProgramRows) → Grows (plain p)
 plain_grows p = record { call = call_less p }
 
 -- one level more
-pub run_less : {S E : Type 0} (rules : Rules S E) → Grows rules → (p : ProgramRows) (n : ℕ) (t : Tree) (σ : S)
+pub run_less : {S E : Type 0} (rules : Rules S E) → Grows rules → (p : ProgramRows) (n : ℕ) (t : ActTree) (σ : S)
     → Less (within rules p n t σ) (within rules p (suc n) t σ)
 run_less rules g p zero t σ = less_none _
 run_less rules g p (suc n) t σ = walk_less rules _ _ _ _ (λ part τ. run_less rules g p n (layer p part) τ)
     (λ f args τ. g.call (within rules p n) (within rules p (suc n)) (run_less rules g p n) f args τ) t σ
 
 -- this many more levels
-pub more_fuel : (p : ProgramRows) (n m : ℕ) (t : Tree) (σ : State) (r : Result State _) → run_of p n t σ ≡ Some r → run_of p (n + m) t σ ≡ Some r
+pub more_fuel : (p : ProgramRows) (n m : ℕ) (t : ActTree) (σ : State) (r : Result State _) → run_of p n t σ ≡ Some r → run_of p (n + m) t σ ≡ Some r
 more_fuel p n zero t σ r e = subst (λ k. run_of p k t σ ≡ Some r) (let q : n ≡ n + zero = omega arith in q) e
 more_fuel p n (suc m) t σ r e =
     subst (λ k. run_of p k t σ ≡ Some r) (let q : suc (n + m) ≡ n + suc m = omega arith in q)
     ((run_less (plain p) (plain_grows p) p (n + m) t σ).gives r (more_fuel p n m t σ r e))
 
 -- two depths that both give a result give the same
-pub same_result : (p : ProgramRows) (n m : ℕ) (t : Tree) (σ : State) (r s : Result State _) → run_of p n t σ ≡ Some r → run_of p m t σ ≡ Some s → r ≡ s
+pub same_result : (p : ProgramRows) (n m : ℕ) (t : ActTree) (σ : State) (r s : Result State _) → run_of p n t σ ≡ Some r → run_of p m t σ ≡ Some s → r ≡ s
 same_result p n m t σ r s e f =
     let a : run_of p (n + m) t σ ≡ Some r = more_fuel p n m t σ r e in
     let b : run_of p (n + m) t σ ≡ Some s = subst (λ k. run_of p k t σ ≡ Some s) (let q : m + n ≡ n + m = omega arith in q) (more_fuel p m n t σ s f) in

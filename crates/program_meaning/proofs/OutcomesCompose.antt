@@ -5,7 +5,7 @@ use Rattle.cell_value.specs.declared.values.Value.{Value}
 use Rattle.cell_value.specs.declared.entries.Touch.{Touch}
 use Rattle.cell_value.specs.declared.ways_out.Which.{Which}
 use Rattle.program_meaning.specs.Acts.{ActResult, Went, Stops, Spend, perform, limit_passed}
-use Rattle.program_meaning.specs.Tree.{Out, Part, Tree, Ret, Halt, Do, Sub, Enter, Line, bind, way_of}
+use Rattle.program_meaning.specs.Tree.{Out, Part, ActTree, Ret, Halt, Do, Sub, Enter, Line, bind, way_of}
 use Rattle.program_meaning.specs.Run.{End, Ended, Halted, Marked, Result, Rules, later_by, in_front, ends, on_end, joined, on_done, if_allowed, walk}
 use Rattle.program_meaning.proofs.MoreDepthSameResult.{Less}
 
@@ -79,7 +79,7 @@ module _ {S E : Type 0} where
   allowed_joined None σ x g = refl
   allowed_joined (Some which) σ x g = refl
 
-  pub walk_bind : (rules : Rules S E) (sub : Part → S → Option (Result S E)) (call : ℕ → List Value → S → Option (Result S E)) (t : Tree) (f : Out → Tree)
+  pub walk_bind : (rules : Rules S E) (sub : Part → S → Option (Result S E)) (call : ℕ → List Value → S → Option (Result S E)) (t : ActTree) (f : Out → ActTree)
       (σ : S) → walk rules sub call (bind t f) σ ≡ joined (walk rules sub call t σ) (λ out τ. walk rules sub call (f out) τ)
   walk_bind rules sub call (Ret out) f σ = sym (front_nothing _)
   walk_bind rules sub call (Halt line why) f σ = refl

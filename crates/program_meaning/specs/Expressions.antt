@@ -32,7 +32,8 @@ use Rattle.program_tables.specs.declared.rows.ExpressionRow.TheVariants.{
   Eoln,
 }
 use Rattle.program_tables.specs.ProgramRows.{ProgramRows, type_at, routine_at, text_at}
-use Rattle.program_meaning.specs.Tree.{Out, Scalar, Cells, Jump, Here, Eval, Pass, Gather, Tree, Ret, Sub, Enter, doing}
+use Rattle.program_meaning.specs.Tree.{Out, Scalar, Cells, Jump, Here, Eval, Pass, Gather, ActTree, Ret, Sub, Enter}
+use Rattle.program_meaning.specs.Tree.{doing}
 use Rattle.program_meaning.specs.Values.{
   or_fault,
   tested,
@@ -67,37 +68,37 @@ use Rattle.program_meaning.specs.Accesses.{
 }
 
 -- the result of an operation as a value, or its fault
-abbrev pub operation_result : Here → Result Value OpFault → Tree
+abbrev pub operation_result : Here → Result Value OpFault → ActTree
 operation_result here r = doing here.line (or_fault r) scalar
 
 -- goes on with the cells of a routine's frame
-abbrev pub with_frame_size : Option Routine → (ℕ → Tree) → Tree
+abbrev pub with_frame_size : Option Routine → (ℕ → ActTree) → ActTree
 with_frame_size None go = no_row
 with_frame_size (Some r) go = go r.cells
 
 -- A call of a routine that was declared this many blocks out: the actual parameters, then the links to the frame in
 -- which it was declared, the limits, and the routine is entered with its link and the cells of its parameters (6.6.3.1,
 -- 6.8.2.3).
-abbrev pub call : ProgramRows → Here → (routine levels actuals : ℕ) → (Out → Tree) → Tree
+abbrev pub call : ProgramRows → Here → (routine levels actuals : ℕ) → (Out → ActTree) → ActTree
 call p here routine levels actuals go = Sub (Pass actuals [] here) (on_cells (λ args.
     with_frame_size (routine_at p routine) (λ cells. doing here.line (frame_out levels here.base) (λ frame.
     Enter routine cells (value.Frame frame ∷ args) go))))
 
 -- a routine is entered with its link and the cells of its parameters, unless a limit forbids it
-abbrev pub enter : ProgramRows → (routine frame : ℕ) → List Value → (Out → Tree) → Tree
+abbrev pub enter : ProgramRows → (routine frame : ℕ) → List Value → (Out → ActTree) → ActTree
 enter p routine frame args go =
     with_frame_size (routine_at p routine) (λ cells. Enter routine cells (value.Frame frame ∷ args) go)
 
 -- The call of a routine parameter: the actual parameters, then the links to the frame that has the parameter, its cell,
 -- and the routine that it stands for is entered, with a link to the frame in which that was declared (6.6.3.4,
 -- 6.6.3.5).
-abbrev pub call_formal : ProgramRows → Here → (place levels actuals : ℕ) → (Out → Tree) → Tree
+abbrev pub call_formal : ProgramRows → Here → (place levels actuals : ℕ) → (Out → ActTree) → ActTree
 call_formal p here place levels actuals go = Sub (Pass actuals [] here) (on_cells (λ args.
     doing here.line (routine_out levels here.base place) (λ (routine, frame). enter p routine frame args go)))
 
 -- An expression, once its step is taken. Operands are evaluated from left to right, and both operands of `and` and of
 -- `or` always.
-abbrev pub of_expression : ProgramRows → Here → ExpressionRow → Tree
+abbrev pub of_expression : ProgramRows → Here → ExpressionRow → ActTree
 of_expression p here (Constant n) = scalar (value.Number n)
 of_expression p here (Text token) = Ret (Cells (string_of (text_at p token)))
 of_expression p here Nil = scalar value.Nil
@@ -128,7 +129,7 @@ of_expression p here Eof = doing here.line at_end scalar
 of_expression p here Eoln = doing here.line at_line_end scalar
 
 -- An access that is used for its value takes no step beside its own.
-abbrev pub expression_in : ProgramRows → (row : ℕ) → Here → Row → Tree
+abbrev pub expression_in : ProgramRows → (row : ℕ) → Here → Row → ActTree
 expression_in p row here (rows.Expression e) = spend here (of_expression p here e)
 expression_in p row here (rows.Access a) = locate row here (λ addr.
     value_at here.line addr (type_at p (type_accessed a)))
@@ -136,19 +137,19 @@ expression_in p row here r = no_row
 
 -- the cells of a value parameter of a type, from the value of its actual; the whole of an array or a record is copied
 -- as it is
-abbrev pub on_actual : ProgramRows → Here → Option TypeRow → (List Value → Tree) → Out → Tree
+abbrev pub on_actual : ProgramRows → Here → Option TypeRow → (List Value → ActTree) → Out → ActTree
 on_actual p here t go (Scalar v) = doing here.line (or_fault (tested p t v)) (λ w. go (w ∷ []))
 on_actual p here t go (Cells vs) = go vs
 on_actual p here t go (Jump label base) = Ret (Jump label base)
 on_actual p here t go out = no_row
 
 -- A routine as an actual parameter, whose name takes a step, is passed with the frame in which it was declared.
-abbrev pub pass_routine : Here → (next : ℕ) → List Value → Action (ℕ × ℕ) → Tree
+abbrev pub pass_routine : Here → (next : ℕ) → List Value → Action (ℕ × ℕ) → ActTree
 pass_routine here next passed found = spend here (doing here.line found (λ (routine, frame).
     Sub (Pass next (passed ++ value.Routine routine frame ∷ []) here) Ret))
 
 -- The actual parameters from an item on, from left to right (6.6.3.2 to 6.6.3.5). What is no actual ends them.
-abbrev pub of_actual : ProgramRows → List Value → Here → Row → Tree
+abbrev pub of_actual : ProgramRows → List Value → Here → Row → ActTree
 of_actual p passed here (rows.Item (item.Value e of' next)) =
     Sub (Eval e here) (on_actual p here (type_at p of') (λ vs. Sub (Pass next (passed ++ vs) here) Ret))
 of_actual p passed here (rows.Item (item.Place access next)) = locate access here (λ addr.
@@ -160,12 +161,12 @@ of_actual p passed here (rows.Item (item.RoutineFormal place levels next)) =
 of_actual p passed here r = Ret (Cells passed)
 
 -- goes on with the members from an item on, where those before it passed their tests
-abbrev pub gather : Here → (next : ℕ) → Result Value OpFault → Tree
+abbrev pub gather : Here → (next : ℕ) → Result Value OpFault → ActTree
 gather here next r = doing here.line (or_fault r) (λ set. Sub (Gather next set here) Ret)
 
 -- The members of a set constructor from an item on, from left to right (6.7.1): each member, or both ends of a range,
 -- is tested directly after it is evaluated. What is no member ends them.
-abbrev pub of_members : Value → Here → Row → Tree
+abbrev pub of_members : Value → Here → Row → ActTree
 of_members set here (rows.Item (item.Member e next)) =
     eval e here (λ v. gather here next (members_added set v v))
 of_members set here (rows.Item (item.Members first last next)) =

@@ -19,7 +19,7 @@ use Rattle.program_meaning.specs.Tree.{
   RestOfLine,
   Print,
   Body,
-  Tree,
+  ActTree,
   Ret,
   Sub,
 }
@@ -33,12 +33,12 @@ abbrev pub outermost : Routine → (base : ℕ) → Here
 outermost r base = record { line = r.line; base = base; records = [] }
 
 -- the statement part of a routine, which is itself a statement and takes a step
-abbrev pub of_body : (base : ℕ) → Option Routine → Tree
+abbrev pub of_body : (base : ℕ) → Option Routine → ActTree
 of_body base None = no_row
 of_body base (Some r) =
     spend (outermost r base) (Sub (Sequence r.statements r.statements (outermost r base)) Ret)
 
-abbrev pub layer : ProgramRows → Part → Tree
+abbrev pub layer : ProgramRows → Part → ActTree
 layer p (Eval row here) = expression_in p row here (row_at p row)
 layer p (Locate row target here) = access_in p row target here (row_at p row)
 layer p (Pass at passed here) = of_actual p passed here (row_at p at)

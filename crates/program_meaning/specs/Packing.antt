@@ -9,7 +9,7 @@ use Rattle.program_meaning.specs.declared.components.Components.{Components}
 use Rattle.program_meaning.specs.State.{moved}
 use Rattle.program_meaning.specs.Acts.{Fault}
 use Rattle.program_meaning.specs.Actions.{Action, Give, Fail, ◌>>=◌}
-use Rattle.program_meaning.specs.Tree.{Here, Tree, doing}
+use Rattle.program_meaning.specs.Tree.{Here, ActTree, doing}
 use Rattle.program_meaning.specs.Cells.{read_values, writes, position_between}
 use Rattle.program_meaning.specs.Accesses.{no_row, eval, locate, type_accessed, with_components}
 
@@ -34,21 +34,21 @@ abbrev pub copies : (from to cells : ℕ) → Action (Unit {0})
 copies from to cells = read_values [] from cells >>= writes to
 
 -- goes on with an array that is accessed: its cells, and what its type says of its components
-abbrev pub with_array : ProgramRows → Row → (ℕ → Components → Tree) → Tree
+abbrev pub with_array : ProgramRows → Row → (ℕ → Components → ActTree) → ActTree
 with_array p (rows.Access a) go = with_components p (type_at p (type_accessed a)) (go (size_of p (type_accessed a)))
 with_array p r go = no_row
 
 -- once both arrays are located and the index is known
 abbrev pub moves : ProgramRows → Here → (packing : Bool) → (unpacked packed : ℕ) → (a z : ℕ) → Value
-    → (Action (Unit {0}) → Tree) → Tree
+    → (Action (Unit {0}) → ActTree) → ActTree
 moves p here packing unpacked packed a z v go = with_array p (row_at p unpacked) (λ _ wide.
     with_array p (row_at p packed) (λ cells close. doing here.line (first_moved wide close a v) (λ at.
     go (if packing then copies at z cells else copies z at cells))))
 
 -- The arrays are located in the order of the actuals, then the index is evaluated and tested, and then the components
 -- of the packed array, in order, are those of the unpacked one from the index on, or the other way round.
-abbrev pub pack : ProgramRows → Here → (packing : Bool) → (unpacked index packed : ℕ) → (Action (Unit {0}) → Tree)
-    → Tree
+abbrev pub pack : ProgramRows → Here → (packing : Bool) → (unpacked index packed : ℕ) → (Action (Unit {0}) → ActTree)
+    → ActTree
 pack p here true unpacked index packed go = locate unpacked here (λ a. locate packed here (λ z.
     eval index here (λ v. moves p here true unpacked packed a z v go)))
 pack p here false unpacked index packed go = locate packed here (λ z. locate unpacked here (λ a.

@@ -32,7 +32,7 @@ use Rattle.cell_value.specs.declared.ways_out.WayOut.{WayOut}
 use Rattle.cell_value.specs.declared.ways_out.WayOut.TheVariants as way
 use Rattle.program_tables.specs.ProgramRows.{ProgramRows, routine_at}
 use Rattle.program_meaning.specs.State.{State}
-use Rattle.program_meaning.specs.Tree.{Nothing, Scalar, Jump, Tree}
+use Rattle.program_meaning.specs.Tree.{Nothing, Scalar, Jump, ActTree}
 use Rattle.program_meaning.specs.Run.{
   End,
   Ended,
@@ -121,7 +121,7 @@ replaying = record {
   call = λ run routine args s. next_call routine args s.state s.number s.calls;
 }
 
-abbrev pub replay_of : ProgramRows → ℕ → Tree → Replaying → Replayed
+abbrev pub replay_of : ProgramRows → ℕ → ActTree → Replaying → Replayed
 replay_of p = within replaying p
 
 -- The own work of a call, from its recorded entry: its frame is made, its routine is at work, and its frame is removed,

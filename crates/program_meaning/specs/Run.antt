@@ -65,7 +65,7 @@ use Rattle.program_meaning.specs.Tree.{
   Jump,
   Part,
   Body,
-  Tree,
+  ActTree,
   Ret,
   Halt,
   Do,
@@ -132,7 +132,7 @@ pub record Rules (S E : Type 0) : Type 0 where
   pub state_of : S → State
   pub with_state : S → State → S
   pub line : ℕ → List (Marked E)
-  pub call : (Tree → S → Option (Result S E)) → ℕ → List Value → S → Option (Result S E)
+  pub call : (ActTree → S → Option (Result S E)) → ℕ → List Value → S → Option (Result S E)
 
 module _ {S E : Type 0} where
   abbrev pub on_done : {A : Type 0} → Rules S E → (line : ℕ) → S → ActResult A → (A → S → Option (Result S E))
@@ -147,7 +147,8 @@ module _ {S E : Type 0} where
   if_allowed (Some which) σ goes = ends (Halted (way.Limited which)) σ
 
   -- a tree from a state, with its parts and its calls left open
-  abbrev pub walk : Rules S E → (Part → S → Option (Result S E)) → (ℕ → List Value → S → Option (Result S E)) → Tree → S
+  abbrev pub walk : Rules S E → (Part → S → Option (Result S E)) → (ℕ → List Value → S → Option (Result S E)) → ActTree
+      → S
       → Option (Result S E)
   walk rules sub call (Ret out) σ = ends (Ended out) σ
   walk rules sub call (Halt line why) σ = ends (Halted (way_of line why)) σ
@@ -160,7 +161,7 @@ module _ {S E : Type 0} where
       (λ _ τ. in_front [] (rules.line line) (walk rules sub call next τ))
 
   -- a tree from a state, where parts and calls stand at most n deep in one another
-  abbrev pub within : Rules S E → ProgramRows → ℕ → Tree → S → Option (Result S E)
+  abbrev pub within : Rules S E → ProgramRows → ℕ → ActTree → S → Option (Result S E)
   within rules p zero t σ = None
   within rules p (suc n) t σ = walk rules (λ part τ. within rules p n (layer p part) τ)
       (rules.call (λ u τ. within rules p n u τ)) t σ
@@ -265,17 +266,17 @@ abbrev pub result_read : (least greatest : ℤ) → (addr : ℕ) → Action Valu
 result_read least greatest addr = read_value addr >>= λ v. or_no_result (in_range_of v least greatest)
 
 -- the result of a function of a type, which is the cell at an address
-abbrev pub result_of_type : (line addr : ℕ) → Option TypeRow → Tree
+abbrev pub result_of_type : (line addr : ℕ) → Option TypeRow → ActTree
 result_of_type line addr (Some (Pointer domain)) = doing line (pointer_result_at addr) scalar
 result_of_type line addr t = with_bounds t (λ least greatest. doing line (result_read least greatest addr) scalar)
 
 -- how a routine returns: a function by reading its result
-abbrev pub return_of : ProgramRows → (base : ℕ) → Routine → Option ℕ → Tree
+abbrev pub return_of : ProgramRows → (base : ℕ) → Routine → Option ℕ → ActTree
 return_of p base r None = nothing
 return_of p base r (Some place) = result_of_type r.line (moved base place) (type_in_heading p (row_at p r.heading))
 
 -- a routine's statement part in the frame at a base, and its return
-abbrev pub whole : ProgramRows → (routine base : ℕ) → Routine → Tree
+abbrev pub whole : ProgramRows → (routine base : ℕ) → Routine → ActTree
 whole p routine base r = Sub (Body routine base) (on_normal (return_of p base r r.result))
 
 -- something that has a state in it: the state, and the same with a changed state
@@ -284,7 +285,7 @@ pub record Holder (S : Type 0) : Type 0 where
   pub change : (State → State) → S → S
 
 -- a routine at work in the frame at a base
-abbrev pub at_work : {S E : Type 0} → ProgramRows → (Tree → S → Option (Result S E)) → (routine : ℕ) → Routine
+abbrev pub at_work : {S E : Type 0} → ProgramRows → (ActTree → S → Option (Result S E)) → (routine : ℕ) → Routine
     → (base : ℕ) → S → Option (Result S E)
 at_work p run routine r base = run (whole p routine base r)
 
@@ -304,7 +305,7 @@ abbrev pub in_frame : (work : Routine → ℕ → State → Outcome) → List Va
 in_frame work args σ r = framed_run (record { state = λ σ. σ; change = λ f σ. f σ }) work args σ r
 
 -- a call of a routine
-abbrev pub call_of : ProgramRows → (Tree → State → Outcome) → ℕ → List Value → State → Outcome
+abbrev pub call_of : ProgramRows → (ActTree → State → Outcome) → ℕ → List Value → State → Outcome
 call_of p run routine args σ =
     recorded routine args σ (after_all (call_closed σ.depth)
     (in_frame (at_work p run routine) args (opened σ) (routine_at p routine)))
@@ -315,7 +316,7 @@ call_of p run routine args σ =
 abbrev pub plain : ProgramRows → Rules State Call
 plain p = record { state_of = λ σ. σ; with_state = λ _ τ. τ; line = λ _. []; call = call_of p }
 
-abbrev pub run_of : ProgramRows → ℕ → Tree → State → Outcome
+abbrev pub run_of : ProgramRows → ℕ → ActTree → State → Outcome
 run_of p = within (plain p) p
 
 -- The items of an input. A line ends with LF, and with a CR directly before it; the end of the last line is added
@@ -343,7 +344,7 @@ start input budget = record {
 }
 
 -- The program block is a call whose link leads nowhere. It is entered also where its frame is too large for the stack.
-abbrev pub block : Tree
+abbrev pub block : ActTree
 block = Enter 0 0 (Nil ∷ []) Ret
 
 -- So deep can parts and calls stand in one another: each takes a step, or is an access before another, or a labelled

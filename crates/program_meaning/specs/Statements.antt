@@ -55,7 +55,7 @@ use Rattle.program_meaning.specs.Tree.{
   Receive,
   RestOfLine,
   Print,
-  Tree,
+  ActTree,
   Ret,
   Halt,
   Sub,
@@ -73,34 +73,34 @@ use Rattle.program_meaning.specs.Output.{end_line, end_page}
 use Rattle.program_meaning.specs.Packing.{pack}
 
 -- goes on after a statement that ended normally; a jump goes on outward
-abbrev pub on_normal : Tree → Out → Tree
+abbrev pub on_normal : ActTree → Out → ActTree
 on_normal next (Jump label base) = Ret (Jump label base)
 on_normal next out = next
 
-abbrev pub nothing : Tree
+abbrev pub nothing : ActTree
 nothing = Ret Nothing
 
 -- an action, after which a statement has ended
-abbrev pub finally : Here → Action (Unit {0}) → Tree
+abbrev pub finally : Here → Action (Unit {0}) → ActTree
 finally here a = doing here.line a (λ _. nothing)
 
 -- A target is located and gets a value of a scalar type, which is tested for the target's type then (6.8.2.2).
-abbrev pub put_into : ProgramRows → Here → (target of' : ℕ) → Value → Tree
+abbrev pub put_into : ProgramRows → Here → (target of' : ℕ) → Value → ActTree
 put_into p here target of' v = locate_target target here (λ addr.
     finally here (assign_to p (tag_accessed p (row_at p target)) (type_at p of') addr v))
 
 -- Puts the value of an assignment into its target, which is located after the value is known.
-abbrev pub on_value : ProgramRows → Here → (target of' : ℕ) → Out → Tree
+abbrev pub on_value : ProgramRows → Here → (target of' : ℕ) → Out → ActTree
 on_value p here target of' (Scalar v) = put_into p here target of' v
 on_value p here target of' (Cells vs) = locate_target target here (λ addr. finally here (writes addr vs))
 on_value p here target of' (Jump label base) = Ret (Jump label base)
 on_value p here target of' out = no_row
 
-abbrev pub choose : Here → Option ℕ → Tree
+abbrev pub choose : Here → Option ℕ → ActTree
 choose here (Some s) = Sub (Exec s here) Ret
 choose here None = Halt here.line (Fault kind.NoCase)
 
-abbrev pub chosen_by : ProgramRows → Here → (choices : ℕ) → Value → Tree
+abbrev pub chosen_by : ProgramRows → Here → (choices : ℕ) → Value → ActTree
 chosen_by p here choices (value.Number i) = choose here (choice_of p (length p.rows) choices i)
 chosen_by p here choices _ = no_row
 
@@ -115,7 +115,7 @@ value_after Up i = i +ℤ pos 1
 value_after Down i = i -ℤ pos 1
 
 -- The control variable of a for statement that ended normally is undefined.
-abbrev pub undefine : Here → (place : ℕ) → Tree
+abbrev pub undefine : Here → (place : ℕ) → ActTree
 undefine here place = finally here (write (moved here.base place) value.Undefined)
 
 -- both bounds of a for statement that has a turn are within the control variable's type
@@ -123,24 +123,24 @@ abbrev pub bounds_tested : ProgramRows → Option TypeRow → (i last : ℤ) →
 bounds_tested p t i last = or_fault (tested p t (value.Number i)) >>= λ _. or_fault (tested p t (value.Number last))
 
 -- a for statement, once its bounds are known
-abbrev pub first_turn : ProgramRows → Here → (turns : ℕ) → Row → Value → Value → Tree
+abbrev pub first_turn : ProgramRows → Here → (turns : ℕ) → Row → Value → Value → ActTree
 first_turn p here turns (rows.Statement (Turns direction last' place of' body)) (value.Number i) (value.Number last) =
     if has_turn direction i last then doing here.line (bounds_tested p (type_at p of') i last) (λ _.
     Sub (Count turns i last here) Ret) else undefine here place
 first_turn p here turns r _ _ = no_row
 
 -- the bounds of a for statement, both evaluated before the first turn
-abbrev pub bounds : ProgramRows → Here → (initial turns : ℕ) → Row → Tree
+abbrev pub bounds : ProgramRows → Here → (initial turns : ℕ) → Row → ActTree
 bounds p here initial turns (rows.Statement (Turns direction last place of' body)) =
     eval initial here (λ i. eval last here (λ j. first_turn p here turns (row_at p turns) i j))
 bounds p here initial turns r = no_row
 
 -- A pointer gets a value that needs no test; it is a target, and is located after the value is known.
-abbrev pub point : Here → (target : ℕ) → Value → Tree
+abbrev pub point : Here → (target : ℕ) → Value → ActTree
 point here target v = locate_target target here (λ addr. finally here (write addr v))
 
 -- a statement, once its step is taken and its line is told
-abbrev pub of_statement : ProgramRows → (row : ℕ) → Here → StatementRow → Tree
+abbrev pub of_statement : ProgramRows → (row : ℕ) → Here → StatementRow → ActTree
 of_statement p row here (Assign line target e of') = Sub (Eval e here) (on_value p here target of')
 of_statement p row here (Call line routine levels actuals) = call p here routine levels actuals (on_normal nothing)
 of_statement p row here (If line condition then') = eval condition here (λ v.
@@ -190,25 +190,25 @@ line_of (Dispose line e of') = Some line
 line_of s = None
 
 -- A statement begins: it takes a step, and then its line is told.
-abbrev pub begins : ProgramRows → (row : ℕ) → Here → StatementRow → Option ℕ → Tree
+abbrev pub begins : ProgramRows → (row : ℕ) → Here → StatementRow → Option ℕ → ActTree
 begins p row here s (Some line) = Line line (of_statement p row (record here { line = line }) s)
 begins p row here s None = no_row
 
 -- A jump out of a labelled statement to its label, in the same frame, begins it again (6.8.1); its statement stands
 -- after it.
-abbrev pub on_labelled : (row label : ℕ) → Here → Out → Tree
+abbrev pub on_labelled : (row label : ℕ) → Here → Out → ActTree
 on_labelled row label here (Jump goal base) =
     if (goal == label) && (base == here.base) then Sub (Exec row here) Ret else Ret (Jump goal base)
 on_labelled row label here out = nothing
 
-abbrev pub statement : ProgramRows → (row : ℕ) → Here → StatementRow → Tree
+abbrev pub statement : ProgramRows → (row : ℕ) → Here → StatementRow → ActTree
 statement p row here Empty = spend here nothing
 statement p row here (Compound statements) = spend here (Sub (Sequence statements statements here) Ret)
 statement p row here (Labelled label inner) =
     if nat_lt row inner then Sub (Exec inner here) (on_labelled row label here) else no_row
 statement p row here s = begins p row here s (line_of s)
 
-abbrev pub statement_in : ProgramRows → (row : ℕ) → Here → Row → Tree
+abbrev pub statement_in : ProgramRows → (row : ℕ) → Here → Row → ActTree
 statement_in p row here (rows.Statement s) = statement p row here s
 statement_in p row here r = no_row
 
@@ -226,25 +226,25 @@ item_labelled p r at label go = None
 abbrev pub labelled_in : ProgramRows → (n at label : ℕ) → Option ℕ
 labelled_in p n at label = along (λ at go. item_labelled p (row_at p at) at label go) n at
 
-abbrev pub jumped : Here → (first label base : ℕ) → Option ℕ → Tree
+abbrev pub jumped : Here → (first label base : ℕ) → Option ℕ → ActTree
 jumped here first label base (Some at) = Sub (Sequence first at here) Ret
 jumped here first label base None = Ret (Jump label base)
 
 -- After a statement of a sequence comes the next one. A jump to the label of a statement of the sequence, in the same
 -- frame, goes on from that statement (6.8.1).
-abbrev pub on_statement : ProgramRows → Here → (first next : ℕ) → Out → Tree
+abbrev pub on_statement : ProgramRows → Here → (first next : ℕ) → Out → ActTree
 on_statement p here first next (Jump label base) = jumped here first label base
     (if base == here.base then labelled_in p (length p.rows) first label else None)
 on_statement p here first next out = Sub (Sequence first next here) Ret
 
 -- The statements from an item on, in order (6.8.3.2), of the sequence that begins with the first item. What is no
 -- statement ends them.
-abbrev pub of_sequence : ProgramRows → Here → (first : ℕ) → Row → Tree
+abbrev pub of_sequence : ProgramRows → Here → (first : ℕ) → Row → ActTree
 of_sequence p here first (rows.Item (item.Element s next)) = Sub (Exec s here) (on_statement p here first next)
 of_sequence p here first r = nothing
 
 -- a turn of a while or repeat statement, and those after it (6.8.3.7, 6.8.3.8)
-abbrev pub of_turn : (row : ℕ) → Here → Row → Tree
+abbrev pub of_turn : (row : ℕ) → Here → Row → ActTree
 of_turn row here (rows.Statement (While line condition body)) = eval condition here (λ v.
     if is_true v then Sub (Exec body here) (on_normal (Sub (Turn row here) Ret)) else nothing)
 of_turn row here (rows.Statement (Repeat line statements condition)) =
@@ -253,12 +253,12 @@ of_turn row here (rows.Statement (Repeat line statements condition)) =
 of_turn row here r = no_row
 
 -- after a turn of a for statement with this value: the next one, or the end
-abbrev pub turn_after : (row : ℕ) → Here → Direction → (place : ℕ) → (i last : ℤ) → Tree
+abbrev pub turn_after : (row : ℕ) → Here → Direction → (place : ℕ) → (i last : ℤ) → ActTree
 turn_after row here direction place i last =
     if int_eq i last then undefine here place else Sub (Count row (value_after direction i) last here) Ret
 
 -- A turn of a for statement, and those after it: the control variable gets its value, and then the body is done.
-abbrev pub of_count : (row : ℕ) → Here → (i last : ℤ) → Row → Tree
+abbrev pub of_count : (row : ℕ) → Here → (i last : ℤ) → Row → ActTree
 of_count row here i last (rows.Statement (Turns direction last' place of' body)) =
     doing here.line (write (moved here.base place) (value.Number i)) (λ _.
     Sub (Exec body here) (on_normal (turn_after row here direction place i last)))
@@ -270,7 +270,7 @@ inside here addr = record here { records = here.records ++ addr ∷ [] }
 
 -- The records of a with statement from an item on, each established before the next one and inside of those before it,
 -- and then the body (6.8.3.10). What is no record ends them.
-abbrev pub of_records : Here → (body : ℕ) → Row → Tree
+abbrev pub of_records : Here → (body : ℕ) → Row → ActTree
 of_records here body (rows.Item (item.Element access next)) =
     locate access here (λ addr. Sub (Establish next body (inside here addr)) Ret)
 of_records here body r = Sub (Exec body here) Ret

@@ -60,18 +60,18 @@ pub data Part : Type 0 where
   -- the statement part of a routine whose frame is at a base
   Body : (routine base : ℕ) → Part
 
-pub data Tree : Type 0 where
-  Ret : (out : Out) → Tree
+pub data ActTree : Type 0 where
+  Ret : (out : Out) → ActTree
   -- the run stops at a statement on this line
-  Halt : (line : ℕ) (why : Trouble) → Tree
+  Halt : (line : ℕ) (why : Trouble) → ActTree
   -- an act of a statement on this line
-  Do : (line : ℕ) (act : Act) (next : Answer act → Tree) → Tree
+  Do : (line : ℕ) (act : Act) (next : Answer act → ActTree) → ActTree
   -- a part, and how it goes on after it
-  Sub : (part : Part) (next : Out → Tree) → Tree
+  Sub : (part : Part) (next : Out → ActTree) → ActTree
   -- a call of a routine with a frame of this many cells, unless a limit would be passed, and how it goes on after it
-  Enter : (routine cells : ℕ) (args : List Value) (next : Out → Tree) → Tree
+  Enter : (routine cells : ℕ) (args : List Value) (next : Out → ActTree) → ActTree
   -- a statement that is neither compound nor empty begins on this line, which takes a step
-  Line : (line : ℕ) (next : Tree) → Tree
+  Line : (line : ℕ) (next : ActTree) → ActTree
 
 -- how the open calls end where a statement on this line stops the run
 abbrev pub way_of : (line : ℕ) → Trouble → WayOut
@@ -80,7 +80,7 @@ way_of line OutOfSteps = way.OutOfSteps
 way_of line (Limited which) = way.Limited which
 
 -- goes on after a tree
-abbrev pub bind : Tree → (Out → Tree) → Tree
+abbrev pub bind : ActTree → (Out → ActTree) → ActTree
 bind (Ret out) f = f out
 bind (Halt line why) f = Halt line why
 bind (Do line act next) f = Do line act (λ x. bind (next x) f)
@@ -89,7 +89,7 @@ bind (Enter routine cells args next) f = Enter routine cells args (λ x. bind (n
 bind (Line line next) f = Line line (bind next f)
 
 -- goes on after an action of a statement on this line
-abbrev pub doing : {A : Type 0} → (line : ℕ) → Action A → (A → Tree) → Tree
+abbrev pub doing : {A : Type 0} → (line : ℕ) → Action A → (A → ActTree) → ActTree
 doing line (Give x) k = k x
 doing line (Fail why) k = Halt line why
 doing line (Perform act next) k = Do line act (λ x. doing line (next x) k)

@@ -41,7 +41,7 @@ use Rattle.program_meaning.specs.Acts.{
   made_block,
   dropped_block,
 }
-use Rattle.program_meaning.specs.Tree.{Tree, Ret, Halt, Do, Sub, Enter, Line, way_of, bind}
+use Rattle.program_meaning.specs.Tree.{ActTree, Ret, Halt, Do, Sub, Enter, Line, way_of, bind}
 use Rattle.program_meaning.specs.Layer.{layer}
 use Rattle.program_meaning.specs.Run.{Halted}
 use Rattle.program_meaning.proofs.OutcomesCompose.{some_same, none_some}
@@ -185,7 +185,7 @@ at_once first stop m m' e = let q = ap (λ (x : Stop × Moment). x.1) (some_same
   };
 }
 
-pub onward : (p : ProgramRows) (k : ℕ) (t : Tree) (m : Moment) (stop : Stop) (m' : Moment) → next_stop p k t m ≡ Some (stop, m') → Onward m m'
+pub onward : (p : ProgramRows) (k : ℕ) (t : ActTree) (m : Moment) (stop : Stop) (m' : Moment) → next_stop p k t m ≡ Some (stop, m') → Onward m m'
 onward p zero t m stop m' h = absurd (none_some h)
 onward p (suc k) (Ret out) m stop m' h = at_once _ stop m m' h
 onward p (suc k) (Halt line why) m stop m' h = at_once _ stop m m' h

@@ -29,11 +29,11 @@ items_step xs at b e =
     ∙ head b (drop (suc at) xs)
     ∙ ap (λ o. items_at b o ++ input_items (drop (suc at) xs)) (next xs at b e)
     ∙ (λ i. items_at b (slice_get xs ((let x : suc at ≡ at + 1 = omega arith in x) i))
-        ++ input_items (drop ((let x : suc at ≡ at + 1 = omega arith in x) i) xs))
+    ++ input_items (drop ((let x : suc at ≡ at + 1 = omega arith in x) i) xs))
 
 pub items_more : (input items items' : List ℕ) (at : ℕ) (after : Option ℕ) → at < length input → items' ≡ items ++ items_at (get_or input at 0) after
     → after ≡ slice_get input (at + 1) → items ++ input_items (drop at input) ≡ input_items input
-        → items' ++ input_items (drop (at + 1) input) ≡ input_items input
+    → items' ++ input_items (drop (at + 1) input) ≡ input_items input
 items_more input items items' at after h put e came =
     let rest = input_items (drop (at + 1) input) in
     ap (λ xs. xs ++ rest) (put ∙ ap (λ o. items ++ items_at (get_or input at 0) o) e)

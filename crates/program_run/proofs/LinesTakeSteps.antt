@@ -6,7 +6,7 @@ use Rattle.cell_value.specs.declared.ways_out.Which.{Which}
 use Rattle.program_tables.specs.ProgramRows.{ProgramRows}
 use Rattle.program_meaning.specs.State.{State}
 use Rattle.program_meaning.specs.Acts.{Spend, ActResult, Went, Stops, perform, limit_passed}
-use Rattle.program_meaning.specs.Tree.{Out, Tree, Ret, Halt, Do, Sub, Enter, Line, way_of, bind}
+use Rattle.program_meaning.specs.Tree.{Out, ActTree, Ret, Halt, Do, Sub, Enter, Line, way_of, bind}
 use Rattle.program_meaning.specs.Layer.{layer}
 use Rattle.program_meaning.specs.Run.{Ended, Halted}
 use Rattle.program_meaning.proofs.ActsTakeSteps.{cost, Acted, acted}
@@ -32,12 +32,12 @@ after_act before n line σ log (Went x w τ) go stop m' u h k e = k x (record { 
 after_act before n line σ log (Stops why w τ) go stop m' u h k e =
     at_once before (AtEnd (Halted (way_of line why))) stop (record { state = τ; log = log ++ w }) m' e (omega (arith, u, h))
 
-at_a_call : (before : ℕ) (o : Option Which) (f : ℕ) (args : List Value) (next : Out → Tree) (steps : ℕ) → steps ≤ before
+at_a_call : (before : ℕ) (o : Option Which) (f : ℕ) (args : List Value) (next : Out → ActTree) (steps : ℕ) → steps ≤ before
     → LeftAt before (at_call o f args next) steps
 at_a_call before None f args next steps u = u
 at_a_call before (Some which) f args next steps u = u
 
-pub left_at_stop : (p : ProgramRows) (before k : ℕ) (t : Tree) (m : Moment) (stop : Stop) (m' : Moment) → m.state.steps ≤ before
+pub left_at_stop : (p : ProgramRows) (before k : ℕ) (t : ActTree) (m : Moment) (stop : Stop) (m' : Moment) → m.state.steps ≤ before
     → next_stop p k t m ≡ Some (stop, m') → LeftAt before stop m'.state.steps
 left_at_stop p before zero t m stop m' u e = absurd (none_some e)
 left_at_stop p before (suc k) (Ret out) m stop m' u e = at_once before (AtEnd (Ended out)) stop m m' e u

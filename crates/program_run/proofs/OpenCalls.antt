@@ -7,7 +7,7 @@ use Rattle.std.proofs.lemmas.Option.{slice_get_read}
 use Rattle.cell_value.specs.declared.entries.Touch.{Touch}
 use Rattle.program_tables.specs.ProgramRows.{ProgramRows}
 use Rattle.program_meaning.specs.State.{State}
-use Rattle.program_meaning.specs.Tree.{Tree}
+use Rattle.program_meaning.specs.Tree.{ActTree}
 use Rattle.program_meaning.specs.Run.{
   Ended,
   Halted,
@@ -72,7 +72,7 @@ more_comm zero zero = refl
 more_comm zero (suc n) = ap suc (more_comm zero n)
 more_comm (suc k) n = ap suc (more_comm k n) ∙ sym (more_swap n k)
 
-pub run_more : (p : ProgramRows) (k n : ℕ) (t : Tree) (σ : State) → Less (run_of p n t σ) (run_of p (more k n) t σ)
+pub run_more : (p : ProgramRows) (k n : ℕ) (t : ActTree) (σ : State) → Less (run_of p n t σ) (run_of p (more k n) t σ)
 run_more p zero n t σ = less_same _
 run_more p (suc k) n t σ = less_then (run_more p k n t σ) (run_less (plain p) (plain_grows p) p (more k n) t σ)
 
@@ -223,7 +223,7 @@ seam xs y ys =
 -- the rows once it has ended
 rows_left : (under : OpenLevels) (l : OpenLevel) (own : Own) (e : End) (τ : State) (w : List Touch) → LevelsFit under → w ≡ logs_of (Push under l own)
     → leaving (rows_of (Push under l own)) (calls_so_far under) (slice_get (rows_of (Push under l own)) (calls_so_far under)) (side_of (length w) τ)
-        (way_out e) (result_in e)
+    (way_out e) (result_in e)
     ≡ rows_of (done under own.log (ended l own e τ))
 rows_left under l own e τ w f h =
     let row = opened_row under l in

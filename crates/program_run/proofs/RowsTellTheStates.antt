@@ -11,7 +11,7 @@ use Rattle.call_tree.specs.declared.records.Call as table
 use Rattle.program_tables.specs.ProgramRows.{ProgramRows}
 use Rattle.program_meaning.specs.State.{State, IsSound}
 use Rattle.program_meaning.specs.Acts.{Spend}
-use Rattle.program_meaning.specs.Tree.{Tree}
+use Rattle.program_meaning.specs.Tree.{ActTree}
 use Rattle.program_meaning.specs.Run.{Marked, Result, Call, later_by, record_of}
 use Rattle.program_meaning.specs.Numbering.{belows, each_from, Inside}
 use Rattle.program_meaning.proofs.CallsOfRunsNest.{belows_later}
@@ -123,7 +123,7 @@ none_told {σ = σ} = told_none refl (let z : σ.steps ≤ σ.steps = omega arit
 
 module _ (p : ProgramRows) where
   mutual
-    pub ran_told : {n : ℕ} {t : Tree} {σ : State} {r : Result State Call} → Ran p n t σ r → IsSound σ → Told σ r.after r.events
+    pub ran_told : {n : ℕ} {t : ActTree} {σ : State} {r : Result State Call} → Ran p n t σ r → IsSound σ → Told σ r.after r.events
     ran_told ways.Returned s = none_told
     ran_told ways.Stopped s = none_told
     ran_told (ways.Refused {act = act} {w = w} {τ = τ} q) s =

@@ -8,7 +8,7 @@ use Rattle.cell_value.specs.declared.ways_out.WayOut.{WayOut}
 use Rattle.call_tree.specs.Recording.{Recording, entered}
 use Rattle.program_tables.specs.ProgramRows.{ProgramRows}
 use Rattle.program_meaning.specs.State.{State}
-use Rattle.program_meaning.specs.Tree.{Out, Tree}
+use Rattle.program_meaning.specs.Tree.{Out, ActTree}
 use Rattle.eval_machine.specs.Machines.{Moment}
 use Rattle.eval_tasks.specs.Stops.{Stop, NextStopIs}
 use Rattle.program_run.specs.declared.open_call.OpenCall.{OpenCall}
@@ -25,12 +25,12 @@ pub pushed : (p : ProgramRows) (xs ys : List OpenCall) (o : OpenCall) → ys ≡
 pushed p xs ys o e = ap (λ os. map (open_in p) (reverse os)) e ∙ ap (map (open_in p)) (reverse-append xs (o ∷ []))
 
 -- what is known of a call that was entered
-pub record Entered (p : ProgramRows) (e : Activation) (rest : Out → Tree) (v v' : View) : Type 0 where
+pub record Entered (p : ProgramRows) (e : Activation) (rest : Out → ActTree) (v v' : View) : Type 0 where
   pub begins : CallBegins p e v.moment v'.moment
   pub recording : v'.recording ≡ entered v.recording e.routine e.args (side_of (length v.moment.log) v.moment.state)
   pub opens : v'.opens ≡ record { base = v.moment.state.top; cells = e.cells; rest = rest } ∷ v.opens
 
-pub entered_stands : {p : ProgramRows} {first : State} (e : Activation) (rest : Out → Tree) (v v' : View) → Entered p e rest v v'
+pub entered_stands : {p : ProgramRows} {first : State} (e : Activation) (rest : Out → ActTree) (v v' : View) → Entered p e rest v v'
     → TowerAt p first (Calls e.routine e.args rest) v → TowerAt p first e.stage v'
 entered_stands {p = p} {first = first} e rest v v' known t =
     subst (λ w. TowerAt p first e.stage w) (λ i. record {
@@ -44,7 +44,7 @@ pub few_begun : (p : ProgramRows) (call : Invocation) (halted : Option WayOut) (
 few_begun p call None m m' b h = let e = ap length b.output in let l = b.steps in omega (arith, e, l, h)
 few_begun p call (Some way) m m' b h = let e = ap length b.output in let l = b.steps in omega (arith, e, l, h)
 
-pub few_onward : {p : ProgramRows} {t : Tree} {m : Moment} {stop : Stop} {m' : Moment} → NextStopIs p t m stop m'
+pub few_onward : {p : ProgramRows} {t : ActTree} {m : Moment} {stop : Stop} {m' : Moment} → NextStopIs p t m stop m'
     → length m.state.output + m.state.steps < 4294967296 → length m'.state.output + m'.state.steps < 4294967296
 few_onward {p = p} {t = t} {m = m} {stop = stop} {m' = m'} s h = let l = (onward p s.moves t m stop m' s.is).same.output in omega (arith, l, h)
 
@@ -55,10 +55,11 @@ counted_entered r r' xs ys o f args side e k h = ap (λ (q : Recording). length 
     ∙ (let l = length-append xs (o ∷ []) in let m = ap length k in let n = h in omega (arith, l, m, n))
 
 -- from a stop on fewer steps are left, or no more
-pub steps_onward : {p : ProgramRows} {t : Tree} {m : Moment} {stop : Stop} {m' : Moment} → NextStopIs p t m stop m' → LeftAt m.state.steps stop m'.state.steps
+pub steps_onward : {p : ProgramRows} {t : ActTree} {m : Moment} {stop : Stop} {m' : Moment} → NextStopIs p t m stop m'
+    → LeftAt m.state.steps stop m'.state.steps
 steps_onward {p = p} {t = t} {m = m} {stop = stop} {m' = m'} s = left_at_stop p m.state.steps s.moves t m stop m' (omega arith) s.is
 
-pub calls_onward : {p : ProgramRows} {t : Tree} {m : Moment} {stop : Stop} {m' : Moment} → NextStopIs p t m stop m' → m'.state.calls ≡ m.state.calls
+pub calls_onward : {p : ProgramRows} {t : ActTree} {m : Moment} {stop : Stop} {m' : Moment} → NextStopIs p t m stop m' → m'.state.calls ≡ m.state.calls
 calls_onward {p = p} {t = t} {m = m} {stop = stop} {m' = m'} s = (onward p s.moves t m stop m' s.is).same.calls
 
 pub begun_calls : (p : ProgramRows) (call : Invocation) (halted : Option WayOut) (m m' : Moment) → CallBegun p call halted m m'

@@ -5,7 +5,7 @@ use Rattle.cell_value.specs.declared.entries.Touch.{Touch}
 use Rattle.program_tables.specs.ProgramRows.{ProgramRows}
 use Rattle.program_meaning.specs.State.{State}
 use Rattle.program_meaning.specs.Acts.{limit_passed}
-use Rattle.program_meaning.specs.Tree.{Out, Tree, Ret}
+use Rattle.program_meaning.specs.Tree.{Out, ActTree, Ret}
 use Rattle.program_meaning.specs.Run.{End, Result, Call, Outcome, in_front, ends, joined, if_allowed, recorded, after_all, call_closed, without_frame, call_of}
 use Rattle.program_meaning.specs.Run.{way_out, result_in}
 use Rattle.program_meaning.specs.Run.{plain, run_of}
@@ -71,7 +71,7 @@ same_rows ls w f = rows_done ls w [] f ∙ append-nil (rows_of ls)
 
 module _ {p : ProgramRows} {first : State} where
   -- on to the innermost body's next stop
-  pub climb : (v : View) (t : Tree) (stop : Stop) (m' : Moment) → TowerAt p first (Rests t) v → NextStopIs p t v.moment stop m'
+  pub climb : (v : View) (t : ActTree) (stop : Stop) (m' : Moment) → TowerAt p first (Rests t) v → NextStopIs p t v.moment stop m'
       → TowerAt p first (stage_of stop) (record { opens = v.opens; moment = m'; recording = v.recording })
   climb v t stop m' h s =
       let ls = h.levels in
@@ -116,7 +116,7 @@ module _ {p : ProgramRows} {first : State} where
           )
 
   -- a call is entered
-  pub climb_enter : (v : View) (m' : Moment) (rest : Out → Tree) (e : Activation)
+  pub climb_enter : (v : View) (m' : Moment) (rest : Out → ActTree) (e : Activation)
       → TowerAt p first (Calls e.routine e.args rest) v → CallBegins p e v.moment m'
       → TowerAt p first e.stage (record {
         opens = (record { base = v.moment.state.top; cells = e.cells; rest = rest }) ∷ v.opens;

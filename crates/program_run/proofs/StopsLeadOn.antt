@@ -7,7 +7,7 @@ use Rattle.cell_value.specs.declared.ways_out.Which.{Which}
 use Rattle.program_tables.specs.ProgramRows.{ProgramRows}
 use Rattle.program_meaning.specs.State.{State}
 use Rattle.program_meaning.specs.Acts.{Act, Answer, Spend, ActResult, Went, Stops, perform, limit_passed}
-use Rattle.program_meaning.specs.Tree.{Out, Tree, Ret, Halt, Do, Sub, Enter, Line, way_of, bind}
+use Rattle.program_meaning.specs.Tree.{Out, ActTree, Ret, Halt, Do, Sub, Enter, Line, way_of, bind}
 use Rattle.program_meaning.specs.Layer.{layer}
 use Rattle.program_meaning.specs.Run.{Ended, Halted, Result, Rules, in_front, ends, joined, on_done, if_allowed, within}
 use Rattle.program_meaning.proofs.MoreDepthSameResult.{Less, Grows, run_less, joined_less, less_same, in_front_less}
@@ -16,7 +16,7 @@ use Rattle.eval_tasks.specs.Stops.{Stop, AtLine, AtCall, AtEnd, at_call, on_act,
 use Rattle.program_meaning.proofs.OutcomesCompose.{front_nothing, front_twice, walk_bind, some_same, none_some, less_then, less_is}
 
 -- a call that passes no limit, and what follows it
-abbrev pub met : {S E : Type 0} → Rules S E → ProgramRows → ℕ → ℕ → List Value → (Out → Tree) → S → Option (Result S E)
+abbrev pub met : {S E : Type 0} → Rules S E → ProgramRows → ℕ → ℕ → List Value → (Out → ActTree) → S → Option (Result S E)
 met rules p zero f args next σ = None
 met rules p (suc n) f args next σ =
     joined (rules.call (λ u τ. within rules p n u τ) f args σ) (λ out τ. within rules p (suc n) (next out) τ)
@@ -40,14 +40,14 @@ unpack : (a b : Stop × Moment) → Some a ≡ Some b → (a.0 ≡ b.0) × (a.1 
 unpack a b h = let e : a ≡ b = some_same h in (ap (λ x. x.0) e, ap (λ x. x.1) e)
 
 module _ {S E : Type 0} (rules : Rules S E) (grows : Grows rules) (lens : IsLens rules) where
-  pub record Runs (p : ProgramRows) (t : Tree) (s : S) (l l' : List Touch) (r : Result S E) : Type 0 where
+  pub record Runs (p : ProgramRows) (t : ActTree) (s : S) (l l' : List Touch) (r : Result S E) : Type 0 where
     pub depth : ℕ
     pub log : List Touch
     pub grown : l' ≡ l ++ log
     pub is : within rules p (suc depth) t s ≡ in_front log [] (Some r)
 
   -- a tree that stops at once
-  runs_stop : (p : ProgramRows) (t : Tree) (s : S) (l : List Touch) (first stop : Stop) (m' : Moment) (n : ℕ) (r : Result S E)
+  runs_stop : (p : ProgramRows) (t : ActTree) (s : S) (l : List Touch) (first stop : Stop) (m' : Moment) (n : ℕ) (r : Result S E)
       → Less (finish rules p n first s) (within rules p (suc n) t s)
       → ◌≡◌ {A = Found} (Some (first, record { state = rules.state_of s; log = l })) (Some (stop, m'))
       → finish rules p n stop (rules.with_state s m'.state) ≡ Some r → Runs p t s l m'.log r
@@ -61,7 +61,7 @@ module _ {S E : Type 0} (rules : Rules S E) (grows : Grows rules) (lens : IsLens
             ∙ sym (front_nothing (Some r));
       }
 
-  runs_act : (p : ProgramRows) (line : ℕ) (act : Act) (next : Answer act → Tree) (s : S) (l : List Touch) (k n : ℕ) (stop : Stop) (m' : Moment)
+  runs_act : (p : ProgramRows) (line : ℕ) (act : Act) (next : Answer act → ActTree) (s : S) (l : List Touch) (k n : ℕ) (stop : Stop) (m' : Moment)
       (r : Result S E)
       → ((x : Answer act) (σ : State) (l1 : List Touch) → next_stop p k (next x) (record { state = σ; log = l1 }) ≡ Some (stop, m')
       → Runs p (next x) (rules.with_state s σ) l1 m'.log r)
@@ -88,7 +88,7 @@ module _ {S E : Type 0} (rules : Rules S E) (grows : Grows rules) (lens : IsLens
       }
 
   -- a statement begins, or there is no step for it
-  runs_line : (p : ProgramRows) (line : ℕ) (next : Tree) (s : S) (l : List Touch) (n : ℕ) (stop : Stop) (m' : Moment) (r : Result S E)
+  runs_line : (p : ProgramRows) (line : ℕ) (next : ActTree) (s : S) (l : List Touch) (n : ℕ) (stop : Stop) (m' : Moment) (r : Result S E)
       (d : ActResult (Unit {0})) → perform (Spend 1) (rules.state_of s) ≡ d → on_act line l d (λ x m1. Some (AtLine line next, m1)) ≡ Some (stop, m')
       → finish rules p n stop (rules.with_state s m'.state) ≡ Some r → Runs p (Line line next) s l m'.log r
   runs_line p line next s l n stop m' r (Went x w τ) e h f =
@@ -112,12 +112,12 @@ module _ {S E : Type 0} (rules : Rules S E) (grows : Grows rules) (lens : IsLens
             (ap (λ z. finish rules p n z (rules.with_state s τ)) u.0 ∙ ap (λ x. finish rules p n stop (rules.with_state s x.state)) u.1 ∙ f);
       }
 
-  met_is : (p : ProgramRows) (n f cells : ℕ) (args : List Value) (next : Out → Tree) (s : S) → limit_passed (rules.state_of s) cells ≡ None
+  met_is : (p : ProgramRows) (n f cells : ℕ) (args : List Value) (next : Out → ActTree) (s : S) → limit_passed (rules.state_of s) cells ≡ None
       → within rules p n (Enter f cells args next) s ≡ met rules p n f args next s
   met_is p zero f cells args next s e = refl
   met_is p (suc n) f cells args next s e = ap (λ o. if_allowed o s (met rules p (suc n) f args next s)) e
 
-  runs_call : (p : ProgramRows) (f cells : ℕ) (args : List Value) (next : Out → Tree) (s : S) (l : List Touch) (stop : Stop) (m' : Moment) (n : ℕ)
+  runs_call : (p : ProgramRows) (f cells : ℕ) (args : List Value) (next : Out → ActTree) (s : S) (l : List Touch) (stop : Stop) (m' : Moment) (n : ℕ)
       (r : Result S E) (o : Option Which) → limit_passed (rules.state_of s) cells ≡ o
       → ◌≡◌ {A = Found} (Some (at_call o f args next, record { state = rules.state_of s; log = l })) (Some (stop, m'))
       → finish rules p n stop (rules.with_state s m'.state) ≡ Some r → Runs p (Enter f cells args next) s l m'.log r
@@ -127,7 +127,7 @@ module _ {S E : Type 0} (rules : Rules S E) (grows : Grows rules) (lens : IsLens
       runs_stop p (Enter f cells args next) s l (AtEnd (Halted (way.Limited which))) stop m' n r
       (less_is (sym (ap (λ o. if_allowed o s (met rules p (suc n) f args next s)) e))) h g
 
-  pub runs : (p : ProgramRows) (k : ℕ) (t : Tree) (s : S) (σ : State) (l : List Touch) (n : ℕ) (stop : Stop) (m' : Moment) (r : Result S E)
+  pub runs : (p : ProgramRows) (k : ℕ) (t : ActTree) (s : S) (σ : State) (l : List Touch) (n : ℕ) (stop : Stop) (m' : Moment) (r : Result S E)
       → rules.state_of s ≡ σ → next_stop p k t (record { state = σ; log = l }) ≡ Some (stop, m') → finish rules p n stop (rules.with_state s m'.state) ≡ Some r
       → Runs p t s l m'.log r
   runs p zero t s σ l n stop m' r q h f = absurd (none_some h)

@@ -5,7 +5,7 @@ use Rattle.cell_value.specs.declared.ways_out.WayOut.{WayOut}
 use Rattle.program_tables.specs.declared.program.Routine.{Routine}
 use Rattle.program_tables.specs.ProgramRows.{ProgramRows}
 use Rattle.program_meaning.specs.State.{State}
-use Rattle.program_meaning.specs.Tree.{Out, Tree, Ret}
+use Rattle.program_meaning.specs.Tree.{Out, ActTree, Ret}
 use Rattle.program_meaning.specs.Run.{End, Halted, whole, way_out, result_in}
 use Rattle.eval_machine.specs.Machines.{IsReady, Moment, moment_of}
 use Rattle.eval_tasks.specs.declared.body.Body.{Body}
@@ -15,7 +15,7 @@ use Rattle.program_run.specs.declared.runner.Runner.{Runner}
 use Rattle.program_run.specs.Tower.{Stage, Rests, Ends, Open, View, TowerAt, CallBegins, IsOver, activation}
 
 -- what is done after a call, by its caller
-abbrev pub rest_in : ProgramRows → Option Body → Out → Tree
+abbrev pub rest_in : ProgramRows → Option Body → Out → ActTree
 rest_in p None = Ret
 rest_in p (Some body) = waiting p body
 

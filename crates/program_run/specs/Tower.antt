@@ -21,7 +21,7 @@ use Rattle.call_tree.specs.declared.records.Call as table
 use Rattle.call_tree.specs.Recording.{Recording, new_call}
 use Rattle.program_tables.specs.ProgramRows.{ProgramRows, routine_at}
 use Rattle.program_meaning.specs.State.{State}
-use Rattle.program_meaning.specs.Tree.{Out, Tree}
+use Rattle.program_meaning.specs.Tree.{Out, ActTree}
 use Rattle.program_meaning.specs.Run.{
   End,
   Ended,
@@ -61,7 +61,7 @@ pub record OpenLevel : Type 0 where
   pub args : List Value
   pub entry : State
   pub cells : ℕ
-  pub rest : Out → Tree
+  pub rest : Out → ActTree
 
 -- the open calls: none, or one over the others
 pub data OpenLevels : Type 0 where
@@ -76,7 +76,7 @@ called l x = recorded l.routine l.args l.entry (after_all (call_closed l.entry.d
     (after_all (without_frame l.entry.top l.cells) x))
 
 -- a call, and what is done after it
-abbrev pub followed : ProgramRows → ℕ → (Out → Tree) → Outcome → Outcome
+abbrev pub followed : ProgramRows → ℕ → (Out → ActTree) → Outcome → Outcome
 followed p n rest x = joined x (λ out τ. run_of p n (rest out) τ)
 
 -- the whole run, from what is left of the innermost body
@@ -87,8 +87,8 @@ whole_from p n (Push under l own) x =
 
 -- where the innermost body is: before what it has still to do, at a call, or at its end
 pub data Stage : Type 0 where
-  Rests : (tree : Tree) → Stage
-  Calls : (routine : ℕ) (args : List Value) (rest : Out → Tree) → Stage
+  Rests : (tree : ActTree) → Stage
+  Calls : (routine : ℕ) (args : List Value) (rest : Out → ActTree) → Stage
   Ends : (end : End) → Stage
 
 abbrev pub stage_of : Stop → Stage
@@ -97,7 +97,7 @@ stage_of (AtCall routine args rest) = Calls routine args rest
 stage_of (AtEnd end) = Ends end
 
 -- the stage of the caller after a call that ended so
-abbrev pub stage_after : (Out → Tree) → End → Stage
+abbrev pub stage_after : (Out → ActTree) → End → Stage
 stage_after rest (Ended out) = Rests (rest out)
 stage_after rest (Halted way) = Ends (Halted way)
 
@@ -189,7 +189,7 @@ LevelsFit (Push under l own) = Inside (belows own.events) × (l.entry.depth ≡ 
 pub record Open : Type 0 where
   pub base : ℕ
   pub cells : ℕ
-  pub rest : Out → Tree
+  pub rest : Out → ActTree
 
 abbrev pub open_of : OpenLevel → Open
 open_of l = record { base = l.entry.top; cells = l.cells; rest = l.rest }

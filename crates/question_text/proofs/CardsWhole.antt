@@ -3,7 +3,7 @@ use Rattle.std.proofs.Common.{◌≡◌, ℕ, ◌≤◌, List, [], ◌++◌, len
 use Rattle.std.proofs.lemmas.Option.{slice_get_past}
 use Rattle.call_tree.specs.declared.records.Call.{Call}
 use Rattle.call_tree.specs.Recording.{routines_of}
-use Rattle.cell_names.specs.declared.places.Part.{Part}
+use Rattle.cell_names.specs.declared.places.PlacedPart.{PlacedPart}
 use Rattle.cell_names.specs.Places.{finds}
 use Rattle.cell_names.specs.Finding.{Finding, finding_of}
 use Rattle.cell_names.specs.Names.{Scene}
@@ -12,14 +12,14 @@ use Rattle.question_text.specs.Frames.{opened_from}
 use Rattle.question_text.specs.Lines.{call_line}
 
 -- what names stand on, by its parts
-abbrev pub scene_by : Recorded → Finding → List ℕ → (ℕ → Option Part) → Scene
+abbrev pub scene_by : Recorded → Finding → List ℕ → (ℕ → Option PlacedPart) → Scene
 scene_by r finding routines opened = record { program = r.program; finding = finding; routines = routines; opened = opened }
 
 pub no_card : (r : Recorded) (k : ℕ) → length r.calls ≤ k → card r k ≡ []
 unfolding card
 no_card r k past = ap (card_by r k) (slice_get_past r.calls k past)
 
-pub card_is : (r : Recorded) (k : ℕ) (call : Call) (finding : Finding) (routines : List ℕ) (opened : ℕ → Option Part) (out mid new : List ℕ)
+pub card_is : (r : Recorded) (k : ℕ) (call : Call) (finding : Finding) (routines : List ℕ) (opened : ℕ → Option PlacedPart) (out mid new : List ℕ)
     → slice_get r.calls k ≡ Some call → finding ≡ finding_of r.program r.tokens r.log → routines ≡ routines_of r.calls
     → opened ≡ finds (opened_from r.calls (length r.calls) (Some k)) → mid ≡ out ++ call_line r.program k call
     → new ≡ mid ++ card_lines r (scene_by r finding routines opened) call → new ≡ out ++ card r k

@@ -6,7 +6,7 @@ use Rattle.std.proofs.Math.Seq.{take-length, take-suc}
 use Rattle.std.proofs.lemmas.List.{reverse-append}
 use Rattle.std.proofs.lemmas.Bool.Decides.{nat_tests}
 use Rattle.call_tree.specs.declared.records.Call.{Call}
-use Rattle.cell_names.specs.declared.places.Part.{Part}
+use Rattle.cell_names.specs.declared.places.PlacedPart.{PlacedPart}
 use Rattle.question_text.specs.declared.opened.OpenFrame.{OpenFrame}
 use Rattle.cell_names.specs.Places.{finds}
 use Rattle.question_text.specs.Frames.{call_of_frame, frame_of_call, framed_by, opened_by, opened_from}
@@ -19,14 +19,15 @@ deeper : (most counter : ℕ) → counter < most → most - counter ≡ suc (mos
 deeper most counter below = omega (arith, below)
 
 -- no frame is further out
-pub opened_none : (calls : List Call) (most counter : ℕ) (at : Option ℕ) (frames all : List Part) (o : Option OpenFrame) → counter < most
+pub opened_none : (calls : List Call) (most counter : ℕ) (at : Option ℕ) (frames all : List PlacedPart) (o : Option OpenFrame) → counter < most
     → o ≡ frame_of_call calls at → o ≡ None → opened_from calls (most - counter) at ++ reverse frames ≡ all → reverse frames ≡ all
 opened_none calls most counter at frames all o below is none so_far =
     sym (ap (λ n. opened_from calls n at ++ reverse frames) (deeper most counter below)
     ∙ ap (λ f. opened_by f (opened_from calls (most - (counter + 1))) ++ reverse frames) (sym is ∙ none)) ∙ so_far
 
 -- one frame further out
-pub opened_on : (calls : List Call) (most counter : ℕ) (at : Option ℕ) (frames more all : List Part) (o : Option OpenFrame) (f : OpenFrame) → counter < most
+pub opened_on : (calls : List Call) (most counter : ℕ) (at : Option ℕ) (frames more all : List PlacedPart) (o : Option OpenFrame) (f : OpenFrame)
+    → counter < most
     → o ≡ frame_of_call calls at → o ≡ Some f → more ≡ frames ++ f.part ∷ [] → opened_from calls (most - counter) at ++ reverse frames ≡ all
     → opened_from calls (most - (counter + 1)) f.outer ++ reverse more ≡ all
 opened_on calls most counter at frames more all o f below is some pushed so_far =
@@ -36,7 +37,7 @@ opened_on calls most counter at frames more all o f below is some pushed so_far 
     ∙ sym (ap (λ n. opened_from calls n at ++ reverse frames) (deeper most counter below)
     ∙ ap (λ g. opened_by g (opened_from calls (most - (counter + 1))) ++ reverse frames) (sym is ∙ some)) ∙ so_far
 
-pub opened_all : (calls : List Call) (most counter : ℕ) (at : Option ℕ) (frames all : List Part) → most ≤ counter
+pub opened_all : (calls : List Call) (most counter : ℕ) (at : Option ℕ) (frames all : List PlacedPart) → most ≤ counter
     → opened_from calls (most - counter) at ++ reverse frames ≡ all → reverse frames ≡ all
 opened_all calls most counter at frames all past so_far =
     sym (ap (λ n. opened_from calls n at ++ reverse frames) (let e : most - counter ≡ zero = omega (arith, past) in e)) ∙ so_far
@@ -49,7 +50,7 @@ reverse_taken : {X : Type 0} (xs : List X) (n : ℕ) (d : X) → n < length xs �
 reverse_taken xs n d below = ap reverse (take-suc xs n d below) ∙ reverse-push (take n xs) (get_or xs n d)
 
 -- one frame further in
-pub inward_on : (frames places more : List Part) (left : ℕ) (d : Part) → 0 < left → left ≤ length frames
+pub inward_on : (frames places more : List PlacedPart) (left : ℕ) (d : PlacedPart) → 0 < left → left ≤ length frames
     → finds more ≡ finds (places ++ slice_index_or frames (left - 1) d ∷ []) → finds (places ++ reverse (take left frames)) ≡ finds (reverse frames)
     → finds (more ++ reverse (take (left - 1) frames)) ≡ finds (reverse frames)
 inward_on frames places more left d some inside pushed so_far =
@@ -60,13 +61,13 @@ inward_on frames places more left d some inside pushed so_far =
     ∙ ap finds (append_assoc places (x ∷ []) (reverse (take (left - 1) frames)) ∙ ap (λ l. places ++ l) (sym (reverse_taken frames (left - 1) d below)))
     ∙ ap (λ n. finds (places ++ reverse (take n frames))) (sym e) ∙ so_far
 
-pub inward_first : (frames places : List Part) (left : ℕ) → left ≡ length frames → places ≡ []
+pub inward_first : (frames places : List PlacedPart) (left : ℕ) → left ≡ length frames → places ≡ []
     → finds (places ++ reverse (take left frames)) ≡ finds (reverse frames)
 inward_first frames places left e none =
     ap (λ n. finds (places ++ reverse (take n frames))) e ∙ ap (λ l. finds (places ++ reverse l)) (take-length frames)
     ∙ ap (λ l. finds (l ++ reverse frames)) none
 
-pub inward_all : (frames places : List Part) (left : ℕ) → left ≤ 0 → finds (places ++ reverse (take left frames)) ≡ finds (reverse frames)
+pub inward_all : (frames places : List PlacedPart) (left : ℕ) → left ≤ 0 → finds (places ++ reverse (take left frames)) ≡ finds (reverse frames)
     → finds places ≡ finds (reverse frames)
 inward_all frames places left none so_far =
     ap finds (sym (append-nil places)) ∙ ap (λ n. finds (places ++ reverse (take n frames))) (let e : 0 ≡ left = omega (arith, none) in e) ∙ so_far

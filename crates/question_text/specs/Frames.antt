@@ -1,7 +1,7 @@
 -- The frames of the calls that are open while one runs.
 use Rattle.std.specs.Prelude.{ℕ, zero, suc, ◌==◌, List, [], ◌∷◌, ◌++◌, Option, Some, None, slice_get, if◌then◌else◌}
 use Rattle.call_tree.specs.declared.records.Call.{Call}
-use Rattle.cell_names.specs.declared.places.Part.{Part}
+use Rattle.cell_names.specs.declared.places.PlacedPart.{PlacedPart}
 use Rattle.question_text.specs.declared.opened.OpenFrame.{OpenFrame}
 use Rattle.cell_names.specs.Layouts.{part}
 
@@ -14,12 +14,12 @@ abbrev pub frame_of_call : List Call → (call : Option ℕ) → Option OpenFram
 frame_of_call calls None = None
 frame_of_call calls (Some call) = frame_by call (slice_get calls call)
 
-abbrev pub opened_by : Option OpenFrame → (go : Option ℕ → List Part) → List Part
+abbrev pub opened_by : Option OpenFrame → (go : Option ℕ → List PlacedPart) → List PlacedPart
 opened_by None go = []
 opened_by (Some f) go = go f.outer ++ f.part ∷ []
 
 -- the calls that are open while one runs, from the outermost on, by where their frames begin; of at most this many
-abbrev pub opened_from : List Call → (most : ℕ) → Option ℕ → List Part
+abbrev pub opened_from : List Call → (most : ℕ) → Option ℕ → List PlacedPart
 opened_from calls zero call = []
 opened_from calls (suc most) call = opened_by (frame_of_call calls call) (opened_from calls most)
 

@@ -17,7 +17,7 @@ use crate::lines::write_call_line;
 use crate::opened::opened_calls;
 use crate::ways_out::write_way_line;
 use call_tree::{Call, Calls};
-use cell_names::{Names, Scene, result_of, write_quoted, write_quoted_items, write_typed};
+use cell_names::{NameFinder, Scene, result_of, write_quoted, write_quoted_items, write_typed};
 use cell_value::{Items, Value};
 use edge_ports::Bytes;
 use effect_log::{Footprint, Log};
@@ -32,7 +32,7 @@ pub struct Recorded<'a> {
     /// How many tokens its source has.
     pub tokens: u32,
     /// What is found in it by its place.
-    pub names: &'a Names,
+    pub names: &'a NameFinder,
     pub calls: &'a Calls,
     pub log: &'a Log,
     pub items: &'a Items,

@@ -5,13 +5,13 @@ ghost use Rattle.cell_names.specs.Places.{finds};
 ghost use Rattle.question_text.specs.Frames.{frame_of_call, opened_from};
 
 use call_tree::{Call, Calls};
-use cell_names::{Part, Places};
+use cell_names::{PlacedPart, PlacedParts};
 use std::alloc::{AllocError, Global};
 
 /// The frame of a call: where it begins, with the call's number, and the call that made that one.
 #[derive(Clone, Copy)]
 pub(crate) struct OpenFrame {
-    pub(crate) part: Part,
+    pub(crate) part: PlacedPart,
     pub(crate) outer: Option<u32>,
 }
 
@@ -35,7 +35,7 @@ pub(crate) fn frame_of(calls: &Calls, call: Option<u32>) -> Option<OpenFrame>
         Some(number) => match call_at(calls, number) {
             None => None,
             Some(call) => Some(OpenFrame {
-                part: Part {
+                part: PlacedPart {
                     place: call.entry.top,
                     number,
                 },
@@ -46,7 +46,7 @@ pub(crate) fn frame_of(calls: &Calls, call: Option<u32>) -> Option<OpenFrame>
 }
 
 /// Where the frames of a call and of those around it begin, from the innermost outward.
-fn frames_outward(alloc: Global, calls: &Calls, call: u32) -> Result<Vec<Part>, AllocError>
+fn frames_outward(alloc: Global, calls: &Calls, call: u32) -> Result<Vec<PlacedPart>, AllocError>
     ensures { IfOk result (λ frames. reverse frames.items
         ≡ opened_from calls.now.calls (length calls.now.calls) (Some call)) }
 {
@@ -65,10 +65,10 @@ fn frames_outward(alloc: Global, calls: &Calls, call: u32) -> Result<Vec<Part>, 
 }
 
 /// The same from the outermost inward.
-fn frames_inward(alloc: Global, frames: &[Part]) -> Result<Places, AllocError>
+fn frames_inward(alloc: Global, frames: &[PlacedPart]) -> Result<PlacedParts, AllocError>
     ensures { IfOk result (λ places. finds places ≡ finds (reverse frames.now)) }
 {
-    let mut places = Places::new(alloc);
+    let mut places = PlacedParts::new(alloc);
     let mut left = frames.len();
     'frames: while left > 0 {
         left -= 1;
@@ -78,7 +78,11 @@ fn frames_inward(alloc: Global, frames: &[Part]) -> Result<Places, AllocError>
 }
 
 /// The calls that are open while one runs, by where their frames begin.
-pub(crate) fn opened_calls(alloc: Global, calls: &Calls, call: u32) -> Result<Places, AllocError>
+pub(crate) fn opened_calls(
+    alloc: Global,
+    calls: &Calls,
+    call: u32,
+) -> Result<PlacedParts, AllocError>
     ensures { IfOk result (λ places. finds places
         ≡ finds (opened_from calls.now.calls (length calls.now.calls) (Some call))) }
 {

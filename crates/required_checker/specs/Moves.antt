@@ -19,8 +19,8 @@ use Rattle.type_relations.specs.Shapes.{is_assignable, is_same_type, shape_of}
 use Rattle.operand_checker.specs.declared.typed.Typed.{Typed}
 use Rattle.operand_checker.specs.Selectors.{type_row}
 use Rattle.statement_rules.specs.Sequences.{stated}
-use Rattle.required_checker.specs.declared.actuals.Call.{Call}
-use Rattle.required_checker.specs.declared.moves.Operand.{Operand}
+use Rattle.required_checker.specs.declared.actuals.RequiredCall.{RequiredCall}
+use Rattle.required_checker.specs.declared.moves.CheckedActual.{CheckedActual}
 use Rattle.required_checker.specs.Actuals.{plain_actual, without_actuals, wrong_number}
 use Rattle.required_checker.specs.Transfers.{is_access}
 
@@ -58,14 +58,14 @@ new_variable first v = do
   _ ← too_big first (nat_le cells 65536)
   give domain
 
-unfoldable pub new_one : ℕ → Call → Actual → Step ℕ
+unfoldable pub new_one : ℕ → RequiredCall → Actual → Step ℕ
 new_one frame c a = do
   v ← plain_actual frame a
   domain ← new_variable (first_of_expression a.expression) v
   stated c.name (statement.New c.line v.row domain)
 
 -- rule 32: what dispose takes is of no pointer type, at its first token
-unfoldable pub dispose_one : ℕ → Call → Actual → Step ℕ
+unfoldable pub dispose_one : ℕ → RequiredCall → Actual → Step ℕ
 dispose_one frame c a = do
   v ← plain_actual frame a
   fine ← look (λ k. is_pointer k v)
@@ -73,17 +73,17 @@ dispose_one frame c a = do
   domain ← look (λ k. domain_of k v)
   stated c.name (statement.Dispose c.line v.row domain)
 
-abbrev pub pointer_one : Bool → ℕ → Call → Actual → Step ℕ
+abbrev pub pointer_one : Bool → ℕ → RequiredCall → Actual → Step ℕ
 pointer_one true frame c a = new_one frame c a
 pointer_one false frame c a = dispose_one frame c a
 
 -- rule 26: new and dispose take one actual
-abbrev pub pointer_some : Bool → ℕ → Call → Actuals → Bool → Step ℕ
+abbrev pub pointer_some : Bool → ℕ → RequiredCall → Actuals → Bool → Step ℕ
 pointer_some making frame c a true = pointer_one making frame c a.first
 pointer_some making frame c a false = wrong_number frame c.name a
 
 -- a call of new if it makes a variable, and else of dispose
-abbrev pub pointer_call : Bool → ℕ → Call → Option (Box Actuals) → Step ℕ
+abbrev pub pointer_call : Bool → ℕ → RequiredCall → Option (Box Actuals) → Step ℕ
 pointer_call making frame c None = without_actuals c.name
 pointer_call making frame c (Some a) = pointer_some making frame c a.value (nat_eq (length a.value.others.items) 0)
 
@@ -122,7 +122,7 @@ is_index_of k unpacked i = assignable_or k (index_in (type_row k unpacked.of)) i
 
 -- Rule 32, each at its first token: the unpacked array is none; the index is not assignment-compatible with its index
 -- type; the packed array is none, or has another component type.
-unfoldable pub move_checked : Operand → Operand → Operand → Step (Unit {0})
+unfoldable pub move_checked : CheckedActual → CheckedActual → CheckedActual → Step (Unit {0})
 move_checked u i p = do
   array ← look (λ k. is_array k false u.value)
   _ ← late 32 u.first array
@@ -132,15 +132,15 @@ move_checked u i p = do
   late 32 p.first like
 
 -- an actual with its first token
-unfoldable pub operand_actual : ℕ → Actual → Step Operand
+unfoldable pub operand_actual : ℕ → Actual → Step CheckedActual
 operand_actual frame a = do
   v ← plain_actual frame a
   give (record { first = first_of_expression a.expression; value = v })
 
-abbrev pub pack_row : Bool → ℕ → Operand → Operand → Operand → StatementRow
+abbrev pub pack_row : Bool → ℕ → CheckedActual → CheckedActual → CheckedActual → StatementRow
 pack_row packing line u i p = statement.Pack packing line u.value.row i.value.row p.value.row
 
-unfoldable pub pack_three : ℕ → Call → Actual → Actual → Actual → Step ℕ
+unfoldable pub pack_three : ℕ → RequiredCall → Actual → Actual → Actual → Step ℕ
 pack_three frame c a b d = do
   u ← operand_actual frame a
   i ← operand_actual frame b
@@ -148,7 +148,7 @@ pack_three frame c a b d = do
   _ ← move_checked u i p
   stated c.name (pack_row true c.line u i p)
 
-unfoldable pub unpack_three : ℕ → Call → Actual → Actual → Actual → Step ℕ
+unfoldable pub unpack_three : ℕ → RequiredCall → Actual → Actual → Actual → Step ℕ
 unpack_three frame c a b d = do
   p ← operand_actual frame a
   u ← operand_actual frame b
@@ -156,16 +156,16 @@ unpack_three frame c a b d = do
   _ ← move_checked u i p
   stated c.name (pack_row false c.line u i p)
 
-abbrev pub three : Bool → ℕ → Call → Actual → Actual → Actual → Step ℕ
+abbrev pub three : Bool → ℕ → RequiredCall → Actual → Actual → Actual → Step ℕ
 three true frame c a b d = pack_three frame c a b d
 three false frame c a b d = unpack_three frame c a b d
 
 -- rule 26: pack and unpack take three actuals
-abbrev pub pack_some : Bool → ℕ → Call → Actuals → List NextActual → Step ℕ
+abbrev pub pack_some : Bool → ℕ → RequiredCall → Actuals → List NextActual → Step ℕ
 pack_some packing frame c a (b ∷ d ∷ []) = three packing frame c a.first b.actual d.actual
 pack_some packing frame c a others = wrong_number frame c.name a
 
 -- a call of pack, and else of unpack
-abbrev pub pack_call : Bool → ℕ → Call → Option (Box Actuals) → Step ℕ
+abbrev pub pack_call : Bool → ℕ → RequiredCall → Option (Box Actuals) → Step ℕ
 pack_call packing frame c None = without_actuals c.name
 pack_call packing frame c (Some a) = pack_some packing frame c a.value a.value.others.items

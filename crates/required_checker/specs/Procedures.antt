@@ -5,13 +5,13 @@ use Rattle.pas_tree.specs.declared.statements.Actuals.{Actuals}
 use Rattle.program_tables.specs.declared.rows.Required.{Required}
 use Rattle.program_tables.specs.declared.rows.Required.TheVariants as required
 use Rattle.check_steps.specs.Steps.{Step, give}
-use Rattle.required_checker.specs.declared.actuals.Call.{Call}
+use Rattle.required_checker.specs.declared.actuals.RequiredCall.{RequiredCall}
 use Rattle.required_checker.specs.declared.transfers.Transfer.TheVariants.{Reading, Writing}
 use Rattle.required_checker.specs.Moves.{pack_call, pointer_call}
 use Rattle.required_checker.specs.Transfers.{page, transfer_call}
 
 -- A call of a required procedure. A function is none.
-abbrev pub required_call : Required → ℕ → Call → Option (Box Actuals) → Step ℕ
+abbrev pub required_call : Required → ℕ → RequiredCall → Option (Box Actuals) → Step ℕ
 required_call required.Read frame c a = transfer_call Reading false frame c a
 required_call required.Readln frame c a = transfer_call Reading true frame c a
 required_call required.Write frame c a = transfer_call Writing false frame c a

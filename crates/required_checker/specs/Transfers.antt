@@ -28,7 +28,7 @@ use Rattle.operand_checker.specs.Threats.{threat_alone}
 use Rattle.expression_checker.specs.Actuals.{name_alone}
 use Rattle.expression_checker.specs.Expressions.{expression as expression_step}
 use Rattle.statement_rules.specs.Sequences.{stated}
-use Rattle.required_checker.specs.declared.actuals.Call.{Call}
+use Rattle.required_checker.specs.declared.actuals.RequiredCall.{RequiredCall}
 use Rattle.required_checker.specs.declared.transfers.Transfer.{Transfer}
 use Rattle.required_checker.specs.declared.transfers.Transfer.TheVariants.{Reading, Writing}
 use Rattle.required_checker.specs.Actuals.{add_item, actual_file, link, plain_actual, wrong_number}
@@ -143,7 +143,7 @@ is_enough ends_line None a = true
 is_enough ends_line (Some file) a = ends_line || nat_lt 0 (length a.others.items)
 
 -- a call with actuals of read, write, or of readln and writeln, which end a line
-unfoldable pub transfer_with : Transfer → Bool → ℕ → Call → Actuals → Step ℕ
+unfoldable pub transfer_with : Transfer → Bool → ℕ → RequiredCall → Actuals → Step ℕ
 transfer_with t ends_line frame c a = do
   file ← look (λ k. actual_file k frame a.first)
   _ ← late 26 c.name (is_enough ends_line file a)
@@ -151,12 +151,12 @@ transfer_with t ends_line frame c a = do
   stated c.name (transfer_row t ends_line c.line list)
 
 -- the same without actuals: no item stands at the procedure's name
-unfoldable pub transfer_alone : Transfer → Bool → Call → Step ℕ
+unfoldable pub transfer_alone : Transfer → Bool → RequiredCall → Step ℕ
 transfer_alone t ends_line c = do
   _ ← late 26 c.name ends_line
   stated c.name (transfer_row t ends_line c.line c.name)
 
-abbrev pub transfer_call : Transfer → Bool → ℕ → Call → Option (Box Actuals) → Step ℕ
+abbrev pub transfer_call : Transfer → Bool → ℕ → RequiredCall → Option (Box Actuals) → Step ℕ
 transfer_call t ends_line frame c None = transfer_alone t ends_line c
 transfer_call t ends_line frame c (Some a) = transfer_with t ends_line frame c a.value
 
@@ -174,17 +174,17 @@ abbrev pub paged : ℕ → Actual → Option TextFile → Step (Unit {0})
 paged frame a None = page_other frame a
 paged frame a (Some file) = late 32 (first_of_expression a.expression) (is_file_of Writing file)
 
-unfoldable pub page_one : ℕ → Call → Actual → Step ℕ
+unfoldable pub page_one : ℕ → RequiredCall → Actual → Step ℕ
 page_one frame c a = do
   file ← look (λ k. actual_file k frame a)
   _ ← paged frame a file
   stated c.name (statement.Page c.line)
 
 -- rule 26: page takes one actual at most
-abbrev pub page_some : ℕ → Call → Actuals → Bool → Step ℕ
+abbrev pub page_some : ℕ → RequiredCall → Actuals → Bool → Step ℕ
 page_some frame c a true = page_one frame c a.first
 page_some frame c a false = wrong_number frame c.name a
 
-abbrev pub page : ℕ → Call → Option (Box Actuals) → Step ℕ
+abbrev pub page : ℕ → RequiredCall → Option (Box Actuals) → Step ℕ
 page frame c None = stated c.name (statement.Page c.line)
 page frame c (Some a) = page_some frame c a.value (nat_eq (length a.value.others.items) 0)

@@ -16,7 +16,7 @@ use program_tables::rows::{ItemRow, Row, TextFile};
 
 /// A call of a required procedure.
 #[derive(Clone, Copy)]
-pub struct Call {
+pub struct RequiredCall {
     /// The procedure's name, which is the number of the call.
     pub name: u32,
     /// The line of the statement.

@@ -7,6 +7,6 @@ pub mod moves;
 pub mod procedures;
 pub mod transfers;
 
-pub use actuals::Call;
-pub use moves::Operand;
+pub use actuals::RequiredCall;
+pub use moves::CheckedActual;
 pub use transfers::Transfer;

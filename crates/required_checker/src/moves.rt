@@ -10,7 +10,7 @@ ghost use Rattle.required_checker.specs.Moves.{pack_some};
 ghost use Rattle.required_checker.specs.Moves.{pack_three, pointer_call, pointer_one, pointer_some, same_or, three};
 ghost use Rattle.required_checker.specs.Moves.{unpack_three};
 
-use crate::actuals::{Call, check_plain, check_without_actuals, check_wrong_number};
+use crate::actuals::{RequiredCall, check_plain, check_without_actuals, check_wrong_number};
 use crate::transfers::is_access;
 use check_steps::{Tables, Work};
 use operand_checker::Typed;
@@ -25,7 +25,7 @@ use type_relations::shapes::{is_assignable, is_same_type, shape_of};
 
 /// An actual parameter that is checked.
 #[derive(Clone, Copy)]
-pub struct Operand {
+pub struct CheckedActual {
     /// Its first token.
     pub first: u32,
     pub value: Typed,
@@ -81,7 +81,7 @@ fn check_made(work: &mut Work, first: u32, value: Typed) -> u32
 }
 
 #[tactic(auto, using(check_steps::proofs::Runs::steps), unfolding(crate::specs::Moves::new_one))]
-fn check_new(work: &mut Work, a: &Actual, frame: u32, call: Call) -> u32
+fn check_new(work: &mut Work, a: &Actual, frame: u32, call: RequiredCall) -> u32
     ensures { Does (new_one frame call a.now) result work.old work.new }
 {
     let value = check_plain(work, a, frame);
@@ -95,7 +95,7 @@ fn check_new(work: &mut Work, a: &Actual, frame: u32, call: Call) -> u32
 }
 
 #[tactic(auto, using(check_steps::proofs::Runs::steps), unfolding(crate::specs::Moves::dispose_one))]
-fn check_dispose(work: &mut Work, a: &Actual, frame: u32, call: Call) -> u32
+fn check_dispose(work: &mut Work, a: &Actual, frame: u32, call: RequiredCall) -> u32
     ensures { Does (dispose_one frame call a.now) result work.old work.new }
 {
     let value = check_plain(work, a, frame);
@@ -110,7 +110,13 @@ fn check_dispose(work: &mut Work, a: &Actual, frame: u32, call: Call) -> u32
     put_statement(work, call.name, row)
 }
 
-fn check_pointer_one(work: &mut Work, a: &Actual, frame: u32, making: bool, call: Call) -> u32
+fn check_pointer_one(
+    work: &mut Work,
+    a: &Actual,
+    frame: u32,
+    making: bool,
+    call: RequiredCall,
+) -> u32
     ensures { Does (pointer_one making frame call a.now) result work.old work.new }
 {
     if making {
@@ -125,7 +131,7 @@ fn check_pointer_some(
     a: &Actuals,
     frame: u32,
     making: bool,
-    call: Call,
+    call: RequiredCall,
     one: bool,
 ) -> u32
     ensures { Does (pointer_some making frame call a.now one) result work.old work.new }
@@ -143,7 +149,7 @@ pub(crate) fn check_pointer(
     actuals: &Option<Box<Actuals>>,
     frame: u32,
     making: bool,
-    call: Call,
+    call: RequiredCall,
 ) -> u32
     ensures { Does (pointer_call making frame call actuals.now) result work.old work.new }
 {
@@ -187,7 +193,8 @@ fn is_array(tables: &Tables, wanted: bool, value: Typed) -> bool
     ensures { result ≡ is_array tables.now wanted value }
 {
     is_unknown(shape_of(tables, value.of))
-        || (is_access(value.location) && component_type_in(wanted, type_row(tables, value.of)).is_some())
+        || (is_access(value.location)
+            && component_type_in(wanted, type_row(tables, value.of)).is_some())
 }
 
 fn same_or(tables: &Tables, left: Option<u32>, right: Option<u32>) -> bool
@@ -226,7 +233,12 @@ fn is_index_of(tables: &Tables, unpacked: Typed, index: Typed) -> bool
 }
 
 #[tactic(auto, using(check_steps::proofs::Runs::steps), unfolding(crate::specs::Moves::move_checked))]
-fn check_moved(work: &mut Work, unpacked: Operand, index: Operand, packed: Operand)
+fn check_moved(
+    work: &mut Work,
+    unpacked: CheckedActual,
+    index: CheckedActual,
+    packed: CheckedActual,
+)
     ensures { Does (move_checked unpacked index packed) tt work.old work.new }
 {
     let array = is_array(&work.tables, false, unpacked.value);
@@ -239,11 +251,11 @@ fn check_moved(work: &mut Work, unpacked: Operand, index: Operand, packed: Opera
 }
 
 #[tactic(auto, using(check_steps::proofs::Runs::steps), unfolding(crate::specs::Moves::operand_actual))]
-fn check_operand(work: &mut Work, a: &Actual, frame: u32) -> Operand
+fn check_operand(work: &mut Work, a: &Actual, frame: u32) -> CheckedActual
     ensures { Does (operand_actual frame a.now) result work.old work.new }
 {
     let value = check_plain(work, a, frame);
-    Operand {
+    CheckedActual {
         first: first_of_expression(&a.expression),
         value,
     }
@@ -252,9 +264,9 @@ fn check_operand(work: &mut Work, a: &Actual, frame: u32) -> Operand
 fn pack_row(
     packing: bool,
     line: u32,
-    unpacked: Operand,
-    index: Operand,
-    packed: Operand,
+    unpacked: CheckedActual,
+    index: CheckedActual,
+    packed: CheckedActual,
 ) -> StatementRow
     ensures { result ≡ pack_row packing line unpacked index packed }
 {
@@ -268,7 +280,14 @@ fn pack_row(
 }
 
 #[tactic(auto, using(check_steps::proofs::Runs::steps), unfolding(crate::specs::Moves::pack_three))]
-fn check_pack(work: &mut Work, a: &Actual, b: &Actual, c: &Actual, frame: u32, call: Call) -> u32
+fn check_pack(
+    work: &mut Work,
+    a: &Actual,
+    b: &Actual,
+    c: &Actual,
+    frame: u32,
+    call: RequiredCall,
+) -> u32
     ensures { Does (pack_three frame call a.now b.now c.now) result work.old work.new }
 {
     let unpacked = check_operand(work, a, frame);
@@ -283,7 +302,14 @@ fn check_pack(work: &mut Work, a: &Actual, b: &Actual, c: &Actual, frame: u32, c
 }
 
 #[tactic(auto, using(check_steps::proofs::Runs::steps), unfolding(crate::specs::Moves::unpack_three))]
-fn check_unpack(work: &mut Work, a: &Actual, b: &Actual, c: &Actual, frame: u32, call: Call) -> u32
+fn check_unpack(
+    work: &mut Work,
+    a: &Actual,
+    b: &Actual,
+    c: &Actual,
+    frame: u32,
+    call: RequiredCall,
+) -> u32
     ensures { Does (unpack_three frame call a.now b.now c.now) result work.old work.new }
 {
     let packed = check_operand(work, a, frame);
@@ -304,7 +330,7 @@ fn check_three(
     c: &Actual,
     frame: u32,
     packing: bool,
-    call: Call,
+    call: RequiredCall,
 ) -> u32
     ensures { Does (three packing frame call a.now b.now c.now) result work.old work.new }
 {
@@ -321,7 +347,7 @@ fn check_pack_some(
     others: &[NextActual],
     frame: u32,
     packing: bool,
-    call: Call,
+    call: RequiredCall,
 ) -> u32
     ensures { Does (pack_some packing frame call a.now others.now) result work.old work.new }
 {
@@ -347,7 +373,7 @@ pub(crate) fn check_pack_call(
     actuals: &Option<Box<Actuals>>,
     frame: u32,
     packing: bool,
-    call: Call,
+    call: RequiredCall,
 ) -> u32
     ensures { Does (pack_call packing frame call actuals.now) result work.old work.new }
 {

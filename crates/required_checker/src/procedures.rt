@@ -4,7 +4,7 @@ ghost use Rattle.std.specs.Prelude.{◌≡◌};
 ghost use Rattle.check_steps.specs.Steps.{Does};
 ghost use Rattle.required_checker.specs.Procedures.{required_call};
 
-use crate::actuals::Call;
+use crate::actuals::RequiredCall;
 use crate::moves::{check_pack_call, check_pointer};
 use crate::transfers::{Transfer, check_page, check_transfer};
 use check_steps::Work;
@@ -18,7 +18,7 @@ pub fn check_required(
     actuals: &Option<Box<Actuals>>,
     frame: u32,
     required: Required,
-    call: Call,
+    call: RequiredCall,
 ) -> u32
     ensures { Does (required_call required frame call actuals.now) result work.old work.new }
 {

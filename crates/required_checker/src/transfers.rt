@@ -8,7 +8,9 @@ ghost use Rattle.required_checker.specs.Transfers.{page_one, page_other, page_so
 ghost use Rattle.required_checker.specs.Transfers.{transfer_alone, transfer_row, transfer_call, transfer_with, width};
 ghost use Rattle.required_checker.specs.Transfers.{write_item, written_item, written_type};
 
-use crate::actuals::{Call, check_plain, check_wrong_number, actual_file, put_item, put_link};
+use crate::actuals::{
+    RequiredCall, actual_file, check_plain, check_wrong_number, put_item, put_link,
+};
 use check_steps::{Tables, Work};
 use expression_checker::actuals::name_alone;
 use expression_checker::expressions::check_expression;
@@ -284,7 +286,7 @@ fn check_transfer_with(
     frame: u32,
     transfer: Transfer,
     ends_line: bool,
-    call: Call,
+    call: RequiredCall,
 ) -> u32
     ensures { Does (transfer_with transfer ends_line frame call a.now) result work.old work.new }
 {
@@ -299,7 +301,12 @@ fn check_transfer_with(
 }
 
 #[tactic(auto, using(check_steps::proofs::Runs::steps), unfolding(crate::specs::Transfers::transfer_alone))]
-fn check_transfer_alone(work: &mut Work, transfer: Transfer, ends_line: bool, call: Call) -> u32
+fn check_transfer_alone(
+    work: &mut Work,
+    transfer: Transfer,
+    ends_line: bool,
+    call: RequiredCall,
+) -> u32
     ensures { Does (transfer_alone transfer ends_line call) result work.old work.new }
 {
     work.late(26, call.name, ends_line);
@@ -317,7 +324,7 @@ pub(crate) fn check_transfer(
     frame: u32,
     transfer: Transfer,
     ends_line: bool,
-    call: Call,
+    call: RequiredCall,
 ) -> u32
     ensures { Does (transfer_call transfer ends_line frame call actuals.now) result work.old work.new }
 {
@@ -350,7 +357,7 @@ fn check_paged(work: &mut Work, a: &Actual, frame: u32, file: Option<TextFile>)
 }
 
 #[tactic(auto, using(check_steps::proofs::Runs::steps), unfolding(crate::specs::Transfers::page_one))]
-fn check_page_one(work: &mut Work, a: &Actual, frame: u32, call: Call) -> u32
+fn check_page_one(work: &mut Work, a: &Actual, frame: u32, call: RequiredCall) -> u32
     ensures { Does (page_one frame call a.now) result work.old work.new }
 {
     let file = actual_file(&work.tables, frame, a);
@@ -358,7 +365,7 @@ fn check_page_one(work: &mut Work, a: &Actual, frame: u32, call: Call) -> u32
     put_statement(work, call.name, StatementRow::Page { line: call.line })
 }
 
-fn check_page_some(work: &mut Work, a: &Actuals, frame: u32, call: Call, one: bool) -> u32
+fn check_page_some(work: &mut Work, a: &Actuals, frame: u32, call: RequiredCall, one: bool) -> u32
     ensures { Does (page_some frame call a.now one) result work.old work.new }
 {
     if one {
@@ -373,7 +380,7 @@ pub(crate) fn check_page(
     work: &mut Work,
     actuals: &Option<Box<Actuals>>,
     frame: u32,
-    call: Call,
+    call: RequiredCall,
 ) -> u32
     ensures { Does (page frame call actuals.now) result work.old work.new }
 {

@@ -22,7 +22,7 @@ use Rattle.program_tables.specs.ProgramRows.{ProgramRows, routine_at, row_at}
 use Rattle.program_meaning.specs.State.{State, IsSound, moved}
 use Rattle.program_meaning.specs.Acts.{OutOfSteps, Limited, Answer, spent, limit_passed, Spend}
 use Rattle.program_meaning.specs.Actions.{Action, Give, Fail, Perform}
-use Rattle.program_meaning.specs.Tree.{Out, Nothing, Scalar, Cells, Address, Jump, Tree, Ret, Halt, Do, Sub, Enter, Line, way_of, doing}
+use Rattle.program_meaning.specs.Tree.{Out, Nothing, Scalar, Cells, Address, Jump, ActTree, Ret, Halt, Do, Sub, Enter, Line, way_of, doing}
 use Rattle.program_meaning.specs.Layer.{layer}
 use Rattle.program_meaning.specs.Heap.{pointer_result_at}
 use Rattle.program_meaning.specs.Accesses.{scalar}
@@ -50,7 +50,7 @@ IsCallEnd (Ended (Cells vs)) = ⊥
 IsCallEnd (Ended (Address addr)) = ⊥
 IsCallEnd e = Unit {0}
 
-abbrev Returns : Tree → Type 0
+abbrev Returns : ActTree → Type 0
 Returns (Ret out) = IsCallEnd (Ended out)
 Returns (Halt line why) = Unit {0}
 Returns (Do line act next) = (x : Answer act) → Returns (next x)
@@ -58,7 +58,7 @@ Returns (Sub part next) = (out : Out) → Returns (next out)
 Returns (Enter f cells args next) = (out : Out) → Returns (next out)
 Returns (Line line next) = Returns next
 
-doing_returns : {A : Type 0} (line : ℕ) (a : Action A) (k : A → Tree) → ((x : A) → Returns (k x)) → Returns (doing line a k)
+doing_returns : {A : Type 0} (line : ℕ) (a : Action A) (k : A → ActTree) → ((x : A) → Returns (k x)) → Returns (doing line a k)
 doing_returns line (Give x) k h = h x
 doing_returns line (Fail why) k h = tt
 doing_returns line (Perform act next) k h = λ x. doing_returns line (next x) k h
@@ -84,7 +84,7 @@ whole_returns p f base q = λ out. by q.result out
     by o (Address addr) = normal o
 
 module _ (p : ProgramRows) where
-  ran_returns : {n : ℕ} {t : Tree} {σ : State} {r : Result State Call} → Ran p n t σ r → Returns t → IsCallEnd r.end
+  ran_returns : {n : ℕ} {t : ActTree} {σ : State} {r : Result State Call} → Ran p n t σ r → Returns t → IsCallEnd r.end
   ran_returns ways.Returned h = h
   ran_returns ways.Stopped h = tt
   ran_returns (ways.Refused q) h = tt
@@ -297,17 +297,17 @@ changed_redo change a = record {
 }
 
 module _ (p : ProgramRows) where
-  abbrev again_of : {n : ℕ} {t : Tree} {σ : State} {r : Result State Call} → Ran p n t σ r → ℕ → List Call → Replayed
+  abbrev again_of : {n : ℕ} {t : ActTree} {σ : State} {r : Result State Call} → Ran p n t σ r → ℕ → List Call → Replayed
   again_of {n = n} {t = t} {σ = σ} {r = r} h k cs = replay_of p n t (at σ k (unmarked r.events ++ cs))
 
-  abbrev next_of : ℕ → (Out → Tree) → Out → Replaying → Replayed
+  abbrev next_of : ℕ → (Out → ActTree) → Out → Replaying → Replayed
   next_of n next out s = replay_of p (suc n) (next out) s
 
-  abbrev entered : ℕ → ℕ → List Value → (Out → Tree) → Option Which → Replaying → Replayed
+  abbrev entered : ℕ → ℕ → List Value → (Out → ActTree) → Option Which → Replaying → Replayed
   entered n f args next o s = if_allowed o s (joined (next_call f args s.state s.number s.calls) (next_of n next))
 
   -- each run is the same again, from the effects of its calls
-  ran_redo : {n : ℕ} {t : Tree} {σ : State} {r : Result State Call} → (h : Ran p n t σ r) → IsSound σ → (k : ℕ) (cs : List Call)
+  ran_redo : {n : ℕ} {t : ActTree} {σ : State} {r : Result State Call} → (h : Ran p n t σ r) → IsSound σ → (k : ℕ) (cs : List Call)
       → Redo k r cs (again_of h k cs)
   ran_redo (ways.Returned {out = out} {σ = σ}) s k cs = ends_redo (Ended out) σ k cs
   ran_redo (ways.Stopped {line = line} {why = why} {σ = σ}) s k cs = ends_redo (Halted (way_of line why)) σ k cs

@@ -11,7 +11,7 @@ use Rattle.cell_value.specs.Effects.{is_shared, heap_start, heap_end}
 use Rattle.program_tables.specs.ProgramRows.{ProgramRows}
 use Rattle.program_meaning.specs.State.{State, IsSound, stack_end}
 use Rattle.program_meaning.specs.Acts.{Trouble, Fault, OutOfSteps, Limited, Act, Answer, ActResult, perform, Spend}
-use Rattle.program_meaning.specs.Tree.{Tree, way_of}
+use Rattle.program_meaning.specs.Tree.{ActTree, way_of}
 use Rattle.program_meaning.specs.Run.{End, Ended, Halted, Marked, Result, Call, with_frame, without_frame, frame_cells, opened, call_closed}
 use Rattle.program_meaning.specs.Blocks.{filled, cleared}
 use Rattle.run_laws.proofs.Touches.{written, Serves}
@@ -193,7 +193,7 @@ left_call i = record { leaves = i.leaves; proper = i.proper }
 
 module _ (p : ProgramRows) where
   mutual
-    pub ran_leaves : {n : ℕ} {t : Tree} {σ : State} {r : Result State Call} → Ran p n t σ r → IsSound σ → Left σ r
+    pub ran_leaves : {n : ℕ} {t : ActTree} {σ : State} {r : Result State Call} → Ran p n t σ r → IsSound σ → Left σ r
     ran_leaves (ways.Returned {σ = σ}) s = left_ending σ tt s
     ran_leaves (ways.Stopped {line = line} {why = why} {σ = σ}) s = left_ending σ (proper_stop line why) s
     ran_leaves (ways.Refused {line = line} {act = act} {why = why} {τ = τ} q) s =

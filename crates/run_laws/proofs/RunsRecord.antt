@@ -8,7 +8,7 @@ use Rattle.cell_value.specs.declared.entries.Touch.{Touch}
 use Rattle.program_tables.specs.ProgramRows.{ProgramRows}
 use Rattle.program_meaning.specs.Acts.{Spend}
 use Rattle.program_meaning.specs.State.{State, IsSound}
-use Rattle.program_meaning.specs.Tree.{Tree}
+use Rattle.program_meaning.specs.Tree.{ActTree}
 use Rattle.program_meaning.specs.Run.{Marked, Result, Call, record_of}
 use Rattle.run_laws.proofs.Events.{unmarked, events_append}
 use Rattle.run_laws.proofs.ActsLeave.{MayEnter, limits_hold}
@@ -76,7 +76,7 @@ module _ (p : ProgramRows) (xs : List ℕ) where
 
   mutual
     -- each record of each run is that of a call
-    pub ran_records : {n : ℕ} {t : Tree} {σ : State} {r : Result State Call} → Ran p n t σ r → IsSound σ → σ.items ≡ xs → Records r
+    pub ran_records : {n : ℕ} {t : ActTree} {σ : State} {r : Result State Call} → Ran p n t σ r → IsSound σ → σ.items ≡ xs → Records r
     ran_records ways.Returned s i = tt
     ran_records ways.Stopped s i = tt
     ran_records (ways.Refused q) s i = tt

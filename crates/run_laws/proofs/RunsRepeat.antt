@@ -14,7 +14,7 @@ use Rattle.program_tables.specs.declared.program.Routine.{Routine}
 use Rattle.program_tables.specs.ProgramRows.{ProgramRows, routine_at}
 use Rattle.program_meaning.specs.State.{State, IsSound, stack_end, most_calls, most_depth}
 use Rattle.program_meaning.specs.Acts.{Trouble, Fault, OutOfSteps, Limited, perform, spent, Spend}
-use Rattle.program_meaning.specs.Tree.{Out, Tree, way_of}
+use Rattle.program_meaning.specs.Tree.{Out, ActTree, way_of}
 use Rattle.program_meaning.specs.Agree.{EndedByItself}
 use Rattle.program_meaning.specs.Run.{End, Ended, Halted, Marked, Result, in_front, ends, on_end, joined, on_done, if_allowed, Call, Outcome, recorded}
 use Rattle.program_meaning.specs.Run.{after_all, in_frame, at_work, call_of, plain, run_of, whole, with_frame, without_frame, frame_cells}
@@ -227,10 +227,10 @@ room_inside k = (
 )
 
 module _ (p : ProgramRows) where
-  abbrev next_of : ℕ → (Out → Tree) → Out → State → Outcome
+  abbrev next_of : ℕ → (Out → ActTree) → Out → State → Outcome
   next_of n next out τ = run_of p (suc n) (next out) τ
 
-  abbrev entered : ℕ → ℕ → List Value → (Out → Tree) → Option Which → State → Outcome
+  abbrev entered : ℕ → ℕ → List Value → (Out → ActTree) → Option Which → State → Outcome
   entered n f args next o τ = if_allowed o τ (joined (call_of p (run_of p n) f args τ) (next_of n next))
 
   abbrev choice : ℕ → ℕ → List Value → Routine → State → Bool → Bool → Outcome
@@ -257,7 +257,7 @@ module _ (p : ProgramRows) where
 
   mutual
     -- each run is the same again
-    pub ran_again : {n : ℕ} {t : Tree} {σ : State} {r : Result State Call} → Ran p n t σ r → IsSound σ → Repeated σ r (run_of p n t)
+    pub ran_again : {n : ℕ} {t : ActTree} {σ : State} {r : Result State Call} → Ran p n t σ r → IsSound σ → Repeated σ r (run_of p n t)
     ran_again (ways.Returned {out = out} {σ = σ}) s = ends_again (Ended out) σ
     ran_again (ways.Stopped {line = line} {why = why} {σ = σ}) s = ends_again (Halted (way_of line why)) σ
     ran_again (ways.Refused {n = n} {line = line} {act = act} {next = next} {σ = σ} {why = why} {w = w} {τ = ρ} q) s = λ from to τ v a k.

@@ -12,7 +12,7 @@ use Rattle.program_tables.specs.declared.program.Routine.{Routine}
 use Rattle.program_tables.specs.ProgramRows.{ProgramRows, routine_at}
 use Rattle.program_meaning.specs.State.{State, stack_end}
 use Rattle.program_meaning.specs.Acts.{Trouble, OutOfSteps, Limited, Act, Answer, ActResult, Went, Stops, perform, spent, limit_passed, Spend}
-use Rattle.program_meaning.specs.Tree.{Out, Part, Tree, Ret, Halt, Do, Sub, Enter, Line, way_of}
+use Rattle.program_meaning.specs.Tree.{Out, Part, ActTree, Ret, Halt, Do, Sub, Enter, Line, way_of}
 use Rattle.program_meaning.specs.Layer.{layer}
 use Rattle.program_meaning.specs.Run.{End, Ended, Halted, Marked, Result, later_by, in_front, ends, on_end, joined, on_done, if_allowed, Call, Outcome}
 use Rattle.program_meaning.specs.Run.{record_of, recorded, after_all, in_frame, at_work, call_of, plain, run_of, depth_enough, whole, with_frame, without_frame}
@@ -37,40 +37,41 @@ abbrev pub of_call : ℕ → List Value → State → Result State Call → Resu
 of_call f args σ y = record y { events = (record { mark = 0; event = record_of f args σ y }) ∷ y.events }
 
 -- what a call does, but for its record
-abbrev pub inside : ProgramRows → (Tree → State → Outcome) → ℕ → List Value → State → Outcome
+abbrev pub inside : ProgramRows → (ActTree → State → Outcome) → ℕ → List Value → State → Outcome
 inside p run f args σ = after_all (call_closed σ.depth) (in_frame (at_work p run f) args (opened σ) (routine_at p f))
 
 mutual
   -- the run of a tree from a state, where parts and calls stand at most so deep in one another
-  pub data Ran (p : ProgramRows) : ℕ → Tree → State → Result State Call → Type 0 where
+  pub data Ran (p : ProgramRows) : ℕ → ActTree → State → Result State Call → Type 0 where
     Returned : {n : ℕ} {out : Out} {σ : State} → Ran p (suc n) (Ret out) σ (ending (Ended out) σ)
     Stopped : {n line : ℕ} {why : Trouble} {σ : State} → Ran p (suc n) (Halt line why) σ (ending (Halted (way_of line why)) σ)
     -- an act is not done
-    Refused : {n line : ℕ} {act : Act} {next : Answer act → Tree} {σ : State} {why : Trouble} {w : List Touch} {τ : State}
+    Refused : {n line : ℕ} {act : Act} {next : Answer act → ActTree} {σ : State} {why : Trouble} {w : List Touch} {τ : State}
         → perform act σ ≡ Stops why w τ → Ran p (suc n) (Do line act next) σ (front w [] (ending (Halted (way_of line why)) τ))
     -- or it is, and the run goes on
-    Acted : {n line : ℕ} {act : Act} {next : Answer act → Tree} {σ : State} {x : Answer act} {w : List Touch} {τ : State} {r : Result State Call}
+    Acted : {n line : ℕ} {act : Act} {next : Answer act → ActTree} {σ : State} {x : Answer act} {w : List Touch} {τ : State} {r : Result State Call}
         → perform act σ ≡ Went x w τ → Ran p (suc n) (next x) τ r → Ran p (suc n) (Do line act next) σ (front w [] r)
     -- a part stops the run
-    PartStopped : {n : ℕ} {part : Part} {next : Out → Tree} {σ : State} {r : Result State Call} {way : WayOut} → Ran p n (layer p part) σ r
+    PartStopped : {n : ℕ} {part : Part} {next : Out → ActTree} {σ : State} {r : Result State Call} {way : WayOut} → Ran p n (layer p part) σ r
         → r.end ≡ Halted way → Ran p (suc n) (Sub part next) σ r
     -- or it ends, and the run goes on
-    PartEnded : {n : ℕ} {part : Part} {next : Out → Tree} {σ : State} {r : Result State Call} {out : Out} {s : Result State Call} → Ran p n (layer p part) σ r
+    PartEnded : {n : ℕ} {part : Part} {next : Out → ActTree} {σ : State} {r : Result State Call} {out : Out} {s : Result State Call}
+        → Ran p n (layer p part) σ r
         → r.end ≡ Ended out → Ran p (suc n) (next out) r.after s → Ran p (suc n) (Sub part next) σ (front r.log r.events s)
     -- a limit would be passed
-    AtLimit : {n f cells : ℕ} {args : List Value} {next : Out → Tree} {σ : State} {which : Which} → limit_passed σ cells ≡ Some which
+    AtLimit : {n f cells : ℕ} {args : List Value} {next : Out → ActTree} {σ : State} {which : Which} → limit_passed σ cells ≡ Some which
         → Ran p (suc n) (Enter f cells args next) σ (ending (Halted (way.Limited which)) σ)
     -- a call stops the run
-    CallStopped : {n f cells : ℕ} {args : List Value} {next : Out → Tree} {σ : State} {y : Result State Call} {way : WayOut} → limit_passed σ cells ≡ None
+    CallStopped : {n f cells : ℕ} {args : List Value} {next : Out → ActTree} {σ : State} {y : Result State Call} {way : WayOut} → limit_passed σ cells ≡ None
         → RanCall p n f args σ y → y.end ≡ Halted way → Ran p (suc n) (Enter f cells args next) σ (of_call f args σ y)
     -- or it ends, and the run goes on
-    CallEnded : {n f cells : ℕ} {args : List Value} {next : Out → Tree} {σ : State} {y : Result State Call} {out : Out} {s : Result State Call}
+    CallEnded : {n f cells : ℕ} {args : List Value} {next : Out → ActTree} {σ : State} {y : Result State Call} {out : Out} {s : Result State Call}
         → limit_passed σ cells ≡ None → RanCall p n f args σ y → y.end ≡ Ended out → Ran p (suc n) (next out) y.after s
         → Ran p (suc n) (Enter f cells args next) σ (front (of_call f args σ y).log (of_call f args σ y).events s)
     -- a statement takes no step, or it takes one and its line is told
-    NotBegun : {n line : ℕ} {next : Tree} {σ : State} {why : Trouble} {w : List Touch} {τ : State} → perform (Spend 1) σ ≡ Stops why w τ
+    NotBegun : {n line : ℕ} {next : ActTree} {σ : State} {why : Trouble} {w : List Touch} {τ : State} → perform (Spend 1) σ ≡ Stops why w τ
         → Ran p (suc n) (Line line next) σ (front w [] (ending (Halted (way_of line why)) τ))
-    Began : {n line : ℕ} {next : Tree} {σ : State} {w : List Touch} {τ : State} {r : Result State Call} → perform (Spend 1) σ ≡ Went tt w τ
+    Began : {n line : ℕ} {next : ActTree} {σ : State} {w : List Touch} {τ : State} {r : Result State Call} → perform (Spend 1) σ ≡ Went tt w τ
         → Ran p (suc n) next τ r → Ran p (suc n) (Line line next) σ (front w [] (front [] [] r))
 
   -- the frame of a routine at a state, and the routine at work in it
@@ -118,7 +119,7 @@ gives_joined P (Some s) g h k = by s.end refl
     by (Ended out) q = gives_front P s.log s.events (g out s.after) (k out s refl q)
     by (Halted way) q = gives_this P s (h way s refl q)
 
-module _ (p : ProgramRows) (n : ℕ) (R : (t : Tree) (σ : State) → Gives (Ran p n t σ) (run_of p n t σ)) where
+module _ (p : ProgramRows) (n : ℕ) (R : (t : ActTree) (σ : State) → Gives (Ran p n t σ) (run_of p n t σ)) where
   gives_frame : (f : ℕ) (args : List Value) (σ : State) (o : Option Routine) → routine_at p f ≡ o
       → Gives (RanFrame p n f args σ) (in_frame (at_work p (run_of p n) f) args σ o)
   gives_frame f args σ None h = gives_this (RanFrame p n f args σ) _ (NoRoutine h)
@@ -146,7 +147,7 @@ module _ (p : ProgramRows) (n : ℕ) (R : (t : Tree) (σ : State) → Gives (Ran
       by None h = λ r e. absurd (none_some e)
       by (Some y) h = gives_this P (of_call f args σ y) (k y (h y refl))
 
-  deeper : (t : Tree) (σ : State) → Gives (Ran p (suc n) t σ) (run_of p (suc n) t σ)
+  deeper : (t : ActTree) (σ : State) → Gives (Ran p (suc n) t σ) (run_of p (suc n) t σ)
   deeper (Ret out) σ = gives_this (Ran p (suc n) (Ret out) σ) _ Returned
   deeper (Halt line why) σ = gives_this (Ran p (suc n) (Halt line why) σ) _ Stopped
   deeper (Do line act next) σ = by (λ x τ. deeper (next x) τ) (perform act σ) refl
@@ -178,7 +179,7 @@ module _ (p : ProgramRows) (n : ℕ) (R : (t : Tree) (σ : State) → Gives (Ran
           (gives_front (λ s. Ran p (suc n) (Line line next) σ (front w [] s)) [] [] (run_of p (suc n) next τ) (λ s c. Began q (k τ s c)))
       by k (Stops why w τ) q = gives_this (Ran p (suc n) (Line line next) σ) _ (NotBegun q)
 
-pub run_gives : (p : ProgramRows) (n : ℕ) (t : Tree) (σ : State) → Gives (Ran p n t σ) (run_of p n t σ)
+pub run_gives : (p : ProgramRows) (n : ℕ) (t : ActTree) (σ : State) → Gives (Ran p n t σ) (run_of p n t σ)
 run_gives p zero t σ = λ r e. absurd (none_some e)
 run_gives p (suc n) t σ = deeper p n (run_gives p n) t σ
 
@@ -187,7 +188,7 @@ pub call_at : {p : ProgramRows} {n f : ℕ} {args : List Value} {σ : State} {y 
     → depth_enough p σ.steps ≤ m → RanCall p m f args σ y
 call_at {p = p} (Closed {n = n} {f = f} {args = args} {σ = σ} {y = y} c h) m k =
     gives_call p m (run_gives p m) (λ r. r ≡ of_call f args σ (changed (call_closed σ.depth) y) → RanCall p m f args σ (changed (call_closed σ.depth) y)) f
-        args σ
+    args σ
     (λ z a e. subst (RanCall p m f args σ) (ap uncalled e) a) (of_call f args σ (changed (call_closed σ.depth) y))
     ((call_deeper p n m f args σ k).gives _ (ap (λ x. recorded f args σ (after_all (call_closed σ.depth) x)) c)) refl
   where

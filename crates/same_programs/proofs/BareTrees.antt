@@ -8,7 +8,7 @@ use Rattle.pas_tree.specs.declared.blocks.TypePart.{TypePart}
 use Rattle.pas_tree.specs.declared.blocks.TypeDefinition.{TypeDefinition}
 use Rattle.pas_tree.specs.declared.blocks.VariablePart.{VariablePart}
 use Rattle.pas_tree.specs.declared.blocks.VariableDeclaration.{VariableDeclaration}
-use Rattle.pas_tree.specs.declared.blocks.Body.{Body, Directive, Block'}
+use Rattle.pas_tree.specs.declared.blocks.RoutineBody.{RoutineBody, Directive, Block'}
 use Rattle.typed_trees.proofs.Memory.{boxed, held}
 use Rattle.same_programs.proofs.Memory.{again, bare, is_short, shaped}
 use Rattle.same_programs.proofs.BareNames.{bare_names}
@@ -46,7 +46,7 @@ abbrev mutual
   bare_routines end_of-Routine = end_of-Routine
   bare_routines (more_of-Routine h n a o r) = more_of-Routine (bare_heading h) n (bare_body a) o (bare_routines r)
 
-  pub bare_body : Body → Body
+  pub bare_body : RoutineBody → RoutineBody
   bare_body (Directive n) = Directive n
   bare_body (Block' _ a) = Block' (boxed tt) (bare_block a)
 

@@ -1,7 +1,7 @@
 -- What the definitions of `Rattle.code_checker.specs.Blocks` say of bare trees.
 use Rattle.std.specs.Prelude.{ℕ, Bool}
 use Rattle.pas_tree.specs.declared.blocks.Block.{Block, Block' as BlockTree', Row_of-Routine, end_of-Routine, more_of-Routine}
-use Rattle.pas_tree.specs.declared.blocks.Body.{Body, Directive, Block'}
+use Rattle.pas_tree.specs.declared.blocks.RoutineBody.{RoutineBody, Directive, Block'}
 use Rattle.pas_tree.specs.declared.statements.Compound.{Compound, out-Compound}
 use Rattle.check_steps.specs.declared.regions.Span.{Span}
 use Rattle.check_steps.specs.Steps.{give, ◌>>=◌, look, enter_block}
@@ -37,7 +37,7 @@ mutual
   code_routines-bare (more_of-Routine heading semicolon body last_semicolon rest) =
       λ i. code_body-bare (is_function-bare heading i) (heading_name-bare heading i) body i >>= λ _. code_routines-bare rest i
 
-  pub code_body-bare : (function : Bool) (name : ℕ) (b : Body) → code_body function name (bare_body b) ≡ code_body function name b
+  pub code_body-bare : (function : Bool) (name : ℕ) (b : RoutineBody) → code_body function name (bare_body b) ≡ code_body function name b
   code_body-bare function name (Directive directive) = refl
   code_body-bare function name (Block' _ b) =
       λ i. look (λ k. own_frame k (name_in_first k name)) >>= λ frame. code_block-bare frame b i >>= λ _. function_result function name

@@ -2,7 +2,7 @@
 use Rattle.std.specs.Prelude.{ℕ, false, List, Option, Some, None}
 use Rattle.pas_tree.specs.declared.blocks.Block.{Block, Block' as BlockTree', Row_of-Routine, end_of-Routine, more_of-Routine, items-the_row-Routine}
 use Rattle.pas_tree.specs.declared.blocks.Routine.{Routine}
-use Rattle.pas_tree.specs.declared.blocks.Body.{Body, Directive, Block'}
+use Rattle.pas_tree.specs.declared.blocks.RoutineBody.{RoutineBody, Directive, Block'}
 use Rattle.pas_tree.specs.declared.headings.Heading.{Heading}
 use Rattle.pas_tree.specs.declared.statements.Compound.{out-Compound}
 use Rattle.program_tables.specs.declared.rows.Row.TheVariants as row
@@ -28,7 +28,7 @@ use Rattle.same_programs.proofs.HeadingHeadings.{signature-bare}
 use Rattle.same_programs.proofs.UseStatements.{compound_uses-bare}
 use Rattle.same_programs.proofs.Readers.{compound_begin, routines_items}
 
-pub define_body-bare : (frame : ℕ) (b : Body) → define_body frame (bare_body b) ≡ define_body frame b
+pub define_body-bare : (frame : ℕ) (b : RoutineBody) → define_body frame (bare_body b) ≡ define_body frame b
 define_body-bare frame (Directive directive) = refl
 define_body-bare frame (Block' _ b) = λ i. define_block-bare frame b i
 
@@ -36,7 +36,7 @@ pub define_completion-bare : (frame : ℕ) (r : Option Routine) → define_compl
 define_completion-bare frame None = refl
 define_completion-bare frame (Some r) = λ i. define_body-bare frame r.body i
 
-pub define_inside-bare : (frame : ℕ) (h : Heading) (body : Body) (completion : Option Routine)
+pub define_inside-bare : (frame : ℕ) (h : Heading) (body : RoutineBody) (completion : Option Routine)
     → define_inside frame (bare_heading h) (bare_body body) (option_map bare_routine completion) ≡ define_inside frame h body completion
 unfolding define_inside
 define_inside-bare frame h body completion =
@@ -100,6 +100,6 @@ mutual
       λ i. enter-bare frame rs (record { heading = heading; semicolon = semicolon; body = body; last_semicolon = last_semicolon }) i
       >>= λ e. body_in-bare e body i >>= λ _. routines_in-bare frame rs rest i
 
-  pub body_in-bare : (e : Entered) (b : Body) → body_in e (bare_body b) ≡ body_in e b
+  pub body_in-bare : (e : Entered) (b : RoutineBody) → body_in e (bare_body b) ≡ body_in e b
   body_in-bare e (Directive directive) = refl
   body_in-bare e (Block' _ b) = λ i. block-bare e.frame e.number e.place b i

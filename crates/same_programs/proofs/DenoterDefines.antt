@@ -9,7 +9,7 @@ use Rattle.pas_tree.specs.declared.denoters.NextVariants.{NextVariants, NextVari
 use Rattle.pas_tree.specs.declared.denoters.Variants.{Variants as VariantsTree, Variants', Row_of-NextArm, end_of-NextArm, more_of-NextArm}
 use Rattle.check_steps.specs.Known.{frame_at}
 use Rattle.check_steps.specs.Steps.{◌>>=◌, look}
-use Rattle.kind_checker.specs.declared.names.Kind.TheVariants as kind
+use Rattle.kind_checker.specs.declared.names.NameKind.TheVariants as kind
 use Rattle.kind_checker.specs.Names.{define_name, each_name}
 use Rattle.denoter_checker.specs.declared.defines.Wanted.{Wanted}
 use Rattle.denoter_checker.specs.declared.defines.Wanted.TheVariants as wanted

@@ -9,7 +9,7 @@ use Rattle.check_steps.specs.declared.regions.Def.TheVariants as def
 use Rattle.check_steps.specs.Known.{frame_at}
 use Rattle.check_steps.specs.Steps.{◌>>=◌, look, put}
 use Rattle.check_steps.specs.Names.{define_in}
-use Rattle.kind_checker.specs.declared.names.Kind.TheVariants as name
+use Rattle.kind_checker.specs.declared.names.NameKind.TheVariants as name
 use Rattle.kind_checker.specs.declared.types.Scope.{Scope}
 use Rattle.kind_checker.specs.Names.{define_name, each_name}
 use Rattle.denoter_checker.specs.Parts.{types_in, define_type, type_definition, domains, type_part, define_variable, place_variable, at_names}

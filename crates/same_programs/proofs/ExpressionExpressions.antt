@@ -20,7 +20,7 @@ use Rattle.pas_tree.specs.declared.expressions.RangeEnd.{RangeEnd, RangeEnd'}
 use Rattle.check_steps.specs.Steps.{give, ◌>>=◌}
 use Rattle.pas_places.specs.Operators.{adding_token, multiplying_token, relational_token}
 use Rattle.expression_checker.specs.declared.actuals.Passing.{Passing}
-use Rattle.operand_checker.specs.declared.members.Begun.{Begun}
+use Rattle.operand_checker.specs.declared.members.MemberStart.{MemberStart}
 use Rattle.operand_checker.specs.declared.members.Gathered.{Gathered}
 use Rattle.operand_checker.specs.declared.typed.Typed.{Typed}
 use Rattle.expression_checker.specs.Actuals.{actual_by, actuals_end}
@@ -145,12 +145,12 @@ mutual
       λ i. expression-bare frame first i
       >>= λ v. range_held-bare frame g (record { slot = slot; first = first_of_expression-bare first i; value = v }) last i
 
-  pub range_held-bare : (frame : ℕ) (g : Gathered) (b : Begun) (h : Held-Member-last) → range_held frame g b (bare_range_end h)
+  pub range_held-bare : (frame : ℕ) (g : Gathered) (b : MemberStart) (h : Held-Member-last) → range_held frame g b (bare_range_end h)
       ≡ range_held frame g b h
   range_held-bare frame g b Member-last-None' = refl
   range_held-bare frame g b (Member-last-Some' r) = λ i. range-bare frame g b r i
 
-  pub range-bare : (frame : ℕ) (g : Gathered) (b : Begun) (r : RangeEnd) → range frame g b (bare_end r) ≡ range frame g b r
+  pub range-bare : (frame : ℕ) (g : Gathered) (b : MemberStart) (r : RangeEnd) → range frame g b (bare_end r) ≡ range frame g b r
   range-bare frame g b (RangeEnd' dots last) = λ i. expression-bare frame last i >>= λ v. member_range g b v
 
 pub actual-bare : (frame : ℕ) (p : Passing) (slot : ℕ) (e : Expression) → actual frame p slot (bare_expression e) ≡ actual frame p slot e

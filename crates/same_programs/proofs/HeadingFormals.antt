@@ -8,7 +8,7 @@ use Rattle.pas_tree.specs.declared.headings.NextFormal.{NextFormal}
 use Rattle.pas_tree.specs.declared.headings.Formal.{Formal, Value, Variable, Routine'}
 use Rattle.check_steps.specs.Known.{frame_at}
 use Rattle.check_steps.specs.Steps.{◌>>=◌, look, each}
-use Rattle.kind_checker.specs.declared.names.Kind.TheVariants as kind
+use Rattle.kind_checker.specs.declared.names.NameKind.TheVariants as kind
 use Rattle.kind_checker.specs.Names.{define_name}
 use Rattle.heading_checker.specs.Formals.{is_function, held_formals, formals_of, result_of, is_complete, opening_parenthesis, closing_parenthesis, first_formal}
 use Rattle.heading_checker.specs.Formals.{other_formals}

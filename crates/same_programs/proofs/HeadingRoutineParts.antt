@@ -3,7 +3,7 @@ use Rattle.std.specs.Prelude.{ℕ, ◌+◌, min, false, List, Option, Some, None
 use Rattle.pas_tree.specs.declared.headings.Heading.{Heading}
 use Rattle.pas_tree.specs.declared.headings.Formals.{Formals}
 use Rattle.pas_tree.specs.declared.blocks.Routine.{Routine}
-use Rattle.pas_tree.specs.declared.blocks.Body.{Body, Directive, Block'}
+use Rattle.pas_tree.specs.declared.blocks.RoutineBody.{RoutineBody, Directive, Block'}
 use Rattle.program_tables.specs.declared.rows.Row.TheVariants as row
 use Rattle.program_tables.specs.declared.rows.PartRow.TheVariants as part
 use Rattle.check_steps.specs.declared.regions.Def.TheVariants as def
@@ -26,7 +26,7 @@ use Rattle.same_programs.proofs.HeadingFormals.{is_function-bare, is_complete-ba
 pub routine_name-bare : (r : Routine) → routine_name (bare_routine r) ≡ routine_name r
 routine_name-bare r = λ i. heading_name-bare r.heading i
 
-pub completed_by-bare : (k : Known) (region : ℕ) (h : Heading) (b : Body) → completed_by k region (bare_heading h) (bare_body b)
+pub completed_by-bare : (k : Known) (region : ℕ) (h : Heading) (b : RoutineBody) → completed_by k region (bare_heading h) (bare_body b)
     ≡ completed_by k region h b
 completed_by-bare k region h (Directive directive) = refl
 completed_by-bare k region h (Block' _ b) = λ i. awaiting k (is_function-bare h i) (defined_in k.regions region (name_at k (heading_name-bare h i)))
@@ -43,11 +43,11 @@ directed-bare h directive =
     λ i. look (λ k. is_forward k directive) >>= λ forward. early 10 directive forward
     >>= λ _. when forward (put (heading_name-bare h i) (row.Part (part.Forward (is_function-bare h i) None)))
 
-pub directive_in-bare : (h : Heading) (b : Body) → directive_in (bare_heading h) (bare_body b) ≡ directive_in h b
+pub directive_in-bare : (h : Heading) (b : RoutineBody) → directive_in (bare_heading h) (bare_body b) ≡ directive_in h b
 directive_in-bare h (Directive directive) = λ i. directed-bare h directive i
 directive_in-bare h (Block' _ b) = refl
 
-pub defining-bare : (region : ℕ) (h : Heading) (body : Body) → defining region (bare_heading h) (bare_body body) ≡ defining region h body
+pub defining-bare : (region : ℕ) (h : Heading) (body : RoutineBody) → defining region (bare_heading h) (bare_body body) ≡ defining region h body
 unfolding defining
 defining-bare region h body = λ i. define_heading-bare region h i >>= λ _. directive_in-bare h body i
 
@@ -64,7 +64,7 @@ completing-bare first position h =
     >>= λ _. no_result (result_of h) >>= λ _. put first (row.Part (part.Forward (is_function h) (Some position)))
     >>= λ _. put (heading_name h) (row.Part (part.Completing first)))
 
-pub complete_or_define-bare : (x : Option ℕ) (region : ℕ) (position : ℕ) (h : Heading) (body : Body)
+pub complete_or_define-bare : (x : Option ℕ) (region : ℕ) (position : ℕ) (h : Heading) (body : RoutineBody)
     → complete_or_define x region position (bare_heading h) (bare_body body) ≡ complete_or_define x region position h body
 complete_or_define-bare None region position h body = λ i. defining-bare region h body i
 complete_or_define-bare (Some first) region position h body = λ i. completing-bare first position h i

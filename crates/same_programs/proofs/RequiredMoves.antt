@@ -7,7 +7,7 @@ use Rattle.pas_tree.specs.declared.statements.Actual.{Actual}
 use Rattle.program_tables.specs.declared.rows.StatementRow.TheVariants as statement
 use Rattle.check_steps.specs.Steps.{give, ◌>>=◌, look, late}
 use Rattle.statement_rules.specs.Sequences.{stated}
-use Rattle.required_checker.specs.declared.actuals.Call.{Call}
+use Rattle.required_checker.specs.declared.actuals.RequiredCall.{RequiredCall}
 use Rattle.required_checker.specs.Moves.{domain_of, is_pointer, new_variable, new_one, dispose_one, pointer_one, pointer_some, pointer_call, move_checked}
 use Rattle.required_checker.specs.Moves.{operand_actual, pack_row}
 use Rattle.required_checker.specs.Moves.{pack_three, unpack_three, three, pack_some, pack_call}
@@ -17,28 +17,28 @@ use Rattle.same_programs.proofs.BareStatements.{bare_actual, bare_actuals, bare_
 use Rattle.same_programs.proofs.RequiredActuals.{plain_actual-bare, wrong_number-bare}
 use Rattle.same_programs.proofs.PlacesExpressions.{first_of_expression-bare}
 
-pub new_one-bare : (frame : ℕ) (c : Call) (a : Actual) → new_one frame c (bare_actual a) ≡ new_one frame c a
+pub new_one-bare : (frame : ℕ) (c : RequiredCall) (a : Actual) → new_one frame c (bare_actual a) ≡ new_one frame c a
 unfolding new_one
 new_one-bare frame c a =
     λ i. plain_actual-bare frame a i >>= λ v. new_variable (first_of_expression-bare a.expression i) v
     >>= λ domain. stated c.name (statement.New c.line v.row domain)
 
-pub dispose_one-bare : (frame : ℕ) (c : Call) (a : Actual) → dispose_one frame c (bare_actual a) ≡ dispose_one frame c a
+pub dispose_one-bare : (frame : ℕ) (c : RequiredCall) (a : Actual) → dispose_one frame c (bare_actual a) ≡ dispose_one frame c a
 unfolding dispose_one
 dispose_one-bare frame c a =
     λ i. plain_actual-bare frame a i >>= λ v. look (λ k. is_pointer k v) >>= λ fine. late 32 (first_of_expression-bare a.expression i) fine
     >>= λ _. look (λ k. domain_of k v) >>= λ domain. stated c.name (statement.Dispose c.line v.row domain)
 
-pub pointer_one-bare : (b : Bool) (frame : ℕ) (c : Call) (a : Actual) → pointer_one b frame c (bare_actual a) ≡ pointer_one b frame c a
+pub pointer_one-bare : (b : Bool) (frame : ℕ) (c : RequiredCall) (a : Actual) → pointer_one b frame c (bare_actual a) ≡ pointer_one b frame c a
 pointer_one-bare true frame c a = λ i. new_one-bare frame c a i
 pointer_one-bare false frame c a = λ i. dispose_one-bare frame c a i
 
-pub pointer_some-bare : (making : Bool) (frame : ℕ) (c : Call) (a : Actuals) (b : Bool) → pointer_some making frame c (bare_actuals a) b
+pub pointer_some-bare : (making : Bool) (frame : ℕ) (c : RequiredCall) (a : Actuals) (b : Bool) → pointer_some making frame c (bare_actuals a) b
     ≡ pointer_some making frame c a b
 pointer_some-bare making frame c a true = λ i. pointer_one-bare making frame c a.first i
 pointer_some-bare making frame c a false = λ i. wrong_number-bare frame c.name a i
 
-pub pointer-bare : (making : Bool) (frame : ℕ) (c : Call) (a : Option (Box Actuals)) → pointer_call making frame c (option_map bare_boxed_actuals a)
+pub pointer-bare : (making : Bool) (frame : ℕ) (c : RequiredCall) (a : Option (Box Actuals)) → pointer_call making frame c (option_map bare_boxed_actuals a)
     ≡ pointer_call making frame c a
 pointer-bare making frame c None = refl
 pointer-bare making frame c (Some a) = λ i. pointer_some-bare making frame c a.value (nat_eq (length-map a.value.others.items bare_next_actual i) 0) i
@@ -47,31 +47,31 @@ pub operand-bare : (frame : ℕ) (a : Actual) → operand_actual frame (bare_act
 unfolding operand_actual
 operand-bare frame a = λ i. plain_actual-bare frame a i >>= λ v. give (record { first = first_of_expression-bare a.expression i; value = v })
 
-pub pack_three-bare : (frame : ℕ) (c : Call) (a : Actual) (b : Actual) (d : Actual)
+pub pack_three-bare : (frame : ℕ) (c : RequiredCall) (a : Actual) (b : Actual) (d : Actual)
     → pack_three frame c (bare_actual a) (bare_actual b) (bare_actual d) ≡ pack_three frame c a b d
 unfolding pack_three
 pack_three-bare frame c a b d =
     λ j. operand-bare frame a j >>= λ u. operand-bare frame b j >>= λ i. operand-bare frame d j >>= λ p. move_checked u i p
     >>= λ _. stated c.name (pack_row true c.line u i p)
 
-pub unpack_three-bare : (frame : ℕ) (c : Call) (a : Actual) (b : Actual) (d : Actual)
+pub unpack_three-bare : (frame : ℕ) (c : RequiredCall) (a : Actual) (b : Actual) (d : Actual)
     → unpack_three frame c (bare_actual a) (bare_actual b) (bare_actual d) ≡ unpack_three frame c a b d
 unfolding unpack_three
 unpack_three-bare frame c a b d =
     λ j. operand-bare frame a j >>= λ p. operand-bare frame b j >>= λ u. operand-bare frame d j >>= λ i. move_checked u i p
     >>= λ _. stated c.name (pack_row false c.line u i p)
 
-pub three-bare : (b : Bool) (frame : ℕ) (c : Call) (a : Actual) (a' : Actual) (d : Actual)
+pub three-bare : (b : Bool) (frame : ℕ) (c : RequiredCall) (a : Actual) (a' : Actual) (d : Actual)
     → three b frame c (bare_actual a) (bare_actual a') (bare_actual d) ≡ three b frame c a a' d
 three-bare true frame c a b d = λ i. pack_three-bare frame c a b d i
 three-bare false frame c a b d = λ i. unpack_three-bare frame c a b d i
 
-pub pack_some-bare : (packing : Bool) (frame : ℕ) (c : Call) (a : Actuals) (others : List NextActual)
+pub pack_some-bare : (packing : Bool) (frame : ℕ) (c : RequiredCall) (a : Actuals) (others : List NextActual)
     → pack_some packing frame c (bare_actuals a) (map bare_next_actual others) ≡ pack_some packing frame c a others
 pack_some-bare packing frame c a (b ∷ d ∷ []) = λ i. three-bare packing frame c a.first b.actual d.actual i
 pack_some-bare packing frame c a others = λ i. wrong_number-bare frame c.name a i
 
-pub pack-bare : (packing : Bool) (frame : ℕ) (c : Call) (a : Option (Box Actuals)) → pack_call packing frame c (option_map bare_boxed_actuals a)
+pub pack-bare : (packing : Bool) (frame : ℕ) (c : RequiredCall) (a : Option (Box Actuals)) → pack_call packing frame c (option_map bare_boxed_actuals a)
     ≡ pack_call packing frame c a
 pack-bare packing frame c None = refl
 pack-bare packing frame c (Some a) = λ i. pack_some-bare packing frame c a.value a.value.others.items i

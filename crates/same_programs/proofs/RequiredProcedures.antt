@@ -4,7 +4,7 @@ use Rattle.std.specs.Global.{Box}
 use Rattle.pas_tree.specs.declared.statements.Actuals.{Actuals}
 use Rattle.program_tables.specs.declared.rows.Required.{Required}
 use Rattle.program_tables.specs.declared.rows.Required.TheVariants as required
-use Rattle.required_checker.specs.declared.actuals.Call.{Call}
+use Rattle.required_checker.specs.declared.actuals.RequiredCall.{RequiredCall}
 use Rattle.required_checker.specs.declared.transfers.Transfer.TheVariants.{Reading, Writing}
 use Rattle.required_checker.specs.Procedures.{required_call}
 use Rattle.std.proofs.Common.{◌≡◌, refl, option_map}
@@ -12,7 +12,7 @@ use Rattle.same_programs.proofs.BareStatements.{bare_boxed_actuals}
 use Rattle.same_programs.proofs.RequiredTransfers.{transferred-bare, page-bare}
 use Rattle.same_programs.proofs.RequiredMoves.{pointer-bare, pack-bare}
 
-pub required_call-bare : (r : Required) (frame : ℕ) (c : Call) (a : Option (Box Actuals)) → required_call r frame c (option_map bare_boxed_actuals a)
+pub required_call-bare : (r : Required) (frame : ℕ) (c : RequiredCall) (a : Option (Box Actuals)) → required_call r frame c (option_map bare_boxed_actuals a)
     ≡ required_call r frame c a
 required_call-bare required.Read frame c a = λ i. transferred-bare Reading false frame c a i
 required_call-bare required.Readln frame c a = λ i. transferred-bare Reading true frame c a i

@@ -14,7 +14,7 @@ use Rattle.type_relations.specs.Shapes.{shape_of}
 use Rattle.operand_checker.specs.declared.typed.Typed.{Typed}
 use Rattle.operand_checker.specs.Threats.{threat_alone}
 use Rattle.statement_rules.specs.Sequences.{stated}
-use Rattle.required_checker.specs.declared.actuals.Call.{Call}
+use Rattle.required_checker.specs.declared.actuals.RequiredCall.{RequiredCall}
 use Rattle.required_checker.specs.declared.transfers.Transfer.{Transfer}
 use Rattle.required_checker.specs.declared.transfers.Transfer.TheVariants.{Reading, Writing}
 use Rattle.required_checker.specs.Actuals.{add_item, link}
@@ -86,14 +86,14 @@ pub is_enough-bare : (ends_line : Bool) (t : Option TextFile) (a : Actuals) → 
 is_enough-bare ends_line None a = refl
 is_enough-bare ends_line (Some file) a = λ i. ends_line || nat_lt 0 (length-map a.others.items bare_next_actual i)
 
-pub transfer_with-bare : (t : Transfer) (ends_line : Bool) (frame : ℕ) (c : Call) (a : Actuals) → transfer_with t ends_line frame c (bare_actuals a)
+pub transfer_with-bare : (t : Transfer) (ends_line : Bool) (frame : ℕ) (c : RequiredCall) (a : Actuals) → transfer_with t ends_line frame c (bare_actuals a)
     ≡ transfer_with t ends_line frame c a
 unfolding transfer_with
 transfer_with-bare t ends_line frame c a =
     λ i. look (λ k. file_in-bare k frame a.first i) >>= λ file. late 26 c.name (is_enough-bare ends_line file a i)
     >>= λ _. items-bare t frame c.name a file i >>= λ list. stated c.name (transfer_row t ends_line c.line list)
 
-pub transferred-bare : (t : Transfer) (ends_line : Bool) (frame : ℕ) (c : Call) (a : Option (Box Actuals))
+pub transferred-bare : (t : Transfer) (ends_line : Bool) (frame : ℕ) (c : RequiredCall) (a : Option (Box Actuals))
     → transfer_call t ends_line frame c (option_map bare_boxed_actuals a) ≡ transfer_call t ends_line frame c a
 transferred-bare t ends_line frame c None = refl
 transferred-bare t ends_line frame c (Some a) = λ i. transfer_with-bare t ends_line frame c a.value i
@@ -108,15 +108,15 @@ pub paged-bare : (frame : ℕ) (a : Actual) (t : Option TextFile) → paged fram
 paged-bare frame a None = λ i. page_other-bare frame a i
 paged-bare frame a (Some file) = λ i. late 32 (first_of_expression-bare a.expression i) (is_file_of Writing file)
 
-pub page_one-bare : (frame : ℕ) (c : Call) (a : Actual) → page_one frame c (bare_actual a) ≡ page_one frame c a
+pub page_one-bare : (frame : ℕ) (c : RequiredCall) (a : Actual) → page_one frame c (bare_actual a) ≡ page_one frame c a
 unfolding page_one
 page_one-bare frame c a =
     λ i. look (λ k. file_in-bare k frame a i) >>= λ file. paged-bare frame a file i >>= λ _. stated c.name (statement.Page c.line)
 
-pub page_some-bare : (frame : ℕ) (c : Call) (a : Actuals) (b : Bool) → page_some frame c (bare_actuals a) b ≡ page_some frame c a b
+pub page_some-bare : (frame : ℕ) (c : RequiredCall) (a : Actuals) (b : Bool) → page_some frame c (bare_actuals a) b ≡ page_some frame c a b
 page_some-bare frame c a true = λ i. page_one-bare frame c a.first i
 page_some-bare frame c a false = λ i. wrong_number-bare frame c.name a i
 
-pub page-bare : (frame : ℕ) (c : Call) (a : Option (Box Actuals)) → page frame c (option_map bare_boxed_actuals a) ≡ page frame c a
+pub page-bare : (frame : ℕ) (c : RequiredCall) (a : Option (Box Actuals)) → page frame c (option_map bare_boxed_actuals a) ≡ page frame c a
 page-bare frame c None = refl
 page-bare frame c (Some a) = λ i. page_some-bare frame c a.value (nat_eq (length-map a.value.others.items bare_next_actual i) 0) i

@@ -11,7 +11,7 @@ use Rattle.pas_tree.specs.declared.blocks.TypePart.{TypePart}
 use Rattle.pas_tree.specs.declared.blocks.TypeDefinition.{TypeDefinition}
 use Rattle.pas_tree.specs.declared.blocks.VariablePart.{VariablePart}
 use Rattle.pas_tree.specs.declared.blocks.VariableDeclaration.{VariableDeclaration}
-use Rattle.pas_tree.specs.declared.blocks.Body.{Body, Directive, Block'}
+use Rattle.pas_tree.specs.declared.blocks.RoutineBody.{RoutineBody, Directive, Block'}
 use mathlib.Core.Path.{PathP, refl}
 use Rattle.std.proofs.Common.{option_map}
 use mathlib.Core.Former.{one_more}
@@ -100,7 +100,7 @@ mutual
   )
   same_routines a b p = elim p [ ]
 
-  pub same_body : (a b : Body) → SameBody a b → bare_body a ≡ bare_body b
+  pub same_body : (a b : RoutineBody) → SameBody a b → bare_body a ≡ bare_body b
   same_body (Directive n) (Directive m) p = λ i. Directive (p i)
   same_body (Block' _ a) (Block' _ b) p = λ i. Block' (boxed tt) (same_block a b p i)
   same_body a b p = elim p [ ]

@@ -9,13 +9,13 @@ use answer_book::BookFault::{self, Full, NoCall, NoRoutine, NotStanding, Nothing
 use answer_book::Judgement::{Right, Unknown, Wrong};
 use call_tree::{Calls, Mark};
 use cell_value::{Memory, Steps};
-use optimal_query::{Debug, PlainDebug, State};
+use optimal_query::{Debug, PlainDebug, SearchState};
 use std::alloc::Global;
 use std::process::Abort;
 use std::test::Fail;
 
-fn ask(call: u32, weight: u32, suspects: u32, left: u32) -> State {
-    State::Ask {
+fn ask(call: u32, weight: u32, suspects: u32, left: u32) -> SearchState {
+    SearchState::Ask {
         call,
         weight,
         suspects,
@@ -31,7 +31,7 @@ fn obey(rt: &impl Abort, search: &mut Debug, commands: &[Command]) {
 }
 
 /// The state is this, and this is the least doubt.
-fn is_at(rt: &impl Abort, search: &Debug, state: State, doubt: Option<u32>) {
+fn is_at(rt: &impl Abort, search: &Debug, state: SearchState, doubt: Option<u32>) {
     assert_eq!(rt; search.state(), state);
     assert_eq!(rt; search.next_unknown(None), doubt);
 }
@@ -41,7 +41,7 @@ fn leads_to(
     rt: &impl Abort,
     alloc: Global,
     commands: &[Command],
-    state: State,
+    state: SearchState,
     doubt: Option<u32>,
 ) -> Result<(), Fail> {
     let calls = five_calls(rt, alloc)?;
@@ -68,13 +68,13 @@ fn states_by_hand(rt: HostRuntime) -> Result<(), Fail> {
         (&down[..0], ask(1, 3, 4, 2), None),
         (&down[..1], ask(2, 1, 2, 1), None),
         (&down[..2], ask(3, 1, 1, 0), Some(2)),
-        (down.as_slice(), State::Narrowed(1), Some(2)),
-        (found.as_slice(), State::Found(1), None),
-        (deeper.as_slice(), State::Found(2), None),
-        (&[Judge(0, Right)], State::NothingWrong, None),
-        (unclear.as_slice(), State::Unclear, Some(0)),
-        (&trusted[..3], State::Narrowed(1), Some(2)),
-        (&trusted[..4], State::Found(1), None),
+        (down.as_slice(), SearchState::Narrowed(1), Some(2)),
+        (found.as_slice(), SearchState::Found(1), None),
+        (deeper.as_slice(), SearchState::Found(2), None),
+        (&[Judge(0, Right)], SearchState::NothingWrong, None),
+        (unclear.as_slice(), SearchState::Unclear, Some(0)),
+        (&trusted[..3], SearchState::Narrowed(1), Some(2)),
+        (&trusted[..4], SearchState::Found(1), None),
         (trusted.as_slice(), ask(2, 1, 2, 1), None),
     ];
     for (commands, state, doubt) in cases {

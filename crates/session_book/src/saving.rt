@@ -5,15 +5,15 @@ ghost use Rattle.session_book.specs.Start.{saved_text, session_with};
 use crate::start::Start;
 use edge_ports::{Bytes, Memory};
 use optimal_query::Debug;
-use session_file::{Entries, Session, save};
+use session_file::{SavedEntries, Session, save};
 use std::alloc::Global;
 
 /// The entries of the moment.
-fn entries_now(alloc: Global, debug: &Debug) -> Result<Entries, Memory>
+fn entries_now(alloc: Global, debug: &Debug) -> Result<SavedEntries, Memory>
     ensures { IfOk result (λ entries. entries ≡ debug.now.book.entries) }
 {
     let book = debug.book();
-    let mut entries = Entries::new(alloc);
+    let mut entries = SavedEntries::new(alloc);
     'places: for place in 0..book.entries() {
         entries.push(book.entry(place + 1))?;
     }

@@ -5,7 +5,7 @@
 
 use answer_book::{Entry, Judgement, What};
 use anyhow::Result;
-use session_file::{Entries, Session, digest_of, load, save};
+use session_file::{SavedEntries, Session, digest_of, load, save};
 use std::alloc::Global;
 use std::io::{self, Read, Write};
 
@@ -41,7 +41,7 @@ fn entry(number: u32) -> Entry {
 
 /// A session with this many entries.
 fn session(alloc: Global, count: u32) -> Result<Session> {
-    let mut entries = Entries::new(alloc);
+    let mut entries = SavedEntries::new(alloc);
     for number in 0..count {
         entries.push(entry(number))?;
     }

@@ -18,8 +18,8 @@ use Rattle.answer_book.specs.declared.entries.Judgement.TheVariants.{Right, Wron
 use Rattle.answer_book.specs.declared.entries.What.{What}
 use Rattle.answer_book.specs.declared.entries.What.TheVariants.{Judged, Trusted}
 use Rattle.session_file.specs.declared.session.Session.{Session}
-use Rattle.session_file.specs.declared.session.Field.{Field}
-use Rattle.session_file.specs.declared.session.Field.TheVariants.{Version, Source, Input, Budget, Entries}
+use Rattle.session_file.specs.declared.session.SessionField.{SessionField}
+use Rattle.session_file.specs.declared.session.SessionField.TheVariants.{Version, Source, Input, Budget, Entries}
 use Rattle.session_file.specs.declared.session.LoadFault.{LoadFault}
 use Rattle.session_file.specs.declared.session.LoadFault.TheVariants.{BadVersion, Memory}
 use Rattle.session_file.specs.Text.{this_version, judgement_word}
@@ -47,7 +47,7 @@ followed : {A B : Type 0} (f : A → Option B) (o : Option A) (b : B) → option
 followed f None b e = absurd cc
 followed f (Some a) b e = (a, refl, e)
 
-stood : {A : Type 0} (field : Field) (o : Option A) (rest : A → Result Session LoadFault) (s : Session) → with_field field o rest ≡ Ok s
+stood : {A : Type 0} (field : SessionField) (o : Option A) (rest : A → Result Session LoadFault) (s : Session) → with_field field o rest ≡ Ok s
     → (a : A) × (o ≡ Some a) × (rest a ≡ Ok s)
 stood field None rest s e = absurd cc
 stood field (Some a) rest s e = (a, refl, e)

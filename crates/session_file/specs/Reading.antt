@@ -13,8 +13,8 @@ use Rattle.answer_book.specs.declared.entries.Judgement.TheVariants.{Right, Wron
 use Rattle.answer_book.specs.declared.entries.What.{What}
 use Rattle.answer_book.specs.declared.entries.What.TheVariants.{Judged, Trusted}
 use Rattle.session_file.specs.declared.session.Session.{Session}
-use Rattle.session_file.specs.declared.session.Field.{Field}
-use Rattle.session_file.specs.declared.session.Field.TheVariants.{Version, Source, Input, Budget, Entries}
+use Rattle.session_file.specs.declared.session.SessionField.{SessionField}
+use Rattle.session_file.specs.declared.session.SessionField.TheVariants.{Version, Source, Input, Budget, Entries}
 use Rattle.session_file.specs.declared.session.LoadFault.{LoadFault}
 use Rattle.session_file.specs.declared.session.LoadFault.TheVariants.{NotJson, BadShape, BadVersion}
 use Rattle.session_file.specs.Text.{this_version, judgement_word}
@@ -49,9 +49,9 @@ abbrev pub said_as : List ℕ → Data → Option What
 said_as kind d =
     if bytes_eq kind (judgement_word Right) then option_map (λ call. Judged call Right) (word_under (codes "call") d)
     else if bytes_eq kind (judgement_word Wrong) then
-        option_map (λ call. Judged call Wrong) (word_under (codes "call") d)
+    option_map (λ call. Judged call Wrong) (word_under (codes "call") d)
     else if bytes_eq kind (judgement_word Unknown) then
-        option_map (λ call. Judged call Unknown) (word_under (codes "call") d)
+    option_map (λ call. Judged call Unknown) (word_under (codes "call") d)
     else if bytes_eq kind (codes "trust") then option_map Trusted (word_under (codes "routine") d)
     else None
 
@@ -101,7 +101,8 @@ abbrev pub entries_at : Data → Option (List Entry)
 entries_at d = only_if begins_wrong (option_and_then entries_in (values_at d))
 
 -- goes on with what stands in a field, or refuses the field
-abbrev pub with_field : {A : Type 0} → Field → Option A → (A → Result Session LoadFault) → Result Session LoadFault
+abbrev pub with_field : {A : Type 0} → SessionField → Option A → (A → Result Session LoadFault)
+    → Result Session LoadFault
 with_field field (Some a) rest = rest a
 with_field field None rest = Err (BadShape field)
 

@@ -8,11 +8,11 @@ use std::marker::Model;
 
 /// The entries of a book, first to last. Clauses see it as the list of them.
 #[derive(Debug, Drop)]
-pub struct Entries {
+pub struct SavedEntries {
     pub(crate) items: Vec<Entry>,
 }
 
-impl Model for Entries {
+impl Model for SavedEntries {
     ghost use Rattle.std.specs.Prelude.{List};
     ghost use Rattle.answer_book.specs.declared.entries.Entry.{Entry};
 
@@ -21,12 +21,12 @@ impl Model for Entries {
     ghost view = { λ e. e.items.items };
 }
 
-impl Entries {
+impl SavedEntries {
     /// The empty list. It takes no memory.
-    pub fn new(alloc: Global) -> Entries
+    pub fn new(alloc: Global) -> SavedEntries
         ensures { result ≡ [] }
     {
-        Entries {
+        SavedEntries {
             items: Vec::new(alloc),
         }
     }

@@ -22,8 +22,8 @@ mod session;
 mod writing;
 
 pub use digests::digest_of;
-pub use entries::Entries;
+pub use entries::SavedEntries;
 pub use laws::what_is_saved_is_loaded;
 pub use reading::load;
-pub use session::{Field, LoadFault, Session};
+pub use session::{LoadFault, Session, SessionField};
 pub use writing::save;

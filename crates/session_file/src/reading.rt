@@ -11,8 +11,8 @@ ghost use Rattle.session_file.specs.Reading.{begins_wrong, budget_at, values_at,
 ghost use Rattle.session_file.specs.Reading.{session_of};
 ghost use Rattle.session_file.specs.Whole.{IsWhole};
 
-use crate::entries::Entries;
-use crate::session::{Field, LoadFault, Session};
+use crate::entries::SavedEntries;
+use crate::session::{LoadFault, Session, SessionField};
 use crate::writing::VERSION;
 use answer_book::{Entry, Judgement, What};
 use hex::FromHex;
@@ -30,7 +30,8 @@ const NUMBERS: u64 = 4_294_967_296;
 
 /// The session that the bytes are, or why they are none. White space that JSON allows, the order of keys and keys that
 /// no session has say nothing; of equal keys the last one counts, and hexadecimal digits may be of either case. A whole
-/// number is one from 0 to 2^64 - 1, written with digits alone. The fields are looked at in the order of `Field`.
+/// number is one from 0 to 2^64 - 1, written with digits alone. The fields are looked at in the order of
+/// `SessionField`.
 pub fn load(alloc: Global, bytes: &[u8]) -> Result<Session, LoadFault>
     // The answer is the session that the bytes are, or why they are none, unless memory runs out.
     ensures answer { (result ≡ Err LoadFault.Memory) ⊎ (result ≡ session_of bytes.now) }
@@ -62,7 +63,7 @@ fn session_from(alloc: Global, value: &Value) -> Result<Session, LoadFault>
                 Err(LoadFault::BadVersion(version))
             }
         }
-        None => Err(LoadFault::BadShape(Field::Version)),
+        None => Err(LoadFault::BadShape(SessionField::Version)),
     }
 }
 
@@ -71,13 +72,13 @@ fn fields_from(alloc: Global, value: &Value) -> Result<Session, LoadFault>
     ensures { (result ≡ Err LoadFault.Memory) ⊎ (result ≡ fields_read (view value.now)) }
 {
     let Some(source) = digest_from(value, "source") else {
-        return Err(LoadFault::BadShape(Field::Source));
+        return Err(LoadFault::BadShape(SessionField::Source));
     };
     let Some(input) = digest_from(value, "input") else {
-        return Err(LoadFault::BadShape(Field::Input));
+        return Err(LoadFault::BadShape(SessionField::Input));
     };
     let Some(budget) = budget_from(value) else {
-        return Err(LoadFault::BadShape(Field::Budget));
+        return Err(LoadFault::BadShape(SessionField::Budget));
     };
     match entries_from(alloc, value) {
         Ok(entries) => Ok(Session {
@@ -190,15 +191,15 @@ fn entry_from(value: &Value) -> Option<Entry>
 
 /// The entries that these values are.
 #[tactic(auto, using(crate::proofs::EntryLists::the_entry_lists))]
-fn entries_of(alloc: Global, values: &[Value]) -> Result<Entries, LoadFault>
+fn entries_of(alloc: Global, values: &[Value]) -> Result<SavedEntries, LoadFault>
     requires few { length values.now ≤ 100000 }
     ensures { (result ≡ Err LoadFault.Memory)
-        ⊎ (result ≡ ok_or (entries_in (items_view values.now)) (LoadFault.BadShape Field.Entries)) }
+        ⊎ (result ≡ ok_or (entries_in (items_view values.now)) (LoadFault.BadShape SessionField.Entries)) }
 {
-    let mut entries = Entries::new(alloc);
+    let mut entries = SavedEntries::new(alloc);
     'values: for value in values {
         let Some(entry) = entry_from(value) else {
-            return Err(LoadFault::BadShape(Field::Entries));
+            return Err(LoadFault::BadShape(SessionField::Entries));
         };
         if entries.push(entry).is_err() {
             return Err(LoadFault::Memory);
@@ -218,7 +219,7 @@ fn is_wrong(what: What) -> bool
 }
 
 /// Whether the first entry says that call 0 is wrong.
-fn is_first_wrong(entries: &Entries) -> bool
+fn is_first_wrong(entries: &SavedEntries) -> bool
     ensures { result ≡ begins_wrong entries.now }
 {
     match entries.items.first() {
@@ -240,19 +241,19 @@ fn values_from(value: &Value) -> Option<&Vec<Value>>
 }
 
 /// The entries, of which there are 1 to 100,000 and the first says that call 0 is wrong.
-fn entries_from(alloc: Global, value: &Value) -> Result<Entries, LoadFault>
+fn entries_from(alloc: Global, value: &Value) -> Result<SavedEntries, LoadFault>
     ensures { (result ≡ Err LoadFault.Memory)
-        ⊎ (result ≡ ok_or (entries_at (view value.now)) (LoadFault.BadShape Field.Entries)) }
+        ⊎ (result ≡ ok_or (entries_at (view value.now)) (LoadFault.BadShape SessionField.Entries)) }
 {
     let Some(values) = values_from(value) else {
-        return Err(LoadFault::BadShape(Field::Entries));
+        return Err(LoadFault::BadShape(SessionField::Entries));
     };
     match entries_of(alloc, values) {
         Ok(entries) => {
             if is_first_wrong(&entries) {
                 Ok(entries)
             } else {
-                Err(LoadFault::BadShape(Field::Entries))
+                Err(LoadFault::BadShape(SessionField::Entries))
             }
         }
         Err(fault) => Err(fault),

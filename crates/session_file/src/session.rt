@@ -1,6 +1,6 @@
 //! What a session is, and why a text is none.
 
-use crate::entries::Entries;
+use crate::entries::SavedEntries;
 use thiserror::Error;
 
 /// What was said of the calls of one run, and which run it was.
@@ -13,12 +13,12 @@ pub struct Session {
     /// The most steps of the run, from 1 to 4,000,000.
     pub budget: u32,
     /// The entries of the book, first to last: the first of 1 to 100,000 says that call 0 is wrong.
-    pub entries: Entries,
+    pub entries: SavedEntries,
 }
 
 /// A field of a session's text, in the order in which they are looked at.
 #[derive(Clone, Copy, Debug, PartialEq, Eq)]
-pub enum Field {
+pub enum SessionField {
     /// `version`: a whole number.
     Version,
     /// `source`: 64 hexadecimal digits.
@@ -41,7 +41,7 @@ pub enum LoadFault {
     /// This field is the first that is absent or is not as it should be. Where the value is no object, `version` is
     /// absent.
     #[error("the field {0:?} is not as it should be")]
-    BadShape(Field),
+    BadShape(SessionField),
     /// The version is this whole number, and not 1.
     #[error("the version is {0}")]
     BadVersion(u64),

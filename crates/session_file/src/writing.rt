@@ -3,7 +3,7 @@ ghost use Rattle.std.specs.Prelude.{◌≡◌, IfOk, map};
 ghost use Rattle.serde_json.specs.View.{view};
 ghost use Rattle.session_file.specs.Text.{entry_data, session_data, session_text, judgement_word};
 
-use crate::entries::Entries;
+use crate::entries::SavedEntries;
 use crate::session::Session;
 use answer_book::{Entry, Judgement, What};
 use edge_ports::{Bytes, Memory};
@@ -41,7 +41,7 @@ fn entry_value(alloc: Global, entry: Entry) -> Result<Value, Memory>
 }
 
 /// The entries as JSON, first to last.
-fn entry_values(alloc: Global, entries: &Entries) -> Result<Vec<Value>, Memory>
+fn entry_values(alloc: Global, entries: &SavedEntries) -> Result<Vec<Value>, Memory>
     ensures { IfOk result (λ values. map view values.items ≡ map entry_data entries.now) }
 {
     let mut values = Vec::with_capacity(alloc, entries.items.len())?;

@@ -22,7 +22,7 @@ use Rattle.expression_checker.specs.Expressions.{access, actual, expression, pas
 use Rattle.statement_rules.specs.declared.assignments.Target.{Target}
 use Rattle.statement_rules.specs.declared.assignments.Target.TheVariants as target
 use Rattle.statement_rules.specs.declared.loops.Control.{Control}
-use Rattle.statement_checker.specs.declared.parts.Begun.{Begun}
+use Rattle.statement_checker.specs.declared.parts.ForBounds.{ForBounds}
 use Rattle.statement_checker.specs.declared.parts.Opened.{Opened}
 use Rattle.statement_checker.specs.declared.parts.Selected.{Selected}
 use Rattle.statement_rules.specs.Assignments.{assigned, blockless_target, result_target, target_at}
@@ -52,7 +52,7 @@ bounded frame c e = do
   give v.row
 
 -- a for statement up to its bounds, which are inside of it
-unfoldable pub for_begins : ℕ → ℕ → Expression → Expression → Step Begun
+unfoldable pub for_begins : ℕ → ℕ → Expression → Expression → Step ForBounds
 for_begins frame name initial last = do
   c ← enter_for frame name
   from ← bounded frame c initial
@@ -60,7 +60,7 @@ for_begins frame name initial last = do
   give (record { control = c; initial = from; last = to })
 
 -- the same after its body
-unfoldable pub for_ends : Option ℕ → ℕ → Direction → Begun → ℕ → Step ℕ
+unfoldable pub for_ends : Option ℕ → ℕ → Direction → ForBounds → ℕ → Step ℕ
 for_ends label word direction b body = do
   _ ← leave_for b.control
   turns ← put_turns direction b.last b.control body

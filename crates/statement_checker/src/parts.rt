@@ -22,7 +22,7 @@ use pas_places::first_of_expression;
 use pas_tree::expressions::{Access, Expression};
 use pas_tree::operators::Direction;
 use pas_tree::statements::{Actual, Actuals, Assignment, NextAccess, NextActual};
-use required_checker::Call;
+use required_checker::RequiredCall;
 use required_checker::actuals::check_no_width;
 use required_checker::procedures::check_required;
 use statement_rules::assignments::{
@@ -45,7 +45,7 @@ pub struct Selected {
 
 /// A for statement up to its bounds: the control variable, and the bounds by their numbers.
 #[derive(Clone, Copy)]
-pub struct Begun {
+pub struct ForBounds {
     pub control: Control,
     pub initial: u32,
     pub last: u32,
@@ -86,13 +86,13 @@ pub fn begin_for(
     name: u32,
     initial: &Expression,
     last: &Expression,
-) -> Result<Begun, AllocError>
+) -> Result<ForBounds, AllocError>
     ensures { IfOk result (λ b. Does (for_begins frame name initial.now last.now) b work.old work.new) }
 {
     let control = enter_for(work, frame, name)?;
     let initial = check_bounded(work, initial, frame, control);
     let last = check_bounded(work, last, frame, control);
-    Ok(Begun {
+    Ok(ForBounds {
         control,
         initial,
         last,
@@ -106,7 +106,7 @@ pub fn end_for(
     label: Option<u32>,
     word: u32,
     direction: &Direction,
-    begun: Begun,
+    begun: ForBounds,
     body: u32,
 ) -> u32
     ensures { Does (for_ends label word direction.now begun body) result work.old work.new }
@@ -276,7 +276,7 @@ fn check_call_as(
 {
     match callee {
         Callee::Required(required) => {
-            check_required(work, actuals, frame, required, Call { name, line })
+            check_required(work, actuals, frame, required, RequiredCall { name, line })
         }
         _ => check_declared(work, actuals, frame, line, name, callee),
     }

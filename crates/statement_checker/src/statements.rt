@@ -17,7 +17,7 @@ use pas_tree::statements::{
 };
 use statement_rules::choices::put_case;
 use statement_rules::labels::{
-    check_goto, check_mark, leave, leave_all, put_labelled, reach_label, reach_all,
+    check_goto, check_mark, leave, leave_all, put_labelled, reach_all, reach_label,
 };
 use statement_rules::records::put_with;
 use statement_rules::sequences::{

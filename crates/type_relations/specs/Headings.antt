@@ -9,8 +9,8 @@ use Rattle.program_tables.specs.declared.rows.NameRow.TheVariants as named
 use Rattle.program_tables.specs.declared.rows.PartRow.TheVariants as part
 use Rattle.check_steps.specs.Known.{Known, row_at}
 use Rattle.type_relations.specs.declared.headings.Signature.{Signature}
-use Rattle.type_relations.specs.declared.headings.Section.{Section}
-use Rattle.type_relations.specs.declared.headings.Section.TheVariants as section
+use Rattle.type_relations.specs.declared.headings.FormalSection.{FormalSection}
+use Rattle.type_relations.specs.declared.headings.FormalSection.TheVariants as section
 use Rattle.type_relations.specs.Shapes.{is_same_type}
 
 -- ---- headings and their sections by rows
@@ -27,14 +27,14 @@ abbrev pub variable_type : Row → ℕ → ℕ
 variable_type (row.Name (named.Variable m of' place level)) otherwise = of'
 variable_type r otherwise = otherwise
 
-abbrev pub section_in : Known → Row → Option (Section × ℕ)
+abbrev pub section_in : Known → Row → Option (FormalSection × ℕ)
 section_in k (row.Item (item.Section m first count next)) =
     Some (section.Names m (variable_type (row_at k first) first) count, next)
 section_in k (row.Item (item.RoutineSection heading next)) = Some (section.Heading heading, next)
 section_in k r = None
 
 -- the section at a number and the number of the next one; none where the list ends
-abbrev pub section_at : Known → ℕ → Option (Section × ℕ)
+abbrev pub section_at : Known → ℕ → Option (FormalSection × ℕ)
 section_at k at = section_in k (row_at k at)
 
 -- ---- congruous lists
@@ -55,14 +55,15 @@ abbrev pub signatures_match : Known → (ℕ → ℕ → Bool) → Signature →
 signatures_match k lists g h = results_match k g.result h.result && lists g.sections h.sections
 
 -- both by value or both `var`, with equally many names and the same type; or headings that match
-abbrev pub sections_match : Known → (ℕ → ℕ → Bool) → Section → Section → Bool
+abbrev pub sections_match : Known → (ℕ → ℕ → Bool) → FormalSection → FormalSection → Bool
 sections_match k lists (section.Names m a count) (section.Names n b other) =
     same_mode m n && nat_eq count other && is_same_type k a b
 sections_match k lists (section.Heading g) (section.Heading h) =
     signatures_match k lists (signature_at k g) (signature_at k h)
 sections_match k lists s t = false
 
-abbrev pub both_match : Option (Section × ℕ) → Option (Section × ℕ) → (Section → Section → Bool) → (ℕ → ℕ → Bool) → Bool
+abbrev pub both_match : Option (FormalSection × ℕ) → Option (FormalSection × ℕ)
+    → (FormalSection → FormalSection → Bool) → (ℕ → ℕ → Bool) → Bool
 both_match None None match rest = true
 both_match (Some a) (Some b) match rest = match a.0 b.0 && rest a.1 b.1
 both_match a b match rest = false

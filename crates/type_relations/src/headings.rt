@@ -20,7 +20,7 @@ pub struct Signature {
 
 /// A section of formal parameters.
 #[derive(Clone, Copy)]
-pub enum Section {
+pub enum FormalSection {
     /// This many variables or values of a type.
     Names { mode: Mode, of: u32, count: u32 },
     /// A procedure or function, by the number of its heading.
@@ -62,7 +62,7 @@ fn variable_type(row: Row, otherwise: u32) -> u32
     }
 }
 
-fn section_in(tables: &Tables, row: Row) -> Option<(Section, u32)>
+fn section_in(tables: &Tables, row: Row) -> Option<(FormalSection, u32)>
     ensures { result ≡ section_in tables.now row }
 {
     match row {
@@ -75,17 +75,17 @@ fn section_in(tables: &Tables, row: Row) -> Option<(Section, u32)>
             },
         ) => {
             let of = variable_type(tables.row(first), first);
-            Some((Section::Names { mode, of, count }, next))
+            Some((FormalSection::Names { mode, of, count }, next))
         }
         Row::Item(ItemRow::RoutineSection { heading, next }) => {
-            Some((Section::Heading(heading), next))
+            Some((FormalSection::Heading(heading), next))
         }
         _ => None,
     }
 }
 
 /// The section at a number and the number of the next one, and None where the list ends.
-pub fn section_at(tables: &Tables, at: u32) -> Option<(Section, u32)>
+pub fn section_at(tables: &Tables, at: u32) -> Option<(FormalSection, u32)>
     ensures { result ≡ section_at tables.now at }
 {
     section_in(tables, tables.row(at))
@@ -122,13 +122,13 @@ fn signatures_match(tables: &Tables, most: u32, left: Signature, right: Signatur
 }
 
 #[cycle(congruous)]
-fn sections_match(tables: &Tables, most: u32, left: Section, right: Section) -> bool
+fn sections_match(tables: &Tables, most: u32, left: FormalSection, right: FormalSection) -> bool
     ensures { result ≡ sections_match tables.now (lists_match most tables.now) left right }
 {
     match (left, right) {
         (
-            Section::Names { mode, of, count },
-            Section::Names {
+            FormalSection::Names { mode, of, count },
+            FormalSection::Names {
                 mode: other_mode,
                 of: other_type,
                 count: other_count,
@@ -138,7 +138,7 @@ fn sections_match(tables: &Tables, most: u32, left: Section, right: Section) -> 
                 && count == other_count
                 && is_same_type(tables, of, other_type)
         }
-        (Section::Heading(g), Section::Heading(h)) => {
+        (FormalSection::Heading(g), FormalSection::Heading(h)) => {
             signatures_match(
                 tables,
                 most,

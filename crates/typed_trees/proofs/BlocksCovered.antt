@@ -3,7 +3,7 @@ use Rattle.std.proofs.Common.{Some, None, refl}
 use Rattle.grammar.specs.Grammars.{Level}
 use Rattle.grammar_refusals.specs.Nesting.{Trees}
 use Rattle.pas_tree.specs.declared.blocks.Block.{roll-Block}
-use Rattle.pas_tree.specs.declared.blocks.Body.{Directive, Block'}
+use Rattle.pas_tree.specs.declared.blocks.RoutineBody.{Directive, Block'}
 use Rattle.pas_tree.specs.Blocks as node
 use Rattle.pas_tree.specs.Rules as r
 use Rattle.pas_tree.proofs.Parts.{parts}

@@ -2,7 +2,7 @@ use Rattle.std.proofs.Common.{◌≡◌, ◌+◌, ◌∙◌, Some, ap, subst, sy
 use Rattle.program_tables.specs.ProgramRows.{routine_at}
 use Rattle.eval_machine.specs.Frames.{framing}
 use Rattle.eval_machine.specs.Machines.{IsReady, machine_state}
-use Rattle.body_replay.specs.Counting.{Counts, Tally}
+use Rattle.body_replay.specs.Counting.{CountsEachStep, Tally}
 use Rattle.body_replay.specs.Traces.{FrameMade, tally}
 use Rattle.body_replay.proofs.FramesAgain.{fits, made_fell}
 use Rattle.body_replay.proofs.StepsAreCounted.{counts_fell}
@@ -23,7 +23,7 @@ returns-in_default-clause-ready g c = subst IsReady (sym c.refused.ensures.machi
 
 pub returns-in_default-clause-counts : goal.returns-in_default-clause-counts
 returns-in_default-clause-counts g c first k =
-    subst (λ (t : Tally). Counts c.args.run.now first t)
+    subst (λ (t : Tally). CountsEachStep c.args.run.now first t)
     (λ i. tally c.args.steps.now (sym c.refused.ensures.machine i) (sym c.refused.ensures.events i)) k
 
 pub count_steps-requires : goal.count_steps-requires
@@ -65,7 +65,7 @@ returns-in_ok-ending-in-None-clause-ends g c j e n =
 
 pub returns-in_ok-ending-in-None-clause-counts : goal.returns-in_ok-ending-in-None-clause-counts
 returns-in_ok-ending-in-None-clause-counts g c first k =
-    c.in_ok-ending-in-None.ensures.counts first (subst (λ es. Counts c.args.run.now first (tally c.count_steps.new.steps c.frame_made.new.machine es))
+    c.in_ok-ending-in-None.ensures.counts first (subst (λ es. CountsEachStep c.args.run.now first (tally c.count_steps.new.steps c.frame_made.new.machine es))
     (sym c.new-events.ensures) (counts_fell k _ _ (made_fell _ _ _ _ _ c.in_ok-halted.ensures.made) c.count_steps.ensures.counted))
 
 pub returns-in-Some-halted-clause-ends : goal.returns-in-Some-halted-clause-ends
@@ -87,6 +87,6 @@ returns-in-Some-halted-clause-ready g c = subst IsReady (sym c.refused-in-Some-h
 
 pub returns-in-Some-halted-clause-counts : goal.returns-in-Some-halted-clause-counts
 returns-in-Some-halted-clause-counts g c first k =
-    subst (λ (t : Tally). Counts c.args.run.now first t)
+    subst (λ (t : Tally). CountsEachStep c.args.run.now first t)
     (λ i. tally c.count_steps.new.steps (sym c.refused-in-Some-halted.ensures.machine i) (sym c.refused-in-Some-halted.ensures.events i))
     (counts_fell k _ _ (made_fell _ _ _ _ _ c.in_ok-halted.ensures.made) c.count_steps.ensures.counted)

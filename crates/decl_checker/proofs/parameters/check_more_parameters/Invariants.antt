@@ -7,4 +7,4 @@ use Rattle.decl_checker.proofs.parameters.check_more_parameters.Given as goal
 abbrev pub invariant-names : goal.invariant-names
 invariant-names l =
     run_step (each (on_name (program_parameter l.region)) tt (drop l.name-index l.names)) l.work
-        ≡ run_step (each (on_name (program_parameter l.region)) tt l.names) l.fn.work
+    ≡ run_step (each (on_name (program_parameter l.region)) tt l.names) l.fn.work

@@ -26,4 +26,4 @@ pub returns-clause-each : goal.returns-clause-each
 returns-clause-each g c =
     let s = g.D.Debugged.subject c.args.run.now in
     as_many _ c.loop-call.marks.items c.loop-call.call (calls_recorded s) c.loop-call.invariant
-        (omega (arith, calls_counted s c.calls.result.now c.calls.ensures))
+    (omega (arith, calls_counted s c.calls.result.now c.calls.ensures))

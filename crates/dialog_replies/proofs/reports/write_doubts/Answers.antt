@@ -42,7 +42,7 @@ doubts-preserved g c =
       written = line_written (doubt_line s) c.doubts.out c.write_doubt.new.out (c.args.out.now ++ doubt_lines s entries) c.in-Some.doubt
           (filter (is_after c.doubts.last) ds) (filter (is_after (Some c.in-Some.doubt)) ds)
           (next_is c.doubts.last 0 (calls_recorded s) ds c.in-Some.doubt (all_rise s entries) found) c.in_ok-write_doubt-in-Some.ensures
-              c.doubts.invariant.written;
+          c.doubts.invariant.written;
     }
 
 pub returns-in-None : goal.returns-in-None

@@ -1,5 +1,5 @@
 use Rattle.std.proofs.Common.{ℕ, List, [], ◌∷◌, ◌++◌, ap, sym, ◌∙◌}
-use Rattle.program_meaning.specs.Tree.{Tree, Sub, Establish}
+use Rattle.program_meaning.specs.Tree.{ActTree, Sub, Establish}
 use Rattle.eval_tasks.specs.Rest.{here, resume, lists_of, tasks_of, values_of}
 use Rattle.eval_tasks.specs.Records.{without_last}
 use Rattle.eval_tasks.proofs.Turning.{turns_same}
@@ -10,7 +10,7 @@ pub returns-clause-turns : goal.returns-clause-turns
 returns-clause-turns c p m =
     let b = c.args.body.now in
     let h = here b.home c.args.line in
-    let inner : List ℕ → List ℕ → Tree = λ inside outside. Sub (Establish c.args.next c.args.inner (record h { records = inside }))
+    let inner : List ℕ → List ℕ → ActTree = λ inside outside. Sub (Establish c.args.next c.args.inner (record h { records = inside }))
     (resume p (record b.home { records = outside }) (tasks_of b) (values_of b) (lists_of b)) in
     turns_same p _ _ m m c.wait.result c.wait.new.self
     (ap (inner (b.home.records ++ c.args.addr ∷ [])) (sym (added_left b.home.records c.args.addr))

@@ -11,7 +11,7 @@ pub returns-in_err-give-clause-action : goal.returns-in_err-give-clause-action
 returns-in_err-give-clause-action c =
     let p = err_from_is_err_and c.from_residual.result c.from_residual.ensures.1 in
     rw (p.1, p.2) (came_stop {X = Unit {0}} {Y = Unit {0}} (λ _. tt) (λ _. tt) (give_byte space) (λ _. gives (spaces (c.args.number - (c.spaces.counter + 1))))
-        _
+    _
     (moment_of c.spaces.machine) (moment_of c.give.new.machine) (at_space c.args.number c.spaces.counter c.spaces-test.true c.spaces.invariant.came)
     c.in_err-give.ensures.action)
 

@@ -3,7 +3,7 @@ use Rattle.program_tables.specs.ProgramRows.{row_at}
 use Rattle.program_meaning.specs.declared.components.Components.{Components}
 use Rattle.program_meaning.specs.Packing.{copies, first_moved}
 use Rattle.program_meaning.specs.Statements.{finally}
-use Rattle.program_meaning.specs.Tree.{Tree, bind, doing}
+use Rattle.program_meaning.specs.Tree.{ActTree, bind, doing}
 use Rattle.eval_machine.specs.Machines.{moment_of}
 use Rattle.eval_rules.specs.Arrays.{array_in}
 use Rattle.eval_tasks.specs.Rest.{here, waiting}
@@ -15,7 +15,7 @@ pub returns-in-Some-clause-turns : goal.returns-in-Some-clause-turns
 returns-in-Some-clause-turns c =
     let p = c.args.program.now in
     let h = here c.args.body.now.home c.args.line in
-    let go : ℕ → Components → Tree = (λ cells close. doing c.args.line (first_moved c.args.unpacked close c.args.wide c.args.value) (λ at.
+    let go : ℕ → Components → ActTree = (λ cells close. doing c.args.line (first_moved c.args.unpacked close c.args.wide c.args.value) (λ at.
     finally h (if c.args.packing then copies at c.args.close cells else copies c.args.close at cells))) in
     turns_same p _ _ (moment_of c.args.machine.now) _ c.move_cells.result c.move_cells.new.body
     (ap (λ t. bind t (waiting p c.args.body.now)) (array_by p (row_at p c.args.packed) go
@@ -26,7 +26,7 @@ pub returns-in-None-clause-turns : goal.returns-in-None-clause-turns
 returns-in-None-clause-turns c =
     let p = c.args.program.now in
     let h = here c.args.body.now.home c.args.line in
-    let go : ℕ → Components → Tree = (λ cells close. doing c.args.line (first_moved c.args.unpacked close c.args.wide c.args.value) (λ at.
+    let go : ℕ → Components → ActTree = (λ cells close. doing c.args.line (first_moved c.args.unpacked close c.args.wide c.args.value) (λ at.
     finally h (if c.args.packing then copies at c.args.close cells else copies c.args.close at cells))) in
     turns_same p _ _ (moment_of c.args.machine.now) (moment_of c.args.machine.now) c.no_row.result c.no_row.new.self
     (ap (λ t. bind t (waiting p c.args.body.now)) (array_by p (row_at p c.args.packed) go

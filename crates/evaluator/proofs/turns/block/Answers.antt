@@ -1,6 +1,6 @@
 use Rattle.std.proofs.Common.{◌≡◌, ℕ, List, Some, None, ap, sym}
 use Rattle.program_tables.specs.ProgramRows.{routine_at}
-use Rattle.program_meaning.specs.Tree.{Body, Tree, Sub, Sequence, Ret}
+use Rattle.program_meaning.specs.Tree.{Body, ActTree, Sub, Sequence, Ret}
 use Rattle.program_meaning.specs.Accesses.{no_row}
 use Rattle.program_meaning.specs.Layer.{of_body}
 use Rattle.eval_machine.specs.Machines.{moment_of}
@@ -27,7 +27,7 @@ returns-in-Ok-clause-turns c =
     let r = c.in-Some.routine in
     let K = resume p (bare home) (tasks_of b) (values_of b) (lists_of b) in
     let h : routine_at p home.routine ≡ Some r = cc in
-    let next : List ℕ → Tree = λ rs. Sub (Sequence r.statements r.statements (record (here home r.line) { records = rs }))
+    let next : List ℕ → ActTree = λ rs. Sub (Sequence r.statements r.statements (record (here home r.line) { records = rs }))
     (resume p (record home { records = rs }) (tasks_of b) (values_of b) (lists_of b)) in
     turns_after p _ _ _ _ _ c.go.result c.go.new.self
     (comes_then (part_comes p (Body home.routine home.base) K (moment_of c.args.machine.now) (of_body home.base (Some r)) (ap (of_body home.base) h))

@@ -6,4 +6,4 @@ use Rattle.heading_checker.proofs.headings.+signatures.Given as goal
 abbrev pub invariant-check_other_formals-others : goal.invariant-check_other_formals-others
 invariant-check_other_formals-others l =
     run_step (each (next_formal_place l.frame) l.next (drop l.other-index l.others)) l.work
-        ≡ run_step (each (next_formal_place l.frame) l.fn.at l.others) l.fn.work
+    ≡ run_step (each (next_formal_place l.frame) l.fn.at l.others) l.fn.work

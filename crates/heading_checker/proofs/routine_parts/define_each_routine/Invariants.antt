@@ -6,4 +6,4 @@ use Rattle.heading_checker.proofs.routine_parts.define_each_routine.Given as goa
 abbrev pub invariant-routines : goal.invariant-routines
 invariant-routines l =
     run_step (each (define_routine l.region) l.position (drop l.routine-index l.routines)) l.work
-        ≡ run_step (each (define_routine l.region) 0 l.routines) l.fn.work
+    ≡ run_step (each (define_routine l.region) 0 l.routines) l.fn.work

@@ -7,4 +7,4 @@ use Rattle.kind_checker.proofs.types.check_more_enumerated.Given as goal
 abbrev pub invariant-names : goal.invariant-names
 invariant-names l =
     run_step (each (on_name (enumerated l.of)) l.ordinal (drop l.name-index l.names)) l.work
-        ≡ run_step (each (on_name (enumerated l.of)) l.last l.names) l.fn.work
+    ≡ run_step (each (on_name (enumerated l.of)) l.last l.names) l.fn.work

@@ -1,5 +1,5 @@
 use Rattle.std.proofs.Common.{◌∙◌}
-use Rattle.pas_lexer.specs.declared.kinds.Kind.TheVariants.{Word}
+use Rattle.pas_lexer.specs.declared.kinds.TokenKind.TheVariants.{Word}
 use Rattle.pas_lexer.specs.declared.kinds.Word.TheVariants.{WAnd}
 use Rattle.pas_lexer.proofs.SpellingsInOrder.{spelled_next}
 use Rattle.pas_lexer.proofs.spellings.spell.Goals as goal

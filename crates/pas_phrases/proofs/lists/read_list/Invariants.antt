@@ -8,8 +8,8 @@ use Rattle.pas_phrases.proofs.lists.read_list.Given as goal
 
 abbrev pub invariant-parts : goal.invariant-parts
 invariant-parts g l = record {
-  so_far : ListSoFar g.P.Part.node l.depth g.P.Part.starts g.P.Part.rule l.parts.items (items_from l.tokens l.next)
-      (read pascal l.depth (many g.P.Part.starts g.P.Part.rule) (items_from l.tokens l.at));
+  so_far : ListSoFar g.P.ListPart.node l.depth g.P.ListPart.starts g.P.ListPart.rule l.parts.items (items_from l.tokens l.next)
+      (read pascal l.depth (many g.P.ListPart.starts g.P.ListPart.rule) (items_from l.tokens l.at));
   forward : l.at ≤ l.next;
 }
 

@@ -3,7 +3,7 @@ use Rattle.std.proofs.lemmas.List.{take_all}
 use Rattle.std.specs.Option.{ok_or}
 use Rattle.serde_json.specs.View.{view}
 use Rattle.session_file.specs.declared.session.LoadFault.TheVariants.{BadShape}
-use Rattle.session_file.specs.declared.session.Field.TheVariants.{Entries}
+use Rattle.session_file.specs.declared.session.SessionField.TheVariants.{Entries}
 use Rattle.session_file.specs.Reading.{entry_in}
 use Rattle.session_file.proofs.EntryLists.{all_read}
 use Rattle.session_file.proofs.reading.entries_of.Goals as goal

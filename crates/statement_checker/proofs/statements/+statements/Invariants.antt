@@ -6,7 +6,7 @@ use Rattle.statement_checker.proofs.statements.+statements.Given as goal
 abbrev pub invariant-check_more_statements-others : goal.invariant-check_more_statements-others
 invariant-check_more_statements-others l =
     run_step (each (next_statement l.frame) l.last (drop l.other-index l.others)) l.work
-        ≡ run_step (each (next_statement l.frame) l.fn.first l.others) l.fn.work
+    ≡ run_step (each (next_statement l.frame) l.fn.first l.others) l.fn.work
 
 abbrev pub invariant-check_more_branches-others : goal.invariant-check_more_branches-others
 invariant-check_more_branches-others l =

@@ -14,5 +14,5 @@ search-preserved c = record {
 pub least_of_rest-requires-clause-before : goal.least_of_rest-requires-clause-before
 least_of_rest-requires-clause-before c =
     IsLeast-lanes (lane_number c.args.weights.now c.args.askable.now c.args.total) c.search.seen c.least_lane-least.result c.search.lanes
-        c.search.invariant.least
+    c.search.invariant.least
     c.least_lane-least.ensures

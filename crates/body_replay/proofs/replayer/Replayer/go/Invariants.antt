@@ -1,13 +1,13 @@
 use Rattle.eval_machine.specs.Machines.{IsReady}
 use Rattle.body_replay.specs.Again.{AtBody, Job, work_left}
-use Rattle.body_replay.specs.Counting.{Counts, Tally}
+use Rattle.body_replay.specs.Counting.{CountsEachStep, Tally}
 use Rattle.body_replay.specs.Traces.{tally_of}
 use Rattle.body_replay.proofs.replayer.Replayer.go.Given as goal
 
 abbrev pub invariant-stops : goal.invariant-stops
 invariant-stops g l =
     IsReady l.self.machine × ((j : Job l.run) → AtBody l.program l.run j l.fn.self → AtBody l.program l.run j l.self)
-    × ((first : Tally) → Counts l.run first (tally_of l.fn.steps l.fn.self) → Counts l.run first (tally_of l.steps l.self))
+    × ((first : Tally) → CountsEachStep l.run first (tally_of l.fn.steps l.fn.self) → CountsEachStep l.run first (tally_of l.steps l.self))
 
 abbrev pub decreases-stops : goal.decreases-stops
 decreases-stops g l = work_left l.self

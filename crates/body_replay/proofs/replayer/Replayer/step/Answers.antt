@@ -5,7 +5,7 @@ use Rattle.eval_tasks.specs.Stops.{AtCall, AtEnd, AtLine, NextStopIs}
 use Rattle.eval_tasks.specs.Rest.{rest_of, waiting}
 use Rattle.program_meaning.specs.Replay.{end_of}
 use Rattle.eval_tasks.specs.Turns.{stop_of}
-use Rattle.body_replay.specs.Counting.{Counts, Tally}
+use Rattle.body_replay.specs.Counting.{CountsEachStep, Tally}
 use Rattle.body_replay.specs.Traces.{tally}
 use Rattle.body_replay.proofs.StepsAreCounted.{counts_fell, counts_line}
 use Rattle.body_replay.proofs.WorkGoesOn.{call_met, end_come, line_told, stop_calls, stop_fell, stop_steps}
@@ -89,7 +89,8 @@ returns-in_ok-push-in-Line-clause-counts g c first k =
 pub returns-in_ok-way-in-Enter-clause-counts : goal.returns-in_ok-way-in-Enter-clause-counts
 returns-in_ok-way-in-Enter-clause-counts g c first k =
     let met = c.in_ok-way-in-Enter.ensures.counts first (counts_fell k _ _ (stop_fell c.in_ok-stop.ensures.stops) c.count_steps.ensures.counted) in
-    subst (λ (t : Tally). Counts c.args.run.now first t) (λ i. tally c.meet.new.steps (sym c.resume.ensures.machine i) (sym c.resume.ensures.events i)) met
+    subst (λ (t : Tally). CountsEachStep c.args.run.now first t) (λ i. tally c.meet.new.steps (sym c.resume.ensures.machine i) (sym c.resume.ensures.events i))
+    met
 
 pub returns-in-Ended-clause-counts : goal.returns-in-Ended-clause-counts
 returns-in-Ended-clause-counts g c first k = counts_fell k _ _ (stop_fell c.in_ok-stop.ensures.stops) c.count_steps.ensures.counted

@@ -4,7 +4,7 @@ use Rattle.call_tree.specs.Numbering.{IsNumbered}
 use Rattle.call_tree.specs.Recording.{lasts_of, parents_of}
 use Rattle.subtree_weights.specs.RunColumns.{Columns}
 use Rattle.subtree_weights.specs.Weighed.{Weighed, weight_in, weights_in}
-use Rattle.optimal_query.specs.declared.state.State.TheVariants.{Ask}
+use Rattle.optimal_query.specs.declared.state.SearchState.TheVariants.{Ask}
 use Rattle.optimal_query.specs.Markings.{askable_flag, verdict_from}
 use Rattle.optimal_query.specs.Nested.{AreNested}
 use Rattle.optimal_query.specs.Region.{doubts_of, next_after}

@@ -1,5 +1,5 @@
 use Rattle.cell_names.proofs.NamesMade.{names_are}
-use Rattle.cell_names.proofs.finding.Names.new.Goals as goal
+use Rattle.cell_names.proofs.finding.NameFinder.new.Goals as goal
 
 pub returns : goal.returns
 returns c =

@@ -1,6 +1,6 @@
 use Rattle.std.proofs.Common.{◌-◌, ap, get_or, ◌∙◌}
 use Rattle.cell_names.proofs.PartsSplit.{found_by, none_by}
-use Rattle.cell_names.proofs.places.Places.find.Goals as goal
+use Rattle.cell_names.proofs.places.PlacedParts.find.Goals as goal
 
 pub returns-then-begun-eq0 : goal.returns-then-begun-eq0
 returns-then-begun-eq0 c =
