@@ -31,9 +31,9 @@ pub(crate) fn append_unescaped(alloc: Global, text: &str, bytes: &mut Vec<u8>) -
 
 /// Appends what stands between two backquotes.
 fn append_repeated(alloc: Global, part: &str, bytes: &mut Vec<u8>) -> Result<()> {
-    let Some((times, text)) = part.split_once(' ') else {
-        bail!("a number, a blank and a text are wanted between backquotes");
-    };
+    let (times, text) = part.split_once(' ').context(
+        "a number, a blank and a text are wanted between backquotes",
+    )?;
     let times: u32 = times.parse().context("between backquotes")?;
     let mut repeated = Vec::new(alloc);
     append_escaped(text, &mut repeated)?;
@@ -45,31 +45,30 @@ fn append_repeated(alloc: Global, part: &str, bytes: &mut Vec<u8>) -> Result<()>
 
 /// Appends a text in which nothing is repeated.
 fn append_escaped(text: &str, bytes: &mut Vec<u8>) -> Result<()> {
-    let mut is_first = true;
-    for part in text.split('\\') {
-        if is_first {
-            bytes.extend_from_slice(part.as_bytes())?;
-        } else {
-            append_escape(part, bytes)?;
+    let (plain, escapes) = text.split_once('\\').unwrap_or((text, "."));
+    bytes.extend_from_slice(plain.as_bytes())?;
+    for escape in escapes.split('\\') {
+        let (byte, rest) = escape_of(escape)?;
+        if let Some(byte) = byte {
+            bytes.push(byte)?;
         }
-        is_first = false;
+        bytes.extend_from_slice(rest.as_bytes())?;
     }
     Ok(())
 }
 
-/// Appends what stands after a backslash.
-fn append_escape(part: &str, bytes: &mut Vec<u8>) -> Result<()> {
-    let mut letters = part.chars();
-    match letters.next() {
-        Some('n') => bytes.push(b'\n')?,
-        Some('r') => bytes.push(b'\r')?,
-        Some('t') => bytes.push(b'\t')?,
-        Some('x') => bytes.push(two_digits(letters.next(), letters.next())?)?,
-        Some('.') => {}
-        _ => bail!("no escape: \\{part}"),
-    }
-    bytes.extend_from_slice(letters.as_str().as_bytes())?;
-    Ok(())
+/// The byte that an escape stands for, if it stands for one, and the text after it.
+fn escape_of(escape: &str) -> Result<(Option<u8>, &str)> {
+    let mut letters = escape.chars();
+    let byte = match letters.next() {
+        Some('n') => Some(b'\n'),
+        Some('r') => Some(b'\r'),
+        Some('t') => Some(b'\t'),
+        Some('x') => Some(two_digits(letters.next(), letters.next())?),
+        Some('.') => None,
+        _ => bail!("no escape: \\{escape}"),
+    };
+    Ok((byte, letters.as_str()))
 }
 
 /// The number of two hexadecimal digits.

@@ -1,78 +1,84 @@
 //! The folder of the cases.
 
-use anyhow::{Context, Result};
-use std::alloc::Global;
-use std::fs::{self, DirEntry};
+use anyhow::{Context, Result, bail};
+use std::cell::Cell;
+use std::fs;
 use std::rt::Files;
 
-/// A folder, and the names of its files that were read.
+/// A file of the folder, by its path in it. A folder in a folder in it has no bytes, and a path that ends in a slash.
 #[derive(Drop)]
-pub(crate) struct Folder {
-    path: String,
-    read: Vec<String>,
+pub(crate) struct File {
+    pub(crate) path: String,
+    bytes: Vec<u8>,
+    pub(crate) is_used: Cell<bool>,
 }
 
-/// The name of what lies in the folder `within`, which is empty or ends in a slash. A folder's name ends in a slash
-/// too.
-fn name_of<R: Files>(alloc: Global, within: &str, entry: &DirEntry<R>) -> Result<String> {
-    let slash = if entry.file_type()?.is_dir() { "/" } else { "" };
-    let name = entry.file_name();
-    Ok(format!(in alloc; "{within}{name}{slash}")?)
+/// Adds the paths of what lies in the folder `within`, which is empty or ends in a slash, in any order. A folder's path
+/// ends in a slash too.
+fn list<R: Files + AllocGlobal + Clone + Drop>(
+    rt: &R,
+    folder: &str,
+    within: &str,
+    paths: &mut Vec<String>,
+) -> Result<()> {
+    let path = format!(in rt.alloc(); "{folder}/{within}")?;
+    for entry in fs::read_dir(rt, path.as_str()).context(folder)? {
+        let entry = entry?;
+        let slash = if entry.path().is_dir(rt) { "/" } else { "" };
+        let name = entry.file_name();
+        paths.push(format!(in rt.alloc(); "{within}{name}{slash}")?)?;
+    }
+    Ok(())
 }
 
-impl Folder {
-    /// The folder at a path, of which nothing was read yet.
-    pub(crate) fn new(alloc: Global, path: &str) -> Result<Folder> {
-        Ok(Folder {
-            path: path.to_string(alloc)?,
-            read: Vec::new(alloc),
-        })
-    }
-
-    /// The path of one of its files.
-    fn path_of(&self, alloc: Global, name: &str) -> Result<String> {
-        let folder = self.path.as_str();
-        Ok(format!(in alloc; "{folder}/{name}")?)
-    }
-
-    /// The bytes of one of its files.
-    pub(crate) fn read<R: Files + AllocGlobal>(&mut self, rt: &R, name: &str) -> Result<Vec<u8>> {
-        self.read.push(name.to_string(rt.alloc())?)?;
-        let path = self.path_of(rt.alloc(), name)?;
-        fs::read(rt, path.as_str()).context(format_args!("reading {path}"))
-    }
-
-    /// Adds the names of what lies in the folder `within`, in any order.
-    fn list<R: Files + AllocGlobal + Clone + Drop>(
-        &self,
-        rt: &R,
-        within: &str,
-        names: &mut Vec<String>,
-    ) -> Result<()> {
-        let path = self.path_of(rt.alloc(), within)?;
-        for entry in fs::read_dir(rt, path.as_str()).context(format_args!("listing {path}"))? {
-            names.push(name_of(rt.alloc(), within, &entry?)?)?;
+/// The paths of what lies in a folder and in the folders in it, but for these.
+fn paths_in<R: Files + AllocGlobal + Clone + Drop>(rt: &R, folder: &str) -> Result<Vec<String>> {
+    let mut listed = Vec::new(rt.alloc());
+    let mut paths = Vec::new(rt.alloc());
+    list(rt, folder, "", &mut listed)?;
+    for path in listed {
+        if path.as_str().ends_with('/') {
+            list(rt, folder, path.as_str(), &mut paths)?;
+        } else {
+            paths.push(path)?;
         }
-        Ok(())
     }
+    Ok(paths)
+}
 
-    /// The names of its files that were not read, in it and in the folders in it. A folder in these is not looked into,
-    /// and is named itself.
-    pub(crate) fn unread<R: Files + AllocGlobal + Clone + Drop>(
-        &self,
-        rt: &R,
-    ) -> Result<Vec<String>> {
-        let mut names = Vec::new(rt.alloc());
-        let mut unread = Vec::new(rt.alloc());
-        self.list(rt, "", &mut names)?;
-        for name in names {
-            if name.as_str().ends_with('/') {
-                self.list(rt, name.as_str(), &mut unread)?;
-            } else {
-                unread.push(name)?;
-            }
-        }
-        unread.retain(|name| !self.read.contains(name));
-        Ok(unread)
+/// The bytes of what lies at a path.
+fn bytes_at<R: Files + AllocGlobal>(rt: &R, folder: &str, path: &str) -> Result<Vec<u8>> {
+    if path.ends_with('/') {
+        return Ok(Vec::new(rt.alloc()));
     }
+    let full_path = format!(in rt.alloc(); "{folder}/{path}")?;
+    fs::read(rt, full_path.as_str()).context(path)
+}
+
+/// The files of a folder and of the folders in it.
+pub(crate) fn read_folder<R: Files + AllocGlobal + Clone + Drop>(
+    rt: &R,
+    folder: &str,
+) -> Result<Vec<File>> {
+    let mut files = Vec::new(rt.alloc());
+    for path in paths_in(rt, folder)? {
+        let bytes = bytes_at(rt, folder, path.as_str())?;
+        files.push(File {
+            path,
+            bytes,
+            is_used: Cell::new(false),
+        })?;
+    }
+    Ok(files)
+}
+
+/// The bytes of the file at a path, which is used from now on.
+pub(crate) fn file_at<'a>(files: &'a [File], path: &str) -> Result<&'a [u8]> {
+    for file in files {
+        if file.path.as_str() == path {
+            file.is_used.set(true);
+            return Ok(&file.bytes);
+        }
+    }
+    bail!("there is no file {path}")
 }

@@ -6,79 +6,75 @@
 //! Its one argument is the folder, `.` where there is none.
 #![tactic(auto)]
 
+mod answers;
 mod case;
 mod comparing;
-mod declared;
 mod escapes;
 mod folder;
-mod reading;
 mod rows;
 mod runs;
 mod sections;
 mod sources;
+mod tables;
 
-use anyhow::{Context, Result, bail};
+use anyhow::{Context, Result, bail, ensure};
+use case::read_case;
 use comparing::compare;
-use declared::try_tables;
-use folder::Folder;
-use reading::read_case;
-use rows::{Judged, is_row};
+use folder::{File, file_at, read_folder};
+use rows::{Judged, Tally, is_row};
 use runs::try_runs;
-use sections::{Section, expect_cases, sections};
+use sections::{Section, sections};
 use sources::{Judge, try_sources};
 use std::alloc::Global;
 use std::io::{self, Write};
 use std::process::ExitCode;
 use std::rt::Files;
 use std::{env, str};
+use tables::try_tables;
 
-/// How many cases passed, and how many failed.
-#[derive(Clone, Copy)]
-struct Tally {
-    passed: u32,
-    failed: u32,
-}
-
-/// Prints that a case passed, or what differs.
-fn report<R: Print>(rt: &R, name: &str, differs: &[u8], tally: &mut Tally) -> Result<()> {
-    if differs.is_empty() {
-        tally.passed = tally.passed.saturating_add(1);
-        println!(rt; "ok {name}")?;
-    } else {
-        tally.failed = tally.failed.saturating_add(1);
-        println!(rt; "FAILED {name}")?;
-        io::writer(rt).write_all(differs)?;
-    }
-    Ok(())
+/// Prints that what has this name passed, or what differs.
+fn report<R: Print>(rt: &R, name: &str, differs: &[u8]) -> Result<()> {
+    let word = if differs.is_empty() { "ok" } else { "FAILED" };
+    println!(rt; "{word} {name}")?;
+    Ok(io::writer(rt).write_all(differs)?)
 }
 
 /// Tries the case of this name, which the first of these sections belong to.
-fn try_case<R: Files + AllocGlobal + Print>(
+fn try_case<R: AllocGlobal + Print>(
     rt: &R,
-    folder: &mut Folder,
+    files: &[File],
     name: &str,
     sections: &[Section],
     tally: &mut Tally,
 ) -> Result<()> {
-    let case = read_case(rt, folder, name, sections)?;
+    let case = read_case(rt.alloc(), files, sections)?;
     let mut differs = Vec::new(rt.alloc());
     compare(rt.alloc(), &case, &mut differs)?;
-    report(rt, name, &differs, tally)
+    tally.count(differs.is_empty());
+    report(rt, name, &differs)
 }
 
 /// Tries the cases of a file.
-fn try_cases<R: Files + AllocGlobal + Print>(
+fn try_cases<R: AllocGlobal + Print>(
     rt: &R,
-    folder: &mut Folder,
+    files: &[File],
     text: &str,
     tally: &mut Tally,
 ) -> Result<()> {
     let sections = sections(rt.alloc(), text)?;
-    expect_cases(&sections)?;
+    let first = sections.first().context("a case is wanted")?;
+    ensure!(first.heading.starts_with("case "), "a case is wanted first");
+    let mut names = Vec::new(rt.alloc());
     for (place, section) in sections.iter().enumerate() {
         if let Some(name) = section.heading.strip_prefix("case ") {
+            ensure!(
+                section.text.is_empty(),
+                "no text is wanted below case {name}"
+            );
+            ensure!(!names.contains(&name), "a second case {name}");
+            names.push(name)?;
             let rest = sections.get(place.saturating_add(1)..).unwrap_or_default();
-            try_case(rt, folder, name, rest, tally).context(format_args!("case {name}"))?;
+            try_case(rt, files, name, rest, tally).context(section.heading)?;
         }
     }
     Ok(())
@@ -96,56 +92,38 @@ fn try_rows(alloc: Global, kind: &str, text: &str, judged: &mut Judged) -> Resul
     }
 }
 
-/// Prints what came of the rows of a file.
-fn report_rows<R: Print>(rt: &R, name: &str, judged: &Judged, tally: &mut Tally) -> Result<()> {
-    let (passed, failed) = (judged.passed, judged.failed);
-    tally.passed = tally.passed.saturating_add(passed);
-    tally.failed = tally.failed.saturating_add(failed);
-    if failed == 0 {
-        println!(rt; "ok {name}: {passed} rows")?;
-    } else {
-        println!(rt; "FAILED {name}: {failed} rows")?;
-        io::writer(rt).write_all(&judged.differences)?;
-    }
-    Ok(())
-}
-
-/// The text of a file.
-fn text_of(bytes: &[u8]) -> Result<&str> {
-    str::from_utf8(bytes).context("no UTF-8 text")
-}
-
 /// Tries a file of the index, by the word for its kind.
-fn try_file<R: Files + AllocGlobal + Print>(
+fn try_file<R: AllocGlobal + Print>(
     rt: &R,
-    folder: &mut Folder,
+    files: &[File],
     kind: &str,
     name: &str,
     tally: &mut Tally,
 ) -> Result<()> {
-    let bytes = folder.read(rt, name)?;
+    let text = text_at(files, name)?;
     if kind == "command" {
-        return try_cases(rt, folder, text_of(&bytes)?, tally);
+        return try_cases(rt, files, text, tally);
     }
     let mut judged = Judged::new(rt.alloc());
-    try_rows(rt.alloc(), kind, text_of(&bytes)?, &mut judged)?;
-    report_rows(rt, name, &judged, tally)
+    try_rows(rt.alloc(), kind, text, &mut judged)?;
+    let count = tally.add(&judged.tally);
+    let name = format!(in rt.alloc(); "{name}: {count} rows")?;
+    report(rt, name.as_str(), &judged.differences)
+}
+
+/// The text of a file.
+fn text_at<'a>(files: &'a [File], path: &str) -> Result<&'a str> {
+    str::from_utf8(file_at(files, path)?).context("no UTF-8 text")
 }
 
 /// Tries the files that the index names.
-fn try_index<R: Files + AllocGlobal + Print>(
-    rt: &R,
-    folder: &mut Folder,
-    tally: &mut Tally,
-) -> Result<()> {
-    let index = folder.read(rt, "index")?;
-    for line in text_of(&index).context("the index")?.lines() {
-        match line.split_once(' ') {
-            _ if !is_row(line) => {}
-            Some((kind, name)) => {
-                try_file(rt, folder, kind, name, tally).context(format_args!("{name}"))?;
-            }
-            None => bail!("the index: {line}"),
+fn try_index<R: AllocGlobal + Print>(rt: &R, files: &[File], tally: &mut Tally) -> Result<()> {
+    for line in text_at(files, "index").context("the index")?.lines() {
+        if is_row(line) {
+            let (kind, name) = line
+                .split_once(' ')
+                .context(format_args!("the index: {line}"))?;
+            try_file(rt, files, kind, name, tally).context(name)?;
         }
     }
     Ok(())
@@ -157,10 +135,13 @@ fn try_folder<R: Files + AllocGlobal + Print + Clone + Drop>(rt: &R, path: &str)
         passed: 0,
         failed: 0,
     };
-    let mut folder = Folder::new(rt.alloc(), path)?;
-    try_index(rt, &mut folder, &mut tally)?;
-    for name in &folder.unread(rt)? {
-        report(rt, name.as_str(), b"  no case uses this file\n", &mut tally)?;
+    let files = read_folder(rt, path)?;
+    try_index(rt, &files, &mut tally)?;
+    for file in &files {
+        if !file.is_used.get() {
+            tally.count(false);
+            report(rt, file.path.as_str(), b"  no case uses this file\n")?;
+        }
     }
     let (passed, failed) = (tally.passed, tally.failed);
     println!(rt; "{passed} passed, {failed} failed")?;

@@ -1,14 +1,41 @@
-//! What comes of the rows of a file.
+//! What comes of cases and rows.
 
 use anyhow::Result;
 use std::alloc::Global;
 
-/// How many rows of a file passed, and how many failed.
-#[derive(Drop)]
-pub(crate) struct Judged {
+/// How many cases passed, and how many failed.
+#[derive(Clone, Copy)]
+pub(crate) struct Tally {
     pub(crate) passed: u32,
     pub(crate) failed: u32,
-    /// The rows that failed, in full.
+}
+
+impl Tally {
+    /// Counts a case.
+    pub(crate) fn count(&mut self, has_passed: bool) {
+        if has_passed {
+            self.passed = self.passed.saturating_add(1);
+        } else {
+            self.failed = self.failed.saturating_add(1);
+        }
+    }
+
+    /// Counts all of these. It answers how many of them failed, or passed where none did.
+    pub(crate) fn add(&mut self, other: &Tally) -> u32 {
+        self.passed = self.passed.saturating_add(other.passed);
+        self.failed = self.failed.saturating_add(other.failed);
+        if other.failed == 0 {
+            other.passed
+        } else {
+            other.failed
+        }
+    }
+}
+
+/// What comes of the rows of a file, and what differs, in full.
+#[derive(Drop)]
+pub(crate) struct Judged {
+    pub(crate) tally: Tally,
     pub(crate) differences: Vec<u8>,
 }
 
@@ -16,36 +43,43 @@ impl Judged {
     /// No row yet.
     pub(crate) fn new(alloc: Global) -> Judged {
         Judged {
-            passed: 0,
-            failed: 0,
+            tally: Tally {
+                passed: 0,
+                failed: 0,
+            },
             differences: Vec::new(alloc),
         }
     }
 
-    /// Counts a row, which passed if nothing differs.
-    pub(crate) fn count(&mut self, row: &[u8], differs: &[u8]) -> Result<()> {
-        if differs.is_empty() {
-            self.passed = self.passed.saturating_add(1);
+    /// Counts a row, which passed if what is seen is what is wanted.
+    pub(crate) fn judge(&mut self, row: &str, wanted: &[u8], seen: &[u8]) -> Result<()> {
+        self.tally.count(wanted == seen);
+        if wanted == seen {
             return Ok(());
         }
-        self.failed = self.failed.saturating_add(1);
-        self.differences.extend_from_slice(row)?;
-        self.differences.push(b'\n')?;
-        self.differences.extend_from_slice(differs)?;
-        Ok(())
+        append_difference(row, wanted, seen, &mut self.differences)
     }
 }
 
-/// Appends what is wanted and what came in its place, if they differ.
-pub(crate) fn compare_lines(wanted: &[u8], seen: &[u8], differs: &mut Vec<u8>) -> Result<()> {
-    if wanted == seen {
-        return Ok(());
+/// Appends what is wanted and what is seen in its place, below a line that says where.
+pub(crate) fn append_difference(
+    place: &str,
+    wanted: &[u8],
+    seen: &[u8],
+    differences: &mut Vec<u8>,
+) -> Result<()> {
+    let (wanted_here, seen_here) = (b"\n  expected:\n".as_slice(), b"\n  seen:\n".as_slice());
+    for part in [
+        place.as_bytes(),
+        wanted_here,
+        wanted,
+        seen_here,
+        seen,
+        b"\n",
+    ] {
+        differences.extend_from_slice(part)?;
     }
-    differs.extend_from_slice(b"  expected: ")?;
-    differs.extend_from_slice(wanted)?;
-    differs.extend_from_slice(b"\n  seen: ")?;
-    differs.extend_from_slice(seen)?;
-    Ok(differs.push(b'\n')?)
+    Ok(())
 }
 
 /// Whether a line is a row: it is not empty, and does not begin with `#`.

@@ -1,10 +1,12 @@
 //! Runs of programs: the calls of a run, its output and what it wrote.
 
+use crate::answers::{Answer, append_answer};
 use crate::escapes::unescaped;
-use crate::rows::{Judged, compare_lines};
+use crate::rows::Judged;
 use crate::sections::{Section, lines, sections};
 use crate::sources::SOURCE_BYTES;
-use anyhow::{Context, Result, bail, ensure};
+use anyhow::{Context, Result, ensure};
+use call_tree::Calls;
 use cell_value::{Kind, Touch, Value, WayOut, Which};
 use effect_log::Log;
 use pas_lexer::lex;
@@ -32,13 +34,6 @@ struct Subject<'a> {
     budget: u32,
 }
 
-/// A run, and the program that was run.
-#[derive(Drop)]
-struct Ran {
-    program: Program,
-    history: History,
-}
-
 /// Tries each run of a file.
 ///
 /// A case begins with `case NAME`. `source` has its source; `input` its input, which is empty where none stands; and
@@ -50,8 +45,7 @@ struct Ran {
 pub(crate) fn try_runs(alloc: Global, text: &str, judged: &mut Judged) -> Result<()> {
     let mut subject = None;
     for section in &sections(alloc, text)? {
-        let heading = section.heading;
-        take_section(alloc, section, &mut subject, judged).context(format_args!("== {heading}"))?;
+        take_section(alloc, section, &mut subject, judged).context(section.heading)?;
     }
     Ok(())
 }
@@ -72,28 +66,18 @@ fn take_section<'a>(
         });
         return Ok(());
     }
-    match subject {
-        Some(subject) => take_part(alloc, section, subject, judged),
-        None => bail!("a section before the first case"),
-    }
-}
-
-/// Takes a part of a case, by the words of its heading.
-fn take_part<'a>(
-    alloc: Global,
-    section: &Section<'a>,
-    subject: &mut Subject<'a>,
-    judged: &mut Judged,
-) -> Result<()> {
+    let subject = subject.as_mut().context("a section before the first case")?;
     match section.heading {
         "source" => subject.source = section.text,
         "input" => subject.input = section.text,
         "run" => judge_run(alloc, subject, section.text, judged)?,
         "note" => {}
-        heading => match heading.strip_prefix("budget ") {
-            Some(steps) => subject.budget = steps.parse().context("the budget")?,
-            None => bail!("no heading of a case"),
-        },
+        heading => {
+            let steps = heading
+                .strip_prefix("budget ")
+                .context("no heading of a case")?;
+            subject.budget = steps.parse().context("the budget")?;
+        }
     }
     Ok(())
 }
@@ -101,23 +85,21 @@ fn take_part<'a>(
 /// Tries a run.
 fn judge_run(alloc: Global, subject: &Subject, wanted: &str, judged: &mut Judged) -> Result<()> {
     let (name, budget) = (subject.name, subject.budget);
-    let mut differs = Vec::new(alloc);
-    compare_run(alloc, subject, wanted, &mut differs)?;
+    let mut seen = Vec::new(alloc);
+    append_run(alloc, subject, wanted, &mut seen).context(name)?;
     let row = format!(in alloc; "{name}, budget {budget}")?;
-    judged.count(row.as_bytes(), &differs)
+    let seen = seen.strip_suffix(b"\n").unwrap_or(&seen);
+    judged.judge(row.as_str(), wanted.as_bytes(), seen)
 }
 
-/// Appends what differs, in full: nothing where there is a run that has all lines that are wanted.
-fn compare_run(
-    alloc: Global,
-    subject: &Subject,
-    wanted: &str,
-    differs: &mut Vec<u8>,
-) -> Result<()> {
-    match run_of(alloc, subject) {
-        Ok(ran) => compare_wanted(alloc, &ran, wanted, differs),
-        Err(error) => Ok(writeln!(differs, "  there is no run: {error}")?),
-    }
+/// Appends the lines that the run has in place of those that are wanted, or why there is no run.
+fn append_run(alloc: Global, subject: &Subject, wanted: &str, seen: &mut Vec<u8>) -> Result<()> {
+    let program = match program_of(alloc, subject.source.as_bytes()) {
+        Ok(program) => program,
+        Err(error) => return Ok(write!(seen, "there is no run: {error}")?),
+    };
+    let history = history_of(alloc, &program, subject)?;
+    append_lines(alloc, &program, &history, wanted, seen)
 }
 
 /// The program of a source.
@@ -131,28 +113,26 @@ fn program_of(alloc: Global, source: &[u8]) -> Result<Program> {
 fn history_of(alloc: Global, program: &Program, subject: &Subject) -> Result<History> {
     let budget = subject.budget;
     let input = lines(alloc, subject.input)?;
-    ensure!(0 < budget, "a budget is 1 step or more");
+    let is_within = input.len() <= INPUT_BYTES && 0 < budget && budget <= GREATEST_BUDGET;
     ensure!(
-        budget <= GREATEST_BUDGET,
-        "a budget is 4,000,000 steps or fewer"
+        is_within && 0 < program.routines(),
+        "a budget is 1 to 4,000,000 steps, and an input has at most 4,194,304 bytes"
     );
-    ensure!(input.len() <= INPUT_BYTES, "the input is too long");
-    ensure!(0 < program.routines(), "the program has no routine");
     Ok(run(alloc, program, &input, budget)?)
 }
 
-/// Runs a program.
-fn run_of(alloc: Global, subject: &Subject) -> Result<Ran> {
-    let program = program_of(alloc, subject.source.as_bytes())?;
-    let history = history_of(alloc, &program, subject)?;
-    Ok(Ran { program, history })
-}
-
-/// Appends what differs, in full: nothing where the run has all lines that are wanted.
-fn compare_wanted(alloc: Global, ran: &Ran, wanted: &str, differs: &mut Vec<u8>) -> Result<()> {
+/// Appends the lines that a run has in place of those that are wanted.
+fn append_lines(
+    alloc: Global,
+    program: &Program,
+    history: &History,
+    wanted: &str,
+    seen: &mut Vec<u8>,
+) -> Result<()> {
     let mut told: u32 = 0;
     for line in wanted.lines() {
-        compare_line(alloc, ran, line, differs)?;
+        append_line(alloc, program, history, line, seen).context(line)?;
+        seen.push(b'\n')?;
         if line.starts_with("output ") || line.starts_with("calls ") {
             told = told.saturating_add(1);
         }
@@ -164,106 +144,93 @@ fn compare_wanted(alloc: Global, ran: &Ran, wanted: &str, differs: &mut Vec<u8>)
     Ok(())
 }
 
-/// Appends a line that is wanted, and the one that the run has in its place, if they differ.
-fn compare_line(alloc: Global, ran: &Ran, wanted: &str, differs: &mut Vec<u8>) -> Result<()> {
-    let mut seen = Vec::new(alloc);
-    append_seen(alloc, ran, wanted, &mut seen)?;
-    compare_lines(wanted.as_bytes(), &seen, differs)
-}
-
-/// Appends the line that the run has in place of one that is wanted.
-fn append_seen(alloc: Global, ran: &Ran, wanted: &str, seen: &mut Vec<u8>) -> Result<()> {
-    let history = &ran.history;
-    let Some((word, rest)) = wanted.split_once(' ') else {
-        bail!("no line on a run: {wanted}");
-    };
+/// Appends the line that a run has in place of one that is wanted.
+fn append_line(
+    alloc: Global,
+    program: &Program,
+    history: &History,
+    wanted: &str,
+    seen: &mut Vec<u8>,
+) -> Result<()> {
+    let (word, rest) = wanted.split_once(' ').context("no line on a run")?;
     match word {
         "output" => append_output(alloc, rest, history.output.as_slice(), seen),
-        "calls" => {
-            let calls = history.calls.len();
-            Ok(write!(seen, "calls {calls}")?)
-        }
-        "written" => append_written(&history.log, rest, seen),
-        number => append_call(ran, number.parse().context("the number of a call")?, seen),
+        "calls" => append_answer(("calls #", [history.calls.len().into(), 0, 0]), seen),
+        "written" => append_answer(written(&history.log, rest)?, seen),
+        number => append_call(program, &history.calls, number.parse()?, seen),
     }
 }
 
 /// Appends the line on the output: the wanted one where that has the same text, and else one that begins otherwise.
 fn append_output(alloc: Global, wanted: &str, output: &[u8], seen: &mut Vec<u8>) -> Result<()> {
-    let Some(text) = in_quotes(wanted) else {
-        bail!("the output is wanted in quotes");
+    let text = wanted
+        .strip_prefix('"')
+        .unwrap_or_default()
+        .strip_suffix('"');
+    let is_same = unescaped(alloc, text.context("the output is wanted in quotes")?)?.as_slice()
+        == output;
+    let (start, shown) = if is_same {
+        ("output ", wanted.as_bytes())
+    } else {
+        ("another output: ", output)
     };
-    let is_same = unescaped(alloc, text)?.as_slice() == output;
-    if !is_same {
-        seen.extend_from_slice(b"the ")?;
-    }
-    seen.extend_from_slice(b"output \"")?;
-    seen.extend_from_slice(if is_same { text.as_bytes() } else { output })?;
-    Ok(seen.push(b'"')?)
-}
-
-/// What stands between two quotes.
-fn in_quotes(text: &str) -> Option<&str> {
-    text.strip_prefix('"')?.strip_suffix('"')
+    seen.extend_from_slice(start.as_bytes())?;
+    Ok(seen.extend_from_slice(shown)?)
 }
 
 /// Appends the line on the call of a number.
-fn append_call(ran: &Ran, number: u32, seen: &mut Vec<u8>) -> Result<()> {
-    let calls = &ran.history.calls;
+fn append_call(program: &Program, calls: &Calls, number: u32, seen: &mut Vec<u8>) -> Result<()> {
     if number >= calls.len() {
-        return Ok(write!(seen, "{number} is no call")?);
+        return append_answer(("# is no call", [number.into(), 0, 0]), seen);
     }
     let call = calls.call(number);
     let steps = call.entry.steps.saturating_sub(call.exit.steps);
     let touches = call.exit.mark.saturating_sub(call.entry.mark);
-    write!(seen, "{number} ")?;
-    seen.extend_from_slice(ran.program.name(call.routine))?;
-    append_way(call.way, seen)?;
-    Ok(write!(seen, ", {steps} steps, {touches} touches")?)
+    append_answer(("# ", [number.into(), 0, 0]), seen)?;
+    seen.extend_from_slice(program.name(call.routine))?;
+    seen.extend_from_slice(b": ")?;
+    append_answer(way_answer(call.way), seen)?;
+    append_answer(
+        (", # steps, # touches", [steps.into(), touches.into(), 0]),
+        seen,
+    )
 }
 
-/// Appends how a call ended.
-fn append_way(way: WayOut, seen: &mut Vec<u8>) -> Result<()> {
+/// How a call ended.
+fn way_answer(way: WayOut) -> Answer {
     match way {
-        WayOut::Returned => write!(seen, ": returned")?,
-        WayOut::Jumped(label, _) => write!(seen, ": jumped to {label}")?,
-        WayOut::Faulted(kind, line) => {
-            let kind = kind_name(kind);
-            write!(seen, ": faulted {kind} line {line}")?;
-        }
-        WayOut::OutOfSteps => write!(seen, ": out of steps")?,
-        WayOut::Limited(which) => {
-            let which = limit_name(which);
-            write!(seen, ": limited {which}")?;
-        }
+        WayOut::Returned => ("returned", [0; 3]),
+        WayOut::Jumped(label, _) => ("jumped to #", [label.into(), 0, 0]),
+        WayOut::Faulted(kind, line) => (fault_words(kind), [line.into(), 0, 0]),
+        WayOut::OutOfSteps => ("out of steps", [0; 3]),
+        WayOut::Limited(which) => (limit_words(which), [0; 3]),
     }
-    Ok(())
 }
 
-fn kind_name(kind: Kind) -> &'static str {
+fn fault_words(kind: Kind) -> &'static str {
     match kind {
-        Kind::Overflow => "Overflow",
-        Kind::ZeroDivisor => "ZeroDivisor",
-        Kind::BadModulus => "BadModulus",
-        Kind::OutOfRange => "OutOfRange",
-        Kind::Undefined => "Undefined",
-        Kind::NilPointer => "NilPointer",
-        Kind::Disposed => "Disposed",
-        Kind::InactiveVariant => "InactiveVariant",
-        Kind::NoCase => "NoCase",
-        Kind::PastEnd => "PastEnd",
-        Kind::BadNumber => "BadNumber",
-        Kind::BadWidth => "BadWidth",
-        Kind::UndefinedResult => "UndefinedResult",
+        Kind::Overflow => "faulted Overflow line #",
+        Kind::ZeroDivisor => "faulted ZeroDivisor line #",
+        Kind::BadModulus => "faulted BadModulus line #",
+        Kind::OutOfRange => "faulted OutOfRange line #",
+        Kind::Undefined => "faulted Undefined line #",
+        Kind::NilPointer => "faulted NilPointer line #",
+        Kind::Disposed => "faulted Disposed line #",
+        Kind::InactiveVariant => "faulted InactiveVariant line #",
+        Kind::NoCase => "faulted NoCase line #",
+        Kind::PastEnd => "faulted PastEnd line #",
+        Kind::BadNumber => "faulted BadNumber line #",
+        Kind::BadWidth => "faulted BadWidth line #",
+        Kind::UndefinedResult => "faulted UndefinedResult line #",
     }
 }
 
-fn limit_name(which: Which) -> &'static str {
+fn limit_words(which: Which) -> &'static str {
     match which {
-        Which::Calls => "calls",
-        Which::Depth => "depth",
-        Which::Stack => "stack",
-        Which::Heap => "heap",
+        Which::Calls => "limited calls",
+        Which::Depth => "limited depth",
+        Which::Stack => "limited stack",
+        Which::Heap => "limited heap",
     }
 }
 
@@ -279,22 +246,17 @@ fn last_written(log: &Log, address: u32) -> Option<Value> {
     written
 }
 
-/// Appends the line on what was last written at an address, in place of one that is wanted.
-fn append_written(log: &Log, wanted: &str, seen: &mut Vec<u8>) -> Result<()> {
-    let Some((address, _)) = wanted.split_once(" = ") else {
-        bail!("an address, an equals sign and a value are wanted");
+/// What was last written at an address, in place of a line that is wanted.
+fn written(log: &Log, wanted: &str) -> Result<Answer> {
+    let (address, _) = wanted
+        .split_once(" = ")
+        .context("an address, an equals sign and a value are wanted")?;
+    let address: u32 = address.parse()?;
+    let (words, number) = match last_written(log, address) {
+        None => ("written # = none", 0),
+        Some(Value::Undefined) => ("written # = ?", 0),
+        Some(Value::Number(number)) => ("written # = #", number.into()),
+        Some(_) => ("written # = another value", 0),
     };
-    let address = address.parse().context("the address")?;
-    append_value(address, last_written(log, address), seen)
-}
-
-/// Appends the line on a value that was written, if any was.
-fn append_value(address: u32, written: Option<Value>, seen: &mut Vec<u8>) -> Result<()> {
-    match written {
-        None => write!(seen, "written {address} = none")?,
-        Some(Value::Undefined) => write!(seen, "written {address} = ?")?,
-        Some(Value::Number(number)) => write!(seen, "written {address} = {number}")?,
-        Some(_) => write!(seen, "written {address} = another value")?,
-    }
-    Ok(())
+    Ok((words, [address.into(), number, 0]))
 }

@@ -1,6 +1,6 @@
 //! Files of sections.
 
-use anyhow::{Result, bail, ensure};
+use anyhow::{Result, bail};
 use std::alloc::Global;
 
 /// A section: the words of its heading, and the lines below it, without the line feed of the last one. Blank lines at
@@ -39,30 +39,6 @@ pub(crate) fn sections(alloc: Global, text: &str) -> Result<Vec<Section<'_>>> {
         }
     }
     Ok(sections)
-}
-
-/// Refuses sections that do not begin with a case, a text right below the name of a case, and a second case of one
-/// name.
-pub(crate) fn expect_cases(sections: &[Section]) -> Result<()> {
-    let is_begun = sections.first().is_some_and(|first| is_case(first));
-    ensure!(is_begun, "a case is wanted first");
-    for section in sections {
-        let heading = section.heading;
-        if is_case(section) {
-            let same = sections
-                .iter()
-                .filter(|other| other.heading == heading)
-                .count();
-            ensure!(same == 1, "a second {heading}");
-            ensure!(section.text.is_empty(), "no text is wanted below {heading}");
-        }
-    }
-    Ok(())
-}
-
-/// Whether a section begins a case.
-pub(crate) fn is_case(section: &Section) -> bool {
-    section.heading.starts_with("case ")
 }
 
 /// The lines of a section's text, each with its line feed.

@@ -1,21 +1,17 @@
 //! Sources with the places where they are refused.
 
-use crate::case::{Case, Part, Role, Text};
-use crate::comparing::compare;
-use crate::declared::append_declared;
+use crate::case::{Case, Origin, Role, Text};
+use crate::comparing::run;
 use crate::escapes::{append_unescaped, unescaped};
-use crate::rows::{Judged, compare_lines, is_row};
-use anyhow::{Context, Result, bail, ensure};
+use crate::rows::{Judged, is_row};
+use anyhow::{Context, Result, ensure};
 use pas_lexer::lex;
-use source_checker::{ProgramFault, check_tokens};
+use source_checker::{ProgramFault, check_tokens, declare_source};
 use std::alloc::Global;
 use std::io::Write;
 
 /// The greatest length of a source, in bytes.
 pub(crate) const SOURCE_BYTES: usize = 1_048_576;
-
-/// The exit status of a source that is refused.
-const REFUSED: u8 = 3;
 
 /// Who says whether a source is taken.
 #[derive(Clone, Copy)]
@@ -28,14 +24,12 @@ pub(crate) enum Judge {
     Declarations,
 }
 
-/// A source, and what is to come of it. `why` is `taken`, or the reason for which it is refused at the byte and the
-/// line.
+/// A source, and what is wanted of it.
 #[derive(Drop)]
-struct Row<'a> {
-    why: &'a str,
+struct Row {
+    is_taken: bool,
     source: Vec<u8>,
-    byte: usize,
-    line: usize,
+    wanted: Vec<u8>,
 }
 
 /// Tries each row of a file. A row is a line `WHY: SOURCE`, the source with escapes and with `|` at the place where it
@@ -48,111 +42,112 @@ pub(crate) fn try_sources(
 ) -> Result<()> {
     for line in text.lines() {
         if is_row(line) {
-            judge_line(alloc, judge, line, judged).context(format_args!("{line}"))?;
+            try_row(alloc, judge, line, judged).context(line)?;
         }
     }
     Ok(())
 }
 
 /// Tries the row of a line.
-fn judge_line(alloc: Global, judge: Judge, line: &str, judged: &mut Judged) -> Result<()> {
-    let row = read_row(alloc, line)?;
-    let mut differs = Vec::new(alloc);
-    compare_row(alloc, judge, &row, &mut differs)?;
-    judged.count(line.as_bytes(), &differs)
+fn try_row(alloc: Global, judge: Judge, line: &str, judged: &mut Judged) -> Result<()> {
+    let row = read_row(alloc, judge, line)?;
+    let mut seen = Vec::new(alloc);
+    append_seen(alloc, judge, &row, &mut seen)?;
+    judged.judge(line, &row.wanted, &seen)
 }
 
-/// The row of a line.
-fn read_row(alloc: Global, line: &str) -> Result<Row<'_>> {
-    let Some((why, marked)) = line.split_once(": ") else {
-        bail!("a reason, a colon, a blank and a source are wanted");
-    };
-    let (before, after) = cut_at_mark(why == "taken", marked)?;
+/// The row of a line, for this judge.
+fn read_row(alloc: Global, judge: Judge, line: &str) -> Result<Row> {
+    let (why, marked) = line
+        .split_once(": ")
+        .context("a reason, a colon, a blank and a source are wanted")?;
+    let is_taken = why == "taken";
+    let parts = if is_taken { 1 } else { 2 };
+    ensure!(
+        marked.split('|').count() == parts,
+        "one mark is wanted where a source is refused, and else none"
+    );
+    let (before, after) = marked.split_once('|').unwrap_or((marked, ""));
     let mut source = unescaped(alloc, before)?;
-    let byte = source.len();
-    let feeds = source.iter().filter(|byte| **byte == b'\n').count();
+    let mut wanted = Vec::new(alloc);
+    append_wanted(judge, why, &source, &mut wanted)?;
     append_unescaped(alloc, after, &mut source)?;
     Ok(Row {
-        why,
+        is_taken,
         source,
-        byte,
-        line: feeds.saturating_add(1),
+        wanted,
     })
 }
 
-/// What stands before and after the mark of a source, which one that is taken has not.
-fn cut_at_mark(is_taken: bool, marked: &str) -> Result<(&str, &str)> {
-    match marked.split_once('|') {
-        None if is_taken => Ok((marked, "")),
-        None => bail!("the mark is wanting"),
-        Some(_) if is_taken => bail!("a source that is taken has a mark"),
-        Some((_, after)) if after.contains('|') => bail!("a second mark"),
-        Some(parts) => Ok(parts),
-    }
-}
-
-/// Appends what differs, in full: nothing where the source comes to what the row says.
-fn compare_row(alloc: Global, judge: Judge, row: &Row, differs: &mut Vec<u8>) -> Result<()> {
-    match judge {
-        Judge::Declarations => compare_declared(alloc, row, differs),
-        _ if row.why == "taken" => compare_taken(alloc, judge, &row.source, differs),
-        _ => compare(alloc, &refused_case(alloc, row)?, differs),
-    }
-}
-
-/// Why the whole check refuses a source, if it does.
-fn fault_of(alloc: Global, source: &[u8]) -> Result<Option<ProgramFault>> {
-    ensure!(source.len() <= SOURCE_BYTES, "the source is too long");
-    let tokens = lex(alloc, source)?;
-    Ok(check_tokens(alloc, &tokens).err())
-}
-
-/// Whether a fault is one for this judge.
-fn is_refused(judge: Judge, fault: ProgramFault) -> bool {
-    match fault {
-        ProgramFault::Rule { .. } | ProgramFault::TooBig { .. } => matches!(judge, Judge::Rules),
-        _ => true,
-    }
-}
-
-/// Appends what differs, in full: nothing where the source is taken, by the grammar alone or by the static rules too.
-/// It is not run, since many sources of rules run for long.
-fn compare_taken(alloc: Global, judge: Judge, source: &[u8], differs: &mut Vec<u8>) -> Result<()> {
-    match fault_of(alloc, source) {
-        Ok(Some(fault)) if is_refused(judge, fault) => {
-            writeln!(differs, "  it is to be taken\n  it is refused: {fault}")?;
+/// The line, counted from 1, that stands after these bytes.
+fn line_after(before: &[u8]) -> u64 {
+    let mut line: u64 = 1;
+    for byte in before {
+        if *byte == b'\n' {
+            line = line.saturating_add(1);
         }
-        Ok(_) => {}
-        Err(error) => writeln!(differs, "  it is to be taken\n  it is refused: {error}")?,
     }
+    line
+}
+
+/// Appends what is wanted of a source that is refused right after these bytes for this reason, or taken.
+fn append_wanted(judge: Judge, why: &str, before: &[u8], wanted: &mut Vec<u8>) -> Result<()> {
+    if why == "taken" {
+        return Ok(wanted.extend_from_slice(b"taken")?);
+    }
+    let (start, reason, then, end) = match (judge, why.strip_prefix("Rule ")) {
+        (Judge::Declarations, Some(rule)) => ("rule ", rule, " is broken at", ""),
+        _ => ("refused: ", why, ",", "\nstatus 3"),
+    };
+    let line = line_after(before);
+    let byte = before.len();
+    Ok(write!(
+        wanted,
+        "{start}{reason}{then} line {line}, byte {byte}{end}"
+    )?)
+}
+
+/// Appends what is seen of a source. One that is to be taken is checked and not run, since many run for long.
+fn append_seen(alloc: Global, judge: Judge, row: &Row, seen: &mut Vec<u8>) -> Result<()> {
+    let refusal = match judge {
+        Judge::Declarations => check_declarations(alloc, &row.source),
+        _ if row.is_taken => check_program(alloc, judge, &row.source),
+        _ => return append_screen(alloc, &row.source, seen),
+    };
+    match refusal {
+        Ok(()) => Ok(seen.extend_from_slice(b"taken")?),
+        Err(error) => Ok(write!(seen, "{error}")?),
+    }
+}
+
+/// Refuses a source that breaks a rule which can be told from its declarations.
+fn check_declarations(alloc: Global, source: &[u8]) -> Result<()> {
+    ensure!(source.len() <= SOURCE_BYTES, "the source is too long");
+    drop(declare_source(alloc, source)?);
     Ok(())
 }
 
-/// Appends what differs, in full: nothing where the declarations of the source come to what the row says.
-fn compare_declared(alloc: Global, row: &Row, differs: &mut Vec<u8>) -> Result<()> {
-    let (why, line, byte) = (row.why, row.line, row.byte);
-    let mut wanted = why.as_bytes().to_vec(alloc)?;
-    if why != "taken" {
-        write!(wanted, ", line {line}, byte {byte}")?;
+/// Refuses a source that is no program; one that breaks a static rule or is too big, only if the judge goes by these.
+fn check_program(alloc: Global, judge: Judge, source: &[u8]) -> Result<()> {
+    ensure!(source.len() <= SOURCE_BYTES, "the source is too long");
+    let tokens = lex(alloc, source)?;
+    match (check_tokens(alloc, &tokens).err(), judge) {
+        (None, _) => Ok(()),
+        (Some(ProgramFault::Rule { .. } | ProgramFault::TooBig { .. }), Judge::Grammar) => Ok(()),
+        (Some(fault), _) => Err(fault.into()),
     }
-    let mut got = Vec::new(alloc);
-    append_declared(alloc, &row.source, &mut got)?;
-    compare_lines(&wanted, &got, differs)
 }
 
-/// The run of the command on the source of a row that is refused, on a console without lines.
-fn refused_case(alloc: Global, row: &Row) -> Result<Case<'static>> {
-    let (why, line, byte) = (row.why, row.line, row.byte);
-    let mut case = Case::new(alloc, "")?;
-    let refused = format!(in alloc; "refused: {why}, line {line}, byte {byte}\n")?.into_bytes();
-    case.status = Some(REFUSED);
+/// Appends the screen and the exit status of the command on a source, on a console without lines.
+fn append_screen(alloc: Global, source: &[u8], seen: &mut Vec<u8>) -> Result<()> {
+    let mut case = Case::new(alloc);
     case.texts.push(Text {
-        role: Role::Screen(Part::Whole),
-        bytes: refused,
-    })?;
-    case.texts.push(Text {
+        heading: "",
         role: Role::File("F"),
-        bytes: row.source.as_slice().to_vec(alloc)?,
+        origin: Origin::Bytes(source),
     })?;
-    Ok(case)
+    let ran = run(alloc, &case, usize::MAX)?;
+    let status = ran.status;
+    seen.extend_from_slice(ran.screen.given())?;
+    Ok(write!(seen, "status {status}")?)
 }
