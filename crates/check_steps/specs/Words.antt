@@ -93,7 +93,7 @@ kept_of source t = kept_text t.kind (text_of source t) (spelling_of source t)
 abbrev pub texts_of : List ℕ → List Token → List (List ℕ)
 texts_of source tokens = map (kept_of source) tokens
 
--- What is known before anything is checked. Behind the numbers of the tokens stand those of the required names.
+-- What is known before anything is checked. After the numbers of the tokens come those of the required names.
 abbrev pub known_at_start : Lexed → Known
 known_at_start l = record {
   names = names_of l;

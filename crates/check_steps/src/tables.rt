@@ -96,7 +96,7 @@ impl Tables {
         })
     }
 
-    /// How many tokens there are. Behind their numbers stand those of the 26 required names.
+    /// How many tokens there are. After their numbers come those of the 26 required names.
     pub fn tokens(&self) -> u32
         ensures count { result ≡ length self.now.words }
         ensures room { result + 26 < 2 ^ 32 }

@@ -259,8 +259,8 @@ impl Body {
         }
     }
 
-    /// Lets go of what a task holds.
-    pub fn let_go(&mut self, alloc: Global, task: Task)
+    /// Drops what a task holds.
+    pub fn drop_task(&mut self, alloc: Global, task: Task)
         ensures values { values_of self.new ≡ values_below task (values_of self.old) }
         ensures lists { lists_of self.new ≡ lists_below task (lists_of self.old) }
         ensures tasks { self.new.tasks.items ≡ self.old.tasks.items }
@@ -293,7 +293,7 @@ impl Body {
         }
     }
 
-    /// Lets go of the last value that waits.
+    /// Drops the last value that waits.
     fn drop_value(&mut self)
         ensures values { values_of self.new ≡ below_top (values_of self.old) }
         ensures lists { self.new.lists.items ≡ self.old.lists.items }
@@ -303,7 +303,7 @@ impl Body {
         self.take_value();
     }
 
-    /// Lets go of the last list that waits.
+    /// Drops the last list that waits.
     pub fn drop_list(&mut self, alloc: Global)
         ensures values { self.new.values.items ≡ self.old.values.items }
         ensures lists { lists_of self.new ≡ below_top (lists_of self.old) }

@@ -36,7 +36,7 @@ pub(crate) fn leap(
     match task {
         Task::Next(next) => land(body, alloc, program, next, label, base),
         _ => {
-            body.let_go(alloc, task);
+            body.drop_task(alloc, task);
             body.go(Now::Came(Way::Jump(label, base)))
         }
     }
@@ -81,7 +81,7 @@ fn land(
             body.either(found, again, outward)
         }
         _ => {
-            body.let_go(alloc, Task::Next(next));
+            body.drop_task(alloc, Task::Next(next));
             body.go(outward)
         }
     }

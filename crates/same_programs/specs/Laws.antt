@@ -31,7 +31,7 @@ OneTextOneProgram = (t : Lexed) (a b : Tree) → IsTextOf t a → IsTextOf t b �
 abbrev pub AtMostOneProgram : Type 0
 AtMostOneProgram = (t : Lexed) (p q : ProgramRows) → IsChecked t p → IsChecked t q → p ≡ q
 
--- Tokens that are the text of a program are refused for want of memory alone.
+-- Tokens that are the text of a program are refused only where memory runs out.
 abbrev pub NeverBoth : Type 0
 NeverBoth = (t : Lexed) (p : ProgramRows) (f : ProgramFault) → IsChecked t p → IsUnchecked t f → f ≡ Memory
 

@@ -89,7 +89,7 @@ returns-in_default c =
     let p = c.args.program.now in
     let a = c.args.body.now in
     let t = tasks.Next c.args.next in
-    let g = c.let_go.ensures in
+    let g = c.drop_task.ensures in
     record {
       turns = λ m. turns_same p _ _ m m c.go-in_default.result c.go-in_default.new.self
           (ap (λ x. bind x (resume p a.home (tasks_of a) (values_below t (values_of a)) (lists_below t (lists_of a))))
