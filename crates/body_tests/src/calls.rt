@@ -1,6 +1,6 @@
 //! Actual parameters and calls.
 use crate::tables::{ACTUALS, AT_X, CLOSE, DIGIT, END, ROUTINES};
-use crate::turns::{ABC, CALL, Came, FORGET, Held, LINE, Row, TO_X, Turn, rows_hold};
+use crate::turns::{ABC, BodyTurn, CALL, Came, FORGET, Held, LINE, TO_X, TurnRow, rows_hold};
 use cell_value::{Kind, Value, Which};
 use eval_calls::{
     add_actual, add_actual_cells, add_cell, begin_call, call, call_formal, pass_actuals,
@@ -27,7 +27,7 @@ enum OnCall {
     CallFormal(bool, u32),
 }
 
-impl Turn for OnCall {
+impl BodyTurn for OnCall {
     fn take(
         self,
         alloc: Global,
@@ -85,7 +85,7 @@ const FUNCTION: Task = Task::Call {
 
 /// A value parameter has the value of its actual, a variable parameter the address of it, and a routine parameter a
 /// routine with the frame in which that is declared (6.6.3.2 to 6.6.3.5).
-const ACTUAL_PARAMETERS: [Row<OnCall>; 7] = [
+const ACTUAL_PARAMETERS: [TurnRow<OnCall>; 7] = [
     (
         Held::Nothing,
         FORGET,
@@ -139,7 +139,7 @@ fn actual_parameters(rt: HostRuntime) -> Result<(), Fail> {
 
 /// The cells of a call begin with the link to the frame in which its routine is declared. A function gives its value to
 /// what waits for the call.
-const CALLS_TO_BE_ENTERED: [Row<OnCall>; 8] = [
+const CALLS_TO_BE_ENTERED: [TurnRow<OnCall>; 8] = [
     (
         Held::List(&[FIRST]),
         FORGET,

@@ -2,7 +2,7 @@
 use crate::tables::{
     ABD, AT_D, AT_S, AT_T, AT_X, D, DIGIT, DIGITS, END, LAST_MEMBERS, MEMBERS, ONE_MORE, S, T, X,
 };
-use crate::turns::{ABC, Came, Held, LINE, Row, TO_X, Turn, rows_hold};
+use crate::turns::{ABC, BodyTurn, Came, Held, LINE, TO_X, TurnRow, rows_hold};
 use cell_value::{Kind, Order, SetBits, Value};
 use eval_expressions::{
     begin_right_text, continue_access, continue_expression, end_texts, evaluate, gather,
@@ -33,7 +33,7 @@ enum OnExpression {
     Texts(Order),
 }
 
-impl Turn for OnExpression {
+impl BodyTurn for OnExpression {
     fn take(
         self,
         alloc: Global,
@@ -99,7 +99,7 @@ const TO_T: Task = Task::Target {
 };
 
 /// Set constructors, after their first member (6.7.1).
-const SETS_BY_THEIR_MEMBERS: [Row<OnExpression>; 6] = [
+const SETS_BY_THEIR_MEMBERS: [TurnRow<OnExpression>; 6] = [
     // [1, 3, 5..7]
     (
         Held::Value(ONE),
@@ -149,7 +149,7 @@ fn sets_by_their_members(rt: HostRuntime) -> Result<(), Fail> {
 }
 
 /// The strings 'abc' and 'abd'.
-const STRINGS_COMPARED: [Row<OnExpression>; 4] = [
+const STRINGS_COMPARED: [TurnRow<OnExpression>; 4] = [
     (
         Held::List(&ABC),
         TO_T,
@@ -205,7 +205,7 @@ const TO_D: Task = Task::Target {
 };
 
 /// The variable `x` has the value 1.
-const VALUES_AND_VARIABLES: [Row<OnExpression>; 4] = [
+const VALUES_AND_VARIABLES: [TurnRow<OnExpression>; 4] = [
     (
         Held::Nothing,
         TO_X,

@@ -3,7 +3,7 @@ use crate::tables::{
     AT_C, AT_D, AT_P, AT_R, AT_X, C, CASES, CLOSE, DOWN, EIGHT, END, FIVE_TO_A, INCREMENT,
     INCREMENTS, RECORDS, REPEAT, SEVEN, THREE, UP, WHILE, X,
 };
-use crate::turns::{ABC, Came, FORGET, Held, LINE, Row, Turn, rows_hold};
+use crate::turns::{ABC, BodyTurn, Came, FORGET, Held, LINE, TurnRow, rows_hold};
 use cell_value::{Kind, Value};
 use eval_machine::{Halt, Machine};
 use eval_statements::{
@@ -29,7 +29,7 @@ enum OnStatement {
     Follow(Next),
 }
 
-impl Turn for OnStatement {
+impl BodyTurn for OnStatement {
     fn take(
         self,
         alloc: Global,
@@ -68,7 +68,7 @@ const UNTIL: ChoiceTask = ChoiceTask::Until {
 };
 
 /// The variable `x` has the value 1, and `d` the value 4.
-const SEQUENCES_AND_LOOPS: [Row<OnStatement>; 11] = [
+const SEQUENCES_AND_LOOPS: [TurnRow<OnStatement>; 11] = [
     (
         Held::Nothing,
         FORGET,
@@ -184,7 +184,7 @@ const FROM: ChoiceTask = ChoiceTask::First {
 };
 
 /// The same variables: conditions, case indices, and the bounds of for statements.
-const CHOICES_BY_VALUES: [Row<OnStatement>; 10] = [
+const CHOICES_BY_VALUES: [TurnRow<OnStatement>; 10] = [
     (
         Held::Nothing,
         FORGET,
@@ -272,7 +272,7 @@ enum OnVariables {
     Record(u32, u32),
 }
 
-impl Turn for OnVariables {
+impl BodyTurn for OnVariables {
     fn take(
         self,
         alloc: Global,
@@ -305,7 +305,7 @@ const CHARS: [(u32, Value); 3] = [
 const A_IS_FIVE: [(u32, Value); 2] = [(AT_R, Value::Number(5)), (15, Value::Undefined)];
 
 /// The variable `p` points to an integer variable at the beginning of the heap, and `r` has no value.
-const VARIABLES_CHANGED: [Row<OnVariables>; 10] = [
+const VARIABLES_CHANGED: [TurnRow<OnVariables>; 10] = [
     (
         Held::Nothing,
         FORGET,

@@ -3,7 +3,7 @@ use crate::tables::{
     AT_C, AT_D, AT_K, AT_W, AT_X, C, CLOSE, D, DIGIT, END, FIVE, READ_K_X, READ_X, READING, THREE,
     TWO, W, WRITTEN, X,
 };
-use crate::turns::{ABC, Came, FORGET, Held, LINE, Row, Turn, rows_hold};
+use crate::turns::{ABC, BodyTurn, Came, FORGET, Held, LINE, TurnRow, rows_hold};
 use cell_value::{Kind, Value};
 use eval_machine::{Halt, Machine};
 use eval_tasks::{Body, Next, Task, TransferTask, Turned};
@@ -30,7 +30,7 @@ enum OnArrays {
     MoveNone(Value),
 }
 
-impl Turn for OnArrays {
+impl BodyTurn for OnArrays {
     fn take(
         self,
         alloc: Global,
@@ -85,7 +85,7 @@ const INTO_ONE: [(u32, Value); 4] = [
 const THIRD: Value = Value::Number(3);
 
 /// The array `w` has the chars of 'abcde', and `c` those of 'xyz' (6.6.5.4).
-const ARRAYS_PACKED: [Row<OnArrays>; 9] = [
+const ARRAYS_PACKED: [TurnRow<OnArrays>; 9] = [
     (
         Held::Nothing,
         FORGET,
@@ -166,7 +166,7 @@ enum OnText {
     Text(TransferTask),
 }
 
-impl Turn for OnText {
+impl BodyTurn for OnText {
     fn take(
         self,
         alloc: Global,
@@ -221,7 +221,7 @@ const THEN_READING: Task = Task::Next(Next::Sequence {
 const FOR_X: Task = Task::Transfer(INTEGER_FOR_X);
 
 /// What was read goes to the variables in turn (6.9.1), and readln goes on to the next line (6.9.2).
-const INPUT_READ: [Row<OnText>; 7] = [
+const INPUT_READ: [TurnRow<OnText>; 7] = [
     (
         Held::Nothing,
         FORGET,
@@ -276,7 +276,7 @@ fn input_read(rt: HostRuntime) -> Result<(), Fail> {
 const PAST_END: Came = Came::Fails(Halt::Fault(Kind::PastEnd), LINE);
 
 /// It is an error to read past the end of the input (6.9.1, 6.9.2).
-const INPUT_AT_ITS_END: [Row<OnText>; 3] = [
+const INPUT_AT_ITS_END: [TurnRow<OnText>; 3] = [
     (Held::Nothing, FORGET, OnText::Receive(READ_K_X), PAST_END),
     (Held::Nothing, FORGET, OnText::Scan(Scan::Blanks), PAST_END),
     (Held::Nothing, FORGET, OnText::PassLine, PAST_END),
@@ -315,7 +315,7 @@ const WRITELN: StatementRow = StatementRow::Write {
 
 /// A string is written in a width, or as it is, and then come the further actuals (6.9.3). The variable `x` has the
 /// value 1.
-const OUTPUT_WRITTEN: [Row<OnText>; 7] = [
+const OUTPUT_WRITTEN: [TurnRow<OnText>; 7] = [
     (
         Held::List(&ABC),
         FORGET,

@@ -17,7 +17,7 @@ use std::alloc::Global;
 use std::process::Abort;
 
 /// A turn of a body, over the tables of a program.
-pub trait Turn: Copy {
+pub trait BodyTurn: Copy {
     fn take(
         self,
         alloc: Global,
@@ -59,7 +59,7 @@ pub enum Came<'a> {
 }
 
 /// A turn: what waits, with the task that does; the turn itself; and what comes of it.
-pub type Row<'a, T> = (Held<'a>, Task, T, Came<'a>);
+pub type TurnRow<'a, T> = (Held<'a>, Task, T, Came<'a>);
 
 /// The line on which the turns are taken.
 pub const LINE: u32 = 4;
@@ -313,7 +313,7 @@ fn comes(
 }
 
 /// Takes a turn, and says whether this comes of it.
-fn turn_holds<T: Turn>(
+fn turn_holds<T: BodyTurn>(
     alloc: Global,
     program: &Program,
     work: &mut Work,
@@ -330,11 +330,11 @@ fn turn_holds<T: Turn>(
 }
 
 /// Takes the turn of a row, and says whether what comes of it is that of the row.
-fn row_holds<T: Turn>(
+fn row_holds<T: BodyTurn>(
     alloc: Global,
     program: &Program,
     input: &[u8],
-    row: &Row<T>,
+    row: &TurnRow<T>,
 ) -> Result<bool, Halt> {
     let (held, task, turn, came) = row;
     let machine = blank_machine(alloc, input)?;
@@ -344,11 +344,11 @@ fn row_holds<T: Turn>(
 }
 
 /// Takes the turns, each on a machine of its own with this input, and compares what comes of them.
-pub fn rows_hold<T: Turn>(
+pub fn rows_hold<T: BodyTurn>(
     rt: &impl Abort,
     alloc: Global,
     input: &[u8],
-    rows: &[Row<T>],
+    rows: &[TurnRow<T>],
 ) -> Result<(), Halt> {
     let program = table(alloc)?;
     for (number, row) in rows.iter().enumerate() {
