@@ -4,6 +4,7 @@
 #![tactic(auto)]
 
 pub mod breaks;
+pub mod items;
 pub mod regions;
 pub mod required;
 pub mod tables;

@@ -11,7 +11,8 @@ use Rattle.program_tables.specs.declared.rows.Row.TheVariants as row
 use Rattle.program_tables.specs.declared.rows.NameRow.TheVariants as named
 use Rattle.program_tables.specs.declared.rows.PartRow.TheVariants as part
 use Rattle.program_tables.specs.declared.rows.ItemRow.TheVariants as item
-use Rattle.check_steps.specs.Known.{Known, is_chosen, row_at, type_at}
+use Rattle.check_steps.specs.Known.{Known, is_chosen, type_at}
+use Rattle.check_steps.specs.Items.{add_item}
 use Rattle.check_steps.specs.Steps.{Step, give, ◌>>=◌, add_chosen, look, late, put, each}
 use Rattle.pas_places.specs.Denoters.{first_of_constant}
 use Rattle.kind_checker.specs.declared.constants.ConstantValue.{ConstantValue}
@@ -60,18 +61,9 @@ abbrev pub value_if : Bool → Option ConstantValue → Option ℤ
 value_if true (Some (Ordinal of' value)) = Some value
 value_if ok v = None
 
--- an item of a list goes on at this number
-abbrev pub going_on : Row → ℕ → Row
-going_on (row.Item (item.Choice value chosen end)) next = row.Item (item.Choice value chosen next)
-going_on r next = r
-
 -- One more value, at a slot after the last one: no item stands at the constant's first token, so the list ends there.
 unfoldable pub add_choice : ℤ → ℕ → ℕ → ℕ → ℕ → Step ℕ
-add_choice value chosen last slot end = do
-  before ← look (λ k. going_on (row_at k last) slot)
-  _ ← put last before
-  _ ← put slot (row.Item (item.Choice value chosen end))
-  give slot
+add_choice value chosen last slot end = add_item last slot (item.Choice value chosen end)
 
 -- the same, with the value put down for the list
 unfoldable pub chosen_value : ℕ → ℤ → ℕ → ℕ → ℕ → ℕ → Step ℕ

@@ -3,11 +3,11 @@
 ghost use Rattle.std.specs.Prelude.{◌≡◌, IfOk};
 ghost use Rattle.check_steps.specs.Steps.{Does, each};
 ghost use Rattle.denoter_checker.specs.Variants.{add_choice, arm_choices, case_constant, choices, choosing_at};
-ghost use Rattle.denoter_checker.specs.Variants.{chosen_value};
-ghost use Rattle.denoter_checker.specs.Variants.{going_on, hidden_tag, is_choice, listed_choice, named_tag};
+ghost use Rattle.denoter_checker.specs.Variants.{chosen_value, hidden_tag, is_choice, listed_choice, named_tag};
 ghost use Rattle.denoter_checker.specs.Variants.{next_arm_choices, next_choice, nothing_listed, one_more, tag_part};
 ghost use Rattle.denoter_checker.specs.Variants.{tag_type, value_if, variant_part};
 
+use check_steps::items::put_item;
 use check_steps::{Tables, Work};
 use kind_checker::ConstantValue;
 use kind_checker::constants::check_constant;
@@ -121,32 +121,16 @@ fn value_if(fine: bool, value: Option<ConstantValue>) -> Option<i32>
     }
 }
 
-fn going_on(row: Row, next: u32) -> Row
-    ensures { result ≡ going_on row next }
-{
-    match row {
-        Row::Item(ItemRow::Choice { value, chosen, .. }) => Row::Item(ItemRow::Choice {
-            value,
-            chosen,
-            next,
-        }),
-        _ => row,
-    }
-}
-
 #[tactic(auto, using(check_steps::proofs::Runs::steps), unfolding(crate::specs::Variants::add_choice))]
 fn add_choice(work: &mut Work, value: i32, chosen: u32, last: u32, slot: u32, end: u32) -> u32
     ensures { Does (add_choice value chosen last slot end) result work.old work.new }
 {
-    let before = going_on(work.tables.row(last), slot);
-    work.put(last, before);
     let item = ItemRow::Choice {
         value,
         chosen,
         next: end,
     };
-    work.put(slot, Row::Item(item));
-    slot
+    put_item(work, last, slot, item)
 }
 
 /// A value that a choice has, beside the list that it belongs to and what it chooses.

@@ -18,6 +18,7 @@ use Rattle.program_tables.specs.declared.rows.TextFile.{TextFile}
 use Rattle.program_tables.specs.declared.rows.TextFile.TheVariants.{Input, Output}
 use Rattle.check_steps.specs.declared.regions.Found.{Found}
 use Rattle.check_steps.specs.Known.{Known, find, name_at, row_at}
+use Rattle.check_steps.specs.Items.{add_item, link}
 use Rattle.check_steps.specs.Names.{usable, use_at}
 use Rattle.check_steps.specs.Steps.{Step, give, ◌>>=◌, look, late}
 use Rattle.type_relations.specs.declared.headings.FormalSection.{FormalSection}
@@ -26,7 +27,7 @@ use Rattle.type_relations.specs.declared.shapes.ExpressionType.{ExpressionType}
 use Rattle.type_relations.specs.declared.shapes.ExpressionType.TheVariants as expression
 use Rattle.type_relations.specs.declared.shapes.Shape.{Shape}
 use Rattle.type_relations.specs.Headings.{congruous, section_at}
-use Rattle.type_relations.specs.Operators.{is_operand, is_ordinal, is_unknown}
+use Rattle.type_relations.specs.Operators.{is_operand, is_ordinal, is_unknown_shape}
 use Rattle.type_relations.specs.Shapes.{is_assignable, is_same_type, shape_of}
 use Rattle.expression_checker.specs.declared.actuals.Argument.{Argument}
 use Rattle.expression_checker.specs.declared.actuals.ExpectedFormal.{ExpectedFormal}
@@ -42,7 +43,6 @@ use Rattle.operand_checker.specs.declared.typed.Location.{Location}
 use Rattle.operand_checker.specs.declared.typed.Location.TheVariants as location
 use Rattle.operand_checker.specs.declared.typed.Typed.{Typed}
 use Rattle.expression_checker.specs.Callees.{callee_of}
-use Rattle.operand_checker.specs.Items.{add_item, link}
 use Rattle.operand_checker.specs.Threats.{threat_alone}
 use Rattle.operand_checker.specs.Typed.{unknown_at}
 
@@ -84,7 +84,7 @@ is_free l = false
 -- An access of the same type, no component of a packed variable and no tag field. An actual of unknown type breaks no
 -- further rule.
 abbrev pub is_variable_actual : Known → ℕ → Typed → Bool
-is_variable_actual k t v = is_unknown (shape_of k v.of) || (is_free v.location && is_of_type k t v.of)
+is_variable_actual k t v = is_unknown_shape (shape_of k v.of) || (is_free v.location && is_of_type k t v.of)
 
 -- abs, sqr, odd and chr take an integer; ord, succ and pred an ordinal
 abbrev pub is_argument : OrdinalFunction → Shape → Bool
@@ -98,8 +98,8 @@ abbrev pub is_actual : Known → ExpectedFormal → Typed → Bool
 is_actual k formal.Unknown v = true
 is_actual k (formal.Value of') v = is_assignable k of' v.of
 is_actual k (formal.Variable of') v = is_variable_actual k of' v
-is_actual k (formal.Routine heading) v = is_unknown (shape_of k v.of)
-is_actual k formal.File v = is_unknown (shape_of k v.of)
+is_actual k (formal.Routine heading) v = is_unknown_shape (shape_of k v.of)
+is_actual k formal.File v = is_unknown_shape (shape_of k v.of)
 is_actual k (formal.Operand f) v = is_argument f (shape_of k v.of)
 
 -- rule 27: a value actual is not assignment-compatible
@@ -225,9 +225,14 @@ threat_by frame f name = give tt
 
 -- ---- lists of actuals
 
+-- an actual's item, if it has one, at the end of its list; where the last one stands is given
+abbrev pub item_if_any : ℕ → ℕ → Option ItemRow → Step ℕ
+item_if_any last slot None = give last
+item_if_any last slot (Some i) = add_item last slot i
+
 unfoldable pub passed : Passing → ℕ → Argument → Step Passing
 passed p slot a = do
-  last ← add_item p.last slot a.item
+  last ← item_if_any p.last slot a.item
   next ← look (λ k. formals_after k p.formals)
   give (record { last = last; formals = next; value = a.value })
 

@@ -5,20 +5,20 @@ ghost use Rattle.check_steps.specs.Steps.{Does};
 ghost use Rattle.expression_checker.specs.Actuals.{access_name, after_section, argued, actuals_end, factor_name};
 ghost use Rattle.expression_checker.specs.Actuals.{file_argued, file_in, file_of, formal_at, formal_in, formals_after};
 ghost use Rattle.expression_checker.specs.Actuals.{is_actual, is_argument, is_congruous, is_free, is_input, is_of_type};
-ghost use Rattle.expression_checker.specs.Actuals.{is_variable_actual, item_of, lone_file};
+ghost use Rattle.expression_checker.specs.Actuals.{is_variable_actual, item_if_any, item_of, lone_file};
 ghost use Rattle.expression_checker.specs.Actuals.{lone_of, name_alone, name_if, name_of_if, operand_in, passed};
 ghost use Rattle.expression_checker.specs.Actuals.{routine_argued, routine_item, rule_of, simple_name, term_name};
 ghost use Rattle.expression_checker.specs.Actuals.{threat_by};
 
 use crate::callees::{Callee, ExpectedFormals, callee_of};
+use check_steps::items::{put_item, put_link};
 use check_steps::{Found, Tables, Work};
-use operand_checker::items::{put_item, put_link};
 use operand_checker::threats::check_threat_alone;
 use operand_checker::typed::{Location, Typed, unknown_at};
 use pas_tree::expressions::{Access, Expression, Factor, Simple, Term};
 use program_tables::rows::{INTEGER, ItemRow, Mode, NameRow, OrdinalFunction, Row, TextFile};
 use type_relations::headings::{FormalSection, congruous, section_at};
-use type_relations::operators::{is_operand, is_ordinal, is_unknown};
+use type_relations::operators::{is_operand, is_ordinal, is_unknown_shape};
 use type_relations::shapes::{is_assignable, is_same_type, shape_of};
 use type_relations::{ExpressionType, Shape};
 
@@ -151,7 +151,7 @@ fn is_free(location: Location) -> bool
 fn is_variable_actual(tables: &Tables, kind: u32, value: Typed) -> bool
     ensures { result ≡ is_variable_actual tables.now kind value }
 {
-    is_unknown(shape_of(tables, value.of))
+    is_unknown_shape(shape_of(tables, value.of))
         || (is_free(value.location) && is_of_type(tables, kind, value.of))
 }
 
@@ -173,8 +173,8 @@ fn is_actual(tables: &Tables, formal: ExpectedFormal, value: Typed) -> bool
         ExpectedFormal::Unknown => true,
         ExpectedFormal::Value(kind) => is_assignable(tables, kind, value.of),
         ExpectedFormal::Variable(kind) => is_variable_actual(tables, kind, value),
-        ExpectedFormal::Routine(_) => is_unknown(shape_of(tables, value.of)),
-        ExpectedFormal::File => is_unknown(shape_of(tables, value.of)),
+        ExpectedFormal::Routine(_) => is_unknown_shape(shape_of(tables, value.of)),
+        ExpectedFormal::File => is_unknown_shape(shape_of(tables, value.of)),
         ExpectedFormal::Operand(function) => is_argument(function, shape_of(tables, value.of)),
     }
 }
@@ -419,6 +419,16 @@ pub(crate) fn check_threat_by(
     }
 }
 
+#[tactic(auto, using(check_steps::proofs::Runs::steps))]
+fn put_if_any(work: &mut Work, last: u32, slot: u32, item: Option<ItemRow>) -> u32
+    ensures { Does (item_if_any last slot item) result work.old work.new }
+{
+    match item {
+        None => last,
+        Some(item) => put_item(work, last, slot, item),
+    }
+}
+
 /// One more actual parameter of a list, at a slot.
 #[tactic(auto, using(check_steps::proofs::Runs::steps), unfolding(crate::specs::Actuals::passed))]
 pub(crate) fn check_passed(
@@ -429,7 +439,7 @@ pub(crate) fn check_passed(
 ) -> Passing
     ensures { Does (passed passing slot argument) result work.old work.new }
 {
-    let last = put_item(work, passing.last, slot, argument.item);
+    let last = put_if_any(work, passing.last, slot, argument.item);
     let formals = formals_after(&work.tables, passing.formals);
     Passing {
         last,

@@ -2,6 +2,5 @@ pub mod Typed
 pub mod Operations
 pub mod Names
 pub mod Selectors
-pub mod Items
 pub mod Members
 pub mod Threats

@@ -9,12 +9,12 @@ use Rattle.type_relations.specs.declared.shapes.ExpressionType.TheVariants as ex
 use Rattle.type_relations.specs.declared.shapes.Packing.TheVariants.{Either}
 use Rattle.type_relations.specs.declared.shapes.Shape.{Shape}
 use Rattle.type_relations.specs.declared.shapes.Shape.TheVariants as shape
-use Rattle.type_relations.specs.Operators.{is_unknown}
+use Rattle.type_relations.specs.Operators.{is_unknown_shape}
 use Rattle.type_relations.specs.Shapes.{shape_of}
 use Rattle.operand_checker.specs.declared.members.MemberStart.{MemberStart}
 use Rattle.operand_checker.specs.declared.members.Gathered.{Gathered}
 use Rattle.operand_checker.specs.declared.typed.Typed.{Typed}
-use Rattle.operand_checker.specs.Items.{add_item, link}
+use Rattle.check_steps.specs.Items.{add_item, link}
 use Rattle.operand_checker.specs.Typed.{typed_value}
 
 -- ordinal, and of the host of those before
@@ -25,7 +25,7 @@ is_member host s = false
 
 -- A member of unknown type breaks no further rule.
 abbrev pub fits_members : Option ℕ → Shape → Bool
-fits_members host s = is_unknown s || is_member host s
+fits_members host s = is_unknown_shape s || is_member host s
 
 -- the host of the members, with one more
 abbrev pub host_with : Option ℕ → Shape → Option ℕ
@@ -45,7 +45,7 @@ unfoldable pub one_member : Gathered → MemberStart → Step Gathered
 one_member g b = do
   s ← look (λ k. shape_of k b.value.of)
   _ ← late 31 b.first (fits_members g.host s)
-  last ← add_item g.last b.slot (Some (item.Member b.value.row 0))
+  last ← add_item g.last b.slot (item.Member b.value.row 0)
   give (gathered_with g last s)
 
 -- the same of a range, whose last value may be the wrong one
@@ -54,7 +54,7 @@ member_range g b v = do
   s ← look (λ k. shape_of k b.value.of)
   t ← look (λ k. shape_of k v.of)
   _ ← late 31 b.first (fits_members g.host s && fits_members (host_with g.host s) t)
-  last ← add_item g.last b.slot (Some (item.Members b.value.row v.row 0))
+  last ← add_item g.last b.slot (item.Members b.value.row v.row 0)
   give (gathered_with (gathered_with g last s) last t)
 
 -- A constructor with a member that is wrong or unknown is of unknown type.

@@ -65,6 +65,11 @@ with_position k frame = (frame_at k frame).withs - 1
 
 -- ---- names
 
+-- a field, or a tag, of the record of a with statement
+abbrev pub field_meaning : Known → Found → ℕ → Location → Meaning
+field_meaning k f of' l =
+    meaning.Variable (accessed.Within (with_position k f.frame) f.definition.token of') of' l
+
 -- what a name stands for by its row, seen from a frame
 abbrev pub meaning_in : Known → ℕ → Found → Row → Meaning
 meaning_in k frame f (row.Name (named.Constant of' v)) = meaning.Constant (Some (value.Ordinal of' v))
@@ -73,10 +78,8 @@ meaning_in k frame f row.Nothing = meaning.Constant None
 meaning_in k frame f (row.Name (named.Variable m of' place level)) =
     meaning.Variable (variable_row m place (levels_to k frame level) of') of' location.Variable
 meaning_in k frame f (row.Name (named.Field of' offset holder)) =
-    meaning.Variable (accessed.Within (with_position k f.frame) f.definition.token of') of'
-    (component_if (is_packed k holder))
-meaning_in k frame f (row.Name (named.Tag of' offset holder variants)) =
-    meaning.Variable (accessed.Within (with_position k f.frame) f.definition.token of') of' location.Component
+    field_meaning k f of' (component_if (is_packed k holder))
+meaning_in k frame f (row.Name (named.Tag of' offset holder variants)) = field_meaning k f of' location.Component
 meaning_in k frame f r = meaning.Other
 
 abbrev pub meaning_of : Known → ℕ → Option Found → Meaning

@@ -2,7 +2,6 @@
 //! of set constructors are, once the parts of these are checked.
 #![tactic(auto)]
 
-pub mod items;
 pub mod members;
 pub mod names;
 pub mod operations;

@@ -5,11 +5,11 @@ ghost use Rattle.check_steps.specs.Steps.{Does};
 ghost use Rattle.operand_checker.specs.Members.{fits_members, gathered_type, gathered_with, host_with, is_member};
 ghost use Rattle.operand_checker.specs.Members.{member_range, nothing_gathered, one_member, set_constructor};
 
-use crate::items::{put_item, put_link};
 use crate::typed::{Typed, typed_value};
 use check_steps::Work;
+use check_steps::items::{put_item, put_link};
 use program_tables::rows::{ExpressionRow, ItemRow, Row};
-use type_relations::operators::is_unknown;
+use type_relations::operators::is_unknown_shape;
 use type_relations::shapes::shape_of;
 use type_relations::{ExpressionType, Packing, Shape};
 
@@ -47,7 +47,7 @@ fn is_member(host: Option<u32>, shape: Shape) -> bool
 fn fits_members(host: Option<u32>, shape: Shape) -> bool
     ensures { result ≡ fits_members host shape }
 {
-    is_unknown(shape) || is_member(host, shape)
+    is_unknown_shape(shape) || is_member(host, shape)
 }
 
 fn host_with(host: Option<u32>, shape: Shape) -> Option<u32>
@@ -91,7 +91,7 @@ pub fn check_one_member(work: &mut Work, gathered: Gathered, begun: MemberStart)
         value: begun.value.row,
         next: 0,
     };
-    let last = put_item(work, gathered.last, begun.slot, Some(item));
+    let last = put_item(work, gathered.last, begun.slot, item);
     gathered_with(gathered, last, shape)
 }
 
@@ -115,7 +115,7 @@ pub fn check_member_range(
         last: end.row,
         next: 0,
     };
-    let last = put_item(work, gathered.last, begun.slot, Some(item));
+    let last = put_item(work, gathered.last, begun.slot, item);
     gathered_with(gathered_with(gathered, last, shape), last, other)
 }
 

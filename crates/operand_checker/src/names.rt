@@ -2,9 +2,9 @@
 
 ghost use Rattle.std.specs.Prelude.{◌≡◌};
 ghost use Rattle.check_steps.specs.Steps.{Does};
-ghost use Rattle.operand_checker.specs.Names.{accessed_as, component_if, holder_in, is_packed, is_packed_record};
-ghost use Rattle.operand_checker.specs.Names.{is_variable, levels_to, meaning_in, meaning_of, variable, variable_row};
-ghost use Rattle.operand_checker.specs.Names.{with_position};
+ghost use Rattle.operand_checker.specs.Names.{accessed_as, component_if, field_meaning, holder_in, is_packed};
+ghost use Rattle.operand_checker.specs.Names.{is_packed_record, is_variable, levels_to, meaning_in, meaning_of};
+ghost use Rattle.operand_checker.specs.Names.{variable, variable_row, with_position};
 
 use crate::typed::{Location, Typed, unknown_at};
 use check_steps::{Found, Tables, Work};
@@ -98,6 +98,20 @@ fn with_position(tables: &Tables, frame: u32) -> u32
     tables.frame(frame).withs.saturating_sub(1)
 }
 
+fn field_meaning(tables: &Tables, found: Found, of: u32, location: Location) -> Meaning
+    ensures { result ≡ field_meaning tables.now found of location }
+{
+    Meaning::Variable {
+        row: AccessRow::Within {
+            record: with_position(tables, found.frame),
+            field: found.definition.token,
+            of,
+        },
+        of,
+        location,
+    }
+}
+
 fn meaning_in(tables: &Tables, frame: u32, found: Found, row: Row) -> Meaning
     ensures { result ≡ meaning_in tables.now frame found row }
 {
@@ -121,24 +135,12 @@ fn meaning_in(tables: &Tables, frame: u32, found: Found, row: Row) -> Meaning
             of,
             location: Location::Variable,
         },
-        Row::Name(NameRow::Field { of, holder, .. }) => Meaning::Variable {
-            row: AccessRow::Within {
-                record: with_position(tables, found.frame),
-                field: found.definition.token,
-                of,
-            },
-            of,
-            location: component_if(is_packed(tables, holder)),
-        },
-        Row::Name(NameRow::Tag { of, .. }) => Meaning::Variable {
-            row: AccessRow::Within {
-                record: with_position(tables, found.frame),
-                field: found.definition.token,
-                of,
-            },
-            of,
-            location: Location::Component,
-        },
+        Row::Name(NameRow::Field { of, holder, .. }) => {
+            field_meaning(tables, found, of, component_if(is_packed(tables, holder)))
+        }
+        Row::Name(NameRow::Tag { of, .. }) => {
+            field_meaning(tables, found, of, Location::Component)
+        }
         _ => Meaning::Other,
     }
 }

@@ -4,14 +4,10 @@ use Rattle.pas_tree.specs.declared.statements.Actuals.{Actuals}
 use Rattle.pas_tree.specs.declared.statements.NextActual.{NextActual}
 use Rattle.pas_tree.specs.declared.statements.Actual.{Actual}
 use Rattle.pas_tree.specs.declared.statements.Width.{Width}
-use Rattle.program_tables.specs.declared.rows.ItemRow.{ItemRow}
-use Rattle.program_tables.specs.declared.rows.ItemRow.TheVariants as item
-use Rattle.program_tables.specs.declared.rows.Row.{Row}
-use Rattle.program_tables.specs.declared.rows.Row.TheVariants as row
 use Rattle.program_tables.specs.declared.rows.TextFile.{TextFile}
-use Rattle.check_steps.specs.Known.{Known, find, name_at, row_at}
+use Rattle.check_steps.specs.Known.{Known, find, name_at}
 use Rattle.check_steps.specs.Names.{usable}
-use Rattle.check_steps.specs.Steps.{Step, give, ◌>>=◌, look, late, put, each}
+use Rattle.check_steps.specs.Steps.{Step, give, ◌>>=◌, late, each}
 use Rattle.operand_checker.specs.declared.typed.Typed.{Typed}
 use Rattle.expression_checker.specs.Actuals.{file_of, name_alone}
 use Rattle.expression_checker.specs.Expressions.{expression}
@@ -74,25 +70,3 @@ file_without (Some w) file = None
 -- the text file that an actual names, which is a name alone and has no width
 abbrev pub actual_file : Known → ℕ → Actual → Option TextFile
 actual_file k frame a = file_without a.width (named_file k frame (name_alone a.expression))
-
--- ---- lists of actuals
-
--- an item of a list goes on at this number
-abbrev pub going_on : Row → ℕ → Row
-going_on (row.Item (item.Element v end)) next = row.Item (item.Element v next)
-going_on (row.Item (item.Written v of' end)) next = row.Item (item.Written v of' next)
-going_on (row.Item (item.WrittenWide v of' width end)) next = row.Item (item.WrittenWide v of' width next)
-going_on r next = r
-
--- the last item of a list goes on at a number, at which the next one stands or the list ends
-unfoldable pub link : ℕ → ℕ → Step (Unit {0})
-link last next = do
-  r ← look (λ k. going_on (row_at k last) next)
-  put last r
-
--- one more item at a slot after the last one
-unfoldable pub add_item : ℕ → ℕ → ItemRow → Step ℕ
-add_item last slot i = do
-  _ ← link last slot
-  _ ← put slot (row.Item i)
-  give slot

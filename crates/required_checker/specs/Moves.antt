@@ -14,7 +14,7 @@ use Rattle.check_steps.specs.Known.{Known}
 use Rattle.check_steps.specs.Steps.{Step, give, ◌>>=◌, look, late, too_big}
 use Rattle.pas_places.specs.Expressions.{first_of_expression}
 use Rattle.type_relations.specs.declared.shapes.ExpressionType.{ExpressionType}
-use Rattle.type_relations.specs.Operators.{is_unknown}
+use Rattle.type_relations.specs.Operators.{is_unknown_shape}
 use Rattle.type_relations.specs.Shapes.{is_assignable, is_same_type, shape_of}
 use Rattle.operand_checker.specs.declared.typed.Typed.{Typed}
 use Rattle.operand_checker.specs.Selectors.{type_row}
@@ -41,11 +41,11 @@ domain_of k v = domain_or (domain_in (type_row k v.of)) v.row
 
 -- Nil has no pointer type of its own. What is of unknown type breaks no further rule.
 abbrev pub is_pointer : Known → Typed → Bool
-is_pointer k v = is_unknown (shape_of k v.of) || is_some (domain_in (type_row k v.of))
+is_pointer k v = is_unknown_shape (shape_of k v.of) || is_some (domain_in (type_row k v.of))
 
 -- New takes an access.
 abbrev pub is_made : Known → Typed → Bool
-is_made k v = is_unknown (shape_of k v.of) || (is_access v.location && is_some (domain_in (type_row k v.of)))
+is_made k v = is_unknown_shape (shape_of k v.of) || (is_access v.location && is_some (domain_in (type_row k v.of)))
 
 -- rule 32: what new takes is no access of a pointer type, at its first token; or the new variable would have more than
 -- 65,536 cells
@@ -101,7 +101,7 @@ index_in r = None
 
 -- an access of an array type that is packed or not; what is of unknown type breaks no further rule
 abbrev pub is_array : Known → Bool → Typed → Bool
-is_array k wanted v = is_unknown (shape_of k v.of)
+is_array k wanted v = is_unknown_shape (shape_of k v.of)
     || (is_access v.location && is_some (component_type_in wanted (type_row k v.of)))
 
 abbrev pub same_or : Known → Option ℕ → Option ℕ → Bool

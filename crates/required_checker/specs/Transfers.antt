@@ -19,7 +19,7 @@ use Rattle.type_relations.specs.declared.shapes.ExpressionType.{ExpressionType}
 use Rattle.type_relations.specs.declared.shapes.ExpressionType.TheVariants as expression
 use Rattle.type_relations.specs.declared.shapes.Shape.{Shape}
 use Rattle.type_relations.specs.declared.shapes.Shape.TheVariants as shape
-use Rattle.type_relations.specs.Operators.{is_of_host, is_operand, is_unknown}
+use Rattle.type_relations.specs.Operators.{is_of_host, is_operand, is_unknown_shape}
 use Rattle.type_relations.specs.Shapes.{shape_of}
 use Rattle.operand_checker.specs.declared.typed.Location.{Location}
 use Rattle.operand_checker.specs.declared.typed.Location.TheVariants as location
@@ -31,7 +31,8 @@ use Rattle.statement_rules.specs.Sequences.{stated}
 use Rattle.required_checker.specs.declared.actuals.RequiredCall.{RequiredCall}
 use Rattle.required_checker.specs.declared.transfers.Transfer.{Transfer}
 use Rattle.required_checker.specs.declared.transfers.Transfer.TheVariants.{Reading, Writing}
-use Rattle.required_checker.specs.Actuals.{add_item, actual_file, link, plain_actual, wrong_number}
+use Rattle.check_steps.specs.Items.{add_item, link}
+use Rattle.required_checker.specs.Actuals.{actual_file, plain_actual, wrong_number}
 
 -- ---- what is read
 
@@ -41,7 +42,7 @@ is_access l = true
 
 -- An access of an integer or a char type, or of a subrange of one. What is of unknown type breaks no further rule.
 abbrev pub is_readable : Known → Typed → Bool
-is_readable k v = is_unknown (shape_of k v.of)
+is_readable k v = is_unknown_shape (shape_of k v.of)
     || (is_access v.location && (is_of_host 0 (shape_of k v.of) || is_of_host 2 (shape_of k v.of)))
 
 -- rule 32: an actual of read is no access of an integer or a char type, at its first token; a variable as a whole is
@@ -60,7 +61,7 @@ read_item frame last slot a = do
 abbrev pub is_writable : Shape → Bool
 is_writable (shape.Ordinal host) = nat_eq host 0 || nat_eq host 1 || nat_eq host 2
 is_writable (shape.Text length) = true
-is_writable s = is_unknown s
+is_writable s = is_unknown_shape s
 
 -- rule 33: a width is not an integer, at the `:`
 unfoldable pub width : ℕ → Width → Step ℕ
@@ -166,7 +167,7 @@ transfer_call t ends_line frame c (Some a) = transfer_with t ends_line frame c a
 unfoldable pub page_other : ℕ → Actual → Step (Unit {0})
 page_other frame a = do
   v ← plain_actual frame a
-  fine ← look (λ k. is_unknown (shape_of k v.of))
+  fine ← look (λ k. is_unknown_shape (shape_of k v.of))
   late 32 (first_of_expression a.expression) fine
 
 -- rule 32: what page takes is not the output, at its first token

@@ -3,7 +3,7 @@
 ghost use Rattle.std.specs.Prelude.{◌≡◌};
 ghost use Rattle.check_steps.specs.Steps.{Does, each};
 ghost use Rattle.expression_checker.specs.Actuals.{file_of};
-ghost use Rattle.required_checker.specs.Actuals.{add_item, actual_file, file_without, going_on, link, named_file};
+ghost use Rattle.required_checker.specs.Actuals.{actual_file, file_without, named_file};
 ghost use Rattle.required_checker.specs.Actuals.{next_plain, no_width, own_parts, plain_actual, surplus_width};
 ghost use Rattle.required_checker.specs.Actuals.{without_actuals, wrong_number};
 
@@ -12,7 +12,7 @@ use expression_checker::actuals::{file_of, name_alone};
 use expression_checker::expressions::check_expression;
 use operand_checker::Typed;
 use pas_tree::statements::{Actual, Actuals, NextActual, Width};
-use program_tables::rows::{ItemRow, Row, TextFile};
+use program_tables::rows::TextFile;
 
 /// A call of a required procedure.
 #[derive(Clone, Copy)]
@@ -119,48 +119,4 @@ pub(crate) fn actual_file(tables: &Tables, frame: u32, a: &Actual) -> Option<Tex
 {
     let file = named_file(tables, frame, name_alone(&a.expression));
     file_without(&a.width, file)
-}
-
-fn going_on(row: Row, next: u32) -> Row
-    ensures { result ≡ going_on row next }
-{
-    let Row::Item(item) = row else {
-        return row;
-    };
-    let item = match item {
-        ItemRow::Element { item, .. } => ItemRow::Element { item, next },
-        ItemRow::Written { value, of, .. } => ItemRow::Written { value, of, next },
-        ItemRow::WrittenWide {
-            value,
-            of,
-            width,
-            ..
-        } => ItemRow::WrittenWide {
-            value,
-            of,
-            width,
-            next,
-        },
-        _ => item,
-    };
-    Row::Item(item)
-}
-
-/// The last item of a list goes on at a number, at which the next one stands or the list ends.
-#[tactic(auto, using(check_steps::proofs::Runs::steps), unfolding(crate::specs::Actuals::link))]
-pub(crate) fn put_link(work: &mut Work, last: u32, next: u32)
-    ensures { Does (link last next) tt work.old work.new }
-{
-    let row = going_on(work.tables.row(last), next);
-    work.put(last, row);
-}
-
-/// One more item of a list, at a slot after the last one.
-#[tactic(auto, using(check_steps::proofs::Runs::steps), unfolding(crate::specs::Actuals::add_item))]
-pub(crate) fn put_item(work: &mut Work, last: u32, slot: u32, item: ItemRow) -> u32
-    ensures { Does (add_item last slot item) result work.old work.new }
-{
-    put_link(work, last, slot);
-    work.put(slot, Row::Item(item));
-    slot
 }

@@ -20,7 +20,7 @@ use pas_tree::statements::{Actual, Actuals, NextActual};
 use program_tables::rows::{StatementRow, TypeRow};
 use statement_rules::sequences::put_statement;
 use type_relations::ExpressionType;
-use type_relations::operators::is_unknown;
+use type_relations::operators::is_unknown_shape;
 use type_relations::shapes::{is_assignable, is_same_type, shape_of};
 
 /// An actual parameter that is checked.
@@ -58,13 +58,13 @@ fn domain_of(tables: &Tables, value: Typed) -> u32
 fn is_pointer(tables: &Tables, value: Typed) -> bool
     ensures { result ≡ is_pointer tables.now value }
 {
-    is_unknown(shape_of(tables, value.of)) || domain_in(type_row(tables, value.of)).is_some()
+    is_unknown_shape(shape_of(tables, value.of)) || domain_in(type_row(tables, value.of)).is_some()
 }
 
 fn is_made(tables: &Tables, value: Typed) -> bool
     ensures { result ≡ is_made tables.now value }
 {
-    is_unknown(shape_of(tables, value.of))
+    is_unknown_shape(shape_of(tables, value.of))
         || (is_access(value.location) && domain_in(type_row(tables, value.of)).is_some())
 }
 
@@ -192,7 +192,7 @@ fn index_in(row: Option<TypeRow>) -> Option<u32>
 fn is_array(tables: &Tables, wanted: bool, value: Typed) -> bool
     ensures { result ≡ is_array tables.now wanted value }
 {
-    is_unknown(shape_of(tables, value.of))
+    is_unknown_shape(shape_of(tables, value.of))
         || (is_access(value.location)
             && component_type_in(wanted, type_row(tables, value.of)).is_some())
 }

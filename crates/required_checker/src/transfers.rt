@@ -8,9 +8,8 @@ ghost use Rattle.required_checker.specs.Transfers.{page_one, page_other, page_so
 ghost use Rattle.required_checker.specs.Transfers.{transfer_alone, transfer_row, transfer_call, transfer_with, width};
 ghost use Rattle.required_checker.specs.Transfers.{write_item, written_item, written_type};
 
-use crate::actuals::{
-    RequiredCall, actual_file, check_plain, check_wrong_number, put_item, put_link,
-};
+use crate::actuals::{RequiredCall, actual_file, check_plain, check_wrong_number};
+use check_steps::items::{put_item, put_link};
 use check_steps::{Tables, Work};
 use expression_checker::actuals::name_alone;
 use expression_checker::expressions::check_expression;
@@ -20,7 +19,7 @@ use pas_places::first_of_expression;
 use pas_tree::statements::{Actual, Actuals, NextActual, Width};
 use program_tables::rows::{BOOLEAN, CHAR, INTEGER, ItemRow, StatementRow, TextFile};
 use statement_rules::sequences::put_statement;
-use type_relations::operators::{is_of_host, is_operand, is_unknown};
+use type_relations::operators::{is_of_host, is_operand, is_unknown_shape};
 use type_relations::shapes::shape_of;
 use type_relations::{ExpressionType, Shape};
 
@@ -44,7 +43,7 @@ fn is_readable(tables: &Tables, value: Typed) -> bool
     ensures { result ≡ is_readable tables.now value }
 {
     let shape = shape_of(tables, value.of);
-    is_unknown(shape)
+    is_unknown_shape(shape)
         || (is_access(value.location) && (is_of_host(INTEGER, shape) || is_of_host(CHAR, shape)))
 }
 
@@ -69,7 +68,7 @@ fn is_writable(shape: Shape) -> bool
     match shape {
         Shape::Ordinal(host) => host == INTEGER || host == BOOLEAN || host == CHAR,
         Shape::Text(_) => true,
-        _ => is_unknown(shape),
+        _ => is_unknown_shape(shape),
     }
 }
 
@@ -339,7 +338,7 @@ fn check_page_other(work: &mut Work, a: &Actual, frame: u32)
     ensures { Does (page_other frame a.now) tt work.old work.new }
 {
     let value = check_plain(work, a, frame);
-    let fine = is_unknown(shape_of(&work.tables, value.of));
+    let fine = is_unknown_shape(shape_of(&work.tables, value.of));
     work.late(32, first_of_expression(&a.expression), fine);
 }
 

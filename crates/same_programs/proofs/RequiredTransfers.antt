@@ -9,7 +9,7 @@ use Rattle.program_tables.specs.declared.rows.ItemRow.TheVariants as item
 use Rattle.program_tables.specs.declared.rows.StatementRow.TheVariants as statement
 use Rattle.program_tables.specs.declared.rows.TextFile.{TextFile}
 use Rattle.check_steps.specs.Steps.{give, ◌>>=◌, look, late}
-use Rattle.type_relations.specs.Operators.{is_operand, is_unknown}
+use Rattle.type_relations.specs.Operators.{is_operand, is_unknown_shape}
 use Rattle.type_relations.specs.Shapes.{shape_of}
 use Rattle.operand_checker.specs.declared.typed.Typed.{Typed}
 use Rattle.operand_checker.specs.Threats.{threat_alone}
@@ -17,7 +17,7 @@ use Rattle.statement_rules.specs.Sequences.{stated}
 use Rattle.required_checker.specs.declared.actuals.RequiredCall.{RequiredCall}
 use Rattle.required_checker.specs.declared.transfers.Transfer.{Transfer}
 use Rattle.required_checker.specs.declared.transfers.Transfer.TheVariants.{Reading, Writing}
-use Rattle.required_checker.specs.Actuals.{add_item, link}
+use Rattle.check_steps.specs.Items.{add_item, link}
 use Rattle.required_checker.specs.Transfers.{is_readable, read_item, is_writable, width, written_item, put_written, write_item, item_by, next_item, is_file_of}
 use Rattle.required_checker.specs.Transfers.{first_item, first_comma, list_of, items, transfer_row, is_enough, transfer_with, transfer_call, page_other, paged}
 use Rattle.required_checker.specs.Transfers.{page_one, page_some, page}
@@ -101,7 +101,7 @@ transferred-bare t ends_line frame c (Some a) = λ i. transfer_with-bare t ends_
 pub page_other-bare : (frame : ℕ) (a : Actual) → page_other frame (bare_actual a) ≡ page_other frame a
 unfolding page_other
 page_other-bare frame a =
-    λ i. plain_actual-bare frame a i >>= λ v. look (λ k. is_unknown (shape_of k v.of))
+    λ i. plain_actual-bare frame a i >>= λ v. look (λ k. is_unknown_shape (shape_of k v.of))
     >>= λ fine. late 32 (first_of_expression-bare a.expression i) fine
 
 pub paged-bare : (frame : ℕ) (a : Actual) (t : Option TextFile) → paged frame (bare_actual a) t ≡ paged frame a t

@@ -26,9 +26,9 @@ use Rattle.type_relations.specs.Shapes.{hosts_agree, packings_agree}
 
 -- ---- operands
 
-abbrev pub is_unknown : Shape → Bool
-is_unknown shape.Unknown = true
-is_unknown s = false
+abbrev pub is_unknown_shape : Shape → Bool
+is_unknown_shape shape.Unknown = true
+is_unknown_shape s = false
 
 -- of the ordinal type of this host
 abbrev pub is_of_host : ℕ → Shape → Bool
@@ -38,11 +38,11 @@ is_of_host host s = false
 -- of an ordinal type, if its type is known
 abbrev pub is_ordinal : Shape → Bool
 is_ordinal (shape.Ordinal host) = true
-is_ordinal s = is_unknown s
+is_ordinal s = is_unknown_shape s
 
 -- an operand of an ordinal type of this host, if its type is known
 abbrev pub is_operand : ℕ → Shape → Bool
-is_operand host s = is_unknown s || is_of_host host s
+is_operand host s = is_unknown_shape s || is_of_host host s
 
 -- ---- what an operator does with its operands
 
@@ -114,7 +114,7 @@ operation_of operator.In l r = member_of l r
 
 -- rule 30: the operands do not fit the operator. An operand of unknown type breaks no further rule.
 abbrev pub fits : Operator → Shape → Shape → Bool
-fits o l r = is_unknown l || is_unknown r || is_some (operation_of o l r)
+fits o l r = is_unknown_shape l || is_unknown_shape r || is_some (operation_of o l r)
 
 -- ---- what comes of it
 

@@ -1,7 +1,7 @@
 //! The operators (6.7.2): which operands fit which, and what comes of them.
 
 ghost use Rattle.std.specs.Prelude.{◌≡◌};
-ghost use Rattle.type_relations.specs.Operators.{equality, fits, is_of_host, is_operand, is_ordinal, is_unknown};
+ghost use Rattle.type_relations.specs.Operators.{equality, fits, is_of_host, is_operand, is_ordinal, is_unknown_shape};
 ghost use Rattle.type_relations.specs.Operators.{joined_packing};
 ghost use Rattle.type_relations.specs.Operators.{member_of, on_booleans, on_integers, on_sets, operation_of};
 ghost use Rattle.type_relations.specs.Operators.{operation_row, pointers_by, related, relates_sets, operation_type};
@@ -47,8 +47,8 @@ pub enum Operation {
 }
 
 /// Whether a broken rule leaves a type unknown.
-pub fn is_unknown(shape: Shape) -> bool
-    ensures { result ≡ is_unknown shape }
+pub fn is_unknown_shape(shape: Shape) -> bool
+    ensures { result ≡ is_unknown_shape shape }
 {
     match shape {
         Shape::Unknown => true,
@@ -62,7 +62,7 @@ pub fn is_ordinal(shape: Shape) -> bool
 {
     match shape {
         Shape::Ordinal(_) => true,
-        _ => is_unknown(shape),
+        _ => is_unknown_shape(shape),
     }
 }
 
@@ -80,7 +80,7 @@ pub fn is_of_host(host: u32, shape: Shape) -> bool
 pub fn is_operand(host: u32, shape: Shape) -> bool
     ensures { result ≡ is_operand host shape }
 {
-    is_unknown(shape) || is_of_host(host, shape)
+    is_unknown_shape(shape) || is_of_host(host, shape)
 }
 
 fn on_integers(operator: ArithOp, left: Shape, right: Shape) -> Option<Operation>
@@ -267,7 +267,9 @@ pub fn operation_of(operator: Operator, left: Shape, right: Shape) -> Option<Ope
 pub fn fits(operator: Operator, left: Shape, right: Shape) -> bool
     ensures { result ≡ fits operator left right }
 {
-    is_unknown(left) || is_unknown(right) || operation_of(operator, left, right).is_some()
+    is_unknown_shape(left)
+        || is_unknown_shape(right)
+        || operation_of(operator, left, right).is_some()
 }
 
 /// The type of what an operation gives.
