@@ -26,7 +26,7 @@ fn side(mark: u32, top: u32) -> Side {
 }
 
 /// What was done: the part of the inner call ends before the last two.
-fn log_of(alloc: Global) -> Result<Log, Fail> {
+pub(crate) fn log_of(alloc: Global) -> Result<Log, Fail> {
     let mut log = Log::new(alloc);
     for touch in [
         Touch::Read(12, Value::Place(5)),
@@ -78,7 +78,7 @@ fn values(alloc: Global, list: &[Value]) -> Result<Cells, Fail> {
 }
 
 /// The program calls F, which calls k.
-fn calls_of(alloc: Global) -> Result<Calls, Fail> {
+pub(crate) fn calls_of(alloc: Global) -> Result<Calls, Fail> {
     let mut calls = Calls::new(alloc, 3);
     calls.enter(0, values(alloc, &[Value::Nil])?, side(0, 0))?;
     let args = values(
@@ -98,29 +98,8 @@ fn calls_of(alloc: Global) -> Result<Calls, Fail> {
     Ok(calls)
 }
 
-#[test]
-fn cards(rt: HostRuntime) -> Result<(), Fail> {
-    let alloc = rt.alloc();
-    let program = table(alloc)?;
-    let log = log_of(alloc)?;
-    let calls = calls_of(alloc)?;
-    let mut items = Items::new(alloc);
-    items.push(104)?;
-    items.push(256)?;
-    let names = NameFinder::new(alloc, &program, 130, &log)?;
-    let from = Recorded {
-        program: &program,
-        tokens: 130,
-        names: &names,
-        calls: &calls,
-        log: &log,
-        items: &items,
-    };
-    let mut text = Bytes::new(alloc);
-    assert!(rt; write_if_told(alloc, &mut text, &from, 2)?);
-    assert!(rt; write_if_told(alloc, &mut text, &from, 1)?);
-    assert!(rt; write_if_told(alloc, &mut text, &from, 0)?);
-    let wanted = "call 2 k in call 1
+/// The cards of the calls, the inner one first.
+const CARDS: &str = "call 2 k in call 1
   reads g[red].a = 3
   reads g[red].case = 2
   reads F#1.v = at g[Green]
@@ -166,6 +145,29 @@ call 0 h
   gives \"A\\\"\\xc8\"
   returned
 ";
-    assert!(rt; text.as_slice() == wanted.as_bytes());
+
+#[test]
+fn cards(rt: HostRuntime) -> Result<(), Fail> {
+    let alloc = rt.alloc();
+    let program = table(alloc)?;
+    let log = log_of(alloc)?;
+    let calls = calls_of(alloc)?;
+    let mut items = Items::new(alloc);
+    items.push(104)?;
+    items.push(256)?;
+    let names = NameFinder::new(alloc, &program, 130, &log)?;
+    let from = Recorded {
+        program: &program,
+        tokens: 130,
+        names: &names,
+        calls: &calls,
+        log: &log,
+        items: &items,
+    };
+    let mut text = Bytes::new(alloc);
+    assert!(rt; write_if_told(alloc, &mut text, &from, 2)?);
+    assert!(rt; write_if_told(alloc, &mut text, &from, 1)?);
+    assert!(rt; write_if_told(alloc, &mut text, &from, 0)?);
+    assert!(rt; text.as_slice() == CARDS.as_bytes());
     Ok(())
 }

@@ -4,6 +4,12 @@
 #[cfg(test)]
 mod cards;
 #[cfg(test)]
+mod names;
+#[cfg(test)]
 mod tables;
 #[cfg(test)]
 mod told;
+#[cfg(test)]
+mod traces;
+#[cfg(test)]
+mod values;

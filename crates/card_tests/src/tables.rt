@@ -45,50 +45,37 @@ fn names_of(alloc: Global) -> Result<Vec<Vec<u8>>, Fail> {
     Ok(texts)
 }
 
-/// Puts a variable or a parameter at its token.
-fn variable(program: &mut Program, token: u32, mode: Mode, of: u32, place: u32, level: u32) {
-    program.put(
-        token,
-        Row::Name(NameRow::Variable {
-            mode,
-            of,
-            place,
-            level,
-        }),
-    );
-}
-
-/// Puts the types and what they are made of.
-fn types(program: &mut Program) {
-    program.put(
+/// The types and what they are made of, by their numbers.
+const TYPES: [(u32, Row); 14] = [
+    (
         0,
         Row::Type(TypeRow::Ordinal {
             least: -2147483647,
             greatest: 2147483647,
         }),
-    );
-    program.put(
+    ),
+    (
         1,
         Row::Type(TypeRow::Ordinal {
             least: 0,
             greatest: 1,
         }),
-    );
-    program.put(
+    ),
+    (
         2,
         Row::Type(TypeRow::Ordinal {
             least: 0,
             greatest: 255,
         }),
-    );
-    program.put(
+    ),
+    (
         10,
         Row::Type(TypeRow::Ordinal {
             least: 0,
             greatest: 1,
         }),
-    );
-    program.put(
+    ),
+    (
         20,
         Row::Type(TypeRow::Record {
             packed: false,
@@ -96,16 +83,16 @@ fn types(program: &mut Program) {
             cells: 4,
             variants: Some(25),
         }),
-    );
-    program.put(
+    ),
+    (
         21,
         Row::Name(NameRow::Field {
             of: 0,
             offset: 0,
             holder: 20,
         }),
-    );
-    program.put(
+    ),
+    (
         25,
         Row::Part(PartRow::Variants {
             hidden: true,
@@ -114,45 +101,45 @@ fn types(program: &mut Program) {
             values: 26,
             holder: 20,
         }),
-    );
-    program.put(
+    ),
+    (
         30,
         Row::Part(PartRow::Variant {
             variants: 25,
             position: 1,
         }),
-    );
-    program.put(
+    ),
+    (
         31,
         Row::Name(NameRow::Field {
             of: 2,
             offset: 2,
             holder: 30,
         }),
-    );
-    program.put(
+    ),
+    (
         40,
         Row::Part(PartRow::Variant {
             variants: 25,
             position: 2,
         }),
-    );
-    program.put(
+    ),
+    (
         41,
         Row::Name(NameRow::Field {
             of: 43,
             offset: 3,
             holder: 40,
         }),
-    );
-    program.put(
+    ),
+    (
         43,
         Row::Type(TypeRow::Set {
             packed: false,
             base: 10,
         }),
-    );
-    program.put(
+    ),
+    (
         50,
         Row::Type(TypeRow::Array {
             packed: false,
@@ -160,9 +147,149 @@ fn types(program: &mut Program) {
             component: 20,
             cells: 8,
         }),
-    );
-    program.put(55, Row::Type(TypeRow::Pointer { domain: 20 }));
-}
+    ),
+    (55, Row::Type(TypeRow::Pointer { domain: 20 })),
+];
+
+/// The variables, the headings and the formal parameters, by their tokens.
+const NAMES: [(u32, Row); 16] = [
+    (
+        60,
+        Row::Name(NameRow::Variable {
+            mode: Mode::Own,
+            of: 50,
+            place: 1,
+            level: 0,
+        }),
+    ),
+    (
+        62,
+        Row::Name(NameRow::Variable {
+            mode: Mode::Own,
+            of: 55,
+            place: 9,
+            level: 0,
+        }),
+    ),
+    (
+        64,
+        Row::Name(NameRow::Variable {
+            mode: Mode::Own,
+            of: 0,
+            place: 10,
+            level: 0,
+        }),
+    ),
+    (
+        70,
+        Row::Part(PartRow::Heading {
+            name: 71,
+            sections: 72,
+            result: None,
+        }),
+    ),
+    (
+        71,
+        Row::Name(NameRow::Routine {
+            assigned: false,
+            number: 1,
+            region: 3,
+        }),
+    ),
+    (
+        72,
+        Row::Item(ItemRow::Section {
+            mode: Mode::Place,
+            first: 74,
+            count: 1,
+            next: 77,
+        }),
+    ),
+    (
+        77,
+        Row::Item(ItemRow::Section {
+            mode: Mode::Value,
+            first: 78,
+            count: 1,
+            next: 80,
+        }),
+    ),
+    (
+        80,
+        Row::Item(ItemRow::RoutineSection {
+            heading: 81,
+            next: 85,
+        }),
+    ),
+    (
+        81,
+        Row::Part(PartRow::Heading {
+            name: 82,
+            sections: 81,
+            result: None,
+        }),
+    ),
+    (
+        74,
+        Row::Name(NameRow::Variable {
+            mode: Mode::Place,
+            of: 20,
+            place: 1,
+            level: 1,
+        }),
+    ),
+    (
+        78,
+        Row::Name(NameRow::Variable {
+            mode: Mode::Value,
+            of: 0,
+            place: 2,
+            level: 1,
+        }),
+    ),
+    (
+        82,
+        Row::Name(NameRow::RoutineFormal {
+            place: 3,
+            level: 1,
+            heading: 81,
+        }),
+    ),
+    (
+        90,
+        Row::Name(NameRow::Variable {
+            mode: Mode::Own,
+            of: 1,
+            place: 4,
+            level: 1,
+        }),
+    ),
+    (
+        100,
+        Row::Part(PartRow::Heading {
+            name: 101,
+            sections: 100,
+            result: Some(0),
+        }),
+    ),
+    (
+        101,
+        Row::Name(NameRow::Routine {
+            assigned: true,
+            number: 2,
+            region: 4,
+        }),
+    ),
+    (
+        103,
+        Row::Name(NameRow::Variable {
+            mode: Mode::Own,
+            of: 1,
+            place: 2,
+            level: 1,
+        }),
+    ),
+];
 
 /// A routine.
 fn routine(
@@ -184,90 +311,18 @@ fn routine(
     }
 }
 
+/// Puts rows at their numbers.
+fn put_rows(program: &mut Program, rows: &[(u32, Row)]) {
+    for (number, row) in rows {
+        program.put(*number, *row);
+    }
+}
+
 /// The program.
 pub(crate) fn table(alloc: Global) -> Result<Program, Fail> {
     let mut program = Program::new(alloc, 156, names_of(alloc)?)?;
-    types(&mut program);
-    variable(&mut program, 60, Mode::Own, 50, 1, 0);
-    variable(&mut program, 62, Mode::Own, 55, 9, 0);
-    variable(&mut program, 64, Mode::Own, 0, 10, 0);
-    program.put(
-        70,
-        Row::Part(PartRow::Heading {
-            name: 71,
-            sections: 72,
-            result: None,
-        }),
-    );
-    program.put(
-        71,
-        Row::Name(NameRow::Routine {
-            assigned: false,
-            number: 1,
-            region: 3,
-        }),
-    );
-    program.put(
-        72,
-        Row::Item(ItemRow::Section {
-            mode: Mode::Place,
-            first: 74,
-            count: 1,
-            next: 77,
-        }),
-    );
-    program.put(
-        77,
-        Row::Item(ItemRow::Section {
-            mode: Mode::Value,
-            first: 78,
-            count: 1,
-            next: 80,
-        }),
-    );
-    program.put(
-        80,
-        Row::Item(ItemRow::RoutineSection {
-            heading: 81,
-            next: 85,
-        }),
-    );
-    program.put(
-        81,
-        Row::Part(PartRow::Heading {
-            name: 82,
-            sections: 81,
-            result: None,
-        }),
-    );
-    variable(&mut program, 74, Mode::Place, 20, 1, 1);
-    variable(&mut program, 78, Mode::Value, 0, 2, 1);
-    program.put(
-        82,
-        Row::Name(NameRow::RoutineFormal {
-            place: 3,
-            level: 1,
-            heading: 81,
-        }),
-    );
-    variable(&mut program, 90, Mode::Own, 1, 4, 1);
-    program.put(
-        100,
-        Row::Part(PartRow::Heading {
-            name: 101,
-            sections: 100,
-            result: Some(0),
-        }),
-    );
-    program.put(
-        101,
-        Row::Name(NameRow::Routine {
-            assigned: true,
-            number: 2,
-            region: 4,
-        }),
-    );
-    variable(&mut program, 103, Mode::Own, 1, 2, 1);
+    put_rows(&mut program, &TYPES);
+    put_rows(&mut program, &NAMES);
     program.add_routine(routine(1, 0, 0, 11, None, 120))?;
     program.add_routine(routine(71, 70, 1, 5, None, 95))?;
     program.add_routine(routine(101, 100, 1, 3, Some(1), 105))?;

@@ -1,4 +1,4 @@
-// What no file can say: that the command ends in order wherever memory runs out, and that the native stack suffices.
+//! What no file can say: that the command ends in order wherever memory runs out, and that the native stack suffices.
 use debug_cli::ask_pascal;
 use edge_ports::{Page, Shelf, Tape};
 use std::alloc::Global;
@@ -12,8 +12,8 @@ const SHOWN: &[u8] =
     entry 2\nask 2 suspects 2 left 1\ncall 2 a in call 1\n  reads x = 1\n  changes x = 2\n  returned\n\
     not understood\n";
 
-// Serves `rt try --test --fail-alloc N -- little_memory`, in which the Nth allocation fails: the screen then gets a
-// first part of the session, and the status is 7. Where none fails it is a session like the worked cases.
+/// Serves `rt try --test --fail-alloc N -- little_memory`, in which the Nth allocation fails: the screen then gets a
+/// first part of the session, and the status is 7. Where none fails it is a session like the worked cases.
 #[test]
 fn little_memory(rt: HostRuntime) -> Result<(), Fail> {
     let alloc = rt.alloc();
@@ -29,7 +29,7 @@ fn little_memory(rt: HostRuntime) -> Result<(), Fail> {
     Ok(())
 }
 
-// What the command says of a program whose statement is this many repeats, each in the one before it.
+/// What the command says of a program whose statement is this many repeats, each in the one before it.
 fn said_of_repeats(alloc: Global, count: usize) -> Result<Page, Fail> {
     let mut source = Vec::from_slice(alloc, b"program p; begin ")?;
     for _ in 0..count {
@@ -48,7 +48,7 @@ fn said_of_repeats(alloc: Global, count: usize) -> Result<Page, Fail> {
     Ok(screen)
 }
 
-// What it is to say: each repeat is a line of the trace.
+/// What it is to say: each repeat is a line of the trace.
 fn found_in_repeats(alloc: Global, count: usize) -> Result<Vec<u8>, Fail> {
     let mut text = Vec::from_slice(alloc, b"call 0 p\n  returned\nfound call 0 p\n")?;
     for _ in 0..count {
@@ -58,8 +58,8 @@ fn found_in_repeats(alloc: Global, count: usize) -> Result<Vec<u8>, Fail> {
     Ok(text)
 }
 
-// The native stack suffices for statements nested 200 deep: repeats take the most of it, and more than the worked cases
-// have as Rattle's own compiler builds them.
+/// The native stack suffices for statements nested 200 deep: repeats take the most of it, and more than the worked
+/// cases have as Rattle's own compiler builds them.
 #[test]
 fn deepest_repeats(rt: HostRuntime) -> Result<(), Fail> {
     let taken = said_of_repeats(rt.alloc(), 198)?;

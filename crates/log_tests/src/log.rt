@@ -101,13 +101,23 @@ fn log_of(alloc: Global, kinds: &[Kind], entries: u32) -> Result<Log, Memory>
     Ok(log)
 }
 
+/// What is kept by address while an effect is found: maps, or, from 10,000 entries on, pages.
+#[derive(Clone, Copy, Debug)]
+enum By {
+    Maps,
+    Pages,
+}
+
 /// The effect of such a log.
-fn effect_of(alloc: Global, kinds: &[Kind], entries: u32) -> Result<Footprint, Memory>
+fn effect_of(alloc: Global, by: By, kinds: &[Kind], entries: u32) -> Result<Footprint, Memory>
     requires some { 0 < length kinds.now }
     requires few { entries ≤ 8000000 }
 {
     let log = log_of(alloc, kinds, entries)?;
-    effect(alloc, &log, 0, entries, 0, 0)
+    match by {
+        By::Maps => effect(alloc, &log, 0, entries, 0, 0),
+        By::Pages => effect_pages::effect(alloc, &log, 0, entries, 0, 0),
+    }
 }
 
 const THERE: Option<Seen> = Some(Seen::There);
@@ -131,7 +141,7 @@ type Row = (Kind, Kind, Option<Seen>, Option<Change>);
 
 fn rows_hold(rt: &impl Abort, alloc: Global, rows: &[Row]) -> Result<(), Memory> {
     for (first, second, seen, change) in rows {
-        let found = effect_of(alloc, &[*first, *second], 2)?;
+        let found = effect_of(alloc, By::Maps, &[*first, *second], 2)?;
         let reads = found.reads.len();
         if reads > 0 {
             let read = Some(found.reads.at(0));
@@ -214,7 +224,7 @@ fn a_block_is_made_again(rt: HostRuntime) -> Result<(), Fail> {
         (4, MADE, MADE, 6),
     ];
     for (entries, first, other, made) in rows {
-        let found = effect_of(rt.alloc(), &kinds, entries.min(4))?;
+        let found = effect_of(rt.alloc(), By::Maps, &kinds, entries.min(4))?;
         assert_eq!(rt; found.made, made, "after {entries}");
         assert_eq!(rt; found.reads.len(), 0, "after {entries}");
         assert_eq!(rt; found.changes.len(), 3, "after {entries}");
@@ -235,11 +245,13 @@ fn a_block_is_made_again(rt: HostRuntime) -> Result<(), Fail> {
 fn none_and_as_many_as_there_can_be(rt: HostRuntime) -> Result<(), Fail> {
     let kinds = [Kind::Read, Kind::Write, Kind::Look, Kind::Take];
     let rows = [
-        (0u32, None, None, 0, 0),
-        (8_000_000, held(1), set(7_999_998), 6, 2_000_000),
+        (By::Maps, 0u32, None, None, 0, 0),
+        (By::Pages, 0, None, None, 0, 0),
+        (By::Maps, 8_000_000, held(1), set(7_999_998), 6, 2_000_000),
+        (By::Pages, 12_000, held(1), set(11_998), 6, 3_000),
     ];
-    for (entries, seen, change, looked, taken) in rows {
-        let found = effect_of(rt.alloc(), &kinds, entries.min(8_000_000))?;
+    for (by, entries, seen, change, looked, taken) in rows {
+        let found = effect_of(rt.alloc(), by, &kinds, entries.min(8_000_000))?;
         let (reads, changes) = (found.reads.len(), found.changes.len());
         let read = if reads > 0 {
             Some(found.reads.at(0))
@@ -251,14 +263,22 @@ fn none_and_as_many_as_there_can_be(rt: HostRuntime) -> Result<(), Fail> {
         } else {
             None
         };
-        assert!(rt; reads <= 1 && changes <= 1, "{entries}");
-        assert_eq!(rt; read, seen.map(|seen| (ADDR, seen)), "{entries}");
-        assert_eq!(rt; changed, change.map(|change| (ADDR, change)), "{entries}");
-        assert_eq!(rt; (found.looked, found.taken), (looked, taken), "{entries}");
+        assert!(rt; reads <= 1 && changes <= 1, "{by:?}, {entries}");
+        assert_eq!(rt; read, seen.map(|seen| (ADDR, seen)), "{by:?}, {entries}");
+        assert_eq!(rt;
+            changed,
+            change.map(|change| (ADDR, change)),
+            "{by:?}, {entries}"
+        );
+        assert_eq!(rt;
+            (found.looked, found.taken),
+            (looked, taken),
+            "{by:?}, {entries}"
+        );
         assert_eq!(rt;
             (found.made, found.given.as_slice().len()),
             (0, 0),
-            "{entries}"
+            "{by:?}, {entries}"
         );
     }
     Ok(())

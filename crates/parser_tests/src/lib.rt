@@ -2,6 +2,8 @@
 #![tactic(auto)]
 
 #[cfg(test)]
+mod phrase_tests;
+#[cfg(test)]
 mod reader_tests;
 #[cfg(test)]
 mod tree_tests;

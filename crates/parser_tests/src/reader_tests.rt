@@ -1,18 +1,21 @@
-// Each reader that takes memory is called once with ample memory, on the shortest tokens that tell its answer.
+//! Each reader that takes memory is called once with ample memory, on the shortest tokens that tell its answer.
+use crate::tree_tests::is_call;
 use grammar::Terminal;
 use pas_denoters::{read_denoter, read_heading};
 use pas_expressions::{read_access, read_expression, read_selectors};
 use pas_phrases::constants::{read_constants, read_names};
 use pas_phrases::looking::TerminalList;
+use pas_statements::read_compound;
 use pas_tree::constants::Constant;
 use pas_tree::denoters::Denoter;
 use pas_tree::expressions::{Factor, Selector};
 use pas_tree::headings::{Heading, ProcedureHeading};
+use pas_tree::statements::{Compound, Plain, Statement};
 use std::alloc::Global;
 use std::test::Fail;
 
-// Tokens of these terminals.
-fn row(alloc: Global, kinds: &[Terminal]) -> Result<TerminalList, Fail> {
+/// Tokens of these terminals.
+pub fn row(alloc: Global, kinds: &[Terminal]) -> Result<TerminalList, Fail> {
     let mut items = Vec::new(alloc);
     for kind in kinds {
         items.push(*kind)?;
@@ -23,7 +26,7 @@ fn row(alloc: Global, kinds: &[Terminal]) -> Result<TerminalList, Fail> {
     Ok(TerminalList::new(items))
 }
 
-// A string at this place.
+/// A string at this place.
 fn is_text(constant: &Constant, at: u32) -> bool {
     match constant {
         Constant::Text(found) => *found == at,
@@ -83,5 +86,49 @@ fn denoters_and_headings(rt: HostRuntime) -> Result<(), Fail> {
         })
     );
     assert!(rt; found && after == 2);
+    Ok(())
+}
+
+/// `begin p; end`, from token 0 on: a call and an empty statement.
+fn is_call_and_nothing(compound: &Compound) -> bool {
+    let Compound {
+        begin: 0,
+        statements,
+        end: 3,
+    } = compound
+    else {
+        return false;
+    };
+    let nothing = match statements.others.as_slice() {
+        [next] => next.semicolon == 2 && is_empty(&next.statement),
+        _ => false,
+    };
+    nothing && is_call(&statements.first, 1)
+}
+
+fn is_empty(statement: &Statement) -> bool {
+    matches!(
+        statement,
+        Statement {
+            label: None,
+            plain: Plain::Empty
+        }
+    )
+}
+
+#[test]
+fn statements(rt: HostRuntime) -> Result<(), Fail> {
+    let alloc = rt.alloc();
+    let kinds = [
+        Terminal::WBegin,
+        Terminal::Name,
+        Terminal::Semicolon,
+        Terminal::WEnd,
+    ];
+    let tokens = row(alloc, &kinds)?;
+    let (compound, after) = read_compound(alloc, &tokens, 0, 1)?;
+    let found = is_call_and_nothing(&compound);
+    drop(compound);
+    assert!(rt; found && after == 4);
     Ok(())
 }

@@ -1,4 +1,4 @@
-// The tree of a short program, written by hand from the numbers of its tokens, is what `parse` answers.
+//! The tree of a short program, written by hand from the numbers of its tokens, is what `parse` answers.
 use pas_lexer::lex;
 use pas_parser::parse;
 use pas_tree::blocks::{Block, Tree, VariablePart};
@@ -7,7 +7,7 @@ use pas_tree::expressions::{Expression, Factor};
 use pas_tree::statements::{Assignment, Compound, If, Plain, Statement};
 use std::test::Fail;
 
-// A factor alone, as a whole expression.
+/// A factor alone, as a whole expression.
 fn factor_alone(expression: &Expression) -> Option<&Factor> {
     let Expression {
         left,
@@ -22,7 +22,7 @@ fn factor_alone(expression: &Expression) -> Option<&Factor> {
     Some(&left.first.first)
 }
 
-// A number alone.
+/// A number alone.
 fn is_number(expression: &Expression, number: u32) -> bool {
     match factor_alone(expression) {
         Some(Factor::Number(found)) => *found == number,
@@ -30,7 +30,7 @@ fn is_number(expression: &Expression, number: u32) -> bool {
     }
 }
 
-// A name alone.
+/// A name alone.
 fn is_name(expression: &Expression, name: u32) -> bool {
     match factor_alone(expression) {
         Some(Factor::Access(access)) => access.name == name && access.selectors.is_empty(),
@@ -38,7 +38,7 @@ fn is_name(expression: &Expression, name: u32) -> bool {
     }
 }
 
-// A number assigned to a variable: three tokens from this one on.
+/// A number assigned to a variable: three tokens from this one on.
 fn is_assignment(assignment: &Assignment, at: u32) -> bool {
     let Assignment {
         target,
@@ -51,7 +51,7 @@ fn is_assignment(assignment: &Assignment, at: u32) -> bool {
         && is_number(value, at.saturating_add(2))
 }
 
-// `x := 1`, without a label.
+/// `x := 1`, without a label.
 fn is_assigning(statement: &Statement, at: u32) -> bool {
     match statement {
         Statement {
@@ -62,8 +62,8 @@ fn is_assigning(statement: &Statement, at: u32) -> bool {
     }
 }
 
-// `p`, a call without parameters and without a label.
-fn is_call(statement: &Statement, at: u32) -> bool {
+/// `p`, a call without parameters and without a label.
+pub fn is_call(statement: &Statement, at: u32) -> bool {
     match statement {
         Statement {
             label: None,
@@ -73,7 +73,7 @@ fn is_call(statement: &Statement, at: u32) -> bool {
     }
 }
 
-// `if x then p else x := 2`, from token 13 on.
+/// `if x then p else x := 2`, from token 13 on.
 fn is_choice(statement: &If) -> bool {
     if statement.word != 13 || statement.then != 15 || !is_name(&statement.condition, 14) {
         return false;
@@ -88,7 +88,7 @@ fn is_choice(statement: &If) -> bool {
     }
 }
 
-// `begin x := 1; if x then p else x := 2 end`, from token 8 on.
+/// `begin x := 1; if x then p else x := 2 end`, from token 8 on.
 fn is_body(body: &Compound) -> bool {
     if body.begin != 8 || body.end != 21 || !is_assigning(&body.statements.first, 9) {
         return false;
@@ -105,7 +105,7 @@ fn is_body(body: &Compound) -> bool {
     }
 }
 
-// `var x: t;`, from token 3 on.
+/// `var x: t;`, from token 3 on.
 fn is_variables(part: &VariablePart) -> bool {
     let first = &part.first;
     if part.word != 3 || !part.others.is_empty() || first.names.first != 4 {

@@ -29,48 +29,49 @@ fn described(alloc: Global, source: &[u8]) -> Result<String, Fail>
 }
 
 /// One source for each choice that the definitions make, and each fault.
+const SOURCES: [(&[u8], &str); 22] = [
+    (b"\r\n\x0c\n", "End 4-4/3 "),
+    (
+        b"BeGiN beginx",
+        "Word(WBegin) 0-5/1 Name 6-12/1 End 12-12/1 ",
+    ),
+    (b"a\nB9", "Name 0-1/1 Name 2-4/2 End 4-4/2 "),
+    (
+        b"(..)",
+        "Symbol(LeftBracket) 0-2/1 Symbol(RightBracket) 2-4/1 End 4-4/1 ",
+    ),
+    (
+        b"<>=",
+        "Symbol(NotEqual) 0-2/1 Symbol(Equal) 2-3/1 End 3-3/1 ",
+    ),
+    (b"@", "Symbol(Caret) 0-1/1 End 1-1/1 "),
+    (b"0002147483647", "Number(2147483647) 0-13/1 End 13-13/1 "),
+    (
+        b"1..5",
+        "Number(1) 0-1/1 Symbol(Range) 1-3/1 Number(5) 3-4/1 End 4-4/1 ",
+    ),
+    (
+        b"1.e5",
+        "Number(1) 0-1/1 Symbol(Dot) 1-2/1 Name 2-4/1 End 4-4/1 ",
+    ),
+    (b"'a''b'", "Text 0-6/1 End 6-6/1 "),
+    (b"{ (* \n*)x", "Name 8-9/2 End 9-9/2 "),
+    (b"beg{}in", "Name 0-3/1 Word(WIn) 5-7/1 End 7-7/1 "),
+    (b"(*)", "OpenComment(0)"),
+    (b"{}}", "BadByte(2)"),
+    (b"a_b", "BadByte(1)"),
+    (b"'a''b''c\n", "OpenString(6)"),
+    (b"x ''", "EmptyString(2)"),
+    (b"a/b", "RealWord(1)"),
+    (b"2147483648E-1", "RealWord(0)"),
+    (b"2147483648e", "Joined(0)"),
+    (b"x 1else", "Joined(2)"),
+    (b"x 2147483648", "TooLarge(2)"),
+];
+
 #[test]
 fn sources(rt: HostRuntime) -> Result<(), Fail> {
-    let rows: [(&[u8], &str); 22] = [
-        (b"\r\n\x0c\n", "End 4-4/3 "),
-        (
-            b"BeGiN beginx",
-            "Word(WBegin) 0-5/1 Name 6-12/1 End 12-12/1 ",
-        ),
-        (b"a\nB9", "Name 0-1/1 Name 2-4/2 End 4-4/2 "),
-        (
-            b"(..)",
-            "Symbol(LeftBracket) 0-2/1 Symbol(RightBracket) 2-4/1 End 4-4/1 ",
-        ),
-        (
-            b"<>=",
-            "Symbol(NotEqual) 0-2/1 Symbol(Equal) 2-3/1 End 3-3/1 ",
-        ),
-        (b"@", "Symbol(Caret) 0-1/1 End 1-1/1 "),
-        (b"0002147483647", "Number(2147483647) 0-13/1 End 13-13/1 "),
-        (
-            b"1..5",
-            "Number(1) 0-1/1 Symbol(Range) 1-3/1 Number(5) 3-4/1 End 4-4/1 ",
-        ),
-        (
-            b"1.e5",
-            "Number(1) 0-1/1 Symbol(Dot) 1-2/1 Name 2-4/1 End 4-4/1 ",
-        ),
-        (b"'a''b'", "Text 0-6/1 End 6-6/1 "),
-        (b"{ (* \n*)x", "Name 8-9/2 End 9-9/2 "),
-        (b"beg{}in", "Name 0-3/1 Word(WIn) 5-7/1 End 7-7/1 "),
-        (b"(*)", "OpenComment(0)"),
-        (b"{}}", "BadByte(2)"),
-        (b"a_b", "BadByte(1)"),
-        (b"'a''b''c\n", "OpenString(6)"),
-        (b"x ''", "EmptyString(2)"),
-        (b"a/b", "RealWord(1)"),
-        (b"2147483648E-1", "RealWord(0)"),
-        (b"2147483648e", "Joined(0)"),
-        (b"x 1else", "Joined(2)"),
-        (b"x 2147483648", "TooLarge(2)"),
-    ];
-    for (source, wanted) in rows {
+    for (source, wanted) in SOURCES {
         assert!(rt; source.len() <= MAX_SOURCE_BYTES);
         let text = described(rt.alloc(), source)?;
         assert_eq!(rt; text.as_str(), wanted, "in {source:?}");

@@ -1,5 +1,5 @@
-// What no clause says: that calls succeed with ample memory, what real files and streams do, and that
-// the definitions mean what is typed at a console.
+//! What no clause says: that calls succeed with ample memory, what real files and streams do, and that
+//! the definitions mean what is typed at a console.
 ghost use Rattle.std.specs.Prelude.{◌≤◌, IfOk};
 
 use edge_ports::*;
@@ -10,7 +10,7 @@ use std::os::unix::fs::PermissionsExt;
 use std::test::Fail;
 use std::{fs, io};
 
-// What came of the next line: a bar after a line, a sign where none came, and nothing at the end.
+/// What came of the next line: a bar after a line, a sign where none came, and nothing at the end.
 fn next_mark(lines: &mut Lines, tape: &mut Tape) -> Option<u8> {
     let Ok(turn) = lines.next(tape) else {
         return Some(b'!');
@@ -22,7 +22,7 @@ fn next_mark(lines: &mut Lines, tape: &mut Tape) -> Option<u8> {
     }
 }
 
-// Gives the lines of a tape, each with its mark after it.
+/// Gives the lines of a tape, each with its mark after it.
 fn give_lines(tape: &mut Tape, page: &mut Page, lines: &mut Lines) -> bool {
     for _ in 0..10 {
         let Some(mark) = next_mark(lines, tape) else {
@@ -35,7 +35,7 @@ fn give_lines(tape: &mut Tape, page: &mut Page, lines: &mut Lines) -> bool {
     false
 }
 
-// The console comes from a shelf by a tape, and its lines go to a page.
+/// The console comes from a shelf by a tape, and its lines go to a page.
 #[test]
 fn consoles_in_memory(rt: HostRuntime) -> Result<(), Fail> {
     let alloc = rt.alloc();
@@ -92,8 +92,8 @@ fn real_files(rt: HostRuntime) -> Result<(), Fail> {
     Ok(())
 }
 
-// Stores these bytes under this name of the folder, and answers what came of it; where it was stored, the file
-// holds the bytes.
+/// Stores these bytes under this name of the folder, and answers what came of it; where it was stored, the file
+/// holds the bytes.
 fn store_in<K: Keeper>(
     alloc: Global,
     keeper: &mut K,
@@ -109,8 +109,45 @@ fn store_in<K: Keeper>(
     Ok(answer)
 }
 
-// A file is stored where none is and in the place of one that may be written, and nowhere else. The files that were
-// written on the way are gone.
+/// What is stored in turn: the folder, or none for one of the test's own; the rest of the name; the bytes; and what is
+/// answered.
+const STORED: [(Option<&str>, &str, &[u8], Result<(), StoreFault>); 10] = [
+    (None, "/.store-0", b"a name that is taken", Ok(())),
+    (None, "/session", b"first", Ok(())),
+    (None, "/session", b"", Ok(())),
+    (None, "/session", b"last", Ok(())),
+    (None, "/other", b"kept", Ok(())),
+    (None, "", b"a folder", Err(StoreFault::Failed)),
+    (
+        None,
+        "/absent/session",
+        b"in no folder",
+        Err(StoreFault::Failed),
+    ),
+    (
+        None,
+        "/session/below",
+        b"below a file",
+        Err(StoreFault::Failed),
+    ),
+    (Some("/dev"), "/full", b"a device", Err(StoreFault::Failed)),
+    (
+        Some("/proc"),
+        "/session",
+        b"a place to read",
+        Err(StoreFault::Failed),
+    ),
+];
+
+/// The files in the test's own folder after that.
+const LEFT: [(&str, &[u8]); 3] = [
+    ("/session", b"last"),
+    ("/other", b"kept"),
+    ("/.store-0", b"a name that is taken"),
+];
+
+/// A file is stored where none is and in the place of one that may be written, and nowhere else. The files that were
+/// written on the way are gone.
 #[test]
 fn real_files_stored(rt: HostRuntime) -> Result<(), Fail> {
     let alloc = rt.alloc();
@@ -118,42 +155,11 @@ fn real_files_stored(rt: HostRuntime) -> Result<(), Fail> {
     fs::create_dir(&rt, folder.as_str())?;
     let mut keeper = FileKeeper::new(&rt);
     let here = folder.as_str();
-    let table: [(&str, &str, &[u8], Result<(), StoreFault>); 10] = [
-        (here, "/.store-0", b"a name that is taken", Ok(())),
-        (here, "/session", b"first", Ok(())),
-        (here, "/session", b"", Ok(())),
-        (here, "/session", b"last", Ok(())),
-        (here, "/other", b"kept", Ok(())),
-        (here, "", b"a folder", Err(StoreFault::Failed)),
-        (
-            here,
-            "/absent/session",
-            b"in no folder",
-            Err(StoreFault::Failed),
-        ),
-        (
-            here,
-            "/session/below",
-            b"below a file",
-            Err(StoreFault::Failed),
-        ),
-        ("/dev", "/full", b"a device", Err(StoreFault::Failed)),
-        (
-            "/proc",
-            "/session",
-            b"a place to read",
-            Err(StoreFault::Failed),
-        ),
-    ];
-    for (folder, name, bytes, want) in table {
+    for (folder, name, bytes, want) in STORED {
+        let folder = folder.unwrap_or(here);
         assert_eq!(rt; store_in(alloc, &mut keeper, folder, name, bytes)?, want);
     }
-    let left: [(&str, &[u8]); 3] = [
-        ("/session", b"last"),
-        ("/other", b"kept"),
-        ("/.store-0", b"a name that is taken"),
-    ];
-    for (name, bytes) in left {
+    for (name, bytes) in LEFT {
         let path = format!(in alloc; "{here}{name}")?;
         assert_eq!(rt; keeper.fetch(alloc, path.as_str(), 100)?.as_slice(), bytes);
         fs::remove_file(&rt, path.as_str())?;
@@ -163,7 +169,7 @@ fn real_files_stored(rt: HostRuntime) -> Result<(), Fail> {
     Ok(())
 }
 
-// A file that only its owner may read stays so.
+/// A file that only its owner may read stays so.
 #[test]
 fn real_files_stay_private(rt: HostRuntime) -> Result<(), Fail> {
     let alloc = rt.alloc();
@@ -186,7 +192,7 @@ fn real_files_stay_private(rt: HostRuntime) -> Result<(), Fail> {
     Ok(())
 }
 
-// A shelf stores what it is given, and fails at the calls that are listed.
+/// A shelf stores what it is given, and fails at the calls that are listed.
 #[test]
 fn files_stored_in_memory(rt: HostRuntime) -> Result<(), Fail> {
     let alloc = rt.alloc();
@@ -203,8 +209,8 @@ fn files_stored_in_memory(rt: HostRuntime) -> Result<(), Fail> {
     Ok(())
 }
 
-// A reader and writer of one byte at a time, whose second call fails and whose third does nothing. As a
-// writer it also fails to flush after its fourth.
+/// A reader and writer of one byte at a time, whose second call fails and whose third does nothing. As a
+/// writer it also fails to flush after its fourth.
 #[derive(Drop)]
 struct Faulty {
     calls: u8,

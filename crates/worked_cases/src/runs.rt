@@ -129,19 +129,20 @@ fn append_lines(
     wanted: &str,
     seen: &mut Vec<u8>,
 ) -> Result<()> {
-    let mut told: u32 = 0;
+    ensure!(
+        stands_once(wanted, "output ") && stands_once(wanted, "calls "),
+        "one line on the output and one on the number of calls are wanted"
+    );
     for line in wanted.lines() {
         append_line(alloc, program, history, line, seen).context(line)?;
         seen.push(b'\n')?;
-        if line.starts_with("output ") || line.starts_with("calls ") {
-            told = told.saturating_add(1);
-        }
     }
-    ensure!(
-        told == 2,
-        "a line on the output and one on the number of calls are wanted"
-    );
     Ok(())
+}
+
+/// Whether exactly one line begins with a word.
+fn stands_once(wanted: &str, word: &str) -> bool {
+    wanted.lines().filter(|line| line.starts_with(word)).count() == 1
 }
 
 /// Appends the line that a run has in place of one that is wanted.

@@ -1,0 +1,243 @@
+//! From a source to its run, and the texts on its calls.
+use call_tree::Mark;
+use debuggee::{Debuggee, SourceFault, SourceProgram, SourceRefusal, read_source, run_program};
+use dialog_replies::{Debugged, write_named_call, write_number};
+use edge_ports::{Bytes, Memory};
+use std::alloc::Global;
+use std::test::Fail;
+
+/// It calls `twice` for 3, and then for 5.
+const SOURCE: &[u8] = b"program four(input, output);
+var x: integer;
+procedure twice(var y: integer);
+begin
+  y := y + 2
+end;
+begin
+  read(x);
+  twice(x);
+  twice(x);
+  writeln(x)
+end.
+";
+
+const INPUT: &[u8] = b"3\n";
+
+/// The program of a source.
+fn program_of(alloc: Global, source: &[u8]) -> Result<SourceProgram, SourceFault> {
+    if source.len() > 1_048_576 {
+        return Err(SourceFault::Memory);
+    }
+    read_source(alloc, source)
+}
+
+/// The run of a source with an input, within a budget of steps.
+fn run_of<'a>(
+    alloc: Global,
+    source: &[u8],
+    input: &'a [u8],
+    budget: u32,
+) -> Result<Debuggee<'a>, SourceFault> {
+    let program = program_of(alloc, source)?;
+    if input.len() > 4_194_304 || budget == 0 || budget > 4_000_000 {
+        return Err(SourceFault::Memory);
+    }
+    let run = run_program(alloc, program, input, budget)?;
+    Ok(run)
+}
+
+/// The run of the source.
+pub fn a_run(alloc: Global) -> Result<Debuggee<'static>, SourceFault> {
+    run_of(alloc, SOURCE, INPUT, 1_000)
+}
+
+/// Sources; and why and where each is refused, by the line from 1 and the byte from 0.
+const REFUSED: [(&[u8], SourceRefusal, u32, u32); 10] = [
+    (b"program p; begin $ end.", SourceRefusal::BadByte, 1, 17),
+    (
+        b"program p;\n(* begin end.",
+        SourceRefusal::OpenComment,
+        2,
+        11,
+    ),
+    (
+        b"program p; begin\nwriteln('a\n') end.",
+        SourceRefusal::OpenString,
+        2,
+        25,
+    ),
+    (
+        b"program p; begin\nwriteln('') end.",
+        SourceRefusal::EmptyString,
+        2,
+        25,
+    ),
+    (
+        b"program p; const c = 1.5; begin end.",
+        SourceRefusal::RealWord,
+        1,
+        21,
+    ),
+    (
+        b"program p; const c = 2147483648; begin end.",
+        SourceRefusal::TooLarge,
+        1,
+        21,
+    ),
+    (
+        b"program p; const c = 1d; begin end.",
+        SourceRefusal::Joined,
+        1,
+        21,
+    ),
+    (b"program p;\n\nend.", SourceRefusal::NotProgram, 3, 12),
+    (
+        b"program p;\nbegin x := 1 end.",
+        SourceRefusal::Rule(1),
+        2,
+        17,
+    ),
+    (
+        b"program p;\nvar a: array [0 .. 65536] of char;\nbegin end.",
+        SourceRefusal::TooBig,
+        2,
+        15,
+    ),
+];
+
+/// Whether a source is refused so.
+fn is_refused(alloc: Global, source: &[u8], wanted: SourceFault) -> bool {
+    match program_of(alloc, source) {
+        Ok(_) => false,
+        Err(fault) => fault == wanted,
+    }
+}
+
+#[test]
+fn sources_refused(rt: HostRuntime) {
+    for (number, (source, why, line, byte)) in REFUSED.iter().enumerate() {
+        let fault = SourceFault::Refused {
+            why: *why,
+            line: *line,
+            byte: *byte,
+        };
+        let holds = is_refused(rt.alloc(), source, fault);
+        assert!(rt; holds, "row {number}");
+    }
+}
+
+/// The number of a call and the name of its routine, its card, and its trace.
+const TEXTS: [&str; 3] = [
+    "0 four
+call 0 four
+  looks \"3\\n\"
+  takes \"3\"
+  gives \"7\\n\"
+  returned
+  line 8
+  line 9
+  call 1 twice
+  line 10
+  call 2 twice
+  line 11
+  returned
+",
+    "1 twice
+call 1 twice in call 0
+  y = at x
+  reads x = 3
+  changes x = 5
+  returned
+  line 5
+  returned
+",
+    "2 twice
+call 2 twice in call 0
+  y = at x
+  reads x = 5
+  changes x = 7
+  returned
+  line 5
+  returned
+",
+];
+
+/// Appends all that is said of a call, if there is one of this number.
+fn write_texts<D: Debugged>(
+    alloc: Global,
+    out: &mut Bytes,
+    run: &D,
+    call: u32,
+) -> Result<(), Memory> {
+    if call < run.calls().len() {
+        write_named_call(out, run, call)?;
+        out.append(b"\n")?;
+        run.write_card(alloc, out, call)?;
+        run.write_trace(alloc, out, call)?;
+    }
+    Ok(())
+}
+
+/// Whether this is said of a call.
+fn texts_hold<D: Debugged>(
+    alloc: Global,
+    run: &D,
+    call: u32,
+    wanted: &str,
+) -> Result<bool, Memory> {
+    let mut text = Bytes::new(alloc);
+    write_texts(alloc, &mut text, run, call)?;
+    Ok(text.as_slice() == wanted.as_bytes())
+}
+
+const MARKS: [Mark; 3] = [Mark::Wrong, Mark::Trusted, Mark::Unknown];
+
+const TREE: &str = "0 four #0 wrong\n1 in 0 twice #1 trusted\n2 in 0 twice #1 unknown\n";
+
+/// Whether the lines of all calls are those for the marks.
+fn tree_holds<D: Debugged>(alloc: Global, run: &D) -> Result<bool, Memory> {
+    let mut text = Bytes::new(alloc);
+    if run.calls().len() as usize == MARKS.len() {
+        run.write_tree(alloc, &mut text, &MARKS)?;
+    }
+    Ok(text.as_slice() == TREE.as_bytes())
+}
+
+/// Whether the run is that of the source. Its tokens are 52, and `End`.
+fn run_holds(run: &Debuggee<'_>) -> bool {
+    let read = run.tokens.len() == 53 && run.program.routines() == 2;
+    let input = run.history.input.len() == 2 && run.history.budget == 1_000;
+    let output = run.history.output.as_slice() == b"7\n".as_slice();
+    read && input && output && run.history.calls.len() == 3
+}
+
+#[test]
+fn a_source_that_runs(rt: HostRuntime) -> Result<(), Fail> {
+    let run = a_run(rt.alloc())?;
+    assert!(rt; run_holds(&run));
+    for (call, wanted) in (0..3).zip(TEXTS) {
+        let holds = texts_hold(rt.alloc(), &run, call, wanted)?;
+        assert!(rt; holds, "of call {call}");
+    }
+    let holds = tree_holds(rt.alloc(), &run)?;
+    assert!(rt; holds);
+    Ok(())
+}
+
+const NUMBERS: [(u32, &str); 3] = [(0, "0"), (10, "10"), (4_294_967_295, "4294967295")];
+
+/// Whether a number is written so.
+fn number_holds(alloc: Global, number: u32, wanted: &str) -> Result<bool, Memory> {
+    let mut text = Bytes::new(alloc);
+    write_number(&mut text, number)?;
+    Ok(text.as_slice() == wanted.as_bytes())
+}
+
+#[test]
+fn numbers(rt: HostRuntime) -> Result<(), Fail> {
+    for (number, wanted) in NUMBERS {
+        let holds = number_holds(rt.alloc(), number, wanted)?;
+        assert!(rt; holds, "of {number}");
+    }
+    Ok(())
+}

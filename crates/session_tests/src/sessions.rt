@@ -1,0 +1,243 @@
+//! A saved session that is gone on with, and the session of the moment.
+ghost use Rattle.std.specs.Prelude.{◌≡◌, None};
+ghost use Rattle.session_file.specs.Whole.{IsWhole};
+ghost use Rattle.session_book.specs.Fit.{misfit};
+ghost use Rattle.session_book.specs.Start.{IsWholeStart};
+
+use crate::runs::a_run;
+use answer_book::{Entry, Judgement, What};
+use ask_session::{Ending, converse};
+use dialog_lines::instruction_in;
+use dialog_replies::{Debugged, answer, state_now};
+use edge_ports::{Keeper, Memory, Page, Shelf, Tape};
+use optimal_query::{Debug, SearchState};
+use session_book::{Start, refusal, resume, session_text_of};
+use session_file::{SavedEntries, Session, load};
+use std::alloc::Global;
+use std::test::Fail;
+
+/// The session of a run with these digests and this budget: call 0 is wrong, and call 1 is right; that routine 1 can be
+/// trusted was taken back.
+const SAVED: &str =
+    "{\"budget\":1000,\"entries\":[{\"call\":0,\"kind\":\"wrong\",\"standing\":true},\
+    {\"kind\":\"trust\",\"routine\":1,\"standing\":false},{\"call\":1,\"kind\":\"right\",\"standing\":true}],\
+    \"input\":\"1111111111111111111111111111111111111111111111111111111111111111\",\
+    \"source\":\"abababababababababababababababababababababababababababababababab\",\"version\":1}";
+
+/// The same with one more entry: call 2 is wrong.
+const SAVED_AGAIN: &str =
+    "{\"budget\":1000,\"entries\":[{\"call\":0,\"kind\":\"wrong\",\"standing\":true},\
+    {\"kind\":\"trust\",\"routine\":1,\"standing\":false},{\"call\":1,\"kind\":\"right\",\"standing\":true},\
+    {\"call\":2,\"kind\":\"wrong\",\"standing\":true}],\
+    \"input\":\"1111111111111111111111111111111111111111111111111111111111111111\",\
+    \"source\":\"abababababababababababababababababababababababababababababababab\",\"version\":1}";
+
+/// What a dialog starts with that goes on with a session of its own run.
+fn start_with(session: Session) -> Start
+    requires whole { IsWhole session }
+    ensures whole { IsWholeStart result }
+{
+    Start {
+        source: session.source,
+        input: session.input,
+        budget: session.budget,
+        saved: Some(session),
+    }
+}
+
+const TREE: &str = "0 four #0 wrong\n1 in 0 twice #1 right\n2 in 0 twice #1 unjudged\n";
+
+const ASKED: SearchState = SearchState::Ask {
+    call: 2,
+    weight: 1,
+    suspects: 1,
+    left: 0,
+};
+
+/// Whether a search that was gone on with has the marks and the question of the saved session, and is saved as that.
+fn resumed_holds<D: Debugged>(alloc: Global, run: &D, start: &Start) -> Result<bool, Memory>
+    requires whole { IsWholeStart start.now }
+    requires fits { misfit (D.subject run.now) start.now ≡ None }
+{
+    let mut debug = resume(alloc, run, start)?;
+    let saved = session_text_of(alloc, start, &debug)?;
+    let asked = state_now(run, &debug) == ASKED;
+    let tree = answer(alloc, run, &mut debug, instruction_in(b"tree"))?;
+    Ok(asked && saved.as_slice() == SAVED.as_bytes() && tree.as_slice() == TREE.as_bytes())
+}
+
+/// Whether a session fits, and is gone on with.
+fn fitting_holds<D: Debugged>(alloc: Global, run: &D, start: &Start) -> Result<bool, Memory>
+    requires whole { IsWholeStart start.now }
+{
+    match refusal(alloc, run, start)? {
+        Some(_) => Ok(false),
+        None => resumed_holds(alloc, run, start),
+    }
+}
+
+#[test]
+fn a_session_goes_on(rt: HostRuntime) -> Result<(), Fail> {
+    let run = a_run(rt.alloc())?;
+    let session = load(rt.alloc(), SAVED.as_bytes())?;
+    let start = start_with(session);
+    let holds = fitting_holds(rt.alloc(), &run, &start)?;
+    assert!(rt; holds);
+    Ok(())
+}
+
+/// By what a run is told from others: the byte that its source's digest repeats, the one that its input's repeats, and
+/// its budget.
+type Named = (u8, u8, u32);
+
+/// A run, a session's run, what the session's second entry says, and the line that refuses it; none where it fits.
+type Row = (Named, Named, What, Option<&'static str>);
+
+const RIGHT: What = What::Judged(2, Judgement::Right);
+
+const ROWS: [Row; 7] = [
+    ((1, 2, 1_000), (1, 2, 1_000), RIGHT, None),
+    ((1, 2, 1_000), (1, 2, 1_000), What::Trusted(1), None),
+    (
+        (0xab, 2, 1_000),
+        (1, 3, 999),
+        RIGHT,
+        Some(
+            "session: source is abababababababababababababababababababababababababababababababab \
+            but the session has 0101010101010101010101010101010101010101010101010101010101010101\n",
+        ),
+    ),
+    (
+        (1, 0, 1_000),
+        (1, 255, 999),
+        RIGHT,
+        Some(
+            "session: input is 0000000000000000000000000000000000000000000000000000000000000000 \
+            but the session has ffffffffffffffffffffffffffffffffffffffffffffffffffffffffffffffff\n",
+        ),
+    ),
+    (
+        (1, 2, 4_000_000),
+        (1, 2, 999),
+        What::Trusted(2),
+        Some("session: budget is 4000000 but the session has 999\n"),
+    ),
+    (
+        (1, 2, 1_000),
+        (1, 2, 1_000),
+        What::Judged(3, Judgement::Unknown),
+        Some("session: entry 2 names call 3\n"),
+    ),
+    (
+        (1, 2, 1_000),
+        (1, 2, 1_000),
+        What::Trusted(4_294_967_295),
+        Some("session: entry 2 names routine 4294967295\n"),
+    ),
+];
+
+/// An entry that says that call 0 is wrong, and one that was taken back.
+fn entries_of(alloc: Global, second: What) -> Result<SavedEntries, Memory> {
+    let mut entries = SavedEntries::new(alloc);
+    entries.push(Entry {
+        what: What::Judged(0, Judgement::Wrong),
+        standing: true,
+    })?;
+    entries.push(Entry {
+        what: second,
+        standing: false,
+    })?;
+    Ok(entries)
+}
+
+/// What the dialog of a run starts with that is to go on with a session.
+fn start_of(alloc: Global, run: Named, saved: Named, second: What) -> Result<Start, Memory> {
+    let entries = entries_of(alloc, second)?;
+    Ok(Start {
+        source: [run.0; 32],
+        input: [run.1; 32],
+        budget: run.2,
+        saved: Some(Session {
+            source: [saved.0; 32],
+            input: [saved.1; 32],
+            budget: saved.2,
+            entries,
+        }),
+    })
+}
+
+/// Whether a session is refused so.
+fn row_holds<D: Debugged>(alloc: Global, run: &D, row: &Row) -> Result<bool, Memory> {
+    let start = start_of(alloc, row.0, row.1, row.2)?;
+    let refused = refusal(alloc, run, &start)?;
+    let holds = match (&refused, &row.3) {
+        (Some(line), Some(wanted)) => line.as_slice() == wanted.as_bytes(),
+        (None, None) => true,
+        _ => false,
+    };
+    Ok(holds)
+}
+
+#[test]
+fn sessions_of_other_runs(rt: HostRuntime) -> Result<(), Fail> {
+    let run = a_run(rt.alloc())?;
+    for (number, row) in ROWS.iter().enumerate() {
+        let holds = row_holds(rt.alloc(), &run, row)?;
+        assert!(rt; holds, "row {number}");
+    }
+    Ok(())
+}
+
+const LINES: &[u8] = b"wrong\nsave s\ntree\n";
+
+const SCREEN: &str = "call 0 four
+  looks \"3\\n\"
+  takes \"3\"
+  gives \"7\\n\"
+  returned
+ask 2 suspects 1 left 0
+call 2 twice in call 0
+  y = at x
+  reads x = 5
+  changes x = 7
+  returned
+entry 4
+found call 2 twice
+  line 5
+  returned
+saved s
+0 four #0 wrong
+1 in 0 twice #1 right
+2 in 0 twice #1 wrong
+";
+
+/// Whether a file has this text.
+fn file_holds(alloc: Global, keeper: &mut Shelf, name: &str, wanted: &str) -> bool {
+    match keeper.fetch(alloc, name, 4_096) {
+        Ok(bytes) => bytes.as_slice() == wanted.as_bytes(),
+        Err(_) => false,
+    }
+}
+
+/// Whether a session says this to the lines, and saves the session of the moment.
+fn session_holds<D: Debugged>(alloc: Global, run: &D, start: &Start) -> Result<bool, Memory>
+    requires whole { IsWholeStart start.now }
+{
+    let mut keeper = Shelf::new(alloc, &[])?;
+    let mut console = Tape::new(alloc, LINES, &[])?;
+    let mut screen = Page::new(alloc, 4_096, &[])?;
+    let ending = converse(alloc, run, start, &mut keeper, &mut console, &mut screen);
+    let said = screen.given() == SCREEN.as_bytes();
+    let saved = file_holds(alloc, &mut keeper, "s", SAVED_AGAIN);
+    Ok(said && saved && matches!(ending, Ending::Done))
+}
+
+#[test]
+fn a_session_on_the_console(rt: HostRuntime) -> Result<(), Fail> {
+    let run = a_run(rt.alloc())?;
+    let session = load(rt.alloc(), SAVED.as_bytes())?;
+    let start = start_with(session);
+    let holds = session_holds(rt.alloc(), &run, &start)?;
+    assert!(rt; holds);
+    Ok(())
+}
