@@ -1,4 +1,4 @@
-// A list of bytes that grows.
+//! A list of bytes that grows.
 ghost use Rattle.std.specs.Prelude.{◌≡◌, ◌++◌, [], List, ℕ, OnOk, OnErr};
 
 use std::alloc::{AllocError, Global};

@@ -1,4 +1,4 @@
-// Counts of what went wrong.
+//! Counts of what went wrong.
 ghost use Rattle.std.specs.Prelude.{◌≡◌};
 ghost use Rattle.edge_ports.specs.Counts.{NotFallen, next_count, no_counts, CountsFetch, CountsStore, NoneFallen};
 

@@ -1,4 +1,4 @@
-// Real files as a keeper. It tells nothing of its files.
+//! Real files as a keeper. It tells nothing of its files.
 ghost use Rattle.std.specs.Prelude.{◌≡◌, ◌<◌, ◌≤◌, ◌+◌, ℕ, List, length, Err, IfOk, IfSome, None};
 ghost use Rattle.std.specs.Io.KnownBytes.{Consumes};
 ghost use Rattle.edge_ports.specs.Counts.{no_counts};
@@ -32,10 +32,10 @@ impl<R: Files> FileKeeper<R> {
     }
 }
 
-// The most bytes that are read at once.
+/// The most bytes that are read at once.
 const CHUNK: usize = 4_096;
 
-// How many bytes to read next, where this many are left up to the limit: at most one more than that.
+/// How many bytes to read next, where this many are left up to the limit: at most one more than that.
 fn chunk_len(left: u64) -> usize
     ensures some { 0 < result }
     ensures fits { result ≤ CHUNK }
@@ -48,7 +48,7 @@ fn chunk_len(left: u64) -> usize
     }
 }
 
-// All the bytes of the reader, if they are at most `limit`. It reads at most one byte more.
+/// All the bytes of the reader, if they are at most `limit`. It reads at most one byte more.
 fn read_within<R: Read>(alloc: Global, reader: &mut R, limit: u64) -> Result<Bytes, FetchFault>
     ensures fits { IfOk result (λ bytes. length bytes ≤ limit) }
     ensures whole { IfOk result (λ bytes. IfSome (R.remaining reader.old) (λ all. bytes ≡ all)) }
@@ -78,7 +78,7 @@ fn read_within<R: Read>(alloc: Global, reader: &mut R, limit: u64) -> Result<Byt
     }
 }
 
-// All the bytes of the file of this name, if they are at most `limit`.
+/// All the bytes of the file of this name, if they are at most `limit`.
 fn read_file<R: Files>(
     files: &R,
     alloc: Global,

@@ -1,4 +1,4 @@
-// The lines of a console.
+//! The lines of a console.
 ghost use Rattle.std.specs.Prelude.{◌≡◌, ◌<◌, ◌≤◌, ◌⊎◌, ◌+◌, ◌-◌, Ok, None, length, take, drop, slice_index};
 ghost use Rattle.std.specs.Prelude.{vec_capacity, IsTrue, OnOk, OnErr, IfOk, IfSome};
 ghost use Rattle.std.specs.Option.{option_map};
@@ -71,7 +71,7 @@ impl Model for Lines {
         × IsCutAtLines (record { taken = l.taken.items; handed = l.handed; ended = l.ended; line = [] }) };
 }
 
-// Where the first LF stands, if there is one.
+/// Where the first LF stands, if there is one.
 fn first_line_end(bytes: &[u8]) -> Option<usize>
     ensures place { result ≡ line_end_of bytes.now }
     ensures within { IfSome result (λ place. place < length bytes.now) }
@@ -79,7 +79,7 @@ fn first_line_end(bytes: &[u8]) -> Option<usize>
     bytes.iter().position(|byte| *byte == b'\n')
 }
 
-// The same, where the first `from` bytes have none. Only the bytes after them are looked at.
+/// The same, where the first `from` bytes have none. Only the bytes after them are looked at.
 fn line_end(bytes: &[u8], from: usize) -> Option<usize>
     requires within { from ≤ length bytes.now }
     requires none { line_end_of (take from bytes.now) ≡ None }
@@ -91,7 +91,7 @@ fn line_end(bytes: &[u8], from: usize) -> Option<usize>
     }
 }
 
-// The length of a line without the one CR at its end, if it has one.
+/// The length of a line without the one CR at its end, if it has one.
 fn length_without_return(line: &[u8]) -> usize
     ensures within { result ≤ length line.now }
     ensures line { take result line.now ≡ strip_carriage_return line.now }
@@ -104,7 +104,7 @@ fn length_without_return(line: &[u8]) -> usize
     }
 }
 
-// How many bytes at the front of these are the next line, and how many it takes up with its end.
+/// How many bytes at the front of these are the next line, and how many it takes up with its end.
 fn line_range(bytes: &[u8], ended: bool, line_end: Option<usize>) -> Option<(usize, usize)>
     requires { line_end ≡ line_end_of bytes.now }
     ensures within { IfSome result (λ range. (range.0 ≤ range.1) × (range.1 ≤ length bytes.now) × (0 < range.1)) }
@@ -125,11 +125,11 @@ fn line_range(bytes: &[u8], ended: bool, line_end: Option<usize>) -> Option<(usi
     }
 }
 
-// The most bytes that are taken of a source at once.
+/// The most bytes that are taken of a source at once.
 const PIECE_BYTES: usize = 4_096;
 
-// Takes bytes from the source to the end of these, and answers how many. It takes no memory: there is
-// room for all bytes of a console.
+/// Takes bytes from the source to the end of these, and answers how many. It takes no memory: there is
+/// room for all bytes of a console.
 fn take_piece<I: Source>(source: &mut I, bytes: &mut Vec<u8>) -> Result<usize, Failed>
     requires some { length bytes.old.items < console_bytes }
     requires room { console_bytes ≤ vec_capacity bytes.old }
@@ -242,7 +242,7 @@ impl Lines {
         &self.taken[self.line_start..self.line_end]
     }
 
-    // The bytes taken and not handed out.
+    /// The bytes taken and not handed out.
     fn unread(&self) -> &[u8]
         ensures bytes { result.now ≡ unread self.now }
         ensures consistent { IsConsistent self.now }
@@ -250,14 +250,14 @@ impl Lines {
         &self.taken[self.handed..]
     }
 
-    // Whether the end was seen.
+    /// Whether the end was seen.
     fn has_ended(&self) -> bool
         ensures { result ≡ self.now.ended }
     {
         self.ended
     }
 
-    // Whether all room is used.
+    /// Whether all room is used.
     fn is_full(&self) -> bool
         ensures full { IsTrue result ↔ (length self.now.taken ≡ console_bytes) }
         ensures consistent { IsConsistent self.now }
@@ -265,7 +265,7 @@ impl Lines {
         self.taken.len() == CONSOLE_BYTES
     }
 
-    // Shows no line.
+    /// Shows no line.
     fn clear(&mut self)
         ensures cleared { self.new ≡ record self.old { line = [] } }
         ensures consistent { IsConsistent self.new }
@@ -274,7 +274,7 @@ impl Lines {
         self.line_end = 0;
     }
 
-    // Hands out this many bytes, and shows no line.
+    /// Hands out this many bytes, and shows no line.
     fn skip(&mut self, used: usize)
         requires { IsUsed self.old used }
         ensures { self.new ≡ record self.old { handed = self.old.handed + used } }
@@ -282,7 +282,7 @@ impl Lines {
         self.handed += used;
     }
 
-    // Hands out this many bytes, and shows the first `count` of them.
+    /// Hands out this many bytes, and shows the first `count` of them.
     fn show(&mut self, count: usize, used: usize)
         requires shown { count ≤ used }
         requires used { IsUsed self.old used }
@@ -293,7 +293,7 @@ impl Lines {
         self.handed += used;
     }
 
-    // Takes more from the source, or sees its end.
+    /// Takes more from the source, or sees its end.
     fn take_more<I: Source>(&mut self, source: &mut I) -> Result<(), Failed>
         requires room { length self.old.taken < console_bytes }
         requires not_ended { self.old.ended ≡ false }
@@ -318,8 +318,8 @@ impl Lines {
         }
     }
 
-    // Takes from the source until the next line's LF is there, or the end was seen; and answers where
-    // that LF stands.
+    /// Takes from the source until the next line's LF is there, or the end was seen; and answers where
+    /// that LF stands.
     fn fill<I: Source>(&mut self, source: &mut I) -> Result<Option<usize>, LineFault>
         ensures moved { Moves self.old.taken self.new.taken (I.left source.old) (I.left source.new) }
         ensures handed { self.new.handed ≡ self.old.handed }
@@ -353,8 +353,8 @@ impl Lines {
         }
     }
 
-    // How many of the unread bytes are the next line, whose LF stands at this place, and how many it takes
-    // up with its end.
+    /// How many of the unread bytes are the next line, whose LF stands at this place, and how many it takes
+    /// up with its end.
     fn next_range(&self, place: Option<usize>) -> Option<(usize, usize)>
         requires { place ≡ line_end_of (unread self.now) }
         ensures within { IfSome result (λ range. range.0 ≤ range.1) }
@@ -366,7 +366,7 @@ impl Lines {
         line_range(self.unread(), self.ended, place)
     }
 
-    // Hands out the next line, whose LF stands at this place. Without one, the end was seen.
+    /// Hands out the next line, whose LF stands at this place. Without one, the end was seen.
     fn hand_out(&mut self, place: Option<usize>) -> Turn
         requires place { place ≡ line_end_of (unread self.old) }
         requires none { place ≡ None → IsTrue self.old.ended }

@@ -1,4 +1,4 @@
-// Which calls of an object in memory are to fail.
+//! Which calls of an object in memory are to fail.
 ghost use Rattle.std.specs.Prelude.{◌≡◌, ◌↔◌, IsTrue, IfOk};
 ghost use Rattle.edge_ports.specs.Counts.{NotFallen};
 ghost use Rattle.edge_ports.specs.States.{IsListed, plan_after, plan_of};

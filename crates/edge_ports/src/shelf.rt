@@ -1,4 +1,4 @@
-// A keeper in memory.
+//! A keeper in memory.
 ghost use Rattle.std.specs.Prelude.{◌≡◌, ◌<◌, ◌≤◌, ◌↔◌, ℕ, length, Option, Some, None, Ok, Err, IfOk, OnOk, OnErr};
 ghost use Rattle.std.specs.Prelude.{IsSomeAnd};
 ghost use Rattle.std.specs.Option.{option_map};
@@ -75,7 +75,7 @@ impl Shelf {
     }
 }
 
-// The bytes of the newest entry of this name.
+/// The bytes of the newest entry of this name.
 #[tactic(auto, using(crate::proofs::NewestFileCounts::file_at_newest, crate::proofs::NewestFileCounts::file_at_none))]
 fn find<'a>(entries: &'a VecDeque<ShelvedFile>, name: &[u8]) -> Option<&'a [u8]>
     ensures { option_map (λ bytes. bytes.now) result ≡ file_at (files_of entries.now.items) name.now }
@@ -88,7 +88,7 @@ fn find<'a>(entries: &'a VecDeque<ShelvedFile>, name: &[u8]) -> Option<&'a [u8]>
     None
 }
 
-// A copy of the bytes of this file, if they are at most `limit`.
+/// A copy of the bytes of this file, if they are at most `limit`.
 fn fetched(alloc: Global, bytes: Option<&[u8]>, limit: u64) -> Result<Bytes, FetchFault>
     ensures found { IfOk result (λ copy. (option_map (λ b. b.now) bytes.entry ≡ Some copy) × (length copy ≤ limit)) }
     ensures absent { (result ≡ Err FetchFault.Absent) ↔ (option_map (λ b. b.now) bytes.entry ≡ None) }
@@ -111,7 +111,7 @@ fn fetched(alloc: Global, bytes: Option<&[u8]>, limit: u64) -> Result<Bytes, Fet
 }
 
 impl Shelf {
-    // What a fetch answers.
+    /// What a fetch answers.
     fn answer_to(&self, alloc: Global, name: &str, limit: u64) -> Result<Bytes, FetchFault>
         ensures listed { (result ≡ Err FetchFault.Failed) ↔ IsListed self.now.plan }
         ensures lacking { (result ≡ Err FetchFault.Absent) ↔
@@ -128,7 +128,7 @@ impl Shelf {
         fetched(alloc, find(&self.entries, name.as_bytes()), limit)
     }
 
-    // Puts the file unless the call is listed, and answers as a call of `store` does.
+    /// Puts the file unless the call is listed, and answers as a call of `store` does.
     fn put_unless_listed(&mut self, name: &str, bytes: &[u8]) -> Result<(), StoreFault>
         ensures listed { (result ≡ Err StoreFault.Failed) ↔ IsListed self.old.plan }
         ensures after { self.new ≡ record self.old { files = files_stored result name.now bytes.now self.old.files } }

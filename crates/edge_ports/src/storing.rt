@@ -1,4 +1,4 @@
-// A real file is put in the place of another whole: it is written under another name and renamed.
+//! A real file is put in the place of another whole: it is written under another name and renamed.
 
 use crate::{Memory, StoreFault};
 use std::alloc::Global;
@@ -7,11 +7,11 @@ use std::fs::{File, OpenFile, OpenOptions, Permissions};
 use std::io::{self, ErrorKind, Write};
 use std::rt::Files;
 
-// How many names are tried for a new file.
+/// How many names are tried for a new file.
 const SIDE_NAMES: u32 = 1_000;
 
-// The permissions of the regular file of this name, if there is one. It fails where something else is there
-// and where that file may not be written.
+/// The permissions of the regular file of this name, if there is one. It fails where something else is there
+/// and where that file may not be written.
 fn replaced_permissions<R: Files>(
     files: &R,
     name: &str,
@@ -30,7 +30,7 @@ fn replaced_permissions<R: Files>(
     }
 }
 
-// A name in the folder of this one, by a number.
+/// A name in the folder of this one, by a number.
 fn side_name(alloc: Global, name: &str, number: u32) -> Result<String, Memory> {
     match name.rsplit_once('/') {
         Some((folder, _)) => format!(in alloc; "{folder}/.store-{number}"),
@@ -38,7 +38,7 @@ fn side_name(alloc: Global, name: &str, number: u32) -> Result<String, Memory> {
     }
 }
 
-// Makes a new file in the folder of this name, under the first name that is free, and answers that name.
+/// Makes a new file in the folder of this name, under the first name that is free, and answers that name.
 fn create_beside<R: Files>(
     files: &R,
     alloc: Global,
@@ -57,7 +57,7 @@ fn create_beside<R: Files>(
     Err(StoreFault::Failed)
 }
 
-// Writes the bytes into a new file, with these permissions if there are any, and waits until the device has them.
+/// Writes the bytes into a new file, with these permissions if there are any, and waits until the device has them.
 fn fill<F: Write + OpenFile + Drop>(
     mut file: F,
     permissions: Option<Permissions>,

@@ -1,4 +1,4 @@
-// std's readers and writers as ports. They tell nothing of their bytes.
+//! std's readers and writers as ports. They tell nothing of their bytes.
 ghost use Rattle.std.specs.Prelude.{◌≡◌, ◌<◌, ◌≤◌, false, length, take, IfOk};
 ghost use Rattle.std.specs.Io.KnownBytes.{Appends};
 ghost use Rattle.edge_ports.specs.Streams.{reader_of, writer_of};
@@ -81,7 +81,7 @@ impl<W: Write> StdSink<W> {
     }
 }
 
-// Writes from the front of the piece and flushes, and answers how many bytes were written.
+/// Writes from the front of the piece and flushes, and answers how many bytes were written.
 fn write_flushed<W: Write>(writer: &mut W, piece: &[u8]) -> Result<usize, Failed>
     ensures some { IfOk result (λ n. 0 < n) }
     ensures count { IfOk result (λ n. n ≤ length piece.now) }

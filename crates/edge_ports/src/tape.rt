@@ -1,4 +1,4 @@
-// A source in memory.
+//! A source in memory.
 ghost use Rattle.std.specs.Prelude.{◌≡◌, ◌<◌, ◌≤◌, ◌↔◌, Some, Ok, length, take, min, is_err, IfOk, IsErr, OnErr, OnOk};
 ghost use Rattle.std.specs.Prelude.{◌++◌, drop};
 ghost use Rattle.std.specs.Io.KnownBytes.{IsAtEnd};
@@ -46,7 +46,7 @@ impl Tape {
     }
 }
 
-// Copies as many bytes as fit from the front of one list to the front of another.
+/// Copies as many bytes as fit from the front of one list to the front of another.
 fn copy_front(from: &[u8], to: &mut [u8]) -> usize
     ensures count { result ≡ min (length from.now) (length to.old) }
     ensures copied { from.now ≡ take result to.new ++ drop result from.now }

@@ -217,7 +217,7 @@ struct Faulty {
 }
 
 impl Faulty {
-    // What this call does with room for this many bytes.
+    /// What this call does with room for this many bytes.
     fn count(&mut self, room: usize) -> io::Result<usize>
         ensures { IfOk result (λ n. n ≤ room) }
     {
