@@ -1,10 +1,9 @@
 -- What a book answers to a change.
-use Rattle.std.proofs.Common.{◌≡◌, ℕ, ◌<◌, ◌≤◌, Bool, true, false, cond, Option, Some, None, Result, Ok, Err, length, refl, sym, ap, ◌∙◌}
-use Rattle.std.specs.Prelude.{nat_le}
+use Rattle.std.proofs.Common.{◌≡◌, ℕ, ◌<◌, ◌≤◌, true, false, Ok, Err, length}
 use Rattle.std.proofs.lemmas.Bool.{cond-true, cond-false, le-leb, lt-leb}
 use Rattle.answer_book.specs.declared.entries.BookFault.TheVariants as fault
-use Rattle.answer_book.specs.Answers.{Answers, judge_answer, next_number, take_back_answer, take_back_last_answer, number_or_fault, trust_answer}
-use Rattle.answer_book.specs.Entries.{is_standing, last_standing}
+use Rattle.answer_book.specs.Answers.{Answers, judge_answer, next_number, take_back_answer, trust_answer}
+use Rattle.answer_book.specs.Entries.{is_standing}
 
 pub no_call_answer : (book : Answers) (call : ℕ) → length book.routine ≤ call → judge_answer book call ≡ Err (fault.NoCall call)
 no_call_answer book call beyond = cond-true _ _ _ (le-leb (length book.routine) call beyond)

@@ -1,10 +1,9 @@
 -- Marks and the accused, from what a book keeps.
-use Rattle.std.proofs.Common.{◌≡◌, ℕ, ◌<◌, ◌≤◌, Bool, true, false, List, Option, Some, None, length, get_or, refl, sym, ap, ◌∙◌, arith}
-use Rattle.std.specs.Prelude.{All, map, slice_get, slice_index, slice_index_or}
+use Rattle.std.proofs.Common.{◌≡◌, ℕ, ◌<◌, Bool, true, false, List, Option, Some, None, length, get_or, refl, sym, ap, ◌∙◌, arith}
+use Rattle.std.specs.Prelude.{slice_get, slice_index}
 use Rattle.std.proofs.lemmas.List.Elements.{All-get_or}
 use Rattle.std.proofs.lemmas.List.FromFn.{get_or-map-range_with_len, length-map-range_with_len}
 use Rattle.std.proofs.lemmas.Option.{slice_get-get_or}
-use Rattle.call_tree.specs.declared.records.Mark.TheVariants as mark
 use Rattle.answer_book.specs.declared.entries.Judgement.{Judgement}
 use Rattle.answer_book.specs.declared.entries.Judgement.TheVariants.{Right, Wrong, Unknown}
 use Rattle.answer_book.specs.declared.entries.What.{What}

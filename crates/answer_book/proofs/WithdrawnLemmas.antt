@@ -1,21 +1,20 @@
 -- A book stays kept when an entry is taken back and what it named is looked up anew.
-use Rattle.std.proofs.Common.{◌≡◌, ℕ, zero, suc, ◌+◌, ◌-◌, ◌<◌, ◌≤◌, Bool, true, false, cond, List, Option, Some, None, length, get_or, set, refl, sym, ap}
-use Rattle.std.proofs.Common.{subst, ◌∙◌, arith}
-use Rattle.std.specs.Prelude.{◌==◌, All, map, slice_get, slice_set}
+use Rattle.std.proofs.Common.{◌≡◌, ℕ, ◌-◌, Bool, true, false, cond, List, Option, Some, None, length, set, refl, sym, ap}
+use Rattle.std.proofs.Common.{subst, ◌∙◌}
+use Rattle.std.specs.Prelude.{◌==◌, All, slice_get, slice_set}
 use Rattle.std.specs.List.{filter_map, list_any}
-use Rattle.std.proofs.lemmas.List.{length-set}
 use Rattle.std.proofs.lemmas.List.Elements.{All-get_or, All-set}
 use Rattle.std.proofs.lemmas.Option.{get_or_from_slice_get, slice_get_within}
 use Rattle.answer_book.specs.declared.entries.Entry.{Entry}
 use Rattle.answer_book.specs.declared.entries.Judgement.{Judgement}
 use Rattle.answer_book.specs.declared.entries.What.{What}
 use Rattle.answer_book.specs.declared.entries.What.TheVariants.{Judged, Trusted}
-use Rattle.answer_book.specs.Answers.{Answers, without_answer}
-use Rattle.answer_book.specs.Entries.{entries_without, entry_at, entry_saying, is_standing, is_standing_entry, standing_answers, with_taken_back}
+use Rattle.answer_book.specs.Answers.{Answers}
+use Rattle.answer_book.specs.Entries.{entries_without, entry_at, entry_saying, standing_answers, with_taken_back}
 use Rattle.answer_book.specs.InRange.{IsInRange}
 use Rattle.answer_book.specs.Kept.{AreKept}
 use Rattle.answer_book.specs.Marks.{is_trusted, judgement_on, last_judgement, trusts}
-use Rattle.answer_book.specs.Numbers.{last_of, numbers_below}
+use Rattle.answer_book.specs.Numbers.{last_of}
 use Rattle.answer_book.specs.Spoken.{entry_judgement, entry_trusts}
 use Rattle.answer_book.proofs.EntryLemmas.{in_another, last_by_entries, on_another, trusted_by_entries}
 use Rattle.answer_book.proofs.FilterMaps.{filter_map-set, list_any-set}

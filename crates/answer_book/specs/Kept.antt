@@ -1,7 +1,6 @@
 -- How a book is kept: beside the entries the last judgement on each call, and which routines are trusted.
-use Rattle.std.specs.Prelude.{◌≡◌, ℕ, ◌<◌, ◌≤◌, Bool, All, List, Option, length, map}
+use Rattle.std.specs.Prelude.{◌≡◌, ◌<◌, ◌≤◌, Bool, All, List, Option, length, map}
 use Rattle.answer_book.specs.declared.book.Book.TheInside.{Inside}
-use Rattle.answer_book.specs.declared.entries.Entry.{Entry}
 use Rattle.answer_book.specs.declared.entries.Judgement.{Judgement}
 use Rattle.call_tree.specs.Recording.{routines_of}
 use Rattle.answer_book.specs.Answers.{Answers}

@@ -1,12 +1,11 @@
 -- How a call's own work goes on when it is done again, from stop to stop.
-use Rattle.std.proofs.Common.{◌≡◌, ℕ, zero, suc, ◌+◌, ◌-◌, ◌≤◌, List, [], ◌∷◌, ◌++◌, Option, Some, None, refl, sym, ap, subst, ◌∙◌, length, drop, arith}
+use Rattle.std.proofs.Common.{◌≡◌, ℕ, zero, suc, ◌+◌, ◌-◌, ◌≤◌, List, [], ◌∷◌, ◌++◌, Option, Some, sym, ap, subst, ◌∙◌, length, drop, arith}
 use Rattle.std.proofs.Common.{length-append}
 use Rattle.std.specs.List.{slice_get}
 use Rattle.std.proofs.lemmas.List.{map-append, drop-drop}
 use Rattle.cell_value.specs.declared.values.Value.{Value}
 use Rattle.cell_value.specs.declared.entries.Touch.{Touch}
 use Rattle.cell_value.specs.declared.ways_out.WayOut.{WayOut}
-use Rattle.cell_value.specs.declared.ways_out.WayOut.TheVariants as way
 use Rattle.call_tree.specs.Told.{IsTold}
 use Rattle.call_tree.specs.declared.records.Call as table
 use Rattle.call_tree.specs.declared.events.Event as kept

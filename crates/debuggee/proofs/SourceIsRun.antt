@@ -18,7 +18,6 @@ use Rattle.source_checker.specs.declared.programs.ProgramFault.TheVariants as re
 use Rattle.source_checker.specs.Programs.{IsChecked}
 use Rattle.source_checker.specs.Programs as check
 use Rattle.same_programs.specs.Laws.{OneTextOneProgram}
-use Rattle.debuggee.specs.declared.refusal.SourceRefusal.TheVariants as refusal
 use Rattle.debuggee.specs.declared.source.SourceFault.{SourceFault}
 use Rattle.debuggee.specs.declared.source.SourceFault.TheVariants.{Refused, Memory}
 use Rattle.debuggee.specs.Execution.{Supply, execution_of}

@@ -1,5 +1,5 @@
 -- What a source is: a program; or why and where it is refused.
-use Rattle.std.specs.Prelude.{◌≡◌, ◌⊎◌, ℕ, List, Option, Some, None, Result, Ok, Err}
+use Rattle.std.specs.Prelude.{◌≡◌, ◌⊎◌, ℕ, List, Result, Ok, Err}
 use Rattle.pas_lexer.specs.declared.kinds.Token.{Token}
 use Rattle.pas_lexer.specs.Lexed.{Lexed}
 use Rattle.pas_lexer.specs.declared.kinds.LexFault.TheVariants as lexis
@@ -13,7 +13,7 @@ use Rattle.source_checker.specs.declared.programs.ProgramFault.{ProgramFault}
 use Rattle.source_checker.specs.declared.programs.ProgramFault.TheVariants as refused
 use Rattle.source_checker.specs.Declarations.{IsTextOf}
 use Rattle.source_checker.specs.Places.{TokenBegins}
-use Rattle.source_checker.specs.Programs.{IsBrokenAt, IsChecked, IsUnchecked}
+use Rattle.source_checker.specs.Programs.{IsBrokenAt, IsChecked}
 use Rattle.debuggee.specs.declared.refusal.SourceRefusal.{SourceRefusal}
 use Rattle.debuggee.specs.declared.refusal.SourceRefusal.TheVariants as refusal
 use Rattle.debuggee.specs.declared.source.SourceFault.{SourceFault}

@@ -1,27 +1,23 @@
 -- The equations of the define walk by the fields of its trees.
-use Rattle.std.proofs.Common.{◌≡◌, ℕ, List, Option, Some, None, refl, sym, ap, ◌∙◌, Vec, Global}
+use Rattle.std.proofs.Common.{◌≡◌, ℕ, Option, Some, None, refl, ap, ◌∙◌}
 use denote.Hole.Carrier.{roll}
 use Rattle.pas_tree.specs.declared.denoters.Denoter.TheBlock.{hidden-the_row-NextDenoter-0, hidden-the_row-NextSection-1, hidden-the_row-NextArm-2}
 use Rattle.pas_tree.specs.declared.denoters.ArrayDenoter.{ArrayDenoter, out-ArrayDenoter, is-ArrayDenoter', Row_of-NextDenoter, end_of-NextDenoter}
 use Rattle.pas_tree.specs.declared.denoters.ArrayDenoter.{more_of-NextDenoter, items-the_row-NextDenoter, items_hidden-the_row-NextDenoter-0}
-use Rattle.pas_tree.specs.declared.denoters.NextDenoter.{NextDenoter}
-use Rattle.pas_tree.specs.declared.denoters.Fields.{Fields}
 use Rattle.pas_tree.specs.declared.denoters.Fields.TheVariants as made
 use Rattle.pas_tree.specs.declared.denoters.Fields.{roll-Fields}
 use Rattle.pas_tree.specs.declared.denoters.Fixed.{Fixed, out-Fixed, is-Fixed', Row_of-NextSection, end_of-NextSection, more_of-NextSection}
 use Rattle.pas_tree.specs.declared.denoters.Fixed.{items-the_row-NextSection, items_hidden-the_row-NextSection-1}
-use Rattle.pas_tree.specs.declared.denoters.NextSection.{NextSection}
 use Rattle.pas_tree.specs.declared.denoters.NextVariants.{NextVariants, out-NextVariants, is-NextVariants'}
 use Rattle.pas_tree.specs.declared.denoters.Variants.{Variants, out-Variants, is-Variants', Row_of-NextArm, end_of-NextArm, more_of-NextArm}
 use Rattle.pas_tree.specs.declared.denoters.Variants.{items-the_row-NextArm, items_hidden-the_row-NextArm-2}
-use Rattle.pas_tree.specs.declared.denoters.NextArm.{NextArm}
-use Rattle.check_steps.specs.Steps.{Step, give, ◌>>=◌, each}
+use Rattle.check_steps.specs.Steps.{Step, ◌>>=◌, each}
 use Rattle.kind_checker.specs.declared.names.NameKind.TheVariants as kind
 use Rattle.kind_checker.specs.Names.{define_name, each_name}
 use Rattle.denoter_checker.specs.declared.defines.Wanted.{Wanted}
 use Rattle.denoter_checker.specs.Defines.{by, define_array, define_arms, define_denoter, define_fixed, define_fixed_part, define_in_fields}
 use Rattle.denoter_checker.specs.Defines.{define_next_arm, define_next_section, define_next_variants, define_other, define_others}
-use Rattle.denoter_checker.specs.Defines.{define_part, define_section, define_sections, define_tag, define_variants}
+use Rattle.denoter_checker.specs.Defines.{define_section, define_sections, define_tag, define_variants}
 
 others_each : (region : ℕ) (n : _) (r : Row_of-NextDenoter n) (u : Unit {0})
     → define_others region r ≡ each (define_other region) u (items-the_row-NextDenoter n r)

@@ -1,21 +1,18 @@
 -- The equations of type denoters by the fields of their trees.
-use Rattle.std.proofs.Common.{◌≡◌, ℕ, Bool, List, Option, Some, None, is_none, ◌+◌, refl, sym, ap, ◌∙◌, Vec, Global}
+use Rattle.std.proofs.Common.{◌≡◌, ℕ, Bool, Option, Some, None, is_none, ◌+◌, refl, sym, ap, ◌∙◌}
 use denote.Hole.Carrier.{roll}
 use Rattle.pas_tree.specs.declared.denoters.Denoter.TheBlock.{hidden-the_row-NextDenoter-0, hidden-the_row-NextSection-1, hidden-the_row-NextArm-2}
 use Rattle.pas_tree.specs.declared.denoters.ArrayDenoter.{ArrayDenoter, out-ArrayDenoter, is-ArrayDenoter', Row_of-NextDenoter, end_of-NextDenoter}
 use Rattle.pas_tree.specs.declared.denoters.ArrayDenoter.{more_of-NextDenoter, items-the_row-NextDenoter, items_hidden-the_row-NextDenoter-0}
-use Rattle.pas_tree.specs.declared.denoters.NextDenoter.{NextDenoter}
-use Rattle.pas_tree.specs.declared.denoters.Fields.{Fields, Some'}
+use Rattle.pas_tree.specs.declared.denoters.Fields.{Some'}
 use Rattle.pas_tree.specs.declared.denoters.Fields.TheVariants as made
 use Rattle.pas_tree.specs.declared.denoters.Fields.{roll-Fields}
 use Rattle.pas_tree.specs.declared.denoters.Fixed.{Fixed, out-Fixed, is-Fixed', Row_of-NextSection, end_of-NextSection, more_of-NextSection}
 use Rattle.pas_tree.specs.declared.denoters.Fixed.{items-the_row-NextSection, items_hidden-the_row-NextSection-1}
-use Rattle.pas_tree.specs.declared.denoters.NextSection.{NextSection}
 use Rattle.pas_tree.specs.declared.denoters.NextVariants.{NextVariants, out-NextVariants, is-NextVariants'}
 use Rattle.pas_tree.specs.declared.denoters.Variants.{Variants, out-Variants, is-Variants', Row_of-NextArm, end_of-NextArm, more_of-NextArm}
 use Rattle.pas_tree.specs.declared.denoters.Variants.{items-the_row-NextArm, items_hidden-the_row-NextArm-2}
-use Rattle.pas_tree.specs.declared.denoters.NextArm.{NextArm}
-use Rattle.check_steps.specs.Steps.{Step, give, ◌>>=◌, each, each_back}
+use Rattle.check_steps.specs.Steps.{Step, ◌>>=◌, each, each_back}
 use Rattle.check_steps.proofs.Runs.{bind-assoc}
 use Rattle.pas_places.specs.Denoters.{first_of_denoter}
 use Rattle.kind_checker.specs.declared.types.Scope.{Scope}

@@ -4,7 +4,7 @@ use Rattle.pas_tree.specs.declared.denoters.NextDenoter.{NextDenoter}
 use Rattle.program_tables.specs.declared.rows.Row.TheVariants as row
 use Rattle.program_tables.specs.declared.rows.TypeRow.{TypeRow}
 use Rattle.program_tables.specs.declared.rows.TypeRow.TheVariants as kind
-use Rattle.check_steps.specs.Known.{Known, type_at}
+use Rattle.check_steps.specs.Known.{type_at}
 use Rattle.check_steps.specs.Steps.{Step, give, ◌>>=◌, look, put}
 use Rattle.kind_checker.specs.Sizes.{array_cells}
 

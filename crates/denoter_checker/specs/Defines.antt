@@ -1,6 +1,5 @@
 -- The names that denoters define: constants of enumerations in the region around, and fields in a record's region.
 use Rattle.std.specs.Prelude.{ℕ, Option, Some, None}
-use Rattle.pas_tree.specs.declared.constants.Names.{Names}
 use Rattle.pas_tree.specs.declared.denoters.Denoter.{Denoter, Name, Enumeration, Subrange, Pointer, Structure'}
 use Rattle.pas_tree.specs.declared.denoters.Structure.{Structure, Array, Record', Set'}
 use Rattle.pas_tree.specs.declared.denoters.ArrayDenoter.{ArrayDenoter, ArrayDenoter', Row_of-NextDenoter}
@@ -16,10 +15,9 @@ use Rattle.pas_tree.specs.declared.denoters.NextVariants.{NextVariants, NextVari
 use Rattle.pas_tree.specs.declared.denoters.Variants.{Variants as VariantsTree, Variants', Row_of-NextArm}
 use Rattle.pas_tree.specs.declared.denoters.Variants.{end_of-NextArm, more_of-NextArm}
 use Rattle.pas_tree.specs.declared.denoters.NextArm.{NextArm}
-use Rattle.pas_tree.specs.declared.denoters.Tag.{Tag}
 use Rattle.pas_tree.specs.declared.denoters.TagField.{TagField}
 use Rattle.check_steps.specs.Known.{frame_at}
-use Rattle.check_steps.specs.Steps.{Step, give, ◌>>=◌, look, each}
+use Rattle.check_steps.specs.Steps.{Step, give, ◌>>=◌, look}
 use Rattle.kind_checker.specs.declared.names.NameKind.TheVariants as kind
 use Rattle.kind_checker.specs.Names.{define_name, each_name}
 use Rattle.denoter_checker.specs.declared.defines.Wanted.{Wanted}

@@ -1,5 +1,5 @@
 -- The parts of a block that define types and declare variables (6.2.1).
-use Rattle.std.specs.Prelude.{ℕ, zero, suc, ◌+◌, ◌-◌, List, ◌∷◌, Option, Some, None, nat_le}
+use Rattle.std.specs.Prelude.{ℕ, zero, suc, ◌+◌, ◌-◌, List, ◌∷◌, Some, None, nat_le}
 use Rattle.pas_tree.specs.declared.blocks.TypePart.{TypePart}
 use Rattle.pas_tree.specs.declared.blocks.TypeDefinition.{TypeDefinition}
 use Rattle.pas_tree.specs.declared.blocks.VariablePart.{VariablePart}

@@ -1,12 +1,11 @@
 -- The tag of a variant part, and the values that choose its variants (6.4.3.3).
-use Rattle.std.specs.Prelude.{ℕ, ◌+◌, ◌-◌, Bool, true, false, Option, Some, None, is_none, is_some}
-use Rattle.std.specs.Prelude.{nat_eq, nat_lt, ◌&&◌, ◌||◌, not, if◌then◌else◌, length, ℤ}
+use Rattle.std.specs.Prelude.{ℕ, ◌+◌, ◌-◌, Bool, true, Option, Some, None, is_none}
+use Rattle.std.specs.Prelude.{nat_eq, nat_lt, ◌&&◌, ◌||◌, not, if◌then◌else◌, ℤ}
 use Rattle.pas_tree.specs.declared.constants.Constant.{Constant}
 use Rattle.pas_tree.specs.declared.constants.Constants.{Constants}
 use Rattle.pas_tree.specs.declared.constants.NextConstant.{NextConstant}
 use Rattle.pas_tree.specs.declared.denoters.NextArm.{NextArm}
 use Rattle.pas_tree.specs.declared.denoters.TagField.{TagField}
-use Rattle.program_tables.specs.declared.rows.Row.{Row}
 use Rattle.program_tables.specs.declared.rows.Row.TheVariants as row
 use Rattle.program_tables.specs.declared.rows.NameRow.TheVariants as named
 use Rattle.program_tables.specs.declared.rows.PartRow.TheVariants as part

@@ -1,6 +1,6 @@
 -- What is found in touches, one more touch at a time.
-use Rattle.std.proofs.Common.{◌≡◌, ℕ, ◌+◌, List, [], ◌∷◌, ◌++◌, Option, Some, None, refl, ap, sym, ◌∙◌, true, false, cond, Bool, max, inl, inr, ◌⊎◌}
-use Rattle.std.specs.Prelude.{not, option_to_list}
+use Rattle.std.proofs.Common.{◌≡◌, ℕ, ◌+◌, List, [], ◌∷◌, ◌++◌, Option, Some, None, refl, ap, sym, ◌∙◌, true, false, cond, Bool, max, inl, inr}
+use Rattle.std.specs.Prelude.{option_to_list}
 use Rattle.std.specs.List.{before_first, filter_map}
 use Rattle.effect_log.proofs.BlocksChange.{nothing_seen}
 use Rattle.std.proofs.lemmas.List.{append-nil}

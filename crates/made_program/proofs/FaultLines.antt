@@ -1,7 +1,6 @@
 -- The lines, where the call at fault is found.
 use Rattle.std.proofs.Common.{◌≡◌, ◌<◌, ℕ, List, ap, ◌∙◌}
 use Rattle.std.specs.Prelude.{Result, Ok, Err, IfOk}
-use Rattle.optimal_query.specs.declared.state.SearchState.{SearchState}
 use Rattle.dialog_replies.specs.Subject.{Subject, calls_recorded}
 use Rattle.made_program.specs.Laws.{EndsAtTheFault}
 use Rattle.made_program.specs.Lines.{fault_lines, summary_lines, made_lines}

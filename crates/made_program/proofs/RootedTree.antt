@@ -1,10 +1,10 @@
 -- The calls of a run stand in the subtree of call 0.
-use Rattle.std.proofs.Common.{◌≡◌, ℕ, zero, suc, ◌+◌, ◌-◌, ◌<◌, ◌≤◌, List, [], ◌∷◌, length, Option, Some, None, inl, inr, refl, sym, ap, subst, ◌∙◌, arith}
+use Rattle.std.proofs.Common.{◌≡◌, ℕ, zero, suc, ◌+◌, ◌-◌, ◌<◌, ◌≤◌, List, [], ◌∷◌, length, Option, Some, None, refl, sym, ap, subst, ◌∙◌, arith}
 use Rattle.std.specs.Prelude.{slice_get, slice_index}
 use Rattle.call_tree.specs.Nesting.{IsRooted}
 use Rattle.call_tree.specs.Numbering.{IsNumbered, IsParent}
 use Rattle.call_tree.specs.Recording.{Recording, depths_of, lasts_of, parents_of}
-use Rattle.optimal_query.specs.Laws.{CallTree, IsCallTree}
+use Rattle.optimal_query.specs.Laws.{CallTree}
 use Rattle.dialog_replies.specs.Kept.{AreCallsOf}
 use Rattle.dialog_replies.specs.Subject.{Subject, calls_recorded}
 use Rattle.dialog_replies.proofs.ColumnsOfCalls.{routines_counted}

@@ -1,10 +1,10 @@
 -- The next token of a list of terminals.
-use Rattle.std.proofs.Common.{◌≡◌, ℕ, suc, ◌+◌, ◌<◌, ◌≤◌, Bool, true, false, if◌then◌else◌, List, [], ◌∷◌, length, get_or, drop, refl, sym, ap, subst, ◌∙◌}
+use Rattle.std.proofs.Common.{◌≡◌, ℕ, suc, ◌+◌, ◌<◌, ◌≤◌, true, false, List, [], ◌∷◌, length, get_or, drop, refl, sym, ap, subst, ◌∙◌}
 use Rattle.std.proofs.Common.{arith}
 use Rattle.std.proofs.Math.Seq.{drop-cons}
 use Rattle.std.proofs.Math.ListN.{drop_of_length-le}
 use Rattle.grammar.specs.declared.terminals.Terminal.{Terminal}
-use Rattle.grammar.specs.Terminals.{is, one_of, passes}
+use Rattle.grammar.specs.Terminals.{is, passes}
 use Rattle.grammar.specs.Nodes.{Item, next, second}
 use Rattle.grammar.specs.Reading.{token_at}
 use Rattle.pas_phrases.specs.Items.{numbered, items_from}

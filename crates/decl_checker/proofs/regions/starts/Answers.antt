@@ -1,6 +1,6 @@
-use Rattle.std.proofs.Common.{nat_eq, sym, subst, ◌∙◌, arith, ℕ, Option}
+use Rattle.std.proofs.Common.{nat_eq, sym, ◌∙◌, arith}
 use Rattle.indexmap.specs.IndexMap.{get}
-use Rattle.decl_checker.proofs.Places.{TellsBefore, known_at, new_at, tells_all}
+use Rattle.decl_checker.proofs.Places.{known_at, new_at, tells_all}
 use Rattle.decl_checker.proofs.regions.starts.Goals.{then-not-contains_key+in_ok-insert, else-not-contains_key}
 use Rattle.decl_checker.proofs.regions.starts.Goals as goal
 

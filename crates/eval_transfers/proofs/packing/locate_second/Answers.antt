@@ -1,4 +1,4 @@
-use Rattle.std.proofs.Common.{sym, ap, ◌∙◌, arith, if◌then◌else◌}
+use Rattle.std.proofs.Common.{sym, ap, ◌∙◌, arith}
 use Rattle.program_meaning.specs.Accesses.{locate}
 use Rattle.program_meaning.specs.Tree.{bind}
 use Rattle.eval_tasks.specs.Rest.{both_located, first_located, here, waiting}

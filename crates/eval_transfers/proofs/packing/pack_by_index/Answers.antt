@@ -1,4 +1,4 @@
-use Rattle.std.proofs.Common.{ap, arith, if◌then◌else◌}
+use Rattle.std.proofs.Common.{ap, arith}
 use Rattle.program_meaning.specs.Tree.{bind}
 use Rattle.eval_tasks.specs.Rest.{both_located, here, waiting}
 use Rattle.eval_tasks.proofs.StepsFall.{falls_so}

@@ -1,4 +1,4 @@
-use Rattle.std.proofs.Common.{◌≡◌, ◌<◌, length, arith}
+use Rattle.std.proofs.Common.{◌<◌, length, arith}
 use Rattle.answer_book.specs.declared.entries.What.{What}
 use Rattle.answer_book.specs.declared.entries.What.TheVariants.{Judged, Trusted}
 use Rattle.answer_book.specs.Kept.{answers_of}

@@ -1,4 +1,4 @@
-use Rattle.std.proofs.Common.{◌≡◌, refl, sym, ◌∙◌, arith}
+use Rattle.std.proofs.Common.{sym, ◌∙◌}
 use Rattle.answer_book.specs.Spoken.{entry_judgement}
 use Rattle.answer_book.proofs.FilterMaps.{last_given, last_kept}
 use Rattle.answer_book.proofs.entry_list.EntryList.last_judgement.Goals as goal

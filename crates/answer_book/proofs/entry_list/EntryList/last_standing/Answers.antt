@@ -1,4 +1,4 @@
-use Rattle.std.proofs.Common.{◌≡◌, ℕ, ◌+◌, ◌-◌, ◌<◌, ◌≤◌, false, length, inl, inr, ap, refl, ◌∙◌, sym, arith}
+use Rattle.std.proofs.Common.{◌+◌, length, inl, inr, ap, ◌∙◌, sym, arith}
 use Rattle.std.proofs.lemmas.Bool.{cases_eq}
 use Rattle.answer_book.specs.Entries.{is_standing}
 use Rattle.answer_book.proofs.LastWhere.{last_where_from, no_last_where}

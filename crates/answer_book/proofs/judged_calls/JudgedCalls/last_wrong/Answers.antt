@@ -1,4 +1,4 @@
-use Rattle.std.proofs.Common.{◌≡◌, ℕ, ◌∙◌, refl}
+use Rattle.std.proofs.Common.{◌∙◌, refl}
 use Rattle.answer_book.specs.Judged.{AreFlagged}
 use Rattle.answer_book.proofs.FlagLemmas.{last_flag, no_flag}
 use Rattle.answer_book.proofs.judged_calls.JudgedCalls.last_wrong.Goals as goal

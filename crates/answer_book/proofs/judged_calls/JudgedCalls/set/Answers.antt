@@ -1,4 +1,3 @@
-use Rattle.std.proofs.Common.{ℕ}
 use Rattle.answer_book.proofs.FlagLemmas.{set_is_flagged}
 use Rattle.answer_book.proofs.judged_calls.JudgedCalls.set.Goals as goal
 
