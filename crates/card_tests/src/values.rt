@@ -81,9 +81,9 @@ const PIECES: [(u32, u32, &str); 3] = [
 /// The items of an input.
 fn items_of(alloc: Global) -> Result<Items, AllocError> {
     let mut items = Items::new(alloc);
-    'items: for item in ITEMS {
+    'items: for item in &ITEMS {
         if items.len() < 100 {
-            items.push(item)?;
+            items.push(*item)?;
         }
     }
     Ok(items)
@@ -108,8 +108,8 @@ fn piece_holds(
 #[test]
 fn pieces_of_the_input(rt: HostRuntime) -> Result<(), Fail> {
     let items = items_of(rt.alloc())?;
-    for (from, to, wanted) in PIECES {
-        let holds = piece_holds(rt.alloc(), &items, from, to, wanted)?;
+    for (from, to, wanted) in &PIECES {
+        let holds = piece_holds(rt.alloc(), &items, *from, *to, wanted)?;
         assert!(rt; holds, "from {from} to {to}");
     }
     Ok(())
@@ -136,8 +136,8 @@ fn numbers_hold(alloc: Global, number: u32, whole: i64, wanted: &str) -> Result<
 
 #[test]
 fn numbers(rt: HostRuntime) -> Result<(), Fail> {
-    for (number, whole, wanted) in NUMBERS {
-        let holds = numbers_hold(rt.alloc(), number, whole, wanted)?;
+    for (number, whole, wanted) in &NUMBERS {
+        let holds = numbers_hold(rt.alloc(), *number, *whole, wanted)?;
         assert!(rt; holds, "of {number}");
     }
     Ok(())

@@ -29,8 +29,8 @@ const ROWS: [(u32, Held); 5] = [
 const LARGE: &str = "program p; var i: array [0..65536] of char; begin end.";
 
 fn rows_stand(program: &Program) -> bool {
-    'rows: for (number, wanted) in ROWS {
-        if held_in(program.row(number)) != wanted {
+    'rows: for (number, wanted) in &ROWS {
+        if held_in(program.row(*number)) != *wanted {
             return false;
         }
     }
@@ -116,8 +116,8 @@ fn source_holds(alloc: Global, source: &[u8], wanted: Fault) -> Result<bool, Fai
 
 #[test]
 fn programs(rt: HostRuntime) -> Result<(), Fail> {
-    for (source, wanted) in PROGRAMS {
-        let holds = source_holds(rt.alloc(), source.as_bytes(), wanted)?;
+    for (source, wanted) in &PROGRAMS {
+        let holds = source_holds(rt.alloc(), source.as_bytes(), *wanted)?;
         assert!(rt; holds, "{source}");
     }
     Ok(())

@@ -1,9 +1,7 @@
 //! Cells of the stack, places in frames, and lists of cells.
 ghost use Rattle.eval_machine.specs.Machines.{IsReady};
 
-use crate::machines::{
-    DONE, MachineAnswer, MachineCall, address, fault, machine_with, number, rows_hold, truth, value,
-};
+use crate::machines::{CallRow, MachineAnswer, MachineCall, Want, machine_with, rows_hold};
 use crate::tables::{DIGIT, DIGITS};
 use cell_value::{Kind, SetBits, Touch, Value};
 use eval_cells::{
@@ -126,77 +124,90 @@ const OUTSIDE: Value = Value::Bits(SetBits {
 });
 
 /// A frame of four cells: the link, and variables of the types integer, `digit` and `digits`.
+const CELLS_OF_A_FRAME: [CallRow<OnCells>; 16] = [
+    (OnCells::Read(0), Want::Value(Value::Frame(0))),
+    (OnCells::Read(1), Want::Value(Value::Undefined)),
+    (OnCells::Write(1, Value::Number(-3)), Want::Done),
+    (OnCells::Read(1), Want::Number(-3)),
+    (OnCells::Has(3), Want::Truth(true)),
+    // Above the frame there is no cell.
+    (OnCells::Read(4), Want::Fault(Kind::Undefined)),
+    // It is an error to use a variable without a value (6.5.1), and to end a function without one (6.6.2).
+    (OnCells::Digit(2), Want::Fault(Kind::Undefined)),
+    (
+        OnCells::DigitReturned(2),
+        Want::Fault(Kind::UndefinedResult),
+    ),
+    (OnCells::Set(3), Want::Fault(Kind::Undefined)),
+    // A value is to be one of the type of the variable that it goes to, and so are the members of a set (6.4.6).
+    (OnCells::Assign(DIGIT, 2, Value::Number(9)), Want::Done),
+    (
+        OnCells::Assign(DIGIT, 2, Value::Number(10)),
+        Want::Fault(Kind::OutOfRange),
+    ),
+    (OnCells::Digit(2), Want::Number(9)),
+    (OnCells::DigitReturned(2), Want::Number(9)),
+    (OnCells::Assign(DIGITS, 3, INSIDE), Want::Done),
+    (
+        OnCells::Assign(DIGITS, 3, OUTSIDE),
+        Want::Fault(Kind::OutOfRange),
+    ),
+    (OnCells::Set(3), Want::Value(INSIDE)),
+];
+
 #[test]
 fn cells_of_a_frame(rt: HostRuntime) -> Result<(), Fail> {
-    let rows = [
-        (OnCells::Read(0), value(Value::Frame(0))),
-        (OnCells::Read(1), value(Value::Undefined)),
-        (OnCells::Write(1, Value::Number(-3)), DONE),
-        (OnCells::Read(1), number(-3)),
-        (OnCells::Has(3), truth(true)),
-        // Above the frame there is no cell.
-        (OnCells::Read(4), fault(Kind::Undefined)),
-        // It is an error to use a variable without a value (6.5.1), and to end a function without one (6.6.2).
-        (OnCells::Digit(2), fault(Kind::Undefined)),
-        (OnCells::DigitReturned(2), fault(Kind::UndefinedResult)),
-        (OnCells::Set(3), fault(Kind::Undefined)),
-        // A value is to be one of the type of the variable that it goes to, and so are the members of a set (6.4.6).
-        (OnCells::Assign(DIGIT, 2, Value::Number(9)), DONE),
-        (
-            OnCells::Assign(DIGIT, 2, Value::Number(10)),
-            fault(Kind::OutOfRange),
-        ),
-        (OnCells::Digit(2), number(9)),
-        (OnCells::DigitReturned(2), number(9)),
-        (OnCells::Assign(DIGITS, 3, INSIDE), DONE),
-        (OnCells::Assign(DIGITS, 3, OUTSIDE), fault(Kind::OutOfRange)),
-        (OnCells::Set(3), value(INSIDE)),
-    ];
-    rows_hold(&rt, rt.alloc(), b"".as_slice(), 4, &rows)?;
+    rows_hold(&rt, rt.alloc(), b"".as_slice(), 4, &CELLS_OF_A_FRAME)?;
     Ok(())
 }
 
 /// Frames at 0 and at 4. The second one is of a routine inside: its link leads to the first one, its variable parameter
 /// stands for the variable at 3, and its routine parameter for routine 2 of the first frame.
+const PLACES_IN_FRAMES: [CallRow<OnCells>; 8] = [
+    (OnCells::Write(4, Value::Frame(0)), Want::Done),
+    (OnCells::Write(5, Value::Place(3)), Want::Done),
+    (OnCells::Write(6, Value::Routine(2, 0)), Want::Done),
+    (OnCells::FrameOut(1, 4), Want::Address(0)),
+    (OnCells::CellOut(0, 4, 2), Want::Address(6)),
+    (OnCells::CellOut(1, 4, 2), Want::Address(2)),
+    (OnCells::ReferenceOut(0, 4, 1), Want::Address(3)),
+    (OnCells::RoutineOut(0, 4, 2), Want::Routine(2, 0)),
+];
+
 #[test]
 fn places_in_frames(rt: HostRuntime) -> Result<(), Fail> {
-    let rows = [
-        (OnCells::Write(4, Value::Frame(0)), DONE),
-        (OnCells::Write(5, Value::Place(3)), DONE),
-        (OnCells::Write(6, Value::Routine(2, 0)), DONE),
-        (OnCells::FrameOut(1, 4), address(0)),
-        (OnCells::CellOut(0, 4, 2), address(6)),
-        (OnCells::CellOut(1, 4, 2), address(2)),
-        (OnCells::ReferenceOut(0, 4, 1), address(3)),
-        (
-            OnCells::RoutineOut(0, 4, 2),
-            Ok(MachineAnswer::Routine(2, 0)),
-        ),
-    ];
-    rows_hold(&rt, rt.alloc(), b"".as_slice(), 9, &rows)?;
+    rows_hold(&rt, rt.alloc(), b"".as_slice(), 9, &PLACES_IN_FRAMES)?;
     Ok(())
 }
 
 /// Arrays `a` at 1, of five chars, and `z` at 6, packed, of three: `pack(a, 2, z)` and `unpack(z, a, 3)` (6.6.5.4).
+const ARRAYS_OF_CHARS: [CallRow<OnCells>; 5] = [
+    (OnCells::WriteLetters(1, b"abcde"), Want::Done),
+    (OnCells::Copy(2, 6, 3), Want::Done),
+    (OnCells::HasLetters(1, b"abcdebcd"), Want::Truth(true)),
+    (OnCells::Copy(6, 3, 3), Want::Done),
+    (OnCells::HasLetters(1, b"abbcdbcd"), Want::Truth(true)),
+];
+
 #[test]
 fn arrays_of_chars(rt: HostRuntime) -> Result<(), Fail> {
-    let rows = [
-        (OnCells::WriteLetters(1, b"abcde".as_slice()), DONE),
-        (OnCells::Copy(2, 6, 3), DONE),
-        (OnCells::HasLetters(1, b"abcdebcd".as_slice()), truth(true)),
-        (OnCells::Copy(6, 3, 3), DONE),
-        (OnCells::HasLetters(1, b"abbcdbcd".as_slice()), truth(true)),
-    ];
-    rows_hold(&rt, rt.alloc(), b"".as_slice(), 9, &rows)?;
+    rows_hold(&rt, rt.alloc(), b"".as_slice(), 9, &ARRAYS_OF_CHARS)?;
     Ok(())
+}
+
+/// Whether a frame of four cells at 0 is removed after an entry of the log.
+fn frame_is_removed(alloc: Global, machine: &mut Machine) -> bool
+    requires ready { IsReady machine.old }
+{
+    machine.steps > 0
+        && note(machine, Touch::Look(0)).is_ok()
+        && remove_frame(alloc, machine, 0, 4).is_ok()
+        && machine.top == 0
 }
 
 #[test]
 fn a_frame_removed(rt: HostRuntime) -> Result<(), Fail> {
     let mut machine = machine_with(&rt, rt.alloc(), b"".as_slice(), 4)?;
-    assert!(rt; machine.steps > 0);
-    assert_eq!(rt; note(&mut machine, Touch::Look(0)), Ok(()));
-    remove_frame(rt.alloc(), &mut machine, 0, 4)?;
-    assert_eq!(rt; machine.top, 0);
+    assert!(rt; frame_is_removed(rt.alloc(), &mut machine));
     Ok(())
 }

@@ -1,8 +1,7 @@
 //! Reading of the input, and writing to the output.
 ghost use Rattle.eval_machine.specs.Machines.{IsReady};
-ghost use Rattle.eval_machine.specs.Machines.{IsReady};
 
-use crate::machines::{MachineAnswer, MachineCall, fault, machine_of, number, rows_hold, truth};
+use crate::machines::{CallRow, MachineAnswer, MachineCall, Want, machine_of, rows_hold};
 use cell_value::{Kind, Memory, Value};
 use eval_machine::{Halt, Machine};
 use eval_textfiles::{
@@ -61,32 +60,33 @@ impl MachineCall for OnInput {
 }
 
 /// Integers and chars up to the end (6.6.6.5, 6.9.1, 6.9.2).
+const INPUT_TO_ITS_END: [CallRow<OnInput>; 17] = [
+    // An integer goes up to the first char that is none of its own, and blanks before it are skipped.
+    (OnInput::Integer, Want::Number(42)),
+    (OnInput::Integer, Want::Number(-7)),
+    (OnInput::Char, Want::Number(32)),
+    (OnInput::Eoln, Want::Number(0)),
+    (OnInput::Char, Want::Number(120)),
+    (OnInput::Eoln, Want::Number(1)),
+    // A line end is read as a space, and skipped as a blank.
+    (OnInput::Char, Want::Number(32)),
+    (OnInput::Integer, Want::Number(3)),
+    // maxint is 2,147,483,647.
+    (OnInput::Integer, Want::Fault(Kind::Overflow)),
+    (OnInput::Integer, Want::Fault(Kind::BadNumber)),
+    (OnInput::Item, Want::Truth(false)),
+    (OnInput::Eof, Want::Number(0)),
+    (OnInput::Item, Want::Truth(true)),
+    (OnInput::Eof, Want::Number(1)),
+    (OnInput::Eoln, Want::Fault(Kind::PastEnd)),
+    (OnInput::Char, Want::Fault(Kind::PastEnd)),
+    (OnInput::Integer, Want::Fault(Kind::PastEnd)),
+];
+
 #[test]
 fn input_to_its_end(rt: HostRuntime) -> Result<(), Fail> {
     let input = b"  42-7 x\n+003\n2147483648 y\n".as_slice();
-    let rows = [
-        // An integer goes up to the first char that is none of its own, and blanks before it are skipped.
-        (OnInput::Integer, number(42)),
-        (OnInput::Integer, number(-7)),
-        (OnInput::Char, number(32)),
-        (OnInput::Eoln, number(0)),
-        (OnInput::Char, number(120)),
-        (OnInput::Eoln, number(1)),
-        // A line end is read as a space, and skipped as a blank.
-        (OnInput::Char, number(32)),
-        (OnInput::Integer, number(3)),
-        // maxint is 2,147,483,647.
-        (OnInput::Integer, fault(Kind::Overflow)),
-        (OnInput::Integer, fault(Kind::BadNumber)),
-        (OnInput::Item, truth(false)),
-        (OnInput::Eof, number(0)),
-        (OnInput::Item, truth(true)),
-        (OnInput::Eof, number(1)),
-        (OnInput::Eoln, fault(Kind::PastEnd)),
-        (OnInput::Char, fault(Kind::PastEnd)),
-        (OnInput::Integer, fault(Kind::PastEnd)),
-    ];
-    rows_hold(&rt, rt.alloc(), input, 1, &rows)?;
+    rows_hold(&rt, rt.alloc(), input, 1, &INPUT_TO_ITS_END)?;
     Ok(())
 }
 
@@ -94,8 +94,8 @@ fn input_to_its_end(rt: HostRuntime) -> Result<(), Fail> {
 #[derive(Clone, Copy)]
 enum Written<'a> {
     /// A value of a type, in a width if there is one.
-    Scalar(u32, i64, Option<Value>),
-    Text(&'a [u8], Option<Value>),
+    Scalar(u32, i64, Option<i64>),
+    Text(&'a [u8], Option<i64>),
     Line,
     Page,
 }
@@ -106,11 +106,11 @@ fn write(alloc: Global, machine: &mut Machine, written: Written) -> Result<(), H
 {
     match written {
         Written::Scalar(of, number, width) => {
-            write_scalar(machine, of, Value::Number(number), width)
+            write_scalar(machine, of, Value::Number(number), width.map(Value::Number))
         }
         Written::Text(text, width) => {
             let cells = string_of(alloc, text)?;
-            write_string(machine, &cells, width)
+            write_string(machine, &cells, width.map(Value::Number))
         }
         Written::Line => end_line(machine),
         Written::Page => end_page(machine),
@@ -120,58 +120,54 @@ fn write(alloc: Global, machine: &mut Machine, written: Written) -> Result<(), H
 /// What is written, what the call answers, and the bytes that the output then has.
 type Row<'a> = (Written<'a>, Result<(), Halt>, &'a [u8]);
 
-/// Writes it on a machine with eight steps.
-fn text_holds(rt: &impl Abort, alloc: Global, number: usize, row: &Row) -> Result<(), Memory> {
+/// Whether that comes of it on a machine with eight steps.
+fn text_holds(alloc: Global, row: &Row) -> Result<bool, Memory> {
     let (written, want, bytes) = row;
     let mut machine = machine_of(alloc, b"".as_slice(), 8)?;
     let answer = write(alloc, &mut machine, *written);
-    assert_eq!(rt; answer, *want, "row {number}");
-    assert_eq!(rt; machine.output.as_slice(), *bytes, "row {number}");
-    Ok(())
+    Ok(answer == *want && machine.output.as_slice() == *bytes)
 }
 
 /// Each on a machine of its own.
 fn texts_hold(rt: &impl Abort, alloc: Global, rows: &[Row]) -> Result<(), Memory> {
     for (number, row) in rows.iter().enumerate() {
-        text_holds(rt, alloc, number, row)?;
+        let holds = text_holds(alloc, row)?;
+        assert!(rt; holds, "row {number}");
     }
     Ok(())
 }
 
-fn width(chars: i64) -> Option<Value> {
-    Some(Value::Number(chars))
-}
-
 /// The forms of 6.9.3 to 6.9.5. Without a width there is the text alone.
+const TEXTS_IN_WIDTHS: [Row; 14] = [
+    (Written::Scalar(INTEGER, -5, Some(4)), Ok(()), b"  -5"),
+    // A width that is less cuts no integer, ...
+    (Written::Scalar(INTEGER, 123, Some(1)), Ok(()), b"123"),
+    (Written::Scalar(INTEGER, 0, None), Ok(()), b"0"),
+    (
+        Written::Scalar(INTEGER, 7, Some(0)),
+        Err(Halt::Fault(Kind::BadWidth)),
+        b"",
+    ),
+    (Written::Scalar(CHAR, 65, Some(3)), Ok(()), b"  A"),
+    (Written::Scalar(BOOLEAN, 1, Some(6)), Ok(()), b"  true"),
+    // ... but the word for a value of Boolean, and a string.
+    (Written::Scalar(BOOLEAN, 0, Some(3)), Ok(()), b"fal"),
+    (Written::Text(b"abc", Some(2)), Ok(()), b"ab"),
+    (Written::Text(b"abc", Some(5)), Ok(()), b"  abc"),
+    (Written::Text(b"abc", None), Ok(()), b"abc"),
+    // Each byte takes a step.
+    (Written::Text(b"abc", Some(8)), Ok(()), b"     abc"),
+    (
+        Written::Text(b"abc", Some(9)),
+        Err(Halt::OutOfSteps),
+        b"      ab",
+    ),
+    (Written::Line, Ok(()), b"\n"),
+    (Written::Page, Ok(()), b"\x0c"),
+];
+
 #[test]
 fn texts_in_widths(rt: HostRuntime) -> Result<(), Fail> {
-    let rows: [Row; 14] = [
-        (Written::Scalar(INTEGER, -5, width(4)), Ok(()), b"  -5"),
-        // A width that is less cuts no integer, ...
-        (Written::Scalar(INTEGER, 123, width(1)), Ok(()), b"123"),
-        (Written::Scalar(INTEGER, 0, None), Ok(()), b"0"),
-        (
-            Written::Scalar(INTEGER, 7, width(0)),
-            Err(Halt::Fault(Kind::BadWidth)),
-            b"",
-        ),
-        (Written::Scalar(CHAR, 65, width(3)), Ok(()), b"  A"),
-        (Written::Scalar(BOOLEAN, 1, width(6)), Ok(()), b"  true"),
-        // ... but the word for a value of Boolean, and a string.
-        (Written::Scalar(BOOLEAN, 0, width(3)), Ok(()), b"fal"),
-        (Written::Text(b"abc", width(2)), Ok(()), b"ab"),
-        (Written::Text(b"abc", width(5)), Ok(()), b"  abc"),
-        (Written::Text(b"abc", None), Ok(()), b"abc"),
-        // Each byte takes a step.
-        (Written::Text(b"abc", width(8)), Ok(()), b"     abc"),
-        (
-            Written::Text(b"abc", width(9)),
-            Err(Halt::OutOfSteps),
-            b"      ab",
-        ),
-        (Written::Line, Ok(()), b"\n"),
-        (Written::Page, Ok(()), b"\x0c"),
-    ];
-    texts_hold(&rt, rt.alloc(), &rows)?;
+    texts_hold(&rt, rt.alloc(), &TEXTS_IN_WIDTHS)?;
     Ok(())
 }

@@ -1,5 +1,5 @@
 //! A record with variants.
-use crate::machines::{DONE, MachineAnswer, MachineCall, address, fault, number, rows_hold, value};
+use crate::machines::{CallRow, MachineAnswer, MachineCall, Want, rows_hold};
 use crate::tables::{A, C, COLOUR, I, M, N, OUTER, T};
 use cell_value::{Kind, Value};
 use eval_machine::{Halt, Machine, read_cell, write_cell};
@@ -58,49 +58,54 @@ impl MachineCall for OnShape {
 
 /// The fields `a`, `c`, `i`, `t`, `m`, `n` of the variable are the cells at 1, 2, 3, 4, 6 and 7, and the tag of the
 /// inner variant part is the one at 5 (6.4.3.3, 6.5.3.3).
+const FIELDS_OF_VARIANTS: [CallRow<OnShape>; 13] = [
+    (OnShape::Field(A), Want::Address(1)),
+    (OnShape::Field(C), Want::Address(2)),
+    // A tag without a value chooses no variant.
+    (OnShape::TargetField(I), Want::Fault(Kind::InactiveVariant)),
+    // c := green
+    (OnShape::Tag(Value::Number(1)), Want::Done),
+    (OnShape::TargetField(I), Want::Fault(Kind::InactiveVariant)),
+    (OnShape::TargetField(T), Want::Address(4)),
+    (OnShape::Write(4, Value::Number(65)), Want::Done),
+    // Without a tag field it is the target access that makes a variant the active one.
+    (OnShape::Field(M), Want::Fault(Kind::InactiveVariant)),
+    (OnShape::TargetField(M), Want::Address(6)),
+    (OnShape::Write(6, Value::Number(8)), Want::Done),
+    (OnShape::Field(M), Want::Address(6)),
+    (OnShape::TargetField(N), Want::Address(7)),
+    (OnShape::Read(6), Want::Value(Value::Undefined)),
+];
+
 #[test]
 fn fields_of_variants(rt: HostRuntime) -> Result<(), Fail> {
-    let rows = [
-        (OnShape::Field(A), address(1)),
-        (OnShape::Field(C), address(2)),
-        // A tag without a value chooses no variant.
-        (OnShape::TargetField(I), fault(Kind::InactiveVariant)),
-        // c := green
-        (OnShape::Tag(Value::Number(1)), DONE),
-        (OnShape::TargetField(I), fault(Kind::InactiveVariant)),
-        (OnShape::TargetField(T), address(4)),
-        (OnShape::Write(4, Value::Number(65)), DONE),
-        // Without a tag field it is the target access that makes a variant the active one.
-        (OnShape::Field(M), fault(Kind::InactiveVariant)),
-        (OnShape::TargetField(M), address(6)),
-        (OnShape::Write(6, Value::Number(8)), DONE),
-        (OnShape::Field(M), address(6)),
-        (OnShape::TargetField(N), address(7)),
-        (OnShape::Read(6), value(Value::Undefined)),
-    ];
-    rows_hold(&rt, rt.alloc(), b"".as_slice(), 8, &rows)?;
+    rows_hold(&rt, rt.alloc(), b"".as_slice(), 8, &FIELDS_OF_VARIANTS)?;
     Ok(())
 }
 
 /// The same variable: what becomes of the fields of a variant.
+const VARIANTS_THAT_CHANGE: [CallRow<OnShape>; 10] = [
+    // c := green; t := 'A'
+    (OnShape::Activate(OUTER, 2, Value::Number(1)), Want::Done),
+    (OnShape::Write(4, Value::Number(65)), Want::Done),
+    // c := blue, which chooses the variant of green
+    (OnShape::Tag(Value::Number(2)), Want::Done),
+    (OnShape::Read(4), Want::Number(65)),
+    // There is no fourth colour.
+    (
+        OnShape::Tag(Value::Number(3)),
+        Want::Fault(Kind::OutOfRange),
+    ),
+    (OnShape::Read(4), Want::Number(65)),
+    // c := red
+    (OnShape::Tag(Value::Number(0)), Want::Done),
+    (OnShape::Read(4), Want::Value(Value::Undefined)),
+    (OnShape::Field(T), Want::Fault(Kind::InactiveVariant)),
+    (OnShape::Field(I), Want::Address(3)),
+];
+
 #[test]
 fn variants_that_change(rt: HostRuntime) -> Result<(), Fail> {
-    let rows = [
-        // c := green; t := 'A'
-        (OnShape::Activate(OUTER, 2, Value::Number(1)), DONE),
-        (OnShape::Write(4, Value::Number(65)), DONE),
-        // c := blue, which chooses the variant of green
-        (OnShape::Tag(Value::Number(2)), DONE),
-        (OnShape::Read(4), number(65)),
-        // There is no fourth colour.
-        (OnShape::Tag(Value::Number(3)), fault(Kind::OutOfRange)),
-        (OnShape::Read(4), number(65)),
-        // c := red
-        (OnShape::Tag(Value::Number(0)), DONE),
-        (OnShape::Read(4), value(Value::Undefined)),
-        (OnShape::Field(T), fault(Kind::InactiveVariant)),
-        (OnShape::Field(I), address(3)),
-    ];
-    rows_hold(&rt, rt.alloc(), b"".as_slice(), 8, &rows)?;
+    rows_hold(&rt, rt.alloc(), b"".as_slice(), 8, &VARIANTS_THAT_CHANGE)?;
     Ok(())
 }

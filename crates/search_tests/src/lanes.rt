@@ -24,22 +24,19 @@ fn best_is(rt: &impl Abort, weights: &[u32], askable: &[u8], total: u32, expecte
     assert!(rt; weights.len() == askable.len());
     assert!(rt; are_weighed(weights, askable, total));
     let (by_lanes, by_loop) = best_both_ways(weights, askable, total);
-    assert_eq!(rt; by_lanes, expected);
-    assert_eq!(rt; by_loop, expected);
+    assert!(rt; by_lanes == expected && by_loop == expected);
 }
 
 /// Both searches for the next place of a value find this one.
 fn next_is(rt: &impl Abort, column: &[u32], from: usize, value: u32, expected: Option<usize>) {
     let (by_lanes, by_loop) = next_of_both_ways(column, from, value);
-    assert_eq!(rt; by_lanes, expected);
-    assert_eq!(rt; by_loop, expected);
+    assert!(rt; by_lanes == expected && by_loop == expected);
 }
 
 /// Both searches for the last flag that is set find this one.
 fn last_is(rt: &impl Abort, flags: &[u8], expected: Option<usize>) {
     let (by_lanes, by_loop) = last_set_both_ways(flags);
-    assert_eq!(rt; by_lanes, expected);
-    assert_eq!(rt; by_loop, expected);
+    assert!(rt; by_lanes == expected && by_loop == expected);
 }
 
 fn leaves(left: u32, at: usize) -> Option<Choice> {

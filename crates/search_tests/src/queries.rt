@@ -32,8 +32,7 @@ fn obey(rt: &impl Abort, search: &mut Debug, commands: &[Command]) {
 
 /// The state is this, and this is the least doubt.
 fn is_at(rt: &impl Abort, search: &Debug, state: SearchState, doubt: Option<u32>) {
-    assert_eq!(rt; search.state(), state);
-    assert_eq!(rt; search.next_unknown(None), doubt);
+    assert!(rt; search.state() == state && search.next_unknown(None) == doubt);
 }
 
 /// After these commands the state is this, and this is the least doubt.
@@ -105,8 +104,8 @@ fn answered(rt: &impl Abort, search: &mut Debug, cases: &[(Command, Result<u32, 
     requires a_call { 1 < length search.old.book.routine }
 {
     'cases: for (command, answer, mark) in cases {
-        assert_eq!(rt; obeyed(search, *command), *answer, "{command:?}");
-        assert_eq!(rt; search.mark(1), *mark, "after {command:?}");
+        assert!(rt; obeyed(search, *command) == *answer, "{command:?}");
+        assert!(rt; search.mark(1) == *mark, "after {command:?}");
     }
 }
 
@@ -167,7 +166,7 @@ fn marks_agree(rt: &impl Abort, search: &Debug, plain: &PlainDebug, calls: u32)
     requires plain_calls { calls ≤ length plain.now.book.routine }
 {
     for call in 0..calls {
-        assert_eq!(rt; search.mark(call), plain.mark(call), "of call {call}");
+        assert!(rt; search.mark(call) == plain.mark(call), "of call {call}");
     }
 }
 
@@ -180,7 +179,7 @@ fn next_agrees(
     after: Option<u32>,
 ) -> Result<(), Memory> {
     let expected = plain.next_unknown(alloc, after)?;
-    assert_eq!(rt; search.next_unknown(after), expected, "after {after:?}");
+    assert!(rt; search.next_unknown(after) == expected, "after {after:?}");
     Ok(())
 }
 
@@ -193,7 +192,7 @@ fn states_agree(
     calls: u32,
 ) -> Result<(), Memory> {
     let expected = plain.state(alloc)?;
-    assert_eq!(rt; search.state(), expected);
+    assert!(rt; search.state() == expected);
     next_agrees(rt, alloc, search, plain, None)?;
     for call in 0..calls {
         next_agrees(rt, alloc, search, plain, Some(call))?;
@@ -217,7 +216,7 @@ fn commands_agree(
     'commands: for entries in 0..commands {
         let command = random.command(calls, entries);
         let answer = obeyed(search, command);
-        assert_eq!(rt; answer, obeyed_plainly(plain, command), "{command:?}");
+        assert!(rt; answer == obeyed_plainly(plain, command), "{command:?}");
         marks_agree(rt, search, plain, calls);
         states_agree(rt, alloc, search, plain, calls)?;
     }
@@ -283,7 +282,7 @@ fn judge_the_grandchild(rt: &impl Abort, search: &mut Debug, steps: &mut Steps<(
     ensures cost { steps.new ≤ steps.old + 9 }
 {
     let answer = search.judge(3, Right, steps);
-    assert_eq!(rt; answer, Ok(2));
+    assert!(rt; answer == Ok(2));
     is_at(rt, search, ask(1, 2, 2, 1), None);
 }
 
@@ -317,7 +316,7 @@ fn judge_the_child(
 {
     let judgement = if unknown { Unknown } else { Right };
     let answer = search.judge(1, judgement, steps);
-    assert_eq!(rt; answer, Ok(entry));
+    assert!(rt; answer == Ok(entry));
 }
 
 /// Judges call 1 this many times, in turn unknown and right.

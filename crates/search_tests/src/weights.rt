@@ -30,8 +30,7 @@ fn weighed(rt: &impl Abort, alloc: Global, calls: &Calls, marks: &[Mark]) -> Res
 fn are(rt: &impl Abort, weights: &Weights, column: &[u32], under: u32)
     requires a_call { 1 < call_count weights.now }
 {
-    assert_eq!(rt; weights.column(), column);
-    assert_eq!(rt; weights.under(1), under);
+    assert!(rt; weights.column() == column && weights.under(1) == under);
 }
 
 /// Takes the marks of the calls 2 and 1 back.

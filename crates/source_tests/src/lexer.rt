@@ -2,30 +2,42 @@
 
 ghost use Rattle.std.specs.Prelude.{◌≤◌, length};
 
-use pas_lexer::{LexFault, MAX_SOURCE_BYTES, lex};
-use std::alloc::Global;
+use pas_lexer::{LexFault, MAX_SOURCE_BYTES, Token, Tokens, lex};
+use std::alloc::{AllocError, Global};
 use std::fmt::Write;
-use std::test::*;
 
-/// The tokens of a source, each with its first byte, the byte after its last, and its line; or the fault.
-fn described(alloc: Global, source: &[u8]) -> Result<String, Fail>
+/// Writes a token: its kind, its first byte, the byte after its last, and its line.
+fn write_token(text: &mut String, token: Token) -> Result<(), AllocError> {
+    write!(
+        text,
+        "{:?} {}-{}/{} ",
+        token.kind, token.start, token.end, token.line
+    )
+}
+
+fn write_tokens(text: &mut String, tokens: &Tokens) -> Result<(), AllocError> {
+    for i in 0..tokens.len() {
+        write_token(text, tokens.at(i))?;
+    }
+    Ok(())
+}
+
+/// Writes the tokens of a source, or its fault.
+fn write_lexed(text: &mut String, alloc: Global, source: &[u8]) -> Result<(), AllocError>
     requires { length source.now ≤ MAX_SOURCE_BYTES }
 {
-    let mut text = String::new(alloc);
     match lex(alloc, source) {
-        Ok(tokens) => {
-            for i in 0..tokens.len() {
-                let token = tokens.at(i);
-                write!(
-                    text,
-                    "{:?} {}-{}/{} ",
-                    token.kind, token.start, token.end, token.line
-                )?;
-            }
-        }
-        Err(fault) => write!(text, "{fault:?}")?,
+        Ok(tokens) => write_tokens(text, &tokens),
+        Err(fault) => write!(text, "{fault:?}"),
     }
-    Ok(text)
+}
+
+/// Whether a source has these tokens, or this fault.
+fn is_lexed_as(alloc: Global, source: &[u8], wanted: &str) -> bool {
+    let mut text = String::new(alloc);
+    source.len() <= MAX_SOURCE_BYTES
+        && write_lexed(&mut text, alloc, source).is_ok()
+        && text.as_str() == wanted
 }
 
 /// One source for each choice that the definitions make, and each fault.
@@ -70,40 +82,51 @@ const SOURCES: [(&[u8], &str); 22] = [
 ];
 
 #[test]
-fn sources(rt: HostRuntime) -> Result<(), Fail> {
-    for (source, wanted) in SOURCES {
-        assert!(rt; source.len() <= MAX_SOURCE_BYTES);
-        let text = described(rt.alloc(), source)?;
-        assert_eq!(rt; text.as_str(), wanted, "in {source:?}");
+fn sources(rt: HostRuntime) {
+    for (source, wanted) in &SOURCES {
+        assert!(rt; is_lexed_as(rt.alloc(), source, wanted), "{wanted}");
     }
-    Ok(())
+}
+
+/// Whether the whole source is one name.
+fn is_one_name(alloc: Global, source: &[u8]) -> bool
+    requires { length source.now ≤ MAX_SOURCE_BYTES }
+{
+    match lex(alloc, source) {
+        Ok(tokens) => tokens.len() == 2 && tokens.spelling(0) == source,
+        Err(_) => false,
+    }
 }
 
 /// Memory suffices for a source of the largest size.
 #[test]
-fn largest_source(rt: HostRuntime) -> Result<(), Fail> {
-    let source = vec![in rt.alloc(); b'a'; MAX_SOURCE_BYTES]?;
-    let tokens = lex(rt.alloc(), &source).ok().ok_or("it has tokens")?;
-    assert_eq!(rt; tokens.len(), 2);
-    assert_eq!(rt; tokens.spelling(0), source.as_slice());
-    Ok(())
+fn largest_source(rt: HostRuntime) {
+    let source = vec![in rt.alloc(); b'a'; MAX_SOURCE_BYTES].expect(&rt, "a source");
+    assert!(rt; is_one_name(rt.alloc(), &source));
 }
 
-#[test]
-fn messages(rt: HostRuntime) -> Result<(), Fail> {
-    let rows = [
-        (LexFault::BadByte(7), "no token begins with byte 7"),
-        (LexFault::OpenComment(7), "the comment at byte 7 is open"),
-        (LexFault::OpenString(7), "the string at byte 7 is open"),
-        (LexFault::EmptyString(7), "the string at byte 7 is empty"),
-        (LexFault::RealWord(7), "real arithmetic at byte 7"),
-        (LexFault::TooLarge(7), "the number at byte 7 is too large"),
-        (LexFault::Joined(7), "a letter follows the number at byte 7"),
-        (LexFault::Memory, "out of memory"),
-    ];
-    for (fault, wanted) in rows {
-        let text = format!(in rt.alloc(); "{fault}")?;
-        assert_eq!(rt; text.as_str(), wanted);
+/// Whether the fault is told in these words.
+fn is_told_as(alloc: Global, fault: &LexFault, wanted: &str) -> bool {
+    match fault.to_string(alloc) {
+        Ok(text) => text.as_str() == wanted,
+        Err(_) => false,
     }
-    Ok(())
+}
+
+const MESSAGES: [(LexFault, &str); 8] = [
+    (LexFault::BadByte(7), "no token begins with byte 7"),
+    (LexFault::OpenComment(7), "the comment at byte 7 is open"),
+    (LexFault::OpenString(7), "the string at byte 7 is open"),
+    (LexFault::EmptyString(7), "the string at byte 7 is empty"),
+    (LexFault::RealWord(7), "real arithmetic at byte 7"),
+    (LexFault::TooLarge(7), "the number at byte 7 is too large"),
+    (LexFault::Joined(7), "a letter follows the number at byte 7"),
+    (LexFault::Memory, "out of memory"),
+];
+
+#[test]
+fn messages(rt: HostRuntime) {
+    for (fault, wanted) in &MESSAGES {
+        assert!(rt; is_told_as(rt.alloc(), fault, wanted), "{wanted}");
+    }
 }

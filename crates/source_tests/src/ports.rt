@@ -7,18 +7,15 @@ use std::alloc::Global;
 use std::fs::Permissions;
 use std::io::{ErrorKind, Read, Write};
 use std::os::unix::fs::PermissionsExt;
-use std::test::Fail;
 use std::{fs, io};
 
 /// What came of the next line: a bar after a line, a sign where none came, and nothing at the end.
 fn next_mark(lines: &mut Lines, tape: &mut Tape) -> Option<u8> {
-    let Ok(turn) = lines.next(tape) else {
-        return Some(b'!');
-    };
-    match turn {
-        Turn::Line => Some(b'|'),
-        Turn::TooLong => Some(b'?'),
-        Turn::End => None,
+    match lines.next(tape) {
+        Ok(Turn::Line) => Some(b'|'),
+        Ok(Turn::TooLong) => Some(b'?'),
+        Ok(Turn::End) => None,
+        Err(_) => Some(b'!'),
     }
 }
 
@@ -35,108 +32,160 @@ fn give_lines(tape: &mut Tape, page: &mut Page, lines: &mut Lines) -> bool {
     false
 }
 
+/// A console, the calls of its tape that fail, and what is given of it.
+type ConsoleRow = (&'static [u8], &'static [u64], &'static [u8]);
+
+const CONSOLES: [ConsoleRow; 7] = [
+    (b"", &[], b""),
+    (b"\n\n", &[], b"||"),
+    (b"tree\r\nquit\n", &[], b"tree|quit|"),
+    (b"tree\nquit\r", &[], b"tree|quit\r|"),
+    (b"a\rb\r\r\n", &[], b"a\rb\r|"),
+    (b"\0\x80\xff\n\xc3", &[], b"\0\x80\xff|\xc3|"),
+    (b"a\nb\nc", &[1], b"a|b|!c|"),
+];
+
+/// Whether a tape of these bytes gives what the row says.
+fn is_given(alloc: Global, bytes: &[u8], row: &ConsoleRow) -> Result<bool, Memory> {
+    let (_, fails, wanted) = *row;
+    let mut tape = Tape::new(alloc, bytes, fails)?;
+    let mut page = Page::new(alloc, 100, &[])?;
+    let mut lines = Lines::new(alloc)?;
+    Ok(give_lines(&mut tape, &mut page, &mut lines) && page.given() == wanted)
+}
+
+/// The same of the row's console, put on the shelf and fetched from it.
+fn is_given_from(shelf: &mut Shelf, alloc: Global, row: &ConsoleRow) -> bool {
+    if shelf.put("console", row.0).is_err() {
+        return false;
+    }
+    match shelf.fetch(alloc, "console", 100) {
+        Ok(file) => is_given(alloc, file.as_slice(), row) == Ok(true),
+        Err(_) => false,
+    }
+}
+
 /// The console comes from a shelf by a tape, and its lines go to a page.
 #[test]
-fn consoles_in_memory(rt: HostRuntime) -> Result<(), Fail> {
-    let alloc = rt.alloc();
-    let none: &[u64] = &[];
-    let table: [(&[u8], &[u64], &[u8]); 7] = [
-        (b"", none, b""),
-        (b"\n\n", none, b"||"),
-        (b"tree\r\nquit\n", none, b"tree|quit|"),
-        (b"tree\nquit\r", none, b"tree|quit\r|"),
-        (b"a\rb\r\r\n", none, b"a\rb\r|"),
-        (b"\0\x80\xff\n\xc3", none, b"\0\x80\xff|\xc3|"),
-        (b"a\nb\nc", &[1], b"a|b|!c|"),
-    ];
-    let mut shelf = Shelf::new(alloc, &[])?;
-    for (console, fails, want) in table {
-        shelf.put("console", console)?;
-        let file = shelf.fetch(alloc, "console", 100)?;
-        let mut tape = Tape::new(alloc, file.as_slice(), fails)?;
-        let mut page = Page::new(alloc, 100, none)?;
-        let mut lines = Lines::new(alloc)?;
-        assert!(rt; give_lines(&mut tape, &mut page, &mut lines));
-        assert_eq!(rt; page.given(), want);
+fn consoles_in_memory(rt: HostRuntime) {
+    let mut shelf = Shelf::new(rt.alloc(), &[]).expect(&rt, "a shelf");
+    for row in &CONSOLES {
+        assert!(rt; is_given_from(&mut shelf, rt.alloc(), row), "{:?}", row.0);
     }
-    Ok(())
+}
+
+/// Whether these bytes, or this fault, are what a fetch answers.
+fn fetches<K: Keeper>(
+    keeper: &mut K,
+    alloc: Global,
+    name: &str,
+    limit: u64,
+    wanted: Result<&[u8], FetchFault>,
+) -> bool {
+    match keeper.fetch(alloc, name, limit) {
+        Ok(bytes) => wanted == Ok(bytes.as_slice()),
+        Err(fault) => wanted == Err(fault),
+    }
+}
+
+/// Whether this is answered to storing these bytes; where they were stored, the file holds them.
+fn stores<K: Keeper>(
+    keeper: &mut K,
+    alloc: Global,
+    name: &str,
+    bytes: &[u8],
+    wanted: Result<(), StoreFault>,
+) -> bool {
+    keeper.store(alloc, name, bytes) == wanted
+        && (wanted.is_err() || fetches(keeper, alloc, name, 100, Ok(bytes)))
+}
+
+const FAILED: Result<(), StoreFault> = Err(StoreFault::Failed);
+
+/// Bytes that are stored under one name, what is answered, and what the file holds then.
+type ShelvedRow = (&'static [u8], Result<(), StoreFault>, &'static [u8]);
+
+const SHELVED: [ShelvedRow; 4] = [
+    (b"first", Ok(()), b"first"),
+    (b"last", FAILED, b"first"),
+    (b"final", FAILED, b"first"),
+    (b"last", Ok(()), b"last"),
+];
+
+fn is_shelved(shelf: &mut Shelf, alloc: Global, row: &ShelvedRow) -> bool {
+    let (bytes, wanted, held) = *row;
+    shelf.store(alloc, "a", bytes) == wanted && fetches(shelf, alloc, "a", 100, Ok(held))
+}
+
+/// A shelf stores what it is given, and fails at the calls that are listed: there is a fetch after each store.
+#[test]
+fn files_stored_in_memory(rt: HostRuntime) {
+    let mut shelf = Shelf::new(rt.alloc(), &[2, 4]).expect(&rt, "a shelf");
+    for row in &SHELVED {
+        assert!(rt; is_shelved(&mut shelf, rt.alloc(), row), "{:?}", row.0);
+    }
+}
+
+/// A path for this run of a test alone.
+fn own_path(rt: &HostRuntime, test: &str) -> Result<String, Memory> {
+    let number = std::process::id(rt.process());
+    format!(in rt.alloc(); "/tmp/edge_ports_{test}_{number}")
+}
+
+/// A name, or none for the test's own file of 10,000 bytes; the limit; and why that is not fetched.
+type FetchedRow = (&'static str, u64, Option<FetchFault>);
+
+const FETCHED: [FetchedRow; 4] = [
+    ("", 10_000, None),
+    ("", 9_999, Some(FetchFault::TooLong(9_999))),
+    ("/tmp/edge_ports/absent", 10_000, Some(FetchFault::Absent)),
+    ("/tmp", 10_000, Some(FetchFault::Failed)),
+];
+
+/// Whether the row holds where the file of the test's own holds this text.
+fn is_fetched(rt: &HostRuntime, own: &str, text: &str, row: &FetchedRow) -> bool {
+    let (name, limit, fault) = *row;
+    let name = if name.is_empty() { own } else { name };
+    let wanted = match fault {
+        None => Ok(text.as_bytes()),
+        Some(fault) => Err(fault),
+    };
+    fetches(&mut FileKeeper::new(rt), rt.alloc(), name, limit, wanted)
 }
 
 #[test]
-fn real_files(rt: HostRuntime) -> Result<(), Fail> {
-    let alloc = rt.alloc();
-    let mut text = Bytes::new(alloc);
-    for _ in 0..1_000 {
-        text.append(b"program a;")?;
+fn real_files(rt: HostRuntime) {
+    let path = own_path(&rt, "fetched").expect(&rt, "a path");
+    let path = path.as_str();
+    let text = "program a;".repeat(rt.alloc(), 1_000).expect(&rt, "a text");
+    let text = text.as_str();
+    fs::write(&rt, path, text).expect(&rt, "a file");
+    for row in &FETCHED {
+        assert!(rt; is_fetched(&rt, path, text, row), "{} {}", row.0, row.1);
     }
-    let path = format!(in alloc; "/tmp/edge_ports_{}", std::process::id(rt.process()))?;
-    fs::write(&rt, path.as_str(), text.as_slice())?;
-    let mut keeper = FileKeeper::new(&rt);
-    let table = [
-        (path.as_str(), 10_000, Ok(10_000)),
-        (path.as_str(), 9_999, Err(FetchFault::TooLong(9_999))),
-        ("/tmp/edge_ports/absent", 10_000, Err(FetchFault::Absent)),
-        ("/tmp", 10_000, Err(FetchFault::Failed)),
-    ];
-    for (name, limit, want) in table {
-        let got = match keeper.fetch(alloc, name, limit) {
-            Ok(bytes) => {
-                assert_eq!(rt; bytes.as_slice(), text.as_slice());
-                Ok(bytes.as_slice().len())
-            }
-            Err(fault) => Err(fault),
-        };
-        assert_eq!(rt; got, want);
-    }
-    fs::remove_file(&rt, path.as_str())?;
-    Ok(())
+    fs::remove_file(&rt, path).expect(&rt, "no file");
 }
 
-/// Stores these bytes under this name of the folder, and answers what came of it; where it was stored, the file
-/// holds the bytes.
-fn store_in<K: Keeper>(
-    alloc: Global,
-    keeper: &mut K,
-    folder: &str,
-    name: &str,
-    bytes: &[u8],
-) -> Result<Result<(), StoreFault>, Fail> {
-    let path = format!(in alloc; "{folder}{name}")?;
-    let answer = keeper.store(alloc, path.as_str(), bytes);
-    if answer.is_ok() && keeper.fetch(alloc, path.as_str(), 100)?.as_slice() != bytes {
-        return Ok(Err(StoreFault::Failed));
-    }
-    Ok(answer)
-}
+/// A folder, or none for one of the test's own; the rest of the name; the bytes that are stored; and what is answered.
+type StoredRow = (
+    &'static str,
+    &'static str,
+    &'static [u8],
+    Result<(), StoreFault>,
+);
 
-/// What is stored in turn: the folder, or none for one of the test's own; the rest of the name; the bytes; and what is
-/// answered.
-const STORED: [(Option<&str>, &str, &[u8], Result<(), StoreFault>); 10] = [
-    (None, "/.store-0", b"a name that is taken", Ok(())),
-    (None, "/session", b"first", Ok(())),
-    (None, "/session", b"", Ok(())),
-    (None, "/session", b"last", Ok(())),
-    (None, "/other", b"kept", Ok(())),
-    (None, "", b"a folder", Err(StoreFault::Failed)),
-    (
-        None,
-        "/absent/session",
-        b"in no folder",
-        Err(StoreFault::Failed),
-    ),
-    (
-        None,
-        "/session/below",
-        b"below a file",
-        Err(StoreFault::Failed),
-    ),
-    (Some("/dev"), "/full", b"a device", Err(StoreFault::Failed)),
-    (
-        Some("/proc"),
-        "/session",
-        b"a place to read",
-        Err(StoreFault::Failed),
-    ),
+/// What is stored in turn.
+const STORED: [StoredRow; 10] = [
+    ("", "/.store-0", b"a name that is taken", Ok(())),
+    ("", "/session", b"first", Ok(())),
+    ("", "/session", b"", Ok(())),
+    ("", "/session", b"last", Ok(())),
+    ("", "/other", b"kept", Ok(())),
+    ("", "", b"a folder", FAILED),
+    ("", "/absent/session", b"in no folder", FAILED),
+    ("", "/session/below", b"below a file", FAILED),
+    ("/dev", "/full", b"a device", FAILED),
+    ("/proc", "/session", b"a place to read", FAILED),
 ];
 
 /// The files in the test's own folder after that.
@@ -146,67 +195,76 @@ const LEFT: [(&str, &[u8]); 3] = [
     ("/.store-0", b"a name that is taken"),
 ];
 
+/// Whether the row holds, with this folder for the test's own.
+fn is_stored(rt: &HostRuntime, own: &str, row: &StoredRow) -> bool {
+    let (folder, name, bytes, wanted) = *row;
+    let folder = if folder.is_empty() { own } else { folder };
+    match format!(in rt.alloc(); "{folder}{name}") {
+        Ok(path) => stores(
+            &mut FileKeeper::new(rt),
+            rt.alloc(),
+            path.as_str(),
+            bytes,
+            wanted,
+        ),
+        Err(_) => false,
+    }
+}
+
+/// Whether the file holds these bytes. It is removed.
+fn is_held(rt: &HostRuntime, path: &str, bytes: &[u8]) -> bool {
+    fetches(&mut FileKeeper::new(rt), rt.alloc(), path, 100, Ok(bytes))
+        && fs::remove_file(rt, path).is_ok()
+}
+
+/// The same of the file of this name in a folder.
+fn is_left(rt: &HostRuntime, own: &str, name: &str, bytes: &[u8]) -> bool {
+    match format!(in rt.alloc(); "{own}{name}") {
+        Ok(path) => is_held(rt, path.as_str(), bytes),
+        Err(_) => false,
+    }
+}
+
 /// A file is stored where none is and in the place of one that may be written, and nowhere else. The files that were
 /// written on the way are gone.
 #[test]
-fn real_files_stored(rt: HostRuntime) -> Result<(), Fail> {
-    let alloc = rt.alloc();
-    let folder = format!(in alloc; "/tmp/edge_ports_stored_{}", std::process::id(rt.process()))?;
-    fs::create_dir(&rt, folder.as_str())?;
-    let mut keeper = FileKeeper::new(&rt);
-    let here = folder.as_str();
-    for (folder, name, bytes, want) in STORED {
-        let folder = folder.unwrap_or(here);
-        assert_eq!(rt; store_in(alloc, &mut keeper, folder, name, bytes)?, want);
+fn real_files_stored(rt: HostRuntime) {
+    let own = own_path(&rt, "stored").expect(&rt, "a path");
+    let own = own.as_str();
+    fs::create_dir(&rt, own).expect(&rt, "a folder");
+    for row in &STORED {
+        assert!(rt; is_stored(&rt, own, row), "{}{}", row.0, row.1);
     }
-    for (name, bytes) in LEFT {
-        let path = format!(in alloc; "{here}{name}")?;
-        assert_eq!(rt; keeper.fetch(alloc, path.as_str(), 100)?.as_slice(), bytes);
-        fs::remove_file(&rt, path.as_str())?;
+    for (name, bytes) in &LEFT {
+        assert!(rt; is_left(&rt, own, name, bytes), "{name}");
     }
     // A folder is removed only where it is empty.
-    fs::remove_dir(&rt, here)?;
-    Ok(())
+    fs::remove_dir(&rt, own).expect(&rt, "an empty folder");
+}
+
+/// Writes a file that only its owner may read.
+fn write_private(rt: &HostRuntime, path: &str) -> io::Result<()> {
+    fs::write(rt, path, b"first")?;
+    fs::set_permissions(rt, path, Permissions::from_mode(0o600))
+}
+
+fn is_private(rt: &HostRuntime, path: &str) -> bool {
+    match fs::metadata(rt, path) {
+        Ok(metadata) => metadata.permissions().mode() % 0o1000 == 0o600,
+        Err(_) => false,
+    }
 }
 
 /// A file that only its owner may read stays so.
 #[test]
-fn real_files_stay_private(rt: HostRuntime) -> Result<(), Fail> {
-    let alloc = rt.alloc();
-    let path = format!(in alloc;
-        "/tmp/edge_ports_private_{}",
-        std::process::id(rt.process())
-    )?;
-    fs::write(&rt, path.as_str(), b"first")?;
-    fs::set_permissions(&rt, path.as_str(), Permissions::from_mode(0o600))?;
+fn real_files_stay_private(rt: HostRuntime) {
+    let path = own_path(&rt, "private").expect(&rt, "a path");
+    let path = path.as_str();
+    write_private(&rt, path).expect(&rt, "a private file");
     let mut keeper = FileKeeper::new(&rt);
-    assert_eq!(rt;
-        store_in(alloc, &mut keeper, path.as_str(), "", b"last")?,
-        Ok(())
-    );
-    assert_eq!(rt;
-        fs::metadata(&rt, path.as_str())?.permissions().mode() % 0o1000,
-        0o600
-    );
-    fs::remove_file(&rt, path.as_str())?;
-    Ok(())
-}
-
-/// A shelf stores what it is given, and fails at the calls that are listed.
-#[test]
-fn files_stored_in_memory(rt: HostRuntime) -> Result<(), Fail> {
-    let alloc = rt.alloc();
-    let mut shelf = Shelf::new(alloc, &[2, 4])?;
-    assert_eq!(rt; store_in(alloc, &mut shelf, "", "a", b"first")?, Ok(()));
-    assert_eq!(rt;
-        store_in(alloc, &mut shelf, "", "a", b"last")?,
-        Err(StoreFault::Failed)
-    );
-    let first: &[u8] = b"first";
-    assert_eq!(rt; shelf.fetch(alloc, "a", 100)?.as_slice(), first);
-    assert_eq!(rt; shelf.store(alloc, "a", b"last"), Err(StoreFault::Failed));
-    assert_eq!(rt; store_in(alloc, &mut shelf, "", "a", b"last")?, Ok(()));
-    Ok(())
+    assert!(rt; stores(&mut keeper, rt.alloc(), path, b"last", Ok(())));
+    assert!(rt; is_private(&rt, path));
+    fs::remove_file(&rt, path).expect(&rt, "no file");
 }
 
 /// A reader and writer of one byte at a time, whose second call fails and whose third does nothing. As a
@@ -249,16 +307,24 @@ impl Write for Faulty {
     }
 }
 
+/// What each call answers.
+const TAKEN: [Result<usize, Failed>; 3] = [Ok(1), Err(Failed), Ok(0)];
+
+const GIVEN: [Result<usize, Failed>; 5] = [Ok(1), Err(Failed), Err(Failed), Err(Failed), Ok(1)];
+
+fn is_written(alloc: Global) -> bool {
+    write_all(&mut StdSink::new(Vec::new(alloc)), b"abc") == Ok(())
+}
+
 #[test]
 fn real_streams(rt: HostRuntime) {
     let mut source = StdSource::new(Faulty { calls: 0 });
-    for want in [Ok(1), Err(Failed), Ok(0)] {
-        assert_eq!(rt; source.take(&mut [0; 4]), want);
+    for (call, wanted) in TAKEN.iter().enumerate() {
+        assert!(rt; source.take(&mut [0; 4]) == *wanted, "take {call}");
     }
     let mut sink = StdSink::new(Faulty { calls: 0 });
-    for want in [Ok(1), Err(Failed), Err(Failed), Err(Failed), Ok(1)] {
-        assert_eq!(rt; sink.give(b"abc"), want);
+    for (call, wanted) in GIVEN.iter().enumerate() {
+        assert!(rt; sink.give(b"abc") == *wanted, "give {call}");
     }
-    let mut sink = StdSink::new(Vec::new(rt.alloc()));
-    assert_eq!(rt; write_all(&mut sink, b"abc"), Ok(()));
+    assert!(rt; is_written(rt.alloc()));
 }
