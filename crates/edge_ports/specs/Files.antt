@@ -1,5 +1,6 @@
 -- The files of a keeper, where it tells them.
-use Rattle.std.specs.Prelude.{◌≡◌, ◌≢◌, ◌<◌, ℕ, List, length, Option, Some, None, IfSome, IsSomeAnd}
+use Rattle.std.specs.Prelude.{◌≡◌, ◌≢◌, ◌<◌, ◌≤◌, ◌⊎◌, ℕ, List, [], length, take}
+use Rattle.std.specs.Prelude.{Option, Some, None, IfSome, IsSomeAnd}
 use Rattle.std.specs.Option.{option_map}
 use Rattle.std.specs.Ordering.{nat_cmp}
 use Rattle.std.specs.Cmp.Lexicographic.{slice_cmp}
@@ -36,3 +37,7 @@ told_at name files = option_map (λ map. file_at map name) files
 -- the files of all other names stay, where files are told; of this name nothing is known
 abbrev pub KeepsOthers : List ℕ → (before now : Option FileMap) → Type 0
 KeepsOthers name before now = (other : List ℕ) → other ≢ name → told_at other now ≡ told_at other before
+
+-- a file with the old bytes may be replaced by one with the new bytes: it is empty, or both begin with the same ten
+abbrev pub MayReplace : (old new : List ℕ) → Type 0
+MayReplace old new = (old ≡ []) ⊎ ((10 ≤ length old) × (take 10 new ≡ take 10 old))

@@ -8,3 +8,4 @@ pub mod Files
 pub mod Shelves
 pub mod Entries
 pub mod Streams
+pub mod Rooms

@@ -35,3 +35,7 @@ pub record PageState : Type 0 where
   pub room : ℕ
   pub plan : PlanState
   pub failed : Bool
+
+-- the name of the loan of the room that bytes go to, where they go to none that is borrowed
+abbrev pub no_loan : ℕ
+no_loan = 0

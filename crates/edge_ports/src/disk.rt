@@ -109,7 +109,8 @@ impl<R: Files> Keeper for FileKeeper<R> {
     }
 
     /// Writes a new file in the folder of this name and renames it. So a file of this name is whole or as it
-    /// was, whatever fails.
+    /// was, whatever fails. It fails where the file that is there is neither empty nor begins with the ten bytes
+    /// with which the new one begins: what is no file of the same kind is not replaced.
     fn store(&mut self, alloc: Global, name: &str, bytes: &[u8]) -> Result<(), StoreFault> {
         let answer = replace_file(&self.files, alloc, name, bytes);
         self.counts.count_store(&answer);

@@ -3,7 +3,7 @@ ghost use Rattle.std.specs.Prelude.{◌≡◌, ◌<◌, ◌≤◌, ◌↔◌, �
 ghost use Rattle.std.specs.Prelude.{IsErr, OnErr, OnOk};
 ghost use Rattle.edge_ports.specs.Counts.{Rose, NotFallen};
 ghost use Rattle.edge_ports.specs.Told.{GaveAll};
-ghost use Rattle.edge_ports.specs.States.{IsListed, plan_after, plan_of};
+ghost use Rattle.edge_ports.specs.States.{IsListed, no_loan, plan_after, plan_of};
 
 use crate::plan::Plan;
 use crate::{Failed, Memory, Sink};
@@ -63,6 +63,8 @@ impl Sink for Page {
 
     ghost last_failed = { λ p. p.failed };
 
+    ghost loan = { λ _. no_loan };
+
     /// Fails exactly where the call is listed or no byte of room is left, and else appends as many bytes
     /// of the piece as fit.
     fn give(&mut self, piece: &[u8]) -> Result<usize, Failed>
@@ -76,6 +78,7 @@ impl Sink for Page {
         ensures gave { IfOk result (λ n. GaveAll (Some self.old.given) (Some self.new.given) (take n piece.now)) }
         ensures failed { OnErr result (Some self.new.given ≡ Some self.old.given) }
         ensures last { self.new.failed ≡ is_err result }
+        ensures loan { no_loan ≡ no_loan }
         ensures cause { OnErr result (Rose self.old.plan.faults self.new.plan.faults) }
         ensures calm { OnOk result (self.new.plan.faults ≡ self.old.plan.faults) }
         ensures faults { NotFallen self.old.plan.faults self.new.plan.faults }

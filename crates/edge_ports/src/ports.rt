@@ -48,6 +48,9 @@ pub trait Sink {
     /// Whether the last call failed. Before the first call it is false.
     ghost last_failed: { Self → Bool };
 
+    /// The name of the loan of the room that the bytes go to, if they go to one that is borrowed. No call changes it.
+    ghost loan: { Self → ℕ };
+
     /// Appends bytes from the front of the piece to what was given, and answers how many, at least 1.
     fn give(&mut self, piece: &[u8]) -> Result<usize, Failed>
         requires { 0 < length piece.now }
@@ -56,6 +59,7 @@ pub trait Sink {
         ensures gave { IfOk result (λ n. GaveAll (given self.old) (given self.new) (take n piece.now)) }
         ensures failed { OnErr result (given self.new ≡ given self.old) }
         ensures last { last_failed self.new ≡ is_err result }
+        ensures loan { loan self.new ≡ loan self.old }
         ensures cause { OnErr result (Rose (faults self.old) (faults self.new)) }
         ensures calm { OnOk result (faults self.new ≡ faults self.old) }
         ensures faults { NotFallen (faults self.old) (faults self.new) };
@@ -126,6 +130,7 @@ pub fn write_all<O: Sink>(sink: &mut O, bytes: &[u8]) -> Result<(), Failed>
     ensures cause { OnErr result (Rose (O.faults sink.old) (O.faults sink.new)) }
     // No call comes after the one that failed.
     ensures last { OnErr result (O.last_failed sink.new ≡ true) }
+    ensures loan { O.loan sink.new ≡ O.loan sink.old }
     ensures calm { OnOk result (O.faults sink.new ≡ O.faults sink.old) }
     ensures faults { NotFallen (O.faults sink.old) (O.faults sink.new) }
 {

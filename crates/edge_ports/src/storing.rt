@@ -1,20 +1,39 @@
 //! A real file is put in the place of another whole: it is written under another name and renamed.
+ghost use Rattle.std.specs.Prelude.{IfSome, IsTrue};
+ghost use Rattle.edge_ports.specs.Files.{MayReplace};
 
 use crate::{Memory, StoreFault};
 use std::alloc::Global;
 use std::fs;
 use std::fs::{File, OpenFile, OpenOptions, Permissions};
-use std::io::{self, ErrorKind, Write};
+use std::io::{self, ErrorKind, Read, Write};
 use std::rt::Files;
 
 /// How many names are tried for a new file.
 const SIDE_NAMES: u32 = 1_000;
 
-/// The permissions of the regular file of this name, if there is one. It fails where something else is there
-/// and where that file may not be written.
+/// How many bytes at the front of a file say what it is.
+const FRONT: usize = 10;
+
+/// Whether the file that is read may be replaced by one with these bytes: it is empty, or begins as they do. A file
+/// that can't be read may not.
+fn may_replace<R: Read>(reader: &mut R, bytes: &[u8]) -> bool
+    ensures { IsTrue result → IfSome (R.remaining reader.old) (λ all. MayReplace all bytes.now) }
+{
+    let mut front = [0u8; FRONT];
+    match reader.read(&mut front) {
+        Ok(0) => true,
+        Ok(FRONT) => bytes.starts_with(&front),
+        Ok(_) | Err(_) => false,
+    }
+}
+
+/// The permissions of the regular file of this name, if there is one. It fails where something else is there, where
+/// that file may not be read and written, and where it may not be replaced by one with these bytes.
 fn replaced_permissions<R: Files>(
     files: &R,
     name: &str,
+    bytes: &[u8],
 ) -> Result<Option<Permissions>, StoreFault> {
     let metadata = match fs::metadata(files, name) {
         Ok(metadata) => metadata,
@@ -24,9 +43,13 @@ fn replaced_permissions<R: Files>(
     if !metadata.is_file() {
         return Err(StoreFault::Failed);
     }
-    match OpenOptions::new().write(true).open(files, name) {
-        Ok(_) => Ok(Some(metadata.permissions())),
-        Err(_) => Err(StoreFault::Failed),
+    let Ok(mut file) = OpenOptions::new().read(true).write(true).open(files, name) else {
+        return Err(StoreFault::Failed);
+    };
+    if may_replace(&mut file, bytes) {
+        Ok(Some(metadata.permissions()))
+    } else {
+        Err(StoreFault::Failed)
     }
 }
 
@@ -70,15 +93,16 @@ fn fill<F: Write + OpenFile + Drop>(
     file.sync_all()
 }
 
-/// Puts a file of this name and these bytes in the place of the one that is there. The new one is written beside
-/// it, and renamed once the device has it whole; where that fails, it is removed.
+/// Puts a file of this name and these bytes in the place of the one that is there, if that is empty or begins with the
+/// same ten bytes. The new one is written beside it, and renamed once the device has it whole; where that fails, it is
+/// removed.
 pub fn replace_file<R: Files>(
     files: &R,
     alloc: Global,
     name: &str,
     bytes: &[u8],
 ) -> Result<(), StoreFault> {
-    let permissions = replaced_permissions(files, name)?;
+    let permissions = replaced_permissions(files, name, bytes)?;
     let (side, file) = create_beside(files, alloc, name)?;
     let done = match fill(file, permissions, bytes) {
         Ok(()) => fs::rename(files, side.as_str(), name),

@@ -103,12 +103,15 @@ impl<W: Write> Sink for StdSink<W> {
     ghost use Rattle.edge_ports.specs.Counts.{Rose, NotFallen};
     ghost use Rattle.edge_ports.specs.Told.{GaveAll};
     ghost use Rattle.edge_ports.specs.Streams.{writer_holds};
+    ghost use Rattle.edge_ports.specs.States.{no_loan};
 
     ghost given = { λ _. None };
 
     ghost faults = { λ s. s.faults };
 
     ghost last_failed = { λ s. s.failed };
+
+    ghost loan = { λ _. no_loan };
 
     /// One write and a flush, as std says of the writer.
     fn give(&mut self, piece: &[u8]) -> Result<usize, Failed>
@@ -119,6 +122,7 @@ impl<W: Write> Sink for StdSink<W> {
         ensures some { IfOk result (λ n. 0 < n) }
         ensures gave { IfOk result (λ n. GaveAll None None (take n piece.now)) }
         ensures last { self.new.failed ≡ is_err result }
+        ensures loan { no_loan ≡ no_loan }
         ensures cause { OnErr result (Rose self.old.faults self.new.faults) }
         ensures calm { OnOk result (self.new.faults ≡ self.old.faults) }
         ensures faults { NotFallen self.old.faults self.new.faults }

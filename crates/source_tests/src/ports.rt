@@ -174,13 +174,17 @@ type StoredRow = (
     Result<(), StoreFault>,
 );
 
-/// What is stored in turn.
-const STORED: [StoredRow; 10] = [
+/// What is stored in turn. A file that is neither empty nor begins with the same ten bytes is not replaced.
+const STORED: [StoredRow; 14] = [
     ("", "/.store-0", b"a name that is taken", Ok(())),
-    ("", "/session", b"first", Ok(())),
-    ("", "/session", b"", Ok(())),
-    ("", "/session", b"last", Ok(())),
-    ("", "/other", b"kept", Ok(())),
+    ("", "/session", b"{\"budget\":1}", Ok(())),
+    ("", "/session", b"{\"budget\":22,\"entries\":[]}", Ok(())),
+    ("", "/session", b"{\"version\":1}", FAILED),
+    ("", "/session", b"{\"budget\"", FAILED),
+    ("", "/empty", b"", Ok(())),
+    ("", "/empty", b"full", Ok(())),
+    ("", "/source", b"program a;", Ok(())),
+    ("", "/source", b"{\"budget\":1}", FAILED),
     ("", "", b"a folder", FAILED),
     ("", "/absent/session", b"in no folder", FAILED),
     ("", "/session/below", b"below a file", FAILED),
@@ -189,9 +193,10 @@ const STORED: [StoredRow; 10] = [
 ];
 
 /// The files in the test's own folder after that.
-const LEFT: [(&str, &[u8]); 3] = [
-    ("/session", b"last"),
-    ("/other", b"kept"),
+const LEFT: [(&str, &[u8]); 4] = [
+    ("/session", b"{\"budget\":22,\"entries\":[]}"),
+    ("/empty", b"full"),
+    ("/source", b"program a;"),
     ("/.store-0", b"a name that is taken"),
 ];
 
@@ -225,7 +230,7 @@ fn is_left(rt: &HostRuntime, own: &str, name: &str, bytes: &[u8]) -> bool {
     }
 }
 
-/// A file is stored where none is and in the place of one that may be written, and nowhere else. The files that were
+/// A file is stored where none is and in the place of one that may be replaced, and nowhere else. The files that were
 /// written on the way are gone.
 #[test]
 fn real_files_stored(rt: HostRuntime) {
@@ -244,7 +249,7 @@ fn real_files_stored(rt: HostRuntime) {
 
 /// Writes a file that only its owner may read.
 fn write_private(rt: &HostRuntime, path: &str) -> io::Result<()> {
-    fs::write(rt, path, b"first")?;
+    fs::write(rt, path, b"first text")?;
     fs::set_permissions(rt, path, Permissions::from_mode(0o600))
 }
 
@@ -262,7 +267,15 @@ fn real_files_stay_private(rt: HostRuntime) {
     let path = path.as_str();
     write_private(&rt, path).expect(&rt, "a private file");
     let mut keeper = FileKeeper::new(&rt);
-    assert!(rt; stores(&mut keeper, rt.alloc(), path, b"last", Ok(())));
+    assert!(rt;
+        stores(
+            &mut keeper,
+            rt.alloc(),
+            path,
+            b"first text and more",
+            Ok(())
+        )
+    );
     assert!(rt; is_private(&rt, path));
     fs::remove_file(&rt, path).expect(&rt, "no file");
 }
