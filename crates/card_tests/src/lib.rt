@@ -6,6 +6,8 @@ mod cards;
 #[cfg(test)]
 mod names;
 #[cfg(test)]
+mod states;
+#[cfg(test)]
 mod tables;
 #[cfg(test)]
 mod told;

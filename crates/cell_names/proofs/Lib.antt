@@ -1,4 +1,5 @@
 mod MembersInTurn
+mod NamesLead
 mod NamesMade
 pub mod PartsInTurn
 mod PartsSplit

@@ -17,7 +17,7 @@ begins s wanted from out =
       end = ap (λ n. (way_within s wanted n from).end) e;
     }
 
-left : (taken : ℕ) → taken < 1048576 → most_types - taken ≡ suc (most_types - (taken + 1))
+pub left : (taken : ℕ) → taken < 1048576 → most_types - taken ≡ suc (most_types - (taken + 1))
 unfolding most_types
 left taken below = omega (arith, below)
 

@@ -1,5 +1,6 @@
 pub mod Finding
 pub mod Layouts
+pub mod NamedBy
 pub mod Names
 pub mod Pieces
 pub mod Places

@@ -5,6 +5,7 @@
 
 mod finding;
 mod layouts;
+mod named_by;
 mod names;
 mod pieces;
 mod places;
@@ -12,6 +13,7 @@ mod records;
 mod values;
 
 pub use finding::NameFinder;
+pub use named_by::is_named_by;
 pub use names::{
     Held, Local, Origin, Root, Scene, Spot, local_at, result_of, root_at, write_root, write_way,
 };

@@ -209,7 +209,7 @@ fn typed_step(scene: &Scene, of: u32, place: u32) -> Option<Step>
 
 /// One step down to a cell.
 #[tactic(auto, unfolding(crate::specs::Names::step_down))]
-fn step_down(scene: &Scene, at: Spot) -> Option<Step>
+pub(crate) fn step_down(scene: &Scene, at: Spot) -> Option<Step>
     ensures { result ≡ step_down (scene_in scene.now) at }
 {
     match at.held {
@@ -219,7 +219,11 @@ fn step_down(scene: &Scene, at: Spot) -> Option<Step>
 }
 
 /// Appends a selector.
-fn write_selector(out: &mut Bytes, program: &Program, selector: Selector) -> Result<(), AllocError>
+pub(crate) fn write_selector(
+    out: &mut Bytes,
+    program: &Program,
+    selector: Selector,
+) -> Result<(), AllocError>
     ensures { OnOk result (out.new ≡ out.old ++ selector_text program.now selector) }
 {
     match selector {
@@ -456,7 +460,7 @@ pub fn root_at(scene: &Scene, address: u32) -> Option<Root>
 }
 
 /// Appends whose a variable of a call is, where it is none of call 0.
-fn write_whose(
+pub(crate) fn write_whose(
     out: &mut Bytes,
     program: &Program,
     call: u32,
@@ -474,7 +478,11 @@ fn write_whose(
 }
 
 /// Appends what the way down begins at.
-fn write_origin(out: &mut Bytes, program: &Program, origin: Origin) -> Result<(), AllocError>
+pub(crate) fn write_origin(
+    out: &mut Bytes,
+    program: &Program,
+    origin: Origin,
+) -> Result<(), AllocError>
     ensures { OnOk result (out.new ≡ out.old ++ origin_text program.now origin) }
 {
     match origin {

@@ -1,3 +1,5 @@
 mod CardsWhole
+mod CellsInTurn
 mod FramesOutward
 mod LinesInTurn
+mod StatesWhole

@@ -64,7 +64,12 @@ fn write_routine(out: &mut Bytes, program: &Program, value: Value) -> Result<(),
 }
 
 /// Appends what a cell holds.
-fn write_held(out: &mut Bytes, scene: &Scene, held: Held, value: Value) -> Result<(), AllocError>
+pub(crate) fn write_held(
+    out: &mut Bytes,
+    scene: &Scene,
+    held: Held,
+    value: Value,
+) -> Result<(), AllocError>
     ensures { OnOk result (out.new ≡ out.old ++ held_text (scene_in scene.now) held value) }
 {
     match held {

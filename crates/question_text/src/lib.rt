@@ -1,16 +1,19 @@
 //! What is shown of a call of a run when it is to be judged: what it was called with, what it read, changed, looked at,
 //! took and gave, and how it ended. Variables have the names that the source gives them, and values the texts of their
-//! types. And what is shown of what happened in its body, and of all calls of a run, a line for each.
+//! types. And what is shown of what happened in its body, of what cells held before it and after it, and of all calls
+//! of a run, a line for each.
 #![tactic(auto)]
 
 mod cards;
 mod cells;
 mod lines;
 mod opened;
+mod states;
 mod traces;
 mod trees;
 mod ways_out;
 
 pub use cards::{Recorded, write_call};
+pub use states::write_state;
 pub use traces::write_trace;
 pub use trees::write_tree;

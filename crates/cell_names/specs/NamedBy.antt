@@ -1,0 +1,47 @@
+-- Which cells a name names: the cell that is printed so; or, if it is cut short, all cells of a variable, of a part of
+-- one, or of a frame.
+use Rattle.std.specs.Prelude.{ℕ, zero, suc, ◌==◌, nat_eq, Bool, true, false, ◌||◌, List, ◌++◌, codes, drop, length}
+use Rattle.std.specs.Prelude.{Option, Some, None, if◌then◌else◌}
+use Rattle.std.specs.List.{starts_with}
+use Rattle.std.specs.Str.{bytes_eq}
+use Rattle.program_tables.specs.ProgramRows.{ProgramRows}
+use Rattle.cell_names.specs.declared.names.Spot.{Spot}
+use Rattle.cell_names.specs.declared.names.Step.{Step}
+use Rattle.cell_names.specs.declared.names.Origin.{Origin}
+use Rattle.cell_names.specs.declared.names.Origin.TheVariants as origin
+use Rattle.cell_names.specs.declared.names.Root.{Root}
+use Rattle.cell_names.specs.Names.{Scene, most_types, origin_text, selector_text, step_down, whose_text}
+
+-- what is left of a name after its first part, if it begins so
+abbrev pub after_part : (part name : List ℕ) → Option (List ℕ)
+after_part part name = if starts_with nat_eq name part then Some (drop (length part) name) else None
+
+abbrev pub is_over : (name : List ℕ) → Bool
+is_over name = length name == 0
+
+abbrev pub leads_on : (go : List ℕ → Bool) → Option (List ℕ) → Bool
+leads_on go None = false
+leads_on go (Some rest) = go rest
+
+abbrev pub leads_by : ProgramRows → (go : Spot → List ℕ → Bool) → (name : List ℕ) → Option Step → Bool
+leads_by p go name None = false
+leads_by p go name (Some s) = leads_on (go s.spot) (after_part (selector_text p s.selector) name)
+
+-- whether what is left of a name is the first selectors on the way down to a cell: all of them, some or none. At most
+-- this many steps are taken.
+abbrev pub leads_within : Scene → (most : ℕ) → Spot → (name : List ℕ) → Bool
+leads_within s zero at name = is_over name
+leads_within s (suc most) at name =
+    if is_over name then true else leads_by s.program (leads_within s most) name (step_down s at)
+
+-- whether a name is that of all cells of a frame, as `f#3`, or of a variable of the heap before its last `^`
+abbrev pub is_of_all : ProgramRows → Origin → (name : List ℕ) → Bool
+is_of_all p (origin.Heap base) name = bytes_eq (name ++ codes "^") (origin_text p (origin.Heap base))
+is_of_all p (origin.Local call routine token) name = bytes_eq (name ++ codes ".") (whose_text p call routine)
+
+-- whether a name is that of a cell, or that name cut before one of its selectors, before the variable of a frame, or
+-- before the last `^` of a variable of the heap
+unfoldable pub is_named_by : Scene → Root → (name : List ℕ) → Bool
+is_named_by s r name =
+    is_of_all s.program r.origin name
+    || leads_on (leads_within s most_types r.spot) (after_part (origin_text s.program r.origin) name)

@@ -1,0 +1,43 @@
+-- The states of a call, by what names stand on.
+use Rattle.std.proofs.Common.{◌≡◌, ℕ, ◌≤◌, Bool, false, List, [], ◌++◌, length, Option, Some, slice_get, sym, ap, ◌∙◌}
+use Rattle.std.proofs.lemmas.Option.{slice_get_past}
+use Rattle.call_tree.specs.declared.records.Call.{Call}
+use Rattle.call_tree.specs.Recording.{routines_of}
+use Rattle.cell_names.specs.declared.places.PlacedPart.{PlacedPart}
+use Rattle.cell_names.specs.Places.{finds}
+use Rattle.cell_names.specs.Finding.{Finding, finding_of}
+use Rattle.cell_names.specs.Names.{Scene}
+use Rattle.question_text.specs.Cards.{Recorded, scene_of}
+use Rattle.question_text.specs.Frames.{opened_from}
+use Rattle.question_text.specs.States.{has_cell, has_cell_by, lines_by, state_text}
+use Rattle.question_text.proofs.CardsWhole.{scene_by}
+
+pub no_state : (r : Recorded) (k : ℕ) (name : List ℕ) → length r.calls ≤ k → state_text r k name ≡ []
+unfolding state_text
+no_state r k name past = ap (lines_by (scene_of r k) name) (slice_get_past r.calls k past)
+
+pub no_cell_there : (r : Recorded) (k : ℕ) (name : List ℕ) → length r.calls ≤ k → has_cell r k name ≡ false
+unfolding has_cell
+no_cell_there r k name past = ap (has_cell_by (scene_of r k) name) (slice_get_past r.calls k past)
+
+-- what names stand on is found as it is defined
+pub record IsSceneOf (r : Recorded) (k : ℕ) (finding : Finding) (routines : List ℕ) (opened : ℕ → Option PlacedPart) : Type 0 where
+  pub found : finding ≡ finding_of r.program r.tokens r.log
+  pub column : routines ≡ routines_of r.calls
+  pub frames : opened ≡ finds (opened_from r.calls (length r.calls) (Some k))
+
+module _ (r : Recorded) (k : ℕ) (finding : Finding) (routines : List ℕ) (opened : ℕ → Option PlacedPart) where
+  scene_is : IsSceneOf r k finding routines opened → scene_by r finding routines opened ≡ scene_of r k
+  scene_is g = λ i. record { program = r.program; finding = g.found i; routines = g.column i; opened = g.frames i }
+
+  pub state_is : (call : Call) (name out new : List ℕ) → IsSceneOf r k finding routines opened → slice_get r.calls k ≡ Some call
+      → new ≡ out ++ lines_by (scene_by r finding routines opened) name (Some call) → new ≡ out ++ state_text r k name
+  unfolding state_text
+  state_is call name out new g found written =
+      written ∙ ap (λ s. out ++ lines_by s name (Some call)) (scene_is g) ∙ ap (λ c. out ++ lines_by (scene_of r k) name c) (sym found)
+
+  pub has_cell_is : (call : Call) (name : List ℕ) (some : Bool) → IsSceneOf r k finding routines opened → slice_get r.calls k ≡ Some call
+      → some ≡ has_cell_by (scene_by r finding routines opened) name (Some call) → some ≡ has_cell r k name
+  unfolding has_cell
+  has_cell_is call name some g found is =
+      is ∙ ap (λ s. has_cell_by s name (Some call)) (scene_is g) ∙ ap (λ c. has_cell_by (scene_of r k) name c) (sym found)

@@ -1,0 +1,10 @@
+use Rattle.std.proofs.Common.{◌≡◌, ◌++◌, ◌||◌}
+use Rattle.cell_names.specs.Names.{scene_in}
+use Rattle.question_text.specs.States.{is_between, lines_between}
+use Rattle.question_text.proofs.states.write_between.Given as goal
+
+abbrev pub invariant-addresses : goal.invariant-addresses
+invariant-addresses l = record {
+  lines : l.out ++ lines_between (scene_in l.scene) l.call l.name l.address l.to ≡ l.fn.out ++ lines_between (scene_in l.scene) l.call l.name l.from l.to;
+  cells : (l.some || is_between (scene_in l.scene) l.call l.name l.address l.to) ≡ is_between (scene_in l.scene) l.call l.name l.from l.to;
+}

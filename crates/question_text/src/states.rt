@@ -1,0 +1,255 @@
+//! What cells held before a call and after it.
+
+ghost use Rattle.std.specs.Prelude.{◌≡◌, ◌++◌, IfOk, OnErr, OnOk, Some, is_some};
+ghost use Rattle.std.specs.FinMap as map;
+ghost use Rattle.cell_names.specs.Finding.{finding_of, finding_in};
+ghost use Rattle.cell_names.specs.Names.{scene_in};
+ghost use Rattle.question_text.specs.Cards.{recorded_in};
+ghost use Rattle.question_text.specs.Cells.{held_text};
+ghost use Rattle.question_text.specs.States.{cell_at, has_cell, has_cell_by, is_between, is_cell, is_same_value};
+ghost use Rattle.question_text.specs.States.{line_at, lines_between, lines_by, named_root, sides_at};
+ghost use Rattle.question_text.specs.States.{sides_line, sides_text, state_text};
+
+use crate::cards::Recorded;
+use crate::cells::write_held;
+use crate::opened::opened_calls;
+use call_tree::Call;
+use cell_names::{Held, Root, Scene, is_named_by, root_at, write_root};
+use cell_value::{Value, within};
+use edge_ports::Bytes;
+use persistent_store::Store;
+use std::alloc::{AllocError, Global};
+
+/// What a cell held before a call and after it; none where there was no such cell.
+#[derive(Clone, Copy)]
+pub(crate) struct CellSides {
+    pub(crate) before: Option<Value>,
+    pub(crate) after: Option<Value>,
+}
+
+/// What the cell at an address holds, if there is one.
+fn value_at(store: &Store, address: u32) -> Option<Value>
+    ensures { result ≡ map.get store.now address }
+{
+    if address < 1_048_576 {
+        store.get(address)
+    } else {
+        store.lacks_what_is_no_address();
+        None
+    }
+}
+
+/// What the cell at an address held before a call and after it.
+fn sides_at(call: &Call, address: u32) -> CellSides
+    ensures { result ≡ sides_at call.now address }
+{
+    CellSides {
+        before: value_at(&call.entry.store, address),
+        after: value_at(&call.exit.store, address),
+    }
+}
+
+/// Whether there was such a cell, before the call or after it.
+fn is_cell(sides: CellSides) -> bool
+    ensures { result ≡ is_cell sides }
+{
+    sides.before.is_some() || sides.after.is_some()
+}
+
+/// Whether two values are the same.
+fn is_same_value(one: Value, other: Value) -> bool
+    ensures { result ≡ is_same_value one other }
+{
+    match (one, other) {
+        (Value::Undefined, Value::Undefined) => true,
+        (Value::Number(a), Value::Number(b)) => a == b,
+        (Value::Bits(a), Value::Bits(b)) => within(a, b) && within(b, a),
+        (Value::Nil, Value::Nil) => true,
+        (Value::Heap(a), Value::Heap(b)) => a == b,
+        (Value::Place(a), Value::Place(b)) => a == b,
+        (Value::Frame(a), Value::Frame(b)) => a == b,
+        (Value::Routine(a, frame), Value::Routine(b, other)) => a == b && frame == other,
+        _ => false,
+    }
+}
+
+/// Appends what a cell held, and what became of it.
+fn write_sides(
+    out: &mut Bytes,
+    scene: &Scene,
+    held: Held,
+    sides: CellSides,
+) -> Result<(), AllocError>
+    ensures { OnOk result (out.new
+        ≡ out.old ++ sides_text (held_text (scene_in scene.now) held) sides.before sides.after) }
+{
+    match (sides.before, sides.after) {
+        (None, None) => Ok(()),
+        (Some(before), None) => {
+            write_held(out, scene, held, before)?;
+            out.append(b", then gone")
+        }
+        (None, Some(after)) => {
+            write_held(out, scene, held, after)?;
+            out.append(b", made here")
+        }
+        (Some(before), Some(after)) => {
+            write_held(out, scene, held, before)?;
+            if is_same_value(before, after) {
+                return Ok(());
+            }
+            out.append(b", then ")?;
+            write_held(out, scene, held, after)
+        }
+    }
+}
+
+/// Appends the line on a cell.
+fn write_sides_line(
+    out: &mut Bytes,
+    scene: &Scene,
+    root: Root,
+    sides: CellSides,
+) -> Result<(), AllocError>
+    ensures { OnOk result (out.new ≡ out.old ++ sides_line (scene_in scene.now) root sides) }
+{
+    out.append(b"  ")?;
+    let held = write_root(out, scene, None, root)?;
+    out.append(b" = ")?;
+    write_sides(out, scene, held, sides)?;
+    out.append(b"\n")
+}
+
+/// The cell at an address, if there was one and a name names it.
+fn named_root(
+    alloc: Global,
+    scene: &Scene,
+    sides: CellSides,
+    root: Option<Root>,
+    name: &[u8],
+) -> Result<Option<Root>, AllocError>
+    ensures { IfOk result (λ cell. cell ≡ named_root (scene_in scene.now) name.now sides root) }
+{
+    let Some(root) = root else {
+        return Ok(None);
+    };
+    if !is_cell(sides) {
+        return Ok(None);
+    }
+    if is_named_by(alloc, scene, root, name)? {
+        Ok(Some(root))
+    } else {
+        Ok(None)
+    }
+}
+
+/// Appends the line on the cell at an address, if there was one and a name names it; and whether it does.
+fn write_if_named(
+    alloc: Global,
+    out: &mut Bytes,
+    scene: &Scene,
+    call: &Call,
+    name: &[u8],
+    address: u32,
+) -> Result<bool, AllocError>
+    ensures line { OnOk result (out.new ≡ out.old ++ line_at (scene_in scene.now) call.now name.now address) }
+    ensures named { IfOk result (λ named. named ≡ is_some (cell_at (scene_in scene.now) call.now name.now address)) }
+{
+    let sides = sides_at(call, address);
+    match named_root(alloc, scene, sides, root_at(scene, address), name)? {
+        None => Ok(false),
+        Some(root) => {
+            write_sides_line(out, scene, root, sides)?;
+            Ok(true)
+        }
+    }
+}
+
+/// Appends the lines on the cells that a name names, from one address to before another; and whether there is one.
+fn write_between(
+    alloc: Global,
+    out: &mut Bytes,
+    scene: &Scene,
+    call: &Call,
+    name: &[u8],
+    from: u32,
+    to: u32,
+) -> Result<bool, AllocError>
+    ensures lines { OnOk result (out.new ≡ out.old ++ lines_between (scene_in scene.now) call.now name.now from to) }
+    ensures some { IfOk result (λ some. some ≡ is_between (scene_in scene.now) call.now name.now from to) }
+{
+    let mut some = false;
+    'addresses: for address in from..to {
+        let named = write_if_named(alloc, out, scene, call, name, address)?;
+        some = some || named;
+    }
+    Ok(some)
+}
+
+/// Appends the lines on the cells that a name names, before a call and after it; and whether there is one.
+fn write_lines(
+    alloc: Global,
+    out: &mut Bytes,
+    scene: &Scene,
+    call: &Call,
+    name: &[u8],
+) -> Result<bool, AllocError>
+    ensures lines { OnOk result (out.new ≡ out.old ++ lines_by (scene_in scene.now) name.now (Some call.now)) }
+    ensures some { IfOk result (λ some. some ≡ has_cell_by (scene_in scene.now) name.now (Some call.now)) }
+{
+    let on_stack = write_between(alloc, out, scene, call, name, 0, call.entry.top)?;
+    let on_heap = write_between(alloc, out, scene, call, name, 524_288, call.exit.fresh)?;
+    Ok(on_stack || on_heap)
+}
+
+/// Appends the lines of a state.
+fn write_cells(
+    alloc: Global,
+    out: &mut Bytes,
+    from: &Recorded,
+    number: u32,
+    name: &[u8],
+) -> Result<bool, AllocError>
+    requires names { finding_in from.now.names.now ≡ finding_of from.now.program.now from.now.tokens from.now.log.now }
+    ensures lines { OnOk result (out.new ≡ out.old ++ state_text (recorded_in from.now) number name.now) }
+    ensures some { IfOk result (λ some. some ≡ has_cell (recorded_in from.now) number name.now) }
+{
+    if number >= from.calls.len() {
+        return Ok(false);
+    }
+    let call = from.calls.call(number);
+    let opened = opened_calls(alloc, from.calls, number)?;
+    let scene = Scene {
+        program: from.program,
+        names: from.names,
+        routines: from.calls.routine_column(),
+        opened: &opened,
+    };
+    let some = write_lines(alloc, out, &scene, call, name)?;
+    Ok(some)
+}
+
+/// Appends what the cells that a name names held before a call and after it, a line for each, rising by address: those
+/// of the stack below the call's own frame, and those of the heap. It answers whether there is such a cell. A name is a
+/// cell's as cards print it, or that name cut before one of its selectors, before the variable of a frame, or before
+/// the last `^` of a variable of the heap. After `Memory` the text is as before. Of a number that is no call's nothing
+/// is appended.
+///
+/// What is found by its place is that of the program, whose source has this many tokens, and of the log.
+pub fn write_state(
+    alloc: Global,
+    out: &mut Bytes,
+    from: &Recorded,
+    call: u32,
+    name: &[u8],
+) -> Result<bool, AllocError>
+    requires names { finding_in from.now.names.now ≡ finding_of from.now.program.now from.now.tokens from.now.log.now }
+    ensures ok { OnOk result (out.new ≡ out.old ++ state_text (recorded_in from.now) call name.now) }
+    ensures some { IfOk result (λ some. some ≡ has_cell (recorded_in from.now) call name.now) }
+    ensures err { OnErr result (out.new ≡ out.old) }
+{
+    let mut text = Bytes::new(alloc);
+    let some = write_cells(alloc, &mut text, from, call, name)?;
+    out.append(text.as_slice())?;
+    Ok(some)
+}
