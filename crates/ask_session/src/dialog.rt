@@ -265,6 +265,7 @@ fn give_reply<O: Sink>(screen: &mut O, reply: &[u8]) -> Result<(), Ending>
     ensures ending { IfErr result (λ e. e ≡ Ending.Screen) }
     ensures faults { Counted (screen_failed result) (O.faults screen.old) (O.faults screen.new) }
     ensures last { IsTrue (screen_failed result) → IsTrue (O.last_failed screen.new) }
+    ensures loan { O.loan screen.new ≡ O.loan screen.old }
 {
     match write_all(screen, reply) {
         Ok(()) => Ok(()),
@@ -314,6 +315,7 @@ fn turn<D: Debugged, K: Keeper, I: Source, O: Sink>(
     ensures console_faults { Counted (console_failed result) (I.faults console.old) (I.faults console.new) }
     ensures screen_faults { Counted (screen_failed result) (O.faults screen.old) (O.faults screen.new) }
     ensures last { IsTrue (screen_failed result) → IsTrue (O.last_failed screen.new) }
+    ensures loan { O.loan screen.new ≡ O.loan screen.old }
     ensures consistent { IsConsistent lines.new }
     ensures search { IsSearchOf (D.subject run.now) debug.new }
     ensures handed { OnOk result (lines.old.handed < lines.new.handed) }
@@ -359,6 +361,7 @@ pub fn answer_lines<D: Debugged, K: Keeper, I: Source, O: Sink>(
     ensures screen_faults { Counted (is_screen result) (O.faults screen.old) (O.faults screen.new) }
     // No call of the screen comes after one that failed.
     ensures last { IsTrue (is_screen result) → IsTrue (O.last_failed screen.new) }
+    ensures loan { O.loan screen.new ≡ O.loan screen.old }
 {
     'lines: loop {
         match turn(alloc, run, start, keeper, debug, lines, console, screen) {

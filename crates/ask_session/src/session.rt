@@ -45,6 +45,7 @@ fn hold_session<D: Debugged, K: Keeper, I: Source, O: Sink>(
         (I.faults console.old) (I.faults console.new) }
     ensures screen_faults { Counted (is_screen result) (O.faults screen.old) (O.faults screen.new) }
     ensures last { IsTrue (is_screen result) → IsTrue (O.last_failed screen.new) }
+    ensures loan { O.loan screen.new ≡ O.loan screen.old }
 {
     let Ok(mut lines) = Lines::new(alloc) else {
         return Ending::Memory;
@@ -89,6 +90,7 @@ fn hold_if_fit<D: Debugged, K: Keeper, I: Source, O: Sink>(
         (I.faults console.old) (I.faults console.new) }
     ensures screen_faults { Counted (is_screen result) (O.faults screen.old) (O.faults screen.new) }
     ensures last { IsTrue (is_screen result) → IsTrue (O.last_failed screen.new) }
+    ensures loan { O.loan screen.new ≡ O.loan screen.old }
 {
     match refusal(alloc, run, start) {
         Ok(None) => hold_session(alloc, run, start, keeper, console, screen),
@@ -162,6 +164,7 @@ pub fn converse<D: Debugged, K: Keeper, I: Source, O: Sink>(
     ensures screen_faults { Counted (is_screen result) (O.faults screen.old) (O.faults screen.new) }
     // No call of the screen comes after one that failed.
     ensures last { IsTrue (is_screen result) → IsTrue (O.last_failed screen.new) }
+    ensures loan { O.loan screen.new ≡ O.loan screen.old }
 {
     search_is_sound(run);
     hold_if_fit(alloc, run, start, keeper, console, screen)

@@ -53,6 +53,7 @@ fn ask_for<K: Keeper, I: Source, O: Sink>(
     ensures console_faults { Counted (is_console result) (I.faults console.old) (I.faults console.new) }
     ensures screen_faults { Counted (is_screen result) (O.faults screen.old) (O.faults screen.new) }
     ensures last { IsTrue (is_screen result) → IsTrue (O.last_failed screen.new) }
+    ensures loan { O.loan screen.new ≡ O.loan screen.old }
     ensures untouched { NamesNoFile (Some (meant_of asked.now))
         → (keeper.new ≡ keeper.old) × (console.new ≡ console.old) }
 {
@@ -84,6 +85,7 @@ fn ask_words<K: Keeper, I: Source, O: Sink>(
     ensures console_faults { Counted (is_console result) (I.faults console.old) (I.faults console.new) }
     ensures screen_faults { Counted (is_screen result) (O.faults screen.old) (O.faults screen.new) }
     ensures last { IsTrue (is_screen result) → IsTrue (O.last_failed screen.new) }
+    ensures loan { O.loan screen.new ≡ O.loan screen.old }
     ensures untouched { NamesNoFile (meaning words.now) → (keeper.new ≡ keeper.old) × (console.new ≡ console.old) }
 {
     match read_words(alloc, words) {
@@ -170,6 +172,7 @@ pub fn ask_pascal<K: Keeper, I: Source, O: Sink>(
     ensures console_faults { Counted (result == 5) (I.faults console.old) (I.faults console.new) }
     ensures screen_faults { Counted (result == 6) (O.faults screen.old) (O.faults screen.new) }
     ensures last { result ≡ 6 → IsTrue (O.last_failed screen.new) }
+    ensures loan { O.loan screen.new ≡ O.loan screen.old }
     ensures untouched { NamesNoFile (meaning words.now) → (keeper.new ≡ keeper.old) × (console.new ≡ console.old) }
 {
     // What the clauses `asks`, `narrows`, `names`, `finds`, `exits` and `one_run` say is a law each.

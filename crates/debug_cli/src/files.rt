@@ -75,6 +75,7 @@ fn ask_run<K: Keeper, I: Source, O: Sink>(
     ensures console_faults { Counted (is_console result) (I.faults console.old) (I.faults console.new) }
     ensures screen_faults { Counted (is_screen result) (O.faults screen.old) (O.faults screen.new) }
     ensures last { IsTrue (is_screen result) → IsTrue (O.last_failed screen.new) }
+    ensures loan { O.loan screen.new ≡ O.loan screen.old }
 {
     let start = Start {
         source: digest(supplied.source),
@@ -119,6 +120,7 @@ fn ask_loaded<K: Keeper, I: Source, O: Sink>(
     ensures console_faults { Counted (is_console result) (I.faults console.old) (I.faults console.new) }
     ensures screen_faults { Counted (is_screen result) (O.faults screen.old) (O.faults screen.new) }
     ensures last { IsTrue (is_screen result) → IsTrue (O.last_failed screen.new) }
+    ensures loan { O.loan screen.new ≡ O.loan screen.old }
 {
     match load(alloc, bytes) {
         Ok(session) => ask_run(
@@ -162,6 +164,7 @@ fn ask_supplied<K: Keeper, I: Source, O: Sink>(
     ensures console_faults { Counted (is_console result) (I.faults console.old) (I.faults console.new) }
     ensures screen_faults { Counted (is_screen result) (O.faults screen.old) (O.faults screen.new) }
     ensures last { IsTrue (is_screen result) → IsTrue (O.last_failed screen.new) }
+    ensures loan { O.loan screen.new ≡ O.loan screen.old }
 {
     match request.load {
         None => ask_run(alloc, request, supplied, None, keeper, console, screen),
@@ -207,6 +210,7 @@ fn ask_program<K: Keeper, I: Source, O: Sink>(
     ensures console_faults { Counted (is_console result) (I.faults console.old) (I.faults console.new) }
     ensures screen_faults { Counted (is_screen result) (O.faults screen.old) (O.faults screen.new) }
     ensures last { IsTrue (is_screen result) → IsTrue (O.last_failed screen.new) }
+    ensures loan { O.loan screen.new ≡ O.loan screen.old }
 {
     match request.input {
         None => {
@@ -256,6 +260,7 @@ fn ask_source<K: Keeper, I: Source, O: Sink>(
     ensures console_faults { Counted (is_console result) (I.faults console.old) (I.faults console.new) }
     ensures screen_faults { Counted (is_screen result) (O.faults screen.old) (O.faults screen.new) }
     ensures last { IsTrue (is_screen result) → IsTrue (O.last_failed screen.new) }
+    ensures loan { O.loan screen.new ≡ O.loan screen.old }
 {
     match read_source(alloc, source) {
         Ok(program) => ask_program(alloc, request, source, program, keeper, console, screen),
@@ -289,6 +294,7 @@ pub fn ask_files<K: Keeper, I: Source, O: Sink>(
     ensures console_faults { Counted (is_console result) (I.faults console.old) (I.faults console.new) }
     ensures screen_faults { Counted (is_screen result) (O.faults screen.old) (O.faults screen.new) }
     ensures last { IsTrue (is_screen result) → IsTrue (O.last_failed screen.new) }
+    ensures loan { O.loan screen.new ≡ O.loan screen.old }
 {
     let name = request.source;
     match keeper.fetch(alloc, name, SOURCE_BYTES) {

@@ -39,6 +39,7 @@ fn show_made<O: Sink>(alloc: Global, program: SourceProgram, screen: &mut O) -> 
     ensures not_console { is_console result ≡ false }
     ensures faults { Counted (is_screen result) (O.faults screen.old) (O.faults screen.new) }
     ensures last { IsTrue (is_screen result) → IsTrue (O.last_failed screen.new) }
+    ensures loan { O.loan screen.new ≡ O.loan screen.old }
 {
     match made_text(alloc, program) {
         Ok(text) => give_text(screen, text.as_slice(), Status::Done),
@@ -57,6 +58,7 @@ pub fn ask_made<O: Sink>(alloc: Global, number: u32, screen: &mut O) -> Status
     ensures not_console { is_console result ≡ false }
     ensures faults { Counted (is_screen result) (O.faults screen.old) (O.faults screen.new) }
     ensures last { IsTrue (is_screen result) → IsTrue (O.last_failed screen.new) }
+    ensures loan { O.loan screen.new ≡ O.loan screen.old }
 {
     let Ok(source) = make_source(alloc, number) else {
         return Status::Memory;

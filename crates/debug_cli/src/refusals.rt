@@ -25,6 +25,7 @@ pub fn refuse_source<O: Sink>(
     ensures not_console { is_console result ≡ false }
     ensures faults { Counted (is_screen result) (O.faults screen.old) (O.faults screen.new) }
     ensures last { IsTrue (is_screen result) → IsTrue (O.last_failed screen.new) }
+    ensures loan { O.loan screen.new ≡ O.loan screen.old }
 {
     match refused_text(alloc, why, line, byte) {
         Ok(text) => give_text(screen, text.as_slice(), Status::Source),
@@ -53,6 +54,7 @@ pub fn refuse_file<O: Sink>(alloc: Global, fault: FetchFault, name: &str, screen
     ensures not_console { is_console result ≡ false }
     ensures faults { Counted (is_screen result) (O.faults screen.old) (O.faults screen.new) }
     ensures last { IsTrue (is_screen result) → IsTrue (O.last_failed screen.new) }
+    ensures loan { O.loan screen.new ≡ O.loan screen.old }
 {
     match file_text(alloc, fault, name.as_bytes()) {
         Ok(text) => give_text(screen, text.as_slice(), Status::File),
@@ -68,6 +70,7 @@ pub fn refuse_session<O: Sink>(alloc: Global, fault: LoadFault, screen: &mut O) 
     ensures not_console { is_console result ≡ false }
     ensures faults { Counted (is_screen result) (O.faults screen.old) (O.faults screen.new) }
     ensures last { IsTrue (is_screen result) → IsTrue (O.last_failed screen.new) }
+    ensures loan { O.loan screen.new ≡ O.loan screen.old }
 {
     match session_text(alloc, fault) {
         Ok(text) => give_text(screen, text.as_slice(), Status::Session),

@@ -69,6 +69,7 @@ pub fn give_text<O: Sink>(screen: &mut O, text: &[u8], status: Status) -> Status
     ensures gives { GivesText result status text.now (O.given screen.old) (O.given screen.new) }
     ensures faults { Counted (is_screen result) (O.faults screen.old) (O.faults screen.new) }
     ensures last { IsTrue (is_screen result) → IsTrue (O.last_failed screen.new) }
+    ensures loan { O.loan screen.new ≡ O.loan screen.old }
 {
     match write_all(screen, text) {
         Ok(()) => status,

@@ -24,6 +24,7 @@ lines-init g c =
       console_faults = refl;
       search = c.requires.search;
       screen_faults = refl;
+      loan = refl;
     }
 
 pub lines-preserved : goal.lines-preserved
@@ -58,6 +59,7 @@ lines-preserved g c =
       console_faults = c.in-Ok.ensures.console_faults ∙ c.lines.invariant.console_faults;
       search = c.turn.ensures.search;
       screen_faults = c.in-Ok.ensures.screen_faults ∙ c.lines.invariant.screen_faults;
+      loan = c.turn.ensures.loan ∙ c.lines.invariant.loan;
     }
 
 pub returns-in-Err-clause-goes : goal.returns-in-Err-clause-goes

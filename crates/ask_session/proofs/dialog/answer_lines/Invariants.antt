@@ -30,6 +30,7 @@ invariant-lines g l =
       console_faults : g.I.Source.faults l.console ≡ g.I.Source.faults l.fn.console;
       search : IsSearchOf (g.D.Debugged.subject l.run) l.debug;
       screen_faults : g.O.Sink.faults l.screen ≡ g.O.Sink.faults l.fn.screen;
+      loan : g.O.Sink.loan l.screen ≡ g.O.Sink.loan l.fn.screen;
     }
 
 abbrev pub decreases-lines : goal.decreases-lines
