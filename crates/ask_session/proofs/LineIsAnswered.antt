@@ -109,6 +109,7 @@ module _ (s : Subject) where
   entries_stay entries (asks.Trust routine) file e = absurd (let x : ⊥ = cc in x)
   entries_stay entries (asks.TakeBack number) file e = absurd (let x : ⊥ = cc in x)
   entries_stay entries (asks.Show call) file e = absurd (let x : ⊥ = cc in x)
+  entries_stay entries (asks.State call name) file e = absurd (let x : ⊥ = cc in x)
   entries_stay entries (asks.Trace call) file e = absurd (let x : ⊥ = cc in x)
   entries_stay entries asks.Tree file e = absurd (let x : ⊥ = cc in x)
   entries_stay entries asks.Quit file e = absurd (let x : ⊥ = cc in x)
@@ -123,6 +124,7 @@ goes_on (asks.TrustNamed name) file e = refl
 goes_on (asks.Trust routine) file e = refl
 goes_on (asks.TakeBack number) file e = refl
 goes_on (asks.Show call) file e = refl
+goes_on (asks.State call name) file e = refl
 goes_on (asks.Trace call) file e = refl
 goes_on asks.Tree file e = refl
 goes_on asks.Quit file e = absurd (let x : ⊥ = cc in x)

@@ -78,6 +78,7 @@ fn is_quit(instruction: &Instruction<'_>) -> bool
         | Instruction::Trust(_)
         | Instruction::TakeBack(_)
         | Instruction::Show(_)
+        | Instruction::State(_, _)
         | Instruction::Trace(_)
         | Instruction::Tree
         | Instruction::Save(_)
@@ -97,6 +98,7 @@ fn saved_file<'a, 'b>(instruction: &'a Instruction<'b>) -> Option<&'a FileName<'
         | Instruction::Trust(_)
         | Instruction::TakeBack(_)
         | Instruction::Show(_)
+        | Instruction::State(_, _)
         | Instruction::Trace(_)
         | Instruction::Tree
         | Instruction::Quit

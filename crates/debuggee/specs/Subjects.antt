@@ -5,6 +5,7 @@ use Rattle.program_tables.specs.ProgramRows.{name_of}
 use Rattle.program_meaning.specs.Replay.{Replayed}
 use Rattle.program_meaning.specs.Run.{run, way_out}
 use Rattle.question_text.specs.Cards.{Recorded, card}
+use Rattle.question_text.specs.States.{has_cell, state_text}
 use Rattle.question_text.specs.Traces.{trace_text}
 use Rattle.question_text.specs.Trees.{tree_text}
 use Rattle.body_replay.specs.Replays.{kept_event, work_of}
@@ -23,8 +24,8 @@ trace h k =
     let p = h.recorded.program in
     trace_of_work h.recorded k (work_of p (run p h.supply.input h.supply.budget) k)
 
--- the columns of its calls, the routines of its program by number and name, the cards and traces of its calls, and the
--- lines of all calls with what is said of each
+-- the columns of its calls, the routines of its program by number and name, the cards and traces of its calls, the
+-- lines on the cells before and after each, and the lines of all calls with what is said of each
 abbrev pub subject_of : Execution → Subject
 subject_of h = record {
   tree = record {
@@ -36,5 +37,7 @@ subject_of h = record {
   name = name_of h.recorded.program;
   card = card h.recorded;
   trace = trace h;
+  has_cell = has_cell h.recorded;
+  state = state_text h.recorded;
   marked = tree_text h.recorded.program h.recorded.calls;
 }

@@ -16,7 +16,7 @@ use edge_ports::{Bytes, Memory};
 use pas_lexer::Tokens;
 use program_run::History;
 use program_tables::Program;
-use question_text::{Recorded, write_call, write_trace, write_tree};
+use question_text::{Recorded, write_call, write_state, write_trace, write_tree};
 use std::alloc::Global;
 
 /// A source that was run: its tokens, the program that they are, and its run.
@@ -86,6 +86,16 @@ impl<'a> Debugged for Debuggee<'a> {
         let mut steps: Steps<()> = Steps::new();
         let trace = replay(alloc, &self.program, &self.history, call, &mut steps)?;
         write_trace(alloc, out, &self.recorded(), call, &trace.events, trace.way)
+    }
+
+    fn write_state(
+        &self,
+        alloc: Global,
+        out: &mut Bytes,
+        call: u32,
+        name: &[u8],
+    ) -> Result<bool, Memory> {
+        write_state(alloc, out, &self.recorded(), call, name)
     }
 
     fn write_tree(&self, alloc: Global, out: &mut Bytes, marks: &[Mark]) -> Result<(), Memory> {

@@ -7,7 +7,7 @@ use Rattle.dialog_lines.specs.declared.keywords.Keyword.{Keyword}
 use Rattle.dialog_lines.specs.declared.keywords.Keyword.TheVariants as key
 use Rattle.dialog_lines.specs.Keywords.{keyword_of}
 use Rattle.dialog_lines.specs.Numbers.{number_of, routine_number}
-use Rattle.dialog_lines.specs.Words.{words}
+use Rattle.dialog_lines.specs.Words.{after_blanks, after_word, before_blanks, words}
 
 -- what is asked for with a number, where the word is one
 abbrev pub with_number : Option ℕ → (ℕ → Instruction) → Instruction
@@ -26,25 +26,31 @@ trust_in word = trust_by word (routine_number word)
 abbrev pub save_in : List ℕ → Instruction
 save_in word = if is_utf8 word then ask.Save word else ask.Other
 
--- by the first word and those after it
-abbrev pub instruction_by : Keyword → List (List ℕ) → Instruction
-instruction_by (key.Judge judgement) [] = ask.Judge judgement None
-instruction_by (key.Judge judgement) (call ∷ []) =
-    with_number (number_of call) (λ number. ask.Judge judgement (Some number))
-instruction_by key.Trust (routine ∷ []) = trust_in routine
-instruction_by key.Back [] = ask.TakeBack None
-instruction_by key.Back (entry ∷ []) = with_number (number_of entry) (λ number. ask.TakeBack (Some number))
-instruction_by key.Show (call ∷ []) = with_number (number_of call) ask.Show
-instruction_by key.Trace (call ∷ []) = with_number (number_of call) ask.Trace
-instruction_by key.Tree [] = ask.Tree
-instruction_by key.Save (file ∷ []) = save_in file
-instruction_by key.Quit [] = ask.Quit
-instruction_by keyword others = ask.Other
+-- a cell's name is the rest of a line, since it may have blanks inside, as `a[' ']`
+abbrev pub cell_in : (rest : List ℕ) → List ℕ
+cell_in rest = before_blanks (after_blanks rest)
 
-abbrev pub instruction_of_words : List (List ℕ) → Instruction
-instruction_of_words [] = ask.Nothing
-instruction_of_words (word ∷ others) = instruction_by (keyword_of word) others
+-- by the first word and those after it, and by what follows the second word
+abbrev pub instruction_by : Keyword → List (List ℕ) → (rest : List ℕ) → Instruction
+instruction_by (key.Judge judgement) [] rest = ask.Judge judgement None
+instruction_by (key.Judge judgement) (call ∷ []) rest =
+    with_number (number_of call) (λ number. ask.Judge judgement (Some number))
+instruction_by key.Trust (routine ∷ []) rest = trust_in routine
+instruction_by key.Back [] rest = ask.TakeBack None
+instruction_by key.Back (entry ∷ []) rest = with_number (number_of entry) (λ number. ask.TakeBack (Some number))
+instruction_by key.Show (call ∷ []) rest = with_number (number_of call) ask.Show
+instruction_by key.State (call ∷ name ∷ names) rest =
+    with_number (number_of call) (λ number. ask.State number (cell_in rest))
+instruction_by key.Trace (call ∷ []) rest = with_number (number_of call) ask.Trace
+instruction_by key.Tree [] rest = ask.Tree
+instruction_by key.Save (file ∷ []) rest = save_in file
+instruction_by key.Quit [] rest = ask.Quit
+instruction_by keyword others rest = ask.Other
+
+abbrev pub instruction_of_words : List (List ℕ) → (rest : List ℕ) → Instruction
+instruction_of_words [] rest = ask.Nothing
+instruction_of_words (word ∷ others) rest = instruction_by (keyword_of word) others rest
 
 -- what a line asks for
 abbrev pub instruction_of : List ℕ → Instruction
-instruction_of line = instruction_of_words (words line)
+instruction_of line = instruction_of_words (words line) (after_word (after_word line))

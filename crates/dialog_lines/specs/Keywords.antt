@@ -3,7 +3,7 @@ use Rattle.std.specs.Prelude.{ℕ, if◌then◌else◌, List, codes}
 use Rattle.std.specs.Str.{bytes_eq}
 use Rattle.answer_book.specs.declared.entries.Judgement.TheVariants.{Right, Wrong, Unknown}
 use Rattle.dialog_lines.specs.declared.keywords.Keyword.{Keyword}
-use Rattle.dialog_lines.specs.declared.keywords.Keyword.TheVariants.{Judge, Trust, Back, Show, Trace, Tree}
+use Rattle.dialog_lines.specs.declared.keywords.Keyword.TheVariants.{Judge, Trust, Back, Show, State, Trace, Tree}
 use Rattle.dialog_lines.specs.declared.keywords.Keyword.TheVariants.{Save, Quit, Other}
 
 abbrev pub keyword_of : List ℕ → Keyword
@@ -14,7 +14,8 @@ keyword_of word =
     else (if bytes_eq word (codes "trust") then Trust
     else (if bytes_eq word (codes "back") then Back
     else (if bytes_eq word (codes "show") then Show
+    else (if bytes_eq word (codes "state") then State
     else (if bytes_eq word (codes "trace") then Trace
     else (if bytes_eq word (codes "tree") then Tree
     else (if bytes_eq word (codes "save") then Save
-    else (if bytes_eq word (codes "quit") then Quit else Other)))))))))
+    else (if bytes_eq word (codes "quit") then Quit else Other))))))))))

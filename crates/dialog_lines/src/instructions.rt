@@ -1,15 +1,18 @@
 //! What a line of the console asks for.
-ghost use Rattle.std.specs.Prelude.{◌≡◌, ◌∷◌, []};
-ghost use Rattle.dialog_lines.specs.Instructions.{instruction_by, instruction_of, save_in, trust_in};
-ghost use Rattle.dialog_lines.specs.Words.{words};
+ghost use Rattle.std.specs.Prelude.{◌≡◌, ◌∷◌, [], ℕ, List};
+ghost use Rattle.dialog_lines.specs.Instructions.{cell_in, instruction_by, instruction_of, save_in, trust_in};
+ghost use Rattle.dialog_lines.specs.Instructions.{with_number};
+ghost use Rattle.dialog_lines.specs.Numbers.{number_of};
+ghost use Rattle.dialog_lines.specs.Words.{after_word, words};
+ghost use Rattle.dialog_lines.specs.declared.instructions.Instruction.TheVariants as ask;
 
 use crate::keywords::{Keyword, keyword_in};
 use crate::numbers::{number_in, routine_number};
-use crate::words::first_word;
+use crate::words::{after_blanks, before_blanks, first_word};
 use answer_book::Judgement;
 use std::marker::Model;
 
-/// The name of a routine, as it was typed. Clauses see its bytes.
+/// The name of a routine or of cells, as it was typed. Clauses see its bytes.
 #[derive(Drop)]
 pub struct Name<'a> {
     bytes: &'a [u8],
@@ -71,6 +74,8 @@ pub enum Instruction<'a> {
     TakeBack(Option<u32>),
     /// `show K`: the card of the call of this number.
     Show(u32),
+    /// `state K NAME`: what the cells of this name held before and after the call of this number.
+    State(u32, Name<'a>),
     /// `trace K`: the trace of the call of this number.
     Trace(u32),
     /// `tree`: the marks of all calls.
@@ -85,15 +90,19 @@ pub enum Instruction<'a> {
 
 /// What a keyword alone asks for.
 fn alone<'a>(keyword: Keyword) -> Instruction<'a>
-    ensures { result ≡ instruction_by keyword [] }
+    ensures { (rest : List ℕ) → result ≡ instruction_by keyword [] rest }
 {
     match keyword {
         Keyword::Judge(judgement) => Instruction::Judge(judgement, None),
         Keyword::Back => Instruction::TakeBack(None),
         Keyword::Tree => Instruction::Tree,
         Keyword::Quit => Instruction::Quit,
-        Keyword::Trust | Keyword::Show | Keyword::Trace | Keyword::Save | Keyword::Other =>
-            Instruction::Other,
+        Keyword::Trust
+        | Keyword::Show
+        | Keyword::State
+        | Keyword::Trace
+        | Keyword::Save
+        | Keyword::Other => Instruction::Other,
     }
 }
 
@@ -119,7 +128,7 @@ fn save<'a>(file: &'a [u8]) -> Instruction<'a>
 
 /// What a keyword asks for with this word after it.
 fn with_operand<'a>(keyword: Keyword, operand: &'a [u8]) -> Instruction<'a>
-    ensures { result ≡ instruction_by keyword (operand.now ∷ []) }
+    ensures { (rest : List ℕ) → result ≡ instruction_by keyword (operand.now ∷ []) rest }
 {
     match keyword {
         Keyword::Trust => trust(operand),
@@ -140,19 +149,53 @@ fn with_operand<'a>(keyword: Keyword, operand: &'a [u8]) -> Instruction<'a>
             None => Instruction::Other,
         },
         Keyword::Save => save(operand),
-        Keyword::Tree | Keyword::Quit | Keyword::Other => Instruction::Other,
+        Keyword::State | Keyword::Tree | Keyword::Quit | Keyword::Other => Instruction::Other,
+    }
+}
+
+/// What `state` asks for with this word after it, and this after the word.
+fn state<'a>(call: &'a [u8], rest: &'a [u8]) -> Instruction<'a>
+    ensures { result ≡ with_number (number_of call.now) (λ number. ask.State number (cell_in rest.now)) }
+{
+    match number_in(call) {
+        Some(number) => Instruction::State(
+            number,
+            Name {
+                bytes: before_blanks(after_blanks(rest)),
+            },
+        ),
+        None => Instruction::Other,
+    }
+}
+
+/// What a keyword asks for with more than one word after it: the first, and what follows it.
+fn with_more<'a>(keyword: Keyword, operand: &'a [u8], rest: &'a [u8]) -> Instruction<'a>
+    ensures { (second : List ℕ) (others : List (List ℕ))
+        → result ≡ instruction_by keyword (operand.now ∷ second ∷ others) rest.now }
+{
+    match keyword {
+        Keyword::State => state(operand, rest),
+        Keyword::Judge(_)
+        | Keyword::Trust
+        | Keyword::Back
+        | Keyword::Show
+        | Keyword::Trace
+        | Keyword::Tree
+        | Keyword::Save
+        | Keyword::Quit
+        | Keyword::Other => Instruction::Other,
     }
 }
 
 /// What a keyword asks for, by what follows it in the line.
 fn with_rest<'a>(keyword: Keyword, rest: &'a [u8]) -> Instruction<'a>
-    ensures { result ≡ instruction_by keyword (words rest.now) }
+    ensures { result ≡ instruction_by keyword (words rest.now) (after_word rest.now) }
 {
     match first_word(rest) {
         None => alone(keyword),
         Some((operand, more)) => match first_word(more) {
             None => with_operand(keyword, operand),
-            Some(_) => Instruction::Other,
+            Some(_) => with_more(keyword, operand, more),
         },
     }
 }

@@ -15,6 +15,8 @@ pub enum Keyword {
     Back,
     /// `show`.
     Show,
+    /// `state`.
+    State,
     /// `trace`.
     Trace,
     /// `tree`.
@@ -43,6 +45,8 @@ pub fn keyword_in(word: &[u8]) -> Keyword
         Keyword::Back
     } else if word == b"show".as_slice() {
         Keyword::Show
+    } else if word == b"state".as_slice() {
+        Keyword::State
     } else if word == b"trace".as_slice() {
         Keyword::Trace
     } else if word == b"tree".as_slice() {

@@ -86,6 +86,15 @@ card_or_none s call = if nat_lt call (calls_recorded s) then s.card call else no
 abbrev pub trace_or_none : Subject → ℕ → List ℕ
 trace_or_none s call = if nat_lt call (calls_recorded s) then s.trace call else no_call call
 
+abbrev pub no_cell : (call : ℕ) → (name : List ℕ) → List ℕ
+no_cell call name = codes "no cell " ++ name ++ codes " at call " ++ decimal call ++ codes "\n"
+
+-- what the cells of a name held before and after a call
+abbrev pub state_or_none : Subject → (call : ℕ) → (name : List ℕ) → List ℕ
+state_or_none s call name =
+    if nat_lt call (calls_recorded s) then (if s.has_cell call name then s.state call name else no_cell call name)
+    else no_call call
+
 -- What a line that saves is replied depends on the keeper, and is said where the session is held.
 unfoldable pub outcome : Subject → List Entry → Instruction → LineOutcome
 outcome s entries asked.Nothing = replied entries []
@@ -98,6 +107,7 @@ outcome s entries (asked.TakeBack None) =
 outcome s entries (asked.TakeBack (Some number)) =
     takes_back s entries number (take_back_answer (book_of s entries) number)
 outcome s entries (asked.Show call) = replied entries (card_or_none s call)
+outcome s entries (asked.State call name) = replied entries (state_or_none s call name)
 outcome s entries (asked.Trace call) = replied entries (trace_or_none s call)
 outcome s entries asked.Tree = replied entries (tree_text s entries)
 outcome s entries (asked.Save file) = replied entries []

@@ -1,5 +1,5 @@
 -- What a dialog is about, and the state of its search, from scratch: by the columns of a run and the entries of a book.
-use Rattle.std.specs.Prelude.{ℕ, List, Option, find, length}
+use Rattle.std.specs.Prelude.{ℕ, Bool, List, Option, find, length}
 use Rattle.std.specs.Str.{str_eq_ignore_ascii_case}
 use Rattle.answer_book.specs.declared.entries.Entry.{Entry}
 use Rattle.answer_book.specs.Answers.{Answers}
@@ -12,13 +12,16 @@ use Rattle.optimal_query.specs.declared.state.SearchState.{SearchState}
 use Rattle.optimal_query.specs.Laws.{CallTree, doubts_in, state_in}
 
 -- the columns of the calls of a run, how many routines the program has, and the name of each; the texts on each call:
--- its card, and the lines of its trace; and the lines of all calls, with a mark for each
+-- its card, the lines of its trace, whether a cell has a name before or after it, and the lines on the cells of a name;
+-- and the lines of all calls, with a mark for each
 pub record Subject : Type 0 where
   pub tree : CallTree
   pub routines : ℕ
   pub name : ℕ → List ℕ
   pub card : ℕ → List ℕ
   pub trace : ℕ → List ℕ
+  pub has_cell : (call : ℕ) → (name : List ℕ) → Bool
+  pub state : (call : ℕ) → (name : List ℕ) → List ℕ
   pub marked : List Mark → List ℕ
 
 -- the columns of a run

@@ -1,5 +1,5 @@
 //! What the dialog needs of a run.
-ghost use Rattle.std.specs.Prelude.{◌≡◌, ◌<◌, ◌++◌, OnOk, length};
+ghost use Rattle.std.specs.Prelude.{◌≡◌, ◌<◌, ◌++◌, IfOk, OnOk, length};
 ghost use Rattle.dialog_replies.specs.Kept.{AreCallsOf};
 ghost use Rattle.dialog_replies.specs.Subject.{Subject, calls_recorded};
 
@@ -29,6 +29,19 @@ pub trait Debugged {
     fn write_trace(&self, alloc: Global, out: &mut Bytes, call: u32) -> Result<(), Memory>
         requires { call < calls_recorded (subject self.now) }
         ensures { OnOk result (out.new ≡ out.old ++ (subject self.now).trace call) };
+
+    /// Appends the lines on the cells of a name: what each held before a call and after it. It answers whether there
+    /// is such a cell.
+    fn write_state(
+        &self,
+        alloc: Global,
+        out: &mut Bytes,
+        call: u32,
+        name: &[u8],
+    ) -> Result<bool, Memory>
+        requires { call < calls_recorded (subject self.now) }
+        ensures lines { OnOk result (out.new ≡ out.old ++ (subject self.now).state call name.now) }
+        ensures has_cell { IfOk result (λ has. has ≡ (subject self.now).has_cell call name.now) };
 
     /// Appends a line on each call, in order of entry, with these marks: one for each call.
     fn write_tree(&self, alloc: Global, out: &mut Bytes, marks: &[Mark]) -> Result<(), Memory>

@@ -1,12 +1,12 @@
 //! The reply to each line.
-ghost use Rattle.std.specs.Prelude.{◌≡◌, ◌++◌, IfOk, codes};
+ghost use Rattle.std.specs.Prelude.{◌≡◌, ◌<◌, ◌++◌, IfOk, codes, decimal, if◌then◌else◌};
 ghost use Rattle.dialog_replies.specs.Kept.{IsSearchOf};
-ghost use Rattle.dialog_replies.specs.Replies.{card_or_none, judges_asked, opening, outcome, replied};
-ghost use Rattle.dialog_replies.specs.Replies.{trace_or_none, trusts_named};
-ghost use Rattle.dialog_replies.specs.Subject.{routine_named, state_after};
+ghost use Rattle.dialog_replies.specs.Replies.{card_or_none, judges_asked, no_cell, opening, outcome, replied};
+ghost use Rattle.dialog_replies.specs.Replies.{state_or_none, trace_or_none, trusts_named};
+ghost use Rattle.dialog_replies.specs.Subject.{calls_recorded, routine_named, state_after};
 ghost use Rattle.dialog_replies.specs.Texts.{tree_text};
 
-use crate::calls::routine_named;
+use crate::calls::{routine_named, write_number};
 use crate::changes::{judge, refusal, take_back, take_back_last, text_of, trust};
 use crate::debugged::Debugged;
 use crate::marks::marks_now;
@@ -106,6 +106,44 @@ fn trace_of<D: Debugged>(alloc: Global, run: &D, call: u32) -> Result<Bytes, Mem
     }
 }
 
+/// The reply where no cell has this name before or after a call.
+fn no_cell(alloc: Global, call: u32, name: &[u8]) -> Result<Bytes, Memory>
+    ensures { IfOk result (λ text. text ≡ no_cell call name.now) }
+{
+    let mut text = Bytes::new(alloc);
+    text.append(b"no cell ")?;
+    text.append(name)?;
+    text.append(b" at call ")?;
+    write_number(&mut text, call)?;
+    text.append(b"\n")?;
+    Ok(text)
+}
+
+/// The lines on the cells of a name before and after a call, or that there is none.
+fn cells_of<D: Debugged>(alloc: Global, run: &D, call: u32, name: &[u8]) -> Result<Bytes, Memory>
+    requires { call < calls_recorded (D.subject run.now) }
+    ensures { IfOk result (λ text. text ≡ (if (D.subject run.now).has_cell call name.now
+        then (D.subject run.now).state call name.now else no_cell call name.now)) }
+{
+    let mut text = Bytes::new(alloc);
+    if run.write_state(alloc, &mut text, call, name)? {
+        Ok(text)
+    } else {
+        no_cell(alloc, call, name)
+    }
+}
+
+/// The same, where there is a call of this number.
+fn state_of<D: Debugged>(alloc: Global, run: &D, call: u32, name: &[u8]) -> Result<Bytes, Memory>
+    ensures { IfOk result (λ text. text ≡ state_or_none (D.subject run.now) call name.now) }
+{
+    if call < run.calls().len() {
+        cells_of(alloc, run, call, name)
+    } else {
+        refusal(alloc, BookFault::NoCall(call))
+    }
+}
+
 /// The tree of the calls with their marks.
 fn tree_of<D: Debugged>(alloc: Global, run: &D, debug: &Debug) -> Result<Bytes, Memory>
     requires { IsSearchOf (D.subject run.now) debug.now }
@@ -140,6 +178,7 @@ pub fn answer<D: Debugged>(
         Instruction::TakeBack(None) => take_back_last(alloc, run, debug),
         Instruction::TakeBack(Some(entry)) => take_back(alloc, run, debug, entry),
         Instruction::Show(call) => card_of(alloc, run, call),
+        Instruction::State(call, name) => state_of(alloc, run, call, name.bytes()),
         Instruction::Trace(call) => trace_of(alloc, run, call),
         Instruction::Tree => tree_of(alloc, run, debug),
         Instruction::Other => text_of(alloc, b"not understood\n"),

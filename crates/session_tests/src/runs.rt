@@ -51,7 +51,7 @@ pub fn a_run(alloc: Global) -> Result<Debuggee<'static>, SourceFault> {
     run_of(alloc, SOURCE, INPUT, 1_000)
 }
 
-/// The number of a call and the name of its routine, its card, and its trace.
+/// The number of a call and the name of its routine, its card, its trace, and what `x` held before and after it.
 const TEXTS: [&str; 3] = [
     "0 four
 call 0 four
@@ -66,6 +66,7 @@ call 0 four
   call 2 twice
   line 11
   returned
+no cell x
 ",
     "1 twice
 call 1 twice in call 0
@@ -75,6 +76,7 @@ call 1 twice in call 0
   returned
   line 5
   returned
+  x = 3, then 5
 ",
     "2 twice
 call 2 twice in call 0
@@ -84,6 +86,7 @@ call 2 twice in call 0
   returned
   line 5
   returned
+  x = 5, then 7
 ",
 ];
 
@@ -99,6 +102,9 @@ fn write_texts<D: Debugged>(
         out.append(b"\n")?;
         run.write_card(alloc, out, call)?;
         run.write_trace(alloc, out, call)?;
+        if !run.write_state(alloc, out, call, b"x")? {
+            out.append(b"no cell x\n")?;
+        }
     }
     Ok(())
 }
