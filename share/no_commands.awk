@@ -1,0 +1,16 @@
+# Whether lines were meant as input of a program, and came to the dialog: ten or more are no commands, and none is one.
+# The status is 0 where that is so. awk -f no_commands.awk <LINES
+
+{ gsub(/[ \t\r]+/, " "); sub(/^ /, ""); sub(/ $/, "") }
+
+$0 == "" { next }
+
+/^(right|wrong|unknown|back)( [0-9]+)?$/ { found = 1; exit }
+/^(show|trace) [0-9]+$/ { found = 1; exit }
+/^(trust|save) [^ ]+$/ { found = 1; exit }
+/^(tree|quit)$/ { found = 1; exit }
+/^state [0-9]+ / { found = 1; exit }
+
+{ strange++ }
+
+END { exit found || strange < 10 }
