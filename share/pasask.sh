@@ -142,7 +142,7 @@ refuse_unmeant() {
 # not there, the line that the program printed has to do.
 explain() {
     if [ ! -r "$share/refusals.tsv" ] || [ ! -r "$share/refusal.awk" ]; then return 0; fi
-    copy=$(mktemp) || return 0
+    copy=$(mktemp 2>/dev/null) || return 0
     printf '%s\n' "$1" >"$copy"
     # awk reads backslashes of a value as escapes
     name=$(printf '%s\n' "$source" | sed 's/\\/&&/g')
@@ -203,7 +203,7 @@ stop_asking() {
 # Runs the program on a console that is a pipe, of which a copy is kept as it goes by: a line is in the copy before the
 # program has it. The streams that it prints on are its own.
 run_on_pipe() {
-    room=$(mktemp -d) || exec "$program" "$@"
+    room=$(mktemp -d 2>/dev/null) || exec "$program" "$@"
     mkfifo "$room/console" || exec "$program" "$@"
     exec 3<&0
     tee "$room/console" <&3 >"$room/copy" 2>/dev/null 3<&- &
