@@ -50,6 +50,8 @@ function name_the_alphabet(    i) {
     for (i = 97; i <= 122; i++) class[sprintf("%c", i)] = class[toupper(sprintf("%c", i))] = "letter"
     for (i = 48; i <= 57; i++) class[sprintf("%c", i)] = "digit"
     class[" "] = class["\t"] = class["\r"] = class["\f"] = "blank"
+    put_all(class, "; , = + - [ ] ) ^", "alone")
+    put_all(is_pair, "<> <= >= := .. (. .) (* //", 1)
     put_all(is_word, "and array begin case const div do downto else end file for function goto if in label mod nil not of or packed", 1)
     put_all(is_word, "procedure program record repeat set then to type until var while with", 1)
     put_all(is_symbol, "+ - * / = < > [ ] . , : ; ^ ( ) <> <= >= := .. // { (*", 1)
@@ -135,13 +137,12 @@ function meets(spellings, values,    words, count, i) {
     return 0
 }
 
-function filled_in(text,    result, from, to, key) {
-    while (from = index(text, "{")) {
-        to = index(text, "}")
-        key = substr(text, from + 1, to - from - 1)
+function filled_in(text,    result, key) {
+    while (match(text, /[{][a-z][a-z0-9 ]*[}]/)) {
+        key = substr(text, RSTART + 1, RLENGTH - 2)
         if (!(key in words_for)) fail("no such word: {" key "}")
-        result = result substr(text, 1, from - 1) words_for[key]
-        text = substr(text, to + 1)
+        result = result substr(text, 1, RSTART - 1) words_for[key]
+        text = substr(text, RSTART + RLENGTH)
     }
     return result text
 }
@@ -165,6 +166,7 @@ function aim_at_the_token(    i, text) {
 
 # Takes the tokens one by one: up to the target, and then as far as is needed.
 function walk(    i) {
+    depth = blocks = 0
     since[0] = opener[0] = called[0] = "NONE"
     before = before2 = "NONE"
     block[0] = "program"
@@ -174,9 +176,10 @@ function walk(    i) {
 }
 
 # Takes the tokens of one line. A window moves over a long one, since each part that is taken of a text is a copy.
-function walk_line(line, number,    size, window, behind, at, byte, kind, rest, length_of, spelling) {
+function walk_line(line, number,    size, window, behind, at, byte, rest, length_of, text, spelling) {
     size = length(line)
     window = substr(line, 1, 400)
+    behind = 0
     at = 1
     while (at <= size) {
         if (at - behind > 200) {
@@ -188,32 +191,26 @@ function walk_line(line, number,    size, window, behind, at, byte, kind, rest, 
             continue
         }
         byte = substr(window, at - behind, 1)
-        kind = class[byte]
-        if (kind == "blank") {
+        if (class[byte] == "blank") {
             at++
             continue
         }
-        rest = substr(window, at - behind)
-        if (kind == "letter") {
-            match(rest, /^[A-Za-z0-9]+/)
-            length_of = RLENGTH < length(rest) ? RLENGTH : whole_run(line, at)
-            spelling = tolower(substr(line, at, length_of))
-        } else if (kind == "digit") {
-            length_of = number_length(line, at)
-            spelling = tolower(substr(line, at, length_of))
-        } else if (byte == "'") {
-            length_of = string_length(line, at)
-            spelling = "'"
-        } else {
-            length_of = mark_length(rest)
-            spelling = mark_spelling(substr(rest, 1, length_of))
-            if ((spelling == "{" || spelling == "(*") && (met || starts[number] + at - 1 < target)) {
-                in_comment = 1
-                at += length_of
-                continue
-            }
+        if (class[byte] == "alone") {
+            take(byte, byte, number, at++)
+            if (done) return
+            continue
         }
-        take(spelling, substr(line, at, length_of), number, at)
+        rest = substr(window, at - behind)
+        length_of = token_length(rest, byte)
+        # A token that may go on behind the window is taken from the line.
+        if (length(rest) - length_of < 3 && at + length(rest) <= size) {
+            rest = substr(line, at)
+            length_of = token_length(rest, byte)
+        }
+        text = substr(rest, 1, length_of)
+        spelling = spelling_of(text, byte)
+        if ((spelling == "{" || spelling == "(*") && (met || starts[number] + at - 1 < target)) in_comment = 1
+        else take(spelling, text, number, at)
         if (done) return
         at += length_of
     }
@@ -238,44 +235,38 @@ function after_comment(line, at,    part, brace, star, size) {
     return size + 1
 }
 
-# How many letters and digits stand here.
-function whole_run(line, at,    from) {
-    for (from = at; match(substr(line, at, 200), /^[A-Za-z0-9]+/); at += RLENGTH) { }
-    return at - from
-}
-
-# A number goes on over a fraction and a scale factor, and over letters, so that one that is refused is shown whole.
-function number_length(line, at,    rest, digits) {
-    for (digits = 0; match(substr(line, at + digits, 200), /^[0-9]+/); digits += RLENGTH) { }
-    rest = substr(line, at + digits, 200)
-    if (match(rest, /^[.][0-9]+([eE][-+]?[0-9]+)?/) || match(rest, /^[eE][-+]?[0-9]+/) || match(rest, /^[A-Za-z0-9]+/))
-        return digits + RLENGTH
-    return digits
+# How many bytes the token has that stands first and begins with this byte. A number goes on over a fraction, a scale factor and
+# letters, so that one that is refused is shown whole.
+function token_length(rest, byte,    digits) {
+    if (class[byte] == "letter") {
+        match(rest, /^[A-Za-z0-9]+/)
+        return RLENGTH
+    }
+    if (class[byte] == "digit") {
+        match(rest, /^[0-9]+/)
+        digits = RLENGTH
+        rest = substr(rest, digits + 1)
+        if (match(rest, /^[.][0-9]+([eE][-+]?[0-9]+)?/) || match(rest, /^[eE][-+]?[0-9]+/) || match(rest, /^[A-Za-z0-9]+/))
+            return digits + RLENGTH
+        return digits
+    }
+    if (byte == "'") return string_length(rest)
+    return substr(rest, 1, 2) in is_pair ? 2 : character_length(rest, 1)
 }
 
 # A string goes to the last apostrophe that can end it, or to the end of the line.
-function string_length(line, at,    from, end) {
-    for (from = at + 1; from = next_apostrophe(line, from); from += 2) {
-        end = from
-        if (substr(line, from + 1, 1) != "'") break
+function string_length(rest,    end, gap) {
+    while (gap = index(substr(rest, end + 2), "'")) {
+        end += gap + 1
+        if (substr(rest, end + 1, 1) != "'") break
     }
-    return end ? end - at + 1 : length(line) - at + 1
+    return end ? end : length(rest)
 }
 
-function next_apostrophe(line, at,    size, found) {
-    size = length(line)
-    for (; at <= size; at += 200) if (found = index(substr(line, at, 200), "'")) return at + found - 1
-    return 0
-}
-
-# How many bytes a symbol, or a character that is none, has.
-function mark_length(rest,    two) {
-    two = substr(rest, 1, 2)
-    if (index(" <> <= >= := .. (. .) (* // ", " " two " ") && length(two) == 2) return 2
-    return character_length(rest, 1)
-}
-
-function mark_spelling(text) {
+# A token in small letters, and each special symbol in one way.
+function spelling_of(text, byte) {
+    if (class[byte] != "") return tolower(text)
+    if (byte == "'") return "'"
     if (text in is_symbol) return text
     if (text == "@") return "^"
     if (text == "(.") return "["
@@ -337,15 +328,13 @@ function cut_at(text, bytes) {
 }
 
 # Prints the line and a caret below this byte of it. Of a long line only what stands around is printed.
-function show_the_line(line, byte,    from, to, lead, front) {
+function show_the_line(line, byte,    from, to, lead) {
     from = byte > 120 ? byte - 80 : 1
     while (from > 1 && int(code[substr(line, from, 1)] / 64) == 2) from--
     to = length(line) > from + 159 ? length(cut_at(line, from + 119)) : length(line)
     lead = from > 1 ? ".." : ""
-    front = printable(lead substr(line, from, byte - from))
     print lead printable(substr(line, from, to - from + 1)) (to < length(line) ? ".." : "")
-    front = substr(front, 1)
-    print blanks_for(front) "^"
+    print blanks_for(printable(lead substr(line, from, byte - from))) "^"
 }
 
 # A blank for each character, and each tab as it is.
@@ -363,7 +352,7 @@ function take(spelling, text, number, at) {
     else if (starts[number] + at - 1 >= target || spelling == "END") meet(spelling, text, number, at)
     else {
         if (spelling == aim) note_earlier(number)
-        if (spelling in role) step(spelling, role[spelling], number)
+        if (spelling in role) step(spelling, text, role[spelling], number)
         else if (!depth) note_outer_name(spelling, text)
         before2 = before
         before2_text = before_text
@@ -382,7 +371,7 @@ function note_earlier(number) {
 
 # A name outside of all brackets: that of a routine, or a directive, which takes the place of the routine's block.
 function note_outer_name(spelling, text) {
-    if (before == "procedure" || before == "function" || before == "program") block_name[blocks + 0] = text
+    if (before == "procedure" || before == "function" || before == "program") block_name[blocks] = text
     else if ((part == "procedure" || part == "function") && before == ";" && kind_of(spelling) == "NAME") {
         part = "directive"
         blocks--
@@ -390,21 +379,21 @@ function note_outer_name(spelling, text) {
 }
 
 # Takes a token that changes where the walk stands.
-function step(spelling, what, number) {
+function step(spelling, text, what, number) {
     if (what == "operator") {
         if (!index(left[depth] " ", " " spelling " ")) left[depth] = left[depth] " " spelling
         return
     }
-    left[depth] = ""
+    if (spelling != "(" && spelling != "[") left[depth] = ""
     if (what == "comma") return
-    if (what == "opening") open(spelling, number)
+    if (what == "opening") open(spelling, text, number)
     else if (what == "closing") close_one(spelling)
     else if (what == "part") begin_part(spelling)
     else if (what == "semicolon") end_statement()
     else go_on(spelling)
 }
 
-function open(spelling, number) {
+function open(spelling, text, number) {
     # The variants of a record have no `end` of their own.
     if (spelling == "case" && (opener[depth] == "record" || opener[depth] == "(")) {
         since[depth] = spelling
@@ -413,6 +402,7 @@ function open(spelling, number) {
     if (spelling == "begin" && !depth) part = "begin"
     depth++
     opener[depth] = since[depth] = spelling
+    opener_text[depth] = text
     opened_on[depth] = number
     called[depth] = kind_of(before) == "NAME" ? before : "NONE"
     called_text[depth] = before_text
@@ -429,7 +419,7 @@ function close_one(spelling,    closed) {
 }
 
 function end_block() {
-    closed_name = block_name[blocks + 0]
+    closed_name = block_name[blocks]
     part = blocks > 0 ? "end" : "done"
     if (blocks > 0) blocks--
 }
@@ -508,16 +498,16 @@ function describe(    i, all) {
     places["before2"] = before2
     places["after"] = after
     places["line"] = same_line ? "same" : "new"
-    places["inside"] = opener[depth + 0]
+    places["inside"] = opener[depth]
     places["around"] = depth ? all : "NONE"
-    places["called"] = called[depth + 0]
-    places["since"] = since[depth + 0]
+    places["called"] = called[depth]
+    places["since"] = since[depth]
     places["part"] = part == "" ? "NONE" : part
-    places["block"] = block[blocks + 0]
-    places["left"] = left[depth + 0] == "" ? "NONE" : left[depth + 0]
+    places["block"] = block[blocks]
+    places["left"] = left[depth] == "" ? "NONE" : left[depth]
     places["right"] = right == "" ? "NONE" : right
     places["beside"] = places["left"] " " places["right"]
-    places["waiting"] = (before == ";" ? waited[depth + 0] : waiting[depth + 0]) ? "if" : "NONE"
+    places["waiting"] = (before == ";" ? waited[depth] : waiting[depth]) ? "if" : "NONE"
     places["outer"] = depth && waiting[depth - 1] ? "if" : "NONE"
     places["earlier"] = earlier == "" ? "NONE" : earlier
     places["later"] = later == "" ? "NONE" : later
@@ -526,11 +516,11 @@ function describe(    i, all) {
     words_for["before2"] = quoted(before2_text)
     words_for["after"] = quoted(after_text)
     words_for["code"] = token ~ /^BYTE/ ? substr(token, 6) : token
-    words_for["open"] = opener[depth + 0]
-    words_for["open line"] = opened_on[depth + 0]
-    words_for["called"] = quoted(called_text[depth + 0])
-    words_for["since"] = since[depth + 0]
-    words_for["routine"] = quoted(block_name[blocks + 0])
+    words_for["open"] = opener_text[depth]
+    words_for["open line"] = opened_on[depth]
+    words_for["called"] = quoted(called_text[depth])
+    words_for["since"] = since[depth]
+    words_for["routine"] = quoted(block_name[blocks])
     words_for["closed"] = quoted(closed_name)
     words_for["earlier line"] = earlier_line
     words_for["later line"] = later_line

@@ -81,7 +81,7 @@ function isTrue(sets, term, places) {
 }
 
 function filledIn(sentence, words) {
-    return sentence.replace(/\{([^}]*)\}/g, (_, key) => {
+    return sentence.replace(/\{([a-z][a-z0-9 ]*)\}/g, (_, key) => {
         if (!(key in words)) throw new Error(`no such word: {${key}}`);
         return words[key];
     });
@@ -223,10 +223,11 @@ function markSpelling(text) {
 // What is open, and what was met since: a level of brackets.
 class Level {
     constructor(opener, line, called) {
-        this.opener = opener;
+        this.opener = opener.spelling;
+        this.text = opener.text;
         this.line = line;
         this.called = called;
-        this.since = opener;
+        this.since = opener.spelling;
         this.left = new Set();
         this.waiting = 0;
         this.waited = 0;
@@ -239,7 +240,7 @@ class Walk {
     constructor(lines, target) {
         this.lines = lines;
         this.target = target;
-        this.levels = [new Level("NONE", 0, NOTHING)];
+        this.levels = [new Level(NOTHING, 0, NOTHING)];
         this.blocks = [{ kind: "program", name: "" }];
         this.part = "NONE";
         this.closed = "";
@@ -323,7 +324,7 @@ class Walk {
                 this.earlierLine = line;
             }
             const role = ROLES.get(token.spelling);
-            if (role) this.step(token.spelling, role, line);
+            if (role) this.step(token, role, line);
             else if (this.levels.length === 1) this.noteOuterName(token);
             this.before2 = this.before;
             this.before = token;
@@ -343,27 +344,29 @@ class Walk {
     }
 
     // Takes a token that changes where the walk stands.
-    step(spelling, role, line) {
+    step(token, role, line) {
+        const spelling = token.spelling;
         if (role === "operator") {
             this.level.left.add(spelling);
             return;
         }
-        this.level.left.clear();
-        if (role === "opening") this.open(spelling, line);
+        if (spelling !== "(" && spelling !== "[") this.level.left.clear();
+        if (role === "opening") this.open(token, line);
         else if (role === "closing") this.close(spelling);
         else if (role === "part") this.beginPart(spelling);
         else if (role === "semicolon") this.endStatement();
         else if (role === "other") this.goOn(spelling);
     }
 
-    open(spelling, line) {
+    open(token, line) {
+        const spelling = token.spelling;
         // The variants of a record have no `end` of their own.
         if (spelling === "case" && (this.level.opener === "record" || this.level.opener === "(")) {
             this.level.since = spelling;
             return;
         }
         if (spelling === "begin" && this.levels.length === 1) this.part = "begin";
-        this.levels.push(new Level(spelling, line, kindOf(this.before.spelling) === "NAME" ? this.before : NOTHING));
+        this.levels.push(new Level(token, line, kindOf(this.before.spelling) === "NAME" ? this.before : NOTHING));
     }
 
     close(spelling) {
@@ -476,7 +479,7 @@ class Walk {
             before2: quoted(this.before2.text),
             after: quoted(this.after.text),
             code: token.startsWith("BYTE") ? token.slice(5) : token,
-            open: this.level.opener,
+            open: this.level.text,
             "open line": this.level.line,
             called: quoted(this.level.called.text),
             since: this.level.since,
