@@ -5,7 +5,8 @@
 # SCREEN is what pasask printed, with a line such as `refused: Rule 20, line 1, byte 52`; where it has none, nothing is
 # printed. SHOWN is the name of the source that is printed. A column counts characters from 1, and a tab is one of them.
 # Where the source ends too early, the place right after its last token is shown. `refusals.js` is the same program for a
-# browser; the sentences stand in refusals.tsv, and the language of their conditions is explained there.
+# browser; the sentences stand in refusals.tsv, and the language of their conditions is explained there. With `-v show_row=1` a
+# fourth line tells which of the refusal's rows was taken.
 
 BEGIN {
     if (length("\303\244") != 2) fail("it counts bytes: run it with LC_ALL=C")
@@ -19,6 +20,7 @@ BEGIN {
     walk()
     print name ":" shown_line ":" shown_column ": " first_sentence()
     show_the_line(lines[shown_line], shown_byte)
+    if (show_row) print "row " row
     exit 0
 }
 
@@ -109,7 +111,11 @@ function written_out(list,    words, count, i, all) {
 
 # The sentence of the first row whose condition holds.
 function first_sentence(    i) {
-    for (i = 1; i <= rows; i++) if (holds(conditions[i])) return filled_in(sentences[i])
+    for (i = 1; i <= rows && !holds(conditions[i]); i++) { }
+    if (i <= rows) {
+        row = i
+        return filled_in(sentences[i])
+    }
     return "pasask refuses the source here: " refusal "."
 }
 
