@@ -1,0 +1,2 @@
+mod TurnIsPassed
+mod MemoryRunsOut

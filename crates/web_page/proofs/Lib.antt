@@ -1,0 +1,3 @@
+mod WordsMean
+mod AllAreStored
+mod ClausesAreCarried

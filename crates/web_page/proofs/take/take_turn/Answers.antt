@@ -1,0 +1,96 @@
+use Rattle.std.proofs.Common.{◌∙◌, ap, inl, refl, rules, subst, codes, Some, []}
+use Rattle.edge_ports.specs.Files.{FileMap, file_at}
+use Rattle.ask_session.specs.Console.{EndsInTime, GoesOn}
+use Rattle.debug_cli.specs.Named.{Words, meaning}
+use Rattle.debug_cli.specs.Setting.{InFiles}
+use Rattle.debug_cli.specs.declared.status.Status.TheVariants as statuses
+use Rattle.web_page.specs.Outcomes.{IsGivenBack}
+use Rattle.web_page.specs.Outside.{files_at_start}
+use Rattle.web_page.specs.Turns.{given_by}
+use Rattle.web_page.proofs.ClausesAreCarried.{all_are_stored, console_is_calm, ends, first_part, goes_on, headline, is_turn, no_fetch_failed, refused}
+use Rattle.web_page.proofs.ClausesAreCarried.{unless_full}
+use Rattle.web_page.proofs.take.take_turn.Goals as goal
+
+pub returns-in-Ok-clause-headline : goal.returns-in-Ok-clause-headline
+returns-in-Ok-clause-headline c =
+    headline (given_by c.args.turn.now) (is_turn _ (given_by c.args.turn.now) (ap (λ (it : Words). meaning it) c.deref.ensures.value ∙ c.in-Ok.ensures.meaning)
+    c.in-Ok.ensures.files c.new-console.ensures c.new-page.ensures.given (search rules))
+    c.ask_pascal-status.ensures.headline
+
+pub returns-in-Ok-clause-transcript : goal.returns-in-Ok-clause-transcript
+returns-in-Ok-clause-transcript c = λ can done.
+    let it = all_are_stored (given_by c.args.turn.now) (is_turn _ (given_by c.args.turn.now)
+    (ap (λ (it : Words). meaning it) c.deref.ensures.value ∙ c.in-Ok.ensures.meaning)
+    c.in-Ok.ensures.files c.new-console.ensures c.new-page.ensures.given (search rules))
+    (λ r t means e. c.ask_pascal-status.ensures.transcript (InFiles r means t) e) can done in
+    (it.0, subst (λ (files : FileMap). IsGivenBack c.give_back.result c.give_back.new.room (file_at files (codes "page.session"))) it.1 c.give_back.ensures)
+
+pub returns-in-Ok-clause-prefix : goal.returns-in-Ok-clause-prefix
+returns-in-Ok-clause-prefix c =
+    first_part (given_by c.args.turn.now) (is_turn _ (given_by c.args.turn.now)
+    (ap (λ (it : Words). meaning it) c.deref.ensures.value ∙ c.in-Ok.ensures.meaning)
+    c.in-Ok.ensures.files c.new-console.ensures c.new-page.ensures.given (search rules))
+    (λ r t means. let it = c.ask_pascal-status.ensures.prefix (InFiles r means t) (no_fetch_failed c.in-Ok.files c.ask_pascal-status.new.keeper) in
+    (it.0, it.1, it.2))
+
+pub returns-in-Ok-clause-done : goal.returns-in-Ok-clause-done
+returns-in-Ok-clause-done c = λ can fits in_time. unless_full c.new-page.ensures.faults c.ask_pascal-status.ensures.screen_faults
+    (λ calm. ends (given_by c.args.turn.now) (is_turn (record {
+      meant = meaning c.deref.result.now;
+      files = c.in-Ok.files;
+      left = c.new-console.result;
+      before = Some [];
+      after = Some [];
+    })
+    (given_by c.args.turn.now) (ap (λ (it : Words). meaning it) c.deref.ensures.value ∙ c.in-Ok.ensures.meaning)
+    c.in-Ok.ensures.files c.new-console.ensures refl refl) EndsInTime
+    (λ r t means fit end still. c.ask_pascal-status.ensures.complete (InFiles r means t) statuses.Done (fit, end)
+    (no_fetch_failed c.in-Ok.files c.ask_pascal-status.new.keeper, console_is_calm, still))
+    can fits in_time calm)
+
+pub returns-in-Ok-clause-spent : goal.returns-in-Ok-clause-spent
+returns-in-Ok-clause-spent c = λ can fits too_long. unless_full c.new-page.ensures.faults c.ask_pascal-status.ensures.screen_faults
+    (λ calm. ends (given_by c.args.turn.now) (is_turn (record {
+      meant = meaning c.deref.result.now;
+      files = c.in-Ok.files;
+      left = c.new-console.result;
+      before = Some [];
+      after = Some [];
+    })
+    (given_by c.args.turn.now) (ap (λ (it : Words). meaning it) c.deref.ensures.value ∙ c.in-Ok.ensures.meaning)
+    c.in-Ok.ensures.files c.new-console.ensures refl refl) GoesOn
+    (λ r t means fit end still. c.ask_pascal-status.ensures.complete (InFiles r means t) statuses.Spent (fit, end)
+    (no_fetch_failed c.in-Ok.files c.ask_pascal-status.new.keeper, console_is_calm, still))
+    can fits too_long calm)
+
+pub returns-in-Ok-clause-no_program : goal.returns-in-Ok-clause-no_program
+returns-in-Ok-clause-no_program c = λ steps spelled short none. unless_full c.new-page.ensures.faults c.ask_pascal-status.ensures.screen_faults
+    (λ calm. refused (given_by c.args.turn.now) (is_turn (record {
+      meant = meaning c.deref.result.now;
+      files = c.in-Ok.files;
+      left = c.new-console.result;
+      before = Some [];
+      after = Some [];
+    })
+    (given_by c.args.turn.now) (ap (λ (it : Words). meaning it) c.deref.ensures.value ∙ c.in-Ok.ensures.meaning)
+    c.in-Ok.ensures.files c.new-console.ensures refl refl)
+    (λ no still. c.ask_pascal-status.ensures.no_program no refl (no_fetch_failed c.in-Ok.files c.ask_pascal-status.new.keeper) still) steps spelled short none
+    calm)
+
+pub returns-in-Ok-clause-goes : goal.returns-in-Ok-clause-goes
+returns-in-Ok-clause-goes c =
+    let it = goes_on (given_by c.args.turn.now) (is_turn _ (given_by c.args.turn.now)
+    (ap (λ (it : Words). meaning it) c.deref.ensures.value ∙ c.in-Ok.ensures.meaning)
+    c.in-Ok.ensures.files c.new-console.ensures c.new-page.ensures.given (search rules))
+    c.ask_pascal-status.ensures.goes in
+    (it.0, it.1, c.ask_pascal-status.new.keeper, c.give_back.ensures, c.ask_pascal-status.new.console, it.2)
+
+pub returns-in-Err-clause-goes : goal.returns-in-Err-clause-goes
+returns-in-Err-clause-goes c = (
+  statuses.Memory,
+  refl,
+  files_at_start (given_by c.args.turn.now),
+  tt,
+  c.args.turn.now.console.now,
+  inl (record { given = refl; counts = inl refl; alone = record { files = refl; left = refl } }),
+)

@@ -1,0 +1,124 @@
+-- What a turn promises, by what it is given and how it comes out.
+use Rattle.std.specs.Prelude.{◌≡◌, ◌≢◌, ◌⊎◌, ◌≤◌, ℕ, Bool, true, List, [], ◌∷◌, Option, Some, None, length, map, codes}
+use Rattle.std.specs.FinMap.{insert}
+use Rattle.edge_ports.specs.Counts.{no_counts}
+use Rattle.edge_ports.specs.Files.{FileMap, file_at}
+use Rattle.edge_ports.specs.Lines.{lines_of}
+use Rattle.edge_ports.specs.Told.{GavePrefix}
+use Rattle.pas_lexer.specs.Limits.{source_bytes}
+use Rattle.command_words.specs.Meaning.{Requested, Source, budget_spelled}
+use Rattle.ask_session.specs.Console.{EndsInTime, GoesOn}
+use Rattle.ask_session.specs.Dialog.{transcript}
+use Rattle.ask_session.specs.Outside.{Outside}
+use Rattle.ask_session.specs.Saves.{FilesAfter, Save, saves_in}
+use Rattle.session_book.specs.Fit.{misfit}
+use Rattle.debuggee.specs.Program.{NoProgram}
+use Rattle.debug_cli.specs.declared.status.Status.{Status}
+use Rattle.debug_cli.specs.Goes.{Goes}
+use Rattle.debug_cli.specs.Headline.{Headline}
+use Rattle.debug_cli.specs.Named.{start_in, subject_in}
+use Rattle.debug_cli.specs.Setting.{MeansNoSession, Told}
+use Rattle.debug_cli.specs.Status.{code_of}
+use Rattle.web_page.specs.Given.{TurnGiven, turn_files, turn_meaning}
+use Rattle.web_page.specs.Outside.{FilesState, counts_of, files_at_start}
+use Rattle.web_page.specs.Outcomes.{IsGivenBack, TurnResult}
+
+-- ---- what is outside of the command
+
+abbrev pub outside_of : FilesState → (left shown : List ℕ) → Outside
+outside_of files left shown = record {
+  files = Some files.files;
+  counts = counts_of files;
+  streams = record { left = Some left; given = Some shown };
+}
+
+abbrev pub outside_at_start : TurnGiven → Outside
+outside_at_start g = outside_of (files_at_start g) g.console []
+
+-- the files once these saves were stored, one after the other
+abbrev pub files_saved : List Save → FileMap → FileMap
+files_saved [] files = files
+files_saved (save ∷ saves) files = files_saved saves (insert files save.file save.text)
+
+-- ---- a session can be held: the budget is spelled, the source is a program, the session that is gone on with is one
+
+pub record CanAsk (g : TurnGiven) : Type 0 where
+  pub request : Requested
+  pub meant : turn_meaning g ≡ Some (Source request)
+  pub told : Told request (Some (turn_files g)) (Some g.console)
+
+-- what the lines of the console ask to save
+abbrev pub saves_of_turn : {g : TurnGiven} → CanAsk g → List Save
+saves_of_turn c = saves_in (subject_in c.told.begun) (start_in c.told.begun) (lines_of c.told.console)
+
+-- what is printed, by the answers that these lines get
+abbrev pub transcript_of_turn : {g : TurnGiven} → CanAsk g → (saves : List Bool) → List ℕ
+transcript_of_turn c saves = transcript (subject_in c.told.begun) (start_in c.told.begun) saves c.told.console
+
+-- ---- the promises
+
+module _ (g : TurnGiven) (it : TurnResult) where
+  -- The theorem of the command, on the very bytes that the caller gets.
+  abbrev pub HasHeadline : Type 0
+  HasHeadline = (c : CanAsk g) → it.status ≡ 0 → Headline c.told (Some []) (Some it.shown)
+
+  -- At status 0 the screen got the transcript in which each line that asks to save is told that it was saved; and the
+  -- session is the text that the last line saved to `page.session`.
+  abbrev pub IsTranscript : Type 0
+  IsTranscript = (c : CanAsk g) → it.status ≡ 0
+      → (it.shown ≡ transcript_of_turn c (map (λ save. true) (saves_of_turn c)))
+      × IsGivenBack it.saved it.saved_room
+      (file_at (files_saved (saves_of_turn c) (turn_files g)) (codes "page.session"))
+
+  -- At each status the screen got a first part of a transcript.
+  abbrev pub IsFirstPart : Type 0
+  IsFirstPart = (c : CanAsk g)
+      → (saves : List Bool) × (length saves ≤ length (saves_of_turn c))
+      × GavePrefix (Some []) (Some it.shown) (transcript_of_turn c saves)
+
+  -- A session that fits comes to its end, unless the room is too small or memory runs out.
+  abbrev pub ComesToItsEnd : Type 0
+  ComesToItsEnd = (c : CanAsk g) → misfit (subject_in c.told.begun) (start_in c.told.begun) ≡ None
+      → EndsInTime c.told.console → (it.status ≡ 0) ⊎ (it.status ≡ 6) ⊎ (it.status ≡ 7)
+
+  -- So does one whose console has no end in the bytes that are taken of it.
+  abbrev pub IsSpent : Type 0
+  IsSpent = (c : CanAsk g) → misfit (subject_in c.told.begun) (start_in c.told.begun) ≡ None
+      → GoesOn c.told.console → (it.status ≡ 9) ⊎ (it.status ≡ 6) ⊎ (it.status ≡ 7)
+
+  -- A budget that spells no number of steps is refused.
+  abbrev pub RefusesBudget : Type 0
+  RefusesBudget = turn_meaning g ≡ None → (it.status ≡ 2) ⊎ (it.status ≡ 6) ⊎ (it.status ≡ 7)
+
+  -- So is a source that is no program.
+  abbrev pub RefusesSource : Type 0
+  RefusesSource = (steps : ℕ) → budget_spelled g.budget ≡ Some steps → length g.source ≤ source_bytes
+      → NoProgram g.source → (it.status ≡ 3) ⊎ (it.status ≡ 6) ⊎ (it.status ≡ 7)
+
+  -- And a session that is none, or does not fit the run.
+  abbrev pub RefusesSession : Type 0
+  RefusesSession = MeansNoSession (turn_meaning g) (Some (turn_files g))
+      → (it.status ≡ 8) ⊎ (it.status ≡ 6) ⊎ (it.status ≡ 7)
+
+  -- By the status: why it comes, what the screen got, and what became of the files.
+  abbrev pub GoesByStatus : Type 0
+  GoesByStatus = (status : Status) × (it.status ≡ code_of status)
+      × (files : FilesState) × IsGivenBack it.saved it.saved_room (file_at files.files (codes "page.session"))
+      × (left : List ℕ) × Goes (turn_meaning g) (outside_at_start g) (outside_of files left it.shown) status
+
+  -- The console does not fail.
+  abbrev pub HearsConsole : Type 0
+  HearsConsole = it.status ≢ 5
+
+-- all of them
+pub record KeepsPromises (g : TurnGiven) (it : TurnResult) : Type 0 where
+  pub headline : HasHeadline g it
+  pub transcript : IsTranscript g it
+  pub prefix : IsFirstPart g it
+  pub done : ComesToItsEnd g it
+  pub spent : IsSpent g it
+  pub usage : RefusesBudget g it
+  pub no_program : RefusesSource g it
+  pub no_session : RefusesSession g it
+  pub goes : GoesByStatus g it
+  pub console : HearsConsole g it
