@@ -1,0 +1,395 @@
+// What a user does with the page, and what has to come of it. Each test is given `t`: see run.mjs.
+import { accessibilityFaults } from './accessibility.mjs';
+import { LARGE } from './large.mjs';
+
+const DESK = { width: 1400, height: 900 }, PHONE = { width: 390, height: 844 };
+const largest = LARGE.find((it) => it.name === '500,000 calls'), flat = LARGE.find((it) => it.name === '200,000 calls');
+
+const BAD = `program bad;
+var x: integer;
+begin
+  x := true
+end.
+`;
+
+const SQUARES = `program squares(output);
+var i: integer;
+function square(n: integer): integer;
+begin square := n * n + n div 3 end;
+procedure show(n: integer);
+begin writeln(n: 1, ' ', square(n): 1) end;
+begin for i := 1 to 4 do show(i) end.
+`;
+
+const isCalm = '!document.body.classList.contains("busy")';
+const button = (word) => `[data-say=${word}]`;
+
+// The page with an example and answers, as a link opens it.
+async function opened(t, example, answers = []) {
+  await t.fresh(`#example=${example}&answers=${answers.join(',')}`);
+  await calm(t, answers.length);
+}
+
+const calm = (t, turns, seconds) => t.page.until(`document.body.dataset.turns === '${turns}' && ${isCalm} && document.querySelector('#card h2') !== null`, seconds);
+const title = (t) => t.page.value('document.querySelector("#card h2").textContent');
+const asked = (t) => t.page.value('document.querySelector("#question")?.dataset.name ?? ""');
+const verdict = (t) => t.page.value('document.querySelector("#verdict")?.dataset.name ?? ""');
+const notices = async (t) => (await t.page.text('#notices')).join('\n');
+
+// A program is dropped onto the page and run by a click.
+async function ran(t, name, source, budget = '1000000', seconds = 60) {
+  await t.page.drop('#source', name, source);
+  await t.page.until(`document.querySelector('#source').value === ${JSON.stringify(source)}`);
+  await t.page.value(`(() => { const field = document.querySelector('#budget'); field.value = '${budget}'; field.dispatchEvent(new Event('input', { bubbles: true })); })()`);
+  await t.page.click('#run');
+  if (seconds > 0) await t.page.until(`${isCalm} && (document.querySelector('#card h2') !== null || document.querySelector('.notice.bad') !== null)`, seconds);
+}
+
+async function accessible(t, what) {
+  t.equal(`accessibility, ${what}`, await t.page.value(`(${accessibilityFaults})()`), []);
+}
+
+export const TESTS = {
+  async 'the first view'(t) {
+    await t.fresh();
+    t.holds('it says what it is for', (await t.page.text('#card h2'))[0].length > 10);
+    t.holds('there are examples', (await t.page.text('#card button.example')).length >= 5);
+    const { verdict: built } = t.built;
+    t.holds('the foot says whether its engine is proved', built.startsWith('logic=proved ') === /proved program/.test((await t.page.text('#trust'))[0]));
+    t.equal('and has the line of the proof', await t.page.value('document.querySelector("#trust").title'), built);
+    await t.picture('1-first');
+    await accessible(t, 'first view');
+  },
+
+  async 'a session from the first question to the verdict'(t) {
+    await t.fresh();
+    await t.page.click('#card button.example');
+    await calm(t, 0);
+    t.equal('the first question', await asked(t), 'seventy');
+    t.holds('it says how many calls may be to blame', /3 calls/.test((await t.page.text('#left-text'))[0]));
+    t.equal('the routine is marked', await t.page.value('[...document.querySelectorAll("#under .asked")].map((it) => it.textContent)'), ['procedure seventy;', 'begin fifty; twenty end;']);
+    t.equal('what it changed', await t.page.text('#question .cells tr'), ['coins\t0 → 52']);
+    await t.picture('2-question');
+    await accessible(t, 'a question');
+    await t.page.click(button('wrong'));
+    await calm(t, 1);
+    t.equal('the second question', await asked(t), 'fifty');
+    await t.page.press('r');
+    await calm(t, 2);
+    t.equal('the third question', await asked(t), 'twenty');
+    await t.page.press('w');
+    await calm(t, 3);
+    t.equal('the verdict', await verdict(t), 'twenty');
+    t.holds('in words', /twenty/.test(await title(t)));
+    t.equal('the line that its body ran', await t.page.value('[...document.querySelectorAll("#gutter .ran")].map((it) => it.innerText.replace(/\\s+/g, " "))'), ['×1 6']);
+    t.equal('nothing is asked any more', await t.page.text('#answers button'), []);
+    await t.picture('3-verdict');
+    await accessible(t, 'a verdict');
+    const raw = await t.page.value('document.querySelector("#raw").textContent');
+    const native = await t.native({ source: t.example('change').source, console: 'wrong 1\nright 2\nwrong 3\nquit\n' });
+    if (native !== null) t.holds('what was printed begins as the native program prints', raw.startsWith(native.screen.toString('latin1')));
+  },
+
+  async 'trust and doubt'(t) {
+    await opened(t, 'change', ['wrong']);
+    await t.page.press('t');
+    await calm(t, 2);
+    t.equal('fifty is trusted', await t.page.value('[...document.querySelectorAll("#tree .row")].filter((it) => it.querySelector(".trusted")).map((it) => it.dataset.call)'), ['2']);
+    t.equal('and twenty is asked about', await asked(t), 'twenty');
+    await t.page.click(button('unknown'));
+    await calm(t, 3);
+    t.equal('it is narrowed down', await verdict(t), 'seventy');
+    t.equal('to the calls that could not be judged', await t.page.text('.doubts li'), ['twenty call 3']);
+    await t.picture('4-narrowed');
+    await accessible(t, 'a doubt');
+    await t.page.click('.doubts button');
+    await t.page.until('document.querySelector("#detail .trace") !== null');
+    await t.page.click('#detail button.wrong');
+    await calm(t, 4);
+    t.equal('a doubt that is judged after all', await verdict(t), 'twenty');
+  },
+
+  async 'taking back'(t) {
+    await opened(t, 'change', ['wrong', 'right', 'wrong']);
+    await t.page.press('b');
+    await calm(t, 4);
+    t.equal('the last answer', await asked(t), 'twenty');
+    await t.page.click('.history li:nth-child(2) button.small');
+    await calm(t, 5);
+    t.equal('any answer', await asked(t), 'fifty');
+    t.equal('the list says so', await t.page.value('[...document.querySelectorAll(".history li")].map((it) => it.className)'), ['', 'gone', '', 'gone']);
+    await t.picture('5-taken-back');
+  },
+
+  async 'sessions are saved and loaded'(t) {
+    await opened(t, 'change', ['wrong', 'right']);
+    const saved = await t.download('#save');
+    t.equal('its name', saved.name, 'change.session');
+    t.equal('its answers', JSON.parse(saved.bytes).entries.map((it) => `${it.kind} ${it.call}`), ['wrong 0', 'wrong 1', 'right 2']);
+    const native = await t.native({ source: t.example('change').source, console: 'wrong 1\nright 2\nsave page.session\nquit\n' });
+    if (native !== null) t.equal('it is the file of the native program', saved.bytes, native.saved.toString());
+    await t.fresh();
+    await t.page.drop('#source', 'change.pas', t.example('change').source);
+    await t.page.choose('#sessionFile', 'friday.session', saved.bytes);
+    await calm(t, 0);
+    t.equal('it goes on where it was', await asked(t), 'twenty');
+    t.equal('the answers are listed', (await t.page.text('.history li')).length, 3);
+    await t.page.choose('#sessionFile', 'odd.session', '{}');
+    await t.page.until(`${isCalm} && document.querySelector('.notice.bad') !== null`);
+    t.holds('what is no session is refused', /no saved session/.test(await notices(t)));
+    await ran(t, 'squares.pas', SQUARES);
+    await t.page.choose('#sessionFile', 'friday.session', saved.bytes);
+    await t.page.until(`${isCalm} && document.querySelector('.notice.bad') !== null`);
+    t.holds('and so is one of another program', /another program/.test(await notices(t)));
+  },
+
+  async 'a refused program'(t) {
+    await t.fresh();
+    await ran(t, 'bad.pas', BAD);
+    const [, , sentence] = t.sentences.find(([refusal, condition]) => refusal === 'Rule 18' && condition === 'always');
+    t.equal('the sentence is that of the table', (await t.page.text('.notice.bad strong'))[0], sentence.replace(/`/g, ''));
+    t.equal('a caret under the place', await t.page.value('document.querySelector(".notice.bad pre").textContent'), '  x := true\n    ^');
+    t.equal('the line has a mark in the margin', await t.page.value('[...document.querySelectorAll("#gutter em.bad")].map((it) => it.parentNode.dataset.line)'), ['4']);
+    t.equal('nothing can be answered', await t.page.text('#answers button'), []);
+    await t.picture('6-refused');
+    await accessible(t, 'a refusal');
+    await ran(t, 'good.pas', BAD.replace('true', '1'));
+    t.equal('once it is put right it runs', (await t.page.text('.notice.bad')).length, 0);
+  },
+
+  async 'a call with a fault'(t) {
+    await t.fresh();
+    await ran(t, 'fault.pas', 'program fault;\nvar n: integer;\nprocedure half(var k: integer);\nbegin\n  k := k div n\nend;\nbegin\n  n := 0;\n  half(n)\nend.\n');
+    t.equal('it is asked about', await asked(t), 'half');
+    t.equal('the fault stands in the margin', await t.page.value('[...document.querySelectorAll("#gutter em.bad")].map((it) => it.parentNode.dataset.line)'), ['5']);
+    t.holds('and in the card', /line 5/.test((await t.page.text('#question .end.bad'))[0] ?? ''));
+    await t.picture('7-fault');
+  },
+
+  async 'a card is folded'(t) {
+    await opened(t, 'marks');
+    // fill makes all three records, of which the card has each cell.
+    const card = await t.page.value('document.querySelector("#question .raw pre")?.textContent ?? ""');
+    t.equal('the raw card is not made before it is asked for', card, '');
+    t.holds('records are rows', (await t.page.value('document.querySelectorAll("#question table.list tbody tr").length')) >= 3);
+    t.holds('strings of chars are text', /Blaise/.test((await t.page.text('#question'))[0]));
+    await t.page.click('#question details.raw summary');
+    t.holds('the raw card is one click away', /^call \d+ \w+/.test((await t.page.text('#question details.raw pre'))[0]));
+    await t.picture('8-folded');
+    await accessible(t, 'a folded card');
+  },
+
+  async 'a drawn list'(t) {
+    await opened(t, 'list');
+    for (let turn = 1; turn < 6 && (await t.page.value('document.querySelectorAll("figure.heap svg").length')) < 2; turn++) {
+      await t.page.press('r');
+      await calm(t, turn);
+    }
+    const drawn = await t.page.value(`[...document.querySelectorAll('figure.heap svg')].map((it) => ({
+      boxes: it.querySelectorAll('.box').length, arrows: it.querySelectorAll('.arrow').length, said: it.getAttribute('aria-label') }))`);
+    t.equal('before and after', drawn.length, 2);
+    t.holds('with boxes', drawn.every((it) => it.boxes >= 1));
+    t.holds('and arrows', drawn.some((it) => it.arrows >= 1));
+    t.holds('and a text for those who do not see it', drawn.every((it) => it.said.length > 20));
+    await t.picture('9-list');
+    await accessible(t, 'a drawn list');
+    await opened(t, 'tree');
+    await t.picture('9-tree');
+  },
+
+  async 'a long run and Stop'(t) {
+    await t.fresh();
+    await ran(t, 'long.pas', flat.source, flat.budget, 0);
+    const beats = await t.page.value('(async () => { let n = 0; for (; n < 20 && document.body.classList.contains("busy"); n++) await new Promise((done) => setTimeout(done, 20)); return n; })()');
+    t.holds('the page lives while it runs', beats > 5);
+    t.equal('it can be stopped', await t.page.text('#stop'), ['Stop']);
+    await t.page.click('#stop');
+    await t.page.until(isCalm);
+    t.holds('and says that it was', /Stopped/.test(await notices(t)));
+    await ran(t, 'change.pas', t.example('change').source);
+    t.equal('then it runs another', await asked(t), 'seventy');
+    await t.page.press('w');
+    await calm(t, 1);
+    t.equal('and answers', await asked(t), 'fifty');
+  },
+
+  async 'nothing is lost by a reload'(t) {
+    await opened(t, 'change', ['wrong', 'right']);
+    await t.reload();
+    t.holds('the answers are offered', /change\.pas/.test(await notices(t)));
+    await t.picture('10-offer');
+    await accessible(t, 'the offer');
+    await t.page.click('#notices button.main');
+    await calm(t, 2);
+    t.equal('and it goes on', await asked(t), 'twenty');
+    await t.page.press('w');
+    await calm(t, 3);
+    t.equal('to the verdict', await verdict(t), 'twenty');
+    await t.page.value('document.querySelector("#source").value += " "; document.querySelector("#source").dispatchEvent(new Event("input"))');
+    t.holds('an edited program is told of', /Run it again/.test(await notices(t)));
+    await t.page.press('r');
+    t.equal('and no answer about another text is taken', await t.page.value('document.body.dataset.turns'), '3');
+  },
+
+  async 'keys alone'(t) {
+    await t.fresh();
+    const focused = () => t.page.value('(document.activeElement.id || document.activeElement.className || document.activeElement.localName)');
+    const seen = [];
+    for (let i = 0; i < 40 && !/\bexample\b/.test(await focused()); i++) {
+      await t.page.press('Tab');
+      seen.push(await focused());
+    }
+    t.holds('Tab comes to the examples', /\bexample\b/.test(seen.at(-1)));
+    t.holds('and leaves nothing out on its way', ['examples', 'open', 'budget', 'run'].every((it) => seen.includes(it)));
+    t.holds('where the focus is can be seen', await t.page.value(`(() => {
+      const it = getComputedStyle(document.activeElement);
+      return it.outlineStyle !== 'none' && parseFloat(it.outlineWidth) >= 2;
+    })()`));
+    await t.page.press('Enter');
+    await calm(t, 0);
+    for (const [key, turns] of [['w', 1], ['r', 2]]) {
+      await t.page.press(key);
+      await calm(t, turns);
+    }
+    await t.page.press('c');
+    for (const key of ['Home', 'ArrowDown', 'ArrowDown', 'Enter']) await t.page.press(key);
+    await t.page.until('document.querySelector("#detail .trace") !== null');
+    t.equal('a call is opened from the tree', await t.page.value('document.querySelector("#tree [aria-selected=true]").dataset.call'), '2');
+    await t.page.press('q');
+    await t.page.press('w');
+    await calm(t, 3);
+    t.equal('the verdict', await verdict(t), 'twenty');
+    await t.page.press('/');
+    t.equal('a slash searches', await focused(), 'query');
+    await t.page.press('f');
+    await t.page.press('i');
+    await t.page.until('document.querySelector("#foundCount").textContent.startsWith("1 call")');
+    await t.page.press('Escape');
+    await t.page.press('?');
+    t.equal('help opens', await t.page.value('document.querySelector("#helpBox").open'), true);
+    await accessible(t, 'help');
+    await t.picture('11-help');
+    await t.page.press('Escape');
+    t.equal('and closes', await t.page.value('document.querySelector("#helpBox").open'), false);
+    await t.page.press('s');
+    t.equal('s goes to the program', await focused(), 'source');
+    await t.page.press('Escape');
+    t.holds('and Escape leaves it', (await focused()) !== 'source');
+  },
+
+  async 'the tree'(t) {
+    await t.fresh();
+    await ran(t, 'squares.pas', SQUARES);
+    t.equal('all calls', await t.page.value('document.querySelectorAll("#tree .row").length'), 9);
+    await t.page.click('#foldUp');
+    t.holds('folded', (await t.page.value('document.querySelectorAll("#tree .row").length')) < 9);
+    await t.page.click('#unfold');
+    t.equal('unfolded', await t.page.value('document.querySelectorAll("#tree .row").length'), 9);
+    const found = async (query) => {
+      await t.page.value(`(() => { const it = document.querySelector('#query'); it.value = ${JSON.stringify(query)}; it.dispatchEvent(new Event('input')); })()`);
+      await new Promise((done) => setTimeout(done, 400));
+      return (await t.page.value('[...document.querySelectorAll("#tree .row")].map((it) => Number(it.dataset.call))')).sort((a, b) => a - b);
+    };
+    t.equal('found by name', await found('square'), [2, 4, 6, 8]);
+    t.equal('found by what it was given', await found('(3'), [5, 6]);
+    t.equal('found by what it printed', await found('4 17'), [7]);
+    t.equal('found by line', await found('line 6'), [1, 3, 5, 7]);
+    await found('');
+    await t.page.click('#tree .row[data-call="6"]');
+    await t.page.until('document.querySelector("#detail .trace") !== null');
+    t.equal('the lines of its body', await t.page.text('#detail .trace li code'), ['begin square := n * n + n div 3 end;']);
+    await t.picture('12-tree');
+    await accessible(t, 'a chosen call');
+    await t.page.click('#detail button.wrong');
+    await calm(t, 1);
+    t.equal('an answer from the tree', await verdict(t), 'square');
+  },
+
+  async '500,000 calls'(t) {
+    await t.fresh();
+    await t.page.value(`(() => {
+      window.longest = 0;
+      let last = performance.now();
+      setInterval(() => { const now = performance.now(); window.longest = Math.max(window.longest, now - last); last = now; }, 10);
+    })()`);
+    await ran(t, 'calls.pas', largest.source, largest.budget, 240);
+    t.equal('all are there', (await t.page.text('#callCount'))[0], '500,000');
+    t.holds('only what is seen is made', (await t.page.value('document.querySelectorAll("#tree .row").length')) < 150);
+    await t.page.value('document.querySelector("#tree").scrollTop = document.querySelector("#tree").scrollHeight');
+    await t.page.until('document.querySelector("#tree .row[data-call=\\"499999\\"]") !== null', 10);
+    await t.page.value('document.querySelector("#tree").scrollTop /= 2');
+    await t.page.until('[...document.querySelectorAll("#tree .row")].some((it) => Math.abs(Number(it.dataset.call) - 250000) < 100)', 10);
+    await t.page.press('r');
+    await calm(t, 1, 240);
+    t.holds('an answer comes', (await t.page.value('document.querySelectorAll("#tree .row").length')) > 0);
+    const longest = await t.page.value('window.longest');
+    t.note(`the page stood still for at most ${Math.round(longest)} ms; ${await t.page.value('document.querySelector("#cost").textContent')}`);
+    t.holds('the page did not freeze', longest < t.patience);
+    await t.picture('13-many');
+  },
+
+  async 'windows of each size'(t) {
+    await opened(t, 'list', ['right']);
+    for (const [name, size] of [['phone', PHONE], ['narrow', { width: 320, height: 640 }], ['zoom', { width: 700, height: 450, scale: 2 }]]) {
+      await t.page.resize(size);
+      for (const pane of ['source', 'question', 'calls']) {
+        const tab = `.tabs [data-pane=${pane}]`;
+        if (await t.page.value(`document.querySelector('${tab}').checkVisibility()`)) await t.page.click(tab);
+        t.holds(`${name}, ${pane}: nothing is wider than the window`, (await t.page.value('document.documentElement.scrollWidth - innerWidth')) <= 0);
+        await t.picture(`14-${name}-${pane}`);
+      }
+      await accessible(t, name);
+    }
+    await t.page.resize(DESK);
+  },
+
+  async 'on paper'(t) {
+    await opened(t, 'change', ['wrong', 'right', 'wrong']);
+    await t.page.value('window.print = () => { window.printed = true; }');
+    await t.page.click('#print');
+    await t.page.until('window.printed === true');
+    const report = await t.page.value('document.querySelector("#report").textContent');
+    t.holds('it has the verdict', /The mistake is in the body of twenty/.test(report));
+    t.holds('each answer', ['seventy', 'fifty', 'twenty'].every((it) => report.includes(it)));
+    t.holds('and the program', report.includes('coins := coins + 2'));
+    if (t.canPrint) {
+      await t.page.resize({ width: 800, height: 1100, isPrinted: true });
+      t.holds('the report alone is printed', await t.page.value('document.querySelector("#report").checkVisibility() && !document.querySelector("main").checkVisibility()'));
+      await t.picture('15-paper');
+      await t.page.resize(DESK);
+    }
+  },
+
+  async 'each example'(t) {
+    for (const { name } of t.built.examples) {
+      await opened(t, name);
+      t.holds(`${name} asks`, (await asked(t)) !== '');
+      const told = await t.page.text('.story');
+      t.holds(`${name} has its story`, (told[0] ?? '').length > 20);
+      for (let turn = 1; turn < 40 && (await asked(t)) !== ''; turn++) {
+        await t.page.press('w');
+        await calm(t, turn);
+      }
+      t.holds(`${name} comes to a verdict`, (await verdict(t)) !== '');
+    }
+  },
+
+  async 'in the dark'(t) {
+    if (!(await t.darken())) return;
+    await opened(t, 'list');
+    await t.picture('16-dark');
+    await accessible(t, 'dark, a question');
+    await opened(t, 'change', ['wrong', 'right', 'wrong']);
+    await t.picture('16-dark-verdict');
+    await accessible(t, 'dark, a verdict');
+    await ran(t, 'bad.pas', BAD);
+    await t.picture('16-dark-refused');
+    await accessible(t, 'dark, a refusal');
+  },
+
+  async 'from a web server'(t) {
+    await t.fresh('#example=change', t.served);
+    await calm(t, 0);
+    t.equal('it asks', await asked(t), 'seventy');
+  },
+};
