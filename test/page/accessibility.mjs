@@ -156,7 +156,7 @@ export function accessibilityFaults() {
     if (!KNOWN.has(role)) fault('7 roles', it, `the role ${role} is not known`);
     if (role in OWNED && it.closest(`[role=${OWNED[role]}]`) === null) fault('7 roles', it, `a ${role} outside of a ${OWNED[role]}`);
   }
-  for (const it of all('[aria-labelledby], [aria-describedby], [aria-controls], [aria-activedescendant], label[for]')) {
+  for (const it of all('[aria-labelledby], [aria-describedby], [aria-controls], [aria-activedescendant], label[for]').filter(isSeen)) {
     for (const key of ['aria-labelledby', 'aria-describedby', 'aria-controls', 'aria-activedescendant', 'for']) {
       for (const id of (it.getAttribute(key) ?? '').split(/\s+/).filter((word) => word !== '')) {
         if (document.getElementById(id) === null && (key !== 'aria-activedescendant' || it === document.activeElement)) fault('7 ids', it, `${key} points at ${id}, which is not there`);

@@ -12,7 +12,7 @@ begin
 end.
 `;
 
-const SQUARES = `program squares(output);
+const SQUARES = `program powers(output);
 var i: integer;
 function square(n: integer): integer;
 begin square := n * n + n div 3 end;
@@ -30,7 +30,7 @@ async function opened(t, example, answers = []) {
   await calm(t, answers.length);
 }
 
-const calm = (t, turns, seconds) => t.page.until(`document.body.dataset.turns === '${turns}' && ${isCalm} && document.querySelector('#card h2') !== null`, seconds);
+const calm = (t, turns, seconds) => t.page.until(`document.body.dataset.turns === '${turns}' && ${isCalm} && document.querySelector('#question, #verdict') !== null`, seconds);
 const title = (t) => t.page.value('document.querySelector("#card h2").textContent');
 const asked = (t) => t.page.value('document.querySelector("#question")?.dataset.name ?? ""');
 const verdict = (t) => t.page.value('document.querySelector("#verdict")?.dataset.name ?? ""');
@@ -42,7 +42,7 @@ async function ran(t, name, source, budget = '1000000', seconds = 60) {
   await t.page.until(`document.querySelector('#source').value === ${JSON.stringify(source)}`);
   await t.page.value(`(() => { const field = document.querySelector('#budget'); field.value = '${budget}'; field.dispatchEvent(new Event('input', { bubbles: true })); })()`);
   await t.page.click('#run');
-  if (seconds > 0) await t.page.until(`${isCalm} && (document.querySelector('#card h2') !== null || document.querySelector('.notice.bad') !== null)`, seconds);
+  if (seconds > 0) await t.page.until(`${isCalm} && document.querySelector('#question, #verdict, .notice.bad') !== null`, seconds);
 }
 
 async function accessible(t, what) {
@@ -114,10 +114,11 @@ export const TESTS = {
     await t.page.press('b');
     await calm(t, 4);
     t.equal('the last answer', await asked(t), 'twenty');
-    await t.page.click('.history li:nth-child(2) button.small');
+    // The third entry is that on fifty, after those on the program and on seventy.
+    await t.page.click('.history li:nth-child(3) button.small');
     await calm(t, 5);
     t.equal('any answer', await asked(t), 'fifty');
-    t.equal('the list says so', await t.page.value('[...document.querySelectorAll(".history li")].map((it) => it.className)'), ['', 'gone', '', 'gone']);
+    t.equal('the list says so', await t.page.value('[...document.querySelectorAll(".history li")].map((it) => it.className)'), ['', '', 'gone', 'gone']);
     await t.picture('5-taken-back');
   },
 
@@ -137,7 +138,7 @@ export const TESTS = {
     await t.page.choose('#sessionFile', 'odd.session', '{}');
     await t.page.until(`${isCalm} && document.querySelector('.notice.bad') !== null`);
     t.holds('what is no session is refused', /no saved session/.test(await notices(t)));
-    await ran(t, 'squares.pas', SQUARES);
+    await ran(t, 'powers.pas', SQUARES);
     await t.page.choose('#sessionFile', 'friday.session', saved.bytes);
     await t.page.until(`${isCalm} && document.querySelector('.notice.bad') !== null`);
     t.holds('and so is one of another program', /another program/.test(await notices(t)));
@@ -279,7 +280,7 @@ export const TESTS = {
 
   async 'the tree'(t) {
     await t.fresh();
-    await ran(t, 'squares.pas', SQUARES);
+    await ran(t, 'powers.pas', SQUARES);
     t.equal('all calls', await t.page.value('document.querySelectorAll("#tree .row").length'), 9);
     await t.page.click('#foldUp');
     t.holds('folded', (await t.page.value('document.querySelectorAll("#tree .row").length')) < 9);
