@@ -45,10 +45,10 @@ function plain(it) {
 export async function start({ isDark = false } = {}) {
   const port = await freePort();
   const { child, gone, end } = startProgram(program, (home) => {
-    // Nothing is asked of the network, the scheme of colours is the wanted one, and a window that nobody sees has the focus.
+    // Nothing is asked of the network, and the scheme of colours is the wanted one.
     writeFileSync(`${home}/user.js`, [
       ['network.dns.disabled', true], ['layout.css.prefers-color-scheme.content-override', isDark ? 0 : 1],
-      ['focusmanager.testmode', true], ['datareporting.policy.dataSubmissionEnabled', false], ['browser.shell.checkDefaultBrowser', false],
+      ['datareporting.policy.dataSubmissionEnabled', false], ['browser.shell.checkDefaultBrowser', false],
       ['app.normandy.enabled', false], ['extensions.update.enabled', false], ['browser.safebrowsing.downloads.remote.enabled', false],
     ].map(([key, value]) => `user_pref(${JSON.stringify(key)}, ${value});\n`).join(''));
     return ['--headless', '--no-remote', '--profile', home, `--remote-debugging-port=${port}`, 'about:blank'];
@@ -81,7 +81,8 @@ export async function start({ isDark = false } = {}) {
   };
   const call = (method, params = {}) => calls.send({ method, params });
   await call('session.new', { capabilities: {} });
-  const { contexts: [{ context }] } = await call('browsingContext.getTree');
+  // The first window of a browser that nobody sees does not get the focus, and a second one does.
+  const { context } = await call('browsingContext.create', { type: 'window' });
   await call('session.subscribe', { events: ['log.entryAdded', 'network.beforeRequestSent'] });
 
   return {
