@@ -288,7 +288,12 @@ export const TESTS = {
     t.equal('unfolded', await t.page.value('document.querySelectorAll("#tree .row").length'), 9);
     const found = async (query) => {
       await t.page.value(`(() => { const it = document.querySelector('#query'); it.value = ${JSON.stringify(query)}; it.dispatchEvent(new Event('input')); })()`);
-      await new Promise((done) => setTimeout(done, 400));
+      await t.page.value('new Promise((done) => setTimeout(done, 400))');
+      // On a slow machine values and output are searched once that is asked for.
+      if ((await t.page.text('#foundCount button')).length > 0) {
+        await t.page.click('#foundCount button');
+        await t.page.until('document.querySelector("#foundCount button") === null');
+      }
       return (await t.page.value('[...document.querySelectorAll("#tree .row")].map((it) => Number(it.dataset.call))')).sort((a, b) => a - b);
     };
     t.equal('found by name', await found('square'), [2, 4, 6, 8]);

@@ -90,8 +90,9 @@ class Test {
     await this.ready();
   }
 
-  ready() {
-    return this.page.until('document.body.dataset.ready === "yes"');
+  async ready() {
+    await this.page.until('document.body.dataset.ready !== undefined');
+    if (await this.page.value('document.body.dataset.ready') !== 'yes') throw new Error('the page says that it cannot run here');
   }
 
   async picture(name) {
@@ -140,10 +141,20 @@ class Test {
 }
 
 async function inBrowser(kind, around) {
-  const begun = Date.now();
   const page = new Browser(await kind.start());
+  try {
+    await testsIn(kind, page, around);
+  } finally {
+    await page.close();
+  }
+}
+
+async function testsIn(kind, page, around) {
+  const begun = Date.now();
   await page.resize(DESK);
   const t = new Test(kind, page, around);
+  // A page that does not come up is one fault, and not one for each test.
+  await t.fresh();
   for (const [name, test] of Object.entries(TESTS)) {
     if (!name.includes(options.only ?? '')) continue;
     t.test = name;
@@ -158,7 +169,6 @@ async function inBrowser(kind, around) {
     t.equal('what it asked a network for', page.fetched.splice(0).filter((it) => !/^(file|blob|data|about):/.test(it) && !it.startsWith(t.served.replace('index.html', ''))), []);
     console.log(`${failed === before ? 'ok  ' : 'FAIL'} ${kind.name}: ${name} (${((Date.now() - start) / 1000).toFixed(1)} s)`);
   }
-  await page.close();
   console.log(`note ${kind.name}: ${((Date.now() - begun) / 1000).toFixed(0)} s in all`);
 }
 
@@ -184,7 +194,12 @@ let notRun = 0;
 for (const [word, kind] of Object.entries({ chromium, firefox })) {
   if (options.browser !== undefined && options.browser !== word) continue;
   if (isThere(kind.program)) {
-    await inBrowser(kind, around);
+    try {
+      await inBrowser(kind, around);
+    } catch (error) {
+      failed++;
+      console.log(`FAIL ${kind.name}: ${error.message}`);
+    }
   } else {
     notRun++;
     console.log(`not run: ${kind.name}, since ${kind.program} is not there`);
