@@ -3,7 +3,7 @@
 import { readFileSync } from 'node:fs';
 
 const SCREEN_FULL = 6, SESSION_SAVED = 1, WORD = 8, CAME_WORDS = 4;
-const FIRST_ROOM = 1 << 20, MOST_ROOM = 1 << 29, SESSION_ROOM = 1 << 23;
+const FIRST_ROOM = 1 << 20, MOST_ROOM = 1 << 29, MOST_SESSION = 1 << 24;
 
 export const openModule = (file) => new WebAssembly.Module(readFileSync(file));
 
@@ -30,9 +30,10 @@ function turnIn(module, given, screenRoom) {
     ...put(given.source), ...put(given.input ?? ''), ...put(given.budget ?? '1000000'), session === null ? 0 : 1, ...put(session ?? ''),
     sizes, BigInt(names.length), ...put(Buffer.concat(pieces)), ...put(given.console ?? ''),
   ];
-  const screen = roomFor(screenRoom), saved = roomFor(SESSION_ROOM), came = roomFor(WORD * CAME_WORDS);
+  const sessionRoom = /^save /m.test(Buffer.from(given.console ?? '').toString('latin1')) ? MOST_SESSION : 0;
+  const screen = roomFor(screenRoom), saved = roomFor(sessionRoom), came = roomFor(WORD * CAME_WORDS);
   const begun = performance.now();
-  exports.pasask_turn(...parts, screen, BigInt(screenRoom), saved, BigInt(SESSION_ROOM), came);
+  exports.pasask_turn(...parts, screen, BigInt(screenRoom), saved, BigInt(sessionRoom), came);
   const ms = performance.now() - begun;
   const [status, shown, kept, stored] = Array.from(new BigUint64Array(exports.memory.buffer, Number(came), CAME_WORDS), Number);
   return {
