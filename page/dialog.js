@@ -1,0 +1,153 @@
+// The dialog with the command: it runs a session, says lines and asks for cards and traces. It knows nothing of the page,
+// and holds nothing but the session's lines and what the command printed for them.
+import { accusedOf, markBy } from './call_table.js';
+import { cardOf, stateOf } from './card.js';
+import { entriesOf, keep, setAside } from './session.js';
+
+// No variable has this name; the reply tells whether the command knows the line `state`.
+const PROBE = { kind: 'state', call: 0, name: '.' };
+const QUICK_MS = 1000;
+
+export class Dialog {
+  constructor(engine, onChange) {
+    this.engine = engine;
+    this.onChange = onChange;
+    this.clear();
+  }
+
+  clear() {
+    this.session = null;
+    this.shown = null;
+    this.tree = null;
+    this.entries = [];
+    this.problem = null;
+    this.note = '';
+    this.isBusy = false;
+    this.isKept = true;
+    this.knowsState = false;
+    this.cost = { time: 0, memory: 0 };
+    this.cards = new Map();
+    this.traces = new Map();
+    this.asked = new Map();
+  }
+
+  get report() {
+    return this.shown === null ? null : this.shown.report;
+  }
+
+  get questionCall() {
+    return this.report !== null && this.report.kind === 'ask' ? this.report.call : -1;
+  }
+
+  // What a run takes most of its time for is asked at once: the tree of calls too.
+  async run(session) {
+    this.engine.forget();
+    if (this.session !== null && this.session.lines.length > 0) setAside();
+    this.clear();
+    this.session = session;
+    const came = await this.turn(session.lines, [{ kind: 'tree' }, PROBE]);
+    if (this.session !== session) return;
+    if (!this.failed(came)) {
+      const [tree, state] = came.answers;
+      this.tree = tree.kind === 'tree' ? tree.tree : null;
+      this.knowsState = state.kind === 'refused' && state.text !== 'not understood';
+      this.took(came);
+    }
+    this.onChange();
+  }
+
+  // Says a line, and keeps it unless the command could not answer.
+  async say(line) {
+    if (this.isBusy || this.shown === null) return;
+    const { session } = this;
+    const came = await this.turn([...session.lines, line], []);
+    if (this.session !== session) return;
+    if (!this.failed(came)) {
+      const reply = came.replies[session.lines.length] ?? '';
+      const isTaken = /^(entry|back) \d+$/.test(reply);
+      if (isTaken) session.lines.push(line);
+      this.note = isTaken ? '' : reply;
+      if (isTaken) this.took(came);
+    }
+    this.onChange();
+  }
+
+  async turn(lines, asks, save = null) {
+    this.isBusy = true;
+    this.onChange();
+    const came = await this.engine.turn(this.turnOf(lines, asks, save));
+    this.isBusy = false;
+    return came;
+  }
+
+  turnOf(lines, asks, save = null) {
+    const { source, input, budget, saved } = this.session;
+    return { source: source.bytes, input: input.bytes, budget, session: saved, lines, asks, save };
+  }
+
+  failed(came) {
+    this.problem = null;
+    if (came.stopped) this.problem = { kind: 'stopped' };
+    else if (came.trap !== undefined) this.problem = { kind: 'trap', text: came.trap };
+    else if (came.status !== 0) this.problem = { kind: 'refused', status: came.status, text: came.raw };
+    return this.problem !== null;
+  }
+
+  took(came) {
+    this.shown = came;
+    this.cost = { time: came.time, memory: came.memory };
+    this.entries = entriesOf(this.session, came.replies);
+    if (this.tree !== null) markBy(this.tree, this.entries);
+    this.accused = this.tree === null ? -1 : accusedOf(this.tree);
+    if (this.session.lines.length > 0) this.isKept = keep(this.session);
+    const { card } = came.report ?? {};
+    if (card) this.cards.set(came.report.call, cardOf(card));
+    if (came.program !== '') this.cards.set(0, cardOf(came.program));
+    if (came.report !== null && came.report.trace !== undefined) this.traces.set(came.report.call, came.report.trace);
+  }
+
+  // Begins what each answer to the question would come to.
+  thinkAhead() {
+    const call = this.questionCall;
+    if (call < 0) return;
+    this.engine.think(this.turnOf(this.session.lines, []), [`right ${call}`, `wrong ${call}`], this.cost);
+  }
+
+  get isQuick() {
+    return this.cost.time < QUICK_MS;
+  }
+
+  // Cards and traces of calls hang on the run alone, so each is asked for once.
+  async fetch(asks) {
+    const isMissing = (ask) => (ask.kind === 'show' ? !this.cards.has(ask.call) : !this.traces.has(ask.call));
+    const missing = asks.filter(isMissing);
+    if (missing.length === 0 || this.session === null) return true;
+    const { session } = this;
+    const came = await this.engine.turn(this.turnOf([], missing));
+    if (this.session !== session || came.answers === undefined) return false;
+    missing.forEach((ask, at) => {
+      const answer = came.answers[at];
+      if (answer.kind === 'show') this.cards.set(ask.call, cardOf(answer.text));
+      if (answer.kind === 'trace') this.traces.set(ask.call, answer.trace);
+    });
+    return true;
+  }
+
+  // What cells of this name held before and after a call; the reply where there are none.
+  async lookAt(call, name) {
+    const { session } = this;
+    const came = await this.engine.turn(this.turnOf([], [{ kind: 'state', call, name }]));
+    if (this.session !== session || came.answers === undefined) return null;
+    const [answer] = came.answers;
+    if (answer.kind !== 'state') return { cells: [], reply: answer.text ?? '' };
+    const cells = answer.text.split('\n').map(stateOf).filter((cell) => cell !== null);
+    this.asked.set(call, [...(this.asked.get(call) ?? []), ...cells]);
+    return { cells, reply: '' };
+  }
+
+  // The session as the command saves it.
+  async saved() {
+    const came = await this.engine.turn(this.turnOf(this.session.lines, [], 'page.session'));
+    return came.saved ?? null;
+  }
+}

@@ -1,0 +1,18 @@
+// The answers so far, each to look at or to take back.
+import { button, make } from './dom.js';
+import { nameOf } from './call_table.js';
+import { SAID_OF } from './words.js';
+
+function entryView(entry, tree, context) {
+  const isTrust = entry.kind === 'trust';
+  const name = isTrust ? (tree.names[entry.routine] ?? `#${entry.routine}`) : nameOf(tree, entry.call);
+  const about = isTrust ? make('code', name) : button('.link', { onclick: () => context.choose(entry.call), title: 'Look at this call' }, make('code', name), ` call ${entry.call}`);
+  const what = isTrust ? name : `${name}, call ${entry.call}`;
+  return make(`li${entry.standing ? '' : '.gone'}`, { value: entry.number }, make(`span.sign.${isTrust ? 'trusted' : entry.kind}`, { 'aria-hidden': 'true' }), about, ` ${SAID_OF[entry.kind]}`,
+    entry.standing ? button('.small', { onclick: () => context.say(`back ${entry.number}`), 'aria-label': `Take back: ${what} ${SAID_OF[entry.kind]}` }, 'take back')
+      : make('span.quiet', ' taken back'));
+}
+
+export function historyView(entries, tree, context) {
+  return make('ol.history', entries.map((entry) => entryView(entry, tree, context)));
+}

@@ -1,0 +1,117 @@
+// What stands in the middle: the question with its card, or the verdict, and what is left to ask.
+import { cardParts } from './card_view.js';
+import { button, make, plural } from './dom.js';
+import { nameOf, suspectsOf } from './call_table.js';
+import { lineOfCall } from './trace.js';
+import { mostQuestions, questionOf } from './forecast.js';
+import { traceView } from './trace_view.js';
+import { verdictView } from './verdict_view.js';
+
+const MANY = 5;
+const MOST_SHARE = 0.5;
+
+// The suspects, as the page counts them; null where that is not what the command says.
+function ownSuspects(dialog) {
+  if (dialog.tree === null || dialog.questionCall < 0) return null;
+  const suspects = suspectsOf(dialog.tree);
+  if (suspects.length !== dialog.report.suspects) return null;
+  return suspects;
+}
+
+export function progressOf(dialog) {
+  const { report, shown } = dialog;
+  const first = shown.questions.length > 0 ? Math.max(...shown.questions.map((question) => question.suspects)) : 0;
+  if (report === null || report.kind !== 'ask') return { text: 'No call is left to ask about.', share: 1 };
+  const suspects = ownSuspects(dialog);
+  const isOurs = suspects !== null && suspects.length <= 2000 && suspects[questionOf(dialog.tree, suspects).at] === report.call;
+  const most = isOurs ? mostQuestions(dialog.tree, suspects) : null;
+  const least = Math.ceil(Math.log2(report.suspects + 1));
+  const questions = most === null ? `${plural(least, 'question')} or more` : most === 1 ? 'this is the last question' : `at most ${plural(most, 'question')}, this one included`;
+  return { text: `${plural(report.suspects, 'call')} may be to blame \u00b7 ${questions}`, share: 1 - Math.log(report.suspects + 1) / Math.log(first + 2) };
+}
+
+// Where one routine makes most suspects, trusting it saves most questions.
+export function hintView(dialog, context) {
+  const suspects = ownSuspects(dialog);
+  if (suspects === null || suspects.length < MANY) return null;
+  const counts = new Map();
+  for (const call of suspects) counts.set(dialog.tree.routine[call], (counts.get(dialog.tree.routine[call]) ?? 0) + 1);
+  const [routine, count] = [...counts].sort((a, b) => b[1] - a[1])[0];
+  if (count < suspects.length * MOST_SHARE || counts.size < 2) return null;
+  const name = dialog.tree.names[routine];
+  return make('p.hint', `${count.toLocaleString('en')} of these ${suspects.length.toLocaleString('en')} calls are of `, make('code', name), '. If you are sure of it, ',
+    button('.link', { onclick: () => context.say(`trust #${routine}`) }, `trust ${name}`), '.');
+}
+
+// Who made a call, and on which line.
+function madeBy(card, dialog, context) {
+  if (card.parent === null) return 'the program itself, from its first line to its last';
+  const parent = dialog.tree === null ? '' : nameOf(dialog.tree, card.parent);
+  const trace = dialog.traces.get(card.parent);
+  const line = trace === undefined ? 0 : lineOfCall(trace, card.call);
+  return [`call ${card.call}, made by `, button('.link', { onclick: () => context.choose(card.parent) }, make('code', parent)),
+    line > 0 ? [' on ', button('.link', { onclick: () => context.showLine(line) }, `line ${line}`)] : null];
+}
+
+function commentView(routine) {
+  if (routine === undefined || routine.comments.length === 0) return null;
+  return make('blockquote.comment', make('span.label', 'its comment'), routine.comments.map((text) => make('p', text)));
+}
+
+export const routineOf = (dialog, outline, call) => (dialog.tree === null ? undefined : outline.routines[dialog.tree.routine[call]]);
+
+// Looking at a variable that the card does not tell of, where the command can say it.
+function lookView(card, dialog, context) {
+  if (!dialog.knowsState) return null;
+  const field = make('input', { type: 'text', size: 14, 'aria-label': 'Name of a variable', placeholder: 'name, such as a[1]', autocapitalize: 'off', spellcheck: 'false' });
+  const reply = make('span.quiet', { role: 'status' });
+  const ask = async (event) => {
+    event.preventDefault();
+    const came = await context.look(card.call, field.value.trim());
+    reply.textContent = came === null ? '' : came.reply;
+  };
+  return make('form.look', { onsubmit: ask }, make('label', 'Not on the card? Look at ', field), make('button.small', { type: 'submit' }, 'Look'), reply);
+}
+
+export function cardBody(card, dialog, context) {
+  return [...cardParts(card, {
+    ...context, asked: dialog.asked.get(card.call), look: dialog.knowsState ? (name) => context.look(card.call, name) : null,
+  }), askedView(dialog.asked.get(card.call)), lookView(card, dialog, context)];
+}
+
+function askedView(cells) {
+  if (cells === undefined || cells.length === 0) return null;
+  const said = (value, none) => value ?? none;
+  return make('section.part', make('h3', 'You looked at'), make('table.cells', make('tbody', cells.map((cell) => make('tr',
+    make('th', { scope: 'row' }, make('code', cell.name)),
+    make('td', cell.before === cell.after ? said(cell.before, 'not there') : `${said(cell.before, 'not there')} \u2192 ${said(cell.after, 'gone')}`))))));
+}
+
+export function questionView(dialog, outline, context) {
+  const card = dialog.cards.get(dialog.questionCall);
+  const routine = routineOf(dialog, outline, card.call);
+  return make('article.card', { id: 'question', 'data-call': card.call, 'data-name': card.name },
+    make('p.eyebrow', `Question ${dialog.shown.questions.length}`),
+    make('h2', { tabindex: -1 }, 'Did ', make('code', card.name), ' do what it should?'),
+    make('p.where', madeBy(card, dialog, context)),
+    commentView(routine),
+    cardBody(card, dialog, context));
+}
+
+export const resultView = (dialog, context) => verdictView(dialog.report, dialog.cards.get(dialog.report.call), context);
+
+// A call that was chosen in the tree.
+export function detailView(call, dialog, outline, context) {
+  const card = dialog.cards.get(call);
+  const trace = dialog.traces.get(call);
+  if (card === undefined) return make('article.card', make('p.quiet', 'One moment\u2026'));
+  const answer = (word, said) => button(`.small.${word}`, { onclick: () => context.say(`${word} ${call}`) }, said);
+  return make('article.card', { 'data-call': call },
+    make('header.row', make('h2', { tabindex: -1 }, make('code', card.name), make('span.number', ` call ${call}`)), button('.small', { onclick: context.close, 'aria-label': 'Close this call' }, 'Close')),
+    make('p.where', madeBy(card, dialog, context)),
+    commentView(routineOf(dialog, outline, call)),
+    cardBody(card, dialog, context),
+    make('section.part', make('h3', 'What its body did'), trace === undefined ? make('p.quiet', '\u2026') : traceView(trace, context)),
+    make('section.part', make('h3', 'Judge this call'), make('div.answerRow', answer('right', 'Right'), answer('wrong', 'Wrong'), answer('unknown', 'Don\u2019t know'))));
+}
+

@@ -1,0 +1,186 @@
+// The tree of calls, or the calls that a search found. Only the rows that are seen are made, so half a million calls are
+// no more work than a page of them.
+import { make } from './dom.js';
+import { MARKS, nameOf } from './call_table.js';
+
+const SIGNS = { unjudged: '\u00b7', right: '\u2713', wrong: '\u2717', unknown: '?', trusted: '\u2605' };
+const SAID = { unjudged: '', right: 'right', wrong: 'wrong', unknown: 'could not be judged', trusted: 'trusted' };
+const OPENED_AT_FIRST = 60;
+
+export class TreeView {
+  constructor(box, { onChoose }) {
+    this.box = box;
+    this.inside = box.firstElementChild;
+    this.onChoose = onChoose;
+    box.addEventListener('scroll', () => this.paint());
+    box.addEventListener('click', (event) => this.clicked(event));
+    box.addEventListener('keydown', (event) => this.pressed(event));
+    new ResizeObserver(() => this.paint()).observe(box);
+    this.clear();
+  }
+
+  clear() {
+    this.tree = null;
+    this.rows = new Int32Array(0);
+    this.found = null;
+    this.asked = -1;
+    this.accused = -1;
+    this.chosen = -1;
+    this.cursor = 0;
+    this.briefs = new Map();
+    this.inside.replaceChildren();
+    this.inside.style.height = '0';
+  }
+
+  // A run's calls. Of a small one all are shown, of a large one the program's own.
+  setTree(tree) {
+    this.clear();
+    this.tree = tree;
+    this.open = new Uint8Array(tree.parent.length).fill(tree.parent.length <= OPENED_AT_FIRST ? 1 : 0);
+    if (tree.parent.length > 0) this.open[0] = 1;
+    this.arrange();
+  }
+
+  setMarks({ asked, accused }) {
+    if (this.tree === null) return;
+    this.asked = asked;
+    this.accused = accused;
+    this.reveal(asked >= 0 ? asked : accused);
+  }
+
+  // Opens all above a call and brings it into sight.
+  reveal(call) {
+    if (this.tree === null || call < 0 || call >= this.open.length) return;
+    if (this.found === null) {
+      for (let at = this.tree.parent[call]; at >= 0; at = this.tree.parent[at]) this.open[at] = 1;
+    }
+    this.arrange();
+    const place = this.rows.indexOf(call);
+    if (place >= 0) this.moveTo(place);
+  }
+
+  choose(call) {
+    this.chosen = call;
+    this.reveal(call);
+  }
+
+  // Shows these calls alone, or the tree again.
+  setFound(calls) {
+    this.found = calls;
+    this.cursor = 0;
+    this.box.scrollTop = 0;
+    this.arrange();
+  }
+
+  arrange() {
+    if (this.tree === null) return;
+    this.rows = this.found ?? this.opened();
+    this.height = this.rowHeight();
+    this.inside.style.height = `${this.rows.length * this.height}px`;
+    this.cursor = Math.min(this.cursor, Math.max(0, this.rows.length - 1));
+    this.paint();
+  }
+
+  // The calls of which all above are open, in order.
+  opened() {
+    const { last, parent } = this.tree;
+    const rows = new Int32Array(parent.length);
+    let count = 0;
+    for (let call = 0; call < parent.length; call += 1) {
+      rows[count] = call;
+      count += 1;
+      if (this.open[call] === 0) call = last[call];
+    }
+    return rows.slice(0, count);
+  }
+
+  rowHeight() {
+    return parseFloat(getComputedStyle(this.box).lineHeight) || 24;
+  }
+
+  paint() {
+    if (this.tree === null) return;
+    const first = Math.max(0, Math.floor(this.box.scrollTop / this.height) - 5);
+    const last = Math.min(this.rows.length, Math.ceil((this.box.scrollTop + this.box.clientHeight) / this.height) + 5);
+    const made = [];
+    for (let place = first; place < last; place += 1) made.push(this.rowView(place));
+    this.inside.replaceChildren(...made);
+    this.box.setAttribute('aria-activedescendant', this.rows.length > 0 ? `row-${this.rows[this.cursor]}` : '');
+  }
+
+  rowView(place) {
+    const call = this.rows[place];
+    const { tree } = this;
+    const hasKids = tree.last[call] > call;
+    const isOpen = this.open[call] === 1;
+    const mark = MARKS[tree.mark[call]];
+    const depth = this.found === null ? tree.depth[call] : 0;
+    const classes = [call === this.asked ? 'asked' : '', call === this.accused ? 'accused' : '', call === this.chosen ? 'chosen' : '',
+      place === this.cursor ? 'cursor' : ''].filter((it) => it !== '').map((it) => `.${it}`).join('');
+    const notes = [SAID[mark], call === this.asked ? 'asked now' : '', call === this.accused ? 'accused' : ''].filter((it) => it !== '');
+    const showsFold = this.found === null && hasKids;
+    return make(`div.row${classes}`, {
+      id: `row-${call}`, role: 'treeitem', 'data-call': call, 'aria-level': depth + 1, 'aria-selected': call === this.chosen ? 'true' : 'false',
+      'aria-expanded': showsFold ? String(isOpen) : null,
+      'aria-label': `${nameOf(tree, call)}${this.briefs.get(call) ?? ''}, call ${call}${notes.length > 0 ? `, ${notes.join(', ')}` : ''}`,
+      style: `top: ${place * this.height}px; --depth: ${Math.min(depth, 24)}`,
+    }, make('span.twist', { 'aria-hidden': 'true' }, showsFold ? (isOpen ? '\u25be' : '\u25b8') : ''),
+    make(`span.sign.${mark}`, { title: SAID[mark] }, SIGNS[mark]),
+    make('span.name', nameOf(tree, call)), make('span.brief', this.briefs.get(call) ?? ''), make('span.space'),
+    call === this.asked ? make('span.note', 'asked') : null, call === this.accused ? make('span.note.bad', { title: 'It is wrong, so the mistake is in it or below it' }, 'accused') : null,
+    make('span.number', String(call)));
+  }
+
+  clicked(event) {
+    const row = event.target.closest('.row');
+    if (row === null) return;
+    const call = Number(row.dataset.call);
+    this.cursor = this.rows.indexOf(call);
+    if (event.target.closest('.twist') !== null && this.tree.last[call] > call) this.setOpen(call, this.open[call] === 0);
+    else this.onChoose(call);
+  }
+
+  setOpen(call, isOpen) {
+    this.open[call] = isOpen ? 1 : 0;
+    this.arrange();
+  }
+
+  openAll(isOpen) {
+    if (this.tree === null) return;
+    this.open.fill(isOpen ? 1 : 0);
+    this.open[0] = 1;
+    this.arrange();
+    this.reveal(this.asked >= 0 ? this.asked : this.accused);
+  }
+
+  moveTo(place) {
+    this.cursor = Math.max(0, Math.min(this.rows.length - 1, place));
+    const top = this.cursor * this.height;
+    if (top < this.box.scrollTop) this.box.scrollTop = top;
+    if (top + this.height > this.box.scrollTop + this.box.clientHeight) this.box.scrollTop = top + this.height - this.box.clientHeight;
+    this.paint();
+  }
+
+  pressed(event) {
+    if (this.tree === null || this.rows.length === 0 || event.ctrlKey || event.metaKey || event.altKey) return;
+    const call = this.rows[this.cursor];
+    const page = Math.max(1, Math.floor(this.box.clientHeight / this.height) - 1);
+    const hasKids = this.found === null && this.tree.last[call] > call;
+    const acts = {
+      ArrowDown: () => this.moveTo(this.cursor + 1),
+      ArrowUp: () => this.moveTo(this.cursor - 1),
+      PageDown: () => this.moveTo(this.cursor + page),
+      PageUp: () => this.moveTo(this.cursor - page),
+      Home: () => this.moveTo(0),
+      End: () => this.moveTo(this.rows.length - 1),
+      ArrowRight: () => (hasKids && this.open[call] === 0 ? this.setOpen(call, true) : this.moveTo(this.cursor + 1)),
+      ArrowLeft: () => (hasKids && this.open[call] === 1 ? this.setOpen(call, false) : this.moveTo(this.rows.indexOf(this.tree.parent[call]))),
+      Enter: () => this.onChoose(call),
+      ' ': () => this.onChoose(call),
+    };
+    const act = acts[event.key];
+    if (act === undefined) return;
+    event.preventDefault();
+    act();
+  }
+}

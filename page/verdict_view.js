@@ -1,0 +1,44 @@
+// A verdict for the eye.
+import { cardParts } from './card_view.js';
+import { button, fold, make } from './dom.js';
+import { traceView } from './trace_view.js';
+
+function doubtsView(doubts, context) {
+  return make('ul.doubts', doubts.map(({ call, name }) => make('li', button('.link', { onclick: () => context.choose(call) }, make('code', name), ` call ${call}`))));
+}
+
+const printed = (report) => fold('.raw', 'The verdict as it is printed', () => make('pre', report.text));
+
+function foundView(report, card, context) {
+  return make('article.card.verdict', { id: 'verdict', 'data-name': report.name },
+    make('p.eyebrow', 'Found'),
+    make('h2', { tabindex: -1 }, 'The mistake is in the body of ', make('code', report.name)),
+    make('p', `Call ${report.call} is wrong, although each call that it made is right. So look at these lines of ${report.name}, one by one: `
+      + 'which of them did the wrong thing, or which one is missing?'),
+    traceView(report.trace, context), printed(report),
+    card === undefined ? null : make('section.part.judged', make('h3', `Call ${report.call}, as you judged it`), cardParts(card, context)));
+}
+
+const SAID = {
+  narrowed: (report) => ({
+    title: ['The mistake is in ', make('code', report.name), ' or below it'],
+    text: `Call ${report.call} is wrong. The mistake is in its body, or in one of these calls, which could not be judged, or below them. If you can judge one now, do:`,
+  }),
+  unclear: () => ({
+    title: ['It stays unclear'],
+    text: 'No call is left that is judged wrong. The mistake may be in one of these calls, which could not be judged, or below them:',
+  }),
+  nothing: () => ({
+    title: ['By these answers, nothing is wrong'],
+    text: 'No call is left that is judged wrong or that could not be judged. If something is wrong after all, take back an answer.',
+  }),
+};
+
+// `card` is that of the call that was found.
+export function verdictView(report, card, context) {
+  if (report.kind === 'found') return foundView(report, card, context);
+  const { title, text } = SAID[report.kind](report);
+  return make(`article.card.verdict${report.kind === 'nothing' ? '.calm' : ''}`, { id: 'verdict', 'data-name': report.name ?? '' },
+    make('p.eyebrow', report.kind === 'narrowed' ? 'Narrowed down' : 'The end'),
+    make('h2', { tabindex: -1 }, title), make('p', text), doubtsView(report.doubts, context), printed(report));
+}

@@ -1,0 +1,40 @@
+// What the page shows before a program runs.
+import { button, make, plural, withCode } from './dom.js';
+
+export function welcomeView(examples, { open, pick }) {
+  return make('article.welcome',
+    make('h2', 'Find the wrong procedure by answering questions'),
+    make('p', 'Your program prints the wrong thing? pasask runs it, remembers every call, and asks you about a few of them: ',
+      make('em', 'did this call do what it should?'), ' Your answers lead it to the procedure with the mistake.'),
+    make('p', button('.main', { onclick: open }, 'Open a Pascal program\u2026'), make('span.quiet', ' or drop it anywhere on this page. It stays on your computer.')),
+    make('h3', 'Or try an example'),
+    make('ul.examples', examples.map((example, at) => make('li', button('.example', { onclick: () => pick(at) },
+      make('strong', example.title), make('span', withCode(example.story.split('\n\n')[0])))))));
+}
+
+export function storyView(example, isOpen) {
+  return make('details.story', { open: isOpen }, make('summary', example.title), example.story.split('\n\n').map((text) => make('p', withCode(text))));
+}
+
+// The offer of the last session, whose answers the browser kept.
+export function offerView(kept, { goOn, close }) {
+  return make('div.notice', { role: 'status' }, make('p', `Your answers on ${kept.name} are still here: ${plural(kept.lines.length, 'line')}.`),
+    make('p', button('.main', { onclick: goOn }, 'Go on with them'), ' ', button('', { onclick: close }, 'Not now')));
+}
+
+const KEYS = [
+  ['R', 'right: the call did what it should'], ['W', 'wrong: it did not'], ['D', 'don\u2019t know: ask about others'], ['T', 'trust this routine: all its calls are right'],
+  ['B', 'take back the last answer'], ['/', 'find a call'], ['C', 'go to the calls; arrows move, Enter opens'], ['Q', 'go to the question'], ['S', 'go to the program; Escape leaves it'],
+  ['Ctrl+Enter', 'run the program'],
+];
+
+export function helpView(close) {
+  return [make('h2', { id: 'helpTitle' }, 'How it works'),
+    make('p', 'Each question shows what a call was given, what it read, and what it left. Judge only that: what the call did, with all the calls that it made, on what it was given. '
+      + 'A call that got nonsense and made nonsense of it is right, if it did what it was written for. A call that was given good values and left bad ones is wrong.'),
+    make('p', 'Do not judge its text. That is what your answers find out: in the end, one call is wrong although all that it called is right, and the mistake is in the body of that routine.'),
+    make('p', 'A card tells what a call looked at. What it should have looked at and did not is not there.'),
+    make('h3', 'Keys'),
+    make('table.keys', make('tbody', KEYS.map(([key, said]) => make('tr', make('th', { scope: 'row' }, make('kbd', key)), make('td', said))))),
+    make('p', button('.main', { onclick: close }, 'Close'))];
+}

@@ -1,0 +1,83 @@
+// What the page says, in a student's words.
+
+const FAULTS = {
+  Undefined: 'a variable without a value was used',
+  Overflow: 'a number left the range of integers, \u22122147483647 to 2147483647',
+  OutOfRange: 'a value does not fit its type, or an index its array',
+  ZeroDivisor: 'it divided by zero',
+  BadModulus: 'it took mod by a number that is not above zero',
+  NilPointer: 'it followed a pointer that is nil',
+  Disposed: 'it used a variable of the heap that was disposed of',
+  InactiveVariant: 'it used a field of a variant that is not the chosen one',
+  NoCase: 'no constant of the case statement fits the value',
+  PastEnd: 'it read past the end of the input',
+  BadNumber: 'it read a number, and the input has none there',
+  BadWidth: 'it wrote with a width that is not above zero',
+  UndefinedResult: 'a function came to its end without a value',
+};
+
+const LIMITS = {
+  calls: '500,000 calls were made, and more are not kept',
+  depth: 'calls were nested 100,000 deep',
+  stack: 'the variables of open calls took too much room',
+  heap: 'the variables made by new took too much room',
+};
+
+// How a call ended: what is said, whether something went wrong, and where.
+export function endOf(end) {
+  const fault = /^faulted (\w+) line (\d+)$/.exec(end);
+  if (fault !== null) {
+    return { said: `It broke off at line ${fault[2]}: ${FAULTS[fault[1]] ?? fault[1]}.`, isBad: true, line: Number(fault[2]) };
+  }
+  const jump = /^jumped to (\d+)(?: of call (\d+))?$/.exec(end);
+  if (jump !== null) {
+    const of = jump[2] === undefined ? '' : ` of call ${jump[2]}`;
+    return { said: `It was left by a goto, to the label ${jump[1]}${of}.`, isBad: false, line: 0 };
+  }
+  const limit = /^limited (\w+)$/.exec(end);
+  if (limit !== null) return { said: `It was stopped: ${LIMITS[limit[1]] ?? limit[1]}.`, isBad: true, line: 0 };
+  if (end === 'out of steps') return { said: 'It did not come to its end: the steps ran out.', isBad: true, line: 0 };
+  return { said: end === 'returned' ? 'It came to its end.' : end, isBad: false, line: 0 };
+}
+
+export const SAID_OF = { right: 'is right', wrong: 'is wrong', unknown: 'could not be judged', trust: 'is trusted' };
+
+const STATUSES = {
+  2: 'The number of steps is a number from 1 to 4,000,000.',
+  4: 'This text is too long: a program may have 1,048,576 bytes, its input 4,194,304, a session 16,777,216.',
+  5: 'The lines of the dialog could not be read.',
+  6: 'What is to be shown is too long to be shown here.',
+  7: 'Memory ran out. A smaller number of steps may help.',
+  8: 'This session does not belong here.',
+  9: 'There are too many answers for one session.',
+};
+
+const MISFITS = [
+  [/^session: source is/, 'This session was saved for another program text. Open that text first.'],
+  [/^session: input is/, 'This session was saved with another input. Put that in first.'],
+  [/^session: budget is .* has (\d+)/, 'This session was saved with another number of steps: $1.'],
+  [/^session: (NotJson|BadShape)/, 'This file is no saved session.'],
+  [/^session: BadVersion/, 'This session was saved by another version of pasask.'],
+  [/^session: entry/, 'This session has an answer on a call that this run does not have.'],
+];
+
+export function statusSaid(status, screen) {
+  for (const [pattern, said] of MISFITS) {
+    const found = pattern.exec(screen);
+    if (found !== null) return said.replace('$1', Number(found[1]).toLocaleString('en'));
+  }
+  return STATUSES[status] ?? `The command ended with the status ${status}.`;
+}
+
+const REPLIES = [
+  [/^no question/, 'No call is asked about any more.'],
+  [/^no call/, 'There is no such call.'],
+  [/^nothing stands/, 'There is no answer to take back.'],
+  [/^entry (\d+) does not stand/, 'This answer was taken back before.'],
+  [/^book is full/, 'This session has as many answers as it can hold.'],
+];
+
+export function replySaid(reply) {
+  const found = REPLIES.find(([pattern]) => pattern.test(reply));
+  return found === undefined ? reply : found[1];
+}

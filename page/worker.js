@@ -1,0 +1,24 @@
+// What runs beside the page: a turn of the command, and taking apart what it printed.
+import { consoleOf, digest } from './transcript.js';
+import { latin } from './bytes.js';
+import { openModule, runTurn } from './instance.js';
+
+const NORMAL = 0;
+let module = null;
+
+async function turn({ source, input, budget, session, lines, asks, save }) {
+  const start = performance.now();
+  const text = consoleOf(save ? [...lines, `save ${save}`] : lines, asks);
+  const came = await runTurn(module, { source, input, budget, session, text });
+  const shown = came.status === NORMAL ? digest(came.screen, asks) : { raw: latin(came.screen.subarray(0, 100_000)) };
+  return { ...shown, status: came.status, saved: came.saved, memory: came.memory, time: performance.now() - start };
+}
+
+self.onmessage = async ({ data }) => {
+  try {
+    if (data.module !== undefined) module = await openModule(data.module);
+    self.postMessage({ id: data.id, ...(data.turn === undefined ? {} : await turn(data.turn)) });
+  } catch (error) {
+    self.postMessage({ id: data.id, trap: String((error && error.message) || error) });
+  }
+};
