@@ -119,8 +119,10 @@ function sideView(title, side, look) {
 
 // `look(name)` asks what a box holds that the card does not tell; null where the command cannot say it.
 export function heapView(heap, look = null) {
+  const isSame = ![heap.after.roots, ...[...heap.after.boxes.values()].map((box) => (box.isNew || box.isGone ? [{ isChanged: true }] : box.fields))]
+    .some((parts) => parts.some((part) => part.isChanged));
   const isUnseen = (side) => [...side.boxes.values()].some((box) => !box.isGone && (box.fields.length === 0 || box.fields.some((field) => field.value === null)));
   const legend = isUnseen(heap.before) || isUnseen(heap.after)
     ? make('p.quiet.legend', `${NOT_SEEN}  this call did not look at it`, look === null ? '' : '; click a box to look') : null;
-  return make('div.heaps', sideView('Before', heap.before, look), sideView('After', heap.after, look), legend);
+  return make('div.heaps', isSame ? sideView('Before and after', heap.after, look) : [sideView('Before', heap.before, look), sideView('After', heap.after, look)], legend);
 }

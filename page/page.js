@@ -3,7 +3,7 @@ import { editedFile, fileOfBytes, fileOfText } from './bytes.js';
 import { briefOf } from './card_view.js';
 import { nameOf } from './call_table.js';
 import { Dialog } from './dialog.js';
-import { button, byId, later, make, plural } from './dom.js';
+import { button, byId, later, make, plural, withCode } from './dom.js';
 import { Engine } from './engine.js';
 import { bytesOfFile, download, kindOfFile, onDrop } from './files.js';
 import { callsFound, callsOfLine, lineAsked } from './find_calls.js';
@@ -32,6 +32,7 @@ let program = { name: 'untitled.pas', file: fileOfText(''), input: fileOfText(''
 let chosen = -1;
 let shownTree = null;
 let offer = null;
+let shownCard = '';
 let lastSaid = '';
 
 const context = {
@@ -78,6 +79,7 @@ async function run(saved = null, lines = []) {
   session.lines.push(...lines);
   chosen = -1;
   offer = null;
+  shownCard = '';
   byId('query').value = '';
   showPane('question');
   await dialog.run(session);
@@ -121,7 +123,8 @@ async function saveSession() {
 
 async function goOnWith(kept) {
   byId('budget').value = kept.budget;
-  setProgram(kept.name, fileOfBytes(kept.source), fileOfBytes(kept.input));
+  const file = fileOfBytes(kept.source);
+  setProgram(kept.name, file, fileOfBytes(kept.input), EXAMPLES.find((example) => example.source === file.text) ?? null);
   await run(kept.saved, kept.lines);
 }
 
@@ -266,7 +269,7 @@ function refusedNotice() {
   if (refusal === null) return notice('.bad', make('p', make('strong', statusSaid(status, text))), make('pre', text.trimEnd()));
   const line = dialog.session.source.text.split('\n')[refusal.line - 1] ?? '';
   const start = Math.max(0, refusal.column - 60);
-  return notice('.bad', make('p', make('strong', refusal.said)),
+  return notice('.bad', make('p', make('strong', withCode(refusal.said))),
     make('p', button('.link', { onclick: () => { showPane('source'); source.focus(refusal.line); } }, `Line ${refusal.line}`), ':'),
     make('pre', `${line.slice(start)}\n${line.slice(start, refusal.column).replace(/[^\t]/g, ' ')}^`));
 }
@@ -299,26 +302,38 @@ function putBack() {
 function renderMiddle(isStale) {
   const isReady = dialog.shown !== null && dialog.report !== null;
   byId('middle').classList.toggle('stale', isStale && isReady);
-  byId('progress').hidden = !isReady;
+  for (const id of ['progress', 'answered']) byId(id).hidden = !isReady;
   byId('story').replaceChildren(...(program.example !== null && dialog.session !== null ? [storyView(program.example, dialog.session.lines.length === 0)] : []));
-  byId('after').replaceChildren();
-  if (!isReady) {
-    const isBlank = dialog.session === null && source.text.trim() === '';
-    const isWaiting = dialog.session === null && !isBlank;
-    byId('card').replaceChildren(...(isBlank ? [welcomeView(EXAMPLES, { open: () => byId('file').click(), pick: pickExample })] : []),
-      ...(isWaiting ? [make('article.welcome', make('p', button('.main', { onclick: () => run() }, 'Run this program'), make('span.quiet', ' and let it ask.')))] : []));
-    return;
-  }
+  if (isReady) renderQuestion(); else renderBeginning();
+}
+
+function renderBeginning() {
+  shownCard = '';
+  const isBlank = dialog.session === null && source.text.trim() === '';
+  const isWaiting = dialog.session === null && !isBlank;
+  byId('hint').replaceChildren();
+  byId('card').replaceChildren(...(isBlank ? [welcomeView(EXAMPLES, { open: () => byId('file').click(), pick: pickExample })] : []),
+    ...(isWaiting ? [make('article.welcome', make('p', button('.main', { onclick: () => run() }, 'Run this program'), make('span.quiet', ' and let it ask.')))] : []));
+}
+
+function renderQuestion() {
   const progress = progressOf(dialog);
   byId('left-text').textContent = progress.text;
   byId('bar').firstElementChild.style.width = `${Math.round(100 * Math.max(0.02, progress.share))}%`;
+  // A card is made anew only where it says something new, so that what was opened in it stays open.
   const isAsk = dialog.questionCall >= 0;
-  const view = isAsk ? questionView(dialog, source.outline, context) : resultView(dialog, context);
-  byId('card').replaceChildren(view);
+  const { call = -1 } = dialog.report;
+  const isMarked = call > 0 && dialog.tree !== null && dialog.traces.has(dialog.tree.parent[call]);
+  const card = [dialog.session.lines, call, isMarked, dialog.asked.get(call)?.length].join(' ');
+  if (card !== shownCard) {
+    shownCard = card;
+    byId('card').replaceChildren(isAsk ? questionView(dialog, source.outline, context) : resultView(dialog, context));
+  }
   const hint = isAsk ? hintView(dialog, context) : null;
+  byId('hint').replaceChildren(...(hint === null ? [] : [hint]));
   const before = dialog.session.lines.length === 0 ? keptBefore() : null;
-  byId('after').replaceChildren(...[hint, make('section.part', make('h3', 'Your answers'), historyView(dialog.entries, dialog.tree, context)),
-    before === null ? null : make('p.quiet', button('.link', { onclick: () => goOnWith(before) }, `Back to the session on ${before.name}`))].filter((it) => it !== null));
+  byId('history').replaceChildren(historyView(dialog.entries, dialog.tree, context),
+    ...(before === null ? [] : [make('p.quiet', button('.link', { onclick: () => goOnWith(before) }, `Back to the session on ${before.name}`))]));
   announce(progress.text);
 }
 
@@ -335,11 +350,10 @@ function announce(progress) {
 
 function renderAnswers(isStale) {
   const isAsk = dialog.questionCall >= 0;
-  byId('answers').hidden = dialog.shown === null;
-  for (const it of document.querySelectorAll('#answers button')) {
-    const isBack = it.dataset.say === 'back';
-    it.hidden = !isAsk && !isBack;
-    it.setAttribute('aria-disabled', String(dialog.isBusy || isStale || (isBack && !dialog.entries.some((entry) => entry.standing))));
+  byId('answers').hidden = !isAsk;
+  for (const it of document.querySelectorAll('[data-say]')) {
+    const isEmpty = it.dataset.say === 'back' && !dialog.entries.some((entry) => entry.standing);
+    it.setAttribute('aria-disabled', String(dialog.isBusy || isStale || isEmpty));
   }
   const trusted = isAsk && dialog.tree !== null ? nameOf(dialog.tree, dialog.questionCall) : '';
   const trust = document.querySelector('#answers [data-say="trust"]');
@@ -438,7 +452,7 @@ function connect() {
   for (const id of ['input', 'budget']) byId(id).addEventListener('input', edited);
   byId('query').addEventListener('input', later(120, find));
   byId('find').addEventListener('submit', (event) => { event.preventDefault(); find(); byId('tree').focus(); });
-  for (const it of document.querySelectorAll('#answers button')) {
+  for (const it of document.querySelectorAll('[data-say]')) {
     it.addEventListener('click', () => { if (it.getAttribute('aria-disabled') !== 'true') answer(it.dataset.say); });
   }
   for (const tab of document.querySelectorAll('.tabs button')) tab.addEventListener('click', () => showPane(tab.dataset.pane));

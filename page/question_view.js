@@ -107,7 +107,7 @@ export function detailView(call, dialog, outline, context) {
   if (card === undefined) return make('article.card', make('p.quiet', 'One moment\u2026'));
   const answer = (word, said) => button(`.small.${word}`, { onclick: () => context.say(`${word} ${call}`) }, said);
   return make('article.card', { 'data-call': call },
-    make('header.row', make('h2', { tabindex: -1 }, make('code', card.name), make('span.number', ` call ${call}`)), button('.small', { onclick: context.close, 'aria-label': 'Close this call' }, 'Close')),
+    make('header.row', make('h2', { tabindex: -1 }, make('code', card.name)), button('.small', { onclick: context.close, 'aria-label': 'Close this call' }, 'Close')),
     make('p.where', madeBy(card, dialog, context)),
     commentView(routineOf(dialog, outline, call)),
     cardBody(card, dialog, context),

@@ -18,7 +18,7 @@ export function storyView(example, isOpen) {
 
 // The offer of the last session, whose answers the browser kept.
 export function offerView(kept, { goOn, close }) {
-  return make('div.notice', { role: 'status' }, make('p', `Your answers on ${kept.name} are still here: ${plural(kept.lines.length, 'line')}.`),
+  return make('div.notice', { role: 'status' }, make('p', `Your answers on ${kept.name} are still here: ${plural(kept.lines.length, 'answer')}.`),
     make('p', button('.main', { onclick: goOn }, 'Go on with them'), ' ', button('', { onclick: close }, 'Not now')));
 }
 
