@@ -10,12 +10,56 @@ export const UNKNOWN = 3;
 export const TRUSTED = 4;
 
 const NEWLINE = 10;
-const LINE = /^(\d+)(?: in (\d+))? (\S+) #(\d+) (unjudged|right|wrong|unknown|trusted)$/;
+const BLANK = 32;
+const SHARP = 35;
 
 function countLines(bytes, from, to) {
   let count = 0;
   for (let at = from; at >= 0 && at < to; at = bytes.indexOf(NEWLINE, at) + 1 || to) count += 1;
   return count;
+}
+
+// Reads the lines of a tree, `2 in 0 breakfast #3 unjudged`, byte by byte, since there may be half a million.
+class TreeReader {
+  constructor(bytes, from, to) {
+    Object.assign(this, { bytes, at: from, to });
+    this.names = [];
+  }
+
+  // A number, or -1.
+  number() {
+    let number = 0;
+    const from = this.at;
+    for (; this.at < this.to && this.at - from < 9 && this.bytes[this.at] >= 48 && this.bytes[this.at] <= 57; this.at += 1) {
+      number = number * 10 + this.bytes[this.at] - 48;
+    }
+    return this.at === from ? -1 : number;
+  }
+
+  // Goes over a text, if it stands here.
+  skips(text) {
+    for (let i = 0; i < text.length; i += 1) if (this.at + i >= this.to || this.bytes[this.at + i] !== text.charCodeAt(i)) return false;
+    this.at += text.length;
+    return true;
+  }
+
+  // A line as call, parent, routine and mark, or null.
+  line() {
+    const call = this.number();
+    const parent = this.skips(' in ') ? this.number() : -1;
+    if (call < 0 || !this.skips(' ')) return null;
+    const from = this.at;
+    while (this.at < this.to && this.bytes[this.at] > BLANK) this.at += 1;
+    const end = this.at;
+    if (!this.skips(' ') || this.bytes[this.at] !== SHARP) return null;
+    this.at += 1;
+    const routine = this.number();
+    if (routine < 0 || !this.skips(' ')) return null;
+    const mark = MARKS.findIndex((word) => this.skips(word));
+    if (mark < 0 || !(this.skips('\n') || this.at === this.to)) return null;
+    if (this.names[routine] === undefined) this.names[routine] = latin(this.bytes.subarray(from, end));
+    return { call, parent, routine, mark };
+  }
 }
 
 // From the reply to `tree`. A line that does not fit ends it.
@@ -24,20 +68,16 @@ export function treeOf(bytes, from = 0, to = bytes.length) {
   const parent = new Int32Array(most);
   const routine = new Int32Array(most);
   const mark = new Uint8Array(most);
-  const names = [];
+  const reader = new TreeReader(bytes, from, to);
   let count = 0;
-  for (let at = from; at < to; count += 1) {
-    const found = bytes.indexOf(NEWLINE, at);
-    const end = found < 0 || found > to ? to : found;
-    const line = LINE.exec(latin(bytes.subarray(at, Math.min(end, at + 10000))));
-    if (line === null || Number(line[1]) !== count || Number(line[2] ?? -1) >= count) break;
-    parent[count] = line[2] === undefined ? -1 : Number(line[2]);
-    routine[count] = Number(line[4]);
-    mark[count] = MARKS.indexOf(line[5]);
-    names[routine[count]] = line[3];
-    at = end + 1;
+  for (; reader.at < to; count += 1) {
+    const line = reader.line();
+    if (line === null || line.call !== count || line.parent >= count) break;
+    parent[count] = line.parent;
+    routine[count] = line.routine;
+    mark[count] = line.mark;
   }
-  const columns = { parent: parent.slice(0, count), routine: routine.slice(0, count), mark: mark.slice(0, count), names };
+  const columns = { parent: parent.slice(0, count), routine: routine.slice(0, count), mark: mark.slice(0, count), names: reader.names };
   return { ...columns, ...nesting(columns.parent) };
 }
 

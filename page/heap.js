@@ -12,7 +12,7 @@ function fieldsOf(seen, records) {
   const known = lower.length > 0 && records.find((record) => lower.every((name) => record.fields.includes(name.split(/[.[]/)[0])));
   if (!known) return { names, missing: [] };
   const firsts = new Set(lower.map((name) => name.split(/[.[]/)[0]));
-  return { names, missing: known.fields.filter((field) => !firsts.has(field)), order: known.fields };
+  return { names, missing: known.fixed.filter((field) => !firsts.has(field)), order: known.fields };
 }
 
 function valueIn(cell, which) {

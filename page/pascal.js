@@ -63,22 +63,26 @@ class Reader {
     this.at += 1;
   }
 
+  // The fields of a record type: all, and those outside of its variants. Of a variant part the tag field is one of them, and
+  // the constants of its variants are none.
   record() {
-    const record = { fields: [] };
+    const record = { fields: [], fixed: [] };
+    const parts = [];
     let names = [];
     let deep = 0;
-    for (this.at += 1; this.at < this.tokens.length; this.at += 1) {
+    for (this.at += 1; this.at < this.tokens.length && this.text !== 'end'; this.at += 1) {
       const { kind, text } = this.tokens[this.at];
-      if (text === 'record') { this.record(); continue; }
-      if (text === 'end') break;
       if (text === '(' || text === '[') deep += 1;
       if (text === ')' || text === ']') deep -= 1;
-      if (text === ':') {
+      if (text === 'record') this.record();
+      if (text === 'case') parts.push({ deep, isBegun: false });
+      if (text === 'of' && parts.length > 0) parts[parts.length - 1].isBegun = true;
+      if (text === ':' && !parts.some((part) => part.isBegun && part.deep === deep)) {
         record.fields.push(...names);
-        names = [];
-      } else if (kind === 'word' && deep === 0 && (names.length === 0 || this.tokens[this.at - 1].text === ',')) {
-        names = this.tokens[this.at - 1].text === ':' ? [] : [...names, text];
-      } else if (text === ';') names = [];
+        if (!parts.some((part) => part.isBegun)) record.fixed.push(...names);
+      }
+      if (kind === 'word') names = this.tokens[this.at - 1].text === ',' ? [...names, text] : [text];
+      else if (text !== ',') names = [];
     }
     this.records.push(record);
   }
@@ -135,7 +139,7 @@ export function outlineOf(source) {
   reader.heading();
   program.comments = reader.commentsAround(reader.tokens[0]?.from ?? 0, reader.tokens[Math.min(reader.at, reader.tokens.length) - 1]?.to ?? 0);
   reader.block(new Map());
-  program.to = source.split('\n').length;
+  program.to = reader.tokens[reader.tokens.length - 1]?.lastLine ?? 1;
   return { routines: reader.routines, records: reader.records, tokens: reader.all };
 }
 
