@@ -96,7 +96,7 @@ function heapPart(folded, card, context) {
   if (heap === null) return null;
   const rows = [...folded.heapChanged, ...folded.heapRead];
   return part('Variables made by new', heapView(heap, context.look ?? null),
-    rows.length === 0 ? null : fold('.more', 'the same as a list', () => [rowsView(folded.heapChanged, true), rowsView(folded.heapRead, false)]));
+    rows.length === 0 ? null : fold('.more.asRows', 'the same as a list', () => [rowsView(folded.heapChanged, true), rowsView(folded.heapRead, false)]));
 }
 
 // The parts of a card after its heading. `context` has `records`, the record types of the source, and `look(name)`.

@@ -53,19 +53,20 @@ function boxView(box, frame, look) {
 }
 
 // An arrow from a point to a box: straight on where the box lies ahead, and around where it lies behind or is the same.
-function arrowView(from, frame, isAcross, isChanged) {
+function arrowView(from, frame, isAcross, isChanged, key) {
   const isAhead = isAcross ? frame.x > from.x : frame.y > from.y;
   const to = isAcross && isAhead ? { x: frame.x - 3, y: frame.y + HEAD - 6 } : { x: frame.x + frame.width / 2, y: frame.y - 3 };
   const path = !isAhead ? `C ${from.x + 34} ${from.y + 24}, ${to.x + 60} ${to.y - 44}, ${to.x} ${to.y}`
     : isAcross ? `C ${from.x + 24} ${from.y}, ${to.x - 24} ${to.y}, ${to.x} ${to.y}`
       : `C ${from.x} ${from.y + 18}, ${to.x} ${to.y - 18}, ${to.x} ${to.y}`;
-  return makeSvg(`path.arrow${isChanged ? '.changed' : ''}`, { d: `M ${from.x} ${from.y} ${path}`, 'marker-end': `url(#tip${isChanged ? '-changed' : ''})` });
+  return makeSvg(`path.arrow${isChanged ? '.changed' : ''}`, { d: `M ${from.x} ${from.y} ${path}`, 'marker-end': `url(#tip${key}${isChanged ? 'c' : ''})` });
 }
 
-function tips() {
-  const tip = (id) => makeSvg('marker', { id, viewBox: '0 0 8 8', refX: 6, refY: 4, markerWidth: 7, markerHeight: 7, orient: 'auto-start-reverse' },
+// The heads of arrows. Each drawing has its own.
+function tips(key) {
+  const tip = (kind) => makeSvg(`marker${kind}`, { id: `tip${key}${kind === '' ? '' : 'c'}`, viewBox: '0 0 8 8', refX: 6, refY: 4, markerWidth: 7, markerHeight: 7, orient: 'auto-start-reverse' },
     makeSvg('path', { d: 'M 0 0.8 L 7 4 L 0 7.2 z' }));
-  return makeSvg('defs', tip('tip'), tip('tip-changed'));
+  return makeSvg('defs', tip(''), tip('.changed'));
 }
 
 // Where the arrow of a field begins: beside the field in a list, and in a tree at the foot of the box, from left to right.
@@ -93,7 +94,11 @@ function rootsView(side, frames, origin) {
   return group;
 }
 
+let drawings = 0;
+
 function sideView(title, side, look) {
+  drawings += 1;
+  const key = drawings;
   const frames = framesOf(side);
   const origin = { top: 8 };
   const drawing = makeSvg('g');
@@ -103,7 +108,7 @@ function sideView(title, side, look) {
       const target = field.target === null ? undefined : frames.get(field.target);
       if (target === undefined) return;
       const from = startOf(side, number, frame, at);
-      drawing.append(arrowView(from, target, side.isAcross, field.isChanged));
+      drawing.append(arrowView(from, target, side.isAcross, field.isChanged, key));
     });
   }
   drawing.append(rootsView(side, frames, origin));
@@ -113,7 +118,7 @@ function sideView(title, side, look) {
   const nils = side.roots.filter((root) => root.target === null).map((root) => `${root.label} = nil`);
   return make('figure.heap', make('figcaption', make('b', title), nils.length > 0 ? ` ${nils.join(', ')}` : ''),
     frames.size === 0 ? make('p.quiet', 'nothing that the card tells of') : make('div.scroll', { tabindex: 0, role: 'group', 'aria-label': `Drawing, ${title.toLowerCase()}` },
-      makeSvg('svg', { width: right, height: bottom + origin.top, role: 'img', 'aria-label': `${title}: ${heapSaid(side)}` }, tips(), drawing)),
+      makeSvg('svg', { width: right, height: bottom + origin.top, role: 'img', 'aria-label': `${title}: ${heapSaid(side)}` }, tips(key), drawing)),
     side.leftOut > 0 ? make('p.quiet', `and ${side.leftOut} more, which are not drawn`) : null);
 }
 

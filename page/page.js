@@ -132,7 +132,7 @@ async function printReport() {
   if (dialog.shown === null || dialog.tree === null) return;
   await dialog.fetch(callsInReport(dialog).map((call) => ({ kind: 'show', call })));
   byId('report').replaceChildren(...reportView(dialog, { ...context, asked: [], look: null }).flat(2).filter((it) => it !== null));
-  for (const it of byId('report').querySelectorAll('details:not(.raw)')) it.open = true;
+  for (const it of byId('report').querySelectorAll('details:not(.raw, .asRows)')) it.open = true;
   window.print();
 }
 

@@ -14,7 +14,7 @@ export function callsInReport(dialog) {
 }
 
 function listing(text) {
-  return make('ol.listing', text.split('\n').map((line) => make('li', make('code', line === '' ? ' ' : line))));
+  return make('ol.listing', text.trimEnd().split('\n').map((line) => make('li', make('code', line === '' ? ' ' : line))));
 }
 
 function entryView(entry, dialog, context) {
