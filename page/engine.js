@@ -1,91 +1,114 @@
-// The page's side of the workers: one for what was asked for, one for what may be asked for next.
+// Which worker does what: what the page asks for comes first, and what it may ask for next is begun meanwhile.
+import { Workshop } from './workshop.js';
 
 const AHEAD_FROM_MS = 60;
-const AHEAD_MEMORY = 500 * 1024 * 1024;
+// Above this an instance is alone, and its memory is given back at once.
+const LARGE = 500 * 1024 * 1024;
 
-class Workshop {
-  constructor(packed) {
-    this.packed = packed;
-    this.waiting = new Map();
-    this.number = 0;
-    this.open();
-  }
+// What a turn of lines alone is known by.
+const keyOf = (turn) => (turn.asks.length === 0 && !turn.save ? turn.lines.join('\n') : null);
 
-  // A page from a disk may start no worker from a file, so the script comes with the page.
-  open() {
-    const script = new Blob([this.packed.worker], { type: 'text/javascript' });
-    this.worker = new Worker(URL.createObjectURL(script));
-    this.worker.onmessage = ({ data }) => {
-      const done = this.waiting.get(data.id);
-      this.waiting.delete(data.id);
-      if (done !== undefined) done(data);
-    };
-    this.worker.onerror = (event) => this.end({ trap: event.message || 'the worker did not start' });
-    this.ready = this.post({ module: this.packed.module });
-  }
-
-  post(message) {
-    return new Promise((done) => {
-      this.number += 1;
-      this.waiting.set(this.number, done);
-      this.worker.postMessage({ id: this.number, ...message });
-    });
-  }
-
-  end(answer) {
-    for (const done of this.waiting.values()) done(answer);
-    this.waiting.clear();
-  }
-
-  stop() {
-    this.worker.terminate();
-    this.end({ stopped: true });
-    this.open();
+class Job {
+  constructor(turn, isWanted) {
+    Object.assign(this, { turn, isWanted, key: keyOf(turn), worker: null, isOver: false, isAgain: false });
+    this.answer = new Promise((done) => { this.done = done; });
   }
 }
 
-const keyOf = (turn) => turn.lines.join('\n');
-
 export class Engine {
-  constructor(packed) {
-    this.packed = packed;
-    this.front = new Workshop(packed);
-    this.back = null;
-    this.ahead = new Map();
-    this.ready = this.front.ready;
+  constructor(packed, makeWorkshop = (given) => new Workshop(given)) {
+    this.make = () => makeWorkshop(packed);
+    this.workers = [this.make()];
+    this.most = 1;
+    this.jobs = [];
+    this.ready = this.workers[0].ready;
   }
 
-  // One turn: `{ source, input, budget, session, lines, asks, save }`. What was computed ahead is not computed again.
-  async turn(turn) {
-    const early = turn.asks.length === 0 && !turn.save ? this.ahead.get(keyOf(turn)) : undefined;
-    if (early !== undefined) {
-      const came = await early;
-      if (came.stopped === undefined && came.trap === undefined) return came;
-    }
-    await this.front.ready;
-    return this.front.post({ turn });
+  // One turn: `{ source, input, budget, session, lines, asks, save }`. What was begun ahead is not begun again.
+  turn(turn) {
+    const key = keyOf(turn);
+    const begun = key === null ? undefined : this.jobs.find((job) => job.key === key);
+    const job = begun ?? new Job(turn, true);
+    if (begun === undefined) this.jobs.push(job);
+    job.isWanted = true;
+    this.schedule();
+    return job.answer;
   }
 
-  // Begins what each of these lines would come to, where a turn took long and not too much memory.
+  // Begins what each of these lines would come to, where a turn took long: both at once where one took little memory.
   think(turn, nextLines, { time, memory }) {
     this.forget();
-    if (time < AHEAD_FROM_MS || memory >= AHEAD_MEMORY) return;
-    if (this.back === null) this.back = new Workshop(this.packed);
-    for (const line of nextLines) {
-      const next = { ...turn, lines: [...turn.lines, line], asks: [], save: null };
-      this.ahead.set(keyOf(next), this.back.post({ turn: next }));
+    if (time < AHEAD_FROM_MS) return;
+    this.most = memory < LARGE ? 2 : 1;
+    for (const line of nextLines) this.jobs.push(new Job({ ...turn, lines: [...turn.lines, line], asks: [], save: null }, false));
+    this.schedule();
+  }
+
+  // What was begun ahead and is not waited for is ended.
+  forget() {
+    const dropped = this.jobs.filter((job) => !job.isWanted);
+    this.jobs = this.jobs.filter((job) => job.isWanted);
+    for (const job of dropped) this.halt(job);
+  }
+
+  // Ends all that runs; whoever waits is told.
+  stop() {
+    const ended = this.jobs;
+    this.jobs = [];
+    for (const job of ended) {
+      this.halt(job);
+      job.done({ stopped: true });
+    }
+    this.ready = this.workers[0].ready;
+  }
+
+  halt(job) {
+    if (job.worker === null) return;
+    job.worker.renew();
+    job.worker = null;
+  }
+
+  // A worker that is free, or one that works ahead while a wanted job waits.
+  workerFor(job) {
+    const isFree = (worker) => !this.jobs.some((other) => other.worker === worker && !other.isOver);
+    const free = this.workers.slice(0, this.most).find(isFree);
+    if (free !== undefined) return free;
+    if (this.workers.length < this.most) {
+      this.workers.push(this.make());
+      return this.workers[this.workers.length - 1];
+    }
+    const ahead = job.isWanted ? this.jobs.find((other) => other.worker !== null && !other.isOver && !other.isWanted) : undefined;
+    if (ahead === undefined) return null;
+    const { worker } = ahead;
+    this.halt(ahead);
+    return worker;
+  }
+
+  schedule() {
+    const waiting = this.jobs.filter((job) => job.worker === null && !job.isOver);
+    for (const job of [...waiting.filter((it) => it.isWanted), ...waiting.filter((it) => !it.isWanted)]) {
+      const worker = this.workerFor(job);
+      if (worker !== null) this.begin(job, worker);
     }
   }
 
-  // What is computed ahead and was not asked for is ended, so that it holds up nothing.
-  forget() {
-    this.ahead.clear();
-    if (this.back !== null && this.back.waiting.size > 0) this.back.stop();
-  }
-
-  stop() {
-    this.front.stop();
-    this.ready = this.front.ready;
-    this.forget();
+  async begin(job, worker) {
+    job.worker = worker;
+    const came = await worker.turn(job.turn);
+    // It was ended meanwhile.
+    if (job.worker !== worker || !this.jobs.includes(job)) return;
+    job.worker = null;
+    if (came.trap !== undefined || came.memory >= LARGE) worker.renew();
+    // Beside another one it may have had too little memory: it is tried once more, alone.
+    if (came.trap !== undefined && this.most > 1 && !job.isAgain) {
+      job.isAgain = true;
+      this.most = 1;
+      this.schedule();
+      return;
+    }
+    job.isOver = true;
+    job.done(came);
+    if (job.isWanted || came.trap !== undefined) this.jobs = this.jobs.filter((other) => other !== job);
+    this.schedule();
   }
 }

@@ -15,7 +15,7 @@ import { keptBefore, lastKept, newSession } from './session.js';
 import { SourceView } from './source_view.js';
 import { lineOfCall } from './trace.js';
 import { TreeView } from './tree_view.js';
-import { helpView, offerView, storyView, welcomeView } from './welcome_view.js';
+import { helpView, offerView, storyView, waitingView, welcomeView } from './welcome_view.js';
 import { endOf, replySaid, statusSaid } from './words.js';
 
 const ALL_CARDS = 500;
@@ -95,8 +95,12 @@ function pickExample(at) {
   return run();
 }
 
+// A program comes before what belongs to it.
+const ORDER = ['program', 'input', 'session'];
+
 async function openFiles(files) {
-  for (const file of files) {
+  const place = (file) => ORDER.indexOf(kindOfFile(file.name));
+  for (const file of [...files].sort((a, b) => place(a) - place(b))) {
     const bytes = await bytesOfFile(file);
     const kind = kindOfFile(file.name);
     if (kind === 'session') await loadSession(bytes);
@@ -172,6 +176,7 @@ async function choose(call) {
   if (parent >= 0 && dialog.isQuick) asks.push({ kind: 'trace', call: parent });
   await dialog.fetch(asks);
   if (chosen === call) {
+    if (call > 0 && dialog.cards.has(call)) tree.briefs.set(call, briefOf(dialog.cards.get(call)));
     render();
     byId('detail').querySelector('h2')?.focus({ preventScroll: false });
   }
@@ -279,7 +284,7 @@ function renderNotices(isStale) {
   const notices = [];
   if (offer !== null) notices.push(offerView(offer, { goOn: () => { const it = offer; offer = null; goOnWith(it); }, close: () => { offer = null; render(); } }));
   if (dialog.isBusy) notices.push(make('p.working', { role: 'status' }, 'Running\u2026'));
-  else if (problem !== null && problem.kind === 'stopped') notices.push(notice('', make('p', 'Stopped. Your answers are all here.')));
+  else if (problem !== null && problem.kind === 'stopped') notices.push(notice('', make('p', session.lines.length > 0 ? 'Stopped. Your answers are all here.' : 'Stopped.')));
   else if (problem !== null && problem.kind === 'trap') notices.push(notice('.bad', make('p', make('strong', 'This was too much for the browser.'), ' Your answers are all here; a smaller number of steps may help.'), make('pre', problem.text)));
   else if (problem !== null && !isStale) notices.push(refusedNotice());
   if (note !== '') notices.push(notice('', make('p', replySaid(note))));
@@ -309,11 +314,16 @@ function renderMiddle(isStale) {
 
 function renderBeginning() {
   shownCard = '';
-  const isBlank = dialog.session === null && source.text.trim() === '';
-  const isWaiting = dialog.session === null && !isBlank;
   byId('hint').replaceChildren();
-  byId('card').replaceChildren(...(isBlank ? [welcomeView(EXAMPLES, { open: () => byId('file').click(), pick: pickExample })] : []),
-    ...(isWaiting ? [make('article.welcome', make('p', button('.main', { onclick: () => run() }, 'Run this program'), make('span.quiet', ' and let it ask.')))] : []));
+  byId('card').replaceChildren(...beginning());
+}
+
+function beginning() {
+  if (dialog.isBusy) return [];
+  if (dialog.shown !== null) return [make('article.card', make('p', 'This was printed:'), make('pre.text', dialog.shown.raw))];
+  if (dialog.session === null && source.text.trim() === '') return [welcomeView(EXAMPLES, { open: () => byId('file').click(), pick: pickExample })];
+  if (dialog.problem !== null && dialog.problem.kind === 'refused' && !isEdited()) return [];
+  return [waitingView({ run: () => run(), wantsInput: source.readsInput && byId('input').value === '' })];
 }
 
 function renderQuestion() {
@@ -380,9 +390,10 @@ function renderSource(isStale) {
   if (isStale) return source.mark({});
   if (dialog.problem !== null && dialog.problem.kind === 'refused') {
     const refusal = refusalOf(PASASK.sentences, dialog.session.source, dialog.problem.text, program.name);
-    source.mark({ refusal });
-    if (refusal !== null) source.show(refusal.line);
-    return undefined;
+    if (refusal !== null) {
+      source.mark({ refusal });
+      return source.show(refusal.line);
+    }
   }
   if (dialog.shown === null) return source.mark({});
   const call = chosen >= 0 ? chosen : dialog.report?.call ?? -1;

@@ -3,6 +3,7 @@
 import { byId, make } from './dom.js';
 import { outlineOf } from './pascal.js';
 
+const INPUT_WORDS = new Set(['read', 'readln', 'eof', 'eoln', 'get']);
 const NO_MARKS = { routine: null, counts: null, refusal: null, callLine: 0, faultLine: 0 };
 
 export class SourceView {
@@ -38,6 +39,11 @@ export class SourceView {
     this.outline = outlineOf(text);
     this.marks = NO_MARKS;
     this.paint();
+  }
+
+  // Whether the program seems to read input.
+  get readsInput() {
+    return this.outline.tokens.some((token) => token.kind === 'word' && INPUT_WORDS.has(token.text));
   }
 
   mark(marks) {

@@ -12,6 +12,12 @@ export function welcomeView(examples, { open, pick }) {
       make('strong', example.title), make('span', withCode(example.story.split('\n\n')[0])))))));
 }
 
+// A program is there and has not run yet.
+export function waitingView({ run, wantsInput }) {
+  return make('article.welcome', make('p', button('.main', { onclick: run }, 'Run this program'), make('span.quiet', ' and let it ask.')),
+    wantsInput ? make('p', 'It reads input, and there is none: put it in below the program first.') : null);
+}
+
 export function storyView(example, isOpen) {
   return make('details.story', { open: isOpen }, make('summary', example.title), example.story.split('\n\n').map((text) => make('p', withCode(text))));
 }
