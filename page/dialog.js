@@ -6,7 +6,8 @@ import { entriesOf, keep, setAside } from './session.js';
 
 // No variable has this name; the reply tells whether the command knows the line `state`.
 const PROBE = { kind: 'state', call: 0, name: '.' };
-const QUICK_MS = 1000;
+// A turn that takes no longer is asked for more than what must be.
+const QUICK_MS = 2500;
 
 export class Dialog {
   constructor(engine, onChange) {

@@ -3,12 +3,13 @@ import { editedFile, fileOfBytes, fileOfText } from './bytes.js';
 import { briefOf } from './card_view.js';
 import { nameOf } from './call_table.js';
 import { Dialog } from './dialog.js';
-import { button, byId, later, make, plural, withCode } from './dom.js';
+import { button, byId, later, make, plural } from './dom.js';
 import { Engine } from './engine.js';
 import { bytesOfFile, download, kindOfFile, onDrop } from './files.js';
 import { callsFound, callsOfLine, lineAsked } from './find_calls.js';
 import { historyView } from './history_view.js';
 import { detailView, hintView, progressOf, questionView, resultView, routineOf } from './question_view.js';
+import { notice, noticesOf } from './notices_view.js';
 import { refusalOf } from './refusal.js';
 import { callsInReport, reportView } from './report_view.js';
 import { keptBefore, lastKept, newSession } from './session.js';
@@ -16,7 +17,7 @@ import { SourceView } from './source_view.js';
 import { lineOfCall } from './trace.js';
 import { TreeView } from './tree_view.js';
 import { helpView, offerView, storyView, waitingView, welcomeView } from './welcome_view.js';
-import { endOf, replySaid, statusSaid } from './words.js';
+import { endOf } from './words.js';
 
 const ALL_CARDS = 500;
 const MOST_CARDS = 20_000;
@@ -32,6 +33,8 @@ let program = { name: 'untitled.pas', file: fileOfText(''), input: fileOfText(''
 let chosen = -1;
 let shownTree = null;
 let offer = null;
+// The calls whose cards are being asked for.
+let loading = null;
 let shownCard = '';
 let lastSaid = '';
 
@@ -193,11 +196,13 @@ async function look(call, name) {
 
 async function loadBriefs() {
   const { tree: calls } = dialog;
-  if (calls === null) return;
+  if (calls === null || loading === calls) return;
+  loading = calls;
   const asks = [];
   for (let call = 0; call < Math.min(calls.parent.length, MOST_CARDS); call += 1) asks.push({ kind: 'show', call });
-  await dialog.fetch(asks);
-  if (dialog.tree !== calls) return;
+  const isThere = await dialog.fetch(asks);
+  loading = null;
+  if (!isThere || dialog.tree !== calls) return;
   for (const [call, card] of dialog.cards) if (call > 0) tree.briefs.set(call, briefOf(card));
   tree.paint();
   find();
@@ -219,6 +224,7 @@ function find() {
   byId('foundCount').replaceChildren(plural(found.length, 'call'),
     ...(isPartial ? [' ', button('.link', { onclick: loadBriefs }, 'search values and output too')] : []));
   if (line > 0) loadTraces(found, query);
+  else if (isPartial && dialog.tree.parent.length <= ALL_CARDS) loadBriefs();
 }
 
 // Which calls ran a line is in their traces; of a small run these are asked for.
@@ -264,36 +270,15 @@ function render() {
   document.body.dataset.turns = String(dialog.session === null ? 0 : dialog.session.lines.length);
 }
 
-function notice(kind, ...kids) {
-  return make(`div.notice${kind}`, { role: kind === '.bad' ? 'alert' : 'status' }, kids);
-}
-
-function refusedNotice() {
-  const { status, text } = dialog.problem;
-  const refusal = refusalOf(PASASK.sentences, dialog.session.source, text, program.name);
-  if (refusal === null) return notice('.bad', make('p', make('strong', statusSaid(status, text))), make('pre', text.trimEnd()));
-  const line = dialog.session.source.text.split('\n')[refusal.line - 1] ?? '';
-  const start = Math.max(0, refusal.column - 60);
-  return notice('.bad', make('p', make('strong', withCode(refusal.said))),
-    make('p', button('.link', { onclick: () => { showPane('source'); source.focus(refusal.line); } }, `Line ${refusal.line}`), ':'),
-    make('pre', `${line.slice(start)}\n${line.slice(start, refusal.column).replace(/[^\t]/g, ' ')}^`));
-}
-
 function renderNotices(isStale) {
-  const { problem, note, session } = dialog;
-  const notices = [];
-  if (offer !== null) notices.push(offerView(offer, { goOn: () => { const it = offer; offer = null; goOnWith(it); }, close: () => { offer = null; render(); } }));
-  if (dialog.isBusy) notices.push(make('p.working', { role: 'status' }, 'Running\u2026'));
-  else if (problem !== null && problem.kind === 'stopped') notices.push(notice('', make('p', session.lines.length > 0 ? 'Stopped. Your answers are all here.' : 'Stopped.')));
-  else if (problem !== null && problem.kind === 'trap') notices.push(notice('.bad', make('p', make('strong', 'This was too much for the browser.'), ' Your answers are all here; a smaller number of steps may help.'), make('pre', problem.text)));
-  else if (problem !== null && !isStale) notices.push(refusedNotice());
-  if (note !== '') notices.push(notice('', make('p', replySaid(note))));
-  if (isStale && dialog.shown !== null) {
-    notices.push(notice('', make('p', 'You changed the program, its input or the steps. Run it again, and questions begin anew.'),
-      session.lines.length === 0 ? null : make('p', button('', { onclick: putBack }, 'Put back what the answers are about'))));
-  }
-  if (!dialog.isKept) notices.push(notice('', make('p', 'This browser cannot keep your answers: save the session before you close the page.')));
-  byId('notices').replaceChildren(...notices);
+  const notices = offer === null ? [] : [offerView(offer, { goOn: () => { const it = offer; offer = null; goOnWith(it); }, close: () => { offer = null; render(); } })];
+  byId('notices').replaceChildren(...notices, ...noticesOf(dialog, isStale, refusalShown(), { putBack, showLine: (line) => { showPane('source'); source.focus(line); } }));
+}
+
+// Where and why the program of this session is refused, or null.
+function refusalShown() {
+  const { problem, session } = dialog;
+  return problem !== null && problem.kind === 'refused' ? refusalOf(PASASK.sentences, session.source, problem.text, session.name) : null;
 }
 
 function putBack() {
@@ -388,12 +373,10 @@ function renderSource(isStale) {
   const legend = byId('legend');
   legend.textContent = '';
   if (isStale) return source.mark({});
-  if (dialog.problem !== null && dialog.problem.kind === 'refused') {
-    const refusal = refusalOf(PASASK.sentences, dialog.session.source, dialog.problem.text, program.name);
-    if (refusal !== null) {
-      source.mark({ refusal });
-      return source.show(refusal.line);
-    }
+  const refusal = refusalShown();
+  if (refusal !== null) {
+    source.mark({ refusal });
+    return source.show(refusal.line);
   }
   if (dialog.shown === null) return source.mark({});
   const call = chosen >= 0 ? chosen : dialog.report?.call ?? -1;
@@ -483,7 +466,7 @@ async function begin() {
   setProgram('untitled.pas', fileOfText(''), fileOfText(''));
   const { trap } = await engine.ready;
   document.body.dataset.ready = trap === undefined ? 'yes' : 'no';
-  if (trap !== undefined) byId('notices').replaceChildren(notice('.bad', make('p', 'This browser cannot run the page: ', trap)));
+  if (trap !== undefined) byId('notices').replaceChildren(notice('.bad', 'This browser cannot run the page: ', trap));
   // A link may open an example and answer: index.html#example=change&answers=wrong,right,wrong
   const words = new URLSearchParams(location.hash.slice(1));
   const at = EXAMPLES.findIndex((example) => example.name === words.get('example'));

@@ -1,0 +1,48 @@
+// What the page has to tell beside the question: refusals, failures, and that the program was changed.
+import { button, make, withCode } from './dom.js';
+import { replySaid, statusSaid } from './words.js';
+
+const CONTEXT_CHARACTERS = 60;
+
+// `kind` is `.bad` or nothing.
+export function notice(kind, ...said) {
+  return make(`div.notice${kind}`, { role: kind === '.bad' ? 'alert' : 'status' }, make('p', said));
+}
+
+// The sentence, the line, and a caret under the place.
+function refusedNotice(refusal, source, { showLine }) {
+  const line = source.text.split('\n')[refusal.line - 1] ?? '';
+  const start = Math.max(0, refusal.column - CONTEXT_CHARACTERS);
+  const view = notice('.bad', make('strong', withCode(refusal.said)));
+  view.append(make('p', button('.link', { onclick: () => showLine(refusal.line) }, `Line ${refusal.line}`), ':'),
+    make('pre', `${line.slice(start)}\n${line.slice(start, refusal.column).replace(/[^\t]/g, ' ')}^`));
+  return view;
+}
+
+function problemNotice({ problem, session }, refusal, acts) {
+  if (problem.kind === 'stopped') return notice('', session.lines.length > 0 ? 'Stopped. Your answers are all here.' : 'Stopped.');
+  if (refusal !== null) return refusedNotice(refusal, session.source, acts);
+  const isTrap = problem.kind === 'trap';
+  const view = isTrap ? notice('.bad', make('strong', 'This was too much for the browser.'), ' Your answers are all here; a smaller number of steps may help.')
+    : notice('.bad', make('strong', statusSaid(problem.status, problem.text)));
+  view.append(make('pre', problem.text.trimEnd()));
+  return view;
+}
+
+function staleNotice(session, { putBack }) {
+  const view = notice('', 'You changed the program, its input or the steps. Run it again, and questions begin anew.');
+  if (session.lines.length > 0) view.append(make('p', button('', { onclick: putBack }, 'Put back what the answers are about')));
+  return view;
+}
+
+// `isStale`: the editor holds another text than the session.
+export function noticesOf(dialog, isStale, refusal, acts) {
+  const { problem, note, session, isBusy } = dialog;
+  const notices = [];
+  if (isBusy) notices.push(make('p.working', { role: 'status' }, 'Running\u2026'));
+  else if (problem !== null && !(isStale && problem.kind === 'refused')) notices.push(problemNotice(dialog, refusal, acts));
+  if (note !== '') notices.push(notice('', replySaid(note)));
+  if (isStale && dialog.shown !== null) notices.push(staleNotice(session, acts));
+  if (!dialog.isKept) notices.push(notice('', 'This browser cannot keep your answers: save the session before you close the page.'));
+  return notices;
+}
