@@ -1,6 +1,8 @@
 #!/bin/sh
 # compile.sh MODULE.bc OUT.wasm: compiles a module of LLVM's code that was made for x86-64 for WebAssembly, where it exports
 # pasask_turn. Pointers have 64 bits in both, so each layout of the data stays as it was.
+# What target.sh sets is not seen by shellcheck.
+# shellcheck disable=SC1091,SC2154
 set -eu
 here=$(cd "$(dirname "$0")" && pwd)
 . "$here/target.sh"

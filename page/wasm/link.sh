@@ -1,6 +1,8 @@
 #!/bin/sh
 # link.sh OUT.wasm OPTION FILE..: links objects and files of C to a module with addresses of 32 bits. OPTION says what it
 # exports, as --export=NAME.
+# What target.sh sets is not seen by shellcheck.
+# shellcheck disable=SC1091,SC2154
 set -eu
 here=$(cd "$(dirname "$0")" && pwd)
 . "$here/target.sh"
