@@ -29,12 +29,14 @@ function changeView(row, isChange) {
   const isText = row.shape === 'text';
   if (!isChange || row.before === row.after) return make('td', valueView(row.after ?? row.before, isText));
   if (row.before === null) return make('td', make('span.quiet', row.after === GONE ? '' : 'set to '), make('strong', valueView(row.after, isText)));
-  return make('td', make('span.old', valueView(row.before, isText)), make('span.to', { 'aria-label': 'became' }, ' \u2192 '), make('strong', valueView(row.after, isText)));
+  return make('td', make('span.old', valueView(row.before, isText)), make('span.to', ' \u2192 '),
+    make('strong', valueView(row.after, isText)));
 }
 
 function listView(row, isChange) {
   const isTwo = isChange && row.cells.some((it) => it.before !== null && differs(it));
-  const cell = (which) => (it) => make(`td${isChange && which === 'after' && differs(it) ? '.changed' : ''}`, valueView(it[which] ?? (which === 'after' ? it.before : null)));
+  const kind = (it, which) => (isChange && which === 'after' && differs(it) ? '.changed' : '');
+  const cell = (which) => (it) => make(`td${kind(it, which)}`, valueView(it[which] ?? (which === 'after' ? it.before : null)));
   const line = (head, which) => make('tr', make('th', { scope: 'row' }, head), row.cells.map(cell(which)));
   return make('td', make('div.scroll', make('table.list',
     make('thead', make('tr', make('td'), row.heads.map((head) => make('th', { scope: 'col' }, head)))),

@@ -6,11 +6,13 @@ import { SAID_OF } from './words.js';
 function entryView(entry, tree, context) {
   const isTrust = entry.kind === 'trust';
   const name = isTrust ? (tree.names[entry.routine] ?? `#${entry.routine}`) : nameOf(tree, entry.call);
-  const about = isTrust ? make('code', name) : button('.link', { onclick: () => context.choose(entry.call), title: 'Look at this call' }, make('code', name), ` call ${entry.call}`);
+  const look = { onclick: () => context.choose(entry.call), title: 'Look at this call' };
+  const about = isTrust ? make('code', name) : button('.link', look, make('code', name), ` call ${entry.call}`);
   const what = isTrust ? name : `${name}, call ${entry.call}`;
-  return make(`li${entry.standing ? '' : '.gone'}`, { value: entry.number }, make(`span.sign.${isTrust ? 'trusted' : entry.kind}`, { 'aria-hidden': 'true' }), about, ` ${SAID_OF[entry.kind]}`,
-    entry.standing ? button('.small', { onclick: () => context.say(`back ${entry.number}`), 'aria-label': `Take back: ${what} ${SAID_OF[entry.kind]}` }, 'take back')
-      : make('span.quiet', ' taken back'));
+  const takeBack = { onclick: () => context.say(`back ${entry.number}`), 'aria-label': `Take back: ${what} ${SAID_OF[entry.kind]}` };
+  return make(`li${entry.standing ? '' : '.gone'}`, { value: entry.number },
+    make(`span.sign.${isTrust ? 'trusted' : entry.kind}`, { 'aria-hidden': 'true' }), about, ` ${SAID_OF[entry.kind]}`,
+    entry.standing ? button('.small', takeBack, 'take back') : make('span.quiet', ' taken back'));
 }
 
 export function historyView(entries, tree, context) {

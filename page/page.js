@@ -271,8 +271,11 @@ function render() {
 }
 
 function renderNotices(isStale) {
-  const notices = offer === null ? [] : [offerView(offer, { goOn: () => { const it = offer; offer = null; goOnWith(it); }, close: () => { offer = null; render(); } })];
-  byId('notices').replaceChildren(...notices, ...noticesOf(dialog, isStale, refusalShown(), { putBack, showLine: (line) => { showPane('source'); source.focus(line); } }));
+  const kept = offer;
+  const close = () => { offer = null; render(); };
+  const showLine = (line) => { showPane('source'); source.focus(line); };
+  byId('notices').replaceChildren(...(kept === null ? [] : [offerView(kept, { goOn: () => goOnWith(kept), close })]),
+    ...noticesOf(dialog, isStale, refusalShown(), { putBack, showLine }));
 }
 
 // Where and why the program of this session is refused, or null.
@@ -293,7 +296,8 @@ function renderMiddle(isStale) {
   const isReady = dialog.shown !== null && dialog.report !== null;
   byId('middle').classList.toggle('stale', isStale && isReady);
   for (const id of ['progress', 'answered']) byId(id).hidden = !isReady;
-  byId('story').replaceChildren(...(program.example !== null && dialog.session !== null ? [storyView(program.example, dialog.session.lines.length === 0)] : []));
+  const isExample = program.example !== null && dialog.session !== null && dialog.session.source.text === program.example.source;
+  byId('story').replaceChildren(...(isExample ? [storyView(program.example, dialog.session.lines.length === 0)] : []));
   if (isReady) renderQuestion(); else renderBeginning();
 }
 

@@ -26,7 +26,8 @@ export function progressOf(dialog) {
   const isOurs = suspects !== null && suspects.length <= 2000 && suspects[questionOf(dialog.tree, suspects).at] === report.call;
   const most = isOurs ? mostQuestions(dialog.tree, suspects) : null;
   const least = Math.ceil(Math.log2(report.suspects + 1));
-  const questions = most === null ? `${plural(least, 'question')} or more` : most === 1 ? 'this is the last question' : `at most ${plural(most, 'question')}, this one included`;
+  const forecast = most === 1 ? 'this is the last question' : `at most ${plural(most ?? 0, 'question')}, this one included`;
+  const questions = most === null ? `${plural(least, 'question')} or more` : forecast;
   return { text: `${plural(report.suspects, 'call')} may be to blame \u00b7 ${questions}`, share: 1 - Math.log(report.suspects + 1) / Math.log(first + 2) };
 }
 
