@@ -29,7 +29,10 @@ export class Workshop {
   }
 
   async turn(turn) {
+    const { worker } = this;
     const { trap } = await this.ready;
+    // A job of a worker that was ended meanwhile gets no answer, and the worker in its place does not get the job.
+    if (this.worker !== worker) return new Promise(() => {});
     return trap === undefined ? this.post({ turn }) : { trap };
   }
 
