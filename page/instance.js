@@ -2,9 +2,12 @@
 // left over from the turn before, and an instance that ran out of memory harms no other.
 import { bytesOfBase64, utf8Bytes } from './bytes.js';
 
-// Room for the screen and for a saved session. Room that is not written takes no memory.
-const FIRST_ROOM = 1 << 25;
+// Room for the screen: at first what the tree of 500,000 calls takes. A saved session has at most SESSION_ROOM bytes, and gets
+// room only where a line saves one.
+const FIRST_ROOM = 1 << 24;
 const MOST_ROOM = 1 << 28;
+const SESSION_ROOM = 1 << 24;
+const SAVES = /^[ \t]*save[ \t]/m;
 const SCREEN_FAILED = 6;
 // What came: the status, the bytes of the screen, whether a session was saved, and its bytes.
 const CAME_WORDS = 4;
@@ -32,8 +35,9 @@ async function once(module, { source, input, budget, session, text }, room) {
   const loaded = [session === null ? 0 : 1, ...put(session ?? new Uint8Array())];
   const noFiles = [roomFor(16), 0n, ...put(new Uint8Array())];
   const lines = put(utf8Bytes(text));
-  const [screen, saved, came] = [roomFor(room), roomFor(room), roomFor(8 * CAME_WORDS)];
-  exports.pasask_turn(...given, ...loaded, ...noFiles, ...lines, screen, BigInt(room), saved, BigInt(room), came);
+  const savedRoom = SAVES.test(text) ? SESSION_ROOM : 0;
+  const [screen, saved, came] = [roomFor(room), roomFor(savedRoom + 1), roomFor(8 * CAME_WORDS)];
+  exports.pasask_turn(...given, ...loaded, ...noFiles, ...lines, screen, BigInt(room), saved, BigInt(savedRoom), came);
   // Views are made after the call: those from before are dead once the memory grew.
   const [status, shown, isSaved, stored] = Array.from(new BigUint64Array(exports.memory.buffer, Number(came), CAME_WORDS), Number);
   const bytesAt = (at, size) => new Uint8Array(exports.memory.buffer, Number(at), size).slice();
@@ -44,7 +48,7 @@ async function once(module, { source, input, budget, session, text }, room) {
 
 // A screen that was too small holds a first part; the same turn with more room prints the same and the rest.
 export async function runTurn(module, asked) {
-  for (let room = FIRST_ROOM; ; room *= 8) {
+  for (let room = FIRST_ROOM; ; room *= 16) {
     const came = await once(module, asked, room);
     if (came.status !== SCREEN_FAILED || room >= MOST_ROOM) return came;
   }
