@@ -1,4 +1,7 @@
 //! What cells held before and after calls, of a run that was made by hand.
+ghost use Rattle.std.specs.Prelude.{◌≡◌};
+ghost use Rattle.cell_names.specs.Finding.{finding_of, finding_in};
+
 use crate::tables::table;
 use call_tree::{Calls, Side};
 use cell_names::NameFinder;
@@ -103,14 +106,20 @@ const ROWS: [Row; 12] = [
 ];
 
 /// Whether the lines on the cells of a name are these.
-fn row_holds(alloc: Global, from: &Recorded<'_>, row: &Row) -> Result<bool, AllocError> {
+fn row_holds(alloc: Global, from: &Recorded<'_>, row: &Row) -> Result<bool, AllocError>
+    requires names { finding_in from.now.names.now
+        ≡ finding_of from.now.program.now from.now.tokens from.now.log.now }
+{
     let mut text = Bytes::new(alloc);
     let some = write_state(alloc, &mut text, from, row.0, row.1.as_bytes())?;
     Ok(text.as_slice() == row.2.as_bytes() && some != row.2.is_empty())
 }
 
 /// How many rows hold before the first that does not.
-fn rows_that_hold(alloc: Global, from: &Recorded<'_>) -> Result<usize, AllocError> {
+fn rows_that_hold(alloc: Global, from: &Recorded<'_>) -> Result<usize, AllocError>
+    requires names { finding_in from.now.names.now
+        ≡ finding_of from.now.program.now from.now.tokens from.now.log.now }
+{
     'rows: for (number, row) in ROWS.iter().enumerate() {
         if !row_holds(alloc, from, row)? {
             return Ok(number);
