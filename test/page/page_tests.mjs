@@ -175,6 +175,7 @@ export const TESTS = {
     t.holds('records are rows', (await t.page.value('document.querySelectorAll("#question table.list tbody tr").length')) >= 3);
     t.holds('strings of chars are text', /Blaise/.test((await t.page.text('#question'))[0]));
     await t.page.click('#question details.raw summary');
+    await t.page.until('document.querySelector("#question details.raw pre") !== null', 5);
     t.holds('the raw card is one click away', /^call \d+ \w+/.test((await t.page.text('#question details.raw pre'))[0]));
     await t.picture('8-folded');
     await accessible(t, 'a folded card');
