@@ -1,5 +1,5 @@
 //! A sink over the caller's own room.
-ghost use Rattle.std.specs.Prelude.{◌≤◌, length};
+ghost use Rattle.std.specs.Prelude.{◌≡◌, ◌≤◌, true, length};
 
 use crate::counts::count_on;
 use crate::{Failed, Sink};
@@ -12,10 +12,11 @@ pub struct Room<'a> {
     faults: u64,
     failed: bool,
     ghost within: { len ≤ length room.now },
+    ghost full: { failed ≡ true → len ≡ length room.now },
 }
 
 impl<'a> Room<'a> {
-    ghost use Rattle.std.specs.Prelude.{◌≡◌, ◌≤◌, [], false, Some, length, take};
+    ghost use Rattle.std.specs.Prelude.{◌≡◌, ◌≤◌, [], false, true, Some, length, take};
     ghost use Rattle.edge_ports.specs.Rooms.{room_of, given_of};
 
     /// All of the slice is free, and nothing has failed yet.
@@ -34,9 +35,11 @@ impl<'a> Room<'a> {
         }
     }
 
-    /// How many bytes were given so far. They stand at the front of the slice.
+    /// How many bytes were given so far. They stand at the front of the slice. Where the last call failed they are all
+    /// that the slice has room for.
     pub fn len(&self) -> usize
         ensures within { result ≤ length (room_of self.now) }
+        ensures full { ⟦<Room<'a> as Sink>⟧.last_failed self.now ≡ true → result ≡ length (room_of self.now) }
         ensures given { given_of self.now ≡ take result (room_of self.now) }
     {
         self.len
