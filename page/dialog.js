@@ -29,7 +29,8 @@ export class Dialog {
     this.cost = { time: 0, memory: 0 };
     this.cards = new Map();
     this.traces = new Map();
-    this.asked = new Map();
+    this.states = new Map();
+    this.looks = new Map();
   }
 
   get report() {
@@ -134,16 +135,25 @@ export class Dialog {
     return true;
   }
 
-  // What cells of this name held before and after a call; the reply where there are none.
+  // What cells of this name held before and after a call, or the reply where there are none. It hangs on the run alone, too.
   async lookAt(call, name) {
+    const key = `${call} ${name}`;
+    if (this.states.has(key)) return this.states.get(key);
     const { session } = this;
     const came = await this.engine.turn(this.turnOf([], [{ kind: 'state', call, name }]));
     if (this.session !== session || came.answers === undefined) return null;
     const [answer] = came.answers;
-    if (answer.kind !== 'state') return { cells: [], reply: answer.text ?? '' };
-    const cells = answer.text.split('\n').map(stateOf).filter((cell) => cell !== null);
-    this.asked.set(call, [...(this.asked.get(call) ?? []), ...cells]);
-    return { cells, reply: '' };
+    const isTold = answer.kind === 'state';
+    const cells = isTold ? answer.text.split('\n').map(stateOf).filter((cell) => cell !== null) : [];
+    const seen = { name, cells, reply: isTold ? '' : answer.text ?? '' };
+    this.states.set(key, seen);
+    return seen;
+  }
+
+  // What is shown of looks at a call's variables, by the place where each was asked for.
+  looksAt(call) {
+    if (!this.looks.has(call)) this.looks.set(call, new Map());
+    return this.looks.get(call);
   }
 
   // The session as the command saves it.

@@ -1,18 +1,19 @@
 // Folds the cells of a card for the eye: cells of one variable stand together, as a value, a text, a list, a record or a
 // table. Each cell has what it held `before` and `after`; what a card does not tell is null.
-import { charOf, indexOf, isHeap, isIndex } from './names.js';
+import { charOf, indexOf, isHeap, isIndex, pointerOf } from './names.js';
 
 const NOT_TOLD = null;
 export const NO_VALUE = '?';
-export const GONE = 'gone';
-export const THERE = 'there';
-export const ABSENT = 'absent';
+// These are no values of a program, which may have constants called `gone` and `there`.
+export const GONE = '\0gone';
+export const THERE = '\0there';
+export const ABSENT = '\0absent';
 
 // The cells of a card in order: what was met, then what was only left; `isSet` where the call wrote there.
 export function cellsOf(card, asked = []) {
   const cells = new Map();
   const cellAt = ({ name, root, selectors }) => {
-    if (!cells.has(name)) cells.set(name, { name, root, selectors, before: NOT_TOLD, after: NOT_TOLD, isSet: false });
+    if (!cells.has(name)) cells.set(name, { name, root, selectors, before: NOT_TOLD, after: NOT_TOLD, isSet: false, isLookedAt: false });
     return cells.get(name);
   };
   for (const met of card.met) {
@@ -28,6 +29,7 @@ export function cellsOf(card, asked = []) {
   // What was asked for besides: only where the card does not tell it.
   for (const state of asked) {
     const cell = cellAt(state);
+    cell.isLookedAt ||= cell.after === NOT_TOLD;
     if (cell.before === NOT_TOLD) cell.before = state.before ?? ABSENT;
     if (cell.after === NOT_TOLD) cell.after = state.after ?? GONE;
   }
@@ -35,6 +37,12 @@ export function cellsOf(card, asked = []) {
 }
 
 export const differs = (cell) => cell.isSet && cell.before !== cell.after;
+
+// The cells that a look at a variable tells of, each with what it held before the call and after it.
+export const cellsSeen = (states) => states.map((state) => {
+  const [before, after] = [state.before ?? ABSENT, state.after ?? GONE];
+  return { ...state, before, after, isSet: before !== after };
+});
 
 // The cells as trees of variables: a node has a selector, and kids or a cell.
 export function variablesOf(cells) {
@@ -90,21 +98,26 @@ function textOf(kids, which) {
   return values.map((value) => (value === NOT_TOLD || value === NO_VALUE ? '\u00b7' : charOf(value))).join('');
 }
 
+// What a row is a part of, by the name that the command has for it: of one component or field the variable around it.
+function nameAround({ root, selectors }) {
+  return root + selectors.slice(0, -1).join('');
+}
+
 function textRows(label, node) {
   return runsOf(node.kids).map((kids) => {
     const [first, last] = [indexOf(kids[0].selector), indexOf(kids[kids.length - 1].selector)];
     const range = runsOf(node.kids).length === 1 ? '' : kids.length === 1 ? `[${first}]` : `[${first}..${last}]`;
     const cells = kids.map((kid) => kid.cell);
-    return { shape: 'text', label: label + range, before: textOf(kids, 'before'), after: textOf(kids, 'after'), cells };
+    return { shape: 'text', label: label + range, name: label, before: textOf(kids, 'before'), after: textOf(kids, 'after'), cells };
   });
 }
 
 // The rows of one variable. `label` is how it is called so far.
 function rowsOf(label, node) {
-  if (isLeaf(node)) return [{ shape: 'value', label, before: node.cell.before, after: node.cell.after, cells: [node.cell] }];
+  if (isLeaf(node)) return [{ shape: 'value', label, name: nameAround(node.cell), before: node.cell.before, after: node.cell.after, cells: [node.cell] }];
   if (isText(node)) return textRows(label, node);
   if (hasIndices(node) && node.kids.length > 1 && node.kids.every(isLeaf)) {
-    return [{ shape: 'list', label, heads: node.kids.map((kid) => indexOf(kid.selector)), cells: leavesOf(node) }];
+    return [{ shape: 'list', label, name: label, heads: node.kids.map((kid) => indexOf(kid.selector)), cells: leavesOf(node) }];
   }
   if (hasIndices(node) && node.kids.length > 1 && node.kids.every((kid) => hasFields(kid) && kid.kids.every((it) => isLeaf(it) || isText(it)))) {
     return [tableOf(label, node)];
@@ -124,7 +137,7 @@ function tableOf(label, node) {
       return { before: textOf(part.kids, 'before'), after: textOf(part.kids, 'after'), isText: true, cells: leavesOf(part) };
     }),
   }));
-  return { shape: 'table', label, heads: heads.map((head) => head.slice(1)), lines, cells: leavesOf(node) };
+  return { shape: 'table', label, name: label, heads: heads.map((head) => head.slice(1)), lines, cells: leavesOf(node) };
 }
 
 const MOST_SHOWN = 40;
@@ -144,19 +157,31 @@ function shortened(row) {
   return row;
 }
 
-const rowsOfCells = (cells) => variablesOf(cells).flatMap((node) => rowsOf(node.selector, node)).map(shortened);
+export const rowsOfCells = (cells) => variablesOf(cells).flatMap((node) => rowsOf(node.selector, node)).map(shortened);
+
+// A parameter is no variable before the call or after it. What it stands for may be one, or what it points at.
+function nameGiven(value) {
+  if (value.startsWith('at ')) return value.slice(3);
+  const pointer = pointerOf(value);
+  return pointer === null ? null : `^${pointer}`;
+}
+
+function rowsGiven(cells) {
+  const rows = rowsOfCells(cells.map((cell) => ({ ...cell, before: cell.value, after: cell.value, isSet: false })));
+  return rows.map((row) => ({ ...row, name: row.shape === 'value' ? nameGiven(row.after) : null }));
+}
 
 // A card as sections of rows: what the routine was given; what it changed, with what was there before; what it read and
-// left alone; what it wrote again with the value of before. `heap` are the cells of variables that `new` made.
-export function foldCard(card, asked = []) {
-  const given = card.given.map((cell) => ({ ...cell, before: cell.value, after: cell.value, isSet: false }));
-  const cells = cellsOf(card, asked);
+// left alone; what it wrote again with the value of before. `heap` are the cells of variables that `new` made. A row has the
+// `name` of the variable that can be looked at beside it, or null.
+export function foldCard(card) {
+  const cells = cellsOf(card);
   const plain = cells.filter((cell) => !isHeap(cell.root));
   const changedRoots = new Set(plain.filter(differs).map((cell) => cell.root));
   const writtenRoots = new Set(plain.filter((cell) => cell.isSet).map((cell) => cell.root));
   const heap = cells.filter((cell) => isHeap(cell.root));
   return {
-    given: rowsOfCells(given),
+    given: rowsGiven(card.given),
     changed: rowsOfCells(plain.filter((cell) => changedRoots.has(cell.root))),
     rewritten: rowsOfCells(plain.filter((cell) => !changedRoots.has(cell.root) && writtenRoots.has(cell.root))),
     read: rowsOfCells(plain.filter((cell) => !writtenRoots.has(cell.root))),

@@ -66,7 +66,7 @@ function rowsIn(cells, which, records) {
     const value = valueIn(cell, which);
     return {
       name: cell.selectors.join('').replace(/^\./, ''), value, target: pointerOf(value), cell,
-      isChanged: which === 'after' && cell.isSet && cell.before !== cell.after,
+      isChanged: which === 'after' && cell.isSet && cell.before !== cell.after, isLookedAt: cell.isLookedAt,
     };
   });
   rows.push(...missing.map((name) => ({ name, value: null, target: null, cell: null, isChanged: false })));

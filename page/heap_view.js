@@ -31,25 +31,39 @@ function framesOf(side) {
   return frames;
 }
 
+const isAskable = (box) => !box.isGone && (box.fields.length === 0 || box.fields.some((field) => field.value === null));
+
+function fieldView(field, width, y, box) {
+  const isUnseen = field.value === null;
+  const kind = `${field.isChanged ? '.changed' : ''}${isUnseen ? '.unseen' : ''}${field.isLookedAt ? '.lookedAt' : ''}`;
+  const said = isUnseen ? 'This call did not look at it, so its card does not tell it.' : field.isLookedAt ? `${field.value}, which this call did not look at` : field.value;
+  return [
+    makeSvg('text.name', { x: PAD, y }, shortText(field.name)),
+    makeSvg(`text.value${kind}`, { x: width - PAD, y, 'text-anchor': 'end' }, isUnseen ? (box.isGone ? '' : NOT_SEEN) : shortText(field.value), makeSvg('title', said)),
+  ];
+}
+
 function boxView(box, frame, look) {
   const state = box.isGone ? 'gone' : box.isNew ? 'new' : box.fields.length === 0 ? 'unseen' : 'plain';
   const group = makeSvg(`g.box.${state}`, { transform: `translate(${frame.x} ${frame.y})` },
     makeSvg('rect', { width: frame.width, height: frame.height, rx: 6 }),
     makeSvg('text.number', { x: PAD, y: 15 }, `^${box.number}${box.isNew ? '  new' : box.isGone ? '  gone' : ''}`));
-  const rows = box.fields.length === 0 ? [{ name: '', value: null, isChanged: false }] : box.fields;
-  rows.forEach((field, at) => {
-    const y = HEAD + at * LINE + 14;
-    const isUnseen = field.value === null;
-    group.append(
-      makeSvg('text.name', { x: PAD, y }, shortText(field.name)),
-      makeSvg(`text.value${field.isChanged ? '.changed' : ''}${isUnseen ? '.unseen' : ''}`, { x: frame.width - PAD, y, 'text-anchor': 'end' },
-        isUnseen ? (box.isGone ? '' : NOT_SEEN) : shortText(field.value), makeSvg('title', field.value ?? 'This call did not look at it, so its card does not tell it.')));
-  });
-  if (look !== null && rows.some((field) => field.value === null) && !box.isGone) {
-    group.classList.add('askable');
-    group.addEventListener('click', () => look(`^${box.number}`));
-  }
+  const rows = box.fields.length === 0 ? [{ name: '', value: null }] : box.fields;
+  group.append(...rows.flatMap((field, at) => fieldView(field, frame.width, HEAD + at * LINE + 14, box)));
+  if (look !== null && isAskable(box)) makeAskable(group, `^${box.number}`, look);
   return group;
+}
+
+// A box that can be pressed, by mouse and by keys.
+function makeAskable(group, name, look) {
+  group.classList.add('askable');
+  for (const [key, value] of Object.entries({ role: 'button', tabindex: 0, 'aria-label': `Look at ${name}`, 'data-look': name })) group.setAttribute(key, value);
+  group.addEventListener('click', () => look(name));
+  group.addEventListener('keydown', (event) => {
+    if (event.key !== 'Enter' && event.key !== ' ') return;
+    event.preventDefault();
+    look(name);
+  });
 }
 
 // An arrow from a point to a box: straight on where the box lies ahead, and around where it lies behind or is the same.
@@ -115,10 +129,11 @@ function sideView(title, side, look) {
   const right = Math.max(60, ...[...frames.values()].map((frame) => frame.x + frame.width)) + 40;
   const bottom = Math.max(20, ...[...frames.values()].map((frame) => frame.y + frame.height)) + 8;
   drawing.setAttribute('transform', `translate(4 ${origin.top})`);
+  const hasButtons = look !== null && [...frames.keys()].some((number) => isAskable(side.boxes.get(number)));
   const nils = side.roots.filter((root) => root.target === null).map((root) => `${root.label} = nil`);
   return make('figure.heap', make('figcaption', make('b', title), nils.length > 0 ? ` ${nils.join(', ')}` : ''),
     frames.size === 0 ? make('p.quiet', 'nothing that the card tells of') : make('div.scroll', { tabindex: 0, role: 'group', 'aria-label': `Drawing, ${title.toLowerCase()}` },
-      makeSvg('svg', { width: right, height: bottom + origin.top, role: 'img', 'aria-label': `${title}: ${heapSaid(side)}` }, tips(key), drawing)),
+      makeSvg('svg', { width: right, height: bottom + origin.top, role: hasButtons ? 'group' : 'img', 'aria-label': `${title}: ${heapSaid(side)}` }, tips(key), drawing)),
     side.leftOut > 0 ? make('p.quiet', `and ${side.leftOut} more, which are not drawn`) : null);
 }
 
@@ -126,8 +141,7 @@ function sideView(title, side, look) {
 export function heapView(heap, look = null) {
   const isSame = ![heap.after.roots, ...[...heap.after.boxes.values()].map((box) => (box.isNew || box.isGone ? [{ isChanged: true }] : box.fields))]
     .some((parts) => parts.some((part) => part.isChanged));
-  const isUnseen = (side) => [...side.boxes.values()].some((box) => !box.isGone && (box.fields.length === 0 || box.fields.some((field) => field.value === null)));
-  const legend = isUnseen(heap.before) || isUnseen(heap.after)
-    ? make('p.quiet.legend', `${NOT_SEEN}  this call did not look at it`, look === null ? '' : '; click a box to look') : null;
+  const isUnseen = [heap.before, heap.after].some((side) => [...side.boxes.values()].some(isAskable));
+  const legend = isUnseen ? make('p.quiet.legend', `${NOT_SEEN}  this call did not look at it`, look === null ? '' : '; press such a box to look') : null;
   return make('div.heaps', isSame ? sideView('Before and after', heap.after, look) : [sideView('Before', heap.before, look), sideView('After', heap.after, look)], legend);
 }

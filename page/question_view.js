@@ -44,7 +44,9 @@ export function hintView(dialog, context) {
     button('.link', { onclick: () => context.say(`trust #${routine}`) }, `trust ${name}`), '.');
 }
 
-// Who made a call, and on which line.
+// Who made a call, and on which line, once that is known.
+export const whereView = (card, dialog, context) => make('p.where', madeBy(card, dialog, context));
+
 function madeBy(card, dialog, context) {
   if (card.parent === null) return 'the program itself, from its first line to its last';
   const parent = dialog.tree === null ? '' : nameOf(dialog.tree, card.parent);
@@ -61,42 +63,15 @@ function commentView(routine) {
 
 export const routineOf = (dialog, outline, call) => (dialog.tree === null ? undefined : outline.routines[dialog.tree.routine[call]]);
 
-// Looking at a variable that the card does not tell of, where the command can say it.
-function lookView(card, dialog, context) {
-  if (!dialog.knowsState) return null;
-  const field = make('input', { type: 'text', size: 14, 'aria-label': 'Name of a variable', placeholder: 'name, such as a[1]', autocapitalize: 'off', spellcheck: 'false' });
-  const reply = make('span.quiet', { role: 'status' });
-  const ask = async (event) => {
-    event.preventDefault();
-    const came = await context.look(card.call, field.value.trim());
-    reply.textContent = came === null ? '' : came.reply;
-  };
-  return make('form.look', { onsubmit: ask }, make('label', 'Not on the card? Look at ', field), make('button.small', { type: 'submit' }, 'Look'), reply);
-}
-
-export function cardBody(card, dialog, context) {
-  return [...cardParts(card, {
-    ...context, asked: dialog.asked.get(card.call), look: dialog.knowsState ? (name) => context.look(card.call, name) : null,
-  }), askedView(dialog.asked.get(card.call)), lookView(card, dialog, context)];
-}
-
-function askedView(cells) {
-  if (cells === undefined || cells.length === 0) return null;
-  const said = (value, none) => value ?? none;
-  return make('section.part', make('h3', 'You looked at'), make('table.cells', make('tbody', cells.map((cell) => make('tr',
-    make('th', { scope: 'row' }, make('code', cell.name)),
-    make('td', cell.before === cell.after ? said(cell.before, 'not there') : `${said(cell.before, 'not there')} \u2192 ${said(cell.after, 'gone')}`))))));
-}
-
 export function questionView(dialog, outline, context) {
   const card = dialog.cards.get(dialog.questionCall);
   const routine = routineOf(dialog, outline, card.call);
   return make('article.card', { id: 'question', 'data-call': card.call, 'data-name': card.name },
     make('p.eyebrow', `Question ${dialog.shown.questions.length}`),
     make('h2', { tabindex: -1 }, 'Did ', make('code', card.name), ' do what it should?'),
-    make('p.where', madeBy(card, dialog, context)),
+    whereView(card, dialog, context),
     commentView(routine),
-    cardBody(card, dialog, context));
+    cardParts(card, context.cardContext(card.call)));
 }
 
 export const resultView = (dialog, context) => verdictView(dialog.report, dialog.cards.get(dialog.report.call), context);
@@ -109,9 +84,9 @@ export function detailView(call, dialog, outline, context) {
   const answer = (word, said) => button(`.small.${word}`, { onclick: () => context.say(`${word} ${call}`) }, said);
   return make('article.card', { 'data-call': call },
     make('header.row', make('h2', { tabindex: -1 }, make('code', card.name)), button('.small', { onclick: context.close, 'aria-label': 'Close this call' }, 'Close')),
-    make('p.where', madeBy(card, dialog, context)),
+    whereView(card, dialog, context),
     commentView(routineOf(dialog, outline, call)),
-    cardBody(card, dialog, context),
+    cardParts(card, context.cardContext(call)),
     make('section.part', make('h3', 'What its body did'), trace === undefined ? make('p.quiet', '\u2026') : traceView(trace, context)),
     make('section.part', make('h3', 'Judge this call'), make('div.answerRow', answer('right', 'Right'), answer('wrong', 'Wrong'), answer('unknown', 'Don\u2019t know'))));
 }

@@ -16,7 +16,7 @@ function foundView(report, card, context) {
     make('p', `Call ${report.call} is wrong, although each call that it made is right. So look at these lines of ${report.name}, one by one: `
       + 'which of them did the wrong thing, or which one is missing?'),
     traceView(report.trace, context), printed(report),
-    card === undefined ? null : make('section.part.judged', make('h3', `Call ${report.call}, as you judged it`), cardParts(card, context)));
+    card === undefined ? null : make('section.part.judged', make('h3', `Call ${report.call}, as you judged it`), cardParts(card, context.cardContext(report.call))));
 }
 
 const SAID = {

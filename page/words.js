@@ -40,6 +40,14 @@ export function endOf(end) {
   return { said: end === 'returned' ? 'It came to its end.' : end, isBad: false, line: 0 };
 }
 
+// What a cell held before a call and after it; null where it was not there.
+export function stateSaid({ before, after }) {
+  const [was, is] = [before, after].map((value) => (value === '?' ? 'no value' : value?.replace(/^at /, 'a place: ')));
+  if (before === null) return `was not there before the call, and held ${is} after it.`;
+  if (after === null) return `held ${was} before the call, and was gone after it.`;
+  return before === after ? `held ${was} before the call and after it.` : `held ${was} before the call and ${is} after it.`;
+}
+
 export const SAID_OF = { right: 'is right', wrong: 'is wrong', unknown: 'could not be judged', trust: 'is trusted' };
 
 const STATUSES = {
@@ -72,6 +80,7 @@ export function statusSaid(status, screen) {
 const REPLIES = [
   [/^no question/, 'No call is asked about any more.'],
   [/^no call/, 'There is no such call.'],
+  [/^no cell/, 'There is no variable of this name, neither before the call nor after it. Names are written as the card has them.'],
   [/^nothing stands/, 'There is no answer to take back.'],
   [/^entry (\d+) does not stand/, 'This answer was taken back before.'],
   [/^book is full/, 'This session has as many answers as it can hold.'],

@@ -2,9 +2,10 @@
 import assert from 'node:assert/strict';
 import { test } from 'node:test';
 import { bytesOfQuoted, cardOf, stateOf } from '../card.js';
-import { cellsOf, foldCard, variablesOf } from '../fold_card.js';
+import { cellsOf, cellsSeen, foldCard, rowsOfCells, variablesOf } from '../fold_card.js';
 import { heapOf } from '../heap.js';
 import { charOf, nameAt } from '../names.js';
+import { replySaid, stateSaid } from '../words.js';
 
 const names = (cells) => cells.map((cell) => cell.name);
 
@@ -106,6 +107,34 @@ test('a long array shows what differs, and says how much is left out', () => {
   const [row] = foldCard(card(...lines, 'changes a[7] = 0', 'changes a[400] = 1')).changed;
   assert.deepEqual(row.heads, ['7', '400']);
   assert.equal(row.leftOut, 498);
+});
+
+test('the variable that can be looked at beside each row', () => {
+  const folded = foldCard(card('n = 5', 'v = at sort#4.a[2]', 'p = ^3', 'w[1] = 7', 'w[2] = 8', 'reads x = 1', 'reads r.f = 2', 'reads a[1].g[2] = 3',
+    "reads t[1] = 'a'", "reads t[2] = 'b'", "reads t[4] = 'd'", 'reads ^4^ = 9', 'changes b[1] = 1', 'changes b[2] = 2'));
+  const asked = (rows) => rows.map((row) => [row.label, row.name]);
+  assert.deepEqual(asked(folded.given), [['n', null], ['v', 'sort#4.a[2]'], ['p', '^3'], ['w', null]]);
+  assert.deepEqual(asked(folded.read), [['x', 'x'], ['r.f', 'r'], ['a[1].g[2]', 'a[1].g'], ['t[1..2]', 't'], ['t[4]', 't']]);
+  assert.deepEqual(asked(folded.changed), [['b', 'b']]);
+  assert.deepEqual(asked(folded.heapRead), [['^4^', '^4^']]);
+});
+
+test('what a look tells, in words and as rows', () => {
+  const seen = (...lines) => lines.map((line) => stateOf(`  ${line}`));
+  const said = (line) => stateSaid(seen(line)[0]);
+  assert.equal(said('x = 1'), 'held 1 before the call and after it.');
+  assert.equal(said('x = ?, then 7'), 'held no value before the call and 7 after it.');
+  assert.equal(said('^3^ = 7, made here'), 'was not there before the call, and held 7 after it.');
+  assert.equal(said('^3^ = 7, then gone'), 'held 7 before the call, and was gone after it.');
+  assert.match(replySaid('no cell q at call 3'), /no variable of this name/);
+  const [row] = rowsOfCells(cellsSeen(seen('a[1] = 1', 'a[2] = 2, then 5', 'a[3] = 3')));
+  assert.deepEqual([row.shape, row.label, row.heads, row.cells.map((cell) => cell.isSet)], ['list', 'a', ['1', '2', '3'], [false, true, false]]);
+});
+
+test('a constant of a program may be called gone', () => {
+  const folded = foldCard(card('reads s = there', 'changes s = gone', 'changes ^1^ gone'));
+  assert.deepEqual(folded.changed.map((row) => [row.before, row.after]), [['there', 'gone']]);
+  assert.notEqual(folded.heapChanged[0].after, 'gone');
 });
 
 test('every cell is in some row', () => {

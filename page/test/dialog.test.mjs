@@ -103,12 +103,18 @@ test('cards and traces are asked for once', async () => {
 });
 
 test('looking at a variable, where the command knows the line', async () => {
-  const { dialog } = played({ knowsState: true });
+  const { dialog, turns } = played({ knowsState: true });
   await dialog.run(session());
   assert.equal(dialog.knowsState, true);
-  assert.deepEqual((await dialog.lookAt(2, 'coins')).cells.map(({ name, before, after }) => [name, before, after]), [['coins', '0', '50']]);
-  assert.equal((await dialog.lookAt(2, 'cent')).reply, 'no cell cent at call 2');
-  assert.equal(dialog.asked.get(2).length, 1);
+  const seen = await dialog.lookAt(2, 'coins');
+  assert.deepEqual([seen.name, seen.reply, seen.cells.map(({ name, before, after }) => [name, before, after])], ['coins', '', [['coins', '0', '50']]]);
+  const none = await dialog.lookAt(2, 'cent');
+  assert.deepEqual([none.cells, none.reply], [[], 'no cell cent at call 2']);
+  assert.equal(turns.length, 3);
+  assert.equal(await dialog.lookAt(2, 'coins'), seen);
+  assert.equal(turns.length, 3);
+  dialog.looksAt(2).set('form coins', seen);
+  assert.deepEqual([[...dialog.looksAt(2).keys()], dialog.looksAt(1).size], [['form coins'], 0]);
 });
 
 test('a new program sets the answers of the old one aside', async () => {

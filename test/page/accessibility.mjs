@@ -8,7 +8,7 @@
 // 5  The focus goes through the page from front to back: no tabindex above 0, nothing hidden can be focused.
 // 6  Headings begin with one h1 and leave no level out. The page has a main part, a language and a title.
 // 7  Roles stand where they may, and have what they need; each id that is pointed at is there, and once.
-// 8  Pictures have a text.
+// 8  Pictures have a text, also those with buttons in them, which are groups.
 // 9  Nothing is wider than the window.
 // 10 What one has to hit is at least 24 pixels wide and high, unless it stands in a text.
 export function accessibilityFaults() {
@@ -167,8 +167,9 @@ export function accessibilityFaults() {
   for (const id of new Set(ids.filter((it, i) => ids.indexOf(it) !== i))) faults.push(`7 ids: ${id} is there more than once`);
   for (const it of all('[aria-expanded]')) if (!['true', 'false'].includes(it.getAttribute('aria-expanded'))) fault('7 roles', it, 'aria-expanded is neither true nor false');
 
-  for (const it of all('img, svg[role=img]')) if (isSeen(it) && nameOf(it) === '') fault('8 pictures', it, 'it has no text');
-  for (const it of all('svg:not([role=img])')) if (isSeen(it) && it.closest('[aria-hidden=true], [role=img]') === null) fault('8 pictures', it, 'it is neither a picture with a text nor hidden');
+  for (const it of all('img, svg[role=img], svg[role=group]')) if (isSeen(it) && nameOf(it) === '') fault('8 pictures', it, 'it has no text');
+  for (const it of all('svg:not([role=img], [role=group])')) if (isSeen(it) && it.closest('[aria-hidden=true], [role=img]') === null) fault('8 pictures', it, 'it is neither a picture with a text nor hidden');
+  for (const it of all('[role=img]')) if (it.querySelector('button, a[href], [tabindex]') !== null) fault('8 pictures', it, 'a picture has a button in it, which no reader comes to');
 
   const wide = document.documentElement.scrollWidth - innerWidth;
   if (wide > 0) faults.push(`9 width: the page is ${wide} pixels wider than the window`);

@@ -21,6 +21,17 @@ begin writeln(n: 1, ' ', square(n): 1) end;
 begin for i := 1 to 4 do show(i) end.
 `;
 
+const BUMP = `program bumping(output);
+var a: array [1..4] of integer; i: integer;
+procedure bump;
+begin a[2] := a[2] + 1 end;
+begin
+  for i := 1 to 4 do a[i] := i;
+  bump;
+  writeln(a[2])
+end.
+`;
+
 const isCalm = '!document.body.classList.contains("busy")';
 const button = (word) => `[data-say=${word}]`;
 
@@ -48,6 +59,18 @@ async function ran(t, name, source, budget = '1000000', seconds = 60) {
 async function accessible(t, what) {
   t.equal(`accessibility, ${what}`, await t.page.value(`(${accessibilityFaults})()`), []);
 }
+
+// Tab is pressed until the focus is on what a selector names.
+async function tabTo(t, selector, most = 60) {
+  const isThere = () => t.page.value(`document.activeElement.matches(${JSON.stringify(selector)})`);
+  for (let i = 0; i < most; i++) {
+    await t.page.press('Tab');
+    if (await isThere()) return;
+  }
+  throw new Error(`Tab does not come to ${selector}`);
+}
+
+const seen = async (t, selector) => (await t.page.text(selector)).map((text) => text.replace(/\s+/g, ' '));
 
 export const TESTS = {
   async 'the first view'(t) {
@@ -197,6 +220,74 @@ export const TESTS = {
     await accessible(t, 'a drawn list');
     await opened(t, 'tree');
     await t.picture('9-tree');
+  },
+
+  async 'a variable is looked at'(t) {
+    await t.fresh();
+    await ran(t, 'bumping.pas', BUMP);
+    t.equal('the row of a component', await seen(t, '#question .cells th'), ['a[2]']);
+    await t.page.press('q');
+    await tabTo(t, '#question button[data-look="a"]');
+    t.equal('its button says what it does', await t.page.value('document.activeElement.getAttribute("aria-label")'), 'Look at a');
+    await t.page.press('Enter');
+    await t.page.until('document.querySelector("#question .looked:not([hidden]) table") !== null', 20);
+    t.equal('all of the array, before and after', await seen(t, '#question .looked table.list tr'), ['1 2 3 4', 'before 1 2 3 4', 'after 1 3 3 4']);
+    t.equal('and in words', await seen(t, '#question .looked p'), ['All of a, before the call \u2192 after it:']);
+    t.equal('the focus stays', await t.page.value('[document.activeElement.dataset.look, document.activeElement.getAttribute("aria-expanded")]'), ['a', 'true']);
+    await t.picture('9-look-array');
+    await accessible(t, 'a look at an array');
+    await t.page.press('Enter');
+    t.equal('pressed again, it is put away', await seen(t, '#question .looked'), []);
+    t.equal('a look is no answer', await t.page.value('document.body.dataset.turns'), '0');
+  },
+
+  async 'what a card hides'(t) {
+    await opened(t, 'deletion', ['right', 'trust']);
+    t.equal('the question', await t.page.value('[document.querySelector("#question").dataset.name, document.querySelector("#question").dataset.call]'), ['remove', '12']);
+    t.equal('beside a parameter what it stands for, beside a variable itself',
+      await t.page.value('[...document.querySelectorAll("#question button[data-look]")].map((it) => it.dataset.look)'), ['all', 'all']);
+    await t.page.press('q');
+    await tabTo(t, '#question button[data-look="all"]');
+    await t.page.press(' ');
+    await t.page.until('document.querySelector("#question .looked:not([hidden]) p") !== null', 20);
+    t.equal('a variable that stayed', await seen(t, '#question .looked'), ['all held ^1 before the call and after it.']);
+    await tabTo(t, 'g[data-look="^4"]');
+    await t.picture('9-look-box-focus');
+    await t.page.press('Enter');
+    await t.page.until('document.querySelector("[data-seen=\\"^4\\"]") !== null', 20);
+    t.equal('a box that the call saw in part', await seen(t, '[data-seen="^4"]'), ['All of ^4, before the call and after it: ^4^.key 30 ^4^.left ^10 ^4^.right ^13']);
+    t.holds('the keys go on from the drawing', await t.page.value('document.activeElement.querySelector("svg") !== null'));
+    await t.page.click('g[data-look="^13"]');
+    await t.page.until('document.querySelector("[data-seen=\\"^13\\"]") !== null', 20);
+    t.equal('and the one that it forgot', await seen(t, '[data-seen="^13"]'), ['All of ^13, before the call and after it: ^13^.key 40 ^13^.left nil ^13^.right nil']);
+    t.holds('it is drawn, and told from what the call saw', (await t.page.value('[...document.querySelectorAll("figure.heap .lookedAt")].map((it) => it.firstChild.data)')).includes('40'));
+    await t.page.click('#question .looking summary');
+    const ask = async (name) => {
+      await t.page.value(`(() => { const it = document.querySelector('#question form.look input'); it.value = ${JSON.stringify(name)}; it.focus(); })()`);
+      await t.page.press('Enter');
+      await t.page.until(`document.querySelector('#question .looking .seen')?.dataset.seen === ${JSON.stringify(name)}`, 20);
+      return seen(t, '#question .looking .seen');
+    };
+    t.holds('a name that nothing has', /no variable of this name/.test((await ask('nobody'))[0]));
+    t.equal('a name that is typed', await ask('^13^.key'), ['^13^.key held 40 before the call and after it.']);
+    await t.picture('9-look-heap');
+    await accessible(t, 'looks at a heap');
+    await t.page.resize(PHONE);
+    await t.page.value('document.querySelector("figure.heap").scrollIntoView()');
+    await t.picture('9-look-phone');
+    await accessible(t, 'looks on a phone');
+    await t.page.resize(DESK);
+    const native = await t.native({ source: t.example('deletion').source, console: 'state 12 ^4\nstate 12 ^13\nquit\n' });
+    if (native !== null) {
+      const cells = await t.page.value('[...document.querySelectorAll("#question .heap ~ *, #question [data-seen]")].map((it) => it.innerText).join("\\n")');
+      const told = native.screen.toString('latin1').split('\n').filter((line) => /^ {2}\^(4|13)\^\.\w+ = \S+$/.test(line)).map((line) => line.trim().split(' = '));
+      t.equal('the native program has as many cells', told.length, 6);
+      t.equal('and the same values', told.filter(([name, value]) => !cells.replace(/\s+/g, ' ').includes(`${name} ${value}`)), []);
+    }
+    await t.page.press('Escape');
+    await t.page.press('w');
+    await calm(t, 3);
+    t.equal('then the answer is wrong, and the next question is about the call below', await t.page.value('document.querySelector("#question").dataset.call'), '13');
   },
 
   async 'a long run and Stop'(t) {
@@ -386,6 +477,12 @@ export const TESTS = {
     await opened(t, 'list');
     await t.picture('16-dark');
     await accessible(t, 'dark, a question');
+    await opened(t, 'deletion', ['right', 'trust']);
+    await t.page.click('#question button[data-look="all"]');
+    await t.page.click('g[data-look="^4"]');
+    await t.page.until('document.querySelectorAll("#question .seen, #question .looked:not([hidden])").length === 2', 20);
+    await t.picture('16-dark-look');
+    await accessible(t, 'dark, looks');
     await opened(t, 'change', ['wrong', 'right', 'wrong']);
     await t.picture('16-dark-verdict');
     await accessible(t, 'dark, a verdict');

@@ -1,17 +1,26 @@
-// Whether the page's module and the native program are the same: same.mjs MODULE.wasm NATIVE [WORD]
+// Whether the page's module and the native program are the same:
+//
+//     same.mjs MODULE.wasm NATIVE [--only WORD] [--share N]
+//
 // Both get each program of crates/worked_cases that a page can play, and the large and deep ones, with the same console; the
 // exit status, the screen and the saved session have to be the same, byte by byte. With WORD only cases with it in their names.
-import { spawn } from 'node:child_process';
+// With N only each N-th of the cases, by their order in the index, and all the large and deep ones.
+//
+// A worker for each processor takes one case after the other: it runs the native program, and the module in an instance of its
+// own. The module is compiled once. The large ones, which take gigabytes, are left to one worker.
+import { spawnSync } from 'node:child_process';
 import { existsSync, mkdtempSync, readFileSync, rmSync, writeFileSync } from 'node:fs';
-import { tmpdir } from 'node:os';
+import { availableParallelism, tmpdir } from 'node:os';
 import { join } from 'node:path';
 import { fileURLToPath } from 'node:url';
+import { parseArgs } from 'node:util';
+import { isMainThread, parentPort, Worker, workerData } from 'node:worker_threads';
 import { casesIn } from './cases.mjs';
 import { DEEP, LARGE } from './large.mjs';
 import { openModule, turn } from './turn.mjs';
 
 const DATA = fileURLToPath(new URL('../../crates/worked_cases/data', import.meta.url));
-const AT_ONCE = 4, SAVED = 'page.session';
+const MOST_AT_ONCE = 8, SAVED = 'page.session';
 const LARGE_LINES = 'tree\nwrong 1\nback\ntrace 0\nsave page.session\nquit\n';
 
 // The native program with the case's files, under the names that the module has for them.
@@ -25,21 +34,14 @@ function native(program, given) {
     words.push('--load', 'loaded.session');
   }
   for (const [name, bytes] of Object.entries(given.files)) writeFileSync(join(folder, name), bytes);
-  return new Promise((done, failed) => {
-    const child = spawn(program, words, { cwd: folder, stdio: ['pipe', 'pipe', 'ignore'] });
-    const pieces = [];
-    child.on('error', failed);
-    child.stdout.on('data', (piece) => pieces.push(piece));
-    // It may end before it has read all lines.
-    child.stdin.on('error', () => {});
-    child.stdin.end(given.console);
-    child.on('close', (status, signal) => {
-      const saved = join(folder, SAVED);
-      const came = { status: status ?? signal, screen: Buffer.concat(pieces), saved: existsSync(saved) ? readFileSync(saved) : null };
-      rmSync(folder, { recursive: true });
-      done(came);
-    });
+  const { status, signal, stdout, error } = spawnSync(program, words, {
+    cwd: folder, input: given.console, stdio: ['pipe', 'pipe', 'ignore'], maxBuffer: 1 << 30,
   });
+  const saved = join(folder, SAVED);
+  // It may end before it has read all lines, which is no fault.
+  const came = { status: status ?? signal ?? String(error), screen: stdout ?? Buffer.alloc(0), saved: existsSync(saved) ? readFileSync(saved) : null };
+  rmSync(folder, { recursive: true });
+  return came;
 }
 
 function inModule(module, given) {
@@ -69,31 +71,65 @@ function differences(ours, theirs) {
   return found;
 }
 
-const [file, program, word = ''] = process.argv.slice(2);
-if (program === undefined) {
-  console.error('usage: same.mjs MODULE.wasm NATIVE [WORD]');
-  process.exit(2);
+// ---- a worker
+
+function work({ module, program }) {
+  parentPort.on('message', (given) => {
+    const theirs = native(program, given), ours = inModule(module, given);
+    parentPort.postMessage({ status: theirs.status, found: differences(ours, theirs) });
+  });
 }
-const module = openModule(file);
+
+// ---- the round
+
 const own = ({ name, source, budget }) => ({
   name, budget, source: Buffer.from(source), input: Buffer.alloc(0), session: null, files: {}, console: Buffer.from(LARGE_LINES),
 });
-const all = [...casesIn(DATA), ...DEEP.map(own), ...LARGE.map(own)].filter((it) => it.name.includes(word));
-const played = all.filter((it) => it.leftOut === undefined);
-const statuses = new Map();
-let same = 0, differ = 0, next = 0;
-await Promise.all(Array.from({ length: AT_ONCE }, async () => {
-  while (next < played.length) {
-    const given = played[next++];
-    const theirs = await native(program, given);
-    const ours = inModule(module, given);
-    const found = differences(ours, theirs);
-    statuses.set(theirs.status, (statuses.get(theirs.status) ?? 0) + 1);
+
+// Hands the cases to workers. `tell(given, came)` hears of each.
+function playAll(played, shared, tell) {
+  const large = new Set(LARGE.map(({ name }) => name));
+  const [alone, others] = [played.filter((it) => large.has(it.name)), played.filter((it) => !large.has(it.name))];
+  const playing = (worker, cases) => new Promise((done, failed) => {
+    let given;
+    const next = () => {
+      given = cases.shift() ?? others.shift();
+      if (given === undefined) worker.terminate().then(done);
+      else worker.postMessage(given);
+    };
+    worker.on('error', failed);
+    worker.on('message', (came) => { tell(given, came); next(); });
+    next();
+  });
+  const count = Math.min(MOST_AT_ONCE, availableParallelism());
+  return Promise.all(Array.from({ length: count }, (_, i) => playing(new Worker(new URL(import.meta.url), { workerData: shared }), i === 0 ? alone : [])));
+}
+
+async function main() {
+  const { values: options, positionals: [file, program] } = parseArgs({
+    allowPositionals: true, options: { only: { type: 'string', default: '' }, share: { type: 'string', default: '1' } },
+  });
+  const share = Number(options.share);
+  if (program === undefined || !(share >= 1)) {
+    console.error('usage: same.mjs MODULE.wasm NATIVE [--only WORD] [--share N]');
+    process.exit(2);
+  }
+  const begun = Date.now();
+  const cases = casesIn(DATA), playable = cases.filter((it) => it.leftOut === undefined);
+  const chosen = [...playable.filter((_, i) => i % share === 0), ...DEEP.map(own), ...LARGE.map(own)].filter((it) => it.name.includes(options.only));
+  const statuses = new Map();
+  let same = 0, differ = 0;
+  await playAll(chosen, { module: openModule(file), program }, ({ name }, { status, found }) => {
+    statuses.set(status, (statuses.get(status) ?? 0) + 1);
     if (found.length === 0) same++;
     else differ++;
-    for (const it of found) console.log(`differs: ${given.name}: ${it}`);
-  }
-}));
-const seen = [...statuses].sort().map(([status, count]) => `${count} with status ${status}`).join(', ');
-console.log(`same: ${same} the same, ${differ} differ, ${all.length - played.length} that a page can't play; ${seen}`);
-process.exit(differ === 0 && same > 0 ? 0 : 1);
+    for (const it of found) console.log(`differs: ${name}: ${it}`);
+  });
+  const seen = [...statuses].sort().map(([status, count]) => `${count} with status ${status}`).join(', ');
+  const part = share === 1 ? '' : `; one in ${share} of the ${playable.length} cases, and all ${DEEP.length + LARGE.length} large and deep ones`;
+  console.log(`same: ${same} the same, ${differ} differ, ${cases.length - playable.length} that a page can't play; ${seen}${part}; ${Math.round((Date.now() - begun) / 1000)} s`);
+  process.exit(differ === 0 && same > 0 ? 0 : 1);
+}
+
+if (isMainThread) await main();
+else work(workerData);

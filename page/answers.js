@@ -1,0 +1,64 @@
+// Answers, and what is asked for besides: the card of a chosen call, and what a variable held.
+import { briefOf } from './card_view.js';
+import { byId } from './dom.js';
+import { Looking } from './look_view.js';
+
+export class Answers {
+  constructor(desk) {
+    this.desk = desk;
+  }
+
+  // Says a line of the dialog, such as `right 7`.
+  async say(line) {
+    const { desk } = this;
+    if (desk.dialog.isBusy || desk.dialog.shown === null || desk.isEdited) return;
+    await desk.dialog.say(line);
+    this.afterTurn();
+  }
+
+  // An answer to the question: `right`, `wrong`, `unknown`, `trust`, or `back`.
+  answer(word) {
+    if (word === 'back') return this.say('back');
+    const { dialog } = this.desk;
+    const call = dialog.questionCall;
+    if (call < 0) return undefined;
+    return this.say(word === 'trust' ? `trust #${dialog.tree.routine[call]}` : `${word} ${call}`);
+  }
+
+  // What is asked for once the answer stands: the line of the call, and what comes next.
+  async afterTurn() {
+    const { desk } = this;
+    const { dialog } = desk;
+    dialog.thinkAhead();
+    const call = dialog.report !== null && dialog.report.call !== undefined ? dialog.report.call : -1;
+    if (call > 0 && dialog.isQuick && dialog.tree !== null) {
+      const { shown } = dialog;
+      await dialog.fetch([{ kind: 'trace', call: dialog.tree.parent[call] }]);
+      if (dialog.shown === shown && desk.chosen < 0) desk.render();
+    }
+  }
+
+  // Shows a call of the tree with its card and trace; -1 closes it.
+  async choose(call) {
+    const { desk } = this;
+    const { dialog, tree } = desk;
+    desk.chosen = call;
+    tree.choose(call);
+    desk.render();
+    if (call < 0) return;
+    const parent = dialog.tree.parent[call];
+    const asks = [{ kind: 'show', call }, { kind: 'trace', call }];
+    if (parent >= 0 && dialog.isQuick) asks.push({ kind: 'trace', call: parent });
+    await dialog.fetch(asks);
+    if (desk.chosen !== call) return;
+    if (call > 0 && dialog.cards.has(call)) tree.briefs.set(call, briefOf(dialog.cards.get(call)));
+    desk.render();
+    byId('detail').querySelector('h2')?.focus({ preventScroll: false });
+  }
+
+  // What can be looked at beside a call's card, or null where the command does not know the line; on paper there are no buttons.
+  looking(call, hasButtons = true) {
+    const { dialog } = this.desk;
+    return dialog.knowsState ? new Looking({ ask: (name) => dialog.lookAt(call, name), shown: dialog.looksAt(call), hasButtons }) : null;
+  }
+}

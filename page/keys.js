@@ -1,0 +1,68 @@
+// What each button and key of the page does.
+import { byId, later } from './dom.js';
+import { bytesOfFile, onDrop } from './files.js';
+import { helpView } from './welcome_view.js';
+
+function openHelp() {
+  const box = byId('helpBox');
+  box.replaceChildren(...helpView(() => box.close()));
+  box.showModal();
+}
+
+function keysOf(desk, answers) {
+  const goTo = (pane, id) => () => { desk.showPane(pane); byId(id).focus(); };
+  const answer = (word) => () => answers.answer(word);
+  return {
+    r: answer('right'), w: answer('wrong'), d: answer('unknown'), t: answer('trust'), b: answer('back'),
+    '/': goTo('calls', 'query'), c: goTo('calls', 'tree'), q: goTo('question', 'middle'), s: goTo('source', 'source'), '?': openHelp,
+  };
+}
+
+const isText = (target) => target.matches('textarea, input, select');
+
+// Ctrl+Enter runs, Escape leaves a text, and the other keys are letters that are not typed into one.
+function pressed(event, keys, programs) {
+  if (event.key === 'Enter' && (event.ctrlKey || event.metaKey)) {
+    event.preventDefault();
+    programs.run();
+    return;
+  }
+  if (event.key === 'Escape' && event.target.matches('textarea, input')) byId('middle').focus();
+  if (event.ctrlKey || event.metaKey || event.altKey || isText(event.target) || byId('helpBox').open) return;
+  const act = keys[event.key.length === 1 ? event.key.toLowerCase() : event.key];
+  if (act === undefined) return;
+  event.preventDefault();
+  act();
+}
+
+function whenPressed(it, act) {
+  it.addEventListener('click', () => { if (it.getAttribute('aria-disabled') !== 'true') act(); });
+}
+
+function connectFiles(programs) {
+  byId('file').addEventListener('change', () => programs.openFiles([...byId('file').files]));
+  byId('sessionFile').addEventListener('change', async () => {
+    const [file] = byId('sessionFile').files;
+    if (file) programs.loadSession(await bytesOfFile(file));
+  });
+  onDrop((files) => programs.openFiles(files));
+}
+
+export function connect(desk, { programs, answers, finder, print }) {
+  const buttons = {
+    open: () => byId('file').click(), load: () => byId('sessionFile').click(), save: () => programs.saveSession(), print,
+    run: () => programs.run(), stop: () => desk.engine.stop(), help: openHelp,
+    unfold: () => desk.tree.openAll(true), foldUp: () => desk.tree.openAll(false),
+  };
+  for (const [id, act] of Object.entries(buttons)) whenPressed(byId(id), act);
+  for (const it of document.querySelectorAll('[data-say]')) whenPressed(it, () => answers.answer(it.dataset.say));
+  for (const tab of document.querySelectorAll('.tabs button')) whenPressed(tab, () => desk.showPane(tab.dataset.pane));
+  desk.examples.forEach((example, at) => byId('examples').append(new Option(example.title, at)));
+  byId('examples').addEventListener('change', () => { if (byId('examples').value !== '') programs.pickExample(Number(byId('examples').value)); });
+  for (const id of ['input', 'budget']) byId(id).addEventListener('input', () => programs.edited());
+  byId('query').addEventListener('input', later(120, () => finder.find()));
+  byId('find').addEventListener('submit', (event) => { event.preventDefault(); finder.find(); byId('tree').focus(); });
+  const keys = keysOf(desk, answers);
+  document.addEventListener('keydown', (event) => pressed(event, keys, programs));
+  connectFiles(programs);
+}

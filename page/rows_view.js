@@ -1,0 +1,78 @@
+// Rows of a card for the eye: values, texts, lists and tables, each with a button that looks at the whole variable.
+import { fold, make, plural } from './dom.js';
+import { ABSENT, differs, GONE, NO_VALUE, THERE } from './fold_card.js';
+import { lookedRow } from './look_view.js';
+import { nameAt, variableSaid } from './names.js';
+
+const MOST_ROWS = 12;
+const MOST_PARTS = 2000;
+
+const SAID = { [NO_VALUE]: 'no value', [GONE]: 'disposed of', [THERE]: 'there, not read', [ABSENT]: 'not there' };
+
+export function valueView(value, isText = false) {
+  if (value === null) return make('span.untold', { title: 'The card does not tell what was there before.' }, '\u2013');
+  if (SAID[value] !== undefined) return make('span.quiet', SAID[value]);
+  if (isText) return make('span', make('span.quote', '\u201c'), value, make('span.quote', '\u201d'));
+  return value.startsWith('at ') ? make('span', make('span.quiet', 'stands for '), value.slice(3)) : value;
+}
+
+function labelView(label) {
+  const root = nameAt(label)?.root ?? label;
+  const { name, owner } = variableSaid(root);
+  return [make('code', name + label.slice(root.length)), owner === '' ? null : make('span.owner', ` ${owner}`)];
+}
+
+function changeView(row, isChange) {
+  const isText = row.shape === 'text';
+  if (!isChange || row.before === row.after) return make('td', valueView(row.after ?? row.before, isText));
+  if (row.before === null) return make('td', make('span.quiet', row.after === GONE ? '' : 'set to '), make('strong', valueView(row.after, isText)));
+  return make('td', make('span.old', valueView(row.before, isText)), make('span.to', ' \u2192 '),
+    make('strong', valueView(row.after, isText)));
+}
+
+function listView(row, isChange) {
+  const isTwo = isChange && row.cells.some((it) => it.before !== null && differs(it));
+  const kind = (it, which) => (isChange && which === 'after' && differs(it) ? '.changed' : '');
+  const cell = (which) => (it) => make(`td${kind(it, which)}`, valueView(it[which] ?? (which === 'after' ? it.before : null)));
+  const line = (head, which) => make('tr', make('th', { scope: 'row' }, head), row.cells.map(cell(which)));
+  return make('td', make('div.scroll', make('table.list',
+    make('thead', make('tr', make('td'), row.heads.map((head) => make('th', { scope: 'col' }, head)))),
+    make('tbody', isTwo ? [line('before', 'before'), line('after', 'after')] : line(isChange ? 'set to' : '', 'after')))));
+}
+
+function partView(part, isChange) {
+  if (part === null) return make('td');
+  if (isChange && part.cells.some(differs)) {
+    const before = part.before === null ? null : [make('span.old', valueView(part.before, part.isText)), ' \u2192 '];
+    return make('td.changed', before, valueView(part.after, part.isText));
+  }
+  return make('td', valueView(part.after ?? part.before, part.isText));
+}
+
+function tableView(row, isChange) {
+  return make('td', make('div.scroll', make('table.list',
+    make('thead', make('tr', make('td'), row.heads.map((head) => make('th', { scope: 'col' }, head)))),
+    make('tbody', row.lines.map((line) => make('tr', make('th', { scope: 'row' }, `[${line.head}]`), line.parts.map((part) => partView(part, isChange))))))));
+}
+
+// All parts of a long list, a few thousand at most, one below the other.
+function allOf(row, isChange) {
+  const rows = row.cells.slice(0, MOST_PARTS).map((cell) => make('tr', make('th', { scope: 'row' }, make('code', cell.name)),
+    changeView({ shape: 'value', before: cell.before, after: cell.after }, isChange)));
+  return make('div.scroll.tall', make('table.cells', make('tbody', rows)),
+    row.cells.length > MOST_PARTS ? make('p.quiet', `and ${row.cells.length - MOST_PARTS} more: see the card as printed`) : null);
+}
+
+function rowView(row, isChange, looking) {
+  const content = row.shape === 'list' ? listView(row, isChange) : row.shape === 'table' ? tableView(row, isChange) : changeView(row, isChange);
+  if (row.leftOut > 0) content.append(fold('.more', `${plural(row.leftOut, 'more part')}`, () => allOf(row.whole, isChange)));
+  const cells = [make('th', { scope: 'row' }, labelView(row.label)), content];
+  return looking === null || row.name === null ? make('tr', cells) : lookedRow(cells, row, looking, rowsView);
+}
+
+// `looking` is what can be looked at beside the rows, see look_view.js, or null.
+export function rowsView(rows, isChange, looking = null) {
+  const table = (some) => make('table.cells', make('tbody', some.map((row) => rowView(row, isChange, looking))));
+  const rest = rows.slice(MOST_ROWS, MOST_ROWS + MOST_PARTS);
+  return [table(rows.slice(0, MOST_ROWS)), rest.length > 0 ? fold('.more', `${plural(rows.length - MOST_ROWS, 'more variable')}`, () => table(rest)) : null];
+}
