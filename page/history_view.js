@@ -3,15 +3,18 @@ import { button, make } from './dom.js';
 import { nameOf } from './call_table.js';
 import { SAID_OF } from './words.js';
 
+// The entry that each session begins with: something is wrong, or nobody would ask.
+export const isGiven = (entry) => entry.number === 1 && entry.kind === 'wrong' && entry.call === 0;
+
 function entryView(entry, tree, context) {
   const isTrust = entry.kind === 'trust';
   const name = isTrust ? (tree.names[entry.routine] ?? `#${entry.routine}`) : nameOf(tree, entry.call);
   const look = { onclick: () => context.choose(entry.call), title: 'Look at this call' };
-  const about = isTrust ? make('code', name) : button('.link', look, make('code', name), ` call ${entry.call}`);
+  const about = isTrust ? make('code', name) : button('.link', look, isGiven(entry) ? 'the program ' : null, make('code', name), isGiven(entry) ? null : ` call ${entry.call}`);
   const what = isTrust ? name : `${name}, call ${entry.call}`;
   const takeBack = { onclick: () => context.say(`back ${entry.number}`), 'aria-label': `Take back: ${what} ${SAID_OF[entry.kind]}` };
   return make(`li${entry.standing ? '' : '.gone'}`, { value: entry.number },
-    make(`span.sign.${isTrust ? 'trusted' : entry.kind}`, { 'aria-hidden': 'true' }), about, ` ${SAID_OF[entry.kind]}`,
+    make(`span.sign.${isTrust ? 'trusted' : entry.kind}`, { 'aria-hidden': 'true' }), about, ` ${SAID_OF[entry.kind]}`, isGiven(entry) && entry.standing ? ', to begin with' : '',
     entry.standing ? button('.small', takeBack, 'take back') : make('span.quiet', ' taken back'));
 }
 

@@ -2,10 +2,13 @@
 // left over from the turn before, and an instance that ran out of memory harms no other.
 import { bytesOfBase64, utf8Bytes } from './bytes.js';
 
-// Room for the screen: at first what the tree of 500,000 calls takes. A saved session has at most SESSION_ROOM bytes, and gets
-// room only where a line saves one.
-const FIRST_ROOM = 1 << 24;
-const MOST_ROOM = 1 << 28;
+// Room for the screen. The tree of 500,000 calls takes 13 MB, and much that is asked for at once may, too; all else is small. The
+// heap puts a word of 8 bytes before a block, and takes whole powers of two. A saved session has at most SESSION_ROOM bytes,
+// and gets room only where a line saves one.
+const WORD = 8;
+const SMALL_ROOM = (1 << 20) - WORD;
+const LARGE_ROOM = (1 << 24) - WORD;
+const MOST_ROOM = (1 << 28) - WORD;
 const SESSION_ROOM = 1 << 24;
 const SAVES = /^[ \t]*save[ \t]/m;
 const SCREEN_FAILED = 6;
@@ -48,7 +51,7 @@ async function once(module, { source, input, budget, session, text }, room) {
 
 // A screen that was too small holds a first part; the same turn with more room prints the same and the rest.
 export async function runTurn(module, asked) {
-  for (let room = FIRST_ROOM; ; room *= 16) {
+  for (let room = asked.isLong ? LARGE_ROOM : SMALL_ROOM; ; room = room * 16 + 15 * WORD) {
     const came = await once(module, asked, room);
     if (came.status !== SCREEN_FAILED || room >= MOST_ROOM) return came;
   }

@@ -1,8 +1,9 @@
 // What is seen: the question or what stands in its place, the answers, the calls, and the marks beside the source.
 import { nameOf } from './call_table.js';
 import { button, byId, make } from './dom.js';
-import { historyView } from './history_view.js';
+import { historyView, isGiven } from './history_view.js';
 import { noticesOf } from './notices_view.js';
+import { outputView } from './output_view.js';
 import { detailView, hintView, progressOf, questionView, resultView, routineOf, whereView } from './question_view.js';
 import { refusalOf } from './refusal.js';
 import { keptBefore } from './session.js';
@@ -20,9 +21,10 @@ export class Painter {
   }
 
   paint() {
-    const { dialog, isEdited: isStale } = this.desk;
+    const { dialog, source, isEdited: isStale } = this.desk;
     document.body.classList.toggle('busy', dialog.isBusy);
     byId('run').hidden = dialog.isBusy;
+    byId('run').classList.toggle('main', source.text.trim() !== '');
     byId('stop').hidden = !dialog.isBusy;
     for (const id of ['save', 'print']) byId(id).setAttribute('aria-disabled', String(dialog.shown === null));
     this.paintNotices(isStale);
@@ -31,6 +33,7 @@ export class Painter {
     this.paintAnswers(isStale);
     this.paintTree();
     this.paintSource(isStale);
+    this.paintOutput(isStale);
     byId('raw').textContent = dialog.shown === null ? '' : dialog.shown.raw;
     byId('cost').textContent = dialog.shown === null ? '' : `${Math.max(1, Math.round(dialog.cost.time))} ms, ${Math.round(dialog.cost.memory / 1048576)} MB`;
     document.body.dataset.turns = String(dialog.session === null ? 0 : dialog.session.lines.length);
@@ -129,7 +132,7 @@ export class Painter {
     const isAsk = dialog.questionCall >= 0;
     byId('answers').hidden = !isAsk;
     for (const it of document.querySelectorAll('[data-say]')) {
-      const isEmpty = it.dataset.say === 'back' && !dialog.entries.some((entry) => entry.standing);
+      const isEmpty = it.dataset.say === 'back' && !dialog.entries.some((entry) => entry.standing && !isGiven(entry));
       it.setAttribute('aria-disabled', String(dialog.isBusy || isStale || isEmpty));
     }
     const trusted = isAsk && dialog.tree !== null ? nameOf(dialog.tree, dialog.questionCall) : '';
@@ -180,5 +183,14 @@ export class Painter {
     if (routine === undefined) return;
     byId('legend').textContent = counts === null ? `the text of ${routine.name}` : `how often ${routine.name} began each line`;
     source.show(counts === null || counts.size === 0 ? routine.from : Math.min(...counts.keys()));
+  }
+
+  // What was printed belongs to the program that ran, not to one that was changed since.
+  paintOutput(isStale) {
+    const { dialog } = this.desk;
+    const { note, parts } = outputView(isStale ? null : dialog.cards.get(0) ?? null, dialog.entries.length > 1);
+    byId('outputBox').hidden = isStale || dialog.shown === null || !dialog.cards.has(0);
+    byId('outputNote').textContent = note;
+    byId('output').replaceChildren(...parts);
   }
 }

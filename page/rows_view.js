@@ -22,11 +22,15 @@ function labelView(label) {
   return [make('code', name + label.slice(root.length)), owner === '' ? null : make('span.owner', ` ${owner}`)];
 }
 
+// What is so short stays on one line.
+const SHORT = 28;
+
 function changeView(row, isChange) {
   const isText = row.shape === 'text';
-  if (!isChange || row.before === row.after) return make('td', valueView(row.after ?? row.before, isText));
-  if (row.before === null) return make('td', make('span.quiet', row.after === GONE ? '' : 'set to '), make('strong', valueView(row.after, isText)));
-  return make('td', make('span.old', valueView(row.before, isText)), make('span.to', ' \u2192 '),
+  const cell = `td${(row.before ?? '').length + (row.after ?? '').length <= SHORT ? '.short' : '.long'}`;
+  if (!isChange || row.before === row.after) return make(cell, valueView(row.after ?? row.before, isText));
+  if (row.before === null) return make(cell, make('span.quiet', row.after === GONE ? '' : 'set to '), make('strong', valueView(row.after, isText)));
+  return make(cell, make('span.old', valueView(row.before, isText)), make('span.to', ' \u2192 '),
     make('strong', valueView(row.after, isText)));
 }
 

@@ -13,8 +13,9 @@ function foundView(report, card, context) {
   return make('article.card.verdict', { id: 'verdict', 'data-name': report.name },
     make('p.eyebrow', 'Found'),
     make('h2', { tabindex: -1 }, 'The mistake is in the body of ', make('code', report.name)),
-    make('p', `Call ${report.call} is wrong, although each call that it made is right. So look at these lines of ${report.name}, one by one: `
-      + 'which of them did the wrong thing, or which one is missing?'),
+    make('p', `Call ${report.call} is wrong, ${report.trace.calls.length === 0 ? 'and it made no other call' : 'although each call that it made is right'}. `
+      + `So look at these lines of ${report.name}, one by one: which of them did the wrong thing, or which one is missing? `
+      + 'Then mend the program, and run it again.'),
     traceView(report.trace, context), printed(report),
     card === undefined ? null : make('section.part.judged', make('h3', `Call ${report.call}, as you judged it`), cardParts(card, context.cardContext(report.call))));
 }

@@ -1,15 +1,17 @@
 // What the page shows before a program runs.
 import { button, make, plural, withCode } from './dom.js';
 
+// The first example is the way in; a program of one's own comes after it.
 export function welcomeView(examples, { open, pick }) {
+  const exampleButton = (example, at) => button(`.example${at === 0 ? '.main' : ''}`, { onclick: () => pick(at) },
+    make('strong', at === 0 ? `Try this one first: ${example.title.toLowerCase()}` : example.title), make('span', withCode(example.story.split('\n\n')[0])));
   return make('article.welcome',
     make('h2', 'Find the wrong procedure by answering questions'),
     make('p', 'Your program prints the wrong thing? pasask runs it, remembers every call, and asks you about a few of them: ',
       make('em', 'did this call do what it should?'), ' Your answers lead it to the procedure with the mistake.'),
-    make('p', button('.main', { onclick: open }, 'Open a Pascal program\u2026'), make('span.quiet', ' or drop it anywhere on this page. It stays on your computer.')),
-    make('h3', 'Or try an example'),
-    make('ul.examples', examples.map((example, at) => make('li', button('.example', { onclick: () => pick(at) },
-      make('strong', example.title), make('span', withCode(example.story.split('\n\n')[0])))))));
+    make('ul.examples', examples.map((example, at) => make('li', exampleButton(example, at)))),
+    make('h3', 'Or use your own program'),
+    make('p', button('', { onclick: open }, 'Open a Pascal program\u2026'), make('span.quiet', ' or drop it anywhere on this page. It stays on your computer.')));
 }
 
 // A program is there and has not run yet.

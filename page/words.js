@@ -36,8 +36,8 @@ export function endOf(end) {
   }
   const limit = /^limited (\w+)$/.exec(end);
   if (limit !== null) return { said: `It was stopped: ${LIMITS[limit[1]] ?? limit[1]}.`, isBad: true, line: 0 };
-  if (end === 'out of steps') return { said: 'It did not come to its end: the steps ran out.', isBad: true, line: 0 };
-  return { said: end === 'returned' ? 'It came to its end.' : end, isBad: false, line: 0 };
+  if (end === 'out of steps') return { said: 'It did not end: the steps ran out.', isBad: true, line: 0 };
+  return { said: end === 'returned' ? 'It ended normally.' : end, isBad: false, line: 0 };
 }
 
 // What a cell held before a call and after it; null where it was not there.

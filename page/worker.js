@@ -4,12 +4,15 @@ import { latin } from './bytes.js';
 import { openModule, runTurn } from './instance.js';
 
 const NORMAL = 0;
+// More things asked for at once than these may fill a screen.
+const MANY = 100;
 let module = null;
 
 async function turn({ source, input, budget, session, lines, asks, save }) {
   const start = performance.now();
   const text = consoleOf(save ? [...lines, `save ${save}`] : lines, asks);
-  const came = await runTurn(module, { source, input, budget, session, text });
+  const isLong = asks.length > MANY || asks.some((ask) => ask.kind === 'tree');
+  const came = await runTurn(module, { source, input, budget, session, text, isLong });
   const shown = came.status === NORMAL ? digest(came.screen, asks) : { raw: latin(came.screen.subarray(0, 100_000)) };
   return { ...shown, status: came.status, saved: came.saved, memory: came.memory, time: performance.now() - start };
 }

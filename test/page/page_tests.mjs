@@ -84,6 +84,41 @@ export const TESTS = {
     await accessible(t, 'first view');
   },
 
+  // As somebody goes about it who has read nothing: what stands out is pressed, and what is seen is judged by the story.
+  async 'the first minute'(t) {
+    await t.fresh();
+    t.equal('one thing stands out', (await t.page.text('#middle button.main')).length, 1);
+    t.equal('and it is seen without scrolling', await t.page.value('(() => { const it = document.querySelector("#middle button.main").getBoundingClientRect(); return it.top > 0 && it.bottom < innerHeight; })()'), true);
+    await t.page.click('#middle button.main');
+    await calm(t, 0);
+    t.holds('the story says what should come', /add 70 to coins/.test((await t.page.text('.story'))[0]));
+    t.equal('and the question what came', await seen(t, '#question .cells th, #question .cells td:nth-child(2)'), ['coins', '0 \u2192 52']);
+    await t.picture('0-first-minute-question');
+    await t.page.click(button('wrong'));
+    await calm(t, 1);
+    t.equal('50 is what fifty should add', await seen(t, '#question .cells td:nth-child(2)'), ['0 \u2192 50']);
+    await t.page.click(button('right'));
+    await calm(t, 2);
+    t.equal('2 is not what twenty should add', await seen(t, '#question .cells td:nth-child(2)'), ['50 \u2192 52']);
+    await t.page.click(button('wrong'));
+    await calm(t, 3);
+    t.holds('the body with the mistake', /The mistake is in the body of twenty/.test(await title(t)));
+    t.equal('its line', await t.page.text('#verdict .trace code'), ['begin coins := coins + 2 end;']);
+    t.holds('and what to do then', /mend the program, and run it again/.test((await t.page.text('#verdict'))[0]));
+    await t.picture('0-first-minute-verdict');
+    await t.page.value('(() => { const it = document.querySelector("#source"); it.value = it.value.replace("+ 2 ", "+ 20 "); it.dispatchEvent(new Event("input")); })()');
+    await t.page.click('#run');
+    await calm(t, 0);
+    t.equal('mended, it adds 70', await seen(t, '#question .cells td:nth-child(2)'), ['0 \u2192 70']);
+    await opened(t, 'sort');
+    t.equal('what the program printed is seen', await seen(t, '#output pre'), ['10 30 40 20']);
+    t.holds('and that it may be right', /nothing is wrong/.test((await t.page.text('#output'))[0]));
+    await t.picture('0-first-minute-output');
+    await opened(t, 'shop');
+    t.holds('and where it broke off', /broke off at line \d+/.test((await t.page.text('#output .bad'))[0] ?? ''));
+    await accessible(t, 'what was printed');
+  },
+
   async 'a session from the first question to the verdict'(t) {
     await t.fresh();
     await t.page.click('#card button.example');
@@ -91,7 +126,7 @@ export const TESTS = {
     t.equal('the first question', await asked(t), 'seventy');
     t.holds('it says how many calls may be to blame', /3 calls/.test((await t.page.text('#left-text'))[0]));
     t.equal('the routine is marked', await t.page.value('[...document.querySelectorAll("#under .asked")].map((it) => it.textContent)'), ['procedure seventy;', 'begin fifty; twenty end;']);
-    t.equal('what it changed', await t.page.text('#question .cells tr'), ['coins\t0 → 52']);
+    t.equal('what it changed', await seen(t, '#question .cells th, #question .cells td:nth-child(2)'), ['coins', '0 → 52']);
     await t.picture('2-question');
     await accessible(t, 'a question');
     await t.page.click(button('wrong'));

@@ -1,45 +1,64 @@
 // How fast the page is beside the native program, and how much memory a run takes in it, as a table:
 //
-//     node --experimental-websocket speed.mjs PAGE NATIVE [--browser chromium|firefox] [--only WORD]
+//     node --experimental-websocket speed.mjs PAGE NATIVE [--browser chromium|firefox] [--only WORD] [--rounds N]
 //
-// Of each large program: the time from Run to the first question, in the page and natively (the best of TIMES); the time that
-// an answer takes once both were computed ahead; the time of an answer that was not; and the memory. The native program's time
-// is that of a session that ends at the first question. `over` marks what is beyond the limits that docs/PAGE.md states.
+// The native program and the page take turns, N times, and of each the least time counts: what else the machine does slows both.
+// A fixed loop is measured beside them; its least and its middle time tell how busy the machine was. Of each large program:
+//
+// - the time from Run to the first question, and the native program's for a session that ends there. The page's may be three
+//   times as long; a lesson's is held against 50 ms;
+// - the time of `right` once both answers were computed ahead, for which a turn's time is waited; it may take 300 ms. Where an
+//   instance took 500 MB there is room for one alone, so two turns' time is waited;
+// - the time of an answer that was not computed ahead, which may take as long as the first question;
+// - the memory that one turn takes up, in Node, which has the same engine as Chromium, and the native program's. It may be 1.5
+//   times as much and 32 MB. (What an instance could take up is shown below the page; most of a small one's is never touched.)
+//
+// `over` marks what is beyond these limits. The status is 1 where something is.
 import { spawnSync } from 'node:child_process';
 import { mkdtempSync, rmSync, writeFileSync } from 'node:fs';
-import { tmpdir } from 'node:os';
+import { cpus, loadavg, tmpdir, totalmem } from 'node:os';
 import { join, resolve } from 'node:path';
-import { pathToFileURL } from 'node:url';
+import { fileURLToPath, pathToFileURL } from 'node:url';
 import { parseArgs } from 'node:util';
 import { Browser } from './browser.mjs';
+import { builtPage } from './built.mjs';
 import * as chromium from './chromium.mjs';
 import * as firefox from './firefox.mjs';
 import { LARGE } from './large.mjs';
+import { openModule, turn } from './turn.mjs';
 
-const TIMES = 3, MEGABYTE = 1048576;
+const MEGABYTE = 1048576, ALONE = 500;
 const LIMITS = { lesson: 50, question: 3, ahead: 300, memory: 1.5, moreMemory: 32 };
+const LESSON_ROUNDS = 8;
 
 const { values: options, positionals: [folder, program] } = parseArgs({
-  allowPositionals: true, options: { browser: { type: 'string', default: 'chromium' }, only: { type: 'string', default: '' } },
+  allowPositionals: true,
+  options: {
+    browser: { type: 'string', default: 'chromium' }, only: { type: 'string', default: '' }, rounds: { type: 'string', default: '3' }, memory: { type: 'string' },
+  },
 });
-if (program === undefined) {
-  console.error('usage: speed.mjs PAGE NATIVE [--browser chromium|firefox] [--only WORD]');
-  process.exit(2);
+
+// What a turn takes up, in a process of its own: the page's first turn, which asks for the tree.
+function tellMemory(file, name) {
+  const module = openModule(file), before = process.memoryUsage.rss();
+  const { status } = turn(module, { ...LARGE.find((it) => it.name === name), console: '@\ntree\n@\nquit\n' }, 1 << 24);
+  console.log(status === 0 ? (process.memoryUsage.rss() - before) / MEGABYTE : NaN);
 }
 
-// The least time of a few runs in milliseconds, and the memory in megabytes.
+function memoryOfTurn(file, name) {
+  const { stdout } = spawnSync(process.execPath, [fileURLToPath(import.meta.url), file, 'none', '--memory', name]);
+  return Number(stdout);
+}
+
+// The time of one run in milliseconds, and its memory in megabytes.
 function native({ source, budget }) {
   const place = mkdtempSync(join(tmpdir(), 'page-speed-'));
   writeFileSync(join(place, 'program.pas'), source);
-  let time = Infinity, memory = 0;
-  for (let i = 0; i < TIMES; i++) {
-    const begun = performance.now();
-    const { stderr } = spawnSync('/usr/bin/time', ['-f', '%M', resolve(program), 'program.pas', `--budget=${budget}`], { cwd: place, input: 'quit\n', maxBuffer: 1 << 28 });
-    time = Math.min(time, performance.now() - begun);
-    memory = Number(String(stderr).trim().split('\n').at(-1)) / 1024;
-  }
+  const begun = performance.now();
+  const { stderr } = spawnSync('/usr/bin/time', ['-f', '%M', resolve(program), 'program.pas', `--budget=${budget}`], { cwd: place, input: 'quit\n', maxBuffer: 1 << 28 });
+  const time = performance.now() - begun;
   rmSync(place, { recursive: true });
-  return { time, memory };
+  return { time, memory: Number(String(stderr).trim().split('\n').at(-1)) / 1024 };
 }
 
 // Does something in the page, and answers how many milliseconds it takes until the page is calm again.
@@ -52,40 +71,94 @@ const timed = (page, act) => page.value(`(async () => {
 })()`);
 
 const pressed = (key) => `document.body.dispatchEvent(new KeyboardEvent('keydown', { key: '${key}', bubbles: true }));`;
+const hasQuestion = (page) => page.value('document.querySelector("#question") !== null');
+const pause = (ms) => new Promise((done) => setTimeout(done, ms));
 
-async function inPage(page, url, { source, budget }) {
-  let question = Infinity;
-  for (let i = 0; i < TIMES; i++) {
-    await page.value('localStorage.clear()').catch(() => {});
-    await page.go(`${url}?time=${i}${encodeURIComponent(source.length)}`);
-    await page.until('document.body.dataset.ready === "yes"');
-    await page.drop('#source', 'program.pas', source);
-    await page.until(`document.querySelector('#source').value === ${JSON.stringify(source)}`);
-    await page.value(`document.querySelector('#budget').value = '${budget}'`);
-    question = Math.min(question, await timed(page, 'document.querySelector("#run").click();'));
-    await page.until('document.querySelector("#card h2") !== null');
-  }
-  const memory = Number(/([\d,]+) MB/.exec(await page.value('document.querySelector("#cost").textContent'))[1].replace(/,/g, ''));
-  const canAnswer = await page.value('document.querySelector("#question") !== null');
-  if (!canAnswer) return { question, memory };
-  // Both answers are computed ahead in the time of two turns.
-  await new Promise((done) => setTimeout(done, 3 * question + 500));
+let visits = 0;
+
+async function opened(page, url, { source, budget }) {
+  await page.value('localStorage.clear()').catch(() => {});
+  visits += 1;
+  await page.go(`${url}?visit=${visits}`);
+  await page.until('document.body.dataset.ready === "yes"');
+  await page.drop('#source', 'program.pas', source);
+  await page.until(`document.querySelector('#source').value === ${JSON.stringify(source)}`);
+  await page.value(`document.querySelector('#budget').value = '${budget}'`);
+}
+
+// One round in the page: the first question, an answer that was computed ahead, and one that was not.
+async function inPage(page) {
+  const question = await timed(page, 'document.querySelector("#run").click();');
+  await page.until('document.querySelector("#card h2") !== null', 120);
+  const grown = Number(/([\d,]+) MB/.exec(await page.value('document.querySelector("#cost").textContent'))[1].replace(/,/g, ''));
+  if (!(await hasQuestion(page))) return { question, grown };
+  await pause(question * (grown < ALONE ? 1 : 2) + 200);
   const ahead = await timed(page, pressed('r'));
-  const other = (await page.value('document.querySelector("#question") !== null')) ? await timed(page, pressed('d')) : undefined;
-  return { question, memory, ahead, other };
+  const other = (await hasQuestion(page)) ? await timed(page, pressed('d')) : Infinity;
+  return { question, grown, ahead, other };
 }
 
-const browser = { chromium, firefox }[options.browser];
-const page = new Browser(await browser.start());
-const url = pathToFileURL(join(resolve(folder), 'index.html')).href;
-const ms = (it) => (it === undefined ? '–' : it < 100 ? `${it.toFixed(1)} ms` : `${(it / 1000).toFixed(2)} s`);
-const marked = (text, isOver) => (isOver ? `${text} over` : text);
-console.log(`| program (${browser.name}) | first question | native | answer computed ahead | another answer | memory | native |`);
-console.log('|---|---|---|---|---|---|---|');
-for (const it of LARGE.filter(({ name }) => name.includes(options.only))) {
-  const own = await inPage(page, url, it), theirs = native(it);
-  console.log(`| ${it.name} | ${marked(ms(own.question), own.question > Math.max(LIMITS.lesson, LIMITS.question * theirs.time))} | ${ms(theirs.time)} | `
-    + `${marked(ms(own.ahead), own.ahead > LIMITS.ahead)} | ${ms(own.other)} | `
-    + `${marked(`${own.memory} MB`, own.memory > LIMITS.memory * theirs.memory + LIMITS.moreMemory)} | ${theirs.memory.toFixed(0)} MB |`);
+// A fixed loop, in the page.
+const YARDSTICK = `(() => { const begun = performance.now(); let sum = 0; for (let i = 0; i < 2e7; i++) sum = (sum * 31 + i) | 0; return [performance.now() - begun, sum][0]; })()`;
+const loops = [];
+
+const least = (rounds, what) => Math.min(...rounds.map((it) => it[what] ?? Infinity));
+
+async function measured(page, url, given, module) {
+  const isLesson = given === LARGE[0], ours = [], theirs = [];
+  for (let i = 0; i < (isLesson ? LESSON_ROUNDS : Number(options.rounds)); i++) {
+    theirs.push(native(given));
+    await opened(page, url, given);
+    loops.push(await page.value(YARDSTICK));
+    ours.push(await inPage(page));
+  }
+  return {
+    isLesson, question: least(ours, 'question'), ahead: least(ours, 'ahead'), other: least(ours, 'other'), grown: least(ours, 'grown'),
+    native: least(theirs, 'time'), taken: memoryOfTurn(module, given.name), nativeTaken: least(theirs, 'memory'),
+  };
 }
-await page.close();
+
+let over = 0;
+const ms = (it) => (it === Infinity ? '–' : it < 100 ? `${it.toFixed(0)} ms` : `${(it / 1000).toFixed(2)} s`);
+const mb = (it) => `${it.toFixed(0)} MB`;
+
+function marked(text, isOver) {
+  if (isOver) over++;
+  return isOver ? `${text} over` : text;
+}
+
+function rowOf(name, it) {
+  const isSlow = it.isLesson ? it.question > LIMITS.lesson : it.question > LIMITS.question * it.native;
+  const times = `${(it.question / it.native).toFixed(1)} times`;
+  const isLarge = it.taken > LIMITS.memory * it.nativeTaken + LIMITS.moreMemory;
+  return `| ${name} | ${marked(ms(it.question), isSlow)} | ${ms(it.native)} | ${times} | ${marked(ms(it.ahead), it.ahead !== Infinity && it.ahead > LIMITS.ahead)} | `
+    + `${marked(ms(it.other), it.other !== Infinity && !it.isLesson && it.other > it.question)} | ${marked(mb(it.taken), isLarge)} | ${mb(it.nativeTaken)} | ${mb(it.grown)} |`;
+}
+
+async function main() {
+  const browser = { chromium, firefox }[options.browser];
+  const page = new Browser(await browser.start());
+  const url = pathToFileURL(join(resolve(folder), 'index.html')).href;
+  const work = mkdtempSync(join(tmpdir(), 'page-speed-')), module = join(work, 'page.wasm');
+  writeFileSync(module, builtPage(folder).module);
+  const load = () => loadavg()[0].toFixed(1);
+  const [{ model }, begun] = [cpus()[0], load()];
+  console.log(`| program (${browser.name}) | first question | native | ratio | answer computed ahead | another answer | taken up | native | could take up |`);
+  console.log('|---|---|---|---|---|---|---|---|---|');
+  for (const it of LARGE.filter(({ name }) => name.includes(options.only))) console.log(rowOf(it.name, await measured(page, url, it, module)));
+  loops.sort((a, b) => a - b);
+  console.log(`\nOn ${cpus().length} processors (${model.trim()}), ${(totalmem() / 2 ** 30).toFixed(0)} GB; load ${begun} at the beginning and ${load()} at the end. `
+    + `A fixed loop took ${loops[0].toFixed(0)} ms at best and ${loops[loops.length >> 1].toFixed(0)} ms in the middle. ${over === 0 ? 'Within all limits.' : `${over} over a limit.`}`);
+  await page.close();
+  rmSync(work, { recursive: true });
+  process.exit(over === 0 ? 0 : 1);
+}
+
+if (options.memory !== undefined) {
+  tellMemory(folder, options.memory);
+} else if (program === undefined) {
+  console.error('usage: speed.mjs PAGE NATIVE [--browser chromium|firefox] [--only WORD] [--rounds N]');
+  process.exit(2);
+} else {
+  await main();
+}
