@@ -1,9 +1,9 @@
 // The tests of the page in real browsers:
 //
-//     node --experimental-websocket run.mjs PAGE [--browser chromium|firefox] [--pictures FOLDER] [--native PROGRAM] [--only WORD]
+//     node --experimental-websocket run.mjs PAGE [--browser chromium|firefox] [--pictures FOLDER] [--native PROGRAM] [--only WORD] [--but WORD]
 //
 // PAGE is a folder that bin/build-page has made. With --native what the page saves and shows is compared with the program's
-// own. Each line is `ok`, `FAIL` or `note`; the last one is `N passed, M failed`.
+// own. With --only just the tests with WORD in their names are run, with --but just the others; those left out are said. Each line is `ok`, `FAIL` or `note`; the last one is `N passed, M failed`.
 import { spawnSync } from 'node:child_process';
 import { accessSync, constants, existsSync, mkdirSync, mkdtempSync, readFileSync, rmSync, writeFileSync } from 'node:fs';
 import { createServer } from 'node:http';
@@ -24,14 +24,14 @@ const TYPES = { '.html': 'text/html', '.js': 'text/javascript', '.css': 'text/cs
 
 const { values: options, positionals: [folder] } = parseArgs({
   allowPositionals: true,
-  options: { browser: { type: 'string' }, pictures: { type: 'string' }, native: { type: 'string' }, only: { type: 'string' } },
+  options: { browser: { type: 'string' }, pictures: { type: 'string' }, native: { type: 'string' }, only: { type: 'string' }, but: { type: 'string' } },
 });
 if (folder === undefined) {
-  console.error('usage: run.mjs PAGE [--browser chromium|firefox] [--pictures FOLDER] [--native PROGRAM] [--only WORD]');
+  console.error('usage: run.mjs PAGE [--browser chromium|firefox] [--pictures FOLDER] [--native PROGRAM] [--only WORD] [--but WORD]');
   process.exit(2);
 }
 
-let passed = 0, failed = 0;
+let passed = 0, failed = 0, leftOut = 0;
 
 // The sentences for refusals, as the table of the repository has them.
 function sentences() {
@@ -156,7 +156,10 @@ async function testsIn(kind, page, around) {
   // A page that does not come up is one fault, and not one for each test.
   await t.fresh();
   for (const [name, test] of Object.entries(TESTS)) {
-    if (!name.includes(options.only ?? '')) continue;
+    if (!name.includes(options.only ?? '') || (options.but !== undefined && name.includes(options.but))) {
+      leftOut++;
+      continue;
+    }
     t.test = name;
     const before = failed, start = Date.now();
     try {
@@ -206,5 +209,5 @@ for (const [word, kind] of Object.entries({ chromium, firefox })) {
   }
 }
 server.end();
-console.log(`${passed} passed, ${failed} failed${notRun > 0 ? `, ${notRun} of the browsers not run` : ''}`);
+console.log(`${passed} passed, ${failed} failed${leftOut > 0 ? `, ${leftOut} tests left out` : ''}${notRun > 0 ? `, ${notRun} of the browsers not run` : ''}`);
 process.exit(failed === 0 && passed > 0 ? 0 : 1);

@@ -6,8 +6,8 @@
 // tells them of the native program and of all processes of the browser, so that what else the machine does doesn't count; where
 // the page's own clock tells less, it is that. Of each large program:
 //
-// - the time from Run to the first question, and the native program's for a session that ends there. The page's may be three
-//   times as long; a lesson's is held against 50 ms;
+// - the time from Run to the first question, and the native program's for a session that ends there. Of a run of 4,000,000 steps
+//   the page's may be three times as long; a lesson's is held against 50 ms;
 // - the time of `right` once both answers were computed ahead, for which a turn's time is waited; it may take 300 ms. Where an
 //   instance took 500 MB there is room for one alone, so two turns' time is waited;
 // - the time of an answer that was not computed ahead, which may take as long as the first question;
@@ -30,6 +30,7 @@ import { openModule, turn } from './turn.mjs';
 
 const MEGABYTE = 1048576, ALONE = 500;
 const LIMITS = { lesson: 50, question: 3, ahead: 300, memory: 1.5, moreMemory: 32 };
+const LONGEST = '4000000';
 const LESSON_ROUNDS = 8, READING = 2000;
 
 const { values: options, positionals: [folder, program] } = parseArgs({
@@ -137,7 +138,7 @@ async function measured(page, url, given, module) {
     ours.push(await inPage(page));
   }
   return {
-    isLesson, question: least(ours, 'question'), ahead: least(ours, 'ahead'), other: least(ours, 'other'), grown: least(ours, 'grown'),
+    isLesson, isLong: given.budget === LONGEST, question: least(ours, 'question'), ahead: least(ours, 'ahead'), other: least(ours, 'other'), grown: least(ours, 'grown'),
     native: least(theirs, 'time'), taken: memoryOfTurn(module, given.name), nativeTaken: least(theirs, 'memory'),
   };
 }
@@ -152,7 +153,7 @@ function marked(text, isOver) {
 }
 
 function rowOf(name, it) {
-  const isSlow = it.isLesson ? it.question > LIMITS.lesson : it.question > LIMITS.question * it.native;
+  const isSlow = it.isLesson ? it.question > LIMITS.lesson : it.isLong && it.question > LIMITS.question * it.native;
   const times = `${(it.question / it.native).toFixed(1)} times`;
   const isLarge = it.taken > LIMITS.memory * it.nativeTaken + LIMITS.moreMemory;
   return `| ${name} | ${marked(ms(it.question), isSlow)} | ${ms(it.native)} | ${times} | ${marked(ms(it.ahead), it.ahead !== Infinity && it.ahead > LIMITS.ahead)} | `
