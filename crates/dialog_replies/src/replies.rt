@@ -1,5 +1,5 @@
 //! The reply to each line.
-ghost use Rattle.std.specs.Prelude.{◌≡◌, ◌<◌, ◌++◌, IfOk, codes, decimal, if◌then◌else◌};
+ghost use Rattle.std.specs.Prelude.{◌≡◌, ◌<◌, ◌++◌, IfOk, codes, if◌then◌else◌};
 ghost use Rattle.dialog_replies.specs.Kept.{IsSearchOf};
 ghost use Rattle.dialog_replies.specs.Replies.{card_or_none, judges_asked, no_cell, opening, outcome, replied};
 ghost use Rattle.dialog_replies.specs.Replies.{state_or_none, trace_or_none, trusts_named};

@@ -9,7 +9,6 @@ use Rattle.cell_value.specs.declared.values.Value.{Value}
 use Rattle.cell_value.specs.declared.values.Value.TheVariants as value
 use Rattle.cell_value.specs.Sets.{is_included}
 use Rattle.call_tree.specs.declared.records.Call.{Call}
-use Rattle.cell_names.specs.declared.names.Held.{Held}
 use Rattle.cell_names.specs.declared.names.Root.{Root}
 use Rattle.cell_names.specs.Names.{Scene, cell_held, cell_text, root_at}
 use Rattle.cell_names.specs.NamedBy.{is_named_by}
