@@ -1,4 +1,5 @@
 mod MembersInTurn
+pub mod NameParts
 mod NamesLead
 mod NamesMade
 pub mod PartsInTurn

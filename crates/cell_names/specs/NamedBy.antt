@@ -1,23 +1,41 @@
 -- Which cells a name names: the cell that is printed so; or, if it is cut short, all cells of a variable, of a part of
 -- one, or of a frame.
-use Rattle.std.specs.Prelude.{ℕ, zero, suc, ◌==◌, nat_eq, Bool, true, false, ◌||◌, List, ◌++◌, codes, drop, length}
-use Rattle.std.specs.Prelude.{Option, Some, None, if◌then◌else◌}
+use Rattle.std.specs.Prelude.{ℕ, zero, suc, ◌==◌, nat_eq, Bool, true, false, ◌||◌, List, ◌++◌, codes, decimal, drop}
+use Rattle.std.specs.Prelude.{length, Option, Some, None, if◌then◌else◌}
 use Rattle.std.specs.List.{starts_with}
 use Rattle.std.specs.Str.{bytes_eq}
-use Rattle.program_tables.specs.ProgramRows.{ProgramRows}
+use Rattle.program_tables.specs.ProgramRows.{ProgramRows, name_of}
 use Rattle.cell_names.specs.declared.names.Spot.{Spot}
 use Rattle.cell_names.specs.declared.names.Step.{Step}
 use Rattle.cell_names.specs.declared.names.Origin.{Origin}
 use Rattle.cell_names.specs.declared.names.Origin.TheVariants as origin
 use Rattle.cell_names.specs.declared.names.Root.{Root}
+use Rattle.cell_names.specs.Values.{heap_number}
 use Rattle.cell_names.specs.Names.{Scene, most_types, origin_text, selector_text, step_down, whose_text}
 
 -- what is left of a name after its first part, if it begins so
 abbrev pub after_part : (part name : List ℕ) → Option (List ℕ)
 after_part part name = if starts_with nat_eq name part then Some (drop (length part) name) else None
 
+-- what is left after one more part, if a name goes on so
+abbrev pub then_part : (part : List ℕ) → (left : Option (List ℕ)) → Option (List ℕ)
+then_part part None = None
+then_part part (Some name) = after_part part name
+
 abbrev pub is_over : (name : List ℕ) → Bool
 is_over name = length name == 0
+
+-- whether nothing is left of a name
+abbrev pub is_all : (left : Option (List ℕ)) → Bool
+is_all None = false
+is_all (Some rest) = is_over rest
+
+-- a call of a routine, as `f#3`, and a variable of the heap before its last `^`
+abbrev pub call_text : ProgramRows → (call routine : ℕ) → List ℕ
+call_text p call routine = name_of p routine ++ codes "#" ++ decimal call
+
+abbrev pub block_text : (base : ℕ) → List ℕ
+block_text base = codes "^" ++ decimal (heap_number base)
 
 abbrev pub leads_on : (go : List ℕ → Bool) → Option (List ℕ) → Bool
 leads_on go None = false

@@ -5,6 +5,7 @@
 
 mod finding;
 mod layouts;
+mod name_parts;
 mod named_by;
 mod names;
 mod pieces;

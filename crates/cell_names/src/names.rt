@@ -219,11 +219,7 @@ pub(crate) fn step_down(scene: &Scene, at: Spot) -> Option<Step>
 }
 
 /// Appends a selector.
-pub(crate) fn write_selector(
-    out: &mut Bytes,
-    program: &Program,
-    selector: Selector,
-) -> Result<(), AllocError>
+fn write_selector(out: &mut Bytes, program: &Program, selector: Selector) -> Result<(), AllocError>
     ensures { OnOk result (out.new ≡ out.old ++ selector_text program.now selector) }
 {
     match selector {
@@ -460,7 +456,7 @@ pub fn root_at(scene: &Scene, address: u32) -> Option<Root>
 }
 
 /// Appends whose a variable of a call is, where it is none of call 0.
-pub(crate) fn write_whose(
+fn write_whose(
     out: &mut Bytes,
     program: &Program,
     call: u32,
@@ -478,11 +474,7 @@ pub(crate) fn write_whose(
 }
 
 /// Appends what the way down begins at.
-pub(crate) fn write_origin(
-    out: &mut Bytes,
-    program: &Program,
-    origin: Origin,
-) -> Result<(), AllocError>
+fn write_origin(out: &mut Bytes, program: &Program, origin: Origin) -> Result<(), AllocError>
     ensures { OnOk result (out.new ≡ out.old ++ origin_text program.now origin) }
 {
     match origin {

@@ -38,7 +38,7 @@ pub fn write_long(out: &mut Bytes, number: i64) -> Result<(), AllocError>
 }
 
 /// Whether a character is shown as it is: those from the blank to the tilde are.
-fn is_plain(item: u32) -> bool
+pub(crate) fn is_plain(item: u32) -> bool
     ensures { result ≡ is_plain item }
 {
     32 <= item && item <= 126

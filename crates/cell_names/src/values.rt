@@ -47,7 +47,7 @@ pub(crate) fn bounds_of(program: &Program, of: u32) -> Option<Bounds>
 }
 
 /// The token that spells the constant of an ordinal of an enumeration.
-fn constant_token(host: u32, ordinal: u32) -> u32
+pub(crate) fn constant_token(host: u32, ordinal: u32) -> u32
     ensures { result ≡ constant_token host ordinal }
 {
     host.saturating_add(1)
@@ -95,7 +95,7 @@ fn write_of_host(
 }
 
 /// Whether an ordinal is one of these values.
-fn has_ordinal(bounds: Bounds, ordinal: i64) -> bool
+pub(crate) fn has_ordinal(bounds: Bounds, ordinal: i64) -> bool
     ensures { result ≡ (int_le bounds.least ordinal && int_le ordinal bounds.greatest) }
 {
     i64::from(bounds.least) <= ordinal && ordinal <= i64::from(bounds.greatest)

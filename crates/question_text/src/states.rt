@@ -121,31 +121,23 @@ fn write_sides_line(
 }
 
 /// The cell at an address, if there was one and a name names it.
-fn named_root(
-    alloc: Global,
-    scene: &Scene,
-    sides: CellSides,
-    root: Option<Root>,
-    name: &[u8],
-) -> Result<Option<Root>, AllocError>
-    ensures { IfOk result (λ cell. cell ≡ named_root (scene_in scene.now) name.now sides root) }
+fn named_root(scene: &Scene, sides: CellSides, root: Option<Root>, name: &[u8]) -> Option<Root>
+    ensures { result ≡ named_root (scene_in scene.now) name.now sides root }
 {
-    let Some(root) = root else {
-        return Ok(None);
-    };
-    if !is_cell(sides) {
-        return Ok(None);
-    }
-    if is_named_by(alloc, scene, root, name)? {
-        Ok(Some(root))
-    } else {
-        Ok(None)
+    match root {
+        None => None,
+        Some(root) => {
+            if is_cell(sides) && is_named_by(scene, root, name) {
+                Some(root)
+            } else {
+                None
+            }
+        }
     }
 }
 
 /// Appends the line on the cell at an address, if there was one and a name names it; and whether it does.
 fn write_if_named(
-    alloc: Global,
     out: &mut Bytes,
     scene: &Scene,
     call: &Call,
@@ -156,7 +148,7 @@ fn write_if_named(
     ensures named { IfOk result (λ named. named ≡ is_some (cell_at (scene_in scene.now) call.now name.now address)) }
 {
     let sides = sides_at(call, address);
-    match named_root(alloc, scene, sides, root_at(scene, address), name)? {
+    match named_root(scene, sides, root_at(scene, address), name) {
         None => Ok(false),
         Some(root) => {
             write_sides_line(out, scene, root, sides)?;
@@ -167,7 +159,6 @@ fn write_if_named(
 
 /// Appends the lines on the cells that a name names, from one address to before another; and whether there is one.
 fn write_between(
-    alloc: Global,
     out: &mut Bytes,
     scene: &Scene,
     call: &Call,
@@ -180,25 +171,19 @@ fn write_between(
 {
     let mut some = false;
     'addresses: for address in from..to {
-        let named = write_if_named(alloc, out, scene, call, name, address)?;
+        let named = write_if_named(out, scene, call, name, address)?;
         some = some || named;
     }
     Ok(some)
 }
 
 /// Appends the lines on the cells that a name names, before a call and after it; and whether there is one.
-fn write_lines(
-    alloc: Global,
-    out: &mut Bytes,
-    scene: &Scene,
-    call: &Call,
-    name: &[u8],
-) -> Result<bool, AllocError>
+fn write_lines(out: &mut Bytes, scene: &Scene, call: &Call, name: &[u8]) -> Result<bool, AllocError>
     ensures lines { OnOk result (out.new ≡ out.old ++ lines_by (scene_in scene.now) name.now (Some call.now)) }
     ensures some { IfOk result (λ some. some ≡ has_cell_by (scene_in scene.now) name.now (Some call.now)) }
 {
-    let on_stack = write_between(alloc, out, scene, call, name, 0, call.entry.top)?;
-    let on_heap = write_between(alloc, out, scene, call, name, 524_288, call.exit.fresh)?;
+    let on_stack = write_between(out, scene, call, name, 0, call.entry.top)?;
+    let on_heap = write_between(out, scene, call, name, 524_288, call.exit.fresh)?;
     Ok(on_stack || on_heap)
 }
 
@@ -225,7 +210,7 @@ fn write_cells(
         routines: from.calls.routine_column(),
         opened: &opened,
     };
-    let some = write_lines(alloc, out, &scene, call, name)?;
+    let some = write_lines(out, &scene, call, name)?;
     Ok(some)
 }
 

@@ -8,7 +8,7 @@ pub steps-preserved : goal.steps-preserved
 steps-preserved c =
     let s = scene_in c.args.scene.now in
     name_goes_on s c.steps.counter c.steps.at c.steps.left.now c.is_empty.result _ _ c.steps-test.true c.is_empty.ensures c.if-is_empty.false
-    (rw c.in-Some.is at (c.in_ok-step_named.ensures (leads_within s (most_types - (c.steps.counter + 1))))) c.steps.invariant
+    (rw c.in-Some.is at (c.step_named.ensures (leads_within s (most_types - (c.steps.counter + 1))))) c.steps.invariant
 
 pub returns : goal.returns
 returns c =
