@@ -4,4 +4,4 @@ pub mod First
 pub mod Maps
 pub mod Outward
 pub mod NameLists
-pub mod Threats
+pub mod FirstThreat

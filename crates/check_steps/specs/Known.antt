@@ -1,6 +1,6 @@
 -- What the tables of a check say.
 use Rattle.std.specs.Prelude.{ℕ, zero, suc, List, [], ◌∷◌, ◌++◌, Option, Some, None, length}
-use Rattle.std.specs.Prelude.{unwrap_or, ◌-◌, Bool, if◌then◌else◌, nat_eq, nat_le, nat_lt, take}
+use Rattle.std.specs.Prelude.{unwrap_or, ◌-◌, Bool, nat_eq, take}
 use Rattle.std.specs.Prelude.{slice_get, slice_set}
 use Rattle.std.specs.List.{list_any}
 use Rattle.std.specs.Ordering.{int_eq}
@@ -18,6 +18,7 @@ use Rattle.check_steps.specs.declared.regions.Definition.{Definition}
 use Rattle.check_steps.specs.declared.regions.Found.{Found}
 use Rattle.check_steps.specs.declared.regions.Frame.{Frame}
 use Rattle.check_steps.specs.declared.regions.Span.{Span}
+use Rattle.check_steps.specs.Threats.{first_threat}
 use Rattle.check_steps.specs.Regions.{RegionRows, region_at, fresh_region, defined_in, declared_in, or_else}
 
 pub record Known : Type 0 where
@@ -31,9 +32,8 @@ pub record Known : Type 0 where
   pub frames : List Frame
   -- the control variables of the for statements around, the innermost last
   pub controls : List ℕ
-  -- Of a variable, at its own token, the last token at which a routine threatens it, and at such a token the one before
-  -- it; 0 where there is none.
-  pub threats : List ℕ
+  -- by token, the variable of a block around that a routine threatens there, by the token that defines it
+  pub threats : List (Option ℕ)
   -- the block whose statements are checked
   pub block : Span
   -- the values that choose in case statements and variant parts, each after the number of its list
@@ -167,42 +167,14 @@ without_control k = record k { controls = take (length k.controls - 1) k.control
 abbrev pub is_control : Known → ℕ → Bool
 is_control k variable = list_any (λ c. nat_eq c variable) k.controls
 
--- the token before this one in a list of threats
-abbrev pub threat_before : Known → ℕ → ℕ
-threat_before k token = unwrap_or (slice_get k.threats token) 0
-
 -- a routine threatens a variable at a token
 abbrev pub and_threat : Known → ℕ → ℕ → Known
-and_threat k variable token = record k {
-  threats = slice_set (slice_set k.threats token (threat_before k variable)) variable token;
-}
+and_threat k variable token = record k { threats = slice_set k.threats token (Some variable) }
 
--- the first after a token of at most this many threats, from the last one back
-abbrev pub threat_after : ℕ → Known → ℕ → ℕ → Option ℕ
-threat_after zero k last token = None
-threat_after (suc n) k last token =
-    if nat_le last token then None else or_else (threat_after n k (threat_before k last) token) (Some last)
-
-abbrev pub if_before : ℕ → Option ℕ → Option ℕ
-if_before token None = None
-if_before token (Some t) = if nat_lt t token then Some t else None
-
--- the first threat of a variable after the block's first token; no more tokens threaten it than there are
-abbrev pub first_threat : Known → ℕ → Option ℕ
-first_threat k variable = threat_after (length k.threats) k (threat_before k variable) k.block.first
-
--- the first token at which a routine of the block threatens a variable
+-- The first token of the block before its own statements at which a variable is threatened: there only the block's
+-- routines have statements.
 abbrev pub threat_of : Known → ℕ → Option ℕ
-threat_of k variable = if_before k.block.statements (first_threat k variable)
-
--- this threat of a variable is taken for its last one
-abbrev pub with_last_threat : Known → ℕ → Option ℕ → Known
-with_last_threat k variable None = k
-with_last_threat k variable (Some token) = record k { threats = slice_set k.threats variable token }
-
--- Of a variable's threats after the block's first token the first alone is kept: for no block is a later one the first.
-abbrev pub with_first_threat : Known → ℕ → Known
-with_first_threat k variable = with_last_threat k variable (first_threat k variable)
+threat_of k variable = first_threat (k.block.statements - k.block.first) k.threats variable k.block.first
 
 -- the block whose statements are checked from now on
 abbrev pub in_block : Known → Span → Known

@@ -1,5 +1,6 @@
 pub mod Breaks
 pub mod Regions
+pub mod Threats
 pub mod Known
 pub mod Words
 pub mod Steps

@@ -12,7 +12,7 @@ use Rattle.check_steps.specs.declared.work.Work.{Work}
 use Rattle.check_steps.specs.Breaks.{first_broken}
 use Rattle.check_steps.specs.Known.{Known, and_choice, and_control, and_definition, and_frame}
 use Rattle.check_steps.specs.Known.{and_label, and_region, and_routine}
-use Rattle.check_steps.specs.Known.{and_threat, in_block, with_first_threat, with_routine, with_row, without_control}
+use Rattle.check_steps.specs.Known.{and_threat, in_block, with_routine, with_row, without_control}
 
 -- what a step gives, what is known after it, and the rules that it breaks
 pub record Done (A : Type 0) : Type 0 where
@@ -111,10 +111,6 @@ release = change without_control
 -- a routine threatens a variable at a token
 abbrev pub threaten : ℕ → ℕ → Step (Unit {0})
 threaten variable token = change (λ k. and_threat k variable token)
-
--- Of a variable's threats in the block the first alone is kept.
-abbrev pub settle : ℕ → Step (Unit {0})
-settle variable = change (λ k. with_first_threat k variable)
 
 -- The statements of this block are checked from now on.
 abbrev pub enter_block : Span → Step (Unit {0})

@@ -1,6 +1,6 @@
 -- What the tokens of a source spell, and the numbers of names.
 use Rattle.std.specs.Prelude.{ℕ, ◌+◌, Bool, List, [], ◌∷◌, ◌++◌, map, fold, length, codes, position, replicate, Option}
-use Rattle.std.specs.Prelude.{if◌then◌else◌, nat_eq, unwrap_or}
+use Rattle.std.specs.Prelude.{None, if◌then◌else◌, nat_eq, unwrap_or}
 use Rattle.std.specs.Global.{Vec}
 use Rattle.std.specs.List.{list_any}
 use Rattle.std.specs.Cmp.Lexicographic.{pointwise}
@@ -102,7 +102,7 @@ known_at_start l = record {
   regions = [];
   frames = [];
   controls = [];
-  threats = replicate (length l.tokens) 0;
+  threats = replicate (length l.tokens) None;
   block = record { first = 0; statements = 0 };
   choices = [];
 }

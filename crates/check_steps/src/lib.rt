@@ -8,6 +8,7 @@ pub mod items;
 pub mod regions;
 pub mod required;
 pub mod tables;
+mod threats;
 mod words;
 pub mod work;
 

@@ -1,10 +1,9 @@
 //! The tables that a check fills.
 
-ghost use Rattle.std.specs.Prelude.{◌≡◌, ◌+◌, ◌<◌, ◌^◌, ◌++◌, ◌∷◌, None, Some, length, slice_set, OnOk, IfOk};
+ghost use Rattle.std.specs.Prelude.{◌≡◌, ◌+◌, ◌<◌, ◌^◌, ◌++◌, ◌∷◌, None, Some, length, OnOk, IfOk};
 ghost use Rattle.check_steps.specs.Known.{and_choice, is_chosen};
 ghost use Rattle.check_steps.specs.Known.{and_control, and_definition, and_frame, and_label, and_region, and_routine};
-ghost use Rattle.check_steps.specs.Known.{and_threat, first_threat, in_block, is_control, label_at, threat_before};
-ghost use Rattle.check_steps.specs.Known.{threat_of, with_first_threat, without_control};
+ghost use Rattle.check_steps.specs.Known.{and_threat, in_block, is_control, label_at, threat_of, without_control};
 ghost use Rattle.check_steps.specs.Known.{find, find_label, found_in, frame_at, line_at, name_at, row_at, spelled_at};
 ghost use Rattle.check_steps.specs.Known.{type_at, with_routine, with_row, word_at};
 ghost use Rattle.check_steps.specs.Names.{usable};
@@ -12,6 +11,7 @@ ghost use Rattle.check_steps.specs.Regions.{declared_in, defined_in, region_at};
 ghost use Rattle.check_steps.specs.Words.{number_of_name, known_at_start};
 
 use crate::regions::{Definition, Found, Frame, Region, Span};
+use crate::threats::Threats;
 use crate::words::{REQUIRED_NAMES, Spelled, SpelledToken, names, texts, words};
 use indexmap::{IndexMap, IndexSet};
 use pas_lexer::Tokens;
@@ -29,7 +29,7 @@ pub struct Tables {
     regions: Vec<Region>,
     frames: Vec<Frame>,
     controls: Vec<u32>,
-    threats: Vec<u32>,
+    threats: Threats,
     block: Span,
     choices: IndexSet<(u32, i32)>,
 }
@@ -53,7 +53,7 @@ impl Model for Tables {
       }) t.regions.items;
       frames = t.frames.items;
       controls = t.controls.items;
-      threats = t.threats.items;
+      threats = t.threats;
       block = t.block;
       choices = t.choices.keys;
     } };
@@ -79,7 +79,7 @@ impl Tables {
         let words = words(alloc, &names, tokens)?;
         let texts = texts(alloc, tokens)?;
         let program = Program::new(alloc, (count + REQUIRED_NAMES) as usize, texts)?;
-        let threats = vec![in alloc; 0; count as usize]?;
+        let threats = Threats::new(alloc, count)?;
         Ok(Tables {
             names,
             words,
@@ -457,76 +457,20 @@ impl Tables {
         self.controls.contains(&variable)
     }
 
-    /// The token before this one in a list of threats.
-    fn threat_before(&self, token: u32) -> u32
-        ensures { result ≡ threat_before self.now token }
-    {
-        match self.threats.get(token as usize) {
-            Some(before) => *before,
-            None => 0,
-        }
-    }
-
-    fn put_threat(&mut self, token: u32, before: u32)
-        ensures { self.new ≡ record self.old { threats = slice_set self.old.threats token before } }
-    {
-        let token = token as usize;
-        if token < self.threats.len() {
-            self.threats[token] = before;
-        }
-    }
-
     /// A routine threatens a variable at a token.
     pub fn threaten(&mut self, variable: u32, token: u32)
         ensures { self.new ≡ and_threat self.old variable token }
     {
-        let before = self.threat_before(variable);
-        self.put_threat(token, before);
-        self.put_threat(variable, token);
-    }
-
-    /// The first threat of a variable after the block's first token.
-    #[tactic(auto, using(crate::proofs::Threats::backwards))]
-    fn first_threat(&self, variable: u32) -> Option<u32>
-        ensures { result ≡ first_threat self.now variable }
-    {
-        let token = self.block.first;
-        let mut first = None;
-        let mut last = self.threat_before(variable);
-        'threats: for _passed in 0..self.threats.len() {
-            if last <= token {
-                return first;
-            }
-            first = Some(last);
-            last = self.threat_before(last);
-        }
-        first
+        self.threats.put(variable, token);
     }
 
     /// The first token at which a routine of the block threatens a variable.
-    pub fn threat(&self, variable: u32) -> Option<u32>
-        ensures { result ≡ threat_of self.now variable }
+    pub fn threat(&mut self, variable: u32) -> Option<u32>
+        ensures first { result ≡ threat_of self.old variable }
+        ensures same { self.new ≡ self.old }
     {
-        match self.first_threat(variable) {
-            Some(threat) => {
-                if threat < self.block.statements {
-                    Some(threat)
-                } else {
-                    None
-                }
-            }
-            None => None,
-        }
-    }
-
-    /// Of a variable's threats after the block's first token the first alone is kept.
-    pub fn settle(&mut self, variable: u32)
-        ensures { self.new ≡ with_first_threat self.old variable }
-    {
-        match self.first_threat(variable) {
-            Some(first) => self.put_threat(variable, first),
-            None => {}
-        }
+        let block = self.block;
+        self.threats.first(variable, block.first, block.statements)
     }
 
     /// The statements of this block are checked from now on.

@@ -4,8 +4,9 @@ ghost use Rattle.std.specs.Prelude.{◌≡◌, None, IfOk};
 ghost use Rattle.check_steps.specs.Regions.{defined_in};
 ghost use Rattle.check_steps.specs.Names.{declare_in, define_in, use_at};
 ghost use Rattle.check_steps.specs.Steps.{Does, add_chosen, add_definition, add_routine, ask};
-ghost use Rattle.check_steps.specs.Steps.{enter_block, hold, late, open_frame};
-ghost use Rattle.check_steps.specs.Steps.{open_region, put, put_routine, release, early, settle, threaten, too_big};
+ghost use Rattle.check_steps.specs.Known.{threat_of};
+ghost use Rattle.check_steps.specs.Steps.{enter_block, hold, late, look, open_frame};
+ghost use Rattle.check_steps.specs.Steps.{open_region, put, put_routine, release, early, threaten, too_big};
 ghost use Rattle.check_steps.specs.Words.{known_at_start};
 
 use crate::breaks::{Break, Broken};
@@ -175,12 +176,12 @@ impl Work {
         self.tables.threaten(variable, token);
     }
 
-    /// Of a variable's threats in the block the first alone is kept.
-    #[tactic(auto, unfolding(crate::specs::Steps::change, crate::specs::Steps::run_step))]
-    pub fn settle(&mut self, variable: u32)
-        ensures { Does (settle variable) tt self.old self.new }
+    /// The first token at which a routine of the block threatens a variable.
+    #[tactic(auto, unfolding(crate::specs::Steps::look, crate::specs::Steps::run_step))]
+    pub fn threat(&mut self, variable: u32) -> Option<u32>
+        ensures { Does (look (λ k. threat_of k variable)) result self.old self.new }
     {
-        self.tables.settle(variable);
+        self.tables.threat(variable)
     }
 
     /// The statements of this block are checked from now on.

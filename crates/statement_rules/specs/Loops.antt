@@ -12,7 +12,7 @@ use Rattle.program_tables.specs.declared.rows.StatementRow.TheVariants as statem
 use Rattle.check_steps.specs.declared.regions.Found.{Found}
 use Rattle.check_steps.specs.Known.{Known, frame_at, row_at, threat_of}
 use Rattle.check_steps.specs.Names.{use_at}
-use Rattle.check_steps.specs.Steps.{Step, give, ◌>>=◌, look, late, hold, release, settle}
+use Rattle.check_steps.specs.Steps.{Step, give, ◌>>=◌, look, late, hold, release}
 use Rattle.pas_places.specs.Operators.{direction_token}
 use Rattle.type_relations.specs.declared.shapes.ExpressionType.{ExpressionType}
 use Rattle.type_relations.specs.declared.shapes.ExpressionType.TheVariants as expression
@@ -95,7 +95,6 @@ unfoldable pub held : ℕ → Step (Unit {0})
 held variable = do
   first ← look (λ k. threat_of k variable)
   _ ← unthreatened first
-  _ ← settle variable
   hold variable
 
 abbrev pub hold_if : Option ℕ → Step (Unit {0})

@@ -161,9 +161,8 @@ fn check_unthreatened(work: &mut Work, first: Option<u32>)
 fn hold_variable(work: &mut Work, variable: u32) -> Result<(), AllocError>
     ensures { IfOk result (λ _. Does (held variable) tt work.old work.new) }
 {
-    let first = work.tables.threat(variable);
+    let first = work.threat(variable);
     check_unthreatened(work, first);
-    work.settle(variable);
     work.hold(variable)?;
     Ok(())
 }

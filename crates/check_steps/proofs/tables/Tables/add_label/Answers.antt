@@ -24,7 +24,7 @@ returns-in_ok-insert c =
       regions = regions;
       frames = t.frames.items;
       controls = t.controls.items;
-      threats = t.threats.items;
+      threats = t.threats;
       block = t.block;
       choices = t.choices.keys;
     })
