@@ -1,6 +1,7 @@
 pub mod Breaks
 pub mod Regions
 pub mod Threats
+pub mod Frames
 pub mod Known
 pub mod Words
 pub mod Steps

@@ -4,6 +4,7 @@
 #![tactic(auto)]
 
 pub mod breaks;
+mod frames;
 pub mod items;
 pub mod regions;
 pub mod required;
@@ -13,6 +14,7 @@ mod words;
 pub mod work;
 
 pub use breaks::{Break, Broken, CheckFault};
+pub use frames::Beyond;
 pub use regions::{Def, Definition, Found, Frame, Span};
 pub use tables::Tables;
 pub use words::{Spelled, SpelledToken};

@@ -6,10 +6,12 @@ ghost use Rattle.check_steps.specs.Known.{and_control, and_definition, and_frame
 ghost use Rattle.check_steps.specs.Known.{and_threat, in_block, is_control, label_at, threat_of, without_control};
 ghost use Rattle.check_steps.specs.Known.{find, find_label, found_in, frame_at, line_at, name_at, row_at, spelled_at};
 ghost use Rattle.check_steps.specs.Known.{type_at, with_routine, with_row, word_at};
+ghost use Rattle.check_steps.specs.Frames.{Leads};
 ghost use Rattle.check_steps.specs.Names.{usable};
 ghost use Rattle.check_steps.specs.Regions.{declared_in, defined_in, region_at};
 ghost use Rattle.check_steps.specs.Words.{number_of_name, known_at_start};
 
+use crate::frames::{Beyond, Frames};
 use crate::regions::{Definition, Found, Frame, Region, Span};
 use crate::threats::Threats;
 use crate::words::{REQUIRED_NAMES, Spelled, SpelledToken, names, texts, words};
@@ -27,7 +29,7 @@ pub struct Tables {
     words: Vec<SpelledToken>,
     program: Program,
     regions: Vec<Region>,
-    frames: Vec<Frame>,
+    frames: Frames,
     controls: Vec<u32>,
     threats: Threats,
     block: Span,
@@ -35,7 +37,7 @@ pub struct Tables {
 }
 
 impl Model for Tables {
-    ghost use Rattle.std.specs.Prelude.{◌+◌, ◌<◌, ◌^◌, map, vec_len};
+    ghost use Rattle.std.specs.Prelude.{◌+◌, ◌<◌, ◌^◌, length, map, vec_len};
     ghost use Rattle.indexmap.specs.IndexSet.{index_set_len};
     ghost use Rattle.check_steps.specs.Known.{Known};
 
@@ -51,14 +53,14 @@ impl Model for Tables {
         names = r.names.entries;
         labels = r.labels.entries;
       }) t.regions.items;
-      frames = t.frames.items;
+      frames = t.frames;
       controls = t.controls.items;
       threats = t.threats;
       block = t.block;
       choices = t.choices.keys;
     } };
 
-    ghost invariant = { λ t. (vec_len t.regions < 2 ^ 32) × (vec_len t.frames < 2 ^ 32)
+    ghost invariant = { λ t. (vec_len t.regions < 2 ^ 32) × (length t.frames < 2 ^ 32)
         × (vec_len t.words + 26 < 2 ^ 32) × (index_set_len t.names < 2 ^ 32) };
 }
 
@@ -85,7 +87,7 @@ impl Tables {
             words,
             program,
             regions: Vec::new(alloc),
-            frames: Vec::new(alloc),
+            frames: Frames::new(alloc),
             controls: Vec::new(alloc),
             threats,
             block: Span {
@@ -277,15 +279,15 @@ impl Tables {
     pub fn frame(&self, number: u32) -> Frame
         ensures { result ≡ frame_at self.now number }
     {
-        match self.frames.get(number as usize) {
-            Some(frame) => *frame,
-            None => Frame {
-                region: 0,
-                outer: None,
-                level: 0,
-                withs: 0,
-            },
-        }
+        self.frames.frame(number)
+    }
+
+    /// What is beyond a frame: where one comes by going outward from it past frames of its own region.
+    pub fn beyond(&self, number: u32) -> Beyond
+        ensures { Leads self.now.frames (frame_at self.now number).region result.passed
+            (frame_at self.now number).outer result.to }
+    {
+        self.frames.beyond(number)
     }
 
     /// What the region of a frame itself defines a name as.
@@ -311,14 +313,17 @@ impl Tables {
         ensures { result ≡ find self.now frame name }
     {
         let mut at = Some(frame);
-        'frames: for _passed in 0..self.frames() {
+        let mut left = self.frames();
+        'frames: while left > 0 {
             let Some(number) = at else {
                 return None;
             };
             if let Some(found) = self.found_in(number, name) {
                 return Some(found);
             }
-            at = self.frame(number).outer;
+            let beyond = self.beyond(number);
+            at = beyond.to;
+            left = (left - 1).saturating_sub(beyond.passed as usize);
         }
         None
     }
@@ -345,15 +350,17 @@ impl Tables {
         ensures { result ≡ find_label self.now frame value }
     {
         let mut at = Some(frame);
-        'frames: for _passed in 0..self.frames() {
+        let mut left = self.frames();
+        'frames: while left > 0 {
             let Some(number) = at else {
                 return None;
             };
-            let here = self.frame(number);
-            if let Some(token) = self.declared_in(here.region, value) {
+            if let Some(token) = self.declared_in(self.frame(number).region, value) {
                 return Some(token);
             }
-            at = here.outer;
+            let beyond = self.beyond(number);
+            at = beyond.to;
+            left = (left - 1).saturating_sub(beyond.passed as usize);
         }
         None
     }
