@@ -1,18 +1,18 @@
 //! The program `pasask`: it debugs a Pascal program by asking whether its calls did what was meant.
 #![tactic(auto)]
 
-use debug_cli::ask_pascal;
+ghost use Rattle.debug_cli.specs.Exits.{EndsAsCommand};
+
+use debug_cli::ask_as_process;
 use edge_ports::{FileKeeper, StdSink, StdSource};
+use std::alloc::AllocError;
 use std::env;
 use std::io::{self, ErrorKind};
 use std::process::ExitCode;
 
-/// The exit status where memory runs out before the command begins.
-const MEMORY: u8 = 7;
-
 /// The words of the command, the program's name first. A word that is no UTF-8 text makes them none,
 /// which the command refuses.
-fn words(rt: &HostRuntime) -> io::Result<Vec<String>> {
+fn words(rt: &HostRuntime) -> Result<Vec<String>, AllocError> {
     let mut words = Vec::new(rt.alloc());
     match env::args(rt) {
         Ok(args) => {
@@ -22,19 +22,23 @@ fn words(rt: &HostRuntime) -> io::Result<Vec<String>> {
             Ok(words)
         }
         Err(error) => match error.kind() {
-            ErrorKind::OutOfMemory => Err(error),
+            ErrorKind::OutOfMemory => Err(AllocError),
             _ => Ok(words),
         },
     }
 }
 
-fn main(rt: HostRuntime) -> ExitCode {
-    let Ok(words) = words(&rt) else {
-        return ExitCode::from(MEMORY);
-    };
+/// The command over the words, files and streams of this process.
+fn run(rt: HostRuntime) -> ExitCode
+    ensures ended { EndsAsCommand result }
+{
+    let words = words(&rt);
     let mut console = StdSource::new(rt.reader());
     let mut screen = StdSink::new(io::writer(&rt));
     let mut keeper = FileKeeper::new(rt);
-    let status = ask_pascal(rt.alloc(), &words, &mut keeper, &mut console, &mut screen);
-    ExitCode::from(status)
+    ask_as_process(rt.alloc(), words, &mut keeper, &mut console, &mut screen)
+}
+
+fn main(rt: HostRuntime) -> ExitCode {
+    run(rt)
 }

@@ -1,0 +1,17 @@
+-- How a process ends that is the command.
+use Rattle.std.specs.Prelude.{◌≡◌, Option}
+use Rattle.std.specs.Process.{exit_status}
+use Rattle.std.specs.declared.process.ExitCode.{ExitCode}
+use Rattle.command_words.specs.Meaning.{Meant}
+use Rattle.ask_session.specs.Outside.{Outside}
+use Rattle.debug_cli.specs.declared.status.Status.{Status}
+use Rattle.debug_cli.specs.Goes.{Goes}
+use Rattle.debug_cli.specs.Status.{code_of}
+
+-- the code is the status, and what was done is what the command does where that is its status
+abbrev pub EndsAs : ExitCode → Option Meant → (before after : Outside) → Type 0
+EndsAs code m before after = (status : Status) × (exit_status code ≡ code_of status) × Goes m before after status
+
+-- so it is for some words, and for some files, console and screen
+abbrev pub EndsAsCommand : ExitCode → Type 0
+EndsAsCommand code = (m : Option Meant) × (before : Outside) × (after : Outside) × EndsAs code m before after
