@@ -88,7 +88,8 @@ fn came_of(outcome: &TurnOutcome) -> Came
 
 /// Does one turn. `budget` has the digits of the steps; `has_session` says whether there is a saved session to go on
 /// with. `files` has the names and bytes of further files, one after the other, and `sizes` how many bytes each has.
-/// Where they do not fill `files`, or a name is no text of UTF-8, the status is 10.
+/// Where they do not fill `files`, or a name is no text of UTF-8, the status is 10. It is 6 only where `screen` is
+/// full.
 #[unsafe(no_mangle)]
 pub extern "C" fn pasask_turn(
     alloc: Global,
@@ -105,6 +106,7 @@ pub extern "C" fn pasask_turn(
     came: &mut Came,
 )
     ensures within { came.new.screen ≤ length screen.new }
+    ensures full { came.new.status ≡ 6 → came.new.screen ≡ length screen.new }
     ensures turn { TurnOf
         (given_in (record {
           source = source.now;

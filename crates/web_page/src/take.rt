@@ -72,9 +72,10 @@ pub fn out_of_memory() -> TurnOutcome
 }
 
 /// Does a turn: the front of `screen` then has what the screen got, and the front of `saved` the session that a line
-/// `save page.session` saved.
+/// `save page.session` saved. The status is 6 only where `screen` is full.
 pub fn take_turn(alloc: Global, turn: &PageTurn, screen: &mut [u8], saved: &mut [u8]) -> TurnOutcome
     ensures within { result.screen ≤ length screen.new }
+    ensures full { result.status ≡ 6 → result.screen ≡ length screen.new }
     ensures headline { HasHeadline (given_by turn.now) (result_of result screen.new saved.new) }
     ensures transcript { IsTranscript (given_by turn.now) (result_of result screen.new saved.new) }
     ensures prefix { IsFirstPart (given_by turn.now) (result_of result screen.new saved.new) }
