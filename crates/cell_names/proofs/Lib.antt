@@ -1,9 +1,11 @@
+mod CellsAlike
 mod MembersInTurn
 pub mod NameParts
-mod NamesLead
 mod NamesMade
+mod NamesPassed
 pub mod PartsInTurn
 mod PartsSplit
 mod RecordsInTurn
+mod RootsPassed
 mod WaysDown
 pub mod WrittenInTurn

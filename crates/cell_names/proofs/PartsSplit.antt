@@ -184,3 +184,40 @@ pub pushed : (parts slice : List PlacedPart) (place n : ℕ) (part : PlacedPart)
     → (at : ℕ) → last_at at (take n parts ++ part ∷ []) ≡ last_at at (parts ++ part ∷ [])
 pushed parts slice place n part e f s at =
     let t : IsSplit part.place parts n = rw (← e, ← f) s in pushed_by parts n part t at (nat_le part.place at) refl
+
+-- where one part begins before a place, so do those before it
+pub before_all : (parts : List PlacedPart) (count place : ℕ) (d : PlacedPart) → IsRising parts → count ≤ length parts → (count ≡ 0 → ⊥)
+    → (slice_index_or parts (count - 1) d).place < place → (k : ℕ) (e : PlacedPart) → k < count → (slice_index_or parts k e).place < place
+before_all parts count place d rising inside some less k e below =
+    let within : count - 1 < length parts = omega (arith, inside, some) in
+    let r = rises_to parts rising k (count - 1) e (omega (arith, below)) within in
+    let s : (slice_index_or parts (count - 1) e).place ≡ (slice_index_or parts (count - 1) d).place =
+    ap (λ y. y.place) (get_or_any parts (count - 1) e d within) in
+    omega (arith, r, s, less)
+
+-- where one part begins at a place or after it, so do those after it
+pub after_all : (parts : List PlacedPart) (count place : ℕ) (d : PlacedPart) → IsRising parts → count < length parts
+    → place ≤ (slice_index_or parts count d).place → (k : ℕ) (e : PlacedPart) → count ≤ k → k < length parts → place ≤ (slice_index_or parts k e).place
+after_all parts count place d rising inside least k e above within =
+    let r = rises_to parts rising count k e above within in
+    let s : (slice_index_or parts count e).place ≡ (slice_index_or parts count d).place = ap (λ y. y.place) (get_or_any parts count e d inside) in
+    omega (arith, r, s, least)
+
+-- up to where the next part begins as many parts have begun
+pub still_split : (parts : List PlacedPart) (at k n : ℕ) (d : PlacedPart) → IsRising parts → IsSplit (at + 1) parts n → n < length parts
+    → k ≤ ((slice_index_or parts n d).place - at) - 1 → IsSplit ((at + k) + 1) parts n
+still_split parts at k n d rising s inside below = record {
+  inside = s.inside;
+  before = λ j e h. let b = s.before j e h in omega (arith, b);
+  after = after_all parts n ((at + k) + 1) d rising inside (let room = s.after n d (omega arith) inside in omega (arith, below, room));
+}
+
+-- which part has these places
+pub none_near : (at more n : ℕ) (parts slice : List PlacedPart) → slice ≡ parts → ((k : ℕ) → k ≤ more → IsSplit ((at + k) + 1) slice n) → n ≡ 0
+    → (k : ℕ) → k ≤ more → last_at (at + k) parts ≡ None
+none_near at more n parts slice e s z k below = sym (none_by (at + k) parts slice (at + k) n e refl (s k below) z)
+
+pub found_near : (at more n : ℕ) (parts slice : List PlacedPart) (x : PlacedPart) → slice ≡ parts
+    → ((k : ℕ) → k ≤ more → IsSplit ((at + k) + 1) slice n) → (n ≡ 0 → ⊥) → x ≡ get_or parts (n - 1) x
+    → (k : ℕ) → k ≤ more → last_at (at + k) parts ≡ Some x
+found_near at more n parts slice x e s some is k below = sym (found_by (at + k) parts slice (at + k) n x e refl (s k below) some is)

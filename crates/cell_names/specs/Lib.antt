@@ -6,3 +6,4 @@ pub mod Pieces
 pub mod Places
 pub mod Records
 pub mod Values
+pub mod Walks

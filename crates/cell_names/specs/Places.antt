@@ -1,5 +1,5 @@
 -- What begins where: lists of parts of a frame, of a record or of the heap.
-use Rattle.std.specs.Prelude.{ℕ, ◌<◌, ◌≤◌, Bool, nat_le, List, Option, length, filter, slice_index_or}
+use Rattle.std.specs.Prelude.{ℕ, ◌<◌, ◌≤◌, Bool, true, nat_le, List, Option, Some, None, length, filter, slice_index_or}
 use Rattle.std.specs.List.{AllPairs}
 use Rattle.cell_value.specs.Effects.{last_of}
 use Rattle.cell_names.specs.declared.places.PlacedPart.{PlacedPart}
@@ -7,6 +7,10 @@ use Rattle.cell_names.specs.declared.places.PlacedPart.{PlacedPart}
 -- whether a part begins at a place or before it
 abbrev pub is_begun : (at : ℕ) → PlacedPart → Bool
 is_begun at part = nat_le part.place at
+
+abbrev pub is_begun_by : (at : ℕ) → Option PlacedPart → Bool
+is_begun_by at None = true
+is_begun_by at (Some part) = is_begun at part
 
 -- Which of some parts has a place: the last of them, in their order, that begins there or before. Parts without cells
 -- begin where the next one does, which has the place.

@@ -1,12 +1,12 @@
 //! What is found in frames, in records and in the heap by its place: made once for a run.
 
-ghost use Rattle.std.specs.Prelude.{◌≡◌, ◌++◌, ℕ, IfOk, OnOk};
-ghost use Rattle.cell_names.specs.Places.{finds};
+ghost use Rattle.std.specs.Prelude.{◌≡◌, ◌+◌, ◌≤◌, ◌++◌, ℕ, IfOk, OnOk, true};
+ghost use Rattle.cell_names.specs.Places.{finds, is_begun_by};
 ghost use Rattle.cell_names.specs.Layouts.{frame_parts};
 ghost use Rattle.cell_names.specs.Finding.{block_by, blocks_of, finding_of, finding_in, list_at};
 
 use crate::layouts::frame_places;
-use crate::places::{PlacedPart, PlacedParts};
+use crate::places::{Found, PlacedPart, PlacedParts};
 use crate::records::record_places;
 use cell_value::Touch;
 use effect_log::Log;
@@ -85,6 +85,24 @@ fn find_in(lists: &[PlacedParts], number: u32, place: u32) -> Option<PlacedPart>
     }
 }
 
+/// What has a place in the list of a number, and how far it goes.
+#[tactic(auto, unfolding(crate::specs::Places::last_at))]
+fn find_near_in(lists: &[PlacedParts], number: u32, place: u32) -> Found
+    ensures alike { (k : ℕ) → k ≤ result.more → finds (list_at lists.now number) (place + k) ≡ result.part }
+    ensures begun { is_begun_by place result.part ≡ true }
+{
+    let number = number as usize;
+    if number < lists.len() {
+        lists[number].find_near(0, place)
+    } else {
+        Found {
+            part: None,
+            more: 0,
+            begun: 0,
+        }
+    }
+}
+
 impl NameFinder {
     /// What is found by its place in a program of this many tokens, in whose run this was done. It takes memory.
     pub fn new(
@@ -124,5 +142,30 @@ impl NameFinder {
         ensures { result ≡ (finding_in self.now).block address }
     {
         self.blocks.find(address)
+    }
+
+    /// What has a place of the frame of a routine, and how far it goes.
+    pub(crate) fn local_near(&self, routine: u32, place: u32) -> Found
+        ensures alike { (k : ℕ) → k ≤ result.more → (finding_in self.now).frame routine (place + k) ≡ result.part }
+        ensures begun { is_begun_by place result.part ≡ true }
+    {
+        find_near_in(&self.frames, routine, place)
+    }
+
+    /// What has a place of a record, and how far it goes.
+    pub(crate) fn component_near(&self, owner: u32, place: u32) -> Found
+        ensures alike { (k : ℕ) → k ≤ result.more → (finding_in self.now).component owner (place + k) ≡ result.part }
+        ensures begun { is_begun_by place result.part ≡ true }
+    {
+        find_near_in(&self.records, owner, place)
+    }
+
+    /// The variable of the heap that has an address, and how far it goes, with a guess at the number of those that
+    /// begin there or before.
+    pub(crate) fn block_near(&self, guess: usize, address: u32) -> Found
+        ensures alike { (k : ℕ) → k ≤ result.more → (finding_in self.now).block (address + k) ≡ result.part }
+        ensures begun { is_begun_by address result.part ≡ true }
+    {
+        self.blocks.find_near(guess, address)
     }
 }

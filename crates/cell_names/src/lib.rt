@@ -12,12 +12,13 @@ mod pieces;
 mod places;
 mod records;
 mod values;
+mod walks;
 
 pub use finding::NameFinder;
-pub use named_by::is_named_by;
 pub use names::{
     Held, Local, Origin, Root, Scene, Spot, local_at, result_of, root_at, write_root, write_way,
 };
 pub use pieces::{write_long, write_number, write_quoted, write_quoted_items};
 pub use places::{PlacedPart, PlacedParts};
 pub use values::write_typed;
+pub use walks::{Walked, walk};

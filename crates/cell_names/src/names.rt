@@ -355,7 +355,7 @@ fn part_local(program: &Program, place: u32, part: Option<PlacedPart>) -> Option
 }
 
 /// Whether a function's result has a place.
-fn is_result(result_place: Option<u32>, place: u32) -> bool
+pub(crate) fn is_result(result_place: Option<u32>, place: u32) -> bool
     ensures { result ≡ is_result result_place place }
 {
     match result_place {
@@ -427,7 +427,7 @@ fn stack_root(scene: &Scene, address: u32, part: Option<PlacedPart>) -> Option<R
 }
 
 /// What has an address of the heap.
-fn heap_root(address: u32, part: Option<PlacedPart>) -> Option<Root>
+pub(crate) fn heap_root(address: u32, part: Option<PlacedPart>) -> Option<Root>
     ensures { result ≡ heap_root address part }
 {
     match part {

@@ -1,7 +1,8 @@
 //! What begins where: lists of parts in which the one that has a place is found by halving.
 
-ghost use Rattle.std.specs.Prelude.{◌≡◌, ◌+◌, ◌++◌, ◌∷◌, [], OnOk};
-ghost use Rattle.cell_names.specs.Places.{IsRising, IsSplit, finds};
+ghost use Rattle.std.specs.Prelude.{◌≡◌, ◌+◌, ◌<◌, ◌≤◌, ◌++◌, ◌∷◌, [], ℕ, OnOk, length, slice_index_or, true};
+ghost use Rattle.cell_names.specs.declared.places.PlacedPart.{PlacedPart as PartValue};
+ghost use Rattle.cell_names.specs.Places.{IsRising, IsSplit, finds, is_begun_by};
 
 use std::alloc::{AllocError, Global};
 use std::marker::Model;
@@ -32,6 +33,15 @@ impl Model for PlacedParts {
     ghost invariant = { λ p. IsInOrder p.parts.items };
 }
 
+/// The part that has a place, if there is one; how many places after it have the same; and the number of parts that
+/// begin there or before.
+#[derive(Clone, Copy)]
+pub(crate) struct Found {
+    pub(crate) part: Option<PlacedPart>,
+    pub(crate) more: u32,
+    pub(crate) begun: usize,
+}
+
 /// How many of some parts, whose places rise, begin before a place.
 fn count_before(parts: &[PlacedPart], place: u64) -> usize
     requires { IsRising parts.now }
@@ -48,6 +58,72 @@ fn count_before(parts: &[PlacedPart], place: u64) -> usize
         }
     }
     low
+}
+
+/// Whether the first parts, this many, begin before a place.
+fn all_before(parts: &[PlacedPart], place: u64, count: usize) -> bool
+    requires rising { IsRising parts.now }
+    requires inside { count ≤ length parts.now }
+    ensures { result ≡ true → (k : ℕ) (d : PartValue) → k < count → (slice_index_or parts.now k d).place < place }
+{
+    if count == 0 {
+        true
+    } else {
+        u64::from(parts[count - 1].place) < place
+    }
+}
+
+/// Whether none but the first parts, this many, begins before a place.
+fn none_before(parts: &[PlacedPart], place: u64, count: usize) -> bool
+    requires { IsRising parts.now }
+    ensures { result ≡ true → (k : ℕ) (d : PartValue) → count ≤ k → k < length parts.now
+        → place ≤ (slice_index_or parts.now k d).place }
+{
+    if count < parts.len() {
+        place <= u64::from(parts[count].place)
+    } else {
+        true
+    }
+}
+
+/// Whether so many of some parts, whose places rise, begin before a place.
+fn are_before(parts: &[PlacedPart], place: u64, count: usize) -> bool
+    requires { IsRising parts.now }
+    ensures { result ≡ true → IsSplit place parts.now count }
+{
+    if count > parts.len() {
+        false
+    } else {
+        all_before(parts, place, count) && none_before(parts, place, count)
+    }
+}
+
+/// The same as `count_before`, quick if it is as many as was guessed, or one more.
+fn count_near(parts: &[PlacedPart], place: u64, guess: usize) -> usize
+    requires { IsRising parts.now }
+    ensures { IsSplit place parts.now result }
+{
+    if are_before(parts, place, guess) {
+        return guess;
+    }
+    let next = guess.saturating_add(1);
+    if are_before(parts, place, next) {
+        return next;
+    }
+    count_before(parts, place)
+}
+
+/// How many places after one are before the next part, where this many parts begin there or before.
+fn places_left(parts: &[PlacedPart], at: u32, begun: usize) -> u32
+    requires rising { IsRising parts.now }
+    requires split { IsSplit (at + 1) parts.now begun }
+    ensures { (k : ℕ) → k ≤ result → IsSplit ((at + k) + 1) parts.now begun }
+{
+    if begun < parts.len() {
+        parts[begun].place.saturating_sub(at).saturating_sub(1)
+    } else {
+        u32::MAX - at
+    }
 }
 
 impl PlacedParts {
@@ -79,5 +155,27 @@ impl PlacedParts {
             return None;
         }
         Some(self.parts[begun - 1])
+    }
+
+    /// The part that has a place, and how far it goes. A guess at the number of parts that begin there or before makes
+    /// it quick, if it is right or one too few.
+    pub(crate) fn find_near(&self, guess: usize, at: u32) -> Found
+        ensures alike { (k : ℕ) → k ≤ result.more → finds self.now (at + k) ≡ result.part }
+        ensures begun { is_begun_by at result.part ≡ true }
+    {
+        let begun = count_near(&self.parts, u64::from(at) + 1, guess);
+        let more = places_left(&self.parts, at, begun);
+        if begun == 0 {
+            return Found {
+                part: None,
+                more,
+                begun,
+            };
+        }
+        Found {
+            part: Some(self.parts[begun - 1]),
+            more,
+            begun,
+        }
     }
 }

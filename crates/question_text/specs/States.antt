@@ -54,6 +54,9 @@ abbrev pub named_root : Scene → (name : List ℕ) → CellSides → Option Roo
 named_root s name sides None = None
 named_root s name sides (Some r) = if is_cell sides && is_named_by s r name then Some r else None
 
+abbrev pub if_cell : CellSides → Root → Option Root
+if_cell sides r = if is_cell sides then Some r else None
+
 abbrev pub cell_at : Scene → Call → (name : List ℕ) → (address : ℕ) → Option Root
 cell_at s call name address = named_root s name (sides_at call address) (root_at s address)
 

@@ -1,20 +1,21 @@
 //! What cells held before a call and after it.
 
-ghost use Rattle.std.specs.Prelude.{◌≡◌, ◌++◌, IfOk, OnErr, OnOk, Some, is_some};
+ghost use Rattle.std.specs.Prelude.{◌≡◌, ◌<◌, ◌≤◌, ◌+◌, ◌++◌, ℕ, IfOk, OnErr, OnOk, Some, false, is_some};
 ghost use Rattle.std.specs.FinMap as map;
 ghost use Rattle.cell_names.specs.Finding.{finding_of, finding_in};
 ghost use Rattle.cell_names.specs.Names.{scene_in};
+ghost use Rattle.cell_names.specs.Walks.{is_named_at};
 ghost use Rattle.question_text.specs.Cards.{recorded_in};
 ghost use Rattle.question_text.specs.Cells.{held_text};
-ghost use Rattle.question_text.specs.States.{cell_at, has_cell, has_cell_by, is_between, is_cell, is_same_value};
-ghost use Rattle.question_text.specs.States.{line_at, lines_between, lines_by, named_root, sides_at};
+ghost use Rattle.question_text.specs.States.{cell_at, has_cell, has_cell_by, if_cell, is_between, is_cell};
+ghost use Rattle.question_text.specs.States.{is_same_value, line_at, line_by, lines_between, lines_by, sides_at};
 ghost use Rattle.question_text.specs.States.{sides_line, sides_text, state_text};
 
 use crate::cards::Recorded;
 use crate::cells::write_held;
 use crate::opened::opened_calls;
 use call_tree::Call;
-use cell_names::{Held, Root, Scene, is_named_by, root_at, write_root};
+use cell_names::{Held, Root, Scene, Walked, walk, write_root};
 use cell_value::{Value, within};
 use edge_ports::Bytes;
 use persistent_store::Store;
@@ -120,39 +121,65 @@ fn write_sides_line(
     out.append(b"\n")
 }
 
-/// The cell at an address, if there was one and a name names it.
-fn named_root(scene: &Scene, sides: CellSides, root: Option<Root>, name: &[u8]) -> Option<Root>
-    ensures { result ≡ named_root (scene_in scene.now) name.now sides root }
+/// What a walk over addresses comes to at one of them.
+#[derive(Clone, Copy)]
+struct Passed {
+    /// Whether there was a cell before the call or after it, which the name names.
+    named: bool,
+    /// How many addresses after this one have no such cell.
+    more: u32,
+    /// A guess for the next walk.
+    guess: usize,
+}
+
+/// Appends the line on a cell, if there was one; and whether there was.
+fn write_if_cell(
+    out: &mut Bytes,
+    scene: &Scene,
+    root: Root,
+    sides: CellSides,
+) -> Result<bool, AllocError>
+    ensures line { OnOk result (out.new ≡ out.old ++ line_by (scene_in scene.now) sides (if_cell sides root)) }
+    ensures some { IfOk result (λ some. some ≡ is_some (if_cell sides root)) }
 {
-    match root {
-        None => None,
-        Some(root) => {
-            if is_cell(sides) && is_named_by(scene, root, name) {
-                Some(root)
-            } else {
-                None
-            }
-        }
+    if is_cell(sides) {
+        write_sides_line(out, scene, root, sides)?;
+        Ok(true)
+    } else {
+        Ok(false)
     }
 }
 
-/// Appends the line on the cell at an address, if there was one and a name names it; and whether it does.
-fn write_if_named(
+/// Appends the line on the cell at an address, if there was one and a name names it; and how far on there is none.
+fn write_from(
     out: &mut Bytes,
     scene: &Scene,
     call: &Call,
     name: &[u8],
     address: u32,
-) -> Result<bool, AllocError>
+    limit: u32,
+    guess: usize,
+) -> Result<Passed, AllocError>
     ensures line { OnOk result (out.new ≡ out.old ++ line_at (scene_in scene.now) call.now name.now address) }
-    ensures named { IfOk result (λ named. named ≡ is_some (cell_at (scene_in scene.now) call.now name.now address)) }
+    ensures named { IfOk result (λ passed. passed.named
+        ≡ is_some (cell_at (scene_in scene.now) call.now name.now address)) }
+    ensures more { IfOk result (λ passed. (k : ℕ) → 0 < k → k ≤ passed.more
+        → is_named_at (scene_in scene.now) name.now (address + k) ≡ false) }
 {
-    let sides = sides_at(call, address);
-    match named_root(scene, sides, root_at(scene, address), name) {
-        None => Ok(false),
-        Some(root) => {
-            write_sides_line(out, scene, root, sides)?;
-            Ok(true)
+    let (walked, guess) = walk(scene, name, address, limit, guess);
+    match walked {
+        Walked::Unnamed(more) => Ok(Passed {
+            named: false,
+            more,
+            guess,
+        }),
+        Walked::Named(root) => {
+            let named = write_if_cell(out, scene, root, sides_at(call, address))?;
+            Ok(Passed {
+                named,
+                more: 0,
+                guess,
+            })
         }
     }
 }
@@ -170,9 +197,13 @@ fn write_between(
     ensures some { IfOk result (λ some. some ≡ is_between (scene_in scene.now) call.now name.now from to) }
 {
     let mut some = false;
-    'addresses: for address in from..to {
-        let named = write_if_named(out, scene, call, name, address)?;
-        some = some || named;
+    let mut guess = 0usize;
+    let mut address = from;
+    'addresses: while address < to {
+        let passed = write_from(out, scene, call, name, address, to - address, guess)?;
+        some = some || passed.named;
+        guess = passed.guess;
+        address = address.saturating_add(1).saturating_add(passed.more);
     }
     Ok(some)
 }

@@ -1,22 +1,33 @@
-use Rattle.std.proofs.Common.{◌≡◌, ◌||◌}
+use Rattle.std.proofs.Common.{◌≡◌, ◌+◌, ◌≤◌, ◌||◌, arith}
 use Rattle.cell_names.specs.Names.{scene_in}
-use Rattle.question_text.proofs.CellsInTurn.{cell_counted, cells_end, line_written, lines_end, or_by_first, or_by_second}
+use Rattle.question_text.proofs.CellsInTurn.{after_passed, cell_counted, cells_end, counted_passed, line_written, lines_end, or_by_first, or_by_second}
 use Rattle.question_text.proofs.states.write_between.Goals.{then-some, else-some}
 use Rattle.question_text.proofs.states.write_between.Goals as goal
 
 pub addresses-preserved : goal.addresses-preserved
 addresses-preserved c =
     let s = scene_in c.args.scene.now in
-    let joined : c.if-some.some ≡ (c.addresses.some || c.in_ok-named.named) =
+    let passed = c.in_ok-passed.passed in
+    let joined : c.if-some.some ≡ (c.addresses.some || passed.named) =
     elim c.if-some.branch [
-      | then-some w ↦ or_by_first c.addresses.some c.in_ok-named.named c.if-some.some w.if-some.true w.some-is
-      | else-some w ↦ or_by_second c.addresses.some c.in_ok-named.named c.if-some.some w.if-some.false w.some-is
+      | then-some w ↦ or_by_first c.addresses.some passed.named c.if-some.some w.if-some.true w.some-is
+      | else-some w ↦ or_by_second c.addresses.some passed.named c.if-some.some w.if-some.false w.some-is
     ] in
+    let one = c.saturating_add.ensures in
+    let all = c.saturating_add-address.ensures in
+    let test = c.addresses-test.true in
+    let range = c.ranges.to in
+    let above : c.addresses.address + 1 ≤ c.saturating_add-address.result = omega (arith, one, all, test, range) in
+    let below : c.saturating_add-address.result ≤ c.addresses.address + 1 + passed.more = omega (arith, one, all) in
     record {
-      lines = line_written s c.args.call.now c.args.name.now c.addresses.address c.args.to c.addresses.out c.write_if_named.new.out _ c.addresses-test.true
-          c.in_ok-named.ensures.line c.addresses.invariant.lines;
-      cells = cell_counted s c.args.call.now c.args.name.now c.addresses.address c.args.to c.addresses.some c.in_ok-named.named c.if-some.some _
-          c.addresses-test.true c.in_ok-named.ensures.named joined c.addresses.invariant.cells;
+      lines = after_passed s c.args.call.now c.args.name.now c.addresses.address c.saturating_add-address.result c.args.to passed.more c.write_from.new.out _
+          above below c.in_ok-passed.ensures.more
+          (line_written s c.args.call.now c.args.name.now c.addresses.address c.args.to c.addresses.out c.write_from.new.out _ test
+          c.in_ok-passed.ensures.line c.addresses.invariant.lines);
+      cells = counted_passed s c.args.call.now c.args.name.now c.addresses.address c.saturating_add-address.result c.args.to passed.more c.if-some.some _ above
+          below c.in_ok-passed.ensures.more
+          (cell_counted s c.args.call.now c.args.name.now c.addresses.address c.args.to c.addresses.some passed.named c.if-some.some _ test
+          c.in_ok-passed.ensures.named joined c.addresses.invariant.cells);
     }
 
 pub returns-clause-lines : goal.returns-clause-lines

@@ -1,0 +1,149 @@
+-- Cells that stand one after another in the same component, field or variable.
+use Rattle.std.proofs.Common.{◌≡◌, ℕ, zero, suc, ◌+◌, ◌-◌, ◌*◌, ◌/◌, ◌%◌, ◌<◌, ◌≤◌, ◌==◌, Bool, true, false, Option, Some, None, if◌then◌else◌}
+use Rattle.std.proofs.Common.{refl, sym, ap, ◌∙◌, arith, mod-lt}
+use Rattle.std.specs.Prelude.{pos, ◌+ℤ◌}
+use Rattle.std.specs.Prelude.{min, nat_lt, nat_le}
+use Rattle.std.proofs.lemmas.Bool.Decides.{nat_tests}
+use Rattle.std.proofs.lemmas.Nat.{div-add-mod', div-mul-add, mod-mul-add}
+use Rattle.program_tables.specs.declared.program.Routine.{Routine}
+use Rattle.program_tables.specs.declared.rows.Row.{Row}
+use Rattle.program_tables.specs.declared.rows.Row.TheVariants as rows
+use Rattle.program_tables.specs.declared.rows.NameRow.TheVariants as names
+use Rattle.program_tables.specs.declared.rows.Mode.TheVariants as modes
+use Rattle.program_tables.specs.declared.rows.TypeRow.{TypeRow}
+use Rattle.program_tables.specs.declared.rows.TypeRow.TheVariants as kinds
+use Rattle.program_tables.specs.ProgramRows.{ProgramRows, row_at, size_of, type_at}
+use Rattle.cell_names.specs.declared.places.PlacedPart.{PlacedPart}
+use Rattle.cell_names.specs.declared.names.Held.TheVariants as held
+use Rattle.cell_names.specs.declared.names.Spot.{Spot}
+use Rattle.cell_names.specs.declared.names.Step.{Step}
+use Rattle.cell_names.specs.declared.names.Selector.TheVariants as selector
+use Rattle.cell_names.specs.Places.{is_begun_by}
+use Rattle.cell_names.specs.Values.{bounds_of}
+use Rattle.cell_names.specs.Names.{Scene, component_step, field_step, is_result, least_in, local_in, named_local, part_local, record_step, result_local}
+use Rattle.cell_names.specs.Names.{result_of, spot, step, step_by, step_down, typed_step}
+use Rattle.cell_names.specs.Walks.{before_result, left_of_component, moved, moved_local, moved_step}
+
+same_row : (place size k : ℕ) → k ≤ size - place % suc size → place % suc size ≤ size → (place + k) / suc size ≡ place / suc size
+same_row place size k below in_row =
+    let e = div-add-mod' place (suc size) in
+    let s : place + k ≡ place / suc size * suc size + (place % suc size + k) = omega (arith, e) in
+    ap (λ n. n / suc size) s ∙ div-mul-add (place / suc size) (suc size) (place % suc size + k) (omega (arith, below, in_row))
+
+same_column : (place size k : ℕ) → k ≤ size - place % suc size → place % suc size ≤ size → (place + k) % suc size ≡ place % suc size + k
+same_column place size k below in_row =
+    let e = div-add-mod' place (suc size) in
+    let s : place + k ≡ place / suc size * suc size + (place % suc size + k) = omega (arith, e) in
+    ap (λ n. n % suc size) s ∙ mod-mul-add (place / suc size) (suc size) (place % suc size + k) (omega (arith, below, in_row))
+
+abbrev in_array : ProgramRows → (index component which place : ℕ) → Option Step
+in_array p index component which place =
+    Some (step (selector.Index index (least_in (bounds_of p index) +ℤ pos which)) (spot (held.Variable component) place))
+
+mod_le : (a n : ℕ) → a % suc n ≤ n
+mod_le a n = let h : a % suc n < suc n = mod-lt a (omega arith) in omega (arith, h)
+
+-- cells of one component of an array
+pub component_moves : (p : ProgramRows) (index component place k size : ℕ) → k ≤ left_of_component place size
+    → component_step p index component (place + k) size ≡ moved_step k (component_step p index component place size)
+component_moves p index component place k zero below = refl
+component_moves p index component place k (suc n) below =
+    let in_row : place % suc n ≤ n = mod_le place n in
+    ap (λ q. in_array p index component q ((place + k) % suc n)) (same_row place n k below in_row)
+    ∙ ap (in_array p index component (place / suc n)) (same_column place n k below in_row)
+
+-- cells of one field or tag
+field_moves : (number place k : ℕ) (r : Row) → field_step number (place + k) r ≡ moved_step k (field_step number place r)
+field_moves number place k (rows.Name (names.Field of' offset holder)) = refl
+field_moves number place k (rows.Name (names.Tag of' offset holder variants)) = refl
+field_moves number place k (rows.Part r) = refl
+field_moves number place k r = refl
+
+pub after_begin : (at place k : ℕ) → nat_le at place ≡ true → (place + k) - at ≡ (place - at) + k
+after_begin at place k e = let h : at ≤ place = grind (arith, nat_tests, e) in omega (arith, h)
+
+pub record_moves : (p : ProgramRows) (place k : ℕ) (part : Option PlacedPart) → is_begun_by place part ≡ true
+    → record_step p (place + k) part ≡ moved_step k (record_step p place part)
+record_moves p place k None e = refl
+record_moves p place k (Some x) e =
+    ap (λ n. field_step x.number n (row_at p x.number)) (after_begin x.place place k e) ∙ field_moves x.number (place - x.place) k (row_at p x.number)
+
+-- cells of one variable of a frame
+named_moves : (token place k : ℕ) (r : Row) → named_local token (place + k) r ≡ moved_local k (named_local token place r)
+named_moves token place k (rows.Name (names.Variable modes.Place of' at level)) = refl
+named_moves token place k (rows.Name (names.Variable modes.Own of' at level)) = refl
+named_moves token place k (rows.Name (names.Variable modes.Value of' at level)) = refl
+named_moves token place k (rows.Name (names.RoutineFormal at level heading)) = refl
+named_moves token place k r = refl
+
+part_moves : (p : ProgramRows) (place k : ℕ) (part : Option PlacedPart) → is_begun_by place part ≡ true
+    → part_local p (place + k) part ≡ moved_local k (part_local p place part)
+part_moves p place k None e = refl
+part_moves p place k (Some x) e =
+    ap (λ n. named_local x.number n (row_at p x.number)) (after_begin x.place place k e) ∙ named_moves x.number (place - x.place) k (row_at p x.number)
+
+plain_local : (s : Scene) (number place : ℕ) (r : Routine) → (place == 0) ≡ false → is_result r.result place ≡ false
+    → local_in s number place (Some r) ≡ part_local s.program place (s.finding.frame number place)
+plain_local s number place r first other =
+    let own = part_local s.program place (s.finding.frame number place) in
+    let result = result_local r (result_of (row_at s.program r.heading)) in
+    ap (λ (b : Bool). if b then None else (if is_result r.result place then result else own)) first
+    ∙ ap (λ (b : Bool). if b then result else own) other
+
+result_before : (at place k more : ℕ) (b : Bool) → nat_lt place at ≡ b → (at == place) ≡ false
+    → k ≤ (if b then min more (at - place - 1) else more) → (k ≤ more) × ((at == place + k) ≡ false)
+result_before at place k more true e other below = grind (arith, nat_tests, e, other, below)
+result_before at place k more false e other below = grind (arith, nat_tests, e, other, below)
+
+not_result : (result : Option ℕ) (place k more : ℕ) → is_result result place ≡ false → k ≤ before_result result place more
+    → (k ≤ more) × (is_result result (place + k) ≡ false)
+not_result None place k more other below = (below, refl)
+not_result (Some at) place k more other below = result_before at place k more (nat_lt place at) refl other below
+
+-- what has a place of a frame and the places after it
+pub record IsLocal (s : Scene) (number place : ℕ) (r : Routine) (part : Option PlacedPart) (more : ℕ) : Type 0 where
+  pub first : (place == 0) ≡ false
+  pub other : is_result r.result place ≡ false
+  pub alike : (k : ℕ) → k ≤ more → s.finding.frame number (place + k) ≡ part
+  pub begun : is_begun_by place part ≡ true
+
+pub local_moves : (s : Scene) (number place : ℕ) (r : Routine) (part : Option PlacedPart) (more k : ℕ) → IsLocal s number place r part more
+    → k ≤ before_result r.result place more → local_in s number (place + k) (Some r) ≡ moved_local k (local_in s number place (Some r))
+local_moves s number place r part more k l below =
+    let n = not_result r.result place k more l.other below in
+    let p = s.program in
+    let z : (place + k == 0) ≡ false = let f = l.first in grind (arith, nat_tests, f) in
+    let here : s.finding.frame number place ≡ part = let e : place ≡ place + 0 = omega arith in ap (s.finding.frame number) e ∙ l.alike 0 (omega arith) in
+    plain_local s number (place + k) r z n.1 ∙ ap (part_local p (place + k)) (l.alike k n.0) ∙ part_moves p place k part l.begun
+    ∙ sym (ap (moved_local k) (plain_local s number place r l.first l.other ∙ ap (part_local p place) here))
+
+-- the same cell
+pub moved_none : (at : Spot) → moved 0 at ≡ at
+moved_none at = let e : at.place + 0 ≡ at.place = omega arith in ap (λ n. spot at.held n) e
+
+pub moved_twice : (k m : ℕ) (at : Spot) → moved k (moved m at) ≡ moved (m + k) at
+moved_twice k m at = let e : (at.place + m) + k ≡ at.place + (m + k) = omega arith in ap (λ n. spot at.held n) e
+
+by_type : (s : Scene) (at : Spot) (of' : ℕ) (t : Option TypeRow) → at.held ≡ held.Variable of' → type_at s.program of' ≡ t
+    → step_down s at ≡ typed_step s of' at.place t
+unfolding step_down
+by_type s at of' t e f = ap (step_by s at.place) e ∙ ap (typed_step s of' at.place) f
+
+-- cells of one component of an array
+pub array_below : (s : Scene) (at : Spot) (of' k index component cells : ℕ) (packed : Bool) → at.held ≡ held.Variable of'
+    → type_at s.program of' ≡ Some (kinds.Array packed index component cells) → k ≤ left_of_component at.place (size_of s.program component)
+    → step_down s (moved k at) ≡ moved_step k (step_down s at)
+array_below s at of' k index component cells packed e f below =
+    by_type s (moved k at) of' _ e f ∙ component_moves s.program index component at.place k (size_of s.program component) below
+    ∙ ap (moved_step k) (sym (by_type s at of' _ e f))
+
+-- cells of one field of a record
+pub record_below : (s : Scene) (at : Spot) (of' k more region cells : ℕ) (variants : Option ℕ) (packed : Bool) (part : Option PlacedPart)
+    → at.held ≡ held.Variable of' → type_at s.program of' ≡ Some (kinds.Record packed region cells variants)
+    → ((m : ℕ) → m ≤ more → s.finding.component of' (at.place + m) ≡ part) → is_begun_by at.place part ≡ true → k ≤ more
+    → step_down s (moved k at) ≡ moved_step k (step_down s at)
+record_below s at of' k more region cells variants packed part e f same begun below =
+    let here : s.finding.component of' at.place ≡ part =
+    let z : at.place ≡ at.place + 0 = omega arith in ap (s.finding.component of') z ∙ same 0 (omega arith) in
+    by_type s (moved k at) of' _ e f ∙ ap (record_step s.program (at.place + k)) (same k below) ∙ record_moves s.program at.place k part begun
+    ∙ ap (λ o. moved_step k (record_step s.program at.place o)) (sym here) ∙ ap (moved_step k) (sym (by_type s at of' _ e f))

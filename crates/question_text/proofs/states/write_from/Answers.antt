@@ -1,0 +1,19 @@
+use Rattle.std.proofs.Common.{◌++◌, append-nil, ap, sym, ◌∙◌}
+use Rattle.std.specs.Prelude.{is_some}
+use Rattle.cell_names.specs.Names.{scene_in}
+use Rattle.question_text.specs.States.{line_by, sides_at}
+use Rattle.question_text.proofs.CellsInTurn.{unnamed_here}
+use Rattle.question_text.proofs.states.write_from.Goals as goal
+
+pub returns-in-Unnamed-clause-line : goal.returns-in-Unnamed-clause-line
+returns-in-Unnamed-clause-line c =
+    let s = scene_in c.args.scene.now in
+    let walked = rw c.in-Unnamed.is at c.walk-walked.ensures in
+    sym (append-nil c.args.out.now)
+    ∙ ap (λ o. c.args.out.now ++ line_by s (sides_at c.args.call.now c.args.address) o)
+    (sym (unnamed_here s c.args.call.now c.args.name.now c.args.address c.in-Unnamed.more walked))
+
+pub returns-in-Unnamed-clause-named : goal.returns-in-Unnamed-clause-named
+returns-in-Unnamed-clause-named c =
+    let walked = rw c.in-Unnamed.is at c.walk-walked.ensures in
+    ap is_some (sym (unnamed_here (scene_in c.args.scene.now) c.args.call.now c.args.name.now c.args.address c.in-Unnamed.more walked))
