@@ -85,7 +85,7 @@ pub record RowOf (p : ProgramRows) (h : History) (calls : List Call) (number : â
   pub made : MadeBy p call (drop (number + 1) calls)
 
 module _ {p : ProgramRows} {input : List â„•} {h : History} (g : RunOf p input h) where
-  all_tell : AllTell h.budget h.output (table_of g.result.events) g.result.events
+  pub all_tell : AllTell h.budget h.output (table_of g.result.events) g.result.events
   all_tell =
       let ran = run_gives p (depth_enough p h.budget) block (start input h.budget) g.result g.is in
       let rows = rows_at first_spot g.result.events in

@@ -56,7 +56,7 @@ source f (x ∷ xs) zero y e = record { element = x; stands = refl }
 source f (x ∷ xs) (suc k) y e = let s = source f xs k y e in record { element = s.element; stands = s.stands }
 
 module _ {p : ProgramRows} {input : List ℕ} {h : History} (g : RunOf p input h) where
-  few_calls : length (calls_in g.result) ≤ 500000
+  pub few_calls : length (calls_in g.result) ≤ 500000
   few_calls =
       let l = (ran_leaves p (run_gives p (depth_enough p h.budget) block (start input h.budget) g.result g.is) (begins_sound input h.budget)).leaves in
       let a = l.calls in

@@ -1,9 +1,14 @@
--- What the own work of each call of a run comes to.
-use Rattle.std.specs.Prelude.{◌≡◌, ℕ, List, Some}
+-- What the own work of each call of a run comes to, and that each call agrees with its own entry.
+use Rattle.std.specs.Prelude.{◌≡◌, ◌↔◌, ℕ, IsTrue, List, Some}
 use Rattle.std.specs.List.{slice_get}
 use Rattle.program_tables.specs.ProgramRows.{ProgramRows}
+use Rattle.program_meaning.specs.State.{State}
 use Rattle.program_meaning.specs.Run.{Call, Result, result_in, run, way_out}
+use Rattle.program_meaning.specs.Agree.{Agrees, EndedByItself}
+use Rattle.program_meaning.specs.Apply.{apply}
 use Rattle.program_meaning.specs.Replay.{Event, Replayed, Replaying}
+use Rattle.run_laws.specs.Laws.{OfEachCall}
+use Rattle.body_replay.specs.Agreement.{agrees}
 use Rattle.body_replay.specs.Replays.{records_of, work_of}
 
 -- The own work of a call, which is its body, run from its recorded entry with the recorded effects of the calls that it
@@ -20,3 +25,13 @@ abbrev pub BodiesGiveTheirExits : Type 0
 BodiesGiveTheirExits = (p : ProgramRows) (input : List ℕ) (budget number : ℕ) (c : Call)
     → slice_get (records_of (run p input budget)) number ≡ Some c
     → GivesItsExit c (work_of p (run p input budget) number)
+
+-- Each call of each run that ended by itself, by a jump or by a fault agrees with its own recorded entry, and its
+-- effect makes its recorded exit of that.
+abbrev pub CallsCarryToThemselves : Type 0
+CallsCarryToThemselves = OfEachCall (λ p number c below. EndedByItself c.way
+    → Agrees c below c.entry × (apply c c.entry ≡ c.exit))
+
+-- the test of agreement says what agreement is
+abbrev pub AgreementIsTested : Type 0
+AgreementIsTested = (c : Call) (below : List Call) (σ : State) → IsTrue (agrees c below σ) ↔ Agrees c below σ

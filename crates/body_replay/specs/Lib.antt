@@ -4,3 +4,6 @@ pub mod Laws
 pub mod Counting
 pub mod Again
 pub mod Traces
+pub mod Agreement
+pub mod Carried
+pub mod ByRows

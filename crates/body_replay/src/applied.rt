@@ -39,7 +39,7 @@ fn change_cell(alloc: Global, store: &mut Store, addr: u32, change: Change) -> R
 }
 
 /// Makes changes, with a step for each.
-fn change_cells<L>(
+pub(crate) fn change_cells<L>(
     alloc: Global,
     store: &mut Store,
     changes: &Changes,

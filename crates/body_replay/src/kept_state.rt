@@ -15,7 +15,7 @@ use program_run::History;
 use std::alloc::Global;
 
 /// A copy of the items of an input.
-fn copy_items(alloc: Global, items: &Items) -> Result<Items, Memory>
+pub(crate) fn copy_items(alloc: Global, items: &Items) -> Result<Items, Memory>
     ensures same { IfOk result (λ copy. copy ≡ items.now) }
     ensures few { IfOk result (λ copy. length copy < 4294967296) }
 {

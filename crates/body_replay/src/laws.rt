@@ -1,6 +1,6 @@
-//! Laws of the own work of calls, each the contract of a call that does nothing.
+//! Laws of the own work of calls and of their records, each the contract of a call that does nothing.
 
-ghost use Rattle.body_replay.specs.Laws.{BodiesGiveTheirExits};
+ghost use Rattle.body_replay.specs.Laws.{AgreementIsTested, BodiesGiveTheirExits, CallsCarryToThemselves};
 
 use run_laws::bodies_repeat;
 
@@ -12,3 +12,14 @@ pub fn bodies_give_their_exits()
     // At each depth that is enough it does.
     bodies_repeat();
 }
+
+/// Each call of a run that ended by itself, by a jump or by a fault agrees with its own recorded entry, and its
+/// recorded effect makes its recorded exit of that entry.
+pub fn calls_carry_to_themselves()
+    ensures { CallsCarryToThemselves }
+{}
+
+/// The test of agreement, by which a dialog says whether a record carries, says what agreement is.
+pub fn agreement_is_tested()
+    ensures { AgreementIsTested }
+{}

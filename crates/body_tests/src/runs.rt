@@ -3,7 +3,7 @@ ghost use Rattle.std.specs.Prelude.{◌≡◌, ◌≤◌, ◌<◌, [], List, ℕ
 ghost use Rattle.program_run.specs.History.{IsOfRun};
 ghost use Rattle.run_laws.specs.Laws.{most_bytes};
 
-use body_replay::{KeptState, Trace, apply, replay};
+use body_replay::{KeptState, Trace, apply, carries, entry_of, replay, transplant};
 use call_tree::{Call, Calls, Event, Events, Side};
 use cell_value::{Items, Memory, Steps, Touch, Value, WayOut};
 use edge_ports::Bytes;
@@ -315,7 +315,42 @@ fn replay_holds(
     Ok(trace_holds(&trace, kept, again))
 }
 
-/// Does each call again.
+/// Puts a call in place of its run from its own entry, and says whether that leaves its exit.
+fn transplant_holds(
+    alloc: Global,
+    program: &Program,
+    history: &History,
+    number: u32,
+    kept: &Kept,
+    again: &Again,
+) -> Result<bool, Memory>
+    requires ran { (input : List ℕ) × (length input ≤ most_bytes)
+        × IsOfRun program.now input history.now.budget history.now }
+    requires budget { history.now.budget ≤ 4000000 }
+    requires call { number < length history.now.calls.calls }
+{
+    let entry = entry_of(alloc, program, history, number)?;
+    match transplant(alloc, program, history, number, &entry)? {
+        Some(exit) => Ok(exit_holds(&exit, kept, again)),
+        None => Ok(false),
+    }
+}
+
+/// Whether the call `next` carries to itself, and not to where the block was entered, below whose variables it stands.
+fn carries_hold(alloc: Global, program: &Program, history: &History) -> Result<bool, Memory>
+    requires ran { (input : List ℕ) × (length input ≤ most_bytes)
+        × IsOfRun program.now input history.now.budget history.now }
+    requires budget { history.now.budget ≤ 4000000 }
+{
+    if history.calls.len() != 3 {
+        return Ok(false);
+    }
+    let itself = carries(alloc, program, history, 1, 1)?;
+    let block = carries(alloc, program, history, 1, 0)?;
+    Ok(itself && !block)
+}
+
+/// Does each call again, and puts it in place of its run.
 fn replays_hold(alloc: Global, program: &Program, history: &History) -> Result<bool, Memory>
     requires ran { (input : List ℕ) × (length input ≤ most_bytes)
         × IsOfRun program.now input history.now.budget history.now }
@@ -326,6 +361,9 @@ fn replays_hold(alloc: Global, program: &Program, history: &History) -> Result<b
         match wanted.get(number as usize) {
             Some((kept, again)) => {
                 if !replay_holds(alloc, program, history, number, kept, again)? {
+                    return Ok(false);
+                }
+                if !transplant_holds(alloc, program, history, number, kept, again)? {
                     return Ok(false);
                 }
             }
@@ -417,6 +455,9 @@ fn again_holds(alloc: Global, program: &Program) -> Result<bool, Memory> {
     }
     let history = history_of(alloc, program, INPUT)?;
     if !replays_hold(alloc, program, &history)? {
+        return Ok(false);
+    }
+    if !carries_hold(alloc, program, &history)? {
         return Ok(false);
     }
     effect_holds(alloc, program, history)
