@@ -10,6 +10,7 @@ $0 == "" { next }
 /^(trust|save) [^ ]+$/ { found = 1; exit }
 /^(tree|quit)$/ { found = 1; exit }
 /^state [0-9]+ / { found = 1; exit }
+/^carry [0-9]+ [0-9]+$/ { found = 1; exit }
 
 { strange++ }
 

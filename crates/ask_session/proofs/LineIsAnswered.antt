@@ -111,6 +111,7 @@ module _ (s : Subject) where
   entries_stay entries (asks.Show call) file e = absurd (let x : ⊥ = cc in x)
   entries_stay entries (asks.State call name) file e = absurd (let x : ⊥ = cc in x)
   entries_stay entries (asks.Trace call) file e = absurd (let x : ⊥ = cc in x)
+  entries_stay entries (asks.Carry call onto) file e = absurd (let x : ⊥ = cc in x)
   entries_stay entries asks.Tree file e = absurd (let x : ⊥ = cc in x)
   entries_stay entries asks.Quit file e = absurd (let x : ⊥ = cc in x)
   entries_stay entries asks.Other file e = absurd (let x : ⊥ = cc in x)
@@ -126,6 +127,7 @@ goes_on (asks.TakeBack number) file e = refl
 goes_on (asks.Show call) file e = refl
 goes_on (asks.State call name) file e = refl
 goes_on (asks.Trace call) file e = refl
+goes_on (asks.Carry call onto) file e = refl
 goes_on asks.Tree file e = refl
 goes_on asks.Quit file e = absurd (let x : ⊥ = cc in x)
 goes_on asks.Other file e = refl

@@ -80,6 +80,7 @@ fn is_quit(instruction: &Instruction<'_>) -> bool
         | Instruction::Show(_)
         | Instruction::State(_, _)
         | Instruction::Trace(_)
+        | Instruction::Carry(_, _)
         | Instruction::Tree
         | Instruction::Save(_)
         | Instruction::Other => false,
@@ -100,6 +101,7 @@ fn saved_file<'a, 'b>(instruction: &'a Instruction<'b>) -> Option<&'a FileName<'
         | Instruction::Show(_)
         | Instruction::State(_, _)
         | Instruction::Trace(_)
+        | Instruction::Carry(_, _)
         | Instruction::Tree
         | Instruction::Quit
         | Instruction::Other => None,

@@ -8,6 +8,7 @@ use Rattle.question_text.specs.Cards.{Recorded, card}
 use Rattle.question_text.specs.States.{has_cell, state_text}
 use Rattle.question_text.specs.Traces.{trace_text}
 use Rattle.question_text.specs.Trees.{tree_text}
+use Rattle.body_replay.specs.Agreement.{carries}
 use Rattle.body_replay.specs.Replays.{kept_event, work_of}
 use Rattle.dialog_replies.specs.Subject.{Subject}
 use Rattle.debuggee.specs.Execution.{Execution}
@@ -25,7 +26,8 @@ trace h k =
     trace_of_work h.recorded k (work_of p (run p h.supply.input h.supply.budget) k)
 
 -- the columns of its calls, the routines of its program by number and name, the cards and traces of its calls, the
--- lines on the cells before and after each, and the lines of all calls with what is said of each
+-- lines on the cells before and after each, whether one may stand where another was entered, and the lines of all calls
+-- with what is said of each
 abbrev pub subject_of : Execution → Subject
 subject_of h = record {
   tree = record {
@@ -39,5 +41,6 @@ subject_of h = record {
   trace = trace h;
   has_cell = has_cell h.recorded;
   state = state_text h.recorded;
+  carries = carries (run h.recorded.program h.supply.input h.supply.budget);
   marked = tree_text h.recorded.program h.recorded.calls;
 }

@@ -7,7 +7,7 @@ ghost use Rattle.debuggee.specs.Limits.{input_bytes, most_steps};
 ghost use Rattle.debuggee.specs.Told.{AreTold, counts_once, history_of};
 ghost use Rattle.std.proofs.Props.{props};
 
-use body_replay::replay;
+use body_replay::{carries, replay};
 use call_tree::{Calls, Mark};
 use cell_names::NameFinder;
 use cell_value::Steps;
@@ -96,6 +96,10 @@ impl<'a> Debugged for Debuggee<'a> {
         name: &[u8],
     ) -> Result<bool, Memory> {
         write_state(alloc, out, &self.recorded(), call, name)
+    }
+
+    fn carries(&self, alloc: Global, call: u32, onto: u32) -> Result<bool, Memory> {
+        carries(alloc, &self.program, &self.history, call, onto)
     }
 
     fn write_tree(&self, alloc: Global, out: &mut Bytes, marks: &[Mark]) -> Result<(), Memory> {

@@ -26,6 +26,10 @@ trust_in word = trust_by word (routine_number word)
 abbrev pub save_in : List ℕ → Instruction
 save_in word = if is_utf8 word then ask.Save word else ask.Other
 
+-- two calls, where both words are numbers
+abbrev pub carry_in : (call onto : List ℕ) → Instruction
+carry_in call onto = with_number (number_of call) (λ call. with_number (number_of onto) (λ onto. ask.Carry call onto))
+
 -- a cell's name is the rest of a line, since it may have blanks inside, as `a[' ']`
 abbrev pub cell_in : (rest : List ℕ) → List ℕ
 cell_in rest = before_blanks (after_blanks rest)
@@ -42,6 +46,7 @@ instruction_by key.Show (call ∷ []) rest = with_number (number_of call) ask.Sh
 instruction_by key.State (call ∷ name ∷ names) rest =
     with_number (number_of call) (λ number. ask.State number (cell_in rest))
 instruction_by key.Trace (call ∷ []) rest = with_number (number_of call) ask.Trace
+instruction_by key.Carry (call ∷ onto ∷ []) rest = carry_in call onto
 instruction_by key.Tree [] rest = ask.Tree
 instruction_by key.Save (file ∷ []) rest = save_in file
 instruction_by key.Quit [] rest = ask.Quit

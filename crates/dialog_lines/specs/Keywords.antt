@@ -3,8 +3,8 @@ use Rattle.std.specs.Prelude.{ℕ, if◌then◌else◌, List, codes}
 use Rattle.std.specs.Str.{bytes_eq}
 use Rattle.answer_book.specs.declared.entries.Judgement.TheVariants.{Right, Wrong, Unknown}
 use Rattle.dialog_lines.specs.declared.keywords.Keyword.{Keyword}
-use Rattle.dialog_lines.specs.declared.keywords.Keyword.TheVariants.{Judge, Trust, Back, Show, State, Trace, Tree}
-use Rattle.dialog_lines.specs.declared.keywords.Keyword.TheVariants.{Save, Quit, Other}
+use Rattle.dialog_lines.specs.declared.keywords.Keyword.TheVariants.{Judge, Trust, Back, Show, State, Trace, Carry}
+use Rattle.dialog_lines.specs.declared.keywords.Keyword.TheVariants.{Tree, Save, Quit, Other}
 
 abbrev pub keyword_of : List ℕ → Keyword
 keyword_of word =
@@ -16,6 +16,7 @@ keyword_of word =
     else (if bytes_eq word (codes "show") then Show
     else (if bytes_eq word (codes "state") then State
     else (if bytes_eq word (codes "trace") then Trace
+    else (if bytes_eq word (codes "carry") then Carry
     else (if bytes_eq word (codes "tree") then Tree
     else (if bytes_eq word (codes "save") then Save
-    else (if bytes_eq word (codes "quit") then Quit else Other))))))))))
+    else (if bytes_eq word (codes "quit") then Quit else Other)))))))))))

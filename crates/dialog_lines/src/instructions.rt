@@ -1,10 +1,11 @@
 //! What a line of the console asks for.
 ghost use Rattle.std.specs.Prelude.{◌≡◌, ◌∷◌, [], ℕ, List};
-ghost use Rattle.dialog_lines.specs.Instructions.{cell_in, instruction_by, instruction_of, save_in, trust_in};
-ghost use Rattle.dialog_lines.specs.Instructions.{with_number};
+ghost use Rattle.dialog_lines.specs.Instructions.{carry_in, cell_in, instruction_by, instruction_of, save_in};
+ghost use Rattle.dialog_lines.specs.Instructions.{trust_in, with_number};
 ghost use Rattle.dialog_lines.specs.Numbers.{number_of};
 ghost use Rattle.dialog_lines.specs.Words.{after_word, words};
 ghost use Rattle.dialog_lines.specs.declared.instructions.Instruction.TheVariants as ask;
+ghost use Rattle.dialog_lines.specs.declared.keywords.Keyword.TheVariants as key;
 
 use crate::keywords::{Keyword, keyword_in};
 use crate::numbers::{number_in, routine_number};
@@ -78,6 +79,9 @@ pub enum Instruction<'a> {
     State(u32, Name<'a>),
     /// `trace K`: the trace of the call of this number.
     Trace(u32),
+    /// `carry K J`: whether the record of the call of the first number may be put in place of its run where the call of
+    /// the second number was entered.
+    Carry(u32, u32),
     /// `tree`: the marks of all calls.
     Tree,
     /// `save F`: the session goes into the file of this name.
@@ -101,6 +105,7 @@ fn alone<'a>(keyword: Keyword) -> Instruction<'a>
         | Keyword::Show
         | Keyword::State
         | Keyword::Trace
+        | Keyword::Carry
         | Keyword::Save
         | Keyword::Other => Instruction::Other,
     }
@@ -149,7 +154,9 @@ fn with_operand<'a>(keyword: Keyword, operand: &'a [u8]) -> Instruction<'a>
             None => Instruction::Other,
         },
         Keyword::Save => save(operand),
-        Keyword::State | Keyword::Tree | Keyword::Quit | Keyword::Other => Instruction::Other,
+        Keyword::State | Keyword::Carry | Keyword::Tree | Keyword::Quit | Keyword::Other => {
+            Instruction::Other
+        }
     }
 }
 
@@ -168,13 +175,40 @@ fn state<'a>(call: &'a [u8], rest: &'a [u8]) -> Instruction<'a>
     }
 }
 
-/// What a keyword asks for with more than one word after it: the first, and what follows it.
-fn with_more<'a>(keyword: Keyword, operand: &'a [u8], rest: &'a [u8]) -> Instruction<'a>
-    ensures { (second : List ℕ) (others : List (List ℕ))
-        → result ≡ instruction_by keyword (operand.now ∷ second ∷ others) rest.now }
+/// What `carry` asks for with these two words after it.
+fn carry<'a>(call: &[u8], onto: &[u8]) -> Instruction<'a>
+    ensures { result ≡ carry_in call.now onto.now }
+{
+    match (number_in(call), number_in(onto)) {
+        (Some(call), Some(onto)) => Instruction::Carry(call, onto),
+        _ => Instruction::Other,
+    }
+}
+
+/// What `carry` asks for with two words or more after it: the first two, and what follows them.
+fn carry_alone<'a>(call: &[u8], onto: &[u8], after: &[u8]) -> Instruction<'a>
+    ensures { (rest : List ℕ) → result ≡ instruction_by key.Carry (call.now ∷ onto.now ∷ words after.now) rest }
+{
+    match first_word(after) {
+        None => carry(call, onto),
+        Some(_) => Instruction::Other,
+    }
+}
+
+/// What a keyword asks for with more than one word after it: the first, and what follows it; the second, and what
+/// follows that.
+fn with_more<'a>(
+    keyword: Keyword,
+    operand: &'a [u8],
+    rest: &'a [u8],
+    second: &'a [u8],
+    after: &'a [u8],
+) -> Instruction<'a>
+    ensures { result ≡ instruction_by keyword (operand.now ∷ second.now ∷ words after.now) rest.now }
 {
     match keyword {
         Keyword::State => state(operand, rest),
+        Keyword::Carry => carry_alone(operand, second, after),
         Keyword::Judge(_)
         | Keyword::Trust
         | Keyword::Back
@@ -195,7 +229,7 @@ fn with_rest<'a>(keyword: Keyword, rest: &'a [u8]) -> Instruction<'a>
         None => alone(keyword),
         Some((operand, more)) => match first_word(more) {
             None => with_operand(keyword, operand),
-            Some(_) => with_more(keyword, operand, more),
+            Some((second, after)) => with_more(keyword, operand, more, second, after),
         },
     }
 }

@@ -19,6 +19,8 @@ pub enum Keyword {
     State,
     /// `trace`.
     Trace,
+    /// `carry`.
+    Carry,
     /// `tree`.
     Tree,
     /// `save`.
@@ -49,6 +51,8 @@ pub fn keyword_in(word: &[u8]) -> Keyword
         Keyword::State
     } else if word == b"trace".as_slice() {
         Keyword::Trace
+    } else if word == b"carry".as_slice() {
+        Keyword::Carry
     } else if word == b"tree".as_slice() {
         Keyword::Tree
     } else if word == b"save".as_slice() {

@@ -1,5 +1,5 @@
 -- What each line of the dialog is replied, and the entries after it.
-use Rattle.std.specs.Prelude.{ℕ, ◌++◌, nat_lt, if◌then◌else◌, codes, decimal, List}
+use Rattle.std.specs.Prelude.{ℕ, Bool, ◌++◌, nat_lt, if◌then◌else◌, codes, decimal, List}
 use Rattle.std.specs.Prelude.{[], Option, Some, None, Result, Ok, Err}
 use Rattle.answer_book.specs.declared.entries.BookFault.{BookFault}
 use Rattle.answer_book.specs.declared.entries.BookFault.TheVariants as fault
@@ -95,6 +95,21 @@ state_or_none s call name =
     if nat_lt call (calls_recorded s) then (if s.has_cell call name then s.state call name else no_cell call name)
     else no_call call
 
+abbrev pub carry_line : (words : List ℕ) → (call onto : ℕ) → List ℕ
+carry_line words call onto = codes "call " ++ decimal call ++ words ++ decimal onto ++ codes "\n"
+
+abbrev pub carry_text : (carries : Bool) → (call onto : ℕ) → List ℕ
+carry_text carries call onto =
+    if carries then carry_line (codes " carries to call ") call onto
+    else carry_line (codes " does not carry to call ") call onto
+
+-- whether the record of a call may be put in place of its run where another call was entered
+abbrev pub carry_or_none : Subject → (call onto : ℕ) → List ℕ
+carry_or_none s call onto =
+    if nat_lt call (calls_recorded s) then
+    (if nat_lt onto (calls_recorded s) then carry_text (s.carries call onto) call onto else no_call onto)
+    else no_call call
+
 -- What a line that saves is replied depends on the keeper, and is said where the session is held.
 unfoldable pub outcome : Subject → List Entry → Instruction → LineOutcome
 outcome s entries asked.Nothing = replied entries []
@@ -109,6 +124,7 @@ outcome s entries (asked.TakeBack (Some number)) =
 outcome s entries (asked.Show call) = replied entries (card_or_none s call)
 outcome s entries (asked.State call name) = replied entries (state_or_none s call name)
 outcome s entries (asked.Trace call) = replied entries (trace_or_none s call)
+outcome s entries (asked.Carry call onto) = replied entries (carry_or_none s call onto)
 outcome s entries asked.Tree = replied entries (tree_text s entries)
 outcome s entries (asked.Save file) = replied entries []
 outcome s entries asked.Quit = replied entries []

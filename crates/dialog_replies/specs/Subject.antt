@@ -13,7 +13,8 @@ use Rattle.optimal_query.specs.Laws.{CallTree, doubts_in, state_in}
 
 -- the columns of the calls of a run, how many routines the program has, and the name of each; the texts on each call:
 -- its card, the lines of its trace, whether a cell has a name before or after it, and the lines on the cells of a name;
--- and the lines of all calls, with a mark for each
+-- whether the record of a call may be put in place of its run where another call was entered; and the lines of all
+-- calls, with a mark for each
 pub record Subject : Type 0 where
   pub tree : CallTree
   pub routines : ℕ
@@ -22,6 +23,7 @@ pub record Subject : Type 0 where
   pub trace : ℕ → List ℕ
   pub has_cell : (call : ℕ) → (name : List ℕ) → Bool
   pub state : (call : ℕ) → (name : List ℕ) → List ℕ
+  pub carries : (call onto : ℕ) → Bool
   pub marked : List Mark → List ℕ
 
 -- the columns of a run

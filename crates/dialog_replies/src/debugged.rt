@@ -43,6 +43,12 @@ pub trait Debugged {
         ensures lines { OnOk result (out.new ≡ out.old ++ (subject self.now).state call name.now) }
         ensures has_cell { IfOk result (λ has. has ≡ (subject self.now).has_cell call name.now) };
 
+    /// Whether the record of a call may be put in place of its run where another call was entered.
+    fn carries(&self, alloc: Global, call: u32, onto: u32) -> Result<bool, Memory>
+        requires call { call < calls_recorded (subject self.now) }
+        requires onto { onto < calls_recorded (subject self.now) }
+        ensures { IfOk result (λ carries. carries ≡ (subject self.now).carries call onto) };
+
     /// Appends a line on each call, in order of entry, with these marks: one for each call.
     fn write_tree(&self, alloc: Global, out: &mut Bytes, marks: &[Mark]) -> Result<(), Memory>
         requires { length marks.now ≡ calls_recorded (subject self.now) }

@@ -1,7 +1,8 @@
 //! The reply to each line.
-ghost use Rattle.std.specs.Prelude.{◌≡◌, ◌<◌, ◌++◌, IfOk, codes, if◌then◌else◌};
+ghost use Rattle.std.specs.Prelude.{◌≡◌, ◌<◌, ◌++◌, IfOk, codes, if◌then◌else◌, nat_lt};
 ghost use Rattle.dialog_replies.specs.Kept.{IsSearchOf};
-ghost use Rattle.dialog_replies.specs.Replies.{card_or_none, judges_asked, no_cell, opening, outcome, replied};
+ghost use Rattle.dialog_replies.specs.Replies.{card_or_none, carry_line, carry_or_none, carry_text};
+ghost use Rattle.dialog_replies.specs.Replies.{judges_asked, no_call, no_cell, opening, outcome, replied};
 ghost use Rattle.dialog_replies.specs.Replies.{state_or_none, trace_or_none, trusts_named};
 ghost use Rattle.dialog_replies.specs.Subject.{calls_recorded, routine_named, state_after};
 ghost use Rattle.dialog_replies.specs.Texts.{tree_text};
@@ -144,6 +145,55 @@ fn state_of<D: Debugged>(alloc: Global, run: &D, call: u32, name: &[u8]) -> Resu
     }
 }
 
+/// A line of a call, these words and another call.
+fn carry_line(alloc: Global, words: &[u8], call: u32, onto: u32) -> Result<Bytes, Memory>
+    ensures { IfOk result (λ text. text ≡ carry_line words.now call onto) }
+{
+    let mut text = Bytes::new(alloc);
+    text.append(b"call ")?;
+    write_number(&mut text, call)?;
+    text.append(words)?;
+    write_number(&mut text, onto)?;
+    text.append(b"\n")?;
+    Ok(text)
+}
+
+/// The line that says whether a call carries to another.
+fn carry_text(alloc: Global, carries: bool, call: u32, onto: u32) -> Result<Bytes, Memory>
+    ensures { IfOk result (λ text. text ≡ carry_text carries call onto) }
+{
+    if carries {
+        carry_line(alloc, b" carries to call ", call, onto)
+    } else {
+        carry_line(alloc, b" does not carry to call ", call, onto)
+    }
+}
+
+/// Whether a call carries to another, where there is one of that number.
+fn carry_to<D: Debugged>(alloc: Global, run: &D, call: u32, onto: u32) -> Result<Bytes, Memory>
+    requires { call < calls_recorded (D.subject run.now) }
+    ensures { IfOk result (λ text. text ≡ (if nat_lt onto (calls_recorded (D.subject run.now))
+        then carry_text ((D.subject run.now).carries call onto) call onto else no_call onto)) }
+{
+    if onto < run.calls().len() {
+        let carries = run.carries(alloc, call, onto)?;
+        carry_text(alloc, carries, call, onto)
+    } else {
+        refusal(alloc, BookFault::NoCall(onto))
+    }
+}
+
+/// The same, where there is a call of this number.
+fn carry_of<D: Debugged>(alloc: Global, run: &D, call: u32, onto: u32) -> Result<Bytes, Memory>
+    ensures { IfOk result (λ text. text ≡ carry_or_none (D.subject run.now) call onto) }
+{
+    if call < run.calls().len() {
+        carry_to(alloc, run, call, onto)
+    } else {
+        refusal(alloc, BookFault::NoCall(call))
+    }
+}
+
 /// The tree of the calls with their marks.
 fn tree_of<D: Debugged>(alloc: Global, run: &D, debug: &Debug) -> Result<Bytes, Memory>
     requires { IsSearchOf (D.subject run.now) debug.now }
@@ -180,6 +230,7 @@ pub fn answer<D: Debugged>(
         Instruction::Show(call) => card_of(alloc, run, call),
         Instruction::State(call, name) => state_of(alloc, run, call, name.bytes()),
         Instruction::Trace(call) => trace_of(alloc, run, call),
+        Instruction::Carry(call, onto) => carry_of(alloc, run, call, onto),
         Instruction::Tree => tree_of(alloc, run, debug),
         Instruction::Other => text_of(alloc, b"not understood\n"),
     }

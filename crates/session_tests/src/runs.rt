@@ -51,7 +51,8 @@ pub fn a_run(alloc: Global) -> Result<Debuggee<'static>, SourceFault> {
     run_of(alloc, SOURCE, INPUT, 1_000)
 }
 
-/// The number of a call and the name of its routine, its card, its trace, and what `x` held before and after it.
+/// The number of a call and the name of its routine, its card, its trace, what `x` held before and after it, and
+/// whether it carries to itself.
 const TEXTS: [&str; 3] = [
     "0 four
 call 0 four
@@ -67,6 +68,7 @@ call 0 four
   line 11
   returned
 no cell x
+carries
 ",
     "1 twice
 call 1 twice in call 0
@@ -77,6 +79,7 @@ call 1 twice in call 0
   line 5
   returned
   x = 3, then 5
+carries
 ",
     "2 twice
 call 2 twice in call 0
@@ -87,6 +90,7 @@ call 2 twice in call 0
   line 5
   returned
   x = 5, then 7
+carries
 ",
 ];
 
@@ -104,6 +108,9 @@ fn write_texts<D: Debugged>(
         run.write_trace(alloc, out, call)?;
         if !run.write_state(alloc, out, call, b"x")? {
             out.append(b"no cell x\n")?;
+        }
+        if run.carries(alloc, call, call)? {
+            out.append(b"carries\n")?;
         }
     }
     Ok(())
