@@ -134,14 +134,17 @@ pub fn is_inside(tables: &Tables, frame: u32, token: u32) -> bool
     ensures { result ≡ is_inside tables.now frame token }
 {
     let mut at = Some(frame);
-    'frames: for _passed in 0..tables.tokens() {
+    let mut left = tables.tokens();
+    'frames: while left > 0 {
         let Some(number) = at else {
             return false;
         };
         if begins_at(tables, number, token) {
             return true;
         }
-        at = tables.frame(number).outer;
+        let beyond = tables.beyond(number);
+        at = beyond.to;
+        left = (left - 1).saturating_sub(beyond.passed);
     }
     false
 }
