@@ -5,7 +5,7 @@ import { button, fold, make, plural } from './dom.js';
 import { cellsOf, foldCard } from './fold_card.js';
 import { heapOf } from './heap.js';
 import { heapView } from './heap_view.js';
-import { lookForm, seenList } from './look_view.js';
+import { lookForm, seenList, waiting } from './look_view.js';
 import { rowsView, valueView } from './rows_view.js';
 import { endOf } from './words.js';
 
@@ -29,7 +29,8 @@ function heapPart(folded, card, { records, looking }) {
   const list = make('div', { role: 'status' }, looking === null ? null : seenList(looking, 'box', rowsView));
   const drawing = make('div', { tabindex: -1 });
   const look = looking === null || !looking.hasButtons ? null : async (name) => {
-    if (await looking.look(`box ${name}`, name) === null) return;
+    list.append(waiting());
+    await looking.look(`box ${name}`, name);
     list.replaceChildren(...seenList(looking, 'box', rowsView));
     drawing.focus({ preventScroll: true });
   };

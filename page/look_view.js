@@ -33,6 +33,9 @@ export class Looking {
 const glass = () => makeSvg('svg', { viewBox: '0 0 16 16', width: 14, height: 14, 'aria-hidden': 'true' },
   makeSvg('circle', { cx: 6.5, cy: 6.5, r: 4.5 }), makeSvg('path', { d: 'M 10 10 L 14.5 14.5' }));
 
+// Of a long run a look takes as long as an answer.
+export const waiting = () => make('p.quiet', 'One moment\u2026');
+
 // What came of a look, in words.
 export function seenView({ name, cells, reply }, rowsView) {
   if (cells.length === 0) return make('p.quiet', replySaid(reply));
@@ -51,16 +54,19 @@ export function lookedRow(cells, row, looking, rowsView) {
   if (looking.shown.has(place)) show(looking.shown.get(place));
   if (!looking.hasButtons) return [make('tr', cells), below];
   const act = button('.glass', { 'aria-label': `Look at ${row.name}`, title: `Look at ${row.name}: ${WHY}`, 'aria-expanded': String(!below.hidden), 'data-look': row.name }, glass());
+  const open = (isOpen) => { below.hidden = !isOpen; act.setAttribute('aria-expanded', String(isOpen)); };
   act.addEventListener('click', async () => {
     if (!below.hidden) {
       looking.shown.delete(place);
-      below.hidden = true;
-    } else {
-      const seen = await looking.look(place, row.name);
-      if (seen === null) return;
-      show(seen);
+      return open(false);
     }
-    act.setAttribute('aria-expanded', String(!below.hidden));
+    said.replaceChildren(waiting());
+    open(true);
+    const seen = await looking.look(place, row.name);
+    if (seen === null) return open(false);
+    // It may have been put away meanwhile.
+    if (below.hidden) looking.shown.delete(place); else show(seen);
+    return undefined;
   });
   return [make('tr', cells, make('td.act', act)), below];
 }
@@ -79,6 +85,7 @@ export function lookForm(looking, rowsView) {
     event.preventDefault();
     const name = field.value.trim();
     for (const [place, { cells }] of looking.shown) if (cells.length === 0) looking.shown.delete(place);
+    list.append(waiting());
     if (name !== '') await looking.look(`form ${name}`, name);
     list.replaceChildren(...seenList(looking, 'form', rowsView));
   };

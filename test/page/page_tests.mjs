@@ -284,7 +284,7 @@ export const TESTS = {
     await t.page.press('q');
     await tabTo(t, '#question button[data-look="all"]');
     await t.page.press(' ');
-    await t.page.until('document.querySelector("#question .looked:not([hidden]) p") !== null', 20);
+    await t.page.until('document.querySelector("#question .looked:not([hidden]) code") !== null', 20);
     t.equal('a variable that stayed', await seen(t, '#question .looked'), ['all held ^1 before the call and after it.']);
     await tabTo(t, 'g[data-look="^4"]');
     await t.picture('9-look-box-focus');
