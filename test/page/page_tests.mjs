@@ -32,6 +32,16 @@ begin
 end.
 `;
 
+const FILLING = `program filling(output);
+var a: array [1..60000] of integer;
+procedure fill;
+var i: integer;
+begin for i := 1 to 60000 do a[i] := i end;
+procedure show;
+begin writeln(a[60000]) end;
+begin fill; show end.
+`;
+
 const isCalm = '!document.body.classList.contains("busy")';
 const button = (word) => `[data-say=${word}]`;
 
@@ -274,6 +284,20 @@ export const TESTS = {
     await t.page.press('Enter');
     t.equal('pressed again, it is put away', await seen(t, '#question .looked'), []);
     t.equal('a look is no answer', await t.page.value('document.body.dataset.turns'), '0');
+  },
+
+  // Its card is longer than the room that an answer gets at first.
+  async 'a card of 60,000 lines'(t) {
+    await t.fresh();
+    await ran(t, 'filling.pas', FILLING);
+    t.equal('it is asked about', await asked(t), 'fill');
+    t.holds('and shows a part of it', /59,960 more parts/.test((await t.page.text('#question'))[0]));
+    await t.page.press('r');
+    await calm(t, 1);
+    t.equal('an answer comes', await asked(t), 'show');
+    await t.page.click('#question button[data-look="a"]');
+    await t.page.until('document.querySelector("#question .looked:not([hidden]) table") !== null');
+    t.equal('and a look at all of it', (await seen(t, '#question .looked table.list thead th')).slice(0, 3), ['1', '2', '3']);
   },
 
   async 'what a card hides'(t) {
