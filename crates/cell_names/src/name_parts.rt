@@ -15,6 +15,7 @@ use program_tables::Program;
 use program_tables::rows::{BOOLEAN, CHAR, INTEGER};
 
 /// What is left of a name after its first part, if it begins so.
+#[inline]
 fn after_part<'a>(name: &'a [u8], part: &[u8]) -> Option<&'a [u8]>
     ensures { option_copied result ≡ after_part part.now name.now }
 {
@@ -26,6 +27,7 @@ fn after_part<'a>(name: &'a [u8], part: &[u8]) -> Option<&'a [u8]>
 }
 
 /// What is left of a name after one more part, if it goes on so.
+#[inline]
 pub(crate) fn then_part<'a>(left: Option<&'a [u8]>, part: &[u8]) -> Option<&'a [u8]>
     ensures { option_copied result ≡ then_part part.now (option_copied left.entry) }
 {
@@ -36,6 +38,7 @@ pub(crate) fn then_part<'a>(left: Option<&'a [u8]>, part: &[u8]) -> Option<&'a [
 }
 
 /// Whether nothing is left of a name.
+#[inline]
 pub(crate) fn is_all(left: Option<&[u8]>) -> bool
     ensures { result ≡ is_all (option_copied left.entry) }
 {
@@ -46,19 +49,30 @@ pub(crate) fn is_all(left: Option<&[u8]>) -> bool
 }
 
 /// What is left after a number in decimal.
+#[inline]
 fn then_number<'a>(left: Option<&'a [u8]>, number: u32) -> Option<&'a [u8]>
     ensures { option_copied result ≡ then_part (decimal number) (option_copied left.entry) }
 {
-    let mut buffer = Buffer::new();
-    then_part(left, buffer.format(number).as_bytes())
+    match left {
+        None => None,
+        Some(name) => {
+            let mut buffer = Buffer::new();
+            after_part(name, buffer.format(number).as_bytes())
+        }
+    }
 }
 
 /// What is left after an integer in decimal.
 fn then_integer<'a>(left: Option<&'a [u8]>, number: i32) -> Option<&'a [u8]>
     ensures { option_copied result ≡ then_part (signed_decimal number) (option_copied left.entry) }
 {
-    let mut buffer = Buffer::new();
-    then_part(left, buffer.format(number).as_bytes())
+    match left {
+        None => None,
+        Some(name) => {
+            let mut buffer = Buffer::new();
+            after_part(name, buffer.format(number).as_bytes())
+        }
+    }
 }
 
 /// What is left after one character, which is below 256.
@@ -191,6 +205,7 @@ pub(crate) fn then_selector<'a>(
 
 /// What is left after the name of a call of a routine, as `f#3`.
 #[tactic(auto, using(crate::proofs::NameParts::then_both))]
+#[inline]
 pub(crate) fn then_call<'a>(
     left: Option<&'a [u8]>,
     program: &Program,
@@ -206,6 +221,7 @@ pub(crate) fn then_call<'a>(
 
 /// What is left after a variable of the heap before its last `^`.
 #[tactic(auto, using(crate::proofs::NameParts::then_both))]
+#[inline]
 pub(crate) fn then_block<'a>(left: Option<&'a [u8]>, base: u32) -> Option<&'a [u8]>
     ensures { option_copied result ≡ then_part (block_text base) (option_copied left.entry) }
 {
@@ -215,6 +231,7 @@ pub(crate) fn then_block<'a>(left: Option<&'a [u8]>, base: u32) -> Option<&'a [u
 
 /// What is left after what stands before the variables of a call, where it is not call 0.
 #[tactic(auto, using(crate::proofs::NameParts::whose_in_parts))]
+#[inline]
 pub(crate) fn then_whose<'a>(
     left: Option<&'a [u8]>,
     program: &Program,
@@ -233,6 +250,7 @@ pub(crate) fn then_whose<'a>(
 
 /// What is left after what the way down to a cell begins at.
 #[tactic(auto, using(crate::proofs::NameParts::origins_in_parts))]
+#[inline]
 pub(crate) fn then_origin<'a>(
     left: Option<&'a [u8]>,
     program: &Program,

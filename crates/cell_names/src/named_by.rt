@@ -12,6 +12,7 @@ use program_tables::Program;
 
 /// Whether a name is that of all cells of a frame, or of a variable of the heap before its last `^`.
 #[tactic(auto, using(crate::proofs::NameParts::all_in_parts))]
+#[inline]
 pub(crate) fn is_of_all(program: &Program, origin: Origin, name: &[u8]) -> bool
     ensures { result ≡ is_of_all program.now origin name.now }
 {
@@ -29,6 +30,7 @@ pub(crate) fn is_of_all(program: &Program, origin: Origin, name: &[u8]) -> bool
 
 /// The next step down to a cell, if a name goes on with its selector: where it leads, and what is then left of the
 /// name.
+#[inline]
 pub(crate) fn step_named<'a>(scene: &Scene, at: Spot, name: &'a [u8]) -> Option<(Spot, &'a [u8])>
     ensures { (go : SpotValue → List ℕ → Bool) → MatchOption result
         (leads_by scene.now.program go name.now (step_down (scene_in scene.now) at) ≡ false)

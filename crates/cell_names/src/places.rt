@@ -61,6 +61,7 @@ fn count_before(parts: &[PlacedPart], place: u64) -> usize
 }
 
 /// Whether the first parts, this many, begin before a place.
+#[inline]
 fn all_before(parts: &[PlacedPart], place: u64, count: usize) -> bool
     requires rising { IsRising parts.now }
     requires inside { count ≤ length parts.now }
@@ -74,6 +75,7 @@ fn all_before(parts: &[PlacedPart], place: u64, count: usize) -> bool
 }
 
 /// Whether none but the first parts, this many, begins before a place.
+#[inline]
 fn none_before(parts: &[PlacedPart], place: u64, count: usize) -> bool
     requires { IsRising parts.now }
     ensures { result ≡ true → (k : ℕ) (d : PartValue) → count ≤ k → k < length parts.now
@@ -87,6 +89,7 @@ fn none_before(parts: &[PlacedPart], place: u64, count: usize) -> bool
 }
 
 /// Whether so many of some parts, whose places rise, begin before a place.
+#[inline]
 fn are_before(parts: &[PlacedPart], place: u64, count: usize) -> bool
     requires { IsRising parts.now }
     ensures { result ≡ true → IsSplit place parts.now count }
@@ -99,6 +102,7 @@ fn are_before(parts: &[PlacedPart], place: u64, count: usize) -> bool
 }
 
 /// The same as `count_before`, quick if it is as many as was guessed, or one more.
+#[inline]
 fn count_near(parts: &[PlacedPart], place: u64, guess: usize) -> usize
     requires { IsRising parts.now }
     ensures { IsSplit place parts.now result }
@@ -114,6 +118,7 @@ fn count_near(parts: &[PlacedPart], place: u64, guess: usize) -> usize
 }
 
 /// How many places after one are before the next part, where this many parts begin there or before.
+#[inline]
 fn places_left(parts: &[PlacedPart], at: u32, begun: usize) -> u32
     requires rising { IsRising parts.now }
     requires split { IsSplit (at + 1) parts.now begun }
@@ -159,6 +164,7 @@ impl PlacedParts {
 
     /// The part that has a place, and how far it goes. A guess at the number of parts that begin there or before makes
     /// it quick, if it is right or one too few.
+    #[inline]
     pub(crate) fn find_near(&self, guess: usize, at: u32) -> Found
         ensures alike { (k : ℕ) → k ≤ result.more → finds self.now (at + k) ≡ result.part }
         ensures begun { is_begun_by at result.part ≡ true }

@@ -29,6 +29,7 @@ pub enum Walked {
 }
 
 /// No more than this many are passed over.
+#[inline]
 fn limited(walked: Walked, more: u32) -> Walked
     ensures { result ≡ limited walked more }
 {
@@ -39,6 +40,7 @@ fn limited(walked: Walked, more: u32) -> Walked
 }
 
 /// How many cells after one are of the same component.
+#[inline]
 fn left_of_component(place: u32, size: u32) -> u32
     ensures { result ≡ left_of_component place size }
 {
@@ -50,6 +52,7 @@ fn left_of_component(place: u32, size: u32) -> u32
 }
 
 /// How many cells after one have the same next step down as it has, but for their places.
+#[inline]
 fn alike_below(scene: &Scene, at: Spot) -> u32
     ensures { (k : ℕ) → k ≤ result
         → step_down (scene_in scene.now) (moved k at) ≡ moved_step k (step_down (scene_in scene.now) at) }
@@ -67,6 +70,7 @@ fn alike_below(scene: &Scene, at: Spot) -> u32
 }
 
 /// The cell after the one that stands this many places after another.
+#[inline]
 fn further(at: Spot, more: u32) -> Option<Spot>
     ensures is { IfSome result (λ next. next ≡ moved (more + 1) at) }
     ensures fits { IfSome result (λ next. more < 4294967295) }
@@ -85,6 +89,7 @@ fn further(at: Spot, more: u32) -> Option<Spot>
 
 /// How many cells after one a name does not go on to, where that is known of this many: more than these, or none if it
 /// goes on to the next one.
+#[inline]
 fn passed_next(scene: &Scene, at: Spot, name: &[u8], more: u32) -> Option<u32>
     ensures further { IfSome result (λ passed. more < passed) }
     ensures passed { IfSome result (λ passed. (go : SpotValue → List ℕ → Bool) (k : ℕ) → more < k → k ≤ passed
@@ -146,6 +151,7 @@ fn unled(scene: &Scene, from: Spot, name: &[u8], limit: u32) -> Option<u32>
 }
 
 /// A walk over a variable, from one of its cells on.
+#[inline]
 fn walk_root(scene: &Scene, root: Root, name: &[u8], limit: u32) -> Walked
     ensures { WalksOver (scene_in scene.now) name.now (λ k. Some (moved_root k root)) result }
 {
@@ -162,6 +168,7 @@ fn walk_root(scene: &Scene, root: Root, name: &[u8], limit: u32) -> Walked
 }
 
 /// How many places before the result of a function there are after one.
+#[inline]
 fn before_result(result_place: Option<u32>, place: u32, more: u32) -> u32
     ensures { result ≡ before_result result_place place more }
 {
@@ -178,6 +185,7 @@ fn before_result(result_place: Option<u32>, place: u32, more: u32) -> u32
 }
 
 /// How many places of the frame of a routine after one have the same variable as it has, or none as it.
+#[inline]
 fn alike_in(scene: &Scene, number: u32, place: u32, routine: Routine) -> u32
     ensures { (k : ℕ) → k ≤ result → local_in (scene_in scene.now) number (place + k) (Some routine)
         ≡ moved_local k (local_in (scene_in scene.now) number place (Some routine)) }
@@ -208,6 +216,7 @@ fn alike_locals(scene: &Scene, number: u32, place: u32) -> u32
 }
 
 /// A walk over the variables of a call of a routine, from a place of its frame on.
+#[inline]
 fn walk_locals(
     scene: &Scene,
     call: u32,
@@ -238,6 +247,7 @@ fn walk_locals(
 
 /// Whether a name goes on after the name of a call, or the call is the program's, whose variables have no more than
 /// their own names.
+#[inline]
 fn is_of_call(program: &Program, call: u32, routine: u32, name: &[u8]) -> bool
     ensures { result ≡ is_of_call program.now call routine name.now }
 {
@@ -245,6 +255,7 @@ fn is_of_call(program: &Program, call: u32, routine: u32, name: &[u8]) -> bool
 }
 
 /// A walk over the frame of a call of a routine, if there is one, from a place of it on.
+#[inline]
 fn walk_call(
     scene: &Scene,
     call: u32,
@@ -269,6 +280,7 @@ fn walk_call(
 }
 
 /// The routine of a call.
+#[inline]
 fn routine_of(scene: &Scene, call: u32) -> Option<u32>
     ensures { result ≡ slice_get scene.now.routines call }
 {
@@ -276,6 +288,7 @@ fn routine_of(scene: &Scene, call: u32) -> Option<u32>
 }
 
 /// A walk over the frame that stands at an address, from there on.
+#[inline]
 fn walk_part(
     scene: &Scene,
     name: &[u8],
@@ -301,6 +314,7 @@ fn walk_part(
 }
 
 /// A walk over the variable of the heap that stands at an address, from there on.
+#[inline]
 fn walk_block(
     scene: &Scene,
     name: &[u8],
@@ -318,6 +332,7 @@ fn walk_block(
 }
 
 /// A walk over addresses of the stack, and the number of frames that begin at the first or before.
+#[inline]
 fn walk_stack(scene: &Scene, name: &[u8], address: u32, limit: u32, guess: usize) -> (Walked, usize)
     ensures { WalksOver (scene_in scene.now) name.now
         (λ k. stack_root (scene_in scene.now) (address + k) ((scene_in scene.now).opened (address + k))) result.0 }
@@ -329,6 +344,7 @@ fn walk_stack(scene: &Scene, name: &[u8], address: u32, limit: u32, guess: usize
 }
 
 /// A walk over addresses of the heap, and the number of its variables that begin at the first or before.
+#[inline]
 fn walk_heap(scene: &Scene, name: &[u8], address: u32, limit: u32, guess: usize) -> (Walked, usize)
     ensures { WalksOver (scene_in scene.now) name.now
         (λ k. heap_root (address + k) ((scene_in scene.now).finding.block (address + k))) result.0 }
