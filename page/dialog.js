@@ -4,8 +4,9 @@ import { accusedOf, markBy } from './call_table.js';
 import { cardOf, stateOf } from './card.js';
 import { entriesOf, keep, setAside } from './session.js';
 
-// No variable has this name; the reply tells whether the command knows the line `state`.
-const PROBE = { kind: 'state', call: 0, name: '.' };
+// No variable has this name, and no call this number; the replies tell whether the command knows the lines `state` and `carry`.
+const PROBES = [{ kind: 'state', call: 0, name: '.' }, { kind: 'carry', call: 999_999_999, onto: 0 }];
+const isKnown = (answer) => answer.kind === 'refused' && answer.text !== 'not understood';
 // A turn that takes no longer is asked for more than what must be.
 const QUICK_MS = 2500;
 
@@ -26,11 +27,13 @@ export class Dialog {
     this.isBusy = false;
     this.isKept = true;
     this.knowsState = false;
+    this.knowsCarry = false;
     this.cost = { time: 0, memory: 0 };
     this.cards = new Map();
     this.traces = new Map();
     this.states = new Map();
     this.looks = new Map();
+    this.carried = new Map();
   }
 
   get report() {
@@ -47,12 +50,13 @@ export class Dialog {
     if (this.session !== null && this.session.lines.length > 0) setAside();
     this.clear();
     this.session = session;
-    const came = await this.turn(session.lines, [{ kind: 'tree' }, PROBE]);
+    const came = await this.turn(session.lines, [{ kind: 'tree' }, ...PROBES]);
     if (this.session !== session) return;
     if (!this.failed(came)) {
-      const [tree, state] = came.answers;
+      const [tree, state, carry] = came.answers;
       this.tree = tree.kind === 'tree' ? tree.tree : null;
-      this.knowsState = state.kind === 'refused' && state.text !== 'not understood';
+      this.knowsState = isKnown(state);
+      this.knowsCarry = isKnown(carry);
       this.took(came);
     }
     this.onChange();
@@ -148,6 +152,25 @@ export class Dialog {
     const seen = { name, cells, reply: isTold ? '' : answer.text ?? '' };
     this.states.set(key, seen);
     return seen;
+  }
+
+  // Whether a call would have done the same where another one began, once that was asked; or null.
+  carryKnown(call, onto) {
+    return this.carried.get(`${call} ${onto}`) ?? null;
+  }
+
+  // Asks for it, and for the card of that call where the page does not have it; null where no answer came.
+  async compare(call, onto) {
+    if (this.carryKnown(call, onto) !== null) return this.carryKnown(call, onto);
+    const { session, cards, carried } = this;
+    const show = cards.has(call) ? [] : [{ kind: 'show', call }];
+    const came = await this.engine.turn(this.turnOf([], [{ kind: 'carry', call, onto }, ...show]));
+    if (this.session !== session || came.answers === undefined) return null;
+    const [carry, shown] = came.answers;
+    if (shown !== undefined && shown.kind === 'show') cards.set(call, cardOf(shown.text));
+    if (carry.kind !== 'carry' || !cards.has(call)) return null;
+    carried.set(`${call} ${onto}`, carry.carries);
+    return carry.carries;
   }
 
   // What is shown of looks at a call's variables, by the place where each was asked for.

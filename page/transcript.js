@@ -137,12 +137,20 @@ function answerOf(bytes, from, to, ask) {
   const isRefused = bytes[from] !== BLANK && !/^(\d|call )/.test(latin(bytes.subarray(from, from + 5)));
   if (isRefused) return { kind: 'refused', text: cut(bytes, from, to, RAW_BYTES).trimEnd() };
   if (ask.kind === 'tree') return { kind: 'tree', tree: treeOf(bytes, from, to) };
+  if (ask.kind === 'carry') return carryOf(cut(bytes, from, to, RAW_BYTES).trimEnd(), ask);
   if (ask.kind === 'trace') return { kind: 'trace', trace: traceOf(bytes, from, to), text: cut(bytes, from, to, RAW_BYTES) };
   return { kind: ask.kind, text: cut(bytes, from, to, CARD_BYTES), isCut: to - from > CARD_BYTES };
 }
 
+// Whether one call would have done the same where the other began; no other text is taken for an answer to that.
+function carryOf(text, { call, onto }) {
+  if (text === `call ${call} carries to call ${onto}`) return { kind: 'carry', carries: true };
+  return text === `call ${call} does not carry to call ${onto}` ? { kind: 'carry', carries: false } : { kind: 'refused', text };
+}
+
 export const commandOf = (ask) => {
   if (ask.kind === 'tree') return 'tree';
+  if (ask.kind === 'carry') return `carry ${ask.call} ${ask.onto}`;
   return ask.kind === 'state' ? `state ${ask.call} ${ask.name}` : `${ask.kind} ${ask.call}`;
 };
 

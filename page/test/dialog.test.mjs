@@ -13,7 +13,7 @@ const CARDS = ['call 0 change\n  returned\n', 'call 1 seventy in call 0\n  chang
 const TREE = '0 change #0 wrong\n1 in 0 seventy #3 unjudged\n2 in 1 fifty #1 unjudged\n';
 
 // A command that asks about call 1, then call 2, and then has found one.
-function screenFor(lines, asks, knowsState) {
+function screenFor(lines, asks, knows) {
   const reports = [`ask 1 suspects 2 left 1\n${CARDS[1]}`, `ask 2 suspects 1 left 0\n${CARDS[2]}`, 'found call 1 seventy\n  line 8\n  returned\n'];
   let step = 0;
   const replies = lines.map((line, at) => {
@@ -25,13 +25,14 @@ function screenFor(lines, asks, knowsState) {
     if (ask.kind === 'tree') return TREE;
     if (ask.kind === 'show') return CARDS[ask.call] ?? 'no call 9\n';
     if (ask.kind === 'trace') return '  line 8\n  call 2 fifty\n  returned\n';
-    if (!knowsState) return 'not understood\n';
+    if (!knows) return 'not understood\n';
+    if (ask.kind === 'carry') return ask.call > 2 ? `no call ${ask.call}\n` : `call ${ask.call} ${ask.call < ask.onto ? 'carries' : 'does not carry'} to call ${ask.onto}\n`;
     return ask.name === 'coins' ? '  coins = 0, then 50\n' : `no cell ${ask.name} at call ${ask.call}\n`;
   });
   return utf8Bytes([`${CARDS[0]}${reports[0]}${replies.join('')}`, ...answers, ''].join('not understood\n'));
 }
 
-function played({ knowsState = false } = {}) {
+function played({ knows = false } = {}) {
   const turns = [];
   const engine = {
     fails: null,
@@ -40,7 +41,7 @@ function played({ knowsState = false } = {}) {
     async turn(turn) {
       turns.push(turn);
       if (engine.fails !== null) return engine.fails;
-      const shown = digest(screenFor(turn.lines, turn.asks, knowsState), turn.asks);
+      const shown = digest(screenFor(turn.lines, turn.asks, knows), turn.asks);
       return { ...shown, status: 0, time: 5, memory: 1000, saved: turn.save ? utf8Bytes('{"budget":1,"entries":[]}') : null };
     },
   };
@@ -52,9 +53,9 @@ const session = () => newSession('change.pas', fileOfText('program change; ..'),
 test('a run asks for the tree at once, and an answer for nothing besides', async () => {
   const { dialog, engine, turns } = played();
   await dialog.run(session());
-  assert.deepEqual(turns[0].asks.map((ask) => ask.kind), ['tree', 'state']);
+  assert.deepEqual(turns[0].asks.map((ask) => ask.kind), ['tree', 'state', 'carry']);
   assert.equal(dialog.questionCall, 1);
-  assert.equal(dialog.knowsState, false);
+  assert.deepEqual([dialog.knowsState, dialog.knowsCarry], [false, false]);
   dialog.thinkAhead();
   assert.deepEqual(engine.ahead, ['right 1', 'wrong 1']);
   await dialog.say('wrong 1');
@@ -103,7 +104,7 @@ test('cards and traces are asked for once', async () => {
 });
 
 test('looking at a variable, where the command knows the line', async () => {
-  const { dialog, turns } = played({ knowsState: true });
+  const { dialog, turns } = played({ knows: true });
   await dialog.run(session());
   assert.equal(dialog.knowsState, true);
   const seen = await dialog.lookAt(2, 'coins');
@@ -115,6 +116,27 @@ test('looking at a variable, where the command knows the line', async () => {
   assert.equal(turns.length, 3);
   dialog.looksAt(2).set('form coins', seen);
   assert.deepEqual([[...dialog.looksAt(2).keys()], dialog.looksAt(1).size], [['form coins'], 0]);
+});
+
+test('whether a call would have done the same, asked once, where the command knows the line', async () => {
+  const { dialog, engine, turns } = played({ knows: true });
+  await dialog.run(session());
+  assert.equal(dialog.knowsCarry, true);
+  assert.equal(dialog.carryKnown(1, 2), null);
+  assert.equal(await dialog.compare(1, 2), true);
+  assert.deepEqual([turns[1].lines, turns[1].asks], [[], [{ kind: 'carry', call: 1, onto: 2 }]]);
+  assert.equal(await dialog.compare(1, 2), true);
+  assert.equal(dialog.carryKnown(1, 2), true);
+  assert.equal(turns.length, 2);
+  // The card of call 2 is not there yet.
+  assert.equal(await dialog.compare(2, 1), false);
+  assert.deepEqual(turns[2].asks, [{ kind: 'carry', call: 2, onto: 1 }, { kind: 'show', call: 2 }]);
+  assert.equal(dialog.cards.get(2).name, 'fifty');
+  assert.equal(await dialog.compare(9, 1), null);
+  engine.fails = { stopped: true };
+  assert.equal(await dialog.compare(0, 1), null);
+  assert.equal(dialog.carryKnown(0, 1), null);
+  assert.deepEqual(dialog.session.lines, []);
 });
 
 test('a new program sets the answers of the old one aside', async () => {

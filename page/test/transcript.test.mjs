@@ -72,9 +72,17 @@ test('replies to cards, traces and states', () => {
   assert.deepEqual(answers[2], { kind: 'refused', text: 'no call 9' });
 });
 
+test('whether a call carries to another', () => {
+  const ask = (onto) => ({ kind: 'carry', call: 3, onto });
+  const replies = ['call 3 carries to call 8\n', 'call 3 does not carry to call 8\n', 'call 3 carries to call 80\n', 'no call 9\n', 'not understood\n'];
+  const { answers } = digest(screenOf(OPENING, ...replies), [ask(8), ask(8), ask(8), ask(9), ask(8)]);
+  assert.deepEqual(answers, [{ kind: 'carry', carries: true }, { kind: 'carry', carries: false }, { kind: 'refused', text: 'call 3 carries to call 80' },
+    { kind: 'refused', text: 'no call 9' }, { kind: 'refused', text: 'not understood' }]);
+});
+
 test('what is typed', () => {
-  assert.equal(consoleOf(['right 1'], [TREE, { kind: 'show', call: 7 }, { kind: 'state', call: 2, name: 'a[1]' }]),
-    'right 1\n@\ntree\n@\nshow 7\n@\nstate 2 a[1]\n@\nquit\n');
+  assert.equal(consoleOf(['right 1'], [TREE, { kind: 'show', call: 7 }, { kind: 'state', call: 2, name: 'a[1]' }, { kind: 'carry', call: 3, onto: 8 }]),
+    'right 1\n@\ntree\n@\nshow 7\n@\nstate 2 a[1]\n@\ncarry 3 8\n@\nquit\n');
 });
 
 // A small generator, so that a failure comes again.
@@ -89,11 +97,11 @@ function numbers(seed) {
 test('no bytes make it throw', () => {
   const next = numbers(1);
   const words = ['call 0 p', 'ask 1 suspects 2 left 1', 'found call 1 q', '  line 3', '  ', 'not understood', '0 p #0 wrong', '1 in 7 q #1 right',
-    '  doubt x', 'narrowed to call 2 z', '\xff\xfe', '', 'call 99999999999999999999 a', '  call 5 x', '7 in', 'unclear', 'entry 2'];
+    '  doubt x', 'call 0 carries to call 1', 'narrowed to call 2 z', '\xff\xfe', '', 'call 99999999999999999999 a', '  call 5 x', '7 in', 'unclear', 'entry 2'];
   for (let round = 0; round < 3000; round += 1) {
     const lines = Array.from({ length: next(12) }, () => words[next(words.length)]);
     const text = lines.join(next(9) === 0 ? '' : '\n');
-    const asks = [TREE, { kind: 'trace', call: 0 }, { kind: 'show', call: 1 }, { kind: 'state', call: 0, name: 'x' }].slice(0, next(5));
+    const asks = [TREE, { kind: 'trace', call: 0 }, { kind: 'show', call: 1 }, { kind: 'state', call: 0, name: 'x' }, { kind: 'carry', call: 0, onto: 1 }].slice(0, next(6));
     const shown = digest(utf8Bytes(text), asks);
     assert.equal(shown.answers.length, asks.length);
   }
