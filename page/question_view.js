@@ -1,5 +1,6 @@
 // What stands in the middle: the question with its card, or the verdict, and what is left to ask.
 import { cardParts } from './card_view.js';
+import { compareView } from './compare_view.js';
 import { button, make, plural } from './dom.js';
 import { nameOf, suspectsOf } from './call_table.js';
 import { lineOfCall } from './trace.js';
@@ -71,6 +72,7 @@ export function questionView(dialog, outline, context) {
     make('h2', { tabindex: -1 }, 'Did ', make('code', card.name), ' do what it should?'),
     whereView(card, dialog, context),
     commentView(routine),
+    compareView(dialog, context),
     cardParts(card, context.cardContext(card.call)));
 }
 

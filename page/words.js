@@ -50,6 +50,22 @@ export function stateSaid({ before, after }) {
 
 export const SAID_OF = { right: 'is right', wrong: 'is wrong', unknown: 'could not be judged', trust: 'is trusted' };
 
+// The buttons and keys of answers.
+export const ANSWER_OF = { right: { word: 'Right', key: 'R' }, wrong: { word: 'Wrong', key: 'W' } };
+
+// What came of comparing a call that was judged with the one that is asked about, see compare.js.
+const COMPARED = {
+  same: 'Call {judged} would have done exactly the same here, so the same answer holds:',
+  given: 'Nothing that call {judged} met is different here, but this call was given something else, so judge it by itself.',
+  elsewhere: 'Nothing that call {judged} met is different here, but this call works on other variables, so judge it by itself.',
+  different: 'Something that call {judged} met is different here, so judge this one by itself.',
+  short: 'Something that call {judged} met is different here, or too few steps were left, so judge this one by itself.',
+  alike: 'The two cards are alike, but other calls were under way when call {judged} began, or other variables were made by new. So it is not certain that both did the same: judge this one by itself.',
+  unended: 'Call {judged} did not come to its end, so there is nothing to compare. Judge this one by itself.',
+};
+
+export const comparedSaid = (outcome, judged) => COMPARED[outcome].replace('{judged}', judged);
+
 const STATUSES = {
   2: 'The number of steps is a number from 1 to 4,000,000.',
   4: 'This text is too long: a program may have 1,048,576 bytes, its input 4,194,304, a session 16,777,216.',
