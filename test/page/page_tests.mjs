@@ -32,6 +32,40 @@ begin
 end.
 `;
 
+// Calls 1 and 2 of `sum` do the same work, and call 3 meets another `a[3]`.
+const SHARE = `program share;
+var a: array [1..3] of integer; each, left: integer;
+
+function sum: integer;
+begin
+  sum := a[1] + a[2] + a[3]
+end;
+
+begin
+  a[1] := 4;
+  a[2] := 5;
+  a[3] := 8;
+  each := sum div 3;
+  left := sum - each * 3;
+  a[3] := 9;
+  left := sum
+end.
+`;
+
+// Call 1 of `half` was made by the program, and call 3, which has the same card, by `halve`.
+const HALVES = `program halves(output);
+var x: integer;
+function half(n: integer): integer;
+begin half := n div 2 end;
+procedure halve;
+begin x := half(8) + 1 end;
+begin
+  x := half(8);
+  halve;
+  writeln(x: 1)
+end.
+`;
+
 const FILLING = `program filling(output);
 var a: array [1..60000] of integer;
 procedure fill;
@@ -284,6 +318,57 @@ export const TESTS = {
     await t.page.press('Enter');
     t.equal('pressed again, it is put away', await seen(t, '#question .looked'), []);
     t.equal('a look is no answer', await t.page.value('document.body.dataset.turns'), '0');
+  },
+
+  async 'the same work twice'(t) {
+    const offer = () => seen(t, '#question .compare');
+    const compared = async (outcome) => {
+      await t.page.until(`document.querySelector('#question .compare [data-outcome]')?.dataset.outcome === '${outcome}'`, 20);
+      return seen(t, '#question .compare [role="status"]');
+    };
+    await t.fresh();
+    await ran(t, 'share.pas', SHARE);
+    t.equal('nothing is judged yet, and nothing offered', [await asked(t), await offer()], ['sum', []]);
+    await t.page.press('r');
+    await calm(t, 1);
+    t.equal('call 2 is asked about', await t.page.value('document.querySelector("#question").dataset.call'), '2');
+    t.equal('and call 1 offered', await offer(), ['Call 1 of sum was judged right. Did it do the same as this one? Compare']);
+    await t.picture('9-compare-offer');
+    await t.page.press('q');
+    await tabTo(t, '#question .compare button.small');
+    t.equal('its button says what it does', await t.page.value('document.activeElement.getAttribute("aria-label")'), 'Compare with call 1');
+    await t.page.press('Enter');
+    t.equal('it did the same', await compared('same'), ['Call 1 would have done exactly the same here, so the same answer holds: Right R']);
+    t.equal('the focus stays', await t.page.value('document.activeElement.getAttribute("aria-label")'), 'Compare with call 1');
+    t.equal('a comparison is no answer', await t.page.value('[document.body.dataset.turns, document.querySelector("#question").dataset.call]'), ['1', '2']);
+    await t.picture('9-compare-same');
+    await accessible(t, 'a comparison');
+    await t.page.press('r');
+    await calm(t, 2);
+    t.equal('of two calls with the same card the later one', await offer(), ['Call 2 of sum was judged right. Did it do the same as this one? Compare']);
+    await t.page.click('#question .compare button.small');
+    t.equal('which met something else', await compared('different'), ['Something that call 2 met is different here, so judge this one by itself.']);
+    await t.page.press('b');
+    await calm(t, 3);
+    t.equal('what was compared is still known', await compared('same'), ['Call 1 would have done exactly the same here, so the same answer holds: Right R']);
+    const native = await t.native({ source: SHARE, console: 'carry 1 2\ncarry 2 3\nquit\n' });
+    if (native !== null) t.holds('the native program says the same', /\ncall 1 carries to call 2\ncall 2 does not carry to call 3\n/.test(native.screen.toString('latin1')));
+    await ran(t, 'halves.pas', HALVES);
+    await t.page.click('#tree .row[data-call="1"]');
+    await t.page.until('document.querySelector("#detail .trace") !== null');
+    await t.page.click('#detail button.right');
+    await calm(t, 1);
+    t.equal('no call of the routine is judged', [await asked(t), await offer()], ['halve', []]);
+    await t.page.press('w');
+    await calm(t, 2);
+    t.equal('the same values, within another call', await offer(), ['Call 1 of half was judged right. Did it do the same as this one? Compare']);
+    await t.page.click('#question .compare button.small');
+    t.holds('nothing is promised', /^The two cards are alike, but .* judge this one by itself\.$/.test((await compared('alike'))[0]));
+    await t.picture('9-compare-alike');
+    await t.page.resize(PHONE);
+    await t.picture('9-compare-phone');
+    await accessible(t, 'a comparison on a phone');
+    await t.page.resize(DESK);
   },
 
   // Its card is longer than the room that an answer gets at first.
