@@ -4,3 +4,4 @@ pub mod DialogEnds
 pub mod SessionsAreHeld
 pub mod TranscriptIsGiven
 pub mod ReportsAreSound
+pub mod LinesAreFollowed

@@ -6,3 +6,4 @@ pub mod Went
 pub mod Console
 pub mod Laws
 pub mod Turned
+pub mod LineActs

@@ -1,5 +1,7 @@
 //! What the reports of a dialog say, the contract of calls that do nothing.
 ghost use Rattle.ask_session.specs.Laws.{AsksTheBest, FindsTheFault, NamesTheAccused, NarrowsTheFault, OfEachTree};
+ghost use Rattle.ask_session.specs.LineActs.{EntriesFollowLines};
+ghost use Rattle.dialog_replies.specs.Subject.{Subject};
 
 use dialog_replies::Debugged;
 use optimal_query::laws::{buggy_is_left, found_is_at_fault, question_is_least};
@@ -28,3 +30,9 @@ pub fn search_is_sound<D: Debugged>(run: &D)
     run.calls().are_numbered();
     reports_are_sound();
 }
+
+/// After whatever entries and lines the entries are those that the acts of the lines make: one stands if it stood at
+/// the start or a line made it, and no line took it back.
+pub fn entries_follow_lines()
+    ensures { (s : Subject) → EntriesFollowLines s }
+{}

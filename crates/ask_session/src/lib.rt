@@ -7,5 +7,5 @@ mod laws;
 mod session;
 
 pub use dialog::Ending;
-pub use laws::reports_are_sound;
+pub use laws::{entries_follow_lines, reports_are_sound};
 pub use session::converse;

@@ -8,11 +8,12 @@ ghost use Rattle.ask_session.specs.Console.{EndsInTime, FirstAnswered, GaveOf, G
 ghost use Rattle.ask_session.specs.Dialog.{transcript};
 ghost use Rattle.ask_session.specs.Heard.{is_console, is_screen};
 ghost use Rattle.ask_session.specs.Laws.{AsksTheBest, FindsTheFault, NamesTheAccused, NarrowsTheFault};
+ghost use Rattle.ask_session.specs.LineActs.{EntriesFollowLines};
 ghost use Rattle.ask_session.specs.Saves.{CountsAfter, FilesAfter, saves_in};
 ghost use Rattle.ask_session.specs.Went.{Went};
 
 use crate::dialog::{Ending, answer_lines};
-use crate::laws::search_is_sound;
+use crate::laws::{entries_follow_lines, search_is_sound};
 use dialog_replies::{Debugged, open};
 use edge_ports::{Keeper, Lines, Sink, Source, write_all};
 use session_book::{Start, refusal, resume};
@@ -145,6 +146,8 @@ pub fn converse<D: Debugged, K: Keeper, I: Source, O: Sink>(
     ensures narrows { NarrowsTheFault (D.subject run.now) }
     ensures names { NamesTheAccused (D.subject run.now) }
     ensures finds { FindsTheFault (D.subject run.now) }
+    // Which entries stand after lines, whatever entries the session began with.
+    ensures stands { EntriesFollowLines (D.subject run.now) }
     // Whether or not the objects tell their bytes: what was heard of the console and why the session ended, what the
     // screen got, and what became of the files and of the keeper's counts.
     ensures goes { Went (D.subject run.now) start.now
@@ -167,5 +170,6 @@ pub fn converse<D: Debugged, K: Keeper, I: Source, O: Sink>(
     ensures loan { O.loan screen.new ≡ O.loan screen.old }
 {
     search_is_sound(run);
+    entries_follow_lines();
     hold_if_fit(alloc, run, start, keeper, console, screen)
 }

@@ -8,6 +8,7 @@ ghost use Rattle.command_words.specs.Reading.{meant_of};
 ghost use Rattle.body_replay.specs.Laws.{BodiesGiveTheirExits};
 ghost use Rattle.ask_session.specs.Console.{NotRisen};
 ghost use Rattle.ask_session.specs.Laws.{AsksTheBest, FindsTheFault, NamesTheAccused, NarrowsTheFault};
+ghost use Rattle.ask_session.specs.LineActs.{EntriesFollowLines};
 ghost use Rattle.ask_session.specs.Saves.{FilesAfter, counts_saved};
 ghost use Rattle.debug_cli.specs.Headline.{Headline};
 ghost use Rattle.debug_cli.specs.declared.status.Status.{Status};
@@ -142,6 +143,7 @@ pub fn ask_pascal<K: Keeper, I: Source, O: Sink>(
     ensures narrows { InEachRun NarrowsTheFault }
     ensures names { InEachRun NamesTheAccused }
     ensures finds { InEachRun FindsTheFault }
+    ensures stands { InEachRun EntriesFollowLines }
     ensures exits { BodiesGiveTheirExits }
     ensures one_run { OneRun }
     // Words that mean nothing; a source that is no program; a session that is refused; words where nothing failed.
@@ -175,8 +177,9 @@ pub fn ask_pascal<K: Keeper, I: Source, O: Sink>(
     ensures loan { O.loan screen.new ≡ O.loan screen.old }
     ensures untouched { NamesNoFile (meaning words.now) → (keeper.new ≡ keeper.old) × (console.new ≡ console.old) }
 {
-    // What the clauses `asks`, `narrows`, `names`, `finds`, `exits` and `one_run` say is a law each.
+    // What the clauses `asks`, `narrows`, `names`, `finds`, `stands`, `exits` and `one_run` say is a law each.
     laws::search_is_sound();
+    laws::entries_stand();
     laws::exits_are_given();
     laws::verdicts_are_found();
     laws::one_run();

@@ -1,10 +1,11 @@
 //! Laws of the transcript, the contract of calls that do nothing.
 ghost use Rattle.body_replay.specs.Laws.{BodiesGiveTheirExits};
 ghost use Rattle.ask_session.specs.Laws.{AsksTheBest, FindsTheFault, NamesTheAccused, NarrowsTheFault};
+ghost use Rattle.ask_session.specs.LineActs.{EntriesFollowLines};
 ghost use Rattle.debug_cli.specs.Headline.{VerdictsAreFound};
 ghost use Rattle.debug_cli.specs.Laws.{InEachRun, OneRun};
 
-use ask_session::reports_are_sound;
+use ask_session::{entries_follow_lines, reports_are_sound};
 use body_replay::bodies_give_their_exits;
 use pas_lexer::lexing::division_laws;
 use program_meaning::numbers_tell_the_tree;
@@ -29,6 +30,13 @@ pub fn search_is_sound()
     // The subtree of a call is an interval.
     numbers_tell_the_tree();
     reports_are_sound();
+}
+
+/// Which entries stand after lines, whatever entries the session began with, in the run of each program.
+pub fn entries_stand()
+    ensures { InEachRun EntriesFollowLines }
+{
+    entries_follow_lines();
 }
 
 /// The body of each call of the run of each program, run from its recorded entry with the recorded effects of the calls

@@ -13,4 +13,5 @@ mod WeightsTell
 mod CallsOfRoutine
 mod Changes
 mod WhatStands
-mod StandUnlessTakenBack
+pub mod StandUnlessTakenBack
+pub mod GivenEntriesStand

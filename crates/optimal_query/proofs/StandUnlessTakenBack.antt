@@ -27,7 +27,7 @@ use Rattle.optimal_query.specs.Standing.{Command, Judge, TakeBack, TakeBackLast,
 use Rattle.optimal_query.proofs.WhatStands.{same_after_command}
 
 -- the entries are numbered from `from` on, in order
-abbrev AreNumbered : ℕ → List CommandAct → Type 0
+abbrev pub AreNumbered : ℕ → List CommandAct → Type 0
 AreNumbered from [] = Unit {0}
 AreNumbered from (Made number what ∷ acts) = (number ≡ from) × AreNumbered (from + 1) acts
 AreNumbered from (TookBack number ∷ acts) = AreNumbered from acts
@@ -36,10 +36,10 @@ AreNumbered from (TookBack number ∷ acts) = AreNumbered from acts
 abbrev and_this : (ℕ → Bool) → ℕ → ℕ → Bool
 and_this taken_back number other = (number == other) || taken_back other
 
-abbrev entries_by : (ℕ → Bool) → List CommandAct → List Entry
+abbrev pub entries_by : (ℕ → Bool) → List CommandAct → List Entry
 entries_by taken_back acts = filter_map (entry_unless taken_back) acts
 
-abbrev entry : What → Bool → Entry
+abbrev pub entry : What → Bool → Entry
 entry what standing = record { what = what; standing = standing }
 
 -- a number before the first one changes nothing
@@ -186,10 +186,10 @@ taken_and_this acts number other =
     list_any-append (took_back other) acts (TookBack number ∷ []) ∙ or_turned (is_taken_back acts other) (number == other)
 
 -- these are the entries after these acts
-record Follow (acts : List CommandAct) (entries : List Entry) : Type 0 where
-  entries_are : entries ≡ entries_after acts
-  numbered : AreNumbered 1 acts
-  none_later : (number : ℕ) → number_made acts < number → is_taken_back acts number ≡ false
+pub record Follow (acts : List CommandAct) (entries : List Entry) : Type 0 where
+  pub entries_are : entries ≡ entries_after acts
+  pub numbered : AreNumbered 1 acts
+  pub none_later : (number : ℕ) → number_made acts < number → is_taken_back acts number ≡ false
 
 follow_made : (acts : List CommandAct) (entries : List Entry) (what : What) → Follow acts entries
     → Follow (acts ++ Made (number_made acts + 1) what ∷ []) (entries_with entries what)
@@ -260,7 +260,7 @@ last_taken acts search (Some number) is before =
 as_many_entries : {acts : List CommandAct} {entries : List Entry} → Follow acts entries → number_made acts ≡ length entries
 as_many_entries {acts = acts} before = sym (ap (λ (l : List Entry). length l) before.entries_are ∙ as_many (is_taken_back acts) acts)
 
-follow_command : (acts : List CommandAct) (search : Search) (command : Command) → Follow acts search.book.entries
+pub follow_command : (acts : List CommandAct) (search : Search) (command : Command) → Follow acts search.book.entries
     → Follow (and_then acts (act_of (length search.book.routine) search.book.routines acts command)) (after_command search command).book.entries
 follow_command acts search (Judge call judgement) before =
     let what : What = Judged call judgement in
@@ -290,7 +290,7 @@ follow_command acts search TakeBackLast before =
     alike (last_taken acts search last refl before)
 
 -- and all of them
-follow_commands : {calls routines : ℕ} (acts : List CommandAct) (search : Search) (commands : List Command)
+pub follow_commands : {calls routines : ℕ} (acts : List CommandAct) (search : Search) (commands : List Command)
     → length search.book.routine ≡ calls → search.book.routines ≡ routines → Follow acts search.book.entries
     → Follow (acts_after calls routines acts commands) (after_commands search commands).book.entries
 follow_commands acts search [] of_calls of_routines before = before
@@ -308,7 +308,7 @@ said_if : (b : Bool) (what : What) → cond (not b) (Some what) None ≡ cond b 
 said_if true what = refl
 said_if false what = refl
 
-said_alike : (t : ℕ → Bool) (acts : List CommandAct) → filter_map said_by (entries_by t acts) ≡ filter_map (said_unless t) acts
+pub said_alike : (t : ℕ → Bool) (acts : List CommandAct) → filter_map said_by (entries_by t acts) ≡ filter_map (said_unless t) acts
 said_alike t [] = refl
 said_alike t (TookBack m ∷ acts) = said_alike t acts
 said_alike t (Made m what ∷ acts) =

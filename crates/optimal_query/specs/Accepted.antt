@@ -9,7 +9,9 @@ use Rattle.answer_book.specs.declared.entries.What.{What}
 use Rattle.answer_book.specs.declared.entries.What.TheVariants.{Judged, Trusted}
 use Rattle.answer_book.specs.Numbers.{last_where, numbers_below}
 use Rattle.call_tree.specs.Recording.{Recording}
-use Rattle.optimal_query.specs.Standing.{Command, Judge, Trust, TakeBack, TakeBackLast, answers_after, searched}
+use Rattle.optimal_query.specs.Search.{answers_in, search_over}
+use Rattle.optimal_query.specs.Standing.{Command, Judge, Trust, TakeBack, TakeBackLast, after_commands, answers_after}
+use Rattle.optimal_query.specs.Standing.{searched}
 
 -- what an accepted command does: it makes the entry of this number, which says this, or takes back the entry of this
 -- number
@@ -94,3 +96,33 @@ pub record StandUnlessTakenBack (run : Recording) (commands : List Command) : Ty
 
 abbrev pub EntriesStandUnlessTakenBack : Type 0
 EntriesStandUnlessTakenBack = (run : Recording) (commands : List Command) → StandUnlessTakenBack run commands
+
+-- ---- a search that begins with entries, as one that goes on with a saved session
+
+-- acts that give these entries, of which the first has this number: each is made, and is taken back if it does not
+-- stand
+abbrev pub acts_from : ℕ → List Entry → List CommandAct
+acts_from number [] = []
+acts_from number (entry ∷ entries) =
+    Made number entry.what ∷ (if entry.standing then acts_from (number + 1) entries
+    else TookBack number ∷ acts_from (number + 1) entries)
+
+abbrev pub acts_giving : List Entry → List CommandAct
+acts_giving entries = acts_from 1 entries
+
+-- and what these commands do after them
+abbrev pub acts_since : Recording → List Entry → List Command → List CommandAct
+acts_since run first commands = acts_after (length run.calls) run.routines (acts_giving first) commands
+
+-- These acts give the entries that the search begins with. The entries after these commands are those that all acts
+-- make, and the answers that stand are those which no act took back.
+pub record StandAfterEntries (run : Recording) (first : List Entry) (commands : List Command) : Type 0 where
+  pub given : entries_after (acts_giving first) ≡ first
+  pub entries : (after_commands (search_over run first) commands).book.entries
+      ≡ entries_after (acts_since run first commands)
+  pub answers : answers_in (after_commands (search_over run first) commands)
+      ≡ standing_after (acts_since run first commands)
+
+abbrev pub GivenEntriesStandUnlessTakenBack : Type 0
+GivenEntriesStandUnlessTakenBack =
+    (run : Recording) (first : List Entry) (commands : List Command) → StandAfterEntries run first commands

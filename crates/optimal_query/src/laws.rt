@@ -1,5 +1,5 @@
 //! Laws of the search, each the contract of a call that does nothing.
-ghost use Rattle.optimal_query.specs.Accepted.{EntriesStandUnlessTakenBack};
+ghost use Rattle.optimal_query.specs.Accepted.{EntriesStandUnlessTakenBack, GivenEntriesStandUnlessTakenBack};
 ghost use Rattle.optimal_query.specs.Laws.{AnswersLeaveWhatIsCounted, FoundIsAtFault, NothingWrongIsNothing};
 ghost use Rattle.optimal_query.specs.Laws.{QuestionIsLeast, RegionIsLeft};
 ghost use Rattle.optimal_query.specs.Narrowing.{BuggyIsLeft, FoundIsBuggy};
@@ -51,4 +51,11 @@ pub fn search_depends_on_what_stands()
 /// routines there are.
 pub fn entries_stand_unless_taken_back()
     ensures { EntriesStandUnlessTakenBack }
+{}
+
+/// So it is in a search that begins with whatever entries, as one that goes on with a saved session:
+/// its entries are those that acts give which make each and take back what does not stand, and then
+/// the accepted commands.
+pub fn given_entries_stand_unless_taken_back()
+    ensures { GivenEntriesStandUnlessTakenBack }
 {}

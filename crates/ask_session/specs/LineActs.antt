@@ -1,0 +1,52 @@
+-- What the lines of a console do to the entries, read as acts: an entry stands if one of these made it and none took it
+-- back. No list of entries with flags is kept here, as a book keeps one.
+use Rattle.std.specs.Prelude.{◌≡◌, ℕ, if◌then◌else◌, List, [], ◌∷◌, Option, Some, None, length, option_map}
+use Rattle.answer_book.specs.declared.entries.Entry.{Entry}
+use Rattle.answer_book.specs.declared.entries.Judgement.{Judgement}
+use Rattle.optimal_query.specs.declared.state.SearchState.{SearchState}
+use Rattle.optimal_query.specs.declared.state.SearchState.TheVariants.{Ask}
+use Rattle.optimal_query.specs.Accepted.{CommandAct, act_of, acts_giving, and_then, entries_after, standing_after}
+use Rattle.optimal_query.specs.Laws.{state_in}
+use Rattle.optimal_query.specs.Standing.{Command, Judge, Trust, TakeBack, TakeBackLast}
+use Rattle.dialog_lines.specs.declared.instructions.Instruction.{Instruction}
+use Rattle.dialog_lines.specs.declared.instructions.Instruction.TheVariants as asked
+use Rattle.dialog_lines.specs.Instructions.{instruction_of}
+use Rattle.dialog_replies.specs.Subject.{Subject, routine_named}
+use Rattle.ask_session.specs.Dialog.{is_too_long}
+use Rattle.ask_session.specs.Turned.{entries_through}
+
+-- a judgement on the call that is asked about, if one is
+abbrev pub judgement_on : Judgement → SearchState → Option Command
+judgement_on judgement (Ask call weight suspects left) = Some (Judge call judgement)
+judgement_on judgement state = None
+
+-- the command to a search that an instruction is after these acts, if it is one
+abbrev pub command_in : Subject → List CommandAct → Instruction → Option Command
+command_in s acts (asked.Judge judgement None) = judgement_on judgement (state_in s.tree (standing_after acts))
+command_in s acts (asked.Judge judgement (Some call)) = Some (Judge call judgement)
+command_in s acts (asked.TrustNamed name) = option_map Trust (routine_named s name)
+command_in s acts (asked.Trust routine) = Some (Trust routine)
+command_in s acts (asked.TakeBack None) = Some TakeBackLast
+command_in s acts (asked.TakeBack (Some number)) = Some (TakeBack number)
+command_in s acts instruction = None
+
+-- what it does; nothing where it is refused
+abbrev pub act_by : Subject → List CommandAct → Option Command → Option CommandAct
+act_by s acts None = None
+act_by s acts (Some command) = act_of (length s.tree.routine) s.routines acts command
+
+-- these acts and that of a line
+abbrev pub acts_after_line : Subject → List CommandAct → (line : List ℕ) → List CommandAct
+acts_after_line s acts line =
+    and_then acts (act_by s acts (if is_too_long line then None else command_in s acts (instruction_of line)))
+
+abbrev pub acts_after_lines : Subject → List CommandAct → (lines : List (List ℕ)) → List CommandAct
+acts_after_lines s acts [] = acts
+acts_after_lines s acts (line ∷ lines) = acts_after_lines s (acts_after_line s acts line) lines
+
+-- After these lines the entries are those that the acts make which gave the first ones, and those of the lines; an
+-- entry stands there if no act took it back.
+abbrev pub EntriesFollowLines : Subject → Type 0
+EntriesFollowLines s =
+    (first : List Entry) (lines : List (List ℕ))
+    → entries_through s first lines ≡ entries_after (acts_after_lines s (acts_giving first) lines)
