@@ -1,8 +1,9 @@
 -- What was said and saved where a dialog ends.
-use Rattle.std.proofs.Common.{◌≡◌, ◌≤◌, inl, inr, ℕ, ◌+◌, Bool, true, false, ◌||◌, IsTrue, List, [], ◌∷◌, ◌++◌, Option, Ok, Err, length, refl, sym, ap, subst}
+use Rattle.std.proofs.Common.{◌≡◌, ◌⊎◌, ◌<◌, ◌≤◌, inl, inr, ℕ, ◌+◌, Bool, true, false, ◌||◌, if◌then◌else◌, IsTrue, List, [], ◌∷◌, ◌++◌, Option, Some, None}
+use Rattle.std.proofs.Common.{Ok, Err, length, take, refl, sym, ap, subst}
 use Rattle.std.proofs.Common.{◌∙◌, append_assoc, append-nil, arith}
 use Rattle.std.specs.Io.KnownBytes.{IsAtEnd}
-use Rattle.std.proofs.lemmas.List.{length-append}
+use Rattle.std.proofs.lemmas.List.{length-append, take_all, take_at}
 use Rattle.edge_ports.specs.Counts.{counts_stored}
 use Rattle.edge_ports.specs.Lines.{LinesState, lines_heard, handed_lines, unread, Moves}
 use Rattle.edge_ports.specs.Turns.{IsConsistent}
@@ -19,7 +20,8 @@ use Rattle.ask_session.specs.declared.dialog.Ending.TheVariants as ending
 use Rattle.ask_session.specs.Dialog.{replies, reply_to, entries_after_line, ends_session, ends_among, file_asked, next_save, saves_after_line}
 use Rattle.ask_session.specs.Heard.{Heard, IsHeard, EndedBy, GaveBy, lines_in}
 use Rattle.ask_session.specs.Outside.{Outside}
-use Rattle.ask_session.specs.Saves.{AreAnswered, CountsAfter, FilesAfter, Save, counts_saved, saves_asked}
+use Rattle.ask_session.specs.Reached.{Reached, telling_from}
+use Rattle.ask_session.specs.Saves.{AreAnswered, CountsAfter, FilesAfter, Save, counts_saved, save_of, saves_asked}
 use Rattle.ask_session.specs.Turned.{entries_through, one_line, Answered, BreaksOff, Hands, HandsNone, DialogMoment, NextReply, Passes, DialogStage, Talk}
 use Rattle.ask_session.specs.Turned.{Talked}
 use Rattle.ask_session.specs.Turned.{ReplyGiven}
@@ -27,11 +29,26 @@ use Rattle.ask_session.proofs.RepliesInOrder.{asked_append, asked_front, asked_q
 use Rattle.ask_session.proofs.RepliesInOrder.{passes_more}
 use Rattle.ask_session.proofs.RepliesInOrder.{Stored, quitted, replied, replies_append}
 
+-- no answer to a save, or that to the only one
+none_or_last : {A B : Type 0} (saves : List Bool) (asked : ℕ) → asked ≤ 1 → length saves ≤ asked → (saves ≡ [] → A)
+    → (length saves ≡ asked → B) → A ⊎ B
+none_or_last [] asked most few none last = inl (none refl)
+none_or_last (stored ∷ saves) asked most few none last = inr (last (omega (arith, most, few)))
+
 -- what was heard by a reader
 abbrev pub heard_by : LinesState → Heard
 heard_by lines = record { bytes = lines.taken; ended = lines.ended }
 
 module _ (s : Subject) (start : Start) where
+  -- a line asks for one save at most
+  asks_once : (entries : List Entry) (line : List ℕ) → length (saves_asked s start entries (line ∷ [])) ≤ 1
+  asks_once entries line = by (ends_session line) (file_asked line)
+    where
+      by : (quits : Bool) (file : Option (List ℕ)) → length (if quits then [] else save_of start entries file ++ []) ≤ 1
+      by true file = omega arith
+      by false (Some name) = omega arith
+      by false None = omega arith
+
   -- ---- one line after another
 
   pub answered_more : (first old new : DialogStage) (r : Unit {0}) → Answered s start first old → ReplyGiven s start old (Ok r) new → Answered s start first new
@@ -69,6 +86,7 @@ module _ (s : Subject) (start : Start) where
     pub ended : EndedBy e (heard_by new.progress.lines)
     pub answered : AreAnswered e saves (saves_asked s start first.progress.moment.entries (lines_in (heard_by new.progress.lines)))
     pub gave : GaveBy e first.given new.given (replies s first.progress.moment.entries saves (lines_in (heard_by new.progress.lines)))
+    pub reached : Reached (telling_from s start first.progress.moment.entries) (lines_in (heard_by new.progress.lines)) saves first.given new.given
     pub files_are : FilesAfter saves (saves_asked s start first.progress.moment.entries (lines_in (heard_by new.progress.lines)))
         first.progress.moment.files new.progress.moment.files
     pub counts_are : CountsAfter e saves first.progress.moment.counts new.progress.moment.counts
@@ -80,6 +98,18 @@ module _ (s : Subject) (start : Start) where
     gave : GaveAll first.given new.given (replies s first.progress.moment.entries saves lines)
     files_are : FilesAfter saves (saves_asked s start first.progress.moment.entries lines) first.progress.moment.files new.progress.moment.files
     counts_are : new.progress.moment.counts ≡ counts_saved saves first.progress.moment.counts
+
+  reached_all : (first new : DialogStage) (lines : List (List ℕ)) (t : Through first lines new)
+      → Reached (telling_from s start first.progress.moment.entries) lines t.saves first.given new.given
+  reached_all first new lines t =
+      let all : take (length lines) lines ≡ lines = take_all (length lines) lines (omega arith) in
+      record {
+        count = length lines;
+        within = omega arith;
+        answered = inl (t.answered ∙ ap (λ (ls : List (List ℕ)). length (saves_asked s start first.progress.moment.entries ls)) (sym all));
+        gave = subst (λ (ls : List (List ℕ)). GavePrefix first.given new.given (replies s first.progress.moment.entries t.saves ls)) (sym all)
+            (gave_prefix_whole first.given new.given (replies s first.progress.moment.entries t.saves lines) t.gave);
+      }
 
   module _ (first old new : DialogStage) (a : Answered s start first old) (c : IsConsistent new.progress.lines) where
     abbrev reader : LinesState
@@ -179,11 +209,25 @@ module _ (s : Subject) (start : Start) where
         ∙ replies_append s start saves (line ∷ rest) entries a.saves before a.passes.on a.passes.answered
         ∙ ap (λ (t : List ℕ). replies s entries a.saves before ++ t) (replied s after saves line rest (on_of_one line one.on)
         ∙ ap (λ (t : List ℕ). t ++ more) (ap (λ (es : List Entry). reply_to s es (next_save saves) line) (sym a.passes.entries_are) ∙ sym n.2.2)) in
+        let here : List (List ℕ) = before ++ line ∷ [] in
+        let taken : take (length here) heard ≡ here = ap (take (length here)) lines ∙ take_at here rest (length here) refl in
+        let said_here : replies s entries (a.saves ++ saves) here ≡ replies s entries a.saves before ++ reply =
+        replies_append s start saves (line ∷ []) entries a.saves before a.passes.on a.passes.answered
+        ∙ ap (λ (t : List ℕ). replies s entries a.saves before ++ t) (replied s after saves line [] (on_of_one line one.on)
+        ∙ append-nil (reply_to s after (next_save saves) line)
+        ∙ ap (λ (es : List Entry). reply_to s es (next_save saves) line) (sym a.passes.entries_are) ∙ sym n.2.2) in
         record {
           saves = a.saves ++ saves;
           not_refused = λ r. absurd (let x : ⊥ = cc in x);
           ended = tt;
           answered = omega (arith, few, ap length all, length-append (asked (before ++ line ∷ [])) front.0);
+          reached = record {
+            count = length here;
+            within = omega (arith, ap length lines, length-append here rest);
+            answered = inl (passes.answered ∙ ap (λ (ls : List (List ℕ)). length (asked ls)) (sym taken));
+            gave = subst GaveFront (sym (ap (replies s entries (a.saves ++ saves)) taken ∙ said_here))
+                (gave_prefix_after first.given (replies s entries a.saves before) a.gave g);
+          };
           gave = subst GaveFront (sym said)
               (gave_prefix_after first.given (replies s entries a.saves before) a.gave
               (gave_prefix_before old.given new.given reply more g));
@@ -225,10 +269,42 @@ module _ (s : Subject) (start : Start) where
         ∙ replies_append s start b.saves (line ∷ rest) entries a.saves before a.passes.on a.passes.answered in
         let gave : Gave (replies s entries a.saves before) =
         subst (λ (g : Option (List ℕ)). GaveAll first.given g (replies s entries a.saves before)) (sym still) a.gave in
+        let here : List (List ℕ) = before ++ line ∷ [] in
+        let taken : take (length before) heard ≡ before =
+        ap (take (length before)) (with_line line hands) ∙ take_at before (line ∷ rest) (length before) refl in
+        let in_order : heard ≡ here ++ rest = order ∙ ap (λ (ls : List (List ℕ)). ls ++ rest) hands in
+        let one_more : length before + 1 ≡ length here = omega (arith, length-append before (line ∷ [])) in
+        let taken_here : take (length before + 1) heard ≡ here =
+        ap (λ (n : ℕ). take n heard) one_more ∙ ap (take (length here)) in_order ∙ take_at here rest (length here) refl in
+        let asked_here : asked here ≡ asked before ++ one = asked_append s start entries before (line ∷ []) a.passes.on in
+        let said_before : replies s entries (a.saves ++ b.saves) before ≡ replies s entries a.saves before =
+        ap (replies s entries (a.saves ++ b.saves)) (sym (append-nil before))
+        ∙ replies_append s start b.saves [] entries a.saves before a.passes.on a.passes.answered
+        ∙ append-nil (replies s entries a.saves before) in
+        let inside : length before < length heard = omega (arith, ap length (with_line line hands), length-append before (line ∷ rest)) in
+        let all_here : length b.saves ≡ length one → length (a.saves ++ b.saves) ≡ length (asked here) =
+        λ last. omega (
+          arith,
+          last,
+          a.passes.answered,
+          length-append a.saves b.saves,
+          ap length asked_here,
+          length-append (asked before) one,
+        ) in
         record {
           saves = a.saves ++ b.saves;
           not_refused = λ r. absurd (let x : ⊥ = cc in x);
           ended = tt;
+          reached = record {
+            count = length before;
+            within = omega (arith, inside);
+            answered = none_or_last b.saves (length one) (asks_once after line) few
+                (λ none. ap (λ (more : List Bool). length (a.saves ++ more)) none ∙ ap length (append-nil a.saves) ∙ a.passes.answered
+                ∙ ap (λ (ls : List (List ℕ)). length (asked ls)) (sym taken))
+                (λ last. (inside, all_here last ∙ ap (λ (ls : List (List ℕ)). length (asked ls)) (sym taken_here)));
+            gave = subst GaveFront (sym (ap (replies s entries (a.saves ++ b.saves)) taken ∙ said_before))
+                (gave_prefix_whole first.given new.given (replies s entries a.saves before) gave);
+          };
           answered = omega (
             arith,
             few,
@@ -252,6 +328,7 @@ module _ (s : Subject) (start : Start) where
       not_refused = λ r. absurd (let x : ⊥ = cc in x);
       ended = why;
       answered = t.answered;
+      reached = reached_all first new heard t;
       gave = t.gave;
       files_are = t.files_are;
       counts_are = t.counts_are;
@@ -263,6 +340,7 @@ module _ (s : Subject) (start : Start) where
       not_refused = λ r. absurd (let x : ⊥ = cc in x);
       ended = why;
       answered = t.answered;
+      reached = reached_all first new heard t;
       gave = t.gave;
       files_are = t.files_are;
       counts_are = t.counts_are;
@@ -274,6 +352,7 @@ module _ (s : Subject) (start : Start) where
       not_refused = λ r. absurd (let x : ⊥ = cc in x);
       ended = why;
       answered = t.answered;
+      reached = reached_all first new heard t;
       gave = t.gave;
       files_are = t.files_are;
       counts_are = t.counts_are;
@@ -336,6 +415,7 @@ module _ (s : Subject) (start : Start) where
     is_heard = heard;
     ended = ends.ended;
     answered = ends.answered;
+    reached = ends.reached;
     gave = ends.gave;
     files = ends.files_are;
     counts = ends.counts_are;

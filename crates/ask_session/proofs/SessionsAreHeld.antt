@@ -1,5 +1,5 @@
 -- A session: the opening and the dialog, or a saved session that is refused.
-use Rattle.std.proofs.Common.{◌≡◌, inl, ℕ, false, Bool, List, [], ◌++◌, Option, Some, None, IsSome, refl, sym, ap, subst, arith}
+use Rattle.std.proofs.Common.{◌≡◌, inl, ℕ, false, Bool, List, [], ◌++◌, Option, Some, None, IsSome, refl, sym, ap, subst, take, arith}
 use Rattle.std.specs.Option.{option_map}
 use Rattle.edge_ports.specs.Told.{GaveAll, GavePrefix}
 use Rattle.edge_ports.proofs.PiecesAddUp.{gave_more, gave_nothing, gave_prefix_after, gave_prefix_before, gave_prefix_whole, took_nothing}
@@ -15,6 +15,7 @@ use Rattle.ask_session.specs.declared.dialog.Ending.TheVariants as ending
 use Rattle.ask_session.specs.Dialog.{replies, said, said_if_fits}
 use Rattle.ask_session.specs.Heard.{GaveBy, Heard, IsHeard, RefusedBy, lines_in}
 use Rattle.ask_session.specs.Outside.{Outside}
+use Rattle.ask_session.specs.Reached.{Reached, telling, telling_from}
 use Rattle.ask_session.specs.Turned.{Talked}
 use Rattle.ask_session.specs.Went.{Went}
 
@@ -49,6 +50,12 @@ module _ (s : Subject) (start : Start) where
     refused = tt;
     answered = omega arith;
     gave = nothing_is_prefix outside.streams.given (said s start [] (lines_in nothing));
+    reached = record {
+      count = 0;
+      within = omega arith;
+      answered = inl refl;
+      gave = nothing_is_prefix outside.streams.given (said s start [] []);
+    };
     files = refl;
     counts = inl refl;
   }
@@ -64,6 +71,12 @@ module _ (s : Subject) (start : Start) where
     refused = tt;
     answered = omega arith;
     gave = subst (λ (t : List ℕ). GavePrefix outside.streams.given given t) (sym is) (gave_prefix_before outside.streams.given given text rest gave);
+    reached = record {
+      count = 0;
+      within = omega arith;
+      answered = inl refl;
+      gave = subst (λ (t : List ℕ). GavePrefix outside.streams.given given t) (sym is) (gave_prefix_before outside.streams.given given text rest gave);
+    };
     files = refl;
     counts = refl;
   }
@@ -84,6 +97,13 @@ module _ (s : Subject) (start : Start) where
     refused = subst IsSome (sym unfit) refl;
     answered = refl;
     gave = subst (λ (t : List ℕ). GaveAll outside.streams.given given t) (sym (said_misfit why [] (lines_in nothing) unfit)) gave;
+    reached = record {
+      count = 0;
+      within = omega arith;
+      answered = inl refl;
+      gave = gave_prefix_whole outside.streams.given given (said s start [] [])
+          (subst (λ (t : List ℕ). GaveAll outside.streams.given given t) (sym (said_misfit why [] [] unfit)) gave);
+    };
     files = refl;
     counts = refl;
   }
@@ -119,6 +139,18 @@ module _ (s : Subject) (start : Start) where
     pub fits : misfit s start ≡ None
     pub gave : GaveAll before.streams.given given (opening s (entries_at_start start))
 
+  -- as many lines, with the opening before them
+  reached_after_opening : (given : Option (List ℕ)) (before after : Outside) → Opened before given → (saves : List Bool) (lines : List (List ℕ))
+      → Reached (telling_from s start (entries_at_start start)) lines saves given after.streams.given
+      → Reached (telling s start) lines saves before.streams.given after.streams.given
+  reached_after_opening given before after o saves lines r = record {
+    count = r.count;
+    within = r.within;
+    answered = r.answered;
+    gave = subst (λ (text : List ℕ). GavePrefix before.streams.given after.streams.given text) (sym (said_fit saves (take r.count lines) o.fits))
+        (gave_prefix_after before.streams.given (opening s (entries_at_start start)) o.gave r.gave);
+  }
+
   pub went_so : (given : Option (List ℕ)) (before after : Outside) (e : Ending) → Opened before given → Talked s start (with_given before given) e after
       → Went s start before e after
   went_so given before after e o t = record {
@@ -131,6 +163,7 @@ module _ (s : Subject) (start : Start) where
     gave = subst (λ (text : List ℕ). GaveBy e before.streams.given after.streams.given text) (sym (said_fit t.saves (lines_in t.heard) o.fits))
         (gave_after_opening before.streams.given given after.streams.given (opening s (entries_at_start start))
         (replies s (entries_at_start start) t.saves (lines_in t.heard)) e o.gave t.gave);
+    reached = reached_after_opening given before after o t.saves (lines_in t.heard) t.reached;
     files = t.files;
     counts = t.counts;
   }

@@ -1,8 +1,8 @@
 -- Where the console tells its bytes: what the screen got, what became of the keeper, and how the session ended.
-use Rattle.std.proofs.Common.{◌≡◌, ◌⊎◌, ◌≤◌, inl, inr, ℕ, ◌+◌, ◌-◌, Bool, true, false, IsTrue, List, [], ◌++◌, Option, Some, None, IsSome, length, take, refl}
-use Rattle.std.proofs.Common.{sym, ap, subst, ◌∙◌, arith, append_assoc}
+use Rattle.std.proofs.Common.{◌≡◌, ◌⊎◌, ◌<◌, ◌≤◌, inl, inr, ℕ, ◌+◌, ◌-◌, Bool, true, false, IsTrue, List, [], ◌++◌, Option, Some, None, IsSome, length}
+use Rattle.std.proofs.Common.{take, refl, sym, ap, subst, ◌∙◌, arith, append_assoc}
 use Rattle.std.specs.Io.KnownBytes.{IsAtEnd}
-use Rattle.std.proofs.lemmas.List.{append-nil, take_at, length-append}
+use Rattle.std.proofs.lemmas.List.{append-nil, take_at, take-append-le, length-append}
 use Rattle.std.proofs.Math.Seq.{take-append-add}
 use Rattle.edge_ports.specs.Limits.{console_bytes}
 use Rattle.edge_ports.specs.Counts.{Counted}
@@ -25,6 +25,7 @@ use Rattle.ask_session.specs.Console.{EndsInTime, FirstAnswered, GaveOf, GoesOn,
 use Rattle.ask_session.specs.Dialog.{said, said_if_fits, transcript, replies, ends_among}
 use Rattle.ask_session.specs.Heard.{Heard, lines_in, IsHeard, EndedBy, GaveBy, RefusedBy, is_console, is_screen}
 use Rattle.ask_session.specs.Outside.{Outside}
+use Rattle.ask_session.specs.Reached.{AnswersFirst, Reached, Telling, telling}
 use Rattle.ask_session.specs.Saves.{AreAnswered, FilesAfter, Save, saves_in}
 use Rattle.ask_session.specs.Went.{Went}
 use Rattle.ask_session.proofs.RepliesInOrder.{Stored, asked_ended, asked_front, files_longer, replies_ended, replies_front, ended_append}
@@ -59,6 +60,28 @@ answered_few ending.Spent saves asked a = omega (arith, a)
 answered_few ending.Refused saves asked a = omega (arith, a)
 answered_few ending.Screen saves asked a = a
 answered_few ending.Memory saves asked a = a
+
+-- ---- how far a dialog came, of more lines
+
+answers_more : (t : Telling) (ls ms : List (List ℕ)) (count : ℕ) (saves : List Bool) → count ≤ length ls → AnswersFirst t ls count saves
+    → AnswersFirst t (ls ++ ms) count saves
+answers_more t ls ms count saves within (inl e) =
+    inl (e ∙ ap (λ (some : List (List ℕ)). length (t.asked some)) (sym (take-append-le count ls ms within)))
+answers_more t ls ms count saves within (inr (less, e)) =
+    let next : count + 1 ≤ length ls = omega (arith, less) in
+    let longer : count < length (ls ++ ms) = omega (arith, less, length-append ls ms) in
+    inr (longer, e ∙ ap (λ (some : List (List ℕ)). length (t.asked some)) (sym (take-append-le (count + 1) ls ms next)))
+
+reached_more : {saves : List Bool} {given given' : Option (List ℕ)} (t : Telling) (ls ms all : List (List ℕ)) → all ≡ ls ++ ms
+    → Reached t ls saves given given' → Reached t all saves given given'
+reached_more {saves} {given} {given'} t ls ms all e r =
+    let longer : Reached t (ls ++ ms) saves given given' = record {
+      count = r.count;
+      within = omega (arith, r.within, length-append ls ms);
+      answered = answers_more t ls ms r.count saves r.within r.answered;
+      gave = subst (λ (some : List (List ℕ)). GavePrefix given given' (t.text saves some)) (sym (take-append-le r.count ls ms r.within)) r.gave;
+    } in
+    subst (λ (lines : List (List ℕ)). Reached t lines saves given given') (sym e) longer
 
 module _ (s : Subject) (start : Start) where
   abbrev said_of : List Bool → List (List ℕ) → List ℕ
@@ -170,11 +193,14 @@ module _ (s : Subject) (start : Start) where
         → FirstAnswered e w.saves (saves_in s start (lines_of bytes))
         × GaveOf e before.streams.given after.streams.given (transcript s start w.saves bytes)
         × FilesAfter w.saves (saves_in s start (lines_of bytes)) before.files after.files
+        × Reached (telling s start) (lines_of bytes) w.saves before.streams.given after.streams.given
     told_so before after e w h =
+        let lines = first_lines w.heard h w.heard.ended refl in
         let stored : Stored w.saves (saves_in s start (lines_in w.heard)) before.files after.files = record { files_are = w.files } in (
           first_answered e w.saves w.heard h (w.ended, w.answered),
           transcript_given before.streams.given after.streams.given w.saves w.heard h e w.gave w.ended w.refused,
           (files_told w.saves w.heard h (answered_few e w.saves (saves_in s start (lines_in w.heard)) w.answered) stored).files_are,
+          reached_more (telling s start) (lines_in w.heard) lines.0 (lines_of bytes) lines.1 w.reached,
         )
 
     -- ---- how it ended

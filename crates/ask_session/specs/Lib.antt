@@ -1,6 +1,7 @@
 pub mod Dialog
 pub mod Saves
 pub mod Heard
+pub mod Reached
 pub mod Outside
 pub mod Went
 pub mod Console

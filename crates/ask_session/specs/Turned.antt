@@ -16,6 +16,7 @@ use Rattle.ask_session.specs.Dialog.{ends_session, ends_among, entries_after_lin
 use Rattle.ask_session.specs.Dialog.{save_reply}
 use Rattle.ask_session.specs.Heard.{Heard, IsHeard, lines_in, EndedBy, GaveBy, is_console, is_screen}
 use Rattle.ask_session.specs.Outside.{Outside}
+use Rattle.ask_session.specs.Reached.{Reached, telling_from}
 use Rattle.ask_session.specs.Saves.{AreAnswered, CountsAfter, FilesAfter, Save, counts_saved, saves_asked, saves_in}
 
 -- the entries, and the keeper's files and counts, at one moment of a dialog
@@ -157,6 +158,8 @@ pub record Talked (s : Subject) (start : Start) (before : Outside) (e : Ending) 
   pub answered : AreAnswered e saves (saves_in s start (lines_in heard))
   pub gave : GaveBy e before.streams.given after.streams.given
       (replies s (entries_at_start start) saves (lines_in heard))
+  pub reached : Reached (telling_from s start (entries_at_start start)) (lines_in heard) saves before.streams.given
+      after.streams.given
   pub files : FilesAfter saves (saves_in s start (lines_in heard)) before.files after.files
   pub counts : CountsAfter e saves before.counts after.counts
 

@@ -7,11 +7,12 @@ use Rattle.ask_session.specs.declared.dialog.Ending.{Ending}
 use Rattle.ask_session.specs.Dialog.{said}
 use Rattle.ask_session.specs.Heard.{Heard, IsHeard, lines_in, EndedBy, GaveBy, RefusedBy}
 use Rattle.ask_session.specs.Outside.{Outside}
+use Rattle.ask_session.specs.Reached.{Reached, telling}
 use Rattle.ask_session.specs.Saves.{AreAnswered, CountsAfter, FilesAfter, saves_in}
 
 -- A dialog about a run went so: what was heard of the console and why it ended; of each line that asks to save, whether
--- its file was stored; what the screen got; and what became of the files, by the replies alone, and of the keeper's
--- counts.
+-- its file was stored; what the screen got, and how many lines were answered; and what became of the files, by the
+-- replies alone, and of the keeper's counts.
 pub record Went (s : Subject) (start : Start) (before : Outside) (e : Ending) (after : Outside) : Type 0 where
   pub heard : Heard
   pub saves : List Bool
@@ -20,5 +21,6 @@ pub record Went (s : Subject) (start : Start) (before : Outside) (e : Ending) (a
   pub refused : RefusedBy e (misfit s start)
   pub answered : AreAnswered e saves (saves_in s start (lines_in heard))
   pub gave : GaveBy e before.streams.given after.streams.given (said s start saves (lines_in heard))
+  pub reached : Reached (telling s start) (lines_in heard) saves before.streams.given after.streams.given
   pub files : FilesAfter saves (saves_in s start (lines_in heard)) before.files after.files
   pub counts : CountsAfter e saves before.counts after.counts

@@ -9,6 +9,7 @@ ghost use Rattle.ask_session.specs.Dialog.{transcript};
 ghost use Rattle.ask_session.specs.Heard.{is_console, is_screen};
 ghost use Rattle.ask_session.specs.Laws.{AsksTheBest, FindsTheFault, NamesTheAccused, NarrowsTheFault};
 ghost use Rattle.ask_session.specs.LineActs.{EntriesFollowLines};
+ghost use Rattle.ask_session.specs.Reached.{Reached, telling};
 ghost use Rattle.ask_session.specs.Saves.{CountsAfter, FilesAfter, saves_in};
 ghost use Rattle.ask_session.specs.Went.{Went};
 
@@ -120,13 +121,15 @@ pub fn converse<D: Debugged, K: Keeper, I: Source, O: Sink>(
 ) -> Ending
     requires whole { IsWholeStart start.now }
     // Where the console tells its bytes: of each line that asks to save, whether its file was stored; what the screen
-    // got, what became of the files and of the keeper's counts; and how the session ends if neither the console nor the
-    // screen failed, whatever stores did.
+    // got, and of how many lines, each of whose saves has its answer; what became of the files and of the keeper's
+    // counts; and how the session ends if neither the console nor the screen failed, whatever stores did.
     ensures transcript { (bytes : List ℕ) → I.left console.old ≡ Some bytes → (saves : List Bool)
         × FirstAnswered result saves (saves_in (D.subject run.now) start.now (lines_of bytes))
         × GaveOf result (O.given screen.old) (O.given screen.new) (transcript (D.subject run.now) start.now saves bytes)
         × FilesAfter saves (saves_in (D.subject run.now) start.now (lines_of bytes)) (K.files keeper.old)
         (K.files keeper.new)
+        × Reached (telling (D.subject run.now) start.now) (lines_of bytes) saves (O.given screen.old)
+        (O.given screen.new)
         × CountsAfter result saves (K.counts keeper.old) (K.counts keeper.new) }
     ensures complete { (bytes : List ℕ) → I.left console.old ≡ Some bytes → EndsInTime bytes
         → misfit (D.subject run.now) start.now ≡ None

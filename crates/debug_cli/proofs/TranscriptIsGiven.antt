@@ -1,7 +1,6 @@
 -- Where the keeper tells the files that the words name, or they mean a made program: what the screen got, what became of the files, and which
 -- status comes.
 use Rattle.std.proofs.Common.{◌≡◌, ◌⊎◌, ◌≤◌, inl, inr, ℕ, Bool, List, [], Option, Some, None, IsSome, length, refl, sym, subst, ◌∙◌, arith}
-use Rattle.std.specs.Io.KnownBytes.{append_known}
 use Rattle.edge_ports.specs.Counts.{Counted}
 use Rattle.edge_ports.specs.Lines.{lines_of}
 use Rattle.edge_ports.specs.Told.{GaveAll, GavePrefix}
@@ -18,6 +17,7 @@ use Rattle.ask_session.specs.Console.{EndsInTime, FirstAnswered, GaveOf, GoesOn}
 use Rattle.ask_session.specs.Dialog.{transcript}
 use Rattle.ask_session.specs.Heard as session
 use Rattle.ask_session.specs.Outside.{Outside}
+use Rattle.ask_session.specs.Reached.{Reached, Telling, telling}
 use Rattle.ask_session.specs.Saves.{FilesAfter, Save, counts_saved, saves_in}
 use Rattle.ask_session.specs.Went.{Went}
 use Rattle.ask_session.proofs.TranscriptIsGiven.{Cause, Closed, done_or_memory, spent_or_memory, told_so}
@@ -27,7 +27,8 @@ use Rattle.debug_cli.specs.Goes.{Goes, Owes, SaysPart, Talks}
 use Rattle.debug_cli.specs.Laws.{OneRun}
 use Rattle.debug_cli.specs.Named.{Words, meaning, MadeProgram, SourceRefused, made_text, start_in, subject_in}
 use Rattle.debug_cli.specs.Outside.{LeavesAlone, NoFetchFailed}
-use Rattle.debug_cli.specs.Setting.{AllFetched, ComesTo, InFiles, IsMade, NothingFailed, Setting, Told, saves_of, transcript_of}
+use Rattle.debug_cli.specs.Setting.{AllFetched, ComesTo, InFiles, IsMade, NothingFailed, Setting, Told, lines_of_console, saves_of, telling_made}
+use Rattle.debug_cli.specs.Setting.{telling_of, transcript_of}
 use Rattle.debug_cli.specs.Status.{is_console, is_screen}
 use Rattle.debug_cli.proofs.StatusByCode.{no_console, no_screen}
 use Rattle.debug_cli.proofs.FilesAreTold.{begun_comes, no_fault, no_other_session, no_refusal, same_made, same_start, same_subject}
@@ -40,44 +41,32 @@ pub record Follows (before after : Outside) (text : List Bool → List ℕ) (ask
   pub files_are : FilesAfter saves asked before.files after.files
   pub counts_are : after.counts ≡ counts_saved saves before.counts
 
-pub record FollowsPart (before after : Outside) (text : List Bool → List ℕ) (asked : List Save) : Type 0 where
+pub record FollowsPart (before after : Outside) (t : Telling) (lines : List (List ℕ)) : Type 0 where
   pub saves : List Bool
-  pub few : length saves ≤ length asked
-  pub gave : GavePrefix before.streams.given after.streams.given (text saves)
-  pub files_are : FilesAfter saves asked before.files after.files
+  pub few : length saves ≤ length (t.asked lines)
+  pub gave : GavePrefix before.streams.given after.streams.given (t.text saves lines)
+  pub files_are : FilesAfter saves (t.asked lines) before.files after.files
+  pub reached : Reached t lines saves before.streams.given after.streams.given
 
--- the same text and the same saves, told otherwise
-follows_same : {before after : Outside} {s t : Subject} {a b : Start} (bytes : List ℕ) → s ≡ t → a ≡ b
-    → Follows before after (λ saves. transcript s a saves bytes) (saves_in s a (lines_of bytes))
-    → Follows before after (λ saves. transcript t b saves bytes) (saves_in t b (lines_of bytes))
-follows_same {before} {after} bytes p q f = record {
-  saves = f.saves;
-  each = f.each ∙ (λ i. length (saves_in (p i) (q i) (lines_of bytes)));
-  gave = f.gave ∙ (λ i. append_known before.streams.given (transcript (p i) (q i) f.saves bytes));
-  files_are = subst (λ (asked : List Save). FilesAfter f.saves asked before.files after.files) (λ i. saves_in (p i) (q i) (lines_of bytes)) f.files_are;
-  counts_are = f.counts_are;
-}
-
-part_same : {before after : Outside} {s t : Subject} {a b : Start} (bytes : List ℕ) → s ≡ t → a ≡ b
-    → FollowsPart before after (λ saves. transcript s a saves bytes) (saves_in s a (lines_of bytes))
-    → FollowsPart before after (λ saves. transcript t b saves bytes) (saves_in t b (lines_of bytes))
-part_same {before} {after} bytes p q f = record {
-  saves = f.saves;
-  few = subst (λ (n : ℕ). length f.saves ≤ n) (λ i. length (saves_in (p i) (q i) (lines_of bytes))) f.few;
-  gave = subst (λ (text : List ℕ). GavePrefix before.streams.given after.streams.given text) (λ i. transcript (p i) (q i) f.saves bytes) f.gave;
-  files_are = subst (λ (asked : List Save). FilesAfter f.saves asked before.files after.files) (λ i. saves_in (p i) (q i) (lines_of bytes)) f.files_are;
-}
+-- nothing was reached but the opening, or a first part of it
+reached_none : (given given' : Option (List ℕ)) (t : Telling) (lines : List (List ℕ)) → length (t.asked []) ≡ 0
+    → GavePrefix given given' (t.text [] []) → Reached t lines [] given given'
+reached_none given given' t lines none gave = record { count = 0; within = omega arith; answered = inl (sym none); gave = gave }
 
 -- nothing was given and nothing was stored
-nothing_follows : (before after : Outside) (text : List Bool → List ℕ) (asked : List Save) → after.streams.given ≡ before.streams.given
-    → LeavesAlone before after → FollowsPart before after text asked
-nothing_follows before after text asked same alone = record {
+nothing_follows : (before after : Outside) (t : Telling) (lines : List (List ℕ)) → length (t.asked []) ≡ 0
+    → after.streams.given ≡ before.streams.given → LeavesAlone before after → FollowsPart before after t lines
+nothing_follows before after t lines none same alone = record {
   saves = [];
   few = omega arith;
-  gave = gave_prefix_before before.streams.given after.streams.given [] (text [])
-      (gave_prefix_whole before.streams.given after.streams.given [] (same ∙ gave_nothing before.streams.given));
+  gave = part_of (t.text [] lines);
   files_are = alone.files;
+  reached = reached_none before.streams.given after.streams.given t lines none (part_of (t.text [] []));
 }
+  where
+    part_of : (text : List ℕ) → GavePrefix before.streams.given after.streams.given text
+    part_of text = gave_prefix_before before.streams.given after.streams.given [] text
+        (gave_prefix_whole before.streams.given after.streams.given [] (same ∙ gave_nothing before.streams.given))
 
 -- ---- a session
 
@@ -86,7 +75,7 @@ module _ (before after : Outside) (s : Subject) (start : Start) (bytes : List �
   Whole = Follows before after (λ saves. transcript s start saves bytes) (saves_in s start (lines_of bytes))
 
   abbrev Part : Type 0
-  Part = FollowsPart before after (λ saves. transcript s start saves bytes) (saves_in s start (lines_of bytes))
+  Part = FollowsPart before after (telling s start) (lines_of bytes)
 
   whole_of : Went s start before ending.Done after → Whole
   whole_of w =
@@ -95,8 +84,9 @@ module _ (before after : Outside) (s : Subject) (start : Start) (bytes : List �
 
   part_with : (saves : List Bool) → length saves ≤ length (saves_in s start (lines_of bytes))
       → GavePrefix before.streams.given after.streams.given (transcript s start saves bytes)
-      → FilesAfter saves (saves_in s start (lines_of bytes)) before.files after.files → Part
-  part_with saves few gave files = record { saves = saves; few = few; gave = gave; files_are = files }
+      → FilesAfter saves (saves_in s start (lines_of bytes)) before.files after.files
+      × Reached (telling s start) (lines_of bytes) saves before.streams.given after.streams.given → Part
+  part_with saves few gave t = record { saves = saves; few = few; gave = gave; files_are = t.0; reached = t.1 }
 
   part_of : (e : Ending) → Went s start before e after → Part
   part_of e w = by e w (told_so s start before.streams.left after.streams.left bytes console before after e w w.is_heard)
@@ -104,13 +94,14 @@ module _ (before after : Outside) (s : Subject) (start : Start) (bytes : List �
       by : (e : Ending) (w : Went s start before e after)
           → FirstAnswered e w.saves (saves_in s start (lines_of bytes))
           × GaveOf e before.streams.given after.streams.given (transcript s start w.saves bytes)
-          × FilesAfter w.saves (saves_in s start (lines_of bytes)) before.files after.files → Part
-      by ending.Done w t = part_with w.saves (omega (arith, t.0)) (gave_prefix_whole before.streams.given after.streams.given _ t.1) t.2
-      by ending.Refused w t = part_with w.saves t.0 (gave_prefix_whole before.streams.given after.streams.given _ t.1) t.2
-      by ending.Console w t = part_with w.saves t.0 t.1 t.2
-      by ending.Screen w t = part_with w.saves t.0 t.1 t.2
-      by ending.Spent w t = part_with w.saves t.0 t.1 t.2
-      by ending.Memory w t = part_with w.saves t.0 t.1 t.2
+          × FilesAfter w.saves (saves_in s start (lines_of bytes)) before.files after.files
+          × Reached (telling s start) (lines_of bytes) w.saves before.streams.given after.streams.given → Part
+      by ending.Done w t = part_with w.saves (omega (arith, t.0)) (gave_prefix_whole before.streams.given after.streams.given _ t.1) (t.2, t.3)
+      by ending.Refused w t = part_with w.saves t.0 (gave_prefix_whole before.streams.given after.streams.given _ t.1) (t.2, t.3)
+      by ending.Console w t = part_with w.saves t.0 t.1 (t.2, t.3)
+      by ending.Screen w t = part_with w.saves t.0 t.1 (t.2, t.3)
+      by ending.Spent w t = part_with w.saves t.0 t.1 (t.2, t.3)
+      by ending.Memory w t = part_with w.saves t.0 t.1 (t.2, t.3)
 
   -- ---- how it ended, where the saved session fits
 
@@ -195,7 +186,7 @@ module _ (one : OneRun) (r : Requested) (before after : Outside) (told : Told r 
     part_told status.Console t = part ending.Console t
     part_told status.Screen (inl x) = absurd (none_owed x.wanted x.text x.owed)
     part_told status.Screen (inr t) = part ending.Screen t
-    part_told status.Memory (inl x) = nothing_follows before after _ _ x.given x.alone
+    part_told status.Memory (inl x) = nothing_follows before after (telling about begins) (lines_of told.console) refl x.given x.alone
     part_told status.Memory (inr t) = part ending.Memory t
     part_told status.Session (inl x) = absurd (none_owed status.Session x.text x.owed)
     part_told status.Session (inr t) = part ending.Refused t
@@ -244,6 +235,9 @@ module _ (one : OneRun) (number : ℕ) (before after : Outside) (x : MadeProgram
   no_made_refusal : SourceRefused (Made number) before.files → ⊥
   no_made_refusal y = y.none x.tokens x.rows (subst (λ (bytes : List ℕ). IsProgram bytes x.tokens x.rows) (sym y.source) x.program)
 
+  abbrev PartMade : Type 0
+  PartMade = FollowsPart before after (telling_made x) []
+
   whole_made : AsMade status.Done → Follows before after (λ saves. made_text x) []
   whole_made (inl y) = record {
     saves = [];
@@ -255,13 +249,19 @@ module _ (one : OneRun) (number : ℕ) (before after : Outside) (x : MadeProgram
   whole_made (inr t) = absurd t
 
   some_made : LeavesAlone before after → GavePrefix before.streams.given after.streams.given (made_text x)
-      → FollowsPart before after (λ saves. made_text x) []
-  some_made alone gave = record { saves = []; few = omega arith; gave = gave; files_are = alone.files }
+      → PartMade
+  some_made alone gave = record {
+    saves = [];
+    few = omega arith;
+    gave = gave;
+    files_are = alone.files;
+    reached = reached_none before.streams.given after.streams.given (telling_made x) [] refl gave;
+  }
 
-  owed_made : (y : SaysPart (Some (Made number)) before after) → FollowsPart before after (λ saves. made_text x) []
+  owed_made : (y : SaysPart (Some (Made number)) before after) → PartMade
   owed_made y = by y.wanted y.owed
     where
-      by : (wanted : Status) → Owes (Some (Made number)) before after wanted y.text → FollowsPart before after (λ saves. made_text x) []
+      by : (wanted : Status) → Owes (Some (Made number)) before after wanted y.text → PartMade
       by status.Done o =
           some_made y.alone
           (subst (λ (text : List ℕ). GavePrefix before.streams.given after.streams.given text) (o.1 ∙ same_made one number o.0 x) y.gave)
@@ -274,21 +274,19 @@ module _ (one : OneRun) (number : ℕ) (before after : Outside) (x : MadeProgram
       by status.Session o = absurd o
       by status.Spent o = absurd o
 
-  part_made : (s : Status) → AsMade s → FollowsPart before after (λ saves. made_text x) []
-  part_made status.Done h =
-      let f = whole_made h in
-      record { saves = []; few = omega arith; gave = gave_prefix_whole before.streams.given after.streams.given (made_text x) f.gave; files_are = made_files h }
+  part_made : (s : Status) → AsMade s → PartMade
+  part_made status.Done h = by h (gave_prefix_whole before.streams.given after.streams.given (made_text x) (whole_made h).gave)
     where
-      made_files : AsMade status.Done → after.files ≡ before.files
-      made_files (inl y) = y.alone.files
-      made_files (inr t) = absurd t
+      by : AsMade status.Done → GavePrefix before.streams.given after.streams.given (made_text x) → PartMade
+      by (inl y) gave = some_made y.alone gave
+      by (inr t) gave = absurd t
   part_made status.Words y = absurd y.owed
   part_made status.Source y = absurd (no_made_refusal y.owed.0)
   part_made status.File y = absurd y.owed
   part_made status.Console t = absurd t
   part_made status.Screen (inl y) = owed_made y
   part_made status.Screen (inr t) = absurd t
-  part_made status.Memory (inl y) = nothing_follows before after _ _ y.given y.alone
+  part_made status.Memory (inl y) = nothing_follows before after (telling_made x) [] refl y.given y.alone
   part_made status.Memory (inr t) = absurd t
   part_made status.Session (inl y) = absurd y.owed
   part_made status.Session (inr t) = absurd t
@@ -317,10 +315,21 @@ module _ (one : OneRun) (words : Words) (before after : Outside) where
   whole_transcript (InFiles r means told) h = whole_told one r before after told (subst (λ (m : Option Meant). At m status.Done) means h)
   whole_transcript (IsMade number means x) h = whole_made one number before after x (subst (λ (m : Option Meant). At m status.Done) means h)
 
+  pub record FirstPart (set : Setting words before.files before.streams.left) : Type 0 where
+    pub saves : List Bool
+    pub few : length saves ≤ length (saves_of set)
+    pub gave : GavePrefix before.streams.given after.streams.given (transcript_of set saves)
+    pub files_are : FilesAfter saves (saves_of set) before.files after.files
+    pub reached : Reached (telling_of set) (lines_of_console set) saves before.streams.given after.streams.given
+
   pub first_part : (set : Setting words before.files before.streams.left) → AllFetched set before.counts after.counts → (s : Status)
-      → At (meaning words) s → FollowsPart before after (transcript_of set) (saves_of set)
-  first_part (InFiles r means told) well s h = part_told one r before after told well s (subst (λ (m : Option Meant). At m s) means h)
-  first_part (IsMade number means x) well s h = part_made one number before after x s (subst (λ (m : Option Meant). At m s) means h)
+      → At (meaning words) s → FirstPart set
+  first_part (InFiles r means told) well s h =
+      let f = part_told one r before after told well s (subst (λ (m : Option Meant). At m s) means h) in
+      record { saves = f.saves; few = f.few; gave = f.gave; files_are = f.files_are; reached = f.reached }
+  first_part (IsMade number means x) well s h =
+      let f = part_made one number before after x s (subst (λ (m : Option Meant). At m s) means h) in
+      record { saves = f.saves; few = f.few; gave = f.gave; files_are = f.files_are; reached = f.reached }
 
   -- what failed, by the counts of the console and of the screen
   pub record Failed (s : Status) (console console' screen screen' : ℕ) : Type 0 where

@@ -7,6 +7,7 @@ use Rattle.edge_ports.specs.Lines.{lines_of}
 use Rattle.command_words.specs.Meaning.{Meant, Requested, Source, Made}
 use Rattle.ask_session.specs.Console.{EndsInTime, GoesOn, NotRisen}
 use Rattle.ask_session.specs.Dialog.{transcript}
+use Rattle.ask_session.specs.Reached.{Telling, telling}
 use Rattle.ask_session.specs.Saves.{Save, saves_in}
 use Rattle.session_book.specs.Fit.{misfit}
 use Rattle.debuggee.specs.Program.{NoProgram}
@@ -29,6 +30,10 @@ pub data Setting (words : Words) (files : Option FileMap) (left : Option (List �
   InFiles : (r : Requested) → (meaning words ≡ Some (Source r)) → (told : Told r files left) → Setting words files left
   IsMade : (number : ℕ) → (meaning words ≡ Some (Made number)) → (x : MadeProgram number) → Setting words files left
 
+-- what is said of a made program: its lines, and no file is asked for
+abbrev pub telling_made : {number : ℕ} → MadeProgram number → Telling
+telling_made x = record { text = λ saves lines. made_text x; asked = λ lines. [] }
+
 module _ {words : Words} {files : Option FileMap} {left : Option (List ℕ)} where
   -- The whole of what is printed, by the answers that the lines got that ask to save; of a made program its lines.
   abbrev pub transcript_of : Setting words files left → (saves : List Bool) → List ℕ
@@ -40,6 +45,16 @@ module _ {words : Words} {files : Option FileMap} {left : Option (List ℕ)} whe
   abbrev pub saves_of : Setting words files left → List Save
   saves_of (InFiles r means told) = saves_in (subject_in told.begun) (start_in told.begun) (lines_of told.console)
   saves_of (IsMade number means x) = []
+
+  -- the lines of the console; of a made program none is read
+  abbrev pub lines_of_console : Setting words files left → List (List ℕ)
+  lines_of_console (InFiles r means told) = lines_of told.console
+  lines_of_console (IsMade number means x) = []
+
+  -- what is said of them, and what they ask to save
+  abbrev pub telling_of : Setting words files left → Telling
+  telling_of (InFiles r means told) = telling (subject_in told.begun) (start_in told.begun)
+  telling_of (IsMade number means x) = telling_made x
 
   -- The status that is to come: of a session that fits the run, by whether the console ends in time.
   abbrev pub ComesTo : Setting words files left → Status → Type 0

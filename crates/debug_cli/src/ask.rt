@@ -9,6 +9,7 @@ ghost use Rattle.body_replay.specs.Laws.{BodiesGiveTheirExits};
 ghost use Rattle.ask_session.specs.Console.{NotRisen};
 ghost use Rattle.ask_session.specs.Laws.{AsksTheBest, FindsTheFault, NamesTheAccused, NarrowsTheFault};
 ghost use Rattle.ask_session.specs.LineActs.{EntriesFollowLines};
+ghost use Rattle.ask_session.specs.Reached.{Reached};
 ghost use Rattle.ask_session.specs.Saves.{FilesAfter, counts_saved};
 ghost use Rattle.debug_cli.specs.Headline.{Headline};
 ghost use Rattle.debug_cli.specs.declared.status.Status.{Status};
@@ -17,7 +18,7 @@ ghost use Rattle.debug_cli.specs.Laws.{InEachRun, OneRun};
 ghost use Rattle.debug_cli.specs.Named.{meaning};
 ghost use Rattle.debug_cli.specs.Outside.{NoFetchFailed, NoneRisen};
 ghost use Rattle.debug_cli.specs.Setting.{AllFetched, ComesTo, NothingFailed, Setting, Told, saves_of, transcript_of};
-ghost use Rattle.debug_cli.specs.Setting.{MeansNoProgram, MeansNoSession, NamesNoFile};
+ghost use Rattle.debug_cli.specs.Setting.{MeansNoProgram, MeansNoSession, NamesNoFile, lines_of_console, telling_of};
 ghost use Rattle.debug_cli.specs.Status.{code_of, is_console, is_screen};
 
 use crate::files::ask_files;
@@ -121,7 +122,8 @@ pub fn ask_pascal<K: Keeper, I: Source, O: Sink>(
         → Headline t (O.given screen.old) (O.given screen.new) }
     // Where the keeper tells the named files, the source is a program and the console tells its bytes, or the words
     // mean a made program: what the screen got and what became of the files, by the answers to lines that ask to save,
-    // at status 0, and at every status unless a fetch failed; and the status, 0 or 9, if nothing failed but stores.
+    // at status 0, and at every status unless a fetch failed, and then of how many lines each save has its answer; and
+    // the status, 0 or 9, if nothing failed but stores.
     ensures transcript { (s : Setting words.now (K.files keeper.old) (I.left console.old)) → result ≡ 0
         → (saves : List Bool) × (length saves ≡ length (saves_of s))
         × GaveAll (O.given screen.old) (O.given screen.new) (transcript_of s saves)
@@ -131,7 +133,8 @@ pub fn ask_pascal<K: Keeper, I: Source, O: Sink>(
         → AllFetched s (K.counts keeper.old) (K.counts keeper.new)
         → (saves : List Bool) × (length saves ≤ length (saves_of s))
         × GavePrefix (O.given screen.old) (O.given screen.new) (transcript_of s saves)
-        × FilesAfter saves (saves_of s) (K.files keeper.old) (K.files keeper.new) }
+        × FilesAfter saves (saves_of s) (K.files keeper.old) (K.files keeper.new)
+        × Reached (telling_of s) (lines_of_console s) saves (O.given screen.old) (O.given screen.new) }
     ensures complete { (s : Setting words.now (K.files keeper.old) (I.left console.old)) → (wanted : Status)
         → ComesTo s wanted → NothingFailed s
         (record { keeper = K.counts keeper.old; console = I.faults console.old; screen = O.faults screen.old })

@@ -3,17 +3,30 @@ use Rattle.std.proofs.Common.{◌≡◌, ◌∙◌, ℕ, List, [], Option, Some,
 use Rattle.debug_cli.specs.declared.status.Status.TheVariants as statuses
 use Rattle.web_page.specs.declared.turn.SavedSession.{SavedSession}
 use Rattle.web_page.specs.declared.turn.SavedSession.TheVariants as sessions
-use Rattle.web_page.specs.Given.{TurnGiven}
+use Rattle.web_page.specs.Given.{TurnGiven, turn_files}
 use Rattle.web_page.specs.Outcomes.{TurnResult}
 use Rattle.web_page.specs.Outside.{files_at_start}
-use Rattle.web_page.specs.Promises.{KeepsPromises, transcript_of_turn}
+use Rattle.web_page.specs.Promises.{KeepsPromises, telling_of_turn, transcript_of_turn}
 use Rattle.web_exports.specs.Returned.{TurnOf}
 
 keeps : (g : TurnGiven) (room : List ℕ) → KeepsPromises g (record { status = 7; shown = []; saved = sessions.Memory; saved_room = room })
 keeps g room = record {
   headline = λ c e. absurd (omega (arith, e));
   transcript = λ c e. absurd (omega (arith, e));
-  prefix = λ c. ([], omega arith, record { front = []; back = transcript_of_turn c []; whole = refl; gave = refl });
+  prefix = λ c. (
+    [],
+    omega arith,
+    record { front = []; back = transcript_of_turn c []; whole = refl; gave = refl },
+    record {
+      count = 0;
+      within = omega arith;
+      answered = inl refl;
+      gave = record { front = []; back = (telling_of_turn c).text [] []; whole = refl; gave = refl };
+    },
+    turn_files g,
+    refl,
+    tt,
+  );
   done = λ c fits ends. inr (inr refl);
   spent = λ c fits ends. inr (inr refl);
   usage = λ e. inr (inr refl);

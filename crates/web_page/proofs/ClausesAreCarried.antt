@@ -11,6 +11,7 @@ use Rattle.command_words.specs.Meaning.{Meant, Requested, Source, budget_spelled
 use Rattle.pas_lexer.specs.Limits.{source_bytes}
 use Rattle.ask_session.specs.Console.{NotRisen}
 use Rattle.ask_session.specs.Dialog.{transcript}
+use Rattle.ask_session.specs.Reached.{Reached, telling}
 use Rattle.ask_session.specs.Saves.{FilesAfter, Save, counts_saved, saves_in}
 use Rattle.session_book.specs.Fit.{misfit}
 use Rattle.debuggee.specs.Program.{NoProgram}
@@ -23,7 +24,7 @@ use Rattle.debug_cli.specs.Setting.{MeansNoProgram, Told}
 use Rattle.debug_cli.specs.Status.{code_of}
 use Rattle.web_page.specs.Given.{TurnGiven, turn_files, turn_meaning}
 use Rattle.web_page.specs.Outside.{FilesState, counts_of, files_at_start}
-use Rattle.web_page.specs.Promises.{CanAsk, files_saved, saves_of_turn, transcript_of_turn}
+use Rattle.web_page.specs.Promises.{CanAsk, files_saved, saves_of_turn, telling_of_turn, transcript_of_turn}
 use Rattle.web_page.proofs.AllAreStored.{all_stored, as_many, files_are_saved, same_bytes}
 
 -- what the words mean, the files, the console's bytes, and what the screen has before and after
@@ -71,11 +72,13 @@ TranscriptAt status now x =
     × FilesAfter saves (saves_in (subject_in t.begun) (start_in t.begun) (lines_of t.console)) (Some x.files.files) (Some now.files)
     × (counts_of now ≡ counts_saved saves (counts_of x.files))
 
-abbrev pub FirstPartAt : Situation → Type 0
-FirstPartAt x =
+abbrev pub FirstPartAt : (now : FilesState) → Situation → Type 0
+FirstPartAt now x =
     (r : Requested) (t : Told r (Some x.files.files) (Some x.left)) → x.meant ≡ Some (Source r)
     → (saves : List Bool) × (length saves ≤ length (saves_in (subject_in t.begun) (start_in t.begun) (lines_of t.console)))
     × GavePrefix x.before x.after (transcript (subject_in t.begun) (start_in t.begun) saves t.console)
+    × FilesAfter saves (saves_in (subject_in t.begun) (start_in t.begun) (lines_of t.console)) (Some x.files.files) (Some now.files)
+    × Reached (telling (subject_in t.begun) (start_in t.begun)) (lines_of t.console) saves x.before x.after
 
 -- a session that fits ends so, where the screen does not fail
 abbrev pub EndingAt : (status wanted : ℕ) → (List ℕ → Type 0) → (calm : Type 0) → Situation → Type 0
@@ -112,9 +115,11 @@ module _ {x : Situation} (g : TurnGiven) {shown : List ℕ} (is : x ≡ turn_sit
   pub headline : {status : ℕ} → HeadlineAt status x → (c : CanAsk g) → status ≡ 0 → Headline c.told (Some []) (Some shown)
   headline {status} clause c = subst (HeadlineAt status) is clause c.request c.told c.meant
 
-  pub first_part : FirstPartAt x → (c : CanAsk g)
+  pub first_part : {now : FilesState} → FirstPartAt now x → (c : CanAsk g)
       → (saves : List Bool) × (length saves ≤ length (saves_of_turn c)) × GavePrefix (Some []) (Some shown) (transcript_of_turn c saves)
-  first_part clause c = subst FirstPartAt is clause c.request c.told c.meant
+      × FilesAfter saves (saves_of_turn c) (Some (turn_files g)) (Some now.files)
+      × Reached (telling_of_turn c) (lines_of c.told.console) saves (Some []) (Some shown)
+  first_part {now} clause c = subst (FirstPartAt now) is clause c.request c.told c.meant
 
   pub ends : {status wanted : ℕ} (console : List ℕ → Type 0) {calm : Type 0} → EndingAt status wanted console calm x
       → (c : CanAsk g) → misfit (subject_in c.told.begun) (start_in c.told.begun) ≡ None → console c.told.console

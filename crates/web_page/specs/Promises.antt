@@ -10,6 +10,7 @@ use Rattle.command_words.specs.Meaning.{Requested, Source, budget_spelled}
 use Rattle.ask_session.specs.Console.{EndsInTime, GoesOn}
 use Rattle.ask_session.specs.Dialog.{transcript}
 use Rattle.ask_session.specs.Outside.{Outside}
+use Rattle.ask_session.specs.Reached.{Reached, Telling, telling}
 use Rattle.ask_session.specs.Saves.{FilesAfter, Save, saves_in}
 use Rattle.session_book.specs.Fit.{misfit}
 use Rattle.debuggee.specs.Program.{NoProgram}
@@ -55,6 +56,10 @@ saves_of_turn c = saves_in (subject_in c.told.begun) (start_in c.told.begun) (li
 abbrev pub transcript_of_turn : {g : TurnGiven} → CanAsk g → (saves : List Bool) → List ℕ
 transcript_of_turn c saves = transcript (subject_in c.told.begun) (start_in c.told.begun) saves c.told.console
 
+-- what is said of some of its lines, and what they ask to save
+abbrev pub telling_of_turn : {g : TurnGiven} → CanAsk g → Telling
+telling_of_turn c = telling (subject_in c.told.begun) (start_in c.told.begun)
+
 -- ---- the promises
 
 module _ (g : TurnGiven) (it : TurnResult) where
@@ -70,11 +75,15 @@ module _ (g : TurnGiven) (it : TurnResult) where
       × IsGivenBack it.saved it.saved_room
       (file_at (files_saved (saves_of_turn c) (turn_files g)) (codes "page.session"))
 
-  -- At each status the screen got a first part of a transcript.
+  -- At each status the screen got a first part of a transcript, of so many lines; each of their saves has its answer,
+  -- and the files are those after these answers.
   abbrev pub IsFirstPart : Type 0
   IsFirstPart = (c : CanAsk g)
       → (saves : List Bool) × (length saves ≤ length (saves_of_turn c))
       × GavePrefix (Some []) (Some it.shown) (transcript_of_turn c saves)
+      × Reached (telling_of_turn c) (lines_of c.told.console) saves (Some []) (Some it.shown)
+      × (files : FileMap) × FilesAfter saves (saves_of_turn c) (Some (turn_files g)) (Some files)
+      × IsGivenBack it.saved it.saved_room (file_at files (codes "page.session"))
 
   -- A session that fits comes to its end, unless the room is too small or memory runs out.
   abbrev pub ComesToItsEnd : Type 0

@@ -49,7 +49,7 @@ returns-clause-prefix g c = λ set well.
     let after : Outside = outside_at g.K.Keeper.files g.K.Keeper.counts g.I.Source.left g.O.Sink.given c.ask_words.new.keeper c.ask_words.new.console
     c.ask_words.new.screen in
     let f = first_part c.one_run.ensures c.args.words.now before after set well c.ask_words.result c.ask_words.ensures.goes in
-    (f.saves, f.few, f.gave, f.files_are)
+    (f.saves, f.few, f.gave, f.files_are, f.reached)
 
 pub returns-clause-complete : goal.returns-clause-complete
 returns-clause-complete g c = λ set wanted comes none.

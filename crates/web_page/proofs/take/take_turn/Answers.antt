@@ -1,11 +1,13 @@
-use Rattle.std.proofs.Common.{◌∙◌, ap, inl, refl, rules, subst, codes, Some, []}
+use Rattle.std.proofs.Common.{◌∙◌, ap, arith, inl, refl, rules, subst, codes, Some, []}
 use Rattle.edge_ports.specs.Files.{FileMap, file_at}
 use Rattle.ask_session.specs.Console.{EndsInTime, GoesOn}
 use Rattle.debug_cli.specs.Named.{Words, meaning}
 use Rattle.debug_cli.specs.Setting.{InFiles}
 use Rattle.debug_cli.specs.declared.status.Status.TheVariants as statuses
 use Rattle.web_page.specs.Outcomes.{IsGivenBack}
+use Rattle.web_page.specs.Given.{turn_files}
 use Rattle.web_page.specs.Outside.{files_at_start}
+use Rattle.web_page.specs.Promises.{telling_of_turn, transcript_of_turn}
 use Rattle.web_page.specs.Turns.{given_by}
 use Rattle.web_page.proofs.ClausesAreCarried.{all_are_stored, console_is_calm, ends, first_part, goes_on, headline, is_turn, no_fetch_failed, refused}
 use Rattle.web_page.proofs.ClausesAreCarried.{unless_full}
@@ -26,12 +28,12 @@ returns-in-Ok-clause-transcript c = λ can done.
     (it.0, subst (λ (files : FileMap). IsGivenBack c.give_back.result c.give_back.new.room (file_at files (codes "page.session"))) it.1 c.give_back.ensures)
 
 pub returns-in-Ok-clause-prefix : goal.returns-in-Ok-clause-prefix
-returns-in-Ok-clause-prefix c =
-    first_part (given_by c.args.turn.now) (is_turn _ (given_by c.args.turn.now)
+returns-in-Ok-clause-prefix c = λ can.
+    let it = first_part (given_by c.args.turn.now) (is_turn _ (given_by c.args.turn.now)
     (ap (λ (it : Words). meaning it) c.deref.ensures.value ∙ c.in-Ok.ensures.meaning)
     c.in-Ok.ensures.files c.new-console.ensures c.new-page.ensures.given (search rules))
-    (λ r t means. let it = c.ask_pascal-status.ensures.prefix (InFiles r means t) (no_fetch_failed c.in-Ok.files c.ask_pascal-status.new.keeper) in
-    (it.0, it.1, it.2))
+    (λ r t means. c.ask_pascal-status.ensures.prefix (InFiles r means t) (no_fetch_failed c.in-Ok.files c.ask_pascal-status.new.keeper)) can in
+    (it.0, it.1, it.2, it.4, c.ask_pascal-status.new.keeper.files, it.3, c.give_back.ensures)
 
 pub returns-in-Ok-clause-done : goal.returns-in-Ok-clause-done
 returns-in-Ok-clause-done c = λ can fits in_time. unless_full c.new-page.ensures.faults c.ask_pascal-status.ensures.screen_faults
@@ -84,6 +86,22 @@ returns-in-Ok-clause-goes c =
     c.in-Ok.ensures.files c.new-console.ensures c.new-page.ensures.given (search rules))
     c.ask_pascal-status.ensures.goes in
     (it.0, it.1, c.ask_pascal-status.new.keeper, c.give_back.ensures, c.ask_pascal-status.new.console, it.2)
+
+pub returns-in-Err-clause-prefix : goal.returns-in-Err-clause-prefix
+returns-in-Err-clause-prefix c = λ can. (
+  [],
+  omega arith,
+  record { front = []; back = transcript_of_turn can []; whole = refl; gave = refl },
+  record {
+    count = 0;
+    within = omega arith;
+    answered = inl refl;
+    gave = record { front = []; back = (telling_of_turn can).text [] []; whole = refl; gave = refl };
+  },
+  turn_files (given_by c.args.turn.now),
+  refl,
+  tt,
+)
 
 pub returns-in-Err-clause-goes : goal.returns-in-Err-clause-goes
 returns-in-Err-clause-goes c = (

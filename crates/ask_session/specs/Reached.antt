@@ -1,0 +1,37 @@
+-- How far a dialog came.
+use Rattle.std.specs.Prelude.{◌≡◌, ◌⊎◌, ◌<◌, ◌≤◌, ◌+◌, ℕ, Bool, List, Option, length, take}
+use Rattle.edge_ports.specs.Told.{GavePrefix}
+use Rattle.answer_book.specs.declared.entries.Entry.{Entry}
+use Rattle.dialog_replies.specs.Subject.{Subject}
+use Rattle.session_book.specs.declared.start.Start.{Start}
+use Rattle.ask_session.specs.Dialog.{replies, said}
+use Rattle.ask_session.specs.Saves.{Save, saves_asked, saves_in}
+
+-- what is said of lines, by the answers to those that ask to save, and what they ask to save
+pub record Telling : Type 0 where
+  pub text : (saves : List Bool) → (lines : List (List ℕ)) → List ℕ
+  pub asked : (lines : List (List ℕ)) → List Save
+
+-- of the lines of a session, its opening included
+abbrev pub telling : Subject → Start → Telling
+telling s start = record { text = said s start; asked = saves_in s start }
+
+-- of lines that are replied from these entries on
+abbrev pub telling_from : Subject → Start → List Entry → Telling
+telling_from s start entries = record { text = replies s entries; asked = saves_asked s start entries }
+
+-- These are the answers to the saves among the first lines, so many of them; or to that of the line after them too.
+abbrev pub AnswersFirst : Telling → (lines : List (List ℕ)) → (count : ℕ) → (saves : List Bool) → Type 0
+AnswersFirst t lines count saves =
+    (length saves ≡ length (t.asked (take count lines)))
+    ⊎ ((count < length lines) × (length saves ≡ length (t.asked (take (count + 1) lines))))
+
+-- The screen got no more than what is said of so many lines, and each of their saves has its answer: so a line of whose
+-- reply the screen got anything was answered as it was replied. Of the line after them alone the store may have
+-- answered and the reply be missing.
+pub record Reached (t : Telling) (lines : List (List ℕ)) (saves : List Bool) (given given' : Option (List ℕ)) : Type 0
+  where
+    pub count : ℕ
+    pub within : count ≤ length lines
+    pub answered : AnswersFirst t lines count saves
+    pub gave : GavePrefix given given' (t.text saves (take count lines))
