@@ -5,4 +5,6 @@
 #[cfg(test)]
 mod tests;
 #[cfg(test)]
+mod waiting;
+#[cfg(test)]
 mod words;
