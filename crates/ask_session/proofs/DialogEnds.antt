@@ -13,8 +13,8 @@ use Rattle.edge_ports.proofs.PiecesAddUp.{gave_more, gave_nothing, gave_prefix_a
 use Rattle.edge_ports.proofs.HandedLinesAreHeard.{heard_in_order}
 use Rattle.answer_book.specs.declared.entries.Entry.{Entry}
 use Rattle.dialog_replies.specs.Subject.{Subject}
-use Rattle.session_book.specs.declared.start.Start.{Start}
-use Rattle.session_book.specs.Start.{entries_at_start}
+use Rattle.dialog_replies.specs.declared.start.Start.{Start}
+use Rattle.dialog_replies.specs.Start.{entries_at_start}
 use Rattle.ask_session.specs.declared.dialog.Ending.{Ending}
 use Rattle.ask_session.specs.declared.dialog.Ending.TheVariants as ending
 use Rattle.ask_session.specs.Dialog.{replies, reply_to, entries_after_line, ends_session, ends_among, file_asked, next_save, saves_after_line}

@@ -8,13 +8,13 @@ use Rattle.edge_ports.specs.Counts.{counts_stored}
 use Rattle.edge_ports.specs.Limits.{line_bytes}
 use Rattle.edge_ports.specs.declared.ports.StoreFault.TheVariants as store
 use Rattle.answer_book.specs.declared.entries.Entry.{Entry}
-use Rattle.dialog_lines.specs.declared.instructions.Instruction.{Instruction}
-use Rattle.dialog_lines.specs.declared.instructions.Instruction.TheVariants as asks
-use Rattle.dialog_lines.specs.Instructions.{instruction_of}
+use Rattle.dialog_replies.specs.declared.instructions.Instruction.{Instruction}
+use Rattle.dialog_replies.specs.declared.instructions.Instruction.TheVariants as asks
+use Rattle.dialog_replies.specs.Instructions.{instruction_of}
 use Rattle.dialog_replies.specs.Replies.{LineOutcome, outcome, replied}
 use Rattle.dialog_replies.specs.Subject.{Subject}
-use Rattle.session_book.specs.declared.start.Start.{Start}
-use Rattle.session_book.specs.Start.{saved_text}
+use Rattle.dialog_replies.specs.declared.start.Start.{Start}
+use Rattle.dialog_replies.specs.Start.{saved_text}
 use Rattle.ask_session.specs.declared.dialog.Ending.{Ending}
 use Rattle.ask_session.specs.declared.dialog.Ending.TheVariants as ending
 use Rattle.ask_session.specs.Dialog.{ends_session, entries_after_line, file_asked, saved_file, is_quit, is_too_long, plain_reply, reply_or_save}

@@ -17,9 +17,9 @@ use Rattle.optimal_query.specs.Search.{Search, search_with, search_without}
 use Rattle.optimal_query.specs.Standing.{Command, Judge, Trust, TakeBack, TakeBackLast, after_command, if_accepted, search_taken_back}
 use Rattle.optimal_query.proofs.StandUnlessTakenBack.{Follow, follow_command, said_alike}
 use Rattle.optimal_query.proofs.GivenEntriesStand.{follow_given}
-use Rattle.dialog_lines.specs.declared.instructions.Instruction.{Instruction}
-use Rattle.dialog_lines.specs.declared.instructions.Instruction.TheVariants as asked
-use Rattle.dialog_lines.specs.Instructions.{instruction_of}
+use Rattle.dialog_replies.specs.declared.instructions.Instruction.{Instruction}
+use Rattle.dialog_replies.specs.declared.instructions.Instruction.TheVariants as asked
+use Rattle.dialog_replies.specs.Instructions.{instruction_of}
 use Rattle.dialog_replies.specs.Subject.{Subject, book_of, routine_named, state_after}
 use Rattle.dialog_replies.specs.Replies.{adds, judges_asked, outcome, takes_back, takes_back_last, trust_outcome, trusts_named}
 use Rattle.ask_session.specs.Dialog.{entries_after_line, is_too_long}

@@ -8,7 +8,7 @@ use Rattle.edge_ports.specs.Files.{FileMap}
 use Rattle.edge_ports.specs.declared.ports.StoreFault.TheVariants as store
 use Rattle.answer_book.specs.declared.entries.Entry.{Entry}
 use Rattle.dialog_replies.specs.Subject.{Subject}
-use Rattle.session_book.specs.declared.start.Start.{Start}
+use Rattle.dialog_replies.specs.declared.start.Start.{Start}
 use Rattle.ask_session.specs.Dialog.{replies, reply_to, entries_after_line, ends_session, ends_among, file_asked, next_save, plain_reply, reply_or_save}
 use Rattle.ask_session.specs.Dialog.{saves_after_line}
 use Rattle.ask_session.specs.Saves.{FilesAfter, Save, counts_saved, save_of, saves_asked}

@@ -5,11 +5,11 @@ use Rattle.edge_ports.specs.Told.{GaveAll, GavePrefix}
 use Rattle.edge_ports.proofs.PiecesAddUp.{gave_more, gave_nothing, gave_prefix_after, gave_prefix_before, gave_prefix_whole, took_nothing}
 use Rattle.dialog_replies.specs.Replies.{opening}
 use Rattle.dialog_replies.specs.Subject.{Subject}
-use Rattle.session_book.specs.declared.misfits.Misfit.{Misfit}
-use Rattle.session_book.specs.declared.start.Start.{Start}
-use Rattle.session_book.specs.Fit.{misfit}
-use Rattle.session_book.specs.Lines.{misfit_line}
-use Rattle.session_book.specs.Start.{entries_at_start}
+use Rattle.dialog_replies.specs.declared.misfits.Misfit.{Misfit}
+use Rattle.dialog_replies.specs.declared.start.Start.{Start}
+use Rattle.dialog_replies.specs.Fit.{misfit}
+use Rattle.dialog_replies.specs.Lines.{misfit_line}
+use Rattle.dialog_replies.specs.Start.{entries_at_start}
 use Rattle.ask_session.specs.declared.dialog.Ending.{Ending}
 use Rattle.ask_session.specs.declared.dialog.Ending.TheVariants as ending
 use Rattle.ask_session.specs.Dialog.{replies, said, said_if_fits}

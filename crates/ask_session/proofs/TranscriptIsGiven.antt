@@ -14,11 +14,11 @@ use Rattle.edge_ports.proofs.SameBytesCome.{told_still}
 use Rattle.edge_ports.proofs.HandedLinesAreHeard.{heard_longer}
 use Rattle.dialog_replies.specs.Replies.{opening}
 use Rattle.dialog_replies.specs.Subject.{Subject}
-use Rattle.session_book.specs.declared.misfits.Misfit.{Misfit}
-use Rattle.session_book.specs.declared.start.Start.{Start}
-use Rattle.session_book.specs.Fit.{misfit}
-use Rattle.session_book.specs.Lines.{misfit_line}
-use Rattle.session_book.specs.Start.{entries_at_start}
+use Rattle.dialog_replies.specs.declared.misfits.Misfit.{Misfit}
+use Rattle.dialog_replies.specs.declared.start.Start.{Start}
+use Rattle.dialog_replies.specs.Fit.{misfit}
+use Rattle.dialog_replies.specs.Lines.{misfit_line}
+use Rattle.dialog_replies.specs.Start.{entries_at_start}
 use Rattle.ask_session.specs.declared.dialog.Ending.{Ending}
 use Rattle.ask_session.specs.declared.dialog.Ending.TheVariants as ending
 use Rattle.ask_session.specs.Console.{EndsInTime, FirstAnswered, GaveOf, GoesOn, NotRisen}

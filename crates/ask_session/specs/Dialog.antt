@@ -5,16 +5,16 @@ use Rattle.std.specs.List.{list_any}
 use Rattle.edge_ports.specs.Limits.{line_bytes}
 use Rattle.edge_ports.specs.Lines.{lines_of}
 use Rattle.answer_book.specs.declared.entries.Entry.{Entry}
-use Rattle.dialog_lines.specs.declared.instructions.Instruction.{Instruction}
-use Rattle.dialog_lines.specs.declared.instructions.Instruction.TheVariants.{Quit, Save}
-use Rattle.dialog_lines.specs.Instructions.{instruction_of}
+use Rattle.dialog_replies.specs.declared.instructions.Instruction.{Instruction}
+use Rattle.dialog_replies.specs.declared.instructions.Instruction.TheVariants.{Quit, Save}
+use Rattle.dialog_replies.specs.Instructions.{instruction_of}
 use Rattle.dialog_replies.specs.Subject.{Subject}
 use Rattle.dialog_replies.specs.Replies.{opening, outcome}
-use Rattle.session_book.specs.declared.start.Start.{Start}
-use Rattle.session_book.specs.declared.misfits.Misfit.{Misfit}
-use Rattle.session_book.specs.Fit.{misfit}
-use Rattle.session_book.specs.Lines.{misfit_line}
-use Rattle.session_book.specs.Start.{entries_at_start}
+use Rattle.dialog_replies.specs.declared.start.Start.{Start}
+use Rattle.dialog_replies.specs.declared.misfits.Misfit.{Misfit}
+use Rattle.dialog_replies.specs.Fit.{misfit}
+use Rattle.dialog_replies.specs.Lines.{misfit_line}
+use Rattle.dialog_replies.specs.Start.{entries_at_start}
 
 abbrev pub is_quit : Instruction → Bool
 is_quit Quit = true

@@ -4,7 +4,7 @@ use Rattle.std.specs.Io.KnownBytes.{IsAtEnd}
 use Rattle.edge_ports.specs.Limits.{console_bytes}
 use Rattle.edge_ports.specs.Lines.{lines_heard}
 use Rattle.edge_ports.specs.Told.{TookAll, GaveAll, GavePrefix}
-use Rattle.session_book.specs.declared.misfits.Misfit.{Misfit}
+use Rattle.dialog_replies.specs.declared.misfits.Misfit.{Misfit}
 use Rattle.ask_session.specs.declared.dialog.Ending.{Ending}
 use Rattle.ask_session.specs.declared.dialog.Ending.TheVariants as ending
 use Rattle.ask_session.specs.Dialog.{ends_among}

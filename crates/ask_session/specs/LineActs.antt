@@ -8,9 +8,9 @@ use Rattle.optimal_query.specs.declared.state.SearchState.TheVariants.{Ask}
 use Rattle.optimal_query.specs.Accepted.{CommandAct, act_of, acts_giving, and_then, entries_after, standing_after}
 use Rattle.optimal_query.specs.Laws.{state_in}
 use Rattle.optimal_query.specs.Standing.{Command, Judge, Trust, TakeBack, TakeBackLast}
-use Rattle.dialog_lines.specs.declared.instructions.Instruction.{Instruction}
-use Rattle.dialog_lines.specs.declared.instructions.Instruction.TheVariants as asked
-use Rattle.dialog_lines.specs.Instructions.{instruction_of}
+use Rattle.dialog_replies.specs.declared.instructions.Instruction.{Instruction}
+use Rattle.dialog_replies.specs.declared.instructions.Instruction.TheVariants as asked
+use Rattle.dialog_replies.specs.Instructions.{instruction_of}
 use Rattle.dialog_replies.specs.Subject.{Subject, routine_named}
 use Rattle.ask_session.specs.Dialog.{is_too_long}
 use Rattle.ask_session.specs.Turned.{entries_through}

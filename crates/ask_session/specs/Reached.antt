@@ -3,7 +3,7 @@ use Rattle.std.specs.Prelude.{◌≡◌, ◌⊎◌, ◌<◌, ◌≤◌, ◌+◌,
 use Rattle.edge_ports.specs.Told.{GavePrefix}
 use Rattle.answer_book.specs.declared.entries.Entry.{Entry}
 use Rattle.dialog_replies.specs.Subject.{Subject}
-use Rattle.session_book.specs.declared.start.Start.{Start}
+use Rattle.dialog_replies.specs.declared.start.Start.{Start}
 use Rattle.ask_session.specs.Dialog.{replies, said}
 use Rattle.ask_session.specs.Saves.{Save, saves_asked, saves_in}
 

@@ -6,8 +6,8 @@ use Rattle.edge_ports.specs.Files.{FileMap, KeepsOthers, StoresFile}
 use Rattle.edge_ports.specs.declared.ports.StoreFault.TheVariants as store
 use Rattle.answer_book.specs.declared.entries.Entry.{Entry}
 use Rattle.dialog_replies.specs.Subject.{Subject}
-use Rattle.session_book.specs.declared.start.Start.{Start}
-use Rattle.session_book.specs.Start.{entries_at_start, saved_text}
+use Rattle.dialog_replies.specs.declared.start.Start.{Start}
+use Rattle.dialog_replies.specs.Start.{entries_at_start, saved_text}
 use Rattle.ask_session.specs.declared.dialog.Ending.{Ending}
 use Rattle.ask_session.specs.declared.dialog.Ending.TheVariants as ending
 use Rattle.ask_session.specs.Dialog.{ends_session, entries_after_line, file_asked}

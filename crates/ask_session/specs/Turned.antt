@@ -8,8 +8,8 @@ use Rattle.edge_ports.specs.Lines.{LinesState, lines_heard, handed_lines}
 use Rattle.edge_ports.specs.Told.{GaveAll, GavePrefix}
 use Rattle.answer_book.specs.declared.entries.Entry.{Entry}
 use Rattle.dialog_replies.specs.Subject.{Subject}
-use Rattle.session_book.specs.declared.start.Start.{Start}
-use Rattle.session_book.specs.Start.{entries_at_start}
+use Rattle.dialog_replies.specs.declared.start.Start.{Start}
+use Rattle.dialog_replies.specs.Start.{entries_at_start}
 use Rattle.ask_session.specs.declared.dialog.Ending.{Ending}
 use Rattle.ask_session.specs.declared.dialog.Ending.TheVariants as ending
 use Rattle.ask_session.specs.Dialog.{ends_session, ends_among, entries_after_line, next_save, replies, reply_to}

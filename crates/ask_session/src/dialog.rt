@@ -11,8 +11,8 @@ ghost use Rattle.edge_ports.specs.Turns.{IsConsistent};
 ghost use Rattle.edge_ports.specs.declared.ports.StoreFault.TheVariants as store;
 ghost use Rattle.dialog_replies.specs.Kept.{IsSearchOf};
 ghost use Rattle.dialog_replies.specs.Subject.{Subject};
-ghost use Rattle.session_book.specs.Start.{entries_at_start, saved_text};
-ghost use Rattle.session_book.specs.declared.start.Start.{Start as StartValue};
+ghost use Rattle.dialog_replies.specs.Start.{entries_at_start, saved_text};
+ghost use Rattle.dialog_replies.specs.declared.start.Start.{Start as StartValue};
 ghost use Rattle.ask_session.specs.Dialog.{saved_file, is_quit, save_reply};
 ghost use Rattle.ask_session.specs.Heard.{is_console, is_screen};
 ghost use Rattle.ask_session.specs.Saves.{FileAfter, counts_saved};
@@ -20,11 +20,11 @@ ghost use Rattle.ask_session.specs.Turned.{AnswersLine, LineAt, NextReply, SaveG
 ghost use Rattle.ask_session.specs.Turned.{console_failed};
 ghost use Rattle.ask_session.specs.Turned.{screen_failed};
 
-use dialog_lines::{FileName, Instruction, instruction_in};
-use dialog_replies::{Debugged, answer};
+use dialog_replies::{
+    Debugged, FileName, Instruction, Start, answer, instruction_in, session_text_of,
+};
 use edge_ports::{Bytes, Keeper, LineFault, Lines, Sink, Source, StoreFault, Turn, write_all};
 use optimal_query::Debug;
-use session_book::{Start, session_text_of};
 use std::alloc::{AllocError, AllocFailed, Global};
 
 /// How a dialog ended.

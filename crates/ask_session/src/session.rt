@@ -2,8 +2,8 @@
 ghost use Rattle.std.specs.Prelude.{◌≡◌, ◌⊎◌, ℕ, Bool, List, None, Some, IsSome, IsTrue};
 ghost use Rattle.edge_ports.specs.Counts.{Counted};
 ghost use Rattle.edge_ports.specs.Lines.{lines_of};
-ghost use Rattle.session_book.specs.Fit.{misfit};
-ghost use Rattle.session_book.specs.Start.{IsWholeStart};
+ghost use Rattle.dialog_replies.specs.Fit.{misfit};
+ghost use Rattle.dialog_replies.specs.Start.{IsWholeStart};
 ghost use Rattle.ask_session.specs.Console.{EndsInTime, FirstAnswered, GaveOf, GoesOn, NotRisen};
 ghost use Rattle.ask_session.specs.Dialog.{transcript};
 ghost use Rattle.ask_session.specs.Heard.{is_console, is_screen};
@@ -15,9 +15,8 @@ ghost use Rattle.ask_session.specs.Went.{Went};
 
 use crate::dialog::{Ending, answer_lines};
 use crate::laws::{entries_follow_lines, search_is_sound};
-use dialog_replies::{Debugged, open};
+use dialog_replies::{Debugged, Start, open, refusal, resume};
 use edge_ports::{Keeper, Lines, Sink, Source, write_all};
-use session_book::{Start, refusal, resume};
 use std::alloc::Global;
 
 /// Gives the opening, and then answers the console.

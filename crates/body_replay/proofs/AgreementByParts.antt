@@ -6,7 +6,7 @@ use Rattle.std.proofs.lemmas.List.Elements.{All-cons}
 use Rattle.std.proofs.lemmas.Option.{slice_get-map}
 use Rattle.call_tree.specs.Recording.{depths_of}
 use Rattle.call_tree.specs.declared.records.Call as table
-use Rattle.eval_machine.proofs.Lists.{drop_get}
+use Rattle.eval_ops.proofs.Lists.{drop_get}
 
 -- one more of which it holds
 pub one_more_holds : {X : Type 0} (P : X → Type 0) (xs : List X) (i : ℕ) (x : X) → slice_get xs i ≡ Some x → P x → All P (drop (i + 1) xs)

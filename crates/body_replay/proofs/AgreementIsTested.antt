@@ -15,12 +15,12 @@ use Rattle.cell_value.specs.declared.entries.Seen.TheVariants.{Held, There, Abse
 use Rattle.cell_value.specs.declared.ways_out.WayOut.{WayOut}
 use Rattle.cell_value.specs.declared.ways_out.WayOut.TheVariants as way
 use Rattle.cell_value.specs.Effects.{looked_of, made_of, reads_of}
-use Rattle.program_meaning.specs.State.{State, most_calls, most_depth}
-use Rattle.program_meaning.specs.Run.{Call}
-use Rattle.program_meaning.specs.Agree.{Agrees, EndedByItself, Shows, deepest}
-use Rattle.program_meaning.specs.Apply.{steps_taken}
-use Rattle.program_meaning.specs.Replay.{same_numbers, same_value}
-use Rattle.program_meaning.proofs.OutcomesCompose.{none_some}
+use Rattle.core_program.specs.State.{State, most_calls, most_depth}
+use Rattle.core_program.specs.Run.{Call}
+use Rattle.core_program.specs.Agree.{Agrees, EndedByItself, Shows, deepest}
+use Rattle.core_program.specs.Apply.{steps_taken}
+use Rattle.core_program.specs.Replay.{same_numbers, same_value}
+use Rattle.core_program.proofs.OutcomesCompose.{none_some}
 use Rattle.body_replay.specs.Laws as law
 use Rattle.body_replay.specs.Agreement.{agrees, are_as_seen, are_same_items, ended_by_itself, is_as_seen, is_same_item}
 

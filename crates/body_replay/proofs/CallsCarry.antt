@@ -14,22 +14,22 @@ use Rattle.cell_value.specs.declared.entries.Touch.TheVariants as touch
 use Rattle.cell_value.specs.declared.entries.Seen.{Seen}
 use Rattle.cell_value.specs.Effects.{asked_by, change_by, heap_end, is_shared, listed, looked_of, read_by, reads_of, seen_at, seen_by, shared, taken_of}
 use Rattle.cell_value.specs.declared.entries.Change.{Change}
-use Rattle.program_tables.specs.ProgramRows.{ProgramRows}
-use Rattle.program_meaning.specs.State.{State, IsSound, most_depth}
-use Rattle.program_meaning.specs.Run.{Call, Result, depth_enough, input_items, record_of}
-use Rattle.program_meaning.specs.Agree.{Agrees, EndedByItself, Shows, deepest}
-use Rattle.program_meaning.specs.Apply.{apply}
-use Rattle.program_meaning.proofs.OutcomesCompose.{none_some, some_same}
-use Rattle.run_laws.proofs.Events.{unmarked}
-use Rattle.run_laws.proofs.ActsLeave.{MayEnter}
-use Rattle.run_laws.proofs.Effects.{effect_is}
-use Rattle.run_laws.specs.Laws.{calls_in}
-use Rattle.run_laws.proofs.LawsOfRuns.{all_recorded, calls_sound, made}
-use Rattle.run_laws.proofs.RecordsStand.{stands}
-use Rattle.run_laws.proofs.RunsLeave.{Inner, call_leaves}
-use Rattle.run_laws.proofs.RunsRecord.{MadeBy, Recorded}
-use Rattle.run_laws.proofs.Touches.{Fits, Serves, first_asked, first_read, or_later, seen_is}
-use Rattle.run_laws.proofs.Ways.{RanCall}
+use Rattle.core_program.specs.ProgramRows.{ProgramRows}
+use Rattle.core_program.specs.State.{State, IsSound, most_depth}
+use Rattle.core_program.specs.Run.{Call, Result, depth_enough, input_items, record_of}
+use Rattle.core_program.specs.Agree.{Agrees, EndedByItself, Shows, deepest}
+use Rattle.core_program.specs.Apply.{apply}
+use Rattle.core_program.proofs.OutcomesCompose.{none_some, some_same}
+use Rattle.core_program.proofs.Events.{unmarked}
+use Rattle.core_program.proofs.ActsLeave.{MayEnter}
+use Rattle.core_program.proofs.Effects.{effect_is}
+use Rattle.core_program.specs.RunLaws.{calls_in}
+use Rattle.core_program.proofs.LawsOfRuns.{all_recorded, calls_sound, made}
+use Rattle.core_program.proofs.RecordsStand.{stands}
+use Rattle.core_program.proofs.RunsLeave.{Inner, call_leaves}
+use Rattle.core_program.proofs.RunsRecord.{MadeBy, Recorded}
+use Rattle.core_program.proofs.Touches.{Fits, Serves, first_asked, first_read, or_later, seen_is}
+use Rattle.core_program.proofs.Ways.{RanCall}
 use Rattle.body_replay.specs.Laws.{CallsCarryToThemselves}
 
 -- ---- what the touches of a call show of its entry

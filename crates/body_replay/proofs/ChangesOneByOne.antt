@@ -9,8 +9,8 @@ use Rattle.cell_value.specs.declared.values.Value.{Value}
 use Rattle.cell_value.specs.declared.entries.Change.{Change}
 use Rattle.cell_value.specs.declared.entries.Change.TheVariants.{Set, Gone}
 use Rattle.cell_value.specs.Effects.{listed}
-use Rattle.program_meaning.specs.Apply.{changed_cells}
-use Rattle.eval_machine.proofs.Lists.{drop_get}
+use Rattle.core_program.specs.Apply.{changed_cells}
+use Rattle.eval_ops.proofs.Lists.{drop_get}
 
 changed_more : (addr : ℕ) (change : Change) (cs : List (ℕ × Change)) (m : FinMap nat_cmp Value)
     → changed_cells ((addr, change) ∷ cs) m ≡ changed_cells cs (changed_cells ((addr, change) ∷ []) m)

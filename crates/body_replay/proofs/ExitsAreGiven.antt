@@ -1,9 +1,9 @@
 -- The own work of a call of a run gives its recorded exit.
 use Rattle.std.proofs.Common.{◌≡◌, ◌≤◌, Some, None, refl, ap, ◌∙◌, arith}
 use Rattle.std.specs.List.{slice_get}
-use Rattle.program_meaning.specs.Run.{Outcome, depth_enough, run}
-use Rattle.program_meaning.proofs.OutcomesCompose.{none_some}
-use Rattle.run_laws.specs.Laws.{BodiesRepeat, calls_in}
+use Rattle.core_program.specs.Run.{Outcome, depth_enough, run}
+use Rattle.core_program.proofs.OutcomesCompose.{none_some}
+use Rattle.core_program.specs.RunLaws.{BodiesRepeat, calls_in}
 use Rattle.body_replay.specs.Laws.{BodiesGiveTheirExits, GivesItsExit}
 use Rattle.body_replay.specs.Replays.{records_of, work_at, work_of}
 

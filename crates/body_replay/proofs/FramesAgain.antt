@@ -6,14 +6,14 @@ use Rattle.cell_value.specs.declared.values.Value.{Value}
 use Rattle.cell_value.specs.declared.entries.Touch.{Touch}
 use Rattle.cell_value.specs.declared.ways_out.WayOut.{WayOut}
 use Rattle.cell_value.specs.declared.ways_out.Which.TheVariants.{Stack}
-use Rattle.program_tables.specs.declared.program.Routine.{Routine}
-use Rattle.program_tables.specs.ProgramRows.{ProgramRows, routine_at}
-use Rattle.program_meaning.specs.State.{State, stack_end}
-use Rattle.program_meaning.specs.Acts.{Trouble, OutOfSteps, Limited, ActResult, Went, Stops, spent}
-use Rattle.program_meaning.specs.Tree.{way_of}
-use Rattle.program_meaning.specs.Run.{Halted, ends, after_all, framed_run, at_work, whole, with_frame, without_frame}
-use Rattle.program_meaning.specs.Replay.{Replaying, Replayed, in_replaying, on_state, replay_of}
-use Rattle.eval_machine.specs.Frames.{framing}
+use Rattle.core_program.specs.declared.program.Routine.{Routine}
+use Rattle.core_program.specs.ProgramRows.{ProgramRows, routine_at}
+use Rattle.core_program.specs.State.{State, stack_end}
+use Rattle.core_program.specs.Acts.{Trouble, OutOfSteps, Limited, ActResult, Went, Stops, spent}
+use Rattle.core_program.specs.Tree.{way_of}
+use Rattle.core_program.specs.Run.{Halted, ends, after_all, framed_run, at_work, whole, with_frame, without_frame}
+use Rattle.core_program.specs.Replay.{Replaying, Replayed, in_replaying, on_state, replay_of}
+use Rattle.eval_ops.specs.Frames.{framing}
 use Rattle.body_replay.specs.Traces.{FrameMade}
 
 -- goes on in a frame that was made

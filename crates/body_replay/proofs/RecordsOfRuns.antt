@@ -8,19 +8,19 @@ use Rattle.std.proofs.lemmas.Option.{slice_get-map}
 use Rattle.cell_value.specs.Effects.{made_of, taken_of}
 use Rattle.call_tree.specs.Told.{IsTold}
 use Rattle.call_tree.specs.declared.records.Call as table
-use Rattle.program_tables.specs.ProgramRows.{ProgramRows}
-use Rattle.program_meaning.specs.State.{State}
-use Rattle.program_meaning.specs.Run.{Marked, Result, Call, Outcome, run, input_items, depth_enough, block, start}
-use Rattle.program_meaning.specs.Numbering.{StandsAt, belows, parent_of, depth_of}
-use Rattle.program_meaning.specs.Replay.{body}
-use Rattle.program_meaning.proofs.CallsOfRunsNest.{stand_of}
-use Rattle.program_meaning.proofs.OutcomesCompose.{some_same, none_some}
-use Rattle.program_meaning.proofs.RunAtAnyDepth.{runs}
-use Rattle.run_laws.specs.Laws.{calls_in, most_bytes, MeetsItems}
-use Rattle.run_laws.proofs.LawsOfRuns.{begins_sound, made, runs_items}
-use Rattle.run_laws.proofs.Ways.{run_gives}
-use Rattle.run_laws.proofs.RunsLeave.{call_leaves}
-use Rattle.run_laws.proofs.RunsRecord.{MadeBy}
+use Rattle.core_program.specs.ProgramRows.{ProgramRows}
+use Rattle.core_program.specs.State.{State}
+use Rattle.core_program.specs.Run.{Marked, Result, Call, Outcome, run, input_items, depth_enough, block, start}
+use Rattle.core_program.specs.Numbering.{StandsAt, belows, parent_of, depth_of}
+use Rattle.core_program.specs.Replay.{body}
+use Rattle.core_program.proofs.CallsOfRunsNest.{stand_of}
+use Rattle.core_program.proofs.OutcomesCompose.{some_same, none_some}
+use Rattle.core_program.proofs.RunAtAnyDepth.{runs}
+use Rattle.core_program.specs.RunLaws.{calls_in, most_bytes, MeetsItems}
+use Rattle.core_program.proofs.LawsOfRuns.{begins_sound, made, runs_items}
+use Rattle.core_program.proofs.Ways.{run_gives}
+use Rattle.core_program.proofs.RunsLeave.{call_leaves}
+use Rattle.core_program.proofs.RunsRecord.{MadeBy}
 use Rattle.program_run.specs.declared.history.History.{History}
 use Rattle.program_run.specs.History.{IsOfRun, recording_of, log_of, output_of}
 use Rattle.program_run.specs.Table.{table_row, row_with, table_of}

@@ -12,19 +12,19 @@ use Rattle.cell_value.specs.Effects.{changes_of, given_of, looked_of, made_of, r
 use Rattle.call_tree.specs.Recording.{depths_of}
 use Rattle.call_tree.specs.Told.{part_of}
 use Rattle.call_tree.specs.declared.records.Call as table
-use Rattle.effect_log.specs.declared.one_pass.Footprint.{Footprint}
-use Rattle.program_tables.specs.ProgramRows.{ProgramRows}
-use Rattle.program_meaning.specs.State.{State, IsSound}
-use Rattle.program_meaning.specs.Run.{Call, Marked, Outcome, input_items, run}
-use Rattle.program_meaning.specs.Numbering.{StandsAt}
-use Rattle.program_meaning.specs.Agree.{Agrees, EndedByItself, Shows, deepest}
-use Rattle.program_meaning.specs.Apply.{apply, changed_cells, steps_taken}
-use Rattle.program_meaning.proofs.OutcomesCompose.{some_same}
-use Rattle.run_laws.specs.Laws.{calls_in}
-use Rattle.run_laws.proofs.LawsOfRuns.{all_recorded}
-use Rattle.run_laws.proofs.RecordsStand.{stands}
-use Rattle.run_laws.proofs.RunsLeave.{call_leaves}
-use Rattle.run_laws.proofs.RunsRecord.{Recorded}
+use Rattle.effect_log.specs.declared.by_maps.Footprint.{Footprint}
+use Rattle.core_program.specs.ProgramRows.{ProgramRows}
+use Rattle.core_program.specs.State.{State, IsSound}
+use Rattle.core_program.specs.Run.{Call, Marked, Outcome, input_items, run}
+use Rattle.core_program.specs.Numbering.{StandsAt}
+use Rattle.core_program.specs.Agree.{Agrees, EndedByItself, Shows, deepest}
+use Rattle.core_program.specs.Apply.{apply, changed_cells, steps_taken}
+use Rattle.core_program.proofs.OutcomesCompose.{some_same}
+use Rattle.core_program.specs.RunLaws.{calls_in}
+use Rattle.core_program.proofs.LawsOfRuns.{all_recorded}
+use Rattle.core_program.proofs.RecordsStand.{stands}
+use Rattle.core_program.proofs.RunsLeave.{call_leaves}
+use Rattle.core_program.proofs.RunsRecord.{Recorded}
 use Rattle.program_run.specs.declared.history.History.{History}
 use Rattle.program_run.specs.History.{IsOfRun}
 use Rattle.program_run.specs.Table.{table_of}

@@ -7,19 +7,19 @@ use Rattle.cell_value.specs.declared.values.Value.{Value}
 use Rattle.cell_value.specs.declared.entries.Touch.{Touch}
 use Rattle.cell_value.specs.declared.ways_out.WayOut.TheVariants as way
 use Rattle.cell_value.specs.declared.ways_out.Which.{Which}
-use Rattle.program_tables.specs.ProgramRows.{ProgramRows}
-use Rattle.program_meaning.specs.State.{State}
-use Rattle.program_meaning.specs.Acts.{Answer, Spend, ActResult, Went, Stops, perform, limit_passed}
-use Rattle.program_meaning.specs.Tree.{Out, ActTree, Ret, Halt, Do, Sub, Enter, Line, way_of, bind}
-use Rattle.program_meaning.specs.Layer.{layer}
-use Rattle.program_meaning.specs.Run.{End, Ended, Halted, Marked, Result, Call, in_front, ends, on_end, joined, on_done, if_allowed}
-use Rattle.program_meaning.specs.Replay.{Event, ChildOf, Replaying, Replayed, same_args, end_of, next_call, replaying, replay_of}
-use Rattle.program_meaning.proofs.MoreDepthSameResult.{Grows, joined_less, less_same, run_less}
-use Rattle.program_meaning.proofs.OutcomesCompose.{walk_bind, some_same, none_some}
-use Rattle.run_laws.specs.Laws.{IsMet}
-use Rattle.run_laws.proofs.Events.{unmarked, events_append}
-use Rattle.eval_machine.specs.Machines.{Moment}
-use Rattle.eval_tasks.specs.Stops.{Stop, AtLine, AtCall, AtEnd, at_call, on_act, next_stop}
+use Rattle.core_program.specs.ProgramRows.{ProgramRows}
+use Rattle.core_program.specs.State.{State}
+use Rattle.core_program.specs.Acts.{Answer, Spend, ActResult, Went, Stops, perform, limit_passed}
+use Rattle.core_program.specs.Tree.{Out, ActTree, Ret, Halt, Do, Sub, Enter, Line, way_of, bind}
+use Rattle.core_program.specs.Layer.{layer}
+use Rattle.core_program.specs.Run.{End, Ended, Halted, Marked, Result, Call, in_front, ends, on_end, joined, on_done, if_allowed}
+use Rattle.core_program.specs.Replay.{Event, ChildOf, Replaying, Replayed, same_args, end_of, next_call, replaying, replay_of}
+use Rattle.core_program.proofs.MoreDepthSameResult.{Grows, joined_less, less_same, run_less}
+use Rattle.core_program.proofs.OutcomesCompose.{walk_bind, some_same, none_some}
+use Rattle.core_program.specs.RunLaws.{IsMet}
+use Rattle.core_program.proofs.Events.{unmarked, events_append}
+use Rattle.eval_ops.specs.Machines.{Moment}
+use Rattle.evaluator.specs.Stops.{Stop, AtLine, AtCall, AtEnd, at_call, on_act, next_stop}
 use Rattle.program_run.specs.Tower.{stage_after}
 use Rattle.body_replay.specs.Again.{Past, LeadsTo, Over, Meeting, Stands, with_state, Resumed, after_child, Met}
 

@@ -6,19 +6,19 @@ use Rattle.std.specs.Option.{option_map}
 use Rattle.std.proofs.lemmas.List.{length-drop, length-map}
 use Rattle.std.proofs.lemmas.Option.{slice_get_within}
 use Rattle.call_tree.specs.declared.records.Call as table
-use Rattle.program_tables.specs.ProgramRows.{ProgramRows, routine_at}
-use Rattle.program_meaning.specs.State.{State}
-use Rattle.program_meaning.specs.Run.{Marked, Result, Call, after_all, framed_run, at_work, opened, call_closed, block, start}
-use Rattle.program_meaning.specs.Run.{depth_enough, result_in, way_out}
-use Rattle.program_meaning.specs.Numbering.{belows, each_from}
-use Rattle.program_meaning.specs.Replay.{Event, Replaying, Replayed, body, on_state, in_replaying, replay_of}
-use Rattle.program_meaning.proofs.OutcomesCompose.{some_same, none_some}
-use Rattle.run_laws.specs.Laws.{calls_in, IsMet, IsBody}
-use Rattle.run_laws.proofs.LawsOfRuns.{begins_sound, body_is}
-use Rattle.run_laws.proofs.Ways.{run_gives}
-use Rattle.run_laws.proofs.RunsLeave.{ran_leaves}
-use Rattle.eval_machine.specs.Machines.{AllowsCall, IsReady, machine_state}
-use Rattle.eval_machine.specs.declared.machine.Machine.{Machine}
+use Rattle.core_program.specs.ProgramRows.{ProgramRows, routine_at}
+use Rattle.core_program.specs.State.{State}
+use Rattle.core_program.specs.Run.{Marked, Result, Call, after_all, framed_run, at_work, opened, call_closed, block, start}
+use Rattle.core_program.specs.Run.{depth_enough, result_in, way_out}
+use Rattle.core_program.specs.Numbering.{belows, each_from}
+use Rattle.core_program.specs.Replay.{Event, Replaying, Replayed, body, on_state, in_replaying, replay_of}
+use Rattle.core_program.proofs.OutcomesCompose.{some_same, none_some}
+use Rattle.core_program.specs.RunLaws.{calls_in, IsMet, IsBody}
+use Rattle.core_program.proofs.LawsOfRuns.{begins_sound, body_is}
+use Rattle.core_program.proofs.Ways.{run_gives}
+use Rattle.core_program.proofs.RunsLeave.{ran_leaves}
+use Rattle.eval_ops.specs.Machines.{AllowsCall, IsReady, machine_state}
+use Rattle.eval_ops.specs.declared.machine.Machine.{Machine}
 use Rattle.program_run.specs.declared.history.History.{History}
 use Rattle.program_run.specs.History.{IsOfRun}
 use Rattle.program_run.specs.Table.{table_row}

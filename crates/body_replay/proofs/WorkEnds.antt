@@ -5,16 +5,16 @@ use Rattle.cell_value.specs.declared.ways_out.WayOut.{WayOut}
 use Rattle.cell_value.specs.declared.ways_out.WayOut.TheVariants as ways
 use Rattle.cell_value.specs.declared.ways_out.Kind.TheVariants as kind
 use Rattle.call_tree.specs.declared.records.Call as table
-use Rattle.program_tables.specs.declared.program.Routine.{Routine}
-use Rattle.program_tables.specs.ProgramRows.{ProgramRows, routine_at}
-use Rattle.program_meaning.specs.State.{State}
-use Rattle.program_meaning.specs.Tree.{ActTree}
-use Rattle.program_meaning.specs.Run.{End, Halted, Result, ends, framed_run, at_work, way_out, result_in, whole, without_frame}
-use Rattle.program_meaning.specs.Replay.{Event, Replaying, in_replaying, on_state, replay_of}
-use Rattle.program_meaning.proofs.OutcomesCompose.{some_same}
-use Rattle.run_laws.specs.Laws.{IsMet}
-use Rattle.eval_machine.specs.Machines.{machine_state}
-use Rattle.eval_machine.specs.Frames.{framing}
+use Rattle.core_program.specs.declared.program.Routine.{Routine}
+use Rattle.core_program.specs.ProgramRows.{ProgramRows, routine_at}
+use Rattle.core_program.specs.State.{State}
+use Rattle.core_program.specs.Tree.{ActTree}
+use Rattle.core_program.specs.Run.{End, Halted, Result, ends, framed_run, at_work, way_out, result_in, whole, without_frame}
+use Rattle.core_program.specs.Replay.{Event, Replaying, in_replaying, on_state, replay_of}
+use Rattle.core_program.proofs.OutcomesCompose.{some_same}
+use Rattle.core_program.specs.RunLaws.{IsMet}
+use Rattle.eval_ops.specs.Machines.{machine_state}
+use Rattle.eval_ops.specs.Frames.{framing}
 use Rattle.program_run.specs.declared.history.History.{History}
 use Rattle.body_replay.specs.declared.framed.WorkEnd.{WorkEnd}
 use Rattle.body_replay.specs.Replays.{kept_event}

@@ -10,16 +10,16 @@ use Rattle.call_tree.specs.Told.{IsTold}
 use Rattle.call_tree.specs.declared.records.Call as table
 use Rattle.call_tree.specs.declared.events.Event as kept
 use Rattle.call_tree.specs.declared.events.Event.TheVariants.{Line, Child}
-use Rattle.program_tables.specs.ProgramRows.{ProgramRows}
-use Rattle.program_meaning.specs.State.{State}
-use Rattle.program_meaning.specs.Tree.{Out, ActTree}
-use Rattle.program_meaning.specs.Run.{End, Call}
-use Rattle.program_meaning.specs.Apply.{apply}
-use Rattle.program_meaning.specs.Replay.{Event, LineOf, ChildOf, Replaying, end_of}
-use Rattle.program_meaning.proofs.OutcomesCompose.{some_same}
-use Rattle.run_laws.specs.Laws.{IsMet}
-use Rattle.eval_machine.specs.Machines.{Moment}
-use Rattle.eval_tasks.specs.Stops.{Stop, AtLine, AtCall, AtEnd, NextStopIs, next_stop}
+use Rattle.core_program.specs.ProgramRows.{ProgramRows}
+use Rattle.core_program.specs.State.{State}
+use Rattle.core_program.specs.Tree.{Out, ActTree}
+use Rattle.core_program.specs.Run.{End, Call}
+use Rattle.core_program.specs.Apply.{apply}
+use Rattle.core_program.specs.Replay.{Event, LineOf, ChildOf, Replaying, end_of}
+use Rattle.core_program.proofs.OutcomesCompose.{some_same}
+use Rattle.core_program.specs.RunLaws.{IsMet}
+use Rattle.eval_ops.specs.Machines.{Moment}
+use Rattle.evaluator.specs.Stops.{Stop, AtLine, AtCall, AtEnd, NextStopIs, next_stop}
 use Rattle.program_run.specs.declared.history.History.{History}
 use Rattle.program_run.proofs.ActsKeepCalls.{onward}
 use Rattle.program_run.proofs.LinesTakeSteps.{LeftAt, left_at_stop}

@@ -7,16 +7,16 @@ use Rattle.cell_value.specs.declared.ways_out.WayOut.{WayOut}
 use Rattle.call_tree.specs.Told.{IsTold}
 use Rattle.call_tree.specs.declared.records.Call as table
 use Rattle.call_tree.specs.declared.events.Event as kept
-use Rattle.program_tables.specs.ProgramRows.{ProgramRows}
-use Rattle.program_meaning.specs.State.{State, most_calls}
-use Rattle.program_meaning.specs.Tree.{Out, ActTree}
-use Rattle.program_meaning.specs.Run.{End, Marked, Result, Call, joined}
-use Rattle.program_meaning.specs.Apply.{apply}
-use Rattle.program_meaning.specs.Replay.{Event, LineOf, ChildOf, Replaying, end_of, next_call, replay_of}
-use Rattle.run_laws.specs.Laws.{IsMet}
-use Rattle.eval_machine.specs.Machines.{machine_state}
-use Rattle.eval_tasks.specs.Stops.{Stop, AtLine, AtCall, AtEnd}
-use Rattle.eval_tasks.specs.Rest.{rest_of, waiting}
+use Rattle.core_program.specs.ProgramRows.{ProgramRows}
+use Rattle.core_program.specs.State.{State, most_calls}
+use Rattle.core_program.specs.Tree.{Out, ActTree}
+use Rattle.core_program.specs.Run.{End, Marked, Result, Call, joined}
+use Rattle.core_program.specs.Apply.{apply}
+use Rattle.core_program.specs.Replay.{Event, LineOf, ChildOf, Replaying, end_of, next_call, replay_of}
+use Rattle.core_program.specs.RunLaws.{IsMet}
+use Rattle.eval_ops.specs.Machines.{machine_state}
+use Rattle.evaluator.specs.Stops.{Stop, AtLine, AtCall, AtEnd}
+use Rattle.evaluator.specs.Rest.{rest_of, waiting}
 use Rattle.program_run.specs.declared.history.History.{History}
 use Rattle.program_run.specs.Tower.{Stage, Rests, Calls, Ends, stage_after}
 use Rattle.body_replay.specs.Records.{HasRoomFor, IsRecordOf}

@@ -1,4 +1,4 @@
--- Whether a state agrees with a call, as a test: the same as `Agrees` of program_meaning, line by line.
+-- Whether a state agrees with a call, as a test: the same as `Agrees` of core_program, line by line.
 use Rattle.std.specs.Prelude.{ℕ, zero, suc, ◌+◌, ◌-◌, Bool, true, false, not, nat_eq, nat_le, ◌&&◌, ◌||◌, ◌==◌, List}
 use Rattle.std.specs.Prelude.{[], ◌∷◌, Option, Some, None, is_some, slice_get, take, drop}
 use Rattle.std.specs.Ordering.{nat_cmp}
@@ -9,11 +9,11 @@ use Rattle.cell_value.specs.declared.entries.Seen.TheVariants.{Held, There, Abse
 use Rattle.cell_value.specs.declared.ways_out.WayOut.{WayOut}
 use Rattle.cell_value.specs.declared.ways_out.WayOut.TheVariants as way
 use Rattle.cell_value.specs.Effects.{reads_of, made_of, looked_of}
-use Rattle.program_meaning.specs.State.{State, most_calls, most_depth}
-use Rattle.program_meaning.specs.Run.{Call, Outcome}
-use Rattle.program_meaning.specs.Apply.{steps_taken}
-use Rattle.program_meaning.specs.Agree.{deepest}
-use Rattle.program_meaning.specs.Replay.{same_value}
+use Rattle.core_program.specs.State.{State, most_calls, most_depth}
+use Rattle.core_program.specs.Run.{Call, Outcome}
+use Rattle.core_program.specs.Apply.{steps_taken}
+use Rattle.core_program.specs.Agree.{deepest}
+use Rattle.core_program.specs.Replay.{same_value}
 use Rattle.body_replay.specs.Replays.{records_of}
 
 -- whether a call ended by itself, by a jump or by a fault

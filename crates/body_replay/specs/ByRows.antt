@@ -5,13 +5,13 @@ use Rattle.std.specs.List.{All, slice_get}
 use Rattle.std.specs.FinMap.{get}
 use Rattle.cell_value.specs.declared.entries.Touch.{Touch}
 use Rattle.cell_value.specs.Effects.{changes_of, given_of, looked_of, made_of, reads_of, taken_of}
-use Rattle.effect_log.specs.declared.one_pass.Footprint.{Footprint}
+use Rattle.effect_log.specs.declared.by_maps.Footprint.{Footprint}
 use Rattle.call_tree.specs.Recording.{depths_of}
 use Rattle.call_tree.specs.declared.records.Call as table
 use Rattle.call_tree.specs.Told.{part_of}
-use Rattle.program_meaning.specs.State.{State, most_calls, most_depth}
-use Rattle.program_meaning.specs.Agree.{Shows}
-use Rattle.program_meaning.specs.Apply.{changed_cells}
+use Rattle.core_program.specs.State.{State, most_calls, most_depth}
+use Rattle.core_program.specs.Agree.{Shows}
+use Rattle.core_program.specs.Apply.{changed_cells}
 use Rattle.body_replay.specs.declared.kept_state.KeptState.{KeptState}
 
 -- a state has room for what a call took and called, by the call's number and row

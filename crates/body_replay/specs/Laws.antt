@@ -1,13 +1,13 @@
 -- What the own work of each call of a run comes to, and that each call agrees with its own entry.
 use Rattle.std.specs.Prelude.{◌≡◌, ◌↔◌, ℕ, IsTrue, List, Some}
 use Rattle.std.specs.List.{slice_get}
-use Rattle.program_tables.specs.ProgramRows.{ProgramRows}
-use Rattle.program_meaning.specs.State.{State}
-use Rattle.program_meaning.specs.Run.{Call, Result, result_in, run, way_out}
-use Rattle.program_meaning.specs.Agree.{Agrees, EndedByItself}
-use Rattle.program_meaning.specs.Apply.{apply}
-use Rattle.program_meaning.specs.Replay.{Event, Replayed, Replaying}
-use Rattle.run_laws.specs.Laws.{OfEachCall}
+use Rattle.core_program.specs.ProgramRows.{ProgramRows}
+use Rattle.core_program.specs.State.{State}
+use Rattle.core_program.specs.Run.{Call, Result, result_in, run, way_out}
+use Rattle.core_program.specs.Agree.{Agrees, EndedByItself}
+use Rattle.core_program.specs.Apply.{apply}
+use Rattle.core_program.specs.Replay.{Event, Replayed, Replaying}
+use Rattle.core_program.specs.RunLaws.{OfEachCall}
 use Rattle.body_replay.specs.Agreement.{agrees}
 use Rattle.body_replay.specs.Replays.{records_of, work_of}
 

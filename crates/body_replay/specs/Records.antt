@@ -4,9 +4,9 @@ use Rattle.cell_value.specs.declared.entries.Touch.{Touch}
 use Rattle.cell_value.specs.Effects.{made_of, taken_of}
 use Rattle.call_tree.specs.declared.records.Call as table
 use Rattle.cell_value.specs.Effects.{heap_end}
-use Rattle.program_meaning.specs.State.{State, most_calls}
-use Rattle.program_meaning.specs.Run.{Call}
-use Rattle.program_meaning.specs.Numbering.{StandsAt}
+use Rattle.core_program.specs.State.{State, most_calls}
+use Rattle.core_program.specs.Run.{Call}
+use Rattle.core_program.specs.Numbering.{StandsAt}
 use Rattle.program_run.specs.Table.{row_with}
 
 -- a row of the table is that of a call with this number, whose part of the log stands where the row says

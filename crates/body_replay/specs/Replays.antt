@@ -4,11 +4,11 @@ use Rattle.std.specs.List.{slice_get}
 use Rattle.call_tree.specs.declared.records.Call as table
 use Rattle.call_tree.specs.declared.events.Event as kept
 use Rattle.call_tree.specs.declared.events.Event.TheVariants.{Line, Child}
-use Rattle.program_tables.specs.ProgramRows.{ProgramRows}
-use Rattle.program_meaning.specs.State.{State}
-use Rattle.program_meaning.specs.Run.{Call, Outcome, depth_enough, run}
-use Rattle.program_meaning.specs.Numbering.{calls_of}
-use Rattle.program_meaning.specs.Replay.{Event, LineOf, ChildOf, Replayed, body}
+use Rattle.core_program.specs.ProgramRows.{ProgramRows}
+use Rattle.core_program.specs.State.{State}
+use Rattle.core_program.specs.Run.{Call, Outcome, depth_enough, run}
+use Rattle.core_program.specs.Numbering.{calls_of}
+use Rattle.core_program.specs.Replay.{Event, LineOf, ChildOf, Replayed, body}
 use Rattle.program_run.specs.declared.history.History.{History}
 
 -- the calls of a run, in order of entry

@@ -5,14 +5,14 @@ use Rattle.cell_value.specs.declared.entries.Touch.{Touch}
 use Rattle.cell_value.specs.declared.ways_out.WayOut.{WayOut}
 use Rattle.call_tree.specs.declared.records.Call as table
 use Rattle.call_tree.specs.declared.events.Event as kept
-use Rattle.program_tables.specs.ProgramRows.{ProgramRows, routine_at}
-use Rattle.program_meaning.specs.State.{State, most_calls}
-use Rattle.program_meaning.specs.Acts.{Trouble, ActResult, Went, Stops}
-use Rattle.program_meaning.specs.Tree.{way_of}
-use Rattle.program_meaning.specs.Run.{Result, at_work, call_closed, framed_run, way_out, result_in}
-use Rattle.program_meaning.specs.Replay.{Event, Replayed, Replaying, in_replaying, on_state, replay_of}
-use Rattle.eval_machine.specs.Machines.{machine_state}
-use Rattle.eval_machine.specs.declared.machine.Machine.{Machine}
+use Rattle.core_program.specs.ProgramRows.{ProgramRows, routine_at}
+use Rattle.core_program.specs.State.{State, most_calls}
+use Rattle.core_program.specs.Acts.{Trouble, ActResult, Went, Stops}
+use Rattle.core_program.specs.Tree.{way_of}
+use Rattle.core_program.specs.Run.{Result, at_work, call_closed, framed_run, way_out, result_in}
+use Rattle.core_program.specs.Replay.{Event, Replayed, Replaying, in_replaying, on_state, replay_of}
+use Rattle.eval_ops.specs.Machines.{machine_state}
+use Rattle.eval_ops.specs.declared.machine.Machine.{Machine}
 use Rattle.program_run.specs.declared.history.History.{History}
 use Rattle.body_replay.specs.Again.{Job}
 use Rattle.body_replay.specs.Counting.{Tally}

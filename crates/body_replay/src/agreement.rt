@@ -4,7 +4,7 @@ ghost use Rattle.std.specs.Prelude.{◌≡◌, ◌↔◌, ◌+◌, ◌-◌, ◌<
 ghost use Rattle.std.specs.Prelude.{take};
 ghost use Rattle.std.specs.FinMap.{get};
 ghost use Rattle.call_tree.specs.Recording.{depths_of};
-ghost use Rattle.program_meaning.specs.Agree.{EndedByItself, Shows};
+ghost use Rattle.core_program.specs.Agree.{EndedByItself, Shows};
 ghost use Rattle.body_replay.specs.ByRows.{HasRoomAt, MeetsTheSame};
 
 use crate::kept_state::KeptState;

@@ -1,11 +1,11 @@
 //! A call's own work, done again in a frame of its own.
 
 ghost use Rattle.std.specs.Prelude.{◌≡◌, ◌+◌, ◌<◌, ◌≤◌, [], IfOk, OnOk, None};
-ghost use Rattle.program_meaning.specs.State.{stack_end};
-ghost use Rattle.program_meaning.specs.Run.{result_in, way_out, without_frame};
-ghost use Rattle.eval_machine.specs.Frames.{framing};
-ghost use Rattle.eval_machine.specs.Machines.{IsReady, machine_state};
-ghost use Rattle.program_meaning.specs.Replay.{end_of};
+ghost use Rattle.core_program.specs.State.{stack_end};
+ghost use Rattle.core_program.specs.Run.{result_in, way_out, without_frame};
+ghost use Rattle.eval_ops.specs.Frames.{framing};
+ghost use Rattle.eval_ops.specs.Machines.{IsReady, machine_state};
+ghost use Rattle.core_program.specs.Replay.{end_of};
 ghost use Rattle.body_replay.specs.Again.{AtBody, Job};
 ghost use Rattle.body_replay.specs.Counting.{CountsEachStep, Tally};
 ghost use Rattle.body_replay.specs.Traces.{EndsAs, FrameToMake, FrameMade, changed_result, tally, tally_of};
@@ -14,10 +14,10 @@ use crate::counted::count_steps;
 use crate::replayer::Replayer;
 use call_tree::{Call, Events};
 use cell_value::{Cells, Kind, Memory, Steps, Value, WayOut};
-use eval_machine::{Halt, Machine, make_frame, remove_frame};
-use eval_tasks::Body;
+use core_program::Program;
+use eval_ops::{Halt, Machine, make_frame, remove_frame};
+use evaluator::Body;
 use program_run::History;
-use program_tables::Program;
 use std::alloc::{AllocError, Global};
 
 /// What is left once a call's work has ended.

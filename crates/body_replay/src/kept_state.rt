@@ -1,7 +1,7 @@
 //! The state of a run beside a call, whole.
 
 ghost use Rattle.std.specs.Prelude.{◌≡◌, ◌<◌, ◌≤◌, [], IfOk, length};
-ghost use Rattle.eval_machine.specs.Machines.{machine_state};
+ghost use Rattle.eval_ops.specs.Machines.{machine_state};
 ghost use Rattle.body_replay.specs.Replays.{before_of};
 ghost use Rattle.body_replay.specs.Traces.{kept_state};
 
@@ -9,7 +9,7 @@ use call_tree::Call;
 use cell_value::{Items, Memory};
 use edge_ports::Bytes;
 use effect_log::Log;
-use eval_machine::Machine;
+use eval_ops::Machine;
 use persistent_store::Store;
 use program_run::History;
 use std::alloc::Global;

@@ -2,7 +2,7 @@
 
 ghost use Rattle.body_replay.specs.Laws.{AgreementIsTested, BodiesGiveTheirExits, CallsCarryToThemselves};
 
-use run_laws::bodies_repeat;
+use core_program::bodies_repeat;
 
 /// The body of each call of a run, run from its recorded entry with the recorded effects of the calls that it makes,
 /// gives exactly the call's recorded way out, result and exit.

@@ -1,8 +1,8 @@
 //! A body at work again, whose calls do what their records say.
 
 ghost use Rattle.std.specs.Prelude.{◌≡◌, ◌+◌, ◌<◌, IfOk, OnOk, None, Some};
-ghost use Rattle.program_tables.specs.ProgramRows.{ProgramRows};
-ghost use Rattle.eval_machine.specs.Machines.{IsReady};
+ghost use Rattle.core_program.specs.ProgramRows.{ProgramRows};
+ghost use Rattle.eval_ops.specs.Machines.{IsReady};
 ghost use Rattle.program_run.specs.declared.history.History as kept;
 ghost use Rattle.body_replay.specs.Again.{AfterChild, AtChild, AtBody, Job, AfterTurn, work_left};
 ghost use Rattle.body_replay.specs.Counting.{CountsEachStep, Tally};
@@ -12,11 +12,10 @@ use crate::applied::apply;
 use crate::counted::count_steps;
 use call_tree::{Event, Events};
 use cell_value::{Memory, Steps, Value, WayOut};
-use eval_machine::Machine;
-use eval_tasks::{Body, Stop};
-use evaluator::go_on;
+use core_program::Program;
+use eval_ops::Machine;
+use evaluator::{Body, Stop, go_on};
 use program_run::History;
-use program_tables::Program;
 use std::alloc::Global;
 
 /// A body at work again.

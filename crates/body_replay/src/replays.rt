@@ -3,9 +3,9 @@
 ghost use Rattle.std.specs.Prelude.{◌≡◌, ◌<◌, ◌≤◌, ◌+◌, ℕ, List, IfOk, Some, length, slice_get};
 ghost use Rattle.std.specs.Option.{option_map};
 ghost use Rattle.call_tree.specs.declared.records.Call as table;
-ghost use Rattle.program_meaning.specs.Run.{result_in, way_out};
-ghost use Rattle.eval_machine.specs.Machines.{IsReady};
-ghost use Rattle.run_laws.specs.Laws.{most_bytes};
+ghost use Rattle.core_program.specs.Run.{result_in, way_out};
+ghost use Rattle.eval_ops.specs.Machines.{IsReady};
+ghost use Rattle.core_program.specs.RunLaws.{most_bytes};
 ghost use Rattle.program_run.specs.History.{IsOfRun};
 ghost use Rattle.body_replay.specs.Counting.{CountsEachStep, at_entry, changes_met, own_steps};
 ghost use Rattle.body_replay.specs.Replays.{events_in, work_in};
@@ -15,9 +15,9 @@ use crate::framed::{WorkEnd, work};
 use crate::kept_state::{KeptState, keep_state, machine_before};
 use call_tree::{Call, Events};
 use cell_value::{Memory, Steps, Value, WayOut};
-use eval_machine::{close_call, open_call};
+use core_program::Program;
+use eval_ops::{close_call, open_call};
 use program_run::History;
-use program_tables::Program;
 use std::alloc::Global;
 
 /// What the body of a call did.

@@ -3,11 +3,11 @@
 ghost use Rattle.std.specs.Prelude.{◌≡◌, ◌↔◌, ◌+◌, ◌<◌, ◌≤◌, ℕ, All, IfOk, IfSome, IsSome, List, Some, length};
 ghost use Rattle.std.specs.Prelude.{slice_get};
 ghost use Rattle.call_tree.specs.Told.{IsTold};
-ghost use Rattle.program_meaning.specs.Agree.{Agrees};
-ghost use Rattle.program_meaning.specs.Apply as effects;
-ghost use Rattle.program_meaning.specs.Run as meaning;
-ghost use Rattle.program_meaning.specs.State.{IsSound};
-ghost use Rattle.run_laws.specs.Laws.{most_bytes};
+ghost use Rattle.core_program.specs.Agree.{Agrees};
+ghost use Rattle.core_program.specs.Apply as effects;
+ghost use Rattle.core_program.specs.Run as meaning;
+ghost use Rattle.core_program.specs.State.{IsSound};
+ghost use Rattle.core_program.specs.RunLaws.{most_bytes};
 ghost use Rattle.program_run.specs.History.{IsOfRun};
 ghost use Rattle.body_replay.specs.Agreement.{carries};
 ghost use Rattle.body_replay.specs.ByRows.{IsEffectOf, applied};
@@ -19,11 +19,10 @@ use crate::applied::change_cells;
 use crate::kept_state::{KeptState, copy_items, keep_state, machine_before};
 use call_tree::Call;
 use cell_value::{Memory, Steps};
+use core_program::Program;
 use edge_ports::Bytes;
-use effect_log::{Footprint, Log};
-use effect_pages::effect;
+use effect_log::{Footprint, Log, effect};
 use program_run::History;
-use program_tables::Program;
 use std::alloc::Global;
 
 /// The first address after the heap.

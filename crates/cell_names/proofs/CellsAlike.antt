@@ -5,14 +5,14 @@ use Rattle.std.specs.Prelude.{pos, ◌+ℤ◌}
 use Rattle.std.specs.Prelude.{min, nat_lt, nat_le}
 use Rattle.std.proofs.lemmas.Bool.Decides.{nat_tests}
 use Rattle.std.proofs.lemmas.Nat.{div-add-mod', div-mul-add, mod-mul-add}
-use Rattle.program_tables.specs.declared.program.Routine.{Routine}
-use Rattle.program_tables.specs.declared.rows.Row.{Row}
-use Rattle.program_tables.specs.declared.rows.Row.TheVariants as rows
-use Rattle.program_tables.specs.declared.rows.NameRow.TheVariants as names
-use Rattle.program_tables.specs.declared.rows.Mode.TheVariants as modes
-use Rattle.program_tables.specs.declared.rows.TypeRow.{TypeRow}
-use Rattle.program_tables.specs.declared.rows.TypeRow.TheVariants as kinds
-use Rattle.program_tables.specs.ProgramRows.{ProgramRows, row_at, size_of, type_at}
+use Rattle.core_program.specs.declared.program.Routine.{Routine}
+use Rattle.core_program.specs.declared.rows.Row.{Row}
+use Rattle.core_program.specs.declared.rows.Row.TheVariants as rows
+use Rattle.core_program.specs.declared.rows.NameRow.TheVariants as names
+use Rattle.core_program.specs.declared.rows.Mode.TheVariants as modes
+use Rattle.core_program.specs.declared.rows.TypeRow.{TypeRow}
+use Rattle.core_program.specs.declared.rows.TypeRow.TheVariants as kinds
+use Rattle.core_program.specs.ProgramRows.{ProgramRows, row_at, size_of, type_at}
 use Rattle.cell_names.specs.declared.places.PlacedPart.{PlacedPart}
 use Rattle.cell_names.specs.declared.names.Held.TheVariants as held
 use Rattle.cell_names.specs.declared.names.Spot.{Spot}

@@ -5,7 +5,7 @@ use Rattle.std.specs.List.{starts_with}
 use Rattle.std.proofs.lemmas.List.{append_cancel_right, take_all, drop_all, take-append-drop}
 use Rattle.std.proofs.lemmas.Bool.Decides.{nat_tests}
 use Rattle.std.proofs.lemmas.Slice.Eq.{bytes_eq-Decides}
-use Rattle.program_tables.specs.ProgramRows.{ProgramRows, name_of, text_at}
+use Rattle.core_program.specs.ProgramRows.{ProgramRows, name_of, text_at}
 use Rattle.cell_names.specs.declared.names.Origin.TheVariants as origins
 use Rattle.cell_names.specs.Names.{origin_text, whose_text}
 use Rattle.cell_names.specs.NamedBy.{after_part, block_text, call_text, is_all, is_over, then_part}

@@ -6,7 +6,7 @@ use Rattle.std.proofs.lemmas.List.{get_or_append_left}
 use Rattle.std.proofs.lemmas.Option.{slice_get_past, unwrap_or-slice_get}
 use Rattle.std.proofs.lemmas.Bool.Decides.{nat_tests}
 use Rattle.cell_value.specs.declared.entries.Touch.{Touch}
-use Rattle.program_tables.specs.ProgramRows.{ProgramRows}
+use Rattle.core_program.specs.ProgramRows.{ProgramRows}
 use Rattle.cell_names.specs.declared.places.PlacedPart.{PlacedPart}
 use Rattle.cell_names.specs.Places.{finds}
 use Rattle.cell_names.specs.Layouts.{frame_parts, frame_parts_in}

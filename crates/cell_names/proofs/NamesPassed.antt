@@ -1,7 +1,7 @@
 -- What a name does not lead to, from one cell on.
 use Rattle.std.proofs.Common.{◌≡◌, ℕ, zero, suc, ◌+◌, ◌-◌, ◌<◌, ◌≤◌, ◌==◌, Bool, true, false, ◌||◌, List, Option, Some, None, if◌then◌else◌}
 use Rattle.std.proofs.Common.{codes, refl, sym, ap, ◌∙◌, arith}
-use Rattle.program_tables.specs.ProgramRows.{ProgramRows, text_at}
+use Rattle.core_program.specs.ProgramRows.{ProgramRows, text_at}
 use Rattle.cell_names.specs.declared.names.Spot.{Spot}
 use Rattle.cell_names.specs.declared.names.Step.{Step}
 use Rattle.cell_names.specs.declared.names.Origin.TheVariants as origins

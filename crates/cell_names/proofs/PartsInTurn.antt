@@ -5,7 +5,7 @@ use Rattle.std.specs.Prelude.{filter, filter_map, option_to_list}
 use Rattle.std.specs.List.{cons_option, range_with_len}
 use Rattle.std.proofs.lemmas.List.Elements.{filter-append}
 use Rattle.cell_value.specs.Effects.{last_of}
-use Rattle.program_tables.specs.ProgramRows.{ProgramRows, row_at}
+use Rattle.core_program.specs.ProgramRows.{ProgramRows, row_at}
 use Rattle.cell_names.specs.declared.places.PlacedPart.{PlacedPart}
 use Rattle.cell_names.specs.Places.{finds, is_begun, last_at}
 use Rattle.cell_names.specs.Layouts.{block_start, is_name_of, most_sections, next_name, section_after, own_between, own_in, parts_at, parts_after}

@@ -4,14 +4,14 @@ use Rattle.std.specs.Prelude.{filter_map}
 use Rattle.std.specs.Prelude.{Option, Some, None, option_to_list, if◌then◌else◌}
 use Rattle.std.specs.List.{range_with_len}
 use Rattle.cell_value.specs.Effects.{last_of}
-use Rattle.program_tables.specs.declared.program.Routine.{Routine}
-use Rattle.program_tables.specs.declared.rows.Row.{Row}
-use Rattle.program_tables.specs.declared.rows.Row.TheVariants as row
-use Rattle.program_tables.specs.declared.rows.NameRow.TheVariants as named
-use Rattle.program_tables.specs.declared.rows.PartRow.TheVariants as constituent
-use Rattle.program_tables.specs.declared.rows.ItemRow.TheVariants as item
-use Rattle.program_tables.specs.declared.rows.Mode.TheVariants as mode
-use Rattle.program_tables.specs.ProgramRows.{ProgramRows, row_at, routine_at}
+use Rattle.core_program.specs.declared.program.Routine.{Routine}
+use Rattle.core_program.specs.declared.rows.Row.{Row}
+use Rattle.core_program.specs.declared.rows.Row.TheVariants as row
+use Rattle.core_program.specs.declared.rows.NameRow.TheVariants as named
+use Rattle.core_program.specs.declared.rows.PartRow.TheVariants as constituent
+use Rattle.core_program.specs.declared.rows.ItemRow.TheVariants as item
+use Rattle.core_program.specs.declared.rows.Mode.TheVariants as mode
+use Rattle.core_program.specs.ProgramRows.{ProgramRows, row_at, routine_at}
 use Rattle.cell_names.specs.declared.places.PlacedPart.{PlacedPart}
 
 abbrev pub part : (place number : ℕ) → PlacedPart

@@ -4,7 +4,7 @@ use Rattle.std.specs.Prelude.{ℕ, zero, suc, ◌==◌, nat_eq, Bool, true, fals
 use Rattle.std.specs.Prelude.{length, Option, Some, None, if◌then◌else◌}
 use Rattle.std.specs.List.{starts_with}
 use Rattle.std.specs.Str.{bytes_eq}
-use Rattle.program_tables.specs.ProgramRows.{ProgramRows, name_of}
+use Rattle.core_program.specs.ProgramRows.{ProgramRows, name_of}
 use Rattle.cell_names.specs.declared.names.Spot.{Spot}
 use Rattle.cell_names.specs.declared.names.Step.{Step}
 use Rattle.cell_names.specs.declared.names.Origin.{Origin}

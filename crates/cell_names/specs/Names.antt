@@ -3,15 +3,15 @@ use Rattle.std.specs.Prelude.{◌≡◌, ℕ, zero, suc, ◌-◌, ◌/◌, ◌%�
 use Rattle.std.specs.Prelude.{◌+ℤ◌}
 use Rattle.std.specs.Prelude.{List, [], ◌++◌, codes, decimal, Option, Some, None, slice_get, if◌then◌else◌}
 use Rattle.cell_value.specs.Effects.{heap_start}
-use Rattle.program_tables.specs.declared.program.Routine.{Routine}
-use Rattle.program_tables.specs.declared.rows.Row.{Row}
-use Rattle.program_tables.specs.declared.rows.Row.TheVariants as row
-use Rattle.program_tables.specs.declared.rows.NameRow.TheVariants as named
-use Rattle.program_tables.specs.declared.rows.PartRow.TheVariants as constituent
-use Rattle.program_tables.specs.declared.rows.TypeRow.{TypeRow}
-use Rattle.program_tables.specs.declared.rows.TypeRow.TheVariants as kind
-use Rattle.program_tables.specs.declared.rows.Mode.TheVariants as mode
-use Rattle.program_tables.specs.ProgramRows.{ProgramRows, name_of, routine_at, row_at, size_of, text_at, type_at}
+use Rattle.core_program.specs.declared.program.Routine.{Routine}
+use Rattle.core_program.specs.declared.rows.Row.{Row}
+use Rattle.core_program.specs.declared.rows.Row.TheVariants as row
+use Rattle.core_program.specs.declared.rows.NameRow.TheVariants as named
+use Rattle.core_program.specs.declared.rows.PartRow.TheVariants as constituent
+use Rattle.core_program.specs.declared.rows.TypeRow.{TypeRow}
+use Rattle.core_program.specs.declared.rows.TypeRow.TheVariants as kind
+use Rattle.core_program.specs.declared.rows.Mode.TheVariants as mode
+use Rattle.core_program.specs.ProgramRows.{ProgramRows, name_of, routine_at, row_at, size_of, text_at, type_at}
 use Rattle.cell_names.specs.declared.places.PlacedPart.{PlacedPart}
 use Rattle.cell_names.specs.declared.values.Bounds.{Bounds}
 use Rattle.cell_names.specs.declared.names.Held.{Held}

@@ -8,10 +8,10 @@ use Rattle.cell_value.specs.declared.values.Value.{Value}
 use Rattle.cell_value.specs.declared.values.Value.TheVariants as value
 use Rattle.cell_value.specs.declared.values.SetBits.{SetBits}
 use Rattle.cell_value.specs.Sets.{has}
-use Rattle.program_tables.specs.declared.rows.TypeRow.{TypeRow}
-use Rattle.program_tables.specs.declared.rows.TypeRow.TheVariants as kind
-use Rattle.program_tables.specs.declared.rows.TheConstants.{INTEGER, BOOLEAN, CHAR}
-use Rattle.program_tables.specs.ProgramRows.{ProgramRows, type_at, text_at}
+use Rattle.core_program.specs.declared.rows.TypeRow.{TypeRow}
+use Rattle.core_program.specs.declared.rows.TypeRow.TheVariants as kind
+use Rattle.core_program.specs.declared.rows.TheConstants.{INTEGER, BOOLEAN, CHAR}
+use Rattle.core_program.specs.ProgramRows.{ProgramRows, type_at, text_at}
 use Rattle.cell_names.specs.declared.values.Bounds.{Bounds}
 use Rattle.cell_names.specs.Pieces.{shown_char}
 

@@ -1,7 +1,7 @@
 -- A walk over the addresses of a run in search of the cells that a name names: what it may pass over at once.
 use Rattle.std.specs.Prelude.{◌≡◌, ℕ, zero, suc, ◌+◌, ◌-◌, ◌%◌, ◌≤◌, nat_lt, min, ◌==◌, ◌||◌, Bool, true, false}
 use Rattle.std.specs.Prelude.{List, Option, Some, None, is_some, if◌then◌else◌}
-use Rattle.program_tables.specs.ProgramRows.{ProgramRows}
+use Rattle.core_program.specs.ProgramRows.{ProgramRows}
 use Rattle.cell_names.specs.declared.names.Spot.{Spot}
 use Rattle.cell_names.specs.declared.names.Step.{Step}
 use Rattle.cell_names.specs.declared.names.Local.{Local}

@@ -9,8 +9,8 @@ use crate::layouts::frame_places;
 use crate::places::{Found, PlacedPart, PlacedParts};
 use crate::records::record_places;
 use cell_value::Touch;
+use core_program::Program;
 use effect_log::Log;
-use program_tables::Program;
 use std::alloc::{AllocError, Global};
 use std::marker::Model;
 

@@ -1,7 +1,7 @@
 //! What frames are made of, from the tables of a program.
 
 ghost use Rattle.std.specs.Prelude.{◌≡◌, ◌++◌, OnOk, IfOk, option_to_list};
-ghost use Rattle.program_tables.specs.ProgramRows.{row_at};
+ghost use Rattle.core_program.specs.ProgramRows.{row_at};
 ghost use Rattle.cell_names.specs.Places.{finds};
 ghost use Rattle.cell_names.specs.Layouts.{block_start, frame_parts, heading_part, is_name_of, most_sections};
 ghost use Rattle.cell_names.specs.Layouts.{next_name, section_after, own_between, own_in, parameters_in, parameters_of};
@@ -9,8 +9,8 @@ ghost use Rattle.cell_names.specs.Layouts.{named_part, parts_at, section_of, sec
 ghost use Rattle.cell_names.specs.Layouts.{variables_of};
 
 use crate::places::{PlacedPart, PlacedParts};
-use program_tables::rows::{ItemRow, Mode, NameRow, PartRow, Row};
-use program_tables::{Program, Routine};
+use core_program::rows::{ItemRow, Mode, NameRow, PartRow, Row};
+use core_program::{Program, Routine};
 use std::alloc::{AllocError, Global};
 
 /// What the name at a token is in its frame, by its row.

@@ -10,9 +10,9 @@ ghost use Rattle.cell_names.specs.NamedBy.{after_part, block_text, call_text, is
 use crate::names::{Origin, Selector};
 use crate::pieces::is_plain;
 use crate::values::{bounds_of, constant_token, has_ordinal};
+use core_program::Program;
+use core_program::rows::{BOOLEAN, CHAR, INTEGER};
 use itoa::Buffer;
-use program_tables::Program;
-use program_tables::rows::{BOOLEAN, CHAR, INTEGER};
 
 /// What is left of a name after its first part, if it begins so.
 #[inline]

@@ -8,7 +8,7 @@ ghost use Rattle.cell_names.specs.NamedBy.{is_of_all, leads_by};
 
 use crate::name_parts::{is_all, then_block, then_call, then_selector};
 use crate::names::{Origin, Scene, Spot, step_down};
-use program_tables::Program;
+use core_program::Program;
 
 /// Whether a name is that of all cells of a frame, or of a variable of the heap before its last `^`.
 #[tactic(auto, using(crate::proofs::NameParts::all_in_parts))]

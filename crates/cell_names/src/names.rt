@@ -1,7 +1,7 @@
 //! Names of cells: the variable, whose it is, and the selectors on the way down to the cell.
 
 ghost use Rattle.std.specs.Prelude.{◌≡◌, ◌++◌, IfOk, OnOk, Some, slice_get};
-ghost use Rattle.program_tables.specs.ProgramRows.{type_at};
+ghost use Rattle.core_program.specs.ProgramRows.{type_at};
 ghost use Rattle.cell_names.specs.Names.{WentDown, cell_held, cell_text, component_step, field_step, heap_root};
 ghost use Rattle.cell_names.specs.Names.{is_of_type, is_result, is_wanted, least_in, local_at, local_in, local_root};
 ghost use Rattle.cell_names.specs.Names.{named_local, next_step, origin_text, part_local, record_step, result_local};
@@ -12,9 +12,9 @@ use crate::finding::NameFinder;
 use crate::pieces::write_number;
 use crate::places::{PlacedPart, PlacedParts};
 use crate::values::{Bounds, bounds_of, write_ordinal};
+use core_program::rows::{Mode, NameRow, PartRow, Row, TypeRow};
+use core_program::{Program, Routine};
 use edge_ports::Bytes;
-use program_tables::rows::{Mode, NameRow, PartRow, Row, TypeRow};
-use program_tables::{Program, Routine};
 use std::alloc::AllocError;
 use std::marker::Model;
 

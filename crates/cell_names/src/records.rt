@@ -8,8 +8,8 @@ ghost use Rattle.cell_names.specs.Records.{placed_at};
 ghost use Rattle.cell_names.specs.Records.{holding_record, record_parts, within};
 
 use crate::places::{PlacedPart, PlacedParts};
-use program_tables::Program;
-use program_tables::rows::{NameRow, PartRow, Row, TypeRow};
+use core_program::Program;
+use core_program::rows::{NameRow, PartRow, Row, TypeRow};
 use std::alloc::{AllocError, Global};
 
 /// A field, a tag field or a hidden tag: the place where it begins in its record, and the number of the record or the

@@ -8,9 +8,9 @@ ghost use Rattle.cell_names.specs.Values.{set_text, set_value_text, typed_text};
 
 use crate::pieces::{write_char, write_integer, write_number};
 use cell_value::{SetBits, Value, holds};
+use core_program::Program;
+use core_program::rows::{BOOLEAN, CHAR, INTEGER, TypeRow};
 use edge_ports::Bytes;
-use program_tables::Program;
-use program_tables::rows::{BOOLEAN, CHAR, INTEGER, TypeRow};
 use std::alloc::AllocError;
 
 /// The values of an ordinal type: those of its host type from one ordinal to another.

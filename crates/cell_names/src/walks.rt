@@ -16,8 +16,8 @@ use crate::name_parts::{then_call, then_origin};
 use crate::named_by::{is_of_all, step_named};
 use crate::names::{Held, Origin, Root, Scene, Spot, heap_root, is_result, local_at};
 use crate::places::PlacedPart;
-use program_tables::rows::TypeRow;
-use program_tables::{Program, Routine};
+use core_program::rows::TypeRow;
+use core_program::{Program, Routine};
 
 /// What a walk comes to at an address.
 #[derive(Clone, Copy)]

@@ -1,9 +1,9 @@
 -- Lists of items, each of which names the next one.
 use Rattle.std.specs.Prelude.{ℕ}
-use Rattle.program_tables.specs.declared.rows.ItemRow.{ItemRow}
-use Rattle.program_tables.specs.declared.rows.ItemRow.TheVariants as item
-use Rattle.program_tables.specs.declared.rows.Row.{Row}
-use Rattle.program_tables.specs.declared.rows.Row.TheVariants as row
+use Rattle.core_program.specs.declared.rows.ItemRow.{ItemRow}
+use Rattle.core_program.specs.declared.rows.ItemRow.TheVariants as item
+use Rattle.core_program.specs.declared.rows.Row.{Row}
+use Rattle.core_program.specs.declared.rows.Row.TheVariants as row
 use Rattle.check_steps.specs.Known.{row_at}
 use Rattle.check_steps.specs.Steps.{Step, give, ◌>>=◌, look, put}
 

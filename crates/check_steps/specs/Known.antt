@@ -6,11 +6,11 @@ use Rattle.std.specs.List.{list_any}
 use Rattle.std.specs.Ordering.{int_eq}
 use Rattle.std.specs.Prelude.{ℤ, ◌&&◌}
 use Rattle.indexmap.specs.IndexSet.{insert_key}
-use Rattle.program_tables.specs.declared.rows.Row.{Row}
-use Rattle.program_tables.specs.declared.rows.TypeRow.{TypeRow}
-use Rattle.program_tables.specs.declared.program.Routine.{Routine}
-use Rattle.program_tables.specs.ProgramRows.{ProgramRows}
-use Rattle.program_tables.specs.ProgramRows as program
+use Rattle.core_program.specs.declared.rows.Row.{Row}
+use Rattle.core_program.specs.declared.rows.TypeRow.{TypeRow}
+use Rattle.core_program.specs.declared.program.Routine.{Routine}
+use Rattle.core_program.specs.ProgramRows.{ProgramRows}
+use Rattle.core_program.specs.ProgramRows as program
 use Rattle.check_steps.specs.declared.words.Spelled.{Spelled}
 use Rattle.check_steps.specs.declared.words.Spelled.TheVariants as spelled
 use Rattle.check_steps.specs.declared.words.SpelledToken.{SpelledToken}

@@ -1,11 +1,11 @@
 -- The required names, defined in the outermost region.
 use Rattle.std.specs.Prelude.{ℕ, ◌+◌, None, pos, negsuc, length, is_none}
-use Rattle.program_tables.specs.declared.rows.Row.TheVariants as row
-use Rattle.program_tables.specs.declared.rows.TypeRow.TheVariants.{Ordinal}
-use Rattle.program_tables.specs.declared.rows.NameRow.{NameRow}
-use Rattle.program_tables.specs.declared.rows.NameRow.TheVariants as named
-use Rattle.program_tables.specs.declared.rows.Required.TheVariants as routine
-use Rattle.program_tables.specs.declared.rows.TextFile.TheVariants.{Input, Output}
+use Rattle.core_program.specs.declared.rows.Row.TheVariants as row
+use Rattle.core_program.specs.declared.rows.TypeRow.TheVariants.{Ordinal}
+use Rattle.core_program.specs.declared.rows.NameRow.{NameRow}
+use Rattle.core_program.specs.declared.rows.NameRow.TheVariants as named
+use Rattle.core_program.specs.declared.rows.Required.TheVariants as routine
+use Rattle.core_program.specs.declared.rows.TextFile.TheVariants.{Input, Output}
 use Rattle.check_steps.specs.declared.regions.Def.{Def}
 use Rattle.check_steps.specs.declared.regions.Def.TheVariants as def
 use Rattle.check_steps.specs.Regions.{defined_in}

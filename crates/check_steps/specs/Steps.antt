@@ -1,7 +1,7 @@
 -- Steps of a check: what a part of a tree does to the tables, and the rules that it breaks.
 use Rattle.std.specs.Prelude.{◌≡◌, ℕ, ℤ, Bool, List, [], ◌∷◌, ◌++◌, Option, length, if◌then◌else◌}
-use Rattle.program_tables.specs.declared.rows.Row.{Row}
-use Rattle.program_tables.specs.declared.program.Routine.{Routine}
+use Rattle.core_program.specs.declared.rows.Row.{Row}
+use Rattle.core_program.specs.declared.program.Routine.{Routine}
 use Rattle.check_steps.specs.declared.breaks.Broken.{Broken}
 use Rattle.check_steps.specs.declared.breaks.Broken.TheVariants.{Early, Late, TooBig}
 use Rattle.check_steps.specs.declared.breaks.Break.{Break}

@@ -8,7 +8,7 @@ use Rattle.pas_lexer.specs.declared.kinds.TokenKind.{TokenKind}
 use Rattle.pas_lexer.specs.declared.kinds.TokenKind.TheVariants as kind
 use Rattle.pas_lexer.specs.declared.kinds.Token.{Token}
 use Rattle.pas_lexer.specs.Lexed.{Lexed, spelling_of, text_of}
-use Rattle.program_tables.specs.ProgramRows.{blank_tables}
+use Rattle.core_program.specs.ProgramRows.{blank_tables}
 use Rattle.check_steps.specs.declared.words.Spelled.{Spelled}
 use Rattle.check_steps.specs.declared.words.Spelled.TheVariants as spelled
 use Rattle.check_steps.specs.declared.words.SpelledToken.{SpelledToken}

@@ -5,7 +5,7 @@ ghost use Rattle.check_steps.specs.Items.{actual_on, add_item, going_on, link, r
 ghost use Rattle.check_steps.specs.Steps.{Does};
 
 use crate::work::Work;
-use program_tables::rows::{ItemRow, Row};
+use core_program::rows::{ItemRow, Row};
 
 fn actual_on(item: ItemRow, next: u32) -> ItemRow
     ensures { result ≡ actual_on item next }

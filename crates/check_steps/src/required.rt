@@ -1,7 +1,7 @@
 //! The required names, defined in the outermost region.
 
 ghost use Rattle.std.specs.Prelude.{◌≡◌, ◌<◌, IfOk};
-ghost use Rattle.program_tables.specs.declared.rows.NameRow.TheVariants.{Required as Routine};
+ghost use Rattle.core_program.specs.declared.rows.NameRow.TheVariants.{Required as Routine};
 ghost use Rattle.check_steps.specs.Required.{all_names, arithmetic_names, constant_names, file_names, moving_names};
 ghost use Rattle.check_steps.specs.Required.{ordinal_names, ordinal_types};
 ghost use Rattle.check_steps.specs.Required.{open_outermost, reading_names, require, required_def, routine_names};
@@ -11,7 +11,7 @@ ghost use Rattle.check_steps.specs.Steps.{Does};
 
 use crate::regions::{Def, Definition};
 use crate::work::Work;
-use program_tables::rows::{BOOLEAN, CHAR, INTEGER, NameRow, Required, Row, TextFile, TypeRow};
+use core_program::rows::{BOOLEAN, CHAR, INTEGER, NameRow, Required, Row, TextFile, TypeRow};
 use std::alloc::{AllocError, Global};
 
 fn required_def(row: NameRow, number: u32) -> Def

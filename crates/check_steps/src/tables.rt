@@ -15,10 +15,10 @@ use crate::frames::{Beyond, Frames};
 use crate::regions::{Definition, Found, Frame, Region, Span};
 use crate::threats::Threats;
 use crate::words::{REQUIRED_NAMES, Spelled, SpelledToken, names, texts, words};
+use core_program::rows::{Row, TypeRow};
+use core_program::{Program, Routine};
 use indexmap::{IndexMap, IndexSet};
 use pas_lexer::Tokens;
-use program_tables::rows::{Row, TypeRow};
-use program_tables::{Program, Routine};
 use std::alloc::{AllocError, Global};
 use std::marker::Model;
 

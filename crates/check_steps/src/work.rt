@@ -12,9 +12,9 @@ ghost use Rattle.check_steps.specs.Words.{known_at_start};
 use crate::breaks::{Break, Broken};
 use crate::regions::{Definition, Found, Frame, Span};
 use crate::tables::Tables;
+use core_program::Routine;
+use core_program::rows::Row;
 use pas_lexer::Tokens;
-use program_tables::Routine;
-use program_tables::rows::Row;
 use std::alloc::{AllocError, Global};
 
 /// The tables, and the first of the broken rules.

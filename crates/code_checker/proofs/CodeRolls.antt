@@ -6,11 +6,11 @@ use Rattle.pas_tree.specs.declared.blocks.RoutineBody.TheBlock.{hidden-the_row-R
 use Rattle.pas_tree.specs.declared.blocks.Routine.{Routine}
 use Rattle.pas_tree.specs.declared.statements.Compound.{out-Compound}
 use Rattle.check_steps.specs.Steps.{Step, ◌>>=◌, each}
-use Rattle.pas_places.specs.Headings.{heading_name}
-use Rattle.heading_checker.specs.Formals.{is_function}
-use Rattle.statement_rules.specs.Labels.{reach_all}
+use Rattle.pas_tree.specs.HeadingPlaces.{heading_name}
+use Rattle.denoter_checker.specs.Formals.{is_function}
+use Rattle.statement_checker.specs.Labels.{reach_all}
 use Rattle.code_checker.specs.Blocks.{code_block, code_body, code_routine, code_routines, statement_part}
-use Rattle.code_checker.specs.Places.{span_of}
+use Rattle.code_checker.specs.CodePlaces.{span_of}
 
 routines_each : (n : _) (r : Row_of-Routine n) (u : Unit {0}) → code_routines r ≡ each code_routine u (items-the_row-Routine n r)
 unfolding code_routine

@@ -8,7 +8,7 @@ use Rattle.check_steps.specs.Steps.{◌>>=◌}
 use Rattle.check_steps.specs.Words.{known_at_start}
 use Rattle.decl_checker.specs.Programs as declarations
 use Rattle.code_checker.specs.Blocks.{code_block}
-use Rattle.code_checker.specs.Programs.{broken, check_step}
+use Rattle.code_checker.specs.CheckedPrograms.{broken, check_step}
 
 among : (xs ys : List Break) (b : Break) → Contains xs b → Contains (xs ++ ys) b
 among [] ys b c = absurd (omega (arith, c.1))

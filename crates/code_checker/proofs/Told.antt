@@ -2,7 +2,7 @@
 use Rattle.std.proofs.Common.{◌≡◌, ℕ, List, [], Option, Some, None, Result, Ok, Err, IfOk, IfErr, sym, subst, ap, ◌∙◌}
 use Rattle.pas_lexer.specs.Lexed.{Lexed}
 use Rattle.pas_tree.specs.declared.blocks.Tree.{Tree}
-use Rattle.program_tables.specs.ProgramRows.{ProgramRows}
+use Rattle.core_program.specs.ProgramRows.{ProgramRows}
 use Rattle.check_steps.specs.declared.breaks.Broken.{Broken}
 use Rattle.check_steps.specs.declared.breaks.Broken.TheVariants.{Early, Late, TooBig}
 use Rattle.check_steps.specs.declared.breaks.Break.{Break}
@@ -12,7 +12,7 @@ use Rattle.check_steps.specs.Breaks.{FaultIs, IsOfFirst, fault_at, fault_of, fir
 use Rattle.check_steps.specs.Steps.{run_step}
 use Rattle.check_steps.specs.Words.{known_at_start}
 use Rattle.check_steps.proofs.First.{fault-first, first_of-none}
-use Rattle.code_checker.specs.Programs.{broken, check_step, program_of}
+use Rattle.code_checker.specs.CheckedPrograms.{broken, check_step, program_of}
 
 -- the first of what the tree breaks, and its program
 pub record Leaves (l : Lexed) (t : Tree) (v : Work) : Type 0 where

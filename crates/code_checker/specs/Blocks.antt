@@ -7,12 +7,12 @@ use Rattle.pas_tree.specs.declared.blocks.RoutineBody.{RoutineBody, Directive, B
 use Rattle.pas_tree.specs.declared.statements.Compound.{Compound, out-Compound}
 use Rattle.check_steps.specs.declared.regions.Span.{Span}
 use Rattle.check_steps.specs.Steps.{Step, give, ◌>>=◌, look, enter_block}
-use Rattle.pas_places.specs.Headings.{heading_name}
-use Rattle.heading_checker.specs.Formals.{is_function}
-use Rattle.statement_rules.specs.Labels.{reach_all}
+use Rattle.pas_tree.specs.HeadingPlaces.{heading_name}
+use Rattle.denoter_checker.specs.Formals.{is_function}
+use Rattle.statement_checker.specs.Labels.{reach_all}
 use Rattle.statement_checker.specs.Statements.{compound}
 use Rattle.decl_checker.specs.Routines.{own_frame}
-use Rattle.code_checker.specs.Places.{span_of}
+use Rattle.code_checker.specs.CodePlaces.{span_of}
 use Rattle.code_checker.specs.Results.{function_result, name_in_first}
 
 -- the statement part of a block, seen from the block's frame

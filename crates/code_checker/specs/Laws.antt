@@ -7,7 +7,7 @@ use Rattle.check_steps.specs.declared.breaks.Break.{Break}
 use Rattle.check_steps.specs.declared.breaks.CheckFault.TheVariants as fault
 use Rattle.check_steps.specs.Breaks.{FaultIs}
 use Rattle.decl_checker.specs.Programs as declarations
-use Rattle.code_checker.specs.Programs.{broken}
+use Rattle.code_checker.specs.CheckedPrograms.{broken}
 
 -- no rule is broken, and this is the first token at which something is too big
 pub record IsTooBigAlone (bs : List Break) (token : ℕ) : Type 0 where

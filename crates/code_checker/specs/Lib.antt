@@ -1,5 +1,8 @@
-pub mod Places
-pub mod Results
 pub mod Blocks
-pub mod Programs
+pub mod CheckedPrograms
+pub mod CodePlaces
+pub mod Declarations
 pub mod Laws
+pub mod Places
+pub mod Programs
+pub mod Results

@@ -1,23 +1,22 @@
--- Where blocks begin (6.2.1).
-use Rattle.std.specs.Prelude.{ℕ, Option, Some, None}
-use Rattle.pas_tree.specs.declared.blocks.Block.{Block, out-Block}
-use Rattle.pas_tree.specs.declared.blocks.LabelPart.{LabelPart}
-use Rattle.pas_tree.specs.declared.blocks.ConstantPart.{ConstantPart}
-use Rattle.pas_tree.specs.declared.blocks.TypePart.{TypePart}
-use Rattle.pas_tree.specs.declared.statements.Compound.{out-Compound}
-use Rattle.check_steps.specs.declared.regions.Span.{Span}
-use Rattle.decl_checker.specs.Blocks.{after_types}
+-- Where tokens stand in a source.
+use Rattle.std.specs.Prelude.{◌≡◌, ℕ, ◌-◌, min, List, Option, Some, length, slice_get}
+use Rattle.pas_lexer.specs.declared.kinds.Token.{Token}
+use Rattle.pas_lexer.specs.Lexed.{Lexed}
 
-abbrev pub first_of_parts : Option LabelPart → Option ConstantPart → Option TypePart → ℕ → ℕ
-first_of_parts (Some p) constants types after = p.word
-first_of_parts None (Some p) types after = p.word
-first_of_parts None None (Some p) after = p.word
-first_of_parts None None None after = after
+-- the token of this number begins at this byte, on this line
+pub record TokenBegins (t : Lexed) (number line byte : ℕ) : Type 0 where
+  pub token : Token
+  pub there : slice_get t.tokens number ≡ Some token
+  pub line_is : line ≡ token.line
+  pub byte_is : byte ≡ token.start
 
--- the first token of a block: that of the first of its parts
-abbrev pub first_of_block : Block → ℕ
-first_of_block b =
-    first_of_parts (out-Block b).labels (out-Block b).constants (out-Block b).types (after_types b)
+-- the token of this number, and the last one where there is none
+abbrev pub token_or_last : List Token → ℕ → Option Token
+token_or_last tokens number = slice_get tokens (min number (length tokens - 1))
 
-abbrev pub span_of : Block → Span
-span_of b = record { first = first_of_block b; statements = (out-Compound (out-Block b).body).begin }
+-- that token begins at this byte, on this line
+pub record TokenOrLastBegins (t : Lexed) (number line byte : ℕ) : Type 0 where
+  pub token : Token
+  pub there : token_or_last t.tokens number ≡ Some token
+  pub line_is : line ≡ token.line
+  pub byte_is : byte ≡ token.start

@@ -1,24 +1,59 @@
--- The whole check of a program, and what it comes to.
-use Rattle.std.specs.Prelude.{List}
+-- What the tokens of a source come to as a program.
+use Rattle.std.specs.Prelude.{◌≡◌, ℕ, [], Err}
 use Rattle.pas_lexer.specs.Lexed.{Lexed}
 use Rattle.pas_tree.specs.declared.blocks.Tree.{Tree}
-use Rattle.program_tables.specs.ProgramRows.{ProgramRows}
-use Rattle.check_steps.specs.declared.breaks.Break.{Break}
-use Rattle.check_steps.specs.Steps.{Step, ◌>>=◌}
-use Rattle.check_steps.specs.Words.{known_at_start}
-use Rattle.decl_checker.specs.Programs.{program_step}
-use Rattle.code_checker.specs.Blocks.{code_block}
+use Rattle.pas_phrases.specs.declared.fault.ParseFault.{ParseFault}
+use Rattle.pas_phrases.specs.declared.fault.ParseFault.TheVariants as parser
+use Rattle.pas_parser.specs.Exact.{IsExact}
+use Rattle.pas_parser.specs.Formed.{IsText}
+use Rattle.core_program.specs.ProgramRows.{ProgramRows}
+use Rattle.check_steps.specs.declared.breaks.CheckFault.{CheckFault}
+use Rattle.check_steps.specs.declared.breaks.CheckFault.TheVariants as fault
+use Rattle.check_steps.specs.Breaks.{FaultIs}
+use Rattle.code_checker.specs.CheckedPrograms.{broken, program_of}
+use Rattle.code_checker.specs.declared.programs.ProgramFault.{ProgramFault}
+use Rattle.code_checker.specs.declared.programs.ProgramFault.TheVariants as refused
+use Rattle.code_checker.specs.Declarations.{IsTextOf}
+use Rattle.code_checker.specs.Places.{TokenBegins, TokenOrLastBegins}
 
--- the declarations of a program, and then the statements of its blocks
-unfoldable pub check_step : Tree → Step (Unit {0})
-check_step t = do
-  frame ← program_step t
-  code_block frame t.block
+-- ---- programs
 
--- all rules that a tree breaks, and all that is too big in it
-abbrev pub broken : Lexed → Tree → List Break
-broken l t = (check_step t (known_at_start l)).broken
+-- No rule is broken and nothing is too big in the tree, and this is the program that it denotes.
+abbrev pub IsDenotedBy : Lexed → Tree → ProgramRows → Type 0
+IsDenotedBy t x p = (broken t x ≡ []) × (p ≡ program_of t x)
 
--- the program that a tree denotes
-abbrev pub program_of : Lexed → Tree → ProgramRows
-program_of l t = (check_step t (known_at_start l)).known.program
+-- the tokens are the text of this program
+abbrev pub IsChecked : Lexed → ProgramRows → Type 0
+IsChecked t p = (x : Tree) × IsTextOf t x × IsDenotedBy t x p
+
+-- ---- refusals
+
+-- No formed tree spells the tokens. They are refused for this: a token is the first that is too deep, or else the first
+-- with which no shaped tree goes on.
+abbrev pub HasNoTree : Lexed → ParseFault → Type 0
+HasNoTree t f = (IsText t.tokens → ⊥) × IsExact t.tokens (Err f)
+
+-- the first of what is broken in the tree is at a token that stands there
+abbrev pub IsBrokenAt : Lexed → Tree → (ℕ → CheckFault) → (line byte : ℕ) → Type 0
+IsBrokenAt t x what line byte = (token : ℕ) × FaultIs (broken t x) (what token) × TokenOrLastBegins t token line byte
+
+-- why a tree denotes no program
+abbrev pub IsNotDenotedBy : Lexed → Tree → ProgramFault → Type 0
+IsNotDenotedBy t x (refused.NotProgram line byte) = ⊥
+IsNotDenotedBy t x (refused.TooDeep line byte) = ⊥
+IsNotDenotedBy t x (refused.Rule rule line byte) = IsBrokenAt t x (fault.Rule rule) line byte
+IsNotDenotedBy t x (refused.TooBig line byte) = IsBrokenAt t x fault.TooBig line byte
+IsNotDenotedBy t x refused.Memory = Unit {0}
+
+-- Why and where tokens are no program: no tree of the grammar spells them; or one does, and a rule is broken; or none
+-- is, and something is too big.
+abbrev pub IsUnchecked : Lexed → ProgramFault → Type 0
+IsUnchecked t (refused.NotProgram line byte) =
+    (number : ℕ) × HasNoTree t (parser.NotProgram number) × TokenBegins t number line byte
+IsUnchecked t (refused.TooDeep line byte) =
+    (number : ℕ) × HasNoTree t (parser.TooDeep number) × TokenBegins t number line byte
+IsUnchecked t (refused.Rule rule line byte) =
+    (x : Tree) × IsTextOf t x × IsBrokenAt t x (fault.Rule rule) line byte
+IsUnchecked t (refused.TooBig line byte) =
+    (x : Tree) × IsTextOf t x × IsBrokenAt t x fault.TooBig line byte
+IsUnchecked t refused.Memory = Unit {0}

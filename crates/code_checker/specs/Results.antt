@@ -2,7 +2,7 @@
 use Rattle.std.specs.Prelude.{ℕ, Bool, not, ◌||◌, unwrap_or}
 use Rattle.check_steps.specs.Known.{Known, row_at}
 use Rattle.check_steps.specs.Steps.{Step, ◌>>=◌, look, late}
-use Rattle.statement_rules.specs.Assignments.{is_assigned}
+use Rattle.statement_checker.specs.Assignments.{is_assigned}
 use Rattle.decl_checker.specs.Routines.{first_name}
 
 -- the name in the first heading of a routine, by the name in this one

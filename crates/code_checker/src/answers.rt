@@ -5,7 +5,7 @@ ghost use Rattle.check_steps.specs.declared.breaks.Break.{Break};
 ghost use Rattle.check_steps.specs.Breaks.{fault_of};
 
 use check_steps::{CheckFault, Work};
-use program_tables::Program;
+use core_program::Program;
 
 /// The program that a check has left, or what is to be told of the first of the broken rules.
 pub(crate) fn answer(work: Work) -> Result<Program, CheckFault>

@@ -4,16 +4,16 @@ ghost use Rattle.std.specs.Prelude.{◌≡◌, IfOk};
 ghost use Rattle.check_steps.specs.Steps.{Does, each};
 ghost use Rattle.code_checker.specs.Blocks.{code_block, code_body, code_routine, statement_part};
 
-use crate::places::span_of;
+use crate::code_places::span_of;
 use crate::results::{check_result, name_in_first};
 use check_steps::{Span, Work};
 use decl_checker::routines::own_frame;
-use heading_checker::is_function;
-use pas_places::heading_name;
+use denoter_checker::is_function;
 use pas_tree::blocks::{Block, Routine, RoutineBody};
+use pas_tree::heading_name;
 use pas_tree::statements::Compound;
+use statement_checker::labels::reach_all;
 use statement_checker::statements::check_compound;
-use statement_rules::labels::reach_all;
 use std::alloc::AllocError;
 
 /// The statement part of a block, seen from its frame.

@@ -1,13 +1,19 @@
-//! The check of a whole program: after its declarations the statements of its blocks. What is given is the program that
-//! its tree denotes, or the first of the broken rules, or the first token at which something is too big.
+//! The check of a whole program, from the bytes of its source: the lexer, the parser, the check of declarations, and
+//! after it that of the statements of its blocks. What is given is the program that its tree denotes, or the first of
+//! the broken rules, or the first token at which something is too big.
 #![tactic(auto)]
 
 mod answers;
 pub mod blocks;
+pub mod checked_programs;
+pub mod code_places;
+mod declarations;
 mod laws;
-pub mod places;
-pub mod programs;
+mod places;
+mod programs;
 pub mod results;
 
+pub use checked_programs::check;
+pub use declarations::declare_source;
 pub use laws::{declarations_count, too_big_comes_last};
-pub use programs::check;
+pub use programs::{ProgramFault, check_tokens};

@@ -5,8 +5,8 @@ ghost use Rattle.check_steps.specs.Steps.{Does};
 ghost use Rattle.code_checker.specs.Results.{function_result, has_result, name_in_first};
 
 use check_steps::{Tables, Work};
-use program_tables::rows::{PartRow, Row};
-use statement_rules::assignments::is_assigned;
+use core_program::rows::{PartRow, Row};
+use statement_checker::assignments::is_assigned;
 
 /// The name in the first heading of a routine, by the name in one of its headings.
 pub fn name_in_first(tables: &Tables, name: u32) -> u32

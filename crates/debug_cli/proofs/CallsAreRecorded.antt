@@ -5,9 +5,9 @@ use Rattle.std.specs.Option.{option_map}
 use Rattle.std.proofs.lemmas.List.{length-map}
 use Rattle.std.proofs.lemmas.Option.{slice_get-map}
 use Rattle.call_tree.specs.Recording.{lasts_of}
-use Rattle.program_tables.specs.ProgramRows.{ProgramRows}
-use Rattle.program_meaning.specs.Run.{Call, run}
-use Rattle.program_meaning.specs.Numbering.{calls_of}
+use Rattle.core_program.specs.ProgramRows.{ProgramRows}
+use Rattle.core_program.specs.Run.{Call, run}
+use Rattle.core_program.specs.Numbering.{calls_of}
 use Rattle.program_run.specs.Table.{table_of}
 use Rattle.body_replay.specs.Replays.{records_of}
 use Rattle.debuggee.specs.Execution.{Supply, calls_with}

@@ -1,7 +1,7 @@
 -- The calls of a run are numbered as their tree is, and there is a routine for each.
 use Rattle.pas_lexer.specs.Lexed.{Lexed}
-use Rattle.program_tables.specs.ProgramRows.{ProgramRows}
-use Rattle.program_meaning.specs.Laws.{SubtreeIsInterval, LastIsACall}
+use Rattle.core_program.specs.ProgramRows.{ProgramRows}
+use Rattle.core_program.specs.Laws.{SubtreeIsInterval, LastIsACall}
 use Rattle.optimal_query.specs.Laws.{IsCallTree}
 use Rattle.debuggee.specs.Execution.{Supply, execution_of}
 use Rattle.debuggee.specs.Subjects.{subject_of}

@@ -5,8 +5,8 @@ use Rattle.edge_ports.specs.Files.{FileMap}
 use Rattle.edge_ports.specs.declared.ports.FetchFault.{FetchFault}
 use Rattle.edge_ports.specs.declared.ports.FetchFault.TheVariants as fetch
 use Rattle.command_words.specs.Meaning.{Meant, Requested, Source, Made}
-use Rattle.session_book.specs.declared.misfits.Misfit.{Misfit}
-use Rattle.session_book.specs.Fit.{misfit}
+use Rattle.dialog_replies.specs.declared.misfits.Misfit.{Misfit}
+use Rattle.dialog_replies.specs.Fit.{misfit}
 use Rattle.debuggee.specs.Program.{IsProgram, NoProgram}
 use Rattle.ask_session.specs.declared.dialog.Ending.{Ending}
 use Rattle.ask_session.specs.declared.dialog.Ending.TheVariants as ending

@@ -7,9 +7,9 @@ use Rattle.edge_ports.specs.Told.{GaveAll, GavePrefix}
 use Rattle.edge_ports.proofs.PiecesAddUp.{gave_nothing, gave_prefix_before, gave_prefix_whole}
 use Rattle.command_words.specs.Meaning.{Meant, Requested, Source, Made}
 use Rattle.dialog_replies.specs.Subject.{Subject}
-use Rattle.session_book.specs.declared.start.Start.{Start}
-use Rattle.session_book.specs.declared.misfits.Misfit.{Misfit}
-use Rattle.session_book.specs.Fit.{misfit}
+use Rattle.dialog_replies.specs.declared.start.Start.{Start}
+use Rattle.dialog_replies.specs.declared.misfits.Misfit.{Misfit}
+use Rattle.dialog_replies.specs.Fit.{misfit}
 use Rattle.debuggee.specs.Program.{IsProgram}
 use Rattle.ask_session.specs.declared.dialog.Ending.{Ending}
 use Rattle.ask_session.specs.declared.dialog.Ending.TheVariants as ending

@@ -5,9 +5,9 @@ use Rattle.std.specs.List.{slice_get}
 use Rattle.edge_ports.specs.Files.{FileMap}
 use Rattle.edge_ports.specs.Told.{GaveAll}
 use Rattle.pas_lexer.specs.Lexed.{Lexed}
-use Rattle.program_tables.specs.ProgramRows.{ProgramRows}
-use Rattle.program_meaning.specs.Run.{Call, run}
-use Rattle.program_meaning.specs.Replay.{Replayed}
+use Rattle.core_program.specs.ProgramRows.{ProgramRows}
+use Rattle.core_program.specs.Run.{Call, run}
+use Rattle.core_program.specs.Replay.{Replayed}
 use Rattle.command_words.specs.Meaning.{Requested}
 use Rattle.answer_book.specs.declared.entries.Entry.{Entry}
 use Rattle.answer_book.specs.Entries.{standing_answers}

@@ -1,7 +1,7 @@
 -- What holds of each source and of each run.
 use Rattle.std.specs.Prelude.{◌≡◌, ℕ, List}
 use Rattle.pas_lexer.specs.Lexed.{Lexed}
-use Rattle.program_tables.specs.ProgramRows.{ProgramRows}
+use Rattle.core_program.specs.ProgramRows.{ProgramRows}
 use Rattle.debuggee.specs.Program.{IsProgram}
 use Rattle.debuggee.specs.Execution.{Supply, execution_of}
 use Rattle.debuggee.specs.Subjects.{subject_of}

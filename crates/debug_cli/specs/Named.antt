@@ -9,13 +9,13 @@ use Rattle.edge_ports.specs.declared.ports.FetchFault.{FetchFault}
 use Rattle.edge_ports.specs.declared.ports.FetchFault.TheVariants as fetch
 use Rattle.pas_lexer.specs.Lexed.{Lexed}
 use Rattle.pas_lexer.specs.Limits.{source_bytes}
-use Rattle.program_tables.specs.ProgramRows.{ProgramRows}
+use Rattle.core_program.specs.ProgramRows.{ProgramRows}
 use Rattle.command_words.specs.Meaning.{Meant, Requested, Source, Made, meant}
 use Rattle.dialog_replies.specs.Subject.{Subject}
 use Rattle.session_file.specs.declared.session.LoadFault.{LoadFault}
 use Rattle.session_file.specs.declared.session.Session.{Session}
 use Rattle.session_file.specs.Reading.{session_of}
-use Rattle.session_book.specs.declared.start.Start.{Start}
+use Rattle.dialog_replies.specs.declared.start.Start.{Start}
 use Rattle.debuggee.specs.declared.refusal.SourceRefusal.{SourceRefusal}
 use Rattle.debuggee.specs.Program.{IsProgram, NoProgram, Refuses}
 use Rattle.debuggee.specs.Execution.{execution_of}

@@ -17,8 +17,8 @@ use crate::status::{Status, status_of};
 use ask_session::converse;
 use command_words::Request;
 use debuggee::{INPUT_BYTES, SourceFault, SourceProgram, read_source, run_program};
+use dialog_replies::Start;
 use edge_ports::{Keeper, Sink, Source};
-use session_book::Start;
 use session_file::{Session, digest_of, load};
 use std::alloc::Global;
 

@@ -7,8 +7,8 @@ ghost use Rattle.debug_cli.specs.Laws.{InEachRun, OneRun};
 
 use ask_session::{entries_follow_lines, reports_are_sound};
 use body_replay::bodies_give_their_exits;
+use core_program::numbers_tell_the_tree;
 use pas_lexer::lexing::division_laws;
-use program_meaning::numbers_tell_the_tree;
 use same_programs::one_text_one_program;
 
 /// A source is one program at most, and has one run.

@@ -12,10 +12,10 @@ use Rattle.std.proofs.lemmas.Option.{slice_get_within, get_or_from_slice_get, sl
 use Rattle.call_tree.specs.Numbering.{IsParent, IsNumbered}
 use Rattle.call_tree.specs.Recording.{Recording, lasts_of, parents_of, routines_of}
 use Rattle.call_tree.specs.declared.records.Call as table
-use Rattle.program_tables.specs.ProgramRows.{ProgramRows}
-use Rattle.program_meaning.specs.Run.{Call, Marked, Outcome, run}
-use Rattle.program_meaning.specs.Numbering.{greatest, belows, calls_of, last_below, parent_of, is_below, each_from, InSubtree, Root, Child}
-use Rattle.program_meaning.specs.Laws.{SubtreeIsInterval, LastIsACall, EveryProgramRuns, EveryRunHasACall}
+use Rattle.core_program.specs.ProgramRows.{ProgramRows}
+use Rattle.core_program.specs.Run.{Call, Marked, Outcome, run}
+use Rattle.core_program.specs.Numbering.{greatest, belows, calls_of, last_below, parent_of, is_below, each_from, InSubtree, Root, Child}
+use Rattle.core_program.specs.Laws.{SubtreeIsInterval, LastIsACall, EveryProgramRuns, EveryRunHasACall}
 use Rattle.program_run.specs.History.{recording_of}
 use Rattle.program_run.specs.Table.{table_of, table_row}
 use Rattle.debuggee.specs.Execution.{Supply, calls_with}

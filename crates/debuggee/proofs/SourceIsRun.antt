@@ -9,14 +9,14 @@ use Rattle.pas_lexer.specs.Division.{IsLexed}
 use Rattle.pas_tree.specs.declared.blocks.Tree.{Tree}
 use Rattle.pas_tree.specs.Blocks.{tree_node}
 use Rattle.pas_parser.specs.Formed.{IsText}
-use Rattle.program_tables.specs.ProgramRows.{ProgramRows}
+use Rattle.core_program.specs.ProgramRows.{ProgramRows}
 use Rattle.check_steps.specs.declared.breaks.Break.{Break}
-use Rattle.code_checker.specs.Programs.{broken}
-use Rattle.source_checker.specs.Declarations.{IsTextOf}
-use Rattle.source_checker.specs.declared.programs.ProgramFault.{ProgramFault}
-use Rattle.source_checker.specs.declared.programs.ProgramFault.TheVariants as refused
-use Rattle.source_checker.specs.Programs.{IsChecked}
-use Rattle.source_checker.specs.Programs as check
+use Rattle.code_checker.specs.CheckedPrograms.{broken}
+use Rattle.code_checker.specs.Declarations.{IsTextOf}
+use Rattle.code_checker.specs.declared.programs.ProgramFault.{ProgramFault}
+use Rattle.code_checker.specs.declared.programs.ProgramFault.TheVariants as refused
+use Rattle.code_checker.specs.Programs.{IsChecked}
+use Rattle.code_checker.specs.Programs as check
 use Rattle.same_programs.specs.Laws.{OneTextOneProgram}
 use Rattle.debuggee.specs.declared.source.SourceFault.{SourceFault}
 use Rattle.debuggee.specs.declared.source.SourceFault.TheVariants.{Refused, Memory}

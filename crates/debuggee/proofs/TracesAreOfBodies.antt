@@ -3,10 +3,10 @@ use Rattle.std.proofs.Common.{◌≡◌, ℕ, List, Some, None, refl, sym, ap, �
 use Rattle.std.specs.Option.{option_map}
 use Rattle.cell_value.specs.declared.ways_out.WayOut.{WayOut}
 use Rattle.call_tree.specs.declared.events.Event.{Event}
-use Rattle.program_tables.specs.ProgramRows.{ProgramRows}
-use Rattle.program_meaning.specs.Replay.{Replayed}
-use Rattle.program_meaning.specs.Run.{run, way_out}
-use Rattle.program_meaning.proofs.OutcomesCompose.{none_some, some_same}
+use Rattle.core_program.specs.ProgramRows.{ProgramRows}
+use Rattle.core_program.specs.Replay.{Replayed}
+use Rattle.core_program.specs.Run.{run, way_out}
+use Rattle.core_program.proofs.OutcomesCompose.{none_some, some_same}
 use Rattle.program_run.specs.History.{IsOfRun}
 use Rattle.program_run.specs.declared.history.History.{History}
 use Rattle.question_text.specs.Cards.{Recorded}

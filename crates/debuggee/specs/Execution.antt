@@ -2,8 +2,8 @@
 use Rattle.std.specs.Prelude.{ℕ, List, length}
 use Rattle.call_tree.specs.declared.records.Call.{Call}
 use Rattle.pas_lexer.specs.Lexed.{Lexed}
-use Rattle.program_tables.specs.ProgramRows.{ProgramRows}
-use Rattle.program_meaning.specs.Run.{input_items, run}
+use Rattle.core_program.specs.ProgramRows.{ProgramRows}
+use Rattle.core_program.specs.Run.{input_items, run}
 use Rattle.program_run.specs.History.{log_of, recording_of}
 use Rattle.question_text.specs.Cards.{Recorded}
 use Rattle.debuggee.specs.declared.runs.Debuggee.{Debuggee}

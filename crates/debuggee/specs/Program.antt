@@ -7,13 +7,13 @@ use Rattle.pas_lexer.specs.Division.{IsLexed, IsFault, line_at}
 use Rattle.pas_phrases.specs.declared.fault.ParseFault.TheVariants as parser
 use Rattle.pas_parser.specs.Exact.{IsExact}
 use Rattle.pas_tree.specs.declared.blocks.Tree.{Tree}
-use Rattle.program_tables.specs.ProgramRows.{ProgramRows}
+use Rattle.core_program.specs.ProgramRows.{ProgramRows}
 use Rattle.check_steps.specs.declared.breaks.CheckFault.TheVariants as fault
-use Rattle.source_checker.specs.declared.programs.ProgramFault.{ProgramFault}
-use Rattle.source_checker.specs.declared.programs.ProgramFault.TheVariants as refused
-use Rattle.source_checker.specs.Declarations.{IsTextOf}
-use Rattle.source_checker.specs.Places.{TokenBegins}
-use Rattle.source_checker.specs.Programs.{IsBrokenAt, IsChecked}
+use Rattle.code_checker.specs.declared.programs.ProgramFault.{ProgramFault}
+use Rattle.code_checker.specs.declared.programs.ProgramFault.TheVariants as refused
+use Rattle.code_checker.specs.Declarations.{IsTextOf}
+use Rattle.code_checker.specs.Places.{TokenBegins}
+use Rattle.code_checker.specs.Programs.{IsBrokenAt, IsChecked}
 use Rattle.debuggee.specs.declared.refusal.SourceRefusal.{SourceRefusal}
 use Rattle.debuggee.specs.declared.refusal.SourceRefusal.TheVariants as refusal
 use Rattle.debuggee.specs.declared.source.SourceFault.{SourceFault}

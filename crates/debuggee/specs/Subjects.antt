@@ -1,9 +1,9 @@
 -- What a dialog on a run is about.
 use Rattle.std.specs.Prelude.{ℕ, List, [], Some, None, length, map}
 use Rattle.call_tree.specs.Recording.{lasts_of, parents_of, routines_of}
-use Rattle.program_tables.specs.ProgramRows.{name_of}
-use Rattle.program_meaning.specs.Replay.{Replayed}
-use Rattle.program_meaning.specs.Run.{run, way_out}
+use Rattle.core_program.specs.ProgramRows.{name_of}
+use Rattle.core_program.specs.Replay.{Replayed}
+use Rattle.core_program.specs.Run.{run, way_out}
 use Rattle.question_text.specs.Cards.{Recorded, card}
 use Rattle.question_text.specs.States.{has_cell, state_text}
 use Rattle.question_text.specs.Traces.{trace_text}

@@ -6,8 +6,8 @@ use Rattle.cell_value.specs.declared.entries.Touch.TheVariants as touch
 use Rattle.cell_value.specs.Effects.{IsCountable}
 use Rattle.call_tree.specs.declared.records.Call.{Call}
 use Rattle.call_tree.specs.Told.{IsTold}
-use Rattle.program_tables.specs.ProgramRows.{ProgramRows}
-use Rattle.program_meaning.specs.Run.{input_items, run}
+use Rattle.core_program.specs.ProgramRows.{ProgramRows}
+use Rattle.core_program.specs.Run.{input_items, run}
 use Rattle.program_run.specs.History.{log_of, output_of, recording_of}
 use Rattle.program_run.specs.declared.history.History.{History}
 

@@ -11,11 +11,11 @@ use body_replay::{carries, replay};
 use call_tree::{Calls, Mark};
 use cell_names::NameFinder;
 use cell_value::Steps;
+use core_program::Program;
 use dialog_replies::Debugged;
 use edge_ports::{Bytes, Memory};
 use pas_lexer::Tokens;
 use program_run::History;
-use program_tables::Program;
 use question_text::{Recorded, write_call, write_state, write_trace, write_tree};
 use std::alloc::Global;
 

@@ -8,7 +8,7 @@ use Rattle.pas_tree.specs.declared.statements.Compound.{out-Compound}
 use Rattle.check_steps.specs.declared.work.Work.{Work}
 use Rattle.check_steps.specs.Steps.{Step, ◌>>=◌, each, run_step}
 use Rattle.check_steps.proofs.Runs.{bind-assoc, run_then}
-use Rattle.use_checker.specs.Statements.{compound_uses}
+use Rattle.decl_checker.specs.Statements.{compound_uses}
 use Rattle.decl_checker.specs.declared.routines.Entered.{Entered}
 use Rattle.decl_checker.specs.Blocks.{parts, put_body}
 use Rattle.decl_checker.specs.Routines.{block, body_in, enter_heading, routine, routines_in}

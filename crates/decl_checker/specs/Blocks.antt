@@ -6,15 +6,15 @@ use Rattle.pas_tree.specs.declared.blocks.ConstantPart.{ConstantPart}
 use Rattle.pas_tree.specs.declared.blocks.TypePart.{TypePart}
 use Rattle.pas_tree.specs.declared.blocks.VariablePart.{VariablePart}
 use Rattle.pas_tree.specs.declared.statements.Compound.{Compound, out-Compound}
-use Rattle.program_tables.specs.declared.program.Routine.{Routine as RoutineRow}
-use Rattle.program_tables.specs.ProgramRows.{routine_at}
+use Rattle.core_program.specs.declared.program.Routine.{Routine as RoutineRow}
+use Rattle.core_program.specs.ProgramRows.{routine_at}
 use Rattle.check_steps.specs.Known.{frame_at, line_at}
 use Rattle.check_steps.specs.Steps.{Step, give, ◌>>=◌, look, put_routine, each}
-use Rattle.pas_places.specs.Headings.{heading_word}
+use Rattle.pas_tree.specs.HeadingPlaces.{heading_word}
 use Rattle.kind_checker.specs.Constants.{constant_part, constants_in, define_constant}
 use Rattle.denoter_checker.specs.Parts.{define_type, define_variable, type_part, types_in, variable_declaration}
 use Rattle.denoter_checker.specs.Parts.{variables_in}
-use Rattle.heading_checker.specs.RoutineParts.{define_routines}
+use Rattle.denoter_checker.specs.RoutineParts.{define_routines}
 use Rattle.decl_checker.specs.Labels.{define_labels}
 
 -- ---- names

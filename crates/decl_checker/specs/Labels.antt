@@ -2,8 +2,8 @@
 use Rattle.std.specs.Prelude.{ℕ, false, Option, Some, None, nat_le}
 use Rattle.pas_tree.specs.declared.blocks.LabelPart.{LabelPart}
 use Rattle.pas_tree.specs.declared.blocks.NextLabel.{NextLabel}
-use Rattle.program_tables.specs.declared.rows.Row.TheVariants as row
-use Rattle.program_tables.specs.declared.rows.NameRow.TheVariants as named
+use Rattle.core_program.specs.declared.rows.Row.TheVariants as row
+use Rattle.core_program.specs.declared.rows.NameRow.TheVariants as named
 use Rattle.check_steps.specs.declared.regions.Frame.{Frame}
 use Rattle.check_steps.specs.Known.{label_at}
 use Rattle.check_steps.specs.Steps.{Step, give, ◌>>=◌, look, early, put, each}

@@ -1,8 +1,10 @@
+pub mod Accesses
+pub mod Answers
+pub mod Blocks
 pub mod Labels
 pub mod Parameters
-pub mod Regions
-pub mod Scopes
-pub mod Blocks
-pub mod Routines
 pub mod Programs
-pub mod Answers
+pub mod Regions
+pub mod Routines
+pub mod Scopes
+pub mod Statements

@@ -1,17 +1,17 @@
 -- Program parameters (6.10).
 use Rattle.std.specs.Prelude.{ℕ, List, Bool, Option, Some, None, is_some, codes, if◌then◌else◌}
 use Rattle.pas_tree.specs.declared.blocks.Parameters.{Parameters}
-use Rattle.program_tables.specs.declared.rows.Row.TheVariants as row
-use Rattle.program_tables.specs.declared.rows.NameRow.TheVariants as named
-use Rattle.program_tables.specs.declared.rows.TextFile.{TextFile}
-use Rattle.program_tables.specs.declared.rows.TextFile.TheVariants.{Input, Output}
+use Rattle.core_program.specs.declared.rows.Row.TheVariants as row
+use Rattle.core_program.specs.declared.rows.NameRow.TheVariants as named
+use Rattle.core_program.specs.declared.rows.TextFile.{TextFile}
+use Rattle.core_program.specs.declared.rows.TextFile.TheVariants.{Input, Output}
 use Rattle.check_steps.specs.declared.regions.Def.TheVariants as def
 use Rattle.check_steps.specs.Known.{Known, name_at}
 use Rattle.check_steps.specs.Steps.{Step, give, ◌>>=◌, look, early, put}
 use Rattle.check_steps.specs.Names.{define_in}
 use Rattle.check_steps.specs.Words.{number_of_name}
 use Rattle.kind_checker.specs.Names.{each_name}
-use Rattle.heading_checker.specs.RoutineParts.{is_this_number}
+use Rattle.denoter_checker.specs.RoutineParts.{is_this_number}
 
 -- whether the name that a token spells is this one
 abbrev pub spells : Known → ℕ → List ℕ → Bool

@@ -2,7 +2,7 @@
 use Rattle.std.specs.Prelude.{ℕ, Some, None, List}
 use Rattle.pas_lexer.specs.Lexed.{Lexed}
 use Rattle.pas_tree.specs.declared.blocks.Tree.{Tree}
-use Rattle.program_tables.specs.declared.program.Routine.{Routine}
+use Rattle.core_program.specs.declared.program.Routine.{Routine}
 use Rattle.check_steps.specs.declared.breaks.Break.{Break}
 use Rattle.check_steps.specs.Known.{Known, frame_at}
 use Rattle.check_steps.specs.Required.{open_outermost}

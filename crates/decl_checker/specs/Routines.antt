@@ -6,21 +6,21 @@ use Rattle.pas_tree.specs.declared.blocks.Routine.{Routine}
 use Rattle.pas_tree.specs.declared.blocks.RoutineBody.{RoutineBody, Directive, Block'}
 use Rattle.pas_tree.specs.declared.headings.Heading.{Heading}
 use Rattle.pas_tree.specs.declared.statements.Compound.{out-Compound}
-use Rattle.program_tables.specs.declared.program.Routine.{Routine as RoutineRow}
-use Rattle.program_tables.specs.declared.rows.Row.{Row}
-use Rattle.program_tables.specs.declared.rows.Row.TheVariants as row
-use Rattle.program_tables.specs.declared.rows.NameRow.TheVariants as named
-use Rattle.program_tables.specs.declared.rows.PartRow.TheVariants as part
-use Rattle.program_tables.specs.ProgramRows.{frame_of}
+use Rattle.core_program.specs.declared.program.Routine.{Routine as RoutineRow}
+use Rattle.core_program.specs.declared.rows.Row.{Row}
+use Rattle.core_program.specs.declared.rows.Row.TheVariants as row
+use Rattle.core_program.specs.declared.rows.NameRow.TheVariants as named
+use Rattle.core_program.specs.declared.rows.PartRow.TheVariants as part
+use Rattle.core_program.specs.ProgramRows.{frame_of}
 use Rattle.check_steps.specs.Known.{Known, frame_at, row_at}
 use Rattle.check_steps.specs.Regions.{region_at}
 use Rattle.check_steps.specs.Steps.{Step, give, ◌>>=◌, look, put, add_routine, open_region}
-use Rattle.pas_places.specs.Headings.{heading_name, heading_word}
+use Rattle.pas_tree.specs.HeadingPlaces.{heading_name, heading_word}
 use Rattle.kind_checker.specs.Sizes.{frame_capped}
-use Rattle.heading_checker.specs.Formals.{define_formals_at, is_function}
-use Rattle.heading_checker.specs.Headings.{signature}
-use Rattle.heading_checker.specs.RoutineParts.{completion_of, routine_name}
-use Rattle.use_checker.specs.Statements.{compound_uses}
+use Rattle.denoter_checker.specs.Formals.{define_formals_at, is_function}
+use Rattle.denoter_checker.specs.Headings.{signature}
+use Rattle.denoter_checker.specs.RoutineParts.{completion_of, routine_name}
+use Rattle.decl_checker.specs.Statements.{compound_uses}
 use Rattle.decl_checker.specs.declared.routines.Entered.{Entered}
 use Rattle.decl_checker.specs.Blocks.{define_block, parts, put_body}
 use Rattle.decl_checker.specs.Scopes.{routine_region, routine_in}

@@ -1,8 +1,8 @@
 -- Definitions as callers name them: a region by its number, a name by its spelling.
 use Rattle.std.specs.Prelude.{ℕ, List, Option, Some, None}
-use Rattle.program_tables.specs.declared.rows.Row.{Row}
-use Rattle.program_tables.specs.declared.rows.Row.TheVariants as row
-use Rattle.program_tables.specs.declared.rows.NameRow.TheVariants as named
+use Rattle.core_program.specs.declared.rows.Row.{Row}
+use Rattle.core_program.specs.declared.rows.Row.TheVariants as row
+use Rattle.core_program.specs.declared.rows.NameRow.TheVariants as named
 use Rattle.check_steps.specs.declared.regions.Def.{Def}
 use Rattle.check_steps.specs.declared.regions.Def.TheVariants as def
 use Rattle.check_steps.specs.declared.regions.Definition.{Definition}

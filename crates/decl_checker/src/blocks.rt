@@ -8,13 +8,13 @@ ghost use Rattle.decl_checker.specs.Blocks.{with_body, word_after};
 
 use crate::labels::define_labels;
 use check_steps::Work;
+use core_program::Routine as RoutineRow;
+use denoter_checker::define_routines;
 use denoter_checker::parts::{check_types, check_variables, define_types, define_variables};
-use heading_checker::define_routines;
 use kind_checker::constants::{check_constants, define_constants};
-use pas_places::heading_word;
 use pas_tree::blocks::{Block, ConstantPart, Routine, TypePart, VariablePart};
+use pas_tree::heading_word;
 use pas_tree::statements::Compound;
-use program_tables::Routine as RoutineRow;
 use std::alloc::{AllocError, Global};
 
 #[tactic(auto, using(check_steps::proofs::Runs::steps))]

@@ -5,8 +5,8 @@ ghost use Rattle.check_steps.specs.Steps.{Does, each};
 ghost use Rattle.decl_checker.specs.Labels.{define_label, define_labels, define_next_label};
 
 use check_steps::{Frame, Work};
+use core_program::rows::{NameRow, Row};
 use pas_tree::blocks::{LabelPart, NextLabel};
-use program_tables::rows::{NameRow, Row};
 use std::alloc::AllocError;
 
 #[tactic(auto, using(check_steps::proofs::Runs::steps), unfolding(crate::specs::Labels::define_label))]

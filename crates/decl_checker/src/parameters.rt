@@ -7,9 +7,9 @@ ghost use Rattle.decl_checker.specs.Parameters.{define_file, text_file_named, pr
 ghost use Rattle.decl_checker.specs.Parameters.{spells};
 
 use check_steps::{Def, Definition, Tables, Work};
+use core_program::rows::{NameRow, Row, TextFile};
 use pas_tree::blocks::Parameters;
 use pas_tree::constants::{Names, NextName};
-use program_tables::rows::{NameRow, Row, TextFile};
 use std::alloc::AllocError;
 
 /// Whether the name that a token spells is this one, in small letters.

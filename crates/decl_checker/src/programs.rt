@@ -13,9 +13,9 @@ use crate::routines::{Entered, check_block};
 use crate::scopes::Scopes;
 use check_steps::required::open_outermost;
 use check_steps::{CheckFault, Work};
+use core_program::Routine;
 use pas_lexer::Tokens;
 use pas_tree::blocks::Tree;
-use program_tables::Routine;
 use std::alloc::{AllocError, Global};
 
 /// The program as routine 0, before its block is known.

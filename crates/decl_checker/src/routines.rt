@@ -10,16 +10,16 @@ ghost use Rattle.decl_checker.specs.Routines.{routine};
 
 use crate::blocks::{check_parts, define_block, put_body};
 use crate::scopes::{routine_in, routine_region};
+use crate::statements::use_compound;
 use check_steps::{Tables, Work};
-use heading_checker::{check_signature, completion_of, define_formals_at, is_function};
+use core_program::Routine as RoutineRow;
+use core_program::rows::{NameRow, PartRow, Row};
+use denoter_checker::{check_signature, completion_of, define_formals_at, is_function};
 use kind_checker::sizes::place_after;
-use pas_places::{heading_name, heading_word};
 use pas_tree::blocks::{Block, Routine, RoutineBody};
 use pas_tree::headings::Heading;
-use program_tables::Routine as RoutineRow;
-use program_tables::rows::{NameRow, PartRow, Row};
+use pas_tree::{heading_name, heading_word};
 use std::alloc::{AllocError, Global};
-use use_checker::statements::use_compound;
 
 /// A routine at one of its headings: its number, the frame of its region, and the first place in that after its
 /// parameters and its result.

@@ -1,15 +1,15 @@
 //! The declarations of a program, as callers see them.
 
 ghost use Rattle.std.specs.Prelude.{◌≡◌, length, IfOk};
-ghost use Rattle.program_tables.specs.ProgramRows.{frame_of, name_of, offset_of, size_of};
+ghost use Rattle.core_program.specs.ProgramRows.{frame_of, name_of, offset_of, size_of};
 ghost use Rattle.decl_checker.specs.Regions.{region_beginning};
 ghost use Rattle.decl_checker.specs.Scopes.{held_around, held_in, routine_region, routine_in, seen, seen_of};
 
 use crate::regions::starts;
 use check_steps::{Def, Definition, Tables};
+use core_program::Program;
+use core_program::rows::{NameRow, Row};
 use indexmap::IndexMap;
-use program_tables::Program;
-use program_tables::rows::{NameRow, Row};
 use std::alloc::{AllocError, Global};
 use std::marker::Model;
 

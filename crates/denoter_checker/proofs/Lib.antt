@@ -1,3 +1,4 @@
 pub mod DefineRolls
-pub mod RecordRolls
 pub mod DomainSteps
+pub mod HeadingRolls
+pub mod RecordRolls

@@ -14,7 +14,7 @@ use Rattle.pas_tree.specs.declared.denoters.Variants.{Variants, out-Variants, is
 use Rattle.pas_tree.specs.declared.denoters.Variants.{items-the_row-NextArm, items_hidden-the_row-NextArm-2}
 use Rattle.check_steps.specs.Steps.{Step, ◌>>=◌, each, each_back}
 use Rattle.check_steps.proofs.Runs.{bind-assoc}
-use Rattle.pas_places.specs.Denoters.{first_of_denoter}
+use Rattle.pas_tree.specs.DenoterPlaces.{first_of_denoter}
 use Rattle.kind_checker.specs.declared.types.Scope.{Scope}
 use Rattle.kind_checker.specs.Names.{each_name}
 use Rattle.kind_checker.specs.Sizes.{capped}

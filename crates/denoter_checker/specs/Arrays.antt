@@ -1,9 +1,9 @@
 -- Arrays of several indices (6.4.3.2): `array [a, b] of t` is an array of arrays.
 use Rattle.std.specs.Prelude.{ℕ, Bool, false, Option, Some}
 use Rattle.pas_tree.specs.declared.denoters.NextDenoter.{NextDenoter}
-use Rattle.program_tables.specs.declared.rows.Row.TheVariants as row
-use Rattle.program_tables.specs.declared.rows.TypeRow.{TypeRow}
-use Rattle.program_tables.specs.declared.rows.TypeRow.TheVariants as kind
+use Rattle.core_program.specs.declared.rows.Row.TheVariants as row
+use Rattle.core_program.specs.declared.rows.TypeRow.{TypeRow}
+use Rattle.core_program.specs.declared.rows.TypeRow.TheVariants as kind
 use Rattle.check_steps.specs.Known.{type_at}
 use Rattle.check_steps.specs.Steps.{Step, give, ◌>>=◌, look, put}
 use Rattle.kind_checker.specs.Sizes.{array_cells}

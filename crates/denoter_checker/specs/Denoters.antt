@@ -17,13 +17,13 @@ use Rattle.pas_tree.specs.declared.denoters.Variants.{Variants as VariantsTree, 
 use Rattle.pas_tree.specs.declared.denoters.Variants.{end_of-NextArm, more_of-NextArm}
 use Rattle.pas_tree.specs.declared.denoters.NextArm.{NextArm}
 use Rattle.pas_tree.specs.declared.denoters.Tag.{Tag}
-use Rattle.program_tables.specs.declared.rows.Row.TheVariants as row
-use Rattle.program_tables.specs.declared.rows.TypeRow.TheVariants as kind
-use Rattle.program_tables.specs.declared.rows.NameRow.TheVariants as named
-use Rattle.program_tables.specs.ProgramRows.{size_of}
+use Rattle.core_program.specs.declared.rows.Row.TheVariants as row
+use Rattle.core_program.specs.declared.rows.TypeRow.TheVariants as kind
+use Rattle.core_program.specs.declared.rows.NameRow.TheVariants as named
+use Rattle.core_program.specs.ProgramRows.{size_of}
 use Rattle.check_steps.specs.Known.{frame_at}
 use Rattle.check_steps.specs.Steps.{Step, give, ◌>>=◌, look, put, each, open_region}
-use Rattle.pas_places.specs.Denoters.{first_of_denoter}
+use Rattle.pas_tree.specs.DenoterPlaces.{first_of_denoter}
 use Rattle.kind_checker.specs.declared.types.Scope.{Scope}
 use Rattle.kind_checker.specs.Names.{each_name}
 use Rattle.kind_checker.specs.Constants.{constant}

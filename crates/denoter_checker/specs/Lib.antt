@@ -1,5 +1,8 @@
 pub mod Arrays
-pub mod Variants
 pub mod Defines
 pub mod Denoters
+pub mod Formals
+pub mod Headings
 pub mod Parts
+pub mod RoutineParts
+pub mod Variants

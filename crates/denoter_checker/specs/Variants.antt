@@ -6,14 +6,14 @@ use Rattle.pas_tree.specs.declared.constants.Constants.{Constants}
 use Rattle.pas_tree.specs.declared.constants.NextConstant.{NextConstant}
 use Rattle.pas_tree.specs.declared.denoters.NextArm.{NextArm}
 use Rattle.pas_tree.specs.declared.denoters.TagField.{TagField}
-use Rattle.program_tables.specs.declared.rows.Row.TheVariants as row
-use Rattle.program_tables.specs.declared.rows.NameRow.TheVariants as named
-use Rattle.program_tables.specs.declared.rows.PartRow.TheVariants as part
-use Rattle.program_tables.specs.declared.rows.ItemRow.TheVariants as item
+use Rattle.core_program.specs.declared.rows.Row.TheVariants as row
+use Rattle.core_program.specs.declared.rows.NameRow.TheVariants as named
+use Rattle.core_program.specs.declared.rows.PartRow.TheVariants as part
+use Rattle.core_program.specs.declared.rows.ItemRow.TheVariants as item
 use Rattle.check_steps.specs.Known.{Known, is_chosen, type_at}
 use Rattle.check_steps.specs.Items.{add_item}
 use Rattle.check_steps.specs.Steps.{Step, give, ◌>>=◌, add_chosen, look, late, put, each}
-use Rattle.pas_places.specs.Denoters.{first_of_constant}
+use Rattle.pas_tree.specs.DenoterPlaces.{first_of_constant}
 use Rattle.kind_checker.specs.declared.constants.ConstantValue.{ConstantValue}
 use Rattle.kind_checker.specs.declared.constants.ConstantValue.TheVariants.{Ordinal, Text}
 use Rattle.kind_checker.specs.Constants.{constant}

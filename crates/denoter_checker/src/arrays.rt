@@ -5,9 +5,9 @@ ghost use Rattle.check_steps.specs.Steps.{Does, each_back};
 ghost use Rattle.denoter_checker.specs.Arrays.{array, index_in, next_joined, put_index};
 
 use check_steps::Work;
+use core_program::rows::{Row, TypeRow};
 use kind_checker::sizes::array_cells;
 use pas_tree::denoters::NextDenoter;
-use program_tables::rows::{Row, TypeRow};
 
 /// An array type, at its `[` or the comma before its index type.
 #[tactic(auto, using(check_steps::proofs::Runs::steps), unfolding(crate::specs::Arrays::array))]

@@ -19,11 +19,11 @@ use kind_checker::types::{
     check_enumeration, check_named_type, check_ordinal, check_pointer, check_set_type,
     check_subrange,
 };
-use pas_places::first_of_denoter;
 use pas_tree::denoters::{
     ArrayDenoter, Denoter, Fields, Fixed, NextArm, NextDenoter, NextSection, Section, Structure,
     Variants,
 };
+use pas_tree::first_of_denoter;
 use std::alloc::{AllocError, Global};
 
 /// The type that is written, by its number.

@@ -11,13 +11,13 @@ ghost use Rattle.denoter_checker.specs.Parts.{variables_in};
 use crate::defines::define_denoter;
 use crate::denoters::check_denoter;
 use check_steps::{Def, Definition, Tables, Work};
+use core_program::rows::{Mode, NameRow, Row, TypeRow};
 use kind_checker::Scope;
 use kind_checker::names::{NameKind, define_names};
 use kind_checker::sizes::place_after;
 use kind_checker::types::type_named;
 use pas_tree::blocks::{TypeDefinition, TypePart, VariableDeclaration, VariablePart};
 use pas_tree::constants::{Names, NextName};
-use program_tables::rows::{Mode, NameRow, Row, TypeRow};
 use std::alloc::{AllocError, Global};
 
 #[tactic(auto, using(check_steps::proofs::Runs::steps), unfolding(crate::specs::Parts::define_type))]

@@ -12,11 +12,11 @@ use crate::variants::{
     nothing_listed,
 };
 use check_steps::Work;
+use core_program::rows::{NameRow, Row, TypeRow};
 use kind_checker::Scope;
 use kind_checker::sizes::offset_after;
 use pas_tree::constants::{Names, NextName};
 use pas_tree::denoters::{Arm, Fields, NextArm, Tag, Variants};
-use program_tables::rows::{NameRow, Row, TypeRow};
 use std::alloc::{AllocError, Global};
 
 /// A region of fields that begins at the word `record`, by the number of its frame.

@@ -9,14 +9,14 @@ ghost use Rattle.denoter_checker.specs.Variants.{tag_type, value_if, variant_par
 
 use check_steps::items::put_item;
 use check_steps::{Tables, Work};
+use core_program::rows::{ItemRow, NameRow, PartRow, Row};
 use kind_checker::ConstantValue;
 use kind_checker::constants::check_constant;
 use kind_checker::sizes::{host_of, offset_after};
 use kind_checker::types::{check_named_type, check_ordinal};
-use pas_places::first_of_constant;
 use pas_tree::constants::{Constant, Constants, NextConstant};
 use pas_tree::denoters::{NextArm, Tag};
-use program_tables::rows::{ItemRow, NameRow, PartRow, Row};
+use pas_tree::first_of_constant;
 use std::alloc::AllocError;
 
 /// Where a variant part stands.

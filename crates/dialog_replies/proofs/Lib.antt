@@ -1,4 +1,8 @@
-pub mod RisingCalls
-pub mod NamedCalls
 pub mod ColumnsOfCalls
+mod EntriesInTurn
+mod FitsTheRun
 pub mod LinesInTurn
+mod MisfitsInTurn
+pub mod NamedCalls
+pub mod RisingCalls
+pub mod WordsInTurn

@@ -1,4 +1,11 @@
+pub mod Fit
+pub mod Instructions
+pub mod Kept
+pub mod Keywords
+pub mod Lines
+pub mod Numbers
+pub mod Replies
+pub mod Start
 pub mod Subject
 pub mod Texts
-pub mod Replies
-pub mod Kept
+pub mod Words

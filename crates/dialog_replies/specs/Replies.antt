@@ -11,8 +11,8 @@ use Rattle.answer_book.specs.Answers.{judge_answer, take_back_answer, take_back_
 use Rattle.answer_book.specs.Entries.{entries_with, entries_without}
 use Rattle.optimal_query.specs.declared.state.SearchState.{SearchState}
 use Rattle.optimal_query.specs.declared.state.SearchState.TheVariants.{Ask}
-use Rattle.dialog_lines.specs.declared.instructions.Instruction.{Instruction}
-use Rattle.dialog_lines.specs.declared.instructions.Instruction.TheVariants as asked
+use Rattle.dialog_replies.specs.declared.instructions.Instruction.{Instruction}
+use Rattle.dialog_replies.specs.declared.instructions.Instruction.TheVariants as asked
 use Rattle.dialog_replies.specs.Subject.{Subject, book_of, calls_recorded, routine_named, state_after}
 use Rattle.dialog_replies.specs.Texts.{report, tree_text}
 

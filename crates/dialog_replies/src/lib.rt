@@ -1,17 +1,33 @@
-//! What the dialog replies to each line of the console, and which entry the line makes or takes back; and
-//! the reports on the state of the search. The texts on calls come through a port.
+//! The dialog: what a line of the console asks for, what is replied to it, which entry it makes or takes back, the
+//! reports on the state of the search, and the session as a book of entries and as text. The texts on calls come
+//! through a port.
 #![tactic(auto)]
 
 mod calls;
 mod changes;
 mod debugged;
+mod fit;
+mod instructions;
+mod keywords;
+mod lines;
 mod marks;
+mod misfits;
+mod numbers;
 mod replies;
 mod reports;
+mod resuming;
+mod saving;
 mod searches;
+mod start;
+mod words;
 
 pub use calls::{write_named_call, write_number};
 pub use debugged::Debugged;
+pub use fit::refusal;
+pub use instructions::{FileName, Instruction, instruction_in};
 pub use replies::{answer, open};
 pub use reports::state_now;
+pub use resuming::resume;
+pub use saving::session_text_of;
 pub use searches::begin;
+pub use start::Start;

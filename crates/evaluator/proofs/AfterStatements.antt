@@ -1,22 +1,22 @@
 -- What follows a statement.
 use Rattle.std.proofs.Common.{◌≡◌, ℕ, List, ◌≤◌, refl, arith}
 use Rattle.cell_value.specs.declared.values.Value.{Value}
-use Rattle.program_tables.specs.ProgramRows.{ProgramRows}
-use Rattle.program_meaning.specs.Tree.{Out, ActTree, Ret}
-use Rattle.program_meaning.specs.Tree as parts
-use Rattle.program_meaning.specs.Accesses.{no_row}
-use Rattle.eval_tasks.specs.Rest.{after_part, after_statement, home_below}
-use Rattle.eval_tasks.specs.Records.{SameFrame}
-use Rattle.eval_tasks.specs.Weight.{task_weight}
-use Rattle.eval_tasks.specs.declared.tasks.Home.{Home}
-use Rattle.eval_tasks.specs.declared.tasks.Next.{Next}
-use Rattle.eval_tasks.specs.declared.tasks.Next.TheVariants as nexts
-use Rattle.eval_tasks.specs.declared.tasks.OperandTask.TheVariants as operands
-use Rattle.eval_tasks.specs.declared.tasks.ChoiceTask.TheVariants as choices
-use Rattle.eval_tasks.specs.declared.tasks.Located.TheVariants as locateds
-use Rattle.eval_tasks.specs.declared.tasks.TransferTask.TheVariants as transfers
-use Rattle.eval_tasks.specs.declared.tasks.Task.{Task}
-use Rattle.eval_tasks.specs.declared.tasks.Task.TheVariants as tasks
+use Rattle.core_program.specs.ProgramRows.{ProgramRows}
+use Rattle.core_program.specs.Tree.{Out, ActTree, Ret}
+use Rattle.core_program.specs.Tree as parts
+use Rattle.core_program.specs.Accesses.{no_row}
+use Rattle.evaluator.specs.Rest.{after_part, after_statement, home_below}
+use Rattle.evaluator.specs.Records.{SameFrame}
+use Rattle.evaluator.specs.Weight.{task_weight}
+use Rattle.evaluator.specs.declared.tasks.Home.{Home}
+use Rattle.evaluator.specs.declared.tasks.Next.{Next}
+use Rattle.evaluator.specs.declared.tasks.Next.TheVariants as nexts
+use Rattle.evaluator.specs.declared.tasks.OperandTask.TheVariants as operands
+use Rattle.evaluator.specs.declared.tasks.ChoiceTask.TheVariants as choices
+use Rattle.evaluator.specs.declared.tasks.Located.TheVariants as locateds
+use Rattle.evaluator.specs.declared.tasks.TransferTask.TheVariants as transfers
+use Rattle.evaluator.specs.declared.tasks.Task.{Task}
+use Rattle.evaluator.specs.declared.tasks.Task.TheVariants as tasks
 
 -- what ended, if not by a jump, is all one
 pub record IsAllOne (t : Out → ActTree) : Type 0 where

@@ -1,1 +1,9 @@
 mod AfterStatements
+mod ExpressionsByRow
+mod LocatedWeighs
+pub mod Moves
+mod RecordsLeft
+mod StatementsByRow
+pub mod StepsFall
+mod TransfersByRow
+pub mod Turning

@@ -1,15 +1,16 @@
 //! Jumps.
 
 ghost use Rattle.std.specs.Prelude.{◌≡◌, ◌==◌, ◌&&◌, ◌+◌, None, Some};
-ghost use Rattle.eval_machine.specs.Machines.{Moment};
-ghost use Rattle.eval_tasks.specs.Records.{SameFrame};
-ghost use Rattle.eval_tasks.specs.Rest.{from_under};
-ghost use Rattle.eval_tasks.specs.Turns.{Turns, configuration};
-ghost use Rattle.eval_tasks.specs.Weight.{Falls, body_weight, come, task_weight, tasks_weight};
+ghost use Rattle.eval_ops.specs.Machines.{Moment};
+ghost use Rattle.evaluator.specs.Records.{SameFrame};
+ghost use Rattle.evaluator.specs.Rest.{from_under};
+ghost use Rattle.evaluator.specs.Turns.{Turns, configuration};
+ghost use Rattle.evaluator.specs.Weight.{Falls, body_weight, come, task_weight, tasks_weight};
 
-use eval_rules::labelled_in;
-use eval_tasks::{Body, Next, Now, Part, Task, Turned, Way};
-use program_tables::Program;
+use crate::body::{Body, Turned};
+use crate::tasks::{Next, Now, Part, Task, Way};
+use core_program::Program;
+use eval_ops::labelled_in;
 use std::alloc::Global;
 
 /// Whether a jump to a label in the frame at a base is to this label of this frame.

@@ -2,24 +2,23 @@
 
 ghost use Rattle.std.specs.Prelude.{◌≡◌, [], Ok, Err, None, Some, IfOk};
 ghost use Rattle.cell_value.specs.declared.values.Value.{Value as CellValue};
-ghost use Rattle.program_tables.specs.ProgramRows.{ProgramRows, routine_at};
-ghost use Rattle.program_meaning.specs.Actions.{Action, performs};
-ghost use Rattle.program_meaning.specs.Tree.{doing};
-ghost use Rattle.program_meaning.specs.Accesses.{scalar};
-ghost use Rattle.program_meaning.specs.Run.{type_in_heading};
-ghost use Rattle.program_meaning.specs.Run as action;
-ghost use Rattle.program_meaning.specs.State as state;
-ghost use Rattle.eval_machine.specs.Machines.{DoesAll, IsReady, Moment, moment_of};
-ghost use Rattle.eval_tasks.specs.Rest.{from, returns};
-ghost use Rattle.eval_tasks.specs.Turns.{Turns, configuration};
+ghost use Rattle.core_program.specs.ProgramRows.{ProgramRows, routine_at};
+ghost use Rattle.core_program.specs.Actions.{Action, performs};
+ghost use Rattle.core_program.specs.Tree.{doing};
+ghost use Rattle.core_program.specs.Accesses.{scalar};
+ghost use Rattle.core_program.specs.Run.{type_in_heading};
+ghost use Rattle.core_program.specs.Run as action;
+ghost use Rattle.core_program.specs.State as state;
+ghost use Rattle.eval_ops.specs.Machines.{DoesAll, IsReady, Moment, moment_of};
+ghost use Rattle.evaluator.specs.Rest.{from, returns};
+ghost use Rattle.evaluator.specs.Turns.{Turns, configuration};
 
+use crate::body::{Body, Turned};
+use crate::tasks::{Now, Pause, Way};
 use cell_value::Value;
-use eval_cells::{moved, result_at};
-use eval_heap::pointer_result_at;
-use eval_machine::{Halt, Machine};
-use eval_tasks::{Body, Now, Pause, Turned, Way};
-use program_tables::Program;
-use program_tables::rows::{PartRow, Row, TypeRow};
+use core_program::Program;
+use core_program::rows::{PartRow, Row, TypeRow};
+use eval_ops::{Halt, Machine, moved, pointer_result_at, result_at};
 
 /// The tasks are done, and the routine returns, a function by reading its result.
 pub(crate) fn end(body: &mut Body, program: &Program, machine: &mut Machine, way: Way) -> Turned

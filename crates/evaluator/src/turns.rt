@@ -1,36 +1,37 @@
 //! The run of a body from stop to stop.
 
 ghost use Rattle.std.specs.Prelude.{◌≡◌, ◌+◌, Ok, Err, None, Some, IfOk};
-ghost use Rattle.program_tables.specs.ProgramRows.{ProgramRows};
-ghost use Rattle.program_meaning.specs.Run.{Ended};
-ghost use Rattle.program_meaning.specs.State.{State};
-ghost use Rattle.eval_machine.specs.Machines.{IsReady, machine_state, moment_of};
-ghost use Rattle.eval_tasks.specs.Records.{SameFrame};
-ghost use Rattle.eval_tasks.specs.Stops.{NextStopIs};
-ghost use Rattle.eval_tasks.specs.Rest.{from, from_under, rest_of};
-ghost use Rattle.program_meaning.specs.Replay.{end_of};
-ghost use Rattle.eval_tasks.specs.Turns.{configuration, MayGoOn, PausesInRoom, Turns, ended_by, pause_of, stop_of};
-ghost use Rattle.eval_tasks.specs.Weight.{Falls, come, measure_of, left_with, part_weight, task_weight, tasks_weight};
+ghost use Rattle.core_program.specs.ProgramRows.{ProgramRows};
+ghost use Rattle.core_program.specs.Run.{Ended};
+ghost use Rattle.core_program.specs.State.{State};
+ghost use Rattle.eval_ops.specs.Machines.{IsReady, machine_state, moment_of};
+ghost use Rattle.evaluator.specs.Records.{SameFrame};
+ghost use Rattle.evaluator.specs.Stops.{NextStopIs};
+ghost use Rattle.evaluator.specs.Rest.{from, from_under, rest_of};
+ghost use Rattle.core_program.specs.Replay.{end_of};
+ghost use Rattle.evaluator.specs.Turns.{configuration, MayGoOn, PausesInRoom, Turns, ended_by, pause_of, stop_of};
+ghost use Rattle.evaluator.specs.Weight.{Falls, come, measure_of, left_with, part_weight, task_weight, tasks_weight};
 
+use crate::accesses::{continue_access, locate};
+use crate::actuals::{add_actual, add_actual_cells, pass_actuals};
+use crate::after_parts::{continue_statement, follow_statement};
+use crate::assignments::{locate_target, locate_target_cells, put, put_cells};
+use crate::body::{Body, Turned};
+use crate::calls::{call, call_formal};
+use crate::expressions::{continue_expression, evaluate};
+use crate::heap::{dispose_of, put_pointer};
 use crate::jumps::leap;
+use crate::packing::{locate_second, move_arrays, pack_by_index};
+use crate::reading::{pass_line, receive, scan, store_read};
 use crate::returns::end;
+use crate::sets::{begin_right_text, end_texts, gather, gather_range};
+use crate::statements::{carry, execute, sequence, turn_again};
+use crate::tasks::{Now, Part, Pause, Stop, Task, Way};
+use crate::with_records::{begin_record, establish, leave};
+use crate::writing::{continue_transfer, continue_with_text, print};
 use cell_value::{Memory, Value, WayOut};
-use eval_calls::{add_actual, add_actual_cells, call, call_formal, pass_actuals};
-use eval_expressions::{
-    begin_right_text, continue_access, continue_expression, end_texts, evaluate, gather,
-    gather_range, locate,
-};
-use eval_machine::{Halt, Machine, spend};
-use eval_statements::{
-    begin_record, carry, continue_statement, dispose_of, establish, execute, follow_statement,
-    leave, locate_target, locate_target_cells, put, put_cells, put_pointer, sequence, turn_again,
-};
-use eval_tasks::{Body, Now, Part, Pause, Stop, Task, Turned, Way};
-use eval_transfers::{
-    continue_transfer, continue_with_text, locate_second, move_arrays, pack_by_index, pass_line,
-    print, receive, scan, store_read,
-};
-use program_tables::Program;
+use core_program::Program;
+use eval_ops::{Halt, Machine, spend};
 use std::alloc::{AllocError, Global};
 
 /// Runs to the next stop. The machine is as the actions on it need it.

@@ -1,3 +1,4 @@
+pub mod Holders
 pub mod NamesAlone
 pub mod Operands
 pub mod Parts

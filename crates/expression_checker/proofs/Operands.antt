@@ -17,11 +17,11 @@ use Rattle.pas_tree.specs.declared.expressions.NextFactor.{NextFactor}
 use Rattle.pas_tree.specs.declared.expressions.Term.{items-the_row-NextFactor, items_hidden-the_row-NextFactor-4}
 use Rattle.check_steps.specs.Steps.{Step, give, ◌>>=◌, each}
 use Rattle.check_steps.proofs.Runs.{bind-assoc}
-use Rattle.pas_places.specs.Operators.{adding_token, multiplying_token, relational_token}
-use Rattle.operand_checker.specs.declared.typed.Typed.{Typed}
+use Rattle.pas_tree.specs.OperatorPlaces.{adding_token, multiplying_token, relational_token}
+use Rattle.expression_checker.specs.declared.typed.Typed.{Typed}
 use Rattle.expression_checker.specs.Expressions.{expression, factor, factors, next_factor, next_term, related, relation_held, root_name}
 use Rattle.expression_checker.specs.Expressions.{selected, selector, simple, term, terms}
-use Rattle.operand_checker.specs.Operations.{adding_operator, multiplying_operator, operated, relational_operator, signed}
+use Rattle.expression_checker.specs.Operations.{adding_operator, multiplying_operator, operated, relational_operator, signed}
 use Rattle.expression_checker.proofs.NamesAlone.{name_items}
 
 factors_each : (frame n : _) (r : Row_of-NextFactor n) (f : Typed) → factors frame f r ≡ each (next_factor frame) f (items-the_row-NextFactor n r)

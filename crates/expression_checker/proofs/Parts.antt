@@ -11,17 +11,17 @@ use Rattle.pas_tree.specs.declared.expressions.NextMember.{NextMember, out-NextM
 use Rattle.pas_tree.specs.declared.expressions.Member.{Member, out-Member, is-Member', back-Member-last}
 use Rattle.pas_tree.specs.declared.expressions.RangeEnd.{RangeEnd, out-RangeEnd, is-RangeEnd'}
 use Rattle.check_steps.specs.Steps.{Step, ◌>>=◌, each}
-use Rattle.pas_places.specs.Expressions.{first_of_expression}
+use Rattle.pas_tree.specs.ExpressionPlaces.{first_of_expression}
 use Rattle.expression_checker.specs.declared.actuals.Passing.{Passing}
-use Rattle.operand_checker.specs.declared.members.MemberStart.{MemberStart}
-use Rattle.operand_checker.specs.declared.members.Gathered.{Gathered}
-use Rattle.operand_checker.specs.declared.typed.Typed.{Typed}
+use Rattle.expression_checker.specs.declared.members.MemberStart.{MemberStart}
+use Rattle.expression_checker.specs.declared.members.Gathered.{Gathered}
+use Rattle.expression_checker.specs.declared.typed.Typed.{Typed}
 use Rattle.expression_checker.specs.Actuals.{actuals_end}
 use Rattle.expression_checker.specs.Callees.{applied, called_function}
 use Rattle.expression_checker.specs.Expressions.{actual, call, expression, index_at, member, more_arguments, more_indexes, more_members}
 use Rattle.expression_checker.specs.Expressions.{next_argument, next_index, next_member, passing_to, range, range_held, some_members}
-use Rattle.operand_checker.specs.Members.{member_range, nothing_gathered, one_member, set_constructor}
-use Rattle.operand_checker.specs.Selectors.{indexed}
+use Rattle.expression_checker.specs.Members.{member_range, nothing_gathered, one_member, set_constructor}
+use Rattle.expression_checker.specs.Selectors.{indexed}
 
 -- ---- actuals
 

@@ -1,7 +1,7 @@
 -- One section further in a list of formal parameters.
 use Rattle.std.proofs.Common.{◌≡◌, ℕ, suc, ◌+◌, ◌-◌, ◌<◌, false, ap, arith}
 use Rattle.check_steps.specs.Known.{Known}
-use Rattle.type_relations.specs.Headings.{section_at}
+use Rattle.kind_checker.specs.Headings.{section_at}
 use Rattle.expression_checker.specs.Callees.{taken_or, takes_from}
 
 pub sections-onward : (k : Known) (n i at count : ℕ) → i < n

@@ -6,29 +6,29 @@ use Rattle.pas_tree.specs.declared.expressions.Access.{Access, Row_of-Selector, 
 use Rattle.pas_tree.specs.declared.expressions.Expression.{Expression, out-Expression}
 use Rattle.pas_tree.specs.declared.expressions.Simple.{Simple, out-Simple}
 use Rattle.pas_tree.specs.declared.expressions.Term.{Term, out-Term}
-use Rattle.program_tables.specs.declared.rows.ItemRow.{ItemRow}
-use Rattle.program_tables.specs.declared.rows.ItemRow.TheVariants as item
-use Rattle.program_tables.specs.declared.rows.Mode.TheVariants as mode
-use Rattle.program_tables.specs.declared.rows.NameRow.TheVariants as named
-use Rattle.program_tables.specs.declared.rows.OrdinalFunction.{OrdinalFunction}
-use Rattle.program_tables.specs.declared.rows.OrdinalFunction.TheVariants as function
-use Rattle.program_tables.specs.declared.rows.Row.{Row}
-use Rattle.program_tables.specs.declared.rows.Row.TheVariants as row
-use Rattle.program_tables.specs.declared.rows.TextFile.{TextFile}
-use Rattle.program_tables.specs.declared.rows.TextFile.TheVariants.{Input, Output}
+use Rattle.core_program.specs.declared.rows.ItemRow.{ItemRow}
+use Rattle.core_program.specs.declared.rows.ItemRow.TheVariants as item
+use Rattle.core_program.specs.declared.rows.Mode.TheVariants as mode
+use Rattle.core_program.specs.declared.rows.NameRow.TheVariants as named
+use Rattle.core_program.specs.declared.rows.OrdinalFunction.{OrdinalFunction}
+use Rattle.core_program.specs.declared.rows.OrdinalFunction.TheVariants as function
+use Rattle.core_program.specs.declared.rows.Row.{Row}
+use Rattle.core_program.specs.declared.rows.Row.TheVariants as row
+use Rattle.core_program.specs.declared.rows.TextFile.{TextFile}
+use Rattle.core_program.specs.declared.rows.TextFile.TheVariants.{Input, Output}
 use Rattle.check_steps.specs.declared.regions.Found.{Found}
 use Rattle.check_steps.specs.Known.{Known, find, name_at, row_at}
 use Rattle.check_steps.specs.Items.{add_item, link}
 use Rattle.check_steps.specs.Names.{usable, use_at}
 use Rattle.check_steps.specs.Steps.{Step, give, ◌>>=◌, look, late}
-use Rattle.type_relations.specs.declared.headings.FormalSection.{FormalSection}
-use Rattle.type_relations.specs.declared.headings.FormalSection.TheVariants as section
-use Rattle.type_relations.specs.declared.shapes.ExpressionType.{ExpressionType}
-use Rattle.type_relations.specs.declared.shapes.ExpressionType.TheVariants as expression
-use Rattle.type_relations.specs.declared.shapes.Shape.{Shape}
-use Rattle.type_relations.specs.Headings.{congruous, section_at}
-use Rattle.type_relations.specs.Operators.{is_operand, is_ordinal, is_unknown_shape}
-use Rattle.type_relations.specs.Shapes.{is_assignable, is_same_type, shape_of}
+use Rattle.kind_checker.specs.declared.headings.FormalSection.{FormalSection}
+use Rattle.kind_checker.specs.declared.headings.FormalSection.TheVariants as section
+use Rattle.kind_checker.specs.declared.shapes.ExpressionType.{ExpressionType}
+use Rattle.kind_checker.specs.declared.shapes.ExpressionType.TheVariants as expression
+use Rattle.kind_checker.specs.declared.shapes.Shape.{Shape}
+use Rattle.kind_checker.specs.Headings.{congruous, section_at}
+use Rattle.kind_checker.specs.Operators.{is_operand, is_ordinal, is_unknown_shape}
+use Rattle.kind_checker.specs.Shapes.{is_assignable, is_same_type, shape_of}
 use Rattle.expression_checker.specs.declared.actuals.Argument.{Argument}
 use Rattle.expression_checker.specs.declared.actuals.ExpectedFormal.{ExpectedFormal}
 use Rattle.expression_checker.specs.declared.actuals.ExpectedFormal.TheVariants as formal
@@ -39,12 +39,12 @@ use Rattle.expression_checker.specs.declared.callees.Callee.{Callee}
 use Rattle.expression_checker.specs.declared.callees.Callee.TheVariants as callee
 use Rattle.expression_checker.specs.declared.callees.ExpectedFormals.{ExpectedFormals}
 use Rattle.expression_checker.specs.declared.callees.ExpectedFormals.TheVariants as formals
-use Rattle.operand_checker.specs.declared.typed.Location.{Location}
-use Rattle.operand_checker.specs.declared.typed.Location.TheVariants as location
-use Rattle.operand_checker.specs.declared.typed.Typed.{Typed}
+use Rattle.expression_checker.specs.declared.typed.Location.{Location}
+use Rattle.expression_checker.specs.declared.typed.Location.TheVariants as location
+use Rattle.expression_checker.specs.declared.typed.Typed.{Typed}
 use Rattle.expression_checker.specs.Callees.{callee_of}
-use Rattle.operand_checker.specs.Threats.{threat_alone}
-use Rattle.operand_checker.specs.Typed.{unknown_at}
+use Rattle.expression_checker.specs.Threats.{threat_alone}
+use Rattle.expression_checker.specs.Typed.{unknown_at}
 
 -- ---- the formal parameter of the next actual
 

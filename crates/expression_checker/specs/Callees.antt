@@ -1,38 +1,38 @@
 -- What is called in an expression, and the function designator once its actuals are checked (6.6.6, 6.7.3).
 use Rattle.std.specs.Prelude.{ℕ, zero, suc, ◌-◌, Bool, true, false, Option, Some, None, is_some, nat_eq, nat_le, ◌&&◌}
 use Rattle.std.specs.Prelude.{if◌then◌else◌, length, ℤ, pos}
-use Rattle.program_tables.specs.declared.program.Routine.{Routine}
-use Rattle.program_tables.specs.declared.rows.Row.{Row}
-use Rattle.program_tables.specs.declared.rows.Row.TheVariants as row
-use Rattle.program_tables.specs.declared.rows.ExpressionRow.TheVariants as written
-use Rattle.program_tables.specs.declared.rows.NameRow.TheVariants as named
-use Rattle.program_tables.specs.declared.rows.OrdinalFunction.{OrdinalFunction}
-use Rattle.program_tables.specs.declared.rows.OrdinalFunction.TheVariants as function
-use Rattle.program_tables.specs.declared.rows.Required.{Required}
-use Rattle.program_tables.specs.declared.rows.Required.TheVariants as required
-use Rattle.program_tables.specs.declared.rows.TypeRow.{TypeRow}
-use Rattle.program_tables.specs.declared.rows.TypeRow.TheVariants as kind
-use Rattle.program_tables.specs.ProgramRows.{routine_at}
+use Rattle.core_program.specs.declared.program.Routine.{Routine}
+use Rattle.core_program.specs.declared.rows.Row.{Row}
+use Rattle.core_program.specs.declared.rows.Row.TheVariants as row
+use Rattle.core_program.specs.declared.rows.ExpressionRow.TheVariants as written
+use Rattle.core_program.specs.declared.rows.NameRow.TheVariants as named
+use Rattle.core_program.specs.declared.rows.OrdinalFunction.{OrdinalFunction}
+use Rattle.core_program.specs.declared.rows.OrdinalFunction.TheVariants as function
+use Rattle.core_program.specs.declared.rows.Required.{Required}
+use Rattle.core_program.specs.declared.rows.Required.TheVariants as required
+use Rattle.core_program.specs.declared.rows.TypeRow.{TypeRow}
+use Rattle.core_program.specs.declared.rows.TypeRow.TheVariants as kind
+use Rattle.core_program.specs.ProgramRows.{routine_at}
 use Rattle.check_steps.specs.declared.regions.Found.{Found}
 use Rattle.check_steps.specs.Known.{Known, row_at, type_at}
 use Rattle.check_steps.specs.Names.{use_at}
 use Rattle.check_steps.specs.Steps.{Step, give, ◌>>=◌, look, late, put}
-use Rattle.type_relations.specs.declared.headings.FormalSection.{FormalSection}
-use Rattle.type_relations.specs.declared.headings.FormalSection.TheVariants as section
-use Rattle.type_relations.specs.declared.shapes.ExpressionType.{ExpressionType}
-use Rattle.type_relations.specs.declared.shapes.ExpressionType.TheVariants as expression
-use Rattle.type_relations.specs.declared.shapes.Shape.{Shape}
-use Rattle.type_relations.specs.declared.shapes.Shape.TheVariants as shape
-use Rattle.type_relations.specs.Headings.{section_at, signature_at}
-use Rattle.type_relations.specs.Shapes.{shape_of}
+use Rattle.kind_checker.specs.declared.headings.FormalSection.{FormalSection}
+use Rattle.kind_checker.specs.declared.headings.FormalSection.TheVariants as section
+use Rattle.kind_checker.specs.declared.shapes.ExpressionType.{ExpressionType}
+use Rattle.kind_checker.specs.declared.shapes.ExpressionType.TheVariants as expression
+use Rattle.kind_checker.specs.declared.shapes.Shape.{Shape}
+use Rattle.kind_checker.specs.declared.shapes.Shape.TheVariants as shape
+use Rattle.kind_checker.specs.Headings.{section_at, signature_at}
+use Rattle.kind_checker.specs.Shapes.{shape_of}
 use Rattle.expression_checker.specs.declared.callees.Callee.{Callee}
 use Rattle.expression_checker.specs.declared.callees.Callee.TheVariants as callee
 use Rattle.expression_checker.specs.declared.callees.Called.{Called}
 use Rattle.expression_checker.specs.declared.callees.ExpectedFormals.{ExpectedFormals}
 use Rattle.expression_checker.specs.declared.callees.ExpectedFormals.TheVariants as formals
-use Rattle.operand_checker.specs.declared.typed.Typed.{Typed}
-use Rattle.operand_checker.specs.Names.{levels_to}
-use Rattle.operand_checker.specs.Typed.{typed_value}
+use Rattle.expression_checker.specs.declared.typed.Typed.{Typed}
+use Rattle.expression_checker.specs.Names.{levels_to}
+use Rattle.expression_checker.specs.Typed.{typed_value}
 
 -- ---- what a name stands for as a routine
 

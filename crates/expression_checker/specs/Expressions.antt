@@ -26,23 +26,23 @@ use Rattle.pas_tree.specs.declared.expressions.Member.{Member-last-Some'}
 use Rattle.pas_tree.specs.declared.expressions.RangeEnd.{RangeEnd, RangeEnd'}
 use Rattle.check_steps.specs.Names.{use_at}
 use Rattle.check_steps.specs.Steps.{Step, give, ◌>>=◌, look, each}
-use Rattle.pas_places.specs.Expressions.{first_of_expression}
-use Rattle.pas_places.specs.Operators.{adding_token, multiplying_token, relational_token}
+use Rattle.pas_tree.specs.ExpressionPlaces.{first_of_expression}
+use Rattle.pas_tree.specs.OperatorPlaces.{adding_token, multiplying_token, relational_token}
 use Rattle.expression_checker.specs.declared.actuals.Passing.{Passing}
 use Rattle.expression_checker.specs.declared.callees.Called.{Called}
-use Rattle.operand_checker.specs.declared.members.MemberStart.{MemberStart}
-use Rattle.operand_checker.specs.declared.members.Gathered.{Gathered}
-use Rattle.operand_checker.specs.declared.names.Meaning.{Meaning}
-use Rattle.operand_checker.specs.declared.names.Meaning.TheVariants as meaning
-use Rattle.operand_checker.specs.declared.typed.Typed.{Typed}
+use Rattle.expression_checker.specs.declared.members.MemberStart.{MemberStart}
+use Rattle.expression_checker.specs.declared.members.Gathered.{Gathered}
+use Rattle.expression_checker.specs.declared.names.Meaning.{Meaning}
+use Rattle.expression_checker.specs.declared.names.Meaning.TheVariants as meaning
+use Rattle.expression_checker.specs.declared.typed.Typed.{Typed}
 use Rattle.expression_checker.specs.Actuals.{actual_by, actuals_end, is_name, name_alone}
 use Rattle.expression_checker.specs.Callees.{applied, called_function}
-use Rattle.operand_checker.specs.Members.{member_range, nothing_gathered, one_member, set_constructor}
-use Rattle.operand_checker.specs.Names.{accessed_as, meaning_of, variable}
-use Rattle.operand_checker.specs.Operations.{adding_operator, multiplying_operator, negated, operated}
-use Rattle.operand_checker.specs.Operations.{relational_operator, signed}
-use Rattle.operand_checker.specs.Selectors.{dereferenced, indexed, selected_field}
-use Rattle.operand_checker.specs.Typed.{bracketed, constant_at, literal, nil_at, unknown_at}
+use Rattle.expression_checker.specs.Members.{member_range, nothing_gathered, one_member, set_constructor}
+use Rattle.expression_checker.specs.Names.{accessed_as, meaning_of, variable}
+use Rattle.expression_checker.specs.Operations.{adding_operator, multiplying_operator, negated, operated}
+use Rattle.expression_checker.specs.Operations.{relational_operator, signed}
+use Rattle.expression_checker.specs.Selectors.{dereferenced, indexed, selected_field}
+use Rattle.expression_checker.specs.Typed.{bracketed, constant_at, literal, nil_at, unknown_at}
 
 -- ---- names as factors
 

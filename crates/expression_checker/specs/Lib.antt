@@ -1,3 +1,9 @@
-pub mod Callees
 pub mod Actuals
+pub mod Callees
 pub mod Expressions
+pub mod Members
+pub mod Names
+pub mod Operations
+pub mod Selectors
+pub mod Threats
+pub mod Typed

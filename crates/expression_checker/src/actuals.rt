@@ -11,16 +11,16 @@ ghost use Rattle.expression_checker.specs.Actuals.{routine_argued, routine_item,
 ghost use Rattle.expression_checker.specs.Actuals.{threat_by};
 
 use crate::callees::{Callee, ExpectedFormals, callee_of};
+use crate::threats::check_threat_alone;
+use crate::typed::{Location, Typed, unknown_at};
 use check_steps::items::{put_item, put_link};
 use check_steps::{Found, Tables, Work};
-use operand_checker::threats::check_threat_alone;
-use operand_checker::typed::{Location, Typed, unknown_at};
+use core_program::rows::{INTEGER, ItemRow, Mode, NameRow, OrdinalFunction, Row, TextFile};
+use kind_checker::headings::{FormalSection, congruous, section_at};
+use kind_checker::operators::{is_operand, is_ordinal, is_unknown_shape};
+use kind_checker::shapes::{is_assignable, is_same_type, shape_of};
+use kind_checker::{ExpressionType, Shape};
 use pas_tree::expressions::{Access, Expression, Factor, Simple, Term};
-use program_tables::rows::{INTEGER, ItemRow, Mode, NameRow, OrdinalFunction, Row, TextFile};
-use type_relations::headings::{FormalSection, congruous, section_at};
-use type_relations::operators::{is_operand, is_ordinal, is_unknown_shape};
-use type_relations::shapes::{is_assignable, is_same_type, shape_of};
-use type_relations::{ExpressionType, Shape};
 
 /// What an actual parameter stands for.
 #[derive(Clone, Copy)]

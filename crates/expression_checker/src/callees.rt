@@ -11,16 +11,16 @@ ghost use Rattle.expression_checker.specs.Callees.{host_type, is_function, is_re
 ghost use Rattle.expression_checker.specs.Callees.{operand_of, ordinal_function, required_formals, required_row};
 ghost use Rattle.expression_checker.specs.Callees.{required_takes, required_type, takes_count};
 
+use crate::names::levels_to;
+use crate::typed::{Typed, typed_value};
 use check_steps::{Found, Tables, Work};
-use operand_checker::names::levels_to;
-use operand_checker::typed::{Typed, typed_value};
-use program_tables::Routine;
-use program_tables::rows::{
+use core_program::Routine;
+use core_program::rows::{
     BOOLEAN, CHAR, ExpressionRow, INTEGER, NameRow, OrdinalFunction, Required, Row, TypeRow,
 };
-use type_relations::headings::{FormalSection, section_at, signature_at};
-use type_relations::shapes::shape_of;
-use type_relations::{ExpressionType, Shape};
+use kind_checker::headings::{FormalSection, section_at, signature_at};
+use kind_checker::shapes::shape_of;
+use kind_checker::{ExpressionType, Shape};
 
 /// What a name stands for as a routine.
 #[derive(Clone, Copy)]

@@ -2,7 +2,7 @@
 
 ghost use Rattle.std.specs.Prelude.{◌≡◌};
 ghost use Rattle.check_steps.specs.Steps.{Does, each};
-ghost use Rattle.pas_places.specs.Expressions.{first_of_expression};
+ghost use Rattle.pas_tree.specs.ExpressionPlaces.{first_of_expression};
 ghost use Rattle.expression_checker.specs.Actuals.{argued_as};
 ghost use Rattle.expression_checker.specs.Expressions.{access, actual, call, constructor, count_of, designator};
 ghost use Rattle.expression_checker.specs.Expressions.{expression, factor, index_at, member, name_factor, named_as};
@@ -13,23 +13,23 @@ use crate::actuals::{
     check_routine, check_threat_by, formal_at, lone_of, name_alone,
 };
 use crate::callees::{Called, check_applied, check_called};
-use check_steps::Work;
-use operand_checker::members::{
+use crate::members::{
     Gathered, MemberStart, check_member_range, check_one_member, check_set, nothing_gathered,
 };
-use operand_checker::names::{Meaning, check_accessed, check_variable, meaning_of};
-use operand_checker::operations::{
+use crate::names::{Meaning, check_accessed, check_variable, meaning_of};
+use crate::operations::{
     adding_operator, check_negated, check_operated, check_signed, multiplying_operator,
     relational_operator,
 };
-use operand_checker::selectors::{check_dereferenced, check_indexed, check_selected_field};
-use operand_checker::typed::{
+use crate::selectors::{check_dereferenced, check_indexed, check_selected_field};
+use crate::typed::{
     Typed, bracketed, check_constant_at, check_nil, check_number, check_text, unknown_at,
 };
-use pas_places::{adding_token, first_of_expression, multiplying_token, relational_token};
+use check_steps::Work;
 use pas_tree::expressions::{
     Access, Arguments, Expression, Factor, Index, Member, Members, Selector, Simple, Term,
 };
+use pas_tree::{adding_token, first_of_expression, multiplying_token, relational_token};
 
 /// A function designator without actual parameters.
 #[tactic(auto, using(check_steps::proofs::Runs::steps), unfolding(crate::specs::Expressions::designator))]

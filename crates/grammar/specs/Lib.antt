@@ -1,9 +1,14 @@
+pub mod Completing
 pub mod Deciding
 pub mod Ending
 pub mod Grammars
 pub mod Laws
 pub mod Loose
+pub mod Nesting
 pub mod Nodes
+pub mod Reaching
 pub mod Reading
+pub mod RefusalLaws
+pub mod Refusals
 pub mod Terminals
 pub mod Tested

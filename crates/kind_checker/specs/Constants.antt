@@ -9,10 +9,10 @@ use Rattle.pas_tree.specs.declared.constants.Constant.{Constant}
 use Rattle.pas_tree.specs.declared.constants.Constant.TheVariants as tree
 use Rattle.pas_tree.specs.declared.blocks.ConstantPart.{ConstantPart}
 use Rattle.pas_tree.specs.declared.blocks.ConstantDefinition.{ConstantDefinition}
-use Rattle.program_tables.specs.declared.rows.Row.{Row}
-use Rattle.program_tables.specs.declared.rows.Row.TheVariants as row
-use Rattle.program_tables.specs.declared.rows.NameRow.TheVariants as named
-use Rattle.program_tables.specs.ProgramRows.{text_at}
+use Rattle.core_program.specs.declared.rows.Row.{Row}
+use Rattle.core_program.specs.declared.rows.Row.TheVariants as row
+use Rattle.core_program.specs.declared.rows.NameRow.TheVariants as named
+use Rattle.core_program.specs.ProgramRows.{text_at}
 use Rattle.check_steps.specs.declared.words.Spelled.{Spelled}
 use Rattle.check_steps.specs.declared.words.Spelled.TheVariants as spelled
 use Rattle.check_steps.specs.declared.regions.Def.{Def}
@@ -21,7 +21,7 @@ use Rattle.check_steps.specs.declared.regions.Found.{Found}
 use Rattle.check_steps.specs.Known.{Known, row_at, spelled_at}
 use Rattle.check_steps.specs.Steps.{Step, give, ◌>>=◌, look, early, late, put}
 use Rattle.check_steps.specs.Names.{define_in, use_at}
-use Rattle.pas_places.specs.Operators.{sign_token}
+use Rattle.pas_tree.specs.OperatorPlaces.{sign_token}
 use Rattle.kind_checker.specs.declared.constants.ConstantValue.{ConstantValue}
 use Rattle.kind_checker.specs.declared.constants.ConstantValue.TheVariants.{Ordinal, Text}
 

@@ -1,4 +1,7 @@
-pub mod Names
 pub mod Constants
+pub mod Headings
+pub mod Names
+pub mod Operators
+pub mod Shapes
 pub mod Sizes
 pub mod Types

@@ -2,9 +2,9 @@
 use Rattle.std.specs.Prelude.{ℕ, ◌+◌, ◌*◌, Bool, true, false, Option, Some, None, nat_lt, ◌&&◌, if◌then◌else◌}
 use Rattle.std.specs.Prelude.{ℤ, pos, ◌-ℤ◌}
 use Rattle.std.specs.Int.RustNames.{int_le, unsigned_abs}
-use Rattle.program_tables.specs.declared.rows.TypeRow.{TypeRow}
-use Rattle.program_tables.specs.declared.rows.TypeRow.TheVariants.{Ordinal, Subrange}
-use Rattle.program_tables.specs.ProgramRows.{size_of}
+use Rattle.core_program.specs.declared.rows.TypeRow.{TypeRow}
+use Rattle.core_program.specs.declared.rows.TypeRow.TheVariants.{Ordinal, Subrange}
+use Rattle.core_program.specs.ProgramRows.{size_of}
 use Rattle.check_steps.specs.Known.{Known, type_at}
 
 -- sizes of types, and offsets in them: 65,537 stands for more than 65,536

@@ -8,11 +8,11 @@ ghost use Rattle.kind_checker.specs.Constants.{is_integer, named_constant, integ
 ghost use Rattle.kind_checker.specs.Constants.{signed_value, text_value, value_in, value_of, value_row, with_sign};
 
 use check_steps::{Def, Definition, Found, Spelled, Tables, Work};
-use pas_places::sign_token;
+use core_program::rows::{CHAR, INTEGER, NameRow, Row};
 use pas_tree::blocks::{ConstantDefinition, ConstantPart};
 use pas_tree::constants::Constant;
 use pas_tree::operators::Sign;
-use program_tables::rows::{CHAR, INTEGER, NameRow, Row};
+use pas_tree::sign_token;
 use std::alloc::AllocError;
 
 /// What a constant stands for.

@@ -5,7 +5,7 @@ ghost use Rattle.kind_checker.specs.Sizes.{array_cells, capped, frame_capped, ho
 ghost use Rattle.kind_checker.specs.Sizes.{is_within_bytes, values_from, values_in};
 
 use check_steps::Tables;
-use program_tables::rows::TypeRow;
+use core_program::rows::TypeRow;
 
 /// What stands for more cells of a type than a variable may have.
 const CELLS: u32 = 65_537;

@@ -11,9 +11,9 @@ ghost use Rattle.kind_checker.specs.Types.{range_row, set_type, subrange, type_n
 use crate::constants::ConstantValue;
 use crate::sizes::{is_ordinal, is_within_bytes};
 use check_steps::{Def, Found, Tables, Work};
+use core_program::rows::{NameRow, Row, TypeRow};
 use pas_tree::constants::{Names, NextName};
 use pas_tree::denoters::Enumeration;
-use program_tables::rows::{NameRow, Row, TypeRow};
 
 /// Where a type denoter stands.
 #[derive(Clone, Copy)]

@@ -7,7 +7,7 @@ use Rattle.grammar.specs.Terminals.{is}
 use Rattle.grammar.specs.Grammars.{Level}
 use Rattle.grammar.specs.Deciding.{IsDecided, sane}
 use Rattle.grammar.proofs.LevelsTested.{rule_sane}
-use Rattle.grammar_refusals.specs.Laws.{Checks}
+use Rattle.grammar.specs.RefusalLaws.{Checks}
 use Rattle.pas_tree.specs.Rules as r
 use Rattle.pas_tree.specs.FirstFollow.{pascal}
 

@@ -2,8 +2,8 @@
 use Rattle.std.proofs.Common.{◌≡◌, ℕ, ◌<◌, List, [], length, drop, Ok, Err}
 use Rattle.grammar.specs.Nodes.{Item, Node}
 use Rattle.grammar.specs.Reading.{Deep, read}
-use Rattle.grammar_refusals.specs.Refusals.{StopsAt}
-use Rattle.grammar_refusals.proofs.FirstRefusals.{deep_first, first_deep, stop_first, first_stop, read_none_deep, read_none_hopeless}
+use Rattle.grammar.specs.Refusals.{StopsAt}
+use Rattle.grammar.proofs.FirstRefusals.{deep_first, first_deep, stop_first, first_stop, read_none_deep, read_none_hopeless}
 use Rattle.pas_tree.specs.Rules.{program_rule}
 use Rattle.pas_tree.specs.FirstFollow.{pascal}
 use Rattle.pas_tree.specs.FirstRefused.{IsFirstTooDeep, IsFirstHopeless, HasNeither, IsExactWhereRead, IsExactWhereFirst}

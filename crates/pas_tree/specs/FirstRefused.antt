@@ -2,7 +2,7 @@
 use Rattle.std.specs.Prelude.{◌≡◌, ℕ, ◌<◌, List, [], length, drop, Ok, Err}
 use Rattle.grammar.specs.Nodes.{Item, Node}
 use Rattle.grammar.specs.Reading.{Deep, read}
-use Rattle.grammar_refusals.specs.Refusals.{IsFirstTooDeepBy, IsFirstHopelessBy, IsHopeless, NoneTooDeep, StopsAt}
+use Rattle.grammar.specs.Refusals.{IsFirstTooDeepBy, IsFirstHopelessBy, IsHopeless, NoneTooDeep, StopsAt}
 use Rattle.pas_tree.specs.Rules.{program_rule}
 use Rattle.pas_tree.specs.FirstFollow.{pascal}
 

@@ -1,10 +1,15 @@
+pub mod Begins
 pub mod Blocks
 pub mod Constants
+pub mod DenoterPlaces
 pub mod Denoters
+pub mod ExpressionPlaces
 pub mod Expressions
 pub mod FirstFollow
 pub mod FirstRefused
+pub mod HeadingPlaces
 pub mod Headings
+pub mod OperatorPlaces
 pub mod Operators
 pub mod Rules
 pub mod SameConstants
@@ -13,4 +18,6 @@ pub mod SameExpressions
 pub mod SameHeadings
 pub mod SameStatements
 pub mod SameTrees
+pub mod StatementPlaces
 pub mod Statements
+pub mod TypedTrees

@@ -9,11 +9,11 @@ use Rattle.std.specs.FinMap.{get}
 use Rattle.cell_value.specs.declared.values.Value.{Value}
 use Rattle.cell_value.specs.declared.entries.Touch.{Touch}
 use Rattle.cell_value.specs.declared.entries.Touch.TheVariants as touch
-use Rattle.program_tables.specs.ProgramRows.{ProgramRows}
+use Rattle.core_program.specs.ProgramRows.{ProgramRows}
 use Rattle.cell_value.specs.Effects.{heap_end}
-use Rattle.program_meaning.specs.State.{State, stack_end, is_in_reach}
-use Rattle.program_meaning.specs.Blocks.{block_cells, lies_in_heap}
-use Rattle.program_meaning.specs.Acts.{
+use Rattle.core_program.specs.State.{State, stack_end, is_in_reach}
+use Rattle.core_program.specs.Blocks.{block_cells, lies_in_heap}
+use Rattle.core_program.specs.Acts.{
   Act,
   ActResult,
   Went,
@@ -41,12 +41,12 @@ use Rattle.program_meaning.specs.Acts.{
   made_block,
   dropped_block,
 }
-use Rattle.program_meaning.specs.Tree.{ActTree, Ret, Halt, Do, Sub, Enter, Line, way_of, bind}
-use Rattle.program_meaning.specs.Layer.{layer}
-use Rattle.program_meaning.specs.Run.{Halted}
-use Rattle.program_meaning.proofs.OutcomesCompose.{some_same, none_some}
-use Rattle.eval_machine.specs.Machines.{Moment}
-use Rattle.eval_tasks.specs.Stops.{Stop, AtEnd, on_act, next_stop}
+use Rattle.core_program.specs.Tree.{ActTree, Ret, Halt, Do, Sub, Enter, Line, way_of, bind}
+use Rattle.core_program.specs.Layer.{layer}
+use Rattle.core_program.specs.Run.{Halted}
+use Rattle.core_program.proofs.OutcomesCompose.{some_same, none_some}
+use Rattle.eval_ops.specs.Machines.{Moment}
+use Rattle.evaluator.specs.Stops.{Stop, AtEnd, on_act, next_stop}
 
 -- no call was entered and none was left, and each byte that was given out took a step
 pub record SameCalls (σ τ : State) : Type 0 where

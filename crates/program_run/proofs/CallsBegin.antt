@@ -3,15 +3,15 @@ use Rattle.std.proofs.Common.{◌≡◌, ℕ, ◌+◌, Bool, true, false, List, 
 use Rattle.cell_value.specs.declared.values.Value.{Value}
 use Rattle.cell_value.specs.declared.entries.Touch.{Touch}
 use Rattle.cell_value.specs.declared.ways_out.Which.TheVariants.{Stack}
-use Rattle.program_tables.specs.declared.program.Routine.{Routine}
-use Rattle.program_tables.specs.ProgramRows.{ProgramRows, routine_at}
-use Rattle.program_meaning.specs.State.{State, stack_end}
-use Rattle.program_meaning.specs.Acts.{Trouble, OutOfSteps, Limited, ActResult, Went, Stops, spent}
-use Rattle.program_meaning.specs.Tree.{way_of}
-use Rattle.program_meaning.specs.Run.{Halted, ends, after_all, opened, with_frame, without_frame, whole, in_frame, at_work, run_of}
-use Rattle.eval_machine.specs.Machines.{Moment}
-use Rattle.eval_machine.specs.Frames.{framing}
-use Rattle.eval_machine.proofs.CallsInFrames.{on_framing, in_frame_made}
+use Rattle.core_program.specs.declared.program.Routine.{Routine}
+use Rattle.core_program.specs.ProgramRows.{ProgramRows, routine_at}
+use Rattle.core_program.specs.State.{State, stack_end}
+use Rattle.core_program.specs.Acts.{Trouble, OutOfSteps, Limited, ActResult, Went, Stops, spent}
+use Rattle.core_program.specs.Tree.{way_of}
+use Rattle.core_program.specs.Run.{Halted, ends, after_all, opened, with_frame, without_frame, whole, in_frame, at_work, run_of}
+use Rattle.eval_ops.specs.Machines.{Moment}
+use Rattle.eval_ops.specs.Frames.{framing}
+use Rattle.eval_ops.proofs.CallsInFrames.{on_framing, in_frame_made}
 use Rattle.program_run.specs.Tower.{Rests, Ends, CallBegins, activation}
 
 -- a frame is made or not: no call is entered or left

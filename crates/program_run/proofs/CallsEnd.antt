@@ -4,13 +4,13 @@ use Rattle.std.specs.Prelude.{reverse}
 use Rattle.cell_value.specs.declared.values.Value.{Value}
 use Rattle.cell_value.specs.declared.ways_out.WayOut.{WayOut}
 use Rattle.cell_value.specs.declared.ways_out.WayOut.TheVariants as way
-use Rattle.program_tables.specs.ProgramRows.{ProgramRows}
-use Rattle.program_meaning.specs.State.{State}
-use Rattle.program_meaning.specs.Tree.{Out, Nothing, Scalar, Jump, Ret}
-use Rattle.program_meaning.specs.Run.{Ended, Halted}
-use Rattle.eval_machine.specs.Machines.{moment_of}
-use Rattle.eval_tasks.specs.declared.body.Body.{Body}
-use Rattle.program_meaning.specs.Replay.{end_of}
+use Rattle.core_program.specs.ProgramRows.{ProgramRows}
+use Rattle.core_program.specs.State.{State}
+use Rattle.core_program.specs.Tree.{Out, Nothing, Scalar, Jump, Ret}
+use Rattle.core_program.specs.Run.{Ended, Halted}
+use Rattle.eval_ops.specs.Machines.{moment_of}
+use Rattle.evaluator.specs.declared.body.Body.{Body}
+use Rattle.core_program.specs.Replay.{end_of}
 use Rattle.program_run.specs.declared.open_call.OpenCall.{OpenCall}
 use Rattle.program_run.specs.declared.runner.Runner.{Runner}
 use Rattle.program_run.specs.Tower.{Rests, Ends, IsOver, stage_after}

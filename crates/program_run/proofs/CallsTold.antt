@@ -8,11 +8,11 @@ use Rattle.cell_value.specs.Effects.{IsCountable, made_of, taken_of}
 use Rattle.call_tree.specs.Recording.{Recording}
 use Rattle.call_tree.specs.Told.{IsTold}
 use Rattle.call_tree.specs.declared.records.Call as table
-use Rattle.program_tables.specs.ProgramRows.{ProgramRows}
-use Rattle.program_meaning.specs.Run.{Marked, Call, Outcome, input_items, run}
-use Rattle.program_meaning.specs.Numbering.{each_from}
-use Rattle.run_laws.specs.Laws.{IsCounted, most_bytes}
-use Rattle.run_laws.proofs.CallsCounted.{calls_counted}
+use Rattle.core_program.specs.ProgramRows.{ProgramRows}
+use Rattle.core_program.specs.Run.{Marked, Call, Outcome, input_items, run}
+use Rattle.core_program.specs.Numbering.{each_from}
+use Rattle.core_program.specs.RunLaws.{IsCounted, most_bytes}
+use Rattle.core_program.proofs.CallsCounted.{calls_counted}
 use Rattle.program_run.specs.declared.history.History.{History}
 use Rattle.program_run.specs.History.{IsOfRun, log_of, recording_of}
 use Rattle.program_run.specs.Table.{table_row}

@@ -3,8 +3,8 @@ use Rattle.std.proofs.Common.{◌≡◌, ℕ, zero, suc, ◌+◌, ◌<◌, Bool,
 use Rattle.std.proofs.Common.{append_assoc, refl, sym, ap, ◌∙◌, append-nil, arith}
 use Rattle.std.specs.Prelude.{◌==◌, ◌&&◌, if◌then◌else◌}
 use Rattle.std.proofs.lemmas.Option.{slice_get-get_or}
-use Rattle.eval_machine.proofs.Lists.{drop_get}
-use Rattle.program_meaning.specs.Run.{input_items}
+use Rattle.eval_ops.proofs.Lists.{drop_get}
+use Rattle.core_program.specs.Run.{input_items}
 use Rattle.program_run.specs.History.{items_at}
 
 by_tests : (b : ℕ) (xs : List ℕ) (t u : Bool) → (if t then 256 ∷ xs else if u then xs else b ∷ xs) ≡ (if t then 256 ∷ [] else if u then [] else b ∷ []) ++ xs

@@ -3,16 +3,16 @@ use Rattle.std.proofs.Common.{◌≡◌, ℕ, zero, suc, ◌+◌, ◌<◌, ◌�
 use Rattle.cell_value.specs.declared.values.Value.{Value}
 use Rattle.cell_value.specs.declared.entries.Touch.{Touch}
 use Rattle.cell_value.specs.declared.ways_out.Which.{Which}
-use Rattle.program_tables.specs.ProgramRows.{ProgramRows}
-use Rattle.program_meaning.specs.State.{State}
-use Rattle.program_meaning.specs.Acts.{Spend, ActResult, Went, Stops, perform, limit_passed}
-use Rattle.program_meaning.specs.Tree.{Out, ActTree, Ret, Halt, Do, Sub, Enter, Line, way_of, bind}
-use Rattle.program_meaning.specs.Layer.{layer}
-use Rattle.program_meaning.specs.Run.{Ended, Halted}
-use Rattle.program_meaning.proofs.ActsTakeSteps.{cost, Acted, acted}
-use Rattle.program_meaning.proofs.OutcomesCompose.{some_same, none_some}
-use Rattle.eval_machine.specs.Machines.{Moment}
-use Rattle.eval_tasks.specs.Stops.{Stop, AtLine, AtCall, AtEnd, at_call, on_act, next_stop}
+use Rattle.core_program.specs.ProgramRows.{ProgramRows}
+use Rattle.core_program.specs.State.{State}
+use Rattle.core_program.specs.Acts.{Spend, ActResult, Went, Stops, perform, limit_passed}
+use Rattle.core_program.specs.Tree.{Out, ActTree, Ret, Halt, Do, Sub, Enter, Line, way_of, bind}
+use Rattle.core_program.specs.Layer.{layer}
+use Rattle.core_program.specs.Run.{Ended, Halted}
+use Rattle.core_program.proofs.ActsTakeSteps.{cost, Acted, acted}
+use Rattle.core_program.proofs.OutcomesCompose.{some_same, none_some}
+use Rattle.eval_ops.specs.Machines.{Moment}
+use Rattle.evaluator.specs.Stops.{Stop, AtLine, AtCall, AtEnd, at_call, on_act, next_stop}
 
 -- the steps that are left at a stop, where there were this many before
 abbrev pub LeftAt : (before : ℕ) → Stop → (steps : ℕ) → Type 0

@@ -5,10 +5,10 @@ use Rattle.std.proofs.Math.Seq.{set-append_seam, get_or-append_seam}
 use Rattle.std.proofs.lemmas.List.{map-append, length-map}
 use Rattle.std.proofs.lemmas.Option.{slice_get_read}
 use Rattle.cell_value.specs.declared.entries.Touch.{Touch}
-use Rattle.program_tables.specs.ProgramRows.{ProgramRows}
-use Rattle.program_meaning.specs.State.{State}
-use Rattle.program_meaning.specs.Tree.{ActTree}
-use Rattle.program_meaning.specs.Run.{
+use Rattle.core_program.specs.ProgramRows.{ProgramRows}
+use Rattle.core_program.specs.State.{State}
+use Rattle.core_program.specs.Tree.{ActTree}
+use Rattle.core_program.specs.Run.{
   Ended,
   Halted,
   End,
@@ -28,11 +28,11 @@ use Rattle.program_meaning.specs.Run.{
   plain,
   run_of,
 }
-use Rattle.program_meaning.specs.Numbering.{belows, Inside}
-use Rattle.program_meaning.proofs.MoreDepthSameResult.{Less, less_same, in_front_less, joined_less, recorded_less, after_less, run_less, plain_grows}
-use Rattle.program_meaning.proofs.NestedCallsAreIntervals.{within_append, within_call}
-use Rattle.program_meaning.proofs.CallsOfRunsNest.{belows_later}
-use Rattle.program_meaning.proofs.OutcomesCompose.{front_twice, less_then, none_some}
+use Rattle.core_program.specs.Numbering.{belows, Inside}
+use Rattle.core_program.proofs.MoreDepthSameResult.{Less, less_same, in_front_less, joined_less, recorded_less, after_less, run_less, plain_grows}
+use Rattle.core_program.proofs.NestedCallsAreIntervals.{within_append, within_call}
+use Rattle.core_program.proofs.CallsOfRunsNest.{belows_later}
+use Rattle.core_program.proofs.OutcomesCompose.{front_twice, less_then, none_some}
 use Rattle.call_tree.specs.Recording.{left, leaving}
 use Rattle.program_run.specs.Table.{side_of}
 use Rattle.program_run.specs.Tower.{Own, OpenLevel, OpenLevels, Bottom, Push, called, followed, whole_from, calls_so_far, numbers_of, logs_of, spot_of, below}

@@ -5,10 +5,10 @@ use Rattle.std.proofs.Math.ListN.{get_or-append}
 use Rattle.std.proofs.lemmas.Bool.{le-leb, lt-leb}
 use Rattle.std.proofs.lemmas.List.{get_or-append-add, map-append, length-map}
 use Rattle.call_tree.specs.declared.records.Call as table
-use Rattle.program_meaning.specs.Run.{Marked, Call, later_by}
-use Rattle.program_meaning.specs.Numbering.{greatest, count, belows, is_below, parent_of, each_from, Inside}
-use Rattle.program_meaning.proofs.NestedCallsAreIntervals.{same_test, count_same}
-use Rattle.program_meaning.proofs.CallsOfRunsNest.{belows_later}
+use Rattle.core_program.specs.Run.{Marked, Call, later_by}
+use Rattle.core_program.specs.Numbering.{greatest, count, belows, is_below, parent_of, each_from, Inside}
+use Rattle.core_program.proofs.NestedCallsAreIntervals.{same_test, count_same}
+use Rattle.core_program.proofs.CallsOfRunsNest.{belows_later}
 use Rattle.program_run.specs.Table.{row_with, table_of}
 use Rattle.program_run.specs.Tower.{RowSpot, below, first_spot, parent_at, call_row_at, rows_at}
 

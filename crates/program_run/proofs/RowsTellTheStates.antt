@@ -8,19 +8,19 @@ use Rattle.cell_value.specs.declared.values.Value.{Value}
 use Rattle.cell_value.specs.declared.entries.Touch.{Touch}
 use Rattle.cell_value.specs.Effects.{given_of}
 use Rattle.call_tree.specs.declared.records.Call as table
-use Rattle.program_tables.specs.ProgramRows.{ProgramRows}
-use Rattle.program_meaning.specs.State.{State, IsSound}
-use Rattle.program_meaning.specs.Acts.{Spend}
-use Rattle.program_meaning.specs.Tree.{ActTree}
-use Rattle.program_meaning.specs.Run.{Marked, Result, Call, later_by, record_of}
-use Rattle.program_meaning.specs.Numbering.{belows, each_from, Inside}
-use Rattle.program_meaning.proofs.CallsOfRunsNest.{belows_later}
-use Rattle.program_meaning.proofs.NestedCallsAreIntervals.{within_append, within_call}
-use Rattle.program_meaning.proofs.OutcomesCompose.{some_same, none_some}
-use Rattle.run_laws.proofs.ActsLeave.{Leaves, MayEnter, leaves_same, limits_hold}
-use Rattle.run_laws.proofs.Ways as ways
-use Rattle.run_laws.proofs.Ways.{of_call, Ran, RanFrame, RanCall}
-use Rattle.run_laws.proofs.RunsLeave.{act_left, sound_framed, sound_opened, ran_leaves, call_leaves}
+use Rattle.core_program.specs.ProgramRows.{ProgramRows}
+use Rattle.core_program.specs.State.{State, IsSound}
+use Rattle.core_program.specs.Acts.{Spend}
+use Rattle.core_program.specs.Tree.{ActTree}
+use Rattle.core_program.specs.Run.{Marked, Result, Call, later_by, record_of}
+use Rattle.core_program.specs.Numbering.{belows, each_from, Inside}
+use Rattle.core_program.proofs.CallsOfRunsNest.{belows_later}
+use Rattle.core_program.proofs.NestedCallsAreIntervals.{within_append, within_call}
+use Rattle.core_program.proofs.OutcomesCompose.{some_same, none_some}
+use Rattle.core_program.proofs.ActsLeave.{Leaves, MayEnter, leaves_same, limits_hold}
+use Rattle.core_program.proofs.Ways as ways
+use Rattle.core_program.proofs.Ways.{of_call, Ran, RanFrame, RanCall}
+use Rattle.core_program.proofs.RunsLeave.{act_left, sound_framed, sound_opened, ran_leaves, call_leaves}
 use Rattle.program_run.specs.Tower.{RowSpot, rows_at}
 use Rattle.program_run.proofs.RowsInParts.{rows_append, rows_moved, rows_call, further, later}
 

@@ -6,11 +6,11 @@ use Rattle.std.proofs.lemmas.List.{reverse-append}
 use Rattle.cell_value.specs.declared.values.Value.{Value}
 use Rattle.cell_value.specs.declared.ways_out.WayOut.{WayOut}
 use Rattle.call_tree.specs.Recording.{Recording, entered}
-use Rattle.program_tables.specs.ProgramRows.{ProgramRows}
-use Rattle.program_meaning.specs.State.{State}
-use Rattle.program_meaning.specs.Tree.{Out, ActTree}
-use Rattle.eval_machine.specs.Machines.{Moment}
-use Rattle.eval_tasks.specs.Stops.{Stop, NextStopIs}
+use Rattle.core_program.specs.ProgramRows.{ProgramRows}
+use Rattle.core_program.specs.State.{State}
+use Rattle.core_program.specs.Tree.{Out, ActTree}
+use Rattle.eval_ops.specs.Machines.{Moment}
+use Rattle.evaluator.specs.Stops.{Stop, NextStopIs}
 use Rattle.program_run.specs.declared.open_call.OpenCall.{OpenCall}
 use Rattle.program_run.specs.Table.{side_of}
 use Rattle.program_run.specs.Tower.{Activation, Calls, View, TowerAt, CallBegins}

@@ -2,12 +2,12 @@
 use Rattle.std.proofs.Common.{◌≡◌, ℕ, List, [], ◌∷◌, Some, length, refl, sym, ap, subst, ◌∙◌}
 use Rattle.cell_value.specs.declared.values.Value.{Value}
 use Rattle.cell_value.specs.declared.values.Value.TheVariants.{Nil}
-use Rattle.program_tables.specs.ProgramRows.{ProgramRows}
-use Rattle.program_meaning.specs.Tree.{Ret}
-use Rattle.program_meaning.specs.Run.{run, start}
-use Rattle.program_meaning.proofs.RunAtAnyDepth.{run_is}
+use Rattle.core_program.specs.ProgramRows.{ProgramRows}
+use Rattle.core_program.specs.Tree.{Ret}
+use Rattle.core_program.specs.Run.{run, start}
+use Rattle.core_program.proofs.RunAtAnyDepth.{run_is}
 use Rattle.call_tree.specs.Recording.{Recording, nothing_entered}
-use Rattle.eval_machine.specs.Machines.{Moment}
+use Rattle.eval_ops.specs.Machines.{Moment}
 use Rattle.program_run.specs.History.{first_state, recording_of, log_of, output_of}
 use Rattle.program_run.specs.Tower.{Calls, View, TowerAt, IsOver}
 use Rattle.program_run.proofs.StepsLeadToTheRun.{at_first}

@@ -2,18 +2,18 @@
 use Rattle.std.proofs.Common.{◌≡◌, ℕ, suc, ◌-◌, List, [], ◌∷◌, ◌++◌, Some, None, length, refl, sym, ap, subst, ◌∙◌, append-nil, arith}
 use Rattle.cell_value.specs.declared.values.Value.TheVariants.{Nil}
 use Rattle.cell_value.specs.declared.entries.Touch.{Touch}
-use Rattle.program_tables.specs.ProgramRows.{ProgramRows}
-use Rattle.program_meaning.specs.State.{State}
-use Rattle.program_meaning.specs.Acts.{limit_passed}
-use Rattle.program_meaning.specs.Tree.{Out, ActTree, Ret}
-use Rattle.program_meaning.specs.Run.{End, Result, Call, Outcome, in_front, ends, joined, if_allowed, recorded, after_all, call_closed, without_frame, call_of}
-use Rattle.program_meaning.specs.Run.{way_out, result_in}
-use Rattle.program_meaning.specs.Run.{plain, run_of}
-use Rattle.program_meaning.proofs.MoreDepthSameResult.{Less, less_same, joined_less, run_less, plain_grows}
-use Rattle.program_meaning.proofs.OutcomesCompose.{front_nothing, less_then, less_is}
+use Rattle.core_program.specs.ProgramRows.{ProgramRows}
+use Rattle.core_program.specs.State.{State}
+use Rattle.core_program.specs.Acts.{limit_passed}
+use Rattle.core_program.specs.Tree.{Out, ActTree, Ret}
+use Rattle.core_program.specs.Run.{End, Result, Call, Outcome, in_front, ends, joined, if_allowed, recorded, after_all, call_closed, without_frame, call_of}
+use Rattle.core_program.specs.Run.{way_out, result_in}
+use Rattle.core_program.specs.Run.{plain, run_of}
+use Rattle.core_program.proofs.MoreDepthSameResult.{Less, less_same, joined_less, run_less, plain_grows}
+use Rattle.core_program.proofs.OutcomesCompose.{front_nothing, less_then, less_is}
 use Rattle.call_tree.specs.Recording.{Recording, nothing_entered, entered, left, new_call}
-use Rattle.eval_machine.specs.Machines.{Moment}
-use Rattle.eval_tasks.specs.Stops.{Stop, AtLine, AtCall, AtEnd, NextStopIs}
+use Rattle.eval_ops.specs.Machines.{Moment}
+use Rattle.evaluator.specs.Stops.{Stop, AtLine, AtCall, AtEnd, NextStopIs}
 use Rattle.program_run.specs.Table.{side_of}
 use Rattle.program_run.specs.Tower.{OpenLevel, OpenLevels, Bottom, Push, called, followed, whole_from, Stage, Rests, Calls, Ends, stage_of, stage_after}
 use Rattle.program_run.specs.Tower.{left_inside, Leads}

@@ -4,16 +4,16 @@ use Rattle.cell_value.specs.declared.values.Value.{Value}
 use Rattle.cell_value.specs.declared.entries.Touch.{Touch}
 use Rattle.cell_value.specs.declared.ways_out.WayOut.TheVariants as way
 use Rattle.cell_value.specs.declared.ways_out.Which.{Which}
-use Rattle.program_tables.specs.ProgramRows.{ProgramRows}
-use Rattle.program_meaning.specs.State.{State}
-use Rattle.program_meaning.specs.Acts.{Act, Answer, Spend, ActResult, Went, Stops, perform, limit_passed}
-use Rattle.program_meaning.specs.Tree.{Out, ActTree, Ret, Halt, Do, Sub, Enter, Line, way_of, bind}
-use Rattle.program_meaning.specs.Layer.{layer}
-use Rattle.program_meaning.specs.Run.{Ended, Halted, Result, Rules, in_front, ends, joined, on_done, if_allowed, within}
-use Rattle.program_meaning.proofs.MoreDepthSameResult.{Less, Grows, run_less, joined_less, less_same, in_front_less}
-use Rattle.eval_machine.specs.Machines.{Moment}
-use Rattle.eval_tasks.specs.Stops.{Stop, AtLine, AtCall, AtEnd, at_call, on_act, next_stop}
-use Rattle.program_meaning.proofs.OutcomesCompose.{front_nothing, front_twice, walk_bind, some_same, none_some, less_then, less_is}
+use Rattle.core_program.specs.ProgramRows.{ProgramRows}
+use Rattle.core_program.specs.State.{State}
+use Rattle.core_program.specs.Acts.{Act, Answer, Spend, ActResult, Went, Stops, perform, limit_passed}
+use Rattle.core_program.specs.Tree.{Out, ActTree, Ret, Halt, Do, Sub, Enter, Line, way_of, bind}
+use Rattle.core_program.specs.Layer.{layer}
+use Rattle.core_program.specs.Run.{Ended, Halted, Result, Rules, in_front, ends, joined, on_done, if_allowed, within}
+use Rattle.core_program.proofs.MoreDepthSameResult.{Less, Grows, run_less, joined_less, less_same, in_front_less}
+use Rattle.eval_ops.specs.Machines.{Moment}
+use Rattle.evaluator.specs.Stops.{Stop, AtLine, AtCall, AtEnd, at_call, on_act, next_stop}
+use Rattle.core_program.proofs.OutcomesCompose.{front_nothing, front_twice, walk_bind, some_same, none_some, less_then, less_is}
 
 -- a call that passes no limit, and what follows it
 abbrev pub met : {S E : Type 0} → Rules S E → ProgramRows → ℕ → ℕ → List Value → (Out → ActTree) → S → Option (Result S E)

@@ -3,10 +3,10 @@ use Rattle.std.specs.Prelude.{◌≡◌, ℕ, List, [], ◌∷◌, ◌&&◌, ◌
 use Rattle.std.specs.FinMap.{empty}
 use Rattle.cell_value.specs.declared.entries.Touch.{Touch}
 use Rattle.call_tree.specs.Recording.{Recording}
-use Rattle.program_tables.specs.ProgramRows.{ProgramRows}
-use Rattle.program_meaning.specs.State.{State, stack_end}
-use Rattle.program_meaning.specs.Run.{Outcome, input_items, run}
-use Rattle.program_meaning.specs.Numbering.{calls_of}
+use Rattle.core_program.specs.ProgramRows.{ProgramRows}
+use Rattle.core_program.specs.State.{State, stack_end}
+use Rattle.core_program.specs.Run.{Outcome, input_items, run}
+use Rattle.core_program.specs.Numbering.{calls_of}
 use Rattle.program_run.specs.declared.history.History.{History}
 use Rattle.program_run.specs.Table.{table_of}
 

@@ -2,14 +2,14 @@
 use Rattle.std.specs.Prelude.{◌≡◌, ℕ, ◌<◌, List, [], ◌∷◌, Option, Some, None, length, map, reverse, ◌+◌, ◌-◌, ◌*◌}
 use Rattle.cell_value.specs.declared.values.Value.{Value}
 use Rattle.cell_value.specs.declared.ways_out.WayOut.{WayOut}
-use Rattle.program_tables.specs.declared.program.Routine.{Routine}
-use Rattle.program_tables.specs.ProgramRows.{ProgramRows}
-use Rattle.program_meaning.specs.State.{State}
-use Rattle.program_meaning.specs.Tree.{Out, ActTree, Ret}
-use Rattle.program_meaning.specs.Run.{End, Halted, whole, way_out, result_in}
-use Rattle.eval_machine.specs.Machines.{IsReady, Moment, moment_of}
-use Rattle.eval_tasks.specs.declared.body.Body.{Body}
-use Rattle.eval_tasks.specs.Rest.{rest_of, waiting}
+use Rattle.core_program.specs.declared.program.Routine.{Routine}
+use Rattle.core_program.specs.ProgramRows.{ProgramRows}
+use Rattle.core_program.specs.State.{State}
+use Rattle.core_program.specs.Tree.{Out, ActTree, Ret}
+use Rattle.core_program.specs.Run.{End, Halted, whole, way_out, result_in}
+use Rattle.eval_ops.specs.Machines.{IsReady, Moment, moment_of}
+use Rattle.evaluator.specs.declared.body.Body.{Body}
+use Rattle.evaluator.specs.Rest.{rest_of, waiting}
 use Rattle.program_run.specs.declared.open_call.OpenCall.{OpenCall}
 use Rattle.program_run.specs.declared.runner.Runner.{Runner}
 use Rattle.program_run.specs.Tower.{Stage, Rests, Ends, Open, View, TowerAt, CallBegins, IsOver, activation}

@@ -2,9 +2,9 @@
 use Rattle.std.specs.Prelude.{ℕ, ◌+◌, List, Option, length}
 use Rattle.call_tree.specs.declared.records.Side.{Side}
 use Rattle.call_tree.specs.declared.records.Call as table
-use Rattle.program_meaning.specs.State.{State}
-use Rattle.program_meaning.specs.Run.{Marked, Call}
-use Rattle.program_meaning.specs.Numbering.{belows, parent_of, depth_of, last_below, each_from}
+use Rattle.core_program.specs.State.{State}
+use Rattle.core_program.specs.Run.{Marked, Call}
+use Rattle.core_program.specs.Numbering.{belows, parent_of, depth_of, last_below, each_from}
 
 -- what is kept of a state beside a call, at a mark of the log
 abbrev pub side_of : (mark : ℕ) → State → Side

@@ -2,8 +2,8 @@
 use Rattle.std.specs.Prelude.{◌≡◌, ℕ, ◌≤◌, List, Some, length, slice_get}
 use Rattle.call_tree.specs.declared.records.Call.{Call}
 use Rattle.call_tree.specs.Told.{IsTold}
-use Rattle.program_tables.specs.ProgramRows.{ProgramRows}
-use Rattle.run_laws.specs.Laws.{most_bytes}
+use Rattle.core_program.specs.ProgramRows.{ProgramRows}
+use Rattle.core_program.specs.RunLaws.{most_bytes}
 use Rattle.program_run.specs.declared.history.History.{History}
 use Rattle.program_run.specs.History.{IsOfRun}
 

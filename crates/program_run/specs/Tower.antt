@@ -19,10 +19,10 @@ use Rattle.cell_value.specs.declared.values.Value.{Value}
 use Rattle.cell_value.specs.declared.entries.Touch.{Touch}
 use Rattle.call_tree.specs.declared.records.Call as table
 use Rattle.call_tree.specs.Recording.{Recording, new_call}
-use Rattle.program_tables.specs.ProgramRows.{ProgramRows, routine_at}
-use Rattle.program_meaning.specs.State.{State}
-use Rattle.program_meaning.specs.Tree.{Out, ActTree}
-use Rattle.program_meaning.specs.Run.{
+use Rattle.core_program.specs.ProgramRows.{ProgramRows, routine_at}
+use Rattle.core_program.specs.State.{State}
+use Rattle.core_program.specs.Tree.{Out, ActTree}
+use Rattle.core_program.specs.Run.{
   End,
   Ended,
   Halted,
@@ -44,9 +44,9 @@ use Rattle.program_meaning.specs.Run.{
   run_of,
   block,
 }
-use Rattle.program_meaning.specs.Numbering.{belows, parent_of, depth_of, last_below, each_from, Inside}
-use Rattle.eval_machine.specs.Machines.{Moment}
-use Rattle.eval_tasks.specs.Stops.{Stop, AtLine, AtCall, AtEnd}
+use Rattle.core_program.specs.Numbering.{belows, parent_of, depth_of, last_below, each_from, Inside}
+use Rattle.eval_ops.specs.Machines.{Moment}
+use Rattle.evaluator.specs.Stops.{Stop, AtLine, AtCall, AtEnd}
 use Rattle.program_run.specs.Table.{side_of, row_with}
 use Rattle.program_run.specs.History.{recording_of}
 

@@ -1,7 +1,7 @@
 //! The items of an input.
 
 ghost use Rattle.std.specs.Prelude.{◌≡◌, ◌+◌, ◌<◌, ◌≤◌, ◌++◌, IfOk, OnOk, length, slice_get};
-ghost use Rattle.program_meaning.specs.Run as meaning;
+ghost use Rattle.core_program.specs.Run as meaning;
 ghost use Rattle.program_run.specs.History.{items_at};
 
 use cell_value::{Items, Memory};

@@ -1,9 +1,9 @@
 //! A call that is open.
 
 ghost use Rattle.std.specs.Prelude.{◌+◌, ◌≤◌};
-ghost use Rattle.program_meaning.specs.State.{stack_end};
+ghost use Rattle.core_program.specs.State.{stack_end};
 
-use eval_tasks::Body;
+use evaluator::Body;
 
 /// A call that is open.
 #[derive(Drop)]

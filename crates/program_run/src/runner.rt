@@ -1,14 +1,14 @@
 //! The runner: it runs a program with the open calls in a list.
 
 ghost use Rattle.std.specs.Prelude.{◌≡◌, ℕ, ◌+◌, ◌<◌, ◌≤◌, IfOk, OnOk, IsSome, Some, None, Option, length};
-ghost use Rattle.program_tables.specs.declared.program.Routine as table;
-ghost use Rattle.program_tables.specs.ProgramRows.{ProgramRows, routine_at};
-ghost use Rattle.program_meaning.specs.State.{State, stack_end};
-ghost use Rattle.program_meaning.specs.Run.{End, Ended, Halted};
-ghost use Rattle.program_meaning.specs.Tree.{Out};
-ghost use Rattle.eval_machine.specs.Machines.{AllowsCall, IsReady, machine_state, moment_of};
-ghost use Rattle.eval_tasks.specs.declared.body.Body as bodies;
-ghost use Rattle.program_meaning.specs.Replay.{end_of};
+ghost use Rattle.core_program.specs.declared.program.Routine as table;
+ghost use Rattle.core_program.specs.ProgramRows.{ProgramRows, routine_at};
+ghost use Rattle.core_program.specs.State.{State, stack_end};
+ghost use Rattle.core_program.specs.Run.{End, Ended, Halted};
+ghost use Rattle.core_program.specs.Tree.{Out};
+ghost use Rattle.eval_ops.specs.Machines.{AllowsCall, IsReady, machine_state, moment_of};
+ghost use Rattle.evaluator.specs.declared.body.Body as bodies;
+ghost use Rattle.core_program.specs.Replay.{end_of};
 ghost use Rattle.program_run.specs.Table.{side_of};
 ghost use Rattle.program_run.specs.Tower.{Calls as Calling, Ends, IsOver, stage_after};
 ghost use Rattle.program_run.specs.Runners.{At, AtRest, CallBegun, Chain, InnermostEnds, IsWell, invocation, opens_in};
@@ -18,10 +18,9 @@ ghost use Rattle.program_run.specs.Runners.{work_left};
 use crate::open_call::OpenCall;
 use call_tree::{Calls, Side};
 use cell_value::{Cells, Memory, Value, WayOut};
-use eval_machine::{Halt, Machine, close_call, make_frame, open_call, remove_frame};
-use eval_tasks::{Body, Stop};
-use evaluator::go_on;
-use program_tables::Program;
+use core_program::Program;
+use eval_ops::{Halt, Machine, close_call, make_frame, open_call, remove_frame};
+use evaluator::{Body, Stop, go_on};
 use std::alloc::{AllocError, Global};
 
 /// A run at work.

@@ -1,8 +1,8 @@
 //! The run of a program.
 
 ghost use Rattle.std.specs.Prelude.{◌≡◌, ◌<◌, ◌≤◌, [], IfOk, length};
-ghost use Rattle.program_meaning.specs.Run as meaning;
-ghost use Rattle.eval_machine.specs.Machines.{IsReady, machine_state, moment_of};
+ghost use Rattle.core_program.specs.Run as meaning;
+ghost use Rattle.eval_ops.specs.Machines.{IsReady, machine_state, moment_of};
 ghost use Rattle.program_run.specs.History.{first_state, log_of, output_of, recording_of};
 ghost use Rattle.program_run.specs.Tower.{IsOver};
 
@@ -11,11 +11,11 @@ use crate::input::items_of;
 use crate::runner::Runner;
 use call_tree::Calls;
 use cell_value::{Cells, Items, Memory, Value};
+use core_program::Program;
 use edge_ports::Bytes;
 use effect_log::Log;
-use eval_machine::{Machine, STACK_END};
+use eval_ops::{Machine, STACK_END};
 use persistent_store::Store;
-use program_tables::Program;
 use std::alloc::Global;
 
 /// A machine in the state before a run.

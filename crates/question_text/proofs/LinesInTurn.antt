@@ -6,7 +6,7 @@ use Rattle.std.proofs.Math.Seq.{drop-cons}
 use Rattle.std.proofs.lemmas.List.{drop_all}
 use Rattle.call_tree.specs.declared.records.Call.{Call}
 use Rattle.call_tree.specs.declared.records.Mark.{Mark}
-use Rattle.program_tables.specs.ProgramRows.{ProgramRows}
+use Rattle.core_program.specs.ProgramRows.{ProgramRows}
 use Rattle.question_text.specs.Trees.{tree_from, tree_line}
 use Rattle.cell_value.specs.declared.values.Value.{Value}
 use Rattle.cell_names.specs.Names.{Scene, local_at}

@@ -7,8 +7,8 @@ use Rattle.cell_value.specs.Effects.{changes_of, given_of, looked_of, reads_of, 
 use Rattle.call_tree.specs.declared.records.Call.{Call}
 use Rattle.call_tree.specs.Recording.{routines_of}
 use Rattle.call_tree.specs.Told.{part_of}
-use Rattle.program_tables.specs.declared.program.Routine.{Routine}
-use Rattle.program_tables.specs.ProgramRows.{ProgramRows, routine_at, row_at}
+use Rattle.core_program.specs.declared.program.Routine.{Routine}
+use Rattle.core_program.specs.ProgramRows.{ProgramRows, routine_at, row_at}
 use Rattle.cell_names.specs.Places.{finds}
 use Rattle.cell_names.specs.Finding.{finding_of}
 use Rattle.cell_names.specs.Pieces.{in_quotation_marks}

@@ -7,7 +7,7 @@ use Rattle.cell_value.specs.declared.entries.Seen.{Seen}
 use Rattle.cell_value.specs.declared.entries.Seen.TheVariants.{Held, There, Absent}
 use Rattle.cell_value.specs.declared.entries.Change.{Change}
 use Rattle.cell_value.specs.declared.entries.Change.TheVariants.{Set, Gone}
-use Rattle.program_tables.specs.ProgramRows.{ProgramRows, name_of, size_of, text_at}
+use Rattle.core_program.specs.ProgramRows.{ProgramRows, name_of, size_of, text_at}
 use Rattle.cell_names.specs.declared.names.Local.{Local}
 use Rattle.cell_names.specs.declared.names.Root.{Root}
 use Rattle.cell_names.specs.Values.{typed_text, unknown}

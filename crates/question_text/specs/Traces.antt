@@ -4,7 +4,7 @@ use Rattle.cell_value.specs.declared.ways_out.WayOut.{WayOut}
 use Rattle.call_tree.specs.declared.events.Event.{Event}
 use Rattle.call_tree.specs.declared.events.Event.TheVariants.{Line, Child}
 use Rattle.call_tree.specs.declared.records.Call.{Call}
-use Rattle.program_tables.specs.ProgramRows.{ProgramRows}
+use Rattle.core_program.specs.ProgramRows.{ProgramRows}
 use Rattle.question_text.specs.Cards.{Recorded}
 use Rattle.question_text.specs.Lines.{call_text, inner_line}
 use Rattle.question_text.specs.WaysOut.{way_text}

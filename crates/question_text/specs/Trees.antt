@@ -1,7 +1,7 @@
 -- The calls of a run, a line for each.
 use Rattle.std.specs.Prelude.{ℕ, ◌+◌, List, [], ◌∷◌, ◌++◌, codes, decimal, Option, Some, None}
 use Rattle.call_tree.specs.declared.records.Call.{Call}
-use Rattle.program_tables.specs.ProgramRows.{ProgramRows, name_of}
+use Rattle.core_program.specs.ProgramRows.{ProgramRows, name_of}
 use Rattle.call_tree.specs.declared.records.Mark.{Mark}
 use Rattle.call_tree.specs.declared.records.Mark.TheVariants as mark
 

@@ -3,7 +3,7 @@
 ghost use Rattle.std.specs.Prelude.{◌≡◌, ◌+◌, ◌++◌, ◌≤◌, OnErr, OnOk, Some, flat_map, length, min, slice_get};
 ghost use Rattle.std.specs.Prelude.{slice_range};
 ghost use Rattle.call_tree.specs.declared.records.Call.{Call as TableCall};
-ghost use Rattle.program_tables.specs.ProgramRows.{routine_at};
+ghost use Rattle.core_program.specs.ProgramRows.{routine_at};
 ghost use Rattle.cell_names.specs.Finding.{finding_of, finding_in};
 ghost use Rattle.cell_names.specs.Names.{scene_in};
 ghost use Rattle.cell_names.specs.Pieces.{in_quotation_marks};
@@ -19,10 +19,9 @@ use crate::ways_out::write_way_line;
 use call_tree::{Call, Calls};
 use cell_names::{NameFinder, Scene, result_of, write_quoted, write_quoted_items, write_typed};
 use cell_value::{Items, Value};
+use core_program::Program;
 use edge_ports::Bytes;
-use effect_log::{Footprint, Log};
-use effect_pages::effect;
-use program_tables::Program;
+use effect_log::{Footprint, Log, effect};
 use std::alloc::{AllocError, Global};
 
 /// A run, as its cards tell of it.

@@ -10,9 +10,9 @@ use cell_names::{
     Held, Local, Root, Scene, local_at, root_at, write_long, write_root, write_typed, write_way,
 };
 use cell_value::{Cells, Change, Seen, Value};
+use core_program::Program;
 use edge_ports::Bytes;
 use effect_log::{Changes, Reads};
-use program_tables::Program;
 use std::alloc::AllocError;
 
 /// Appends the name of the variable of a type that has an address.

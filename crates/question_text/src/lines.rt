@@ -5,8 +5,8 @@ ghost use Rattle.question_text.specs.Lines.{call_line, call_text, in_parent};
 
 use call_tree::Call;
 use cell_names::write_number;
+use core_program::Program;
 use edge_ports::Bytes;
-use program_tables::Program;
 use std::alloc::AllocError;
 
 /// Appends a call by its number and the name of its routine.

@@ -5,8 +5,8 @@ ghost use Rattle.question_text.specs.Trees.{mark_text, numbered_routine, tree_li
 
 use call_tree::{Call, Calls, Mark};
 use cell_names::write_number;
+use core_program::Program;
 use edge_ports::Bytes;
-use program_tables::Program;
 use std::alloc::{AllocError, Global};
 
 /// The name of what is said of a call.

@@ -7,7 +7,7 @@ use Rattle.pas_tree.specs.declared.denoters.Fields.{Fields, Empty, Fixed', Varia
 use Rattle.pas_tree.specs.declared.denoters.Fixed.{Fixed as FixedTree, Fixed' as FixedTree', Row_of-NextSection, end_of-NextSection, more_of-NextSection}
 use Rattle.pas_tree.specs.declared.denoters.NextVariants.{NextVariants', NextVariants}
 use Rattle.pas_tree.specs.declared.denoters.Variants.{Variants as VariantsTree, Variants', Row_of-NextArm, end_of-NextArm, more_of-NextArm}
-use Rattle.typed_trees.proofs.Memory.{boxed}
+use Rattle.pas_tree.proofs.Memory.{boxed}
 use Rattle.same_programs.proofs.Memory.{again, shaped}
 use Rattle.same_programs.proofs.BareNames.{bare_names, bare_constants}
 

@@ -15,7 +15,7 @@ use Rattle.pas_tree.specs.declared.expressions.SomeMembers.{SomeMembers', Row_of
 use Rattle.pas_tree.specs.declared.expressions.NextMember.{NextMember', NextMember}
 use Rattle.pas_tree.specs.declared.expressions.Member.{Member, Member', Held-Member-last, Member-last-None', Member-last-Some'}
 use Rattle.pas_tree.specs.declared.expressions.RangeEnd.{RangeEnd', RangeEnd}
-use Rattle.typed_trees.proofs.Memory.{boxed}
+use Rattle.pas_tree.proofs.Memory.{boxed}
 use Rattle.same_programs.proofs.Memory.{again, bare, shaped}
 use Rattle.pas_tree.specs.declared.expressions.NextFactor.{NextFactor}
 

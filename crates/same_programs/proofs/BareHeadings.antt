@@ -5,7 +5,7 @@ use Rattle.pas_tree.specs.declared.headings.FunctionHeading.{FunctionHeading, Fu
 use Rattle.pas_tree.specs.declared.headings.Formals.{Formals, Formals', Row_of-NextFormal, end_of-NextFormal, more_of-NextFormal}
 use Rattle.pas_tree.specs.declared.headings.Formal.{Formal, Value, Variable, Routine'}
 use Rattle.pas_tree.specs.declared.headings.FormalNames.{FormalNames}
-use Rattle.typed_trees.proofs.Memory.{boxed}
+use Rattle.pas_tree.proofs.Memory.{boxed}
 use Rattle.same_programs.proofs.Memory.{again, shaped}
 use Rattle.same_programs.proofs.BareNames.{bare_names}
 use Rattle.pas_tree.specs.declared.headings.NextFormal.{NextFormal}

@@ -1,7 +1,7 @@
 -- Names as they would lie in no memory.
 use Rattle.pas_tree.specs.declared.constants.Names.{Names}
 use Rattle.pas_tree.specs.declared.constants.Constants.{Constants}
-use Rattle.typed_trees.proofs.Memory.{held}
+use Rattle.pas_tree.proofs.Memory.{held}
 use Rattle.same_programs.proofs.Memory.{is_short}
 
 abbrev pub bare_names : Names → Names

@@ -12,7 +12,7 @@ use Rattle.pas_tree.specs.declared.statements.If.{If, If' as IfTree', Held-If-al
 use Rattle.pas_tree.specs.declared.statements.Case.{Case, Case' as CaseTree', Row_of-NextBranch, end_of-NextBranch, more_of-NextBranch}
 use Rattle.pas_tree.specs.declared.statements.Repeat.{Repeat, Repeat' as RepeatTree'}
 use Rattle.pas_tree.specs.declared.statements.NextAccess.{NextAccess}
-use Rattle.typed_trees.proofs.Memory.{boxed}
+use Rattle.pas_tree.proofs.Memory.{boxed}
 use Rattle.same_programs.proofs.Memory.{again, bare, shaped}
 use Rattle.same_programs.proofs.BareNames.{bare_constants}
 use Rattle.same_programs.proofs.BareExpressions.{bare_expression, bare_access}

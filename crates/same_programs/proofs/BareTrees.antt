@@ -9,7 +9,7 @@ use Rattle.pas_tree.specs.declared.blocks.TypeDefinition.{TypeDefinition}
 use Rattle.pas_tree.specs.declared.blocks.VariablePart.{VariablePart}
 use Rattle.pas_tree.specs.declared.blocks.VariableDeclaration.{VariableDeclaration}
 use Rattle.pas_tree.specs.declared.blocks.RoutineBody.{RoutineBody, Directive, Block'}
-use Rattle.typed_trees.proofs.Memory.{boxed, held}
+use Rattle.pas_tree.proofs.Memory.{boxed, held}
 use Rattle.same_programs.proofs.Memory.{again, bare, is_short, shaped}
 use Rattle.same_programs.proofs.BareNames.{bare_names}
 use Rattle.same_programs.proofs.BareDenoters.{bare_denoter}

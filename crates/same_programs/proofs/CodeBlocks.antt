@@ -5,9 +5,9 @@ use Rattle.pas_tree.specs.declared.blocks.RoutineBody.{RoutineBody, Directive, B
 use Rattle.pas_tree.specs.declared.statements.Compound.{Compound, out-Compound}
 use Rattle.check_steps.specs.declared.regions.Span.{Span}
 use Rattle.check_steps.specs.Steps.{give, ◌>>=◌, look, enter_block}
-use Rattle.statement_rules.specs.Labels.{reach_all}
+use Rattle.statement_checker.specs.Labels.{reach_all}
 use Rattle.decl_checker.specs.Routines.{own_frame}
-use Rattle.code_checker.specs.Places.{span_of}
+use Rattle.code_checker.specs.CodePlaces.{span_of}
 use Rattle.code_checker.specs.Results.{function_result, name_in_first}
 use Rattle.code_checker.specs.Blocks.{statement_part, code_block, code_routines, code_body}
 use Rattle.std.proofs.Common.{◌≡◌, refl, ◌∙◌}

@@ -1,4 +1,4 @@
--- What the definitions of `Rattle.code_checker.specs.Places` say of bare trees.
+-- What the definitions of `Rattle.code_checker.specs.CodePlaces` say of bare trees.
 use Rattle.std.specs.Prelude.{ℕ, Option, Some, None}
 use Rattle.pas_tree.specs.declared.blocks.Block.{Block, out-Block}
 use Rattle.pas_tree.specs.declared.blocks.LabelPart.{LabelPart}
@@ -6,7 +6,7 @@ use Rattle.pas_tree.specs.declared.blocks.ConstantPart.{ConstantPart}
 use Rattle.pas_tree.specs.declared.blocks.TypePart.{TypePart}
 use Rattle.pas_tree.specs.declared.statements.Compound.{out-Compound}
 use Rattle.decl_checker.specs.Blocks.{after_types}
-use Rattle.code_checker.specs.Places.{first_of_parts, first_of_block, span_of}
+use Rattle.code_checker.specs.CodePlaces.{first_of_parts, first_of_block, span_of}
 use Rattle.std.proofs.Common.{◌≡◌, refl, ◌∙◌, option_map}
 use Rattle.same_programs.proofs.BareTrees.{bare_block, bare_constant_part, bare_label_part, bare_type_part}
 use Rattle.same_programs.proofs.Readers.{block_body, block_constants, block_labels, block_types, compound_begin}

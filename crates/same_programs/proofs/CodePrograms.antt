@@ -1,7 +1,7 @@
--- What the definitions of `Rattle.code_checker.specs.Programs` say of bare trees.
+-- What the definitions of `Rattle.code_checker.specs.CheckedPrograms` say of bare trees.
 use Rattle.pas_tree.specs.declared.blocks.Tree.{Tree}
 use Rattle.check_steps.specs.Steps.{◌>>=◌}
-use Rattle.code_checker.specs.Programs.{check_step}
+use Rattle.code_checker.specs.CheckedPrograms.{check_step}
 use Rattle.std.proofs.Common.{◌≡◌}
 use Rattle.same_programs.proofs.BareTrees.{bare_tree}
 use Rattle.same_programs.proofs.DeclarePrograms.{program_step-bare}

@@ -9,7 +9,7 @@ use Rattle.pas_tree.specs.declared.statements.Compound.{Compound}
 use Rattle.check_steps.specs.Known.{frame_at}
 use Rattle.check_steps.specs.Steps.{◌>>=◌, look}
 use Rattle.denoter_checker.specs.Parts.{define_type, define_variable, types_in, variable_declaration, variables_in}
-use Rattle.heading_checker.specs.RoutineParts.{define_routines}
+use Rattle.denoter_checker.specs.RoutineParts.{define_routines}
 use Rattle.decl_checker.specs.Labels.{define_labels}
 use Rattle.decl_checker.specs.Blocks.{define_constants, define_types, define_variables, define_block, constants, types, variables, first_word, word_after}
 use Rattle.decl_checker.specs.Blocks.{after_types, parts}

@@ -5,14 +5,14 @@ use Rattle.pas_tree.specs.declared.blocks.Routine.{Routine}
 use Rattle.pas_tree.specs.declared.blocks.RoutineBody.{RoutineBody, Directive, Block'}
 use Rattle.pas_tree.specs.declared.headings.Heading.{Heading}
 use Rattle.pas_tree.specs.declared.statements.Compound.{out-Compound}
-use Rattle.program_tables.specs.declared.rows.Row.TheVariants as row
-use Rattle.program_tables.specs.declared.rows.NameRow.TheVariants as named
+use Rattle.core_program.specs.declared.rows.Row.TheVariants as row
+use Rattle.core_program.specs.declared.rows.NameRow.TheVariants as named
 use Rattle.check_steps.specs.Known.{frame_at, row_at}
 use Rattle.check_steps.specs.Steps.{give, ◌>>=◌, look, put, add_routine}
-use Rattle.heading_checker.specs.Formals.{is_function}
-use Rattle.heading_checker.specs.Headings.{signature}
-use Rattle.heading_checker.specs.RoutineParts.{completion_of, routine_name}
-use Rattle.use_checker.specs.Statements.{compound_uses}
+use Rattle.denoter_checker.specs.Formals.{is_function}
+use Rattle.denoter_checker.specs.Headings.{signature}
+use Rattle.denoter_checker.specs.RoutineParts.{completion_of, routine_name}
+use Rattle.decl_checker.specs.Statements.{compound_uses}
 use Rattle.decl_checker.specs.declared.routines.Entered.{Entered}
 use Rattle.decl_checker.specs.Blocks.{parts, put_body}
 use Rattle.decl_checker.specs.Routines.{open_routine, define_body, define_completion, define_inside, result_place, place_after_result, heading_row}

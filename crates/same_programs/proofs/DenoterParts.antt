@@ -3,8 +3,8 @@ use Rattle.std.specs.Prelude.{ℕ, Some}
 use Rattle.pas_tree.specs.declared.blocks.TypePart.{TypePart}
 use Rattle.pas_tree.specs.declared.blocks.TypeDefinition.{TypeDefinition}
 use Rattle.pas_tree.specs.declared.blocks.VariableDeclaration.{VariableDeclaration}
-use Rattle.program_tables.specs.declared.rows.Row.TheVariants as row
-use Rattle.program_tables.specs.declared.rows.NameRow.TheVariants as named
+use Rattle.core_program.specs.declared.rows.Row.TheVariants as row
+use Rattle.core_program.specs.declared.rows.NameRow.TheVariants as named
 use Rattle.check_steps.specs.declared.regions.Def.TheVariants as def
 use Rattle.check_steps.specs.Known.{frame_at}
 use Rattle.check_steps.specs.Steps.{◌>>=◌, look, put}

@@ -1,8 +1,8 @@
 -- What the definitions of `Rattle.denoter_checker.specs.Variants` say of bare trees.
 use Rattle.std.specs.Prelude.{ℕ}
 use Rattle.pas_tree.specs.declared.constants.Constants.{Constants}
-use Rattle.program_tables.specs.declared.rows.Row.TheVariants as row
-use Rattle.program_tables.specs.declared.rows.PartRow.TheVariants as part
+use Rattle.core_program.specs.declared.rows.Row.TheVariants as row
+use Rattle.core_program.specs.declared.rows.PartRow.TheVariants as part
 use Rattle.check_steps.specs.Steps.{give, ◌>>=◌, put}
 use Rattle.denoter_checker.specs.declared.variants.Choosing.{Choosing}
 use Rattle.denoter_checker.specs.declared.variants.Listed.{Listed}

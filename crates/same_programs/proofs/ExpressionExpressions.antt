@@ -18,18 +18,18 @@ use Rattle.pas_tree.specs.declared.expressions.NextMember.{NextMember, NextMembe
 use Rattle.pas_tree.specs.declared.expressions.Member.{Member, Member', Held-Member-last, Member-last-None', Member-last-Some'}
 use Rattle.pas_tree.specs.declared.expressions.RangeEnd.{RangeEnd, RangeEnd'}
 use Rattle.check_steps.specs.Steps.{give, ◌>>=◌}
-use Rattle.pas_places.specs.Operators.{adding_token, multiplying_token, relational_token}
+use Rattle.pas_tree.specs.OperatorPlaces.{adding_token, multiplying_token, relational_token}
 use Rattle.expression_checker.specs.declared.actuals.Passing.{Passing}
-use Rattle.operand_checker.specs.declared.members.MemberStart.{MemberStart}
-use Rattle.operand_checker.specs.declared.members.Gathered.{Gathered}
-use Rattle.operand_checker.specs.declared.typed.Typed.{Typed}
+use Rattle.expression_checker.specs.declared.members.MemberStart.{MemberStart}
+use Rattle.expression_checker.specs.declared.members.Gathered.{Gathered}
+use Rattle.expression_checker.specs.declared.typed.Typed.{Typed}
 use Rattle.expression_checker.specs.Actuals.{actual_by, actuals_end}
 use Rattle.expression_checker.specs.Callees.{applied, called_function}
-use Rattle.operand_checker.specs.Members.{member_range, nothing_gathered, set_constructor}
-use Rattle.operand_checker.specs.Names.{variable}
-use Rattle.operand_checker.specs.Operations.{adding_operator, multiplying_operator, negated, operated, relational_operator, signed}
-use Rattle.operand_checker.specs.Selectors.{indexed}
-use Rattle.operand_checker.specs.Typed.{bracketed}
+use Rattle.expression_checker.specs.Members.{member_range, nothing_gathered, set_constructor}
+use Rattle.expression_checker.specs.Names.{variable}
+use Rattle.expression_checker.specs.Operations.{adding_operator, multiplying_operator, negated, operated, relational_operator, signed}
+use Rattle.expression_checker.specs.Selectors.{indexed}
+use Rattle.expression_checker.specs.Typed.{bracketed}
 use Rattle.expression_checker.specs.Expressions.{root_name, count_of, passing_to, expression, relation_held, related, simple, terms, next_term, term, factors}
 use Rattle.expression_checker.specs.Expressions.{factor, call, more_arguments, next_argument, selected, selector, index_at, more_indexes, next_index}
 use Rattle.expression_checker.specs.Expressions.{constructor, some_members, more_members, next_member, member, range_held, range, actual, access}

@@ -1,4 +1,4 @@
--- What the definitions of `Rattle.heading_checker.specs.Formals` say of bare trees.
+-- What the definitions of `Rattle.denoter_checker.specs.Formals` say of bare trees.
 use Rattle.std.specs.Prelude.{ℕ, Option, Some, None, is_some, not, ◌||◌}
 use Rattle.pas_tree.specs.declared.headings.Heading.{Heading, Procedure, Function}
 use Rattle.pas_tree.specs.declared.headings.ProcedureHeading.{ProcedureHeading'}
@@ -10,9 +10,9 @@ use Rattle.check_steps.specs.Known.{frame_at}
 use Rattle.check_steps.specs.Steps.{◌>>=◌, look, each}
 use Rattle.kind_checker.specs.declared.names.NameKind.TheVariants as kind
 use Rattle.kind_checker.specs.Names.{define_name}
-use Rattle.heading_checker.specs.Formals.{is_function, held_formals, formals_of, result_of, is_complete, opening_parenthesis, closing_parenthesis, first_formal}
-use Rattle.heading_checker.specs.Formals.{other_formals}
-use Rattle.heading_checker.specs.Formals.{define_formal, define_next_formal, define_each_formal, define_held, define_formals, define_formals_at}
+use Rattle.denoter_checker.specs.Formals.{is_function, held_formals, formals_of, result_of, is_complete, opening_parenthesis, closing_parenthesis, first_formal}
+use Rattle.denoter_checker.specs.Formals.{other_formals}
+use Rattle.denoter_checker.specs.Formals.{define_formal, define_next_formal, define_each_formal, define_held, define_formals, define_formals_at}
 use Rattle.std.proofs.Common.{◌≡◌, refl, ◌∙◌, map, option_map}
 use Rattle.same_programs.proofs.Steps.{each-bare}
 use Rattle.same_programs.proofs.BareHeadings.{bare_formal, bare_formals, bare_heading, bare_held_formals, bare_next_formal}

@@ -1,4 +1,4 @@
--- What the definitions of `Rattle.heading_checker.specs.Headings` say of bare trees.
+-- What the definitions of `Rattle.denoter_checker.specs.Headings` say of bare trees.
 use Rattle.std.specs.Prelude.{ℕ, ◌+◌, Option, Some, None}
 use Rattle.pas_tree.specs.declared.constants.Names.{Names}
 use Rattle.pas_tree.specs.declared.headings.Heading.{Heading, Procedure, Function}
@@ -9,19 +9,19 @@ use Rattle.pas_tree.specs.declared.headings.Formals.{Formals, Formals', Row_of-N
 use Rattle.pas_tree.specs.declared.headings.NextFormal.{NextFormal}
 use Rattle.pas_tree.specs.declared.headings.Formal.{Formal, Value, Variable, Routine'}
 use Rattle.pas_tree.specs.declared.headings.FormalNames.{FormalNames}
-use Rattle.program_tables.specs.declared.rows.Row.TheVariants as row
-use Rattle.program_tables.specs.declared.rows.NameRow.TheVariants as named
-use Rattle.program_tables.specs.declared.rows.Mode.{Mode}
-use Rattle.program_tables.specs.declared.rows.Mode.TheVariants as mode
-use Rattle.program_tables.specs.declared.rows.PartRow.TheVariants as part
-use Rattle.program_tables.specs.declared.rows.ItemRow.TheVariants as item
+use Rattle.core_program.specs.declared.rows.Row.TheVariants as row
+use Rattle.core_program.specs.declared.rows.NameRow.TheVariants as named
+use Rattle.core_program.specs.declared.rows.Mode.{Mode}
+use Rattle.core_program.specs.declared.rows.Mode.TheVariants as mode
+use Rattle.core_program.specs.declared.rows.PartRow.TheVariants as part
+use Rattle.core_program.specs.declared.rows.ItemRow.TheVariants as item
 use Rattle.check_steps.specs.Known.{frame_at}
 use Rattle.check_steps.specs.Steps.{give, ◌>>=◌, look, early, put, open_region, each_back}
 use Rattle.kind_checker.specs.Sizes.{frame_capped}
-use Rattle.heading_checker.specs.Formals.{held_formals, opening_parenthesis, closing_parenthesis, first_formal, other_formals}
-use Rattle.heading_checker.specs.Headings.{parameters, routine_formal, open_heading, count_of, section_row, put_section, put_next_section, put_sections}
-use Rattle.heading_checker.specs.Headings.{section_list, result_or, procedure_row, function_row, signature, procedure_signature, function_signature}
-use Rattle.heading_checker.specs.Headings.{places_held, places, more_places, formal_place}
+use Rattle.denoter_checker.specs.Formals.{held_formals, opening_parenthesis, closing_parenthesis, first_formal, other_formals}
+use Rattle.denoter_checker.specs.Headings.{parameters, routine_formal, open_heading, count_of, section_row, put_section, put_next_section, put_sections}
+use Rattle.denoter_checker.specs.Headings.{section_list, result_or, procedure_row, function_row, signature, procedure_signature, function_signature}
+use Rattle.denoter_checker.specs.Headings.{places_held, places, more_places, formal_place}
 use Rattle.std.proofs.Common.{◌≡◌, refl, ◌∙◌, option_map}
 use Rattle.same_programs.proofs.Steps.{each_back-bare}
 use Rattle.same_programs.proofs.BareHeadings.{bare_formal, bare_formal_names, bare_formals, bare_function, bare_heading, bare_held_formals, bare_more_formals}

@@ -1,21 +1,21 @@
--- What the definitions of `Rattle.heading_checker.specs.RoutineParts` say of bare trees.
+-- What the definitions of `Rattle.denoter_checker.specs.RoutineParts` say of bare trees.
 use Rattle.std.specs.Prelude.{ℕ, ◌+◌, min, false, List, Option, Some, None, not}
 use Rattle.pas_tree.specs.declared.headings.Heading.{Heading}
 use Rattle.pas_tree.specs.declared.headings.Formals.{Formals}
 use Rattle.pas_tree.specs.declared.blocks.Routine.{Routine}
 use Rattle.pas_tree.specs.declared.blocks.RoutineBody.{RoutineBody, Directive, Block'}
-use Rattle.program_tables.specs.declared.rows.Row.TheVariants as row
-use Rattle.program_tables.specs.declared.rows.PartRow.TheVariants as part
+use Rattle.core_program.specs.declared.rows.Row.TheVariants as row
+use Rattle.core_program.specs.declared.rows.PartRow.TheVariants as part
 use Rattle.check_steps.specs.declared.regions.Def.TheVariants as def
 use Rattle.check_steps.specs.Known.{Known, name_at, row_at}
 use Rattle.check_steps.specs.Regions.{defined_in}
 use Rattle.check_steps.specs.Names.{define_in}
 use Rattle.check_steps.specs.Steps.{give, ◌>>=◌, look, early, when, put}
-use Rattle.pas_places.specs.Headings.{heading_name}
-use Rattle.heading_checker.specs.Formals.{is_function, formals_of, result_of}
-use Rattle.heading_checker.specs.RoutineParts.{routine_name, awaiting, completed_by, define_heading, is_forward, directed, directive_in, defining, no_formals}
-use Rattle.heading_checker.specs.RoutineParts.{no_result, completing, complete_or_define, define_routine, is_waiting, has_block, define_routines, block_in}
-use Rattle.heading_checker.specs.RoutineParts.{routine_at, completion_of}
+use Rattle.pas_tree.specs.HeadingPlaces.{heading_name}
+use Rattle.denoter_checker.specs.Formals.{is_function, formals_of, result_of}
+use Rattle.denoter_checker.specs.RoutineParts.{routine_name, awaiting, completed_by, define_heading, is_forward, directed, directive_in, defining, no_formals}
+use Rattle.denoter_checker.specs.RoutineParts.{no_result, completing, complete_or_define, define_routine, is_waiting, has_block, define_routines, block_in}
+use Rattle.denoter_checker.specs.RoutineParts.{routine_at, completion_of}
 use Rattle.std.proofs.Common.{◌≡◌, refl, ◌∙◌, map, option_map}
 use Rattle.same_programs.proofs.Steps.{each-bare, slice_get-map}
 use Rattle.same_programs.proofs.BareTrees.{bare_body, bare_routine}

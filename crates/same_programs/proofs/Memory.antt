@@ -5,7 +5,7 @@ use mathlib.Core.Former.{Count, none_left, one_more, list_count, this}
 use native.Mathlib.Bridge.{le_prop}
 use lib.ListN.{length-map}
 use Rattle.pas_tree.specs.SameConstants.{AllSame}
-use Rattle.typed_trees.proofs.Memory.{Short, held}
+use Rattle.pas_tree.proofs.Memory.{Short, held}
 
 abbrev pub held_same : {X : Type 0} (xs ys : List X) (p : Short xs) (q : Short ys) (e : xs ≡ ys) → held xs p ≡ held ys q
 held_same xs ys p q e = λ i. held (e i) (is_prop→PathP (λ j. Short (e j)) (λ j. le_prop) p q i)

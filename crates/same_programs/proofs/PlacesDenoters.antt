@@ -1,9 +1,9 @@
--- What the definitions of `Rattle.pas_places.specs.Denoters` say of bare trees.
+-- What the definitions of `Rattle.pas_tree.specs.DenoterPlaces` say of bare trees.
 use Rattle.std.specs.Prelude.{Some, None}
 use Rattle.pas_tree.specs.declared.denoters.Denoter.{Denoter, Name, Enumeration, Subrange, Pointer, Structure'}
 use Rattle.pas_tree.specs.declared.denoters.Structure.{Structure, Array, Record', Set'}
 use Rattle.pas_tree.specs.declared.denoters.ArrayDenoter.{ArrayDenoter'}
-use Rattle.pas_places.specs.Denoters.{first_of_structure, first_of_denoter}
+use Rattle.pas_tree.specs.DenoterPlaces.{first_of_structure, first_of_denoter}
 use Rattle.std.proofs.Common.{◌≡◌, refl}
 use Rattle.same_programs.proofs.BareDenoters.{bare_denoter, bare_structure}
 

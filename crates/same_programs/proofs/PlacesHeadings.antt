@@ -1,8 +1,8 @@
--- What the definitions of `Rattle.pas_places.specs.Headings` say of bare trees.
+-- What the definitions of `Rattle.pas_tree.specs.HeadingPlaces` say of bare trees.
 use Rattle.pas_tree.specs.declared.headings.Heading.{Heading, Procedure, Function}
 use Rattle.pas_tree.specs.declared.headings.ProcedureHeading.{ProcedureHeading'}
 use Rattle.pas_tree.specs.declared.headings.FunctionHeading.{FunctionHeading'}
-use Rattle.pas_places.specs.Headings.{heading_word, heading_name}
+use Rattle.pas_tree.specs.HeadingPlaces.{heading_word, heading_name}
 use Rattle.std.proofs.Common.{◌≡◌, refl}
 use Rattle.same_programs.proofs.BareHeadings.{bare_heading}
 

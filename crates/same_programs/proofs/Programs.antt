@@ -6,12 +6,12 @@ use Rattle.pas_tree.specs.SameTrees.{SameTree}
 use Rattle.pas_tree.proofs.TreesTold.{text_told}
 use Rattle.check_steps.specs.Words.{known_at_start}
 use Rattle.decl_checker.specs.Programs.{program_step, tables_of}
-use Rattle.code_checker.specs.Programs.{check_step}
+use Rattle.code_checker.specs.CheckedPrograms.{check_step}
 use Rattle.check_steps.specs.declared.breaks.Break.{Break}
 use Rattle.check_steps.specs.Breaks.{IsFirst}
 use Rattle.pas_tree.specs.Blocks.{tree_node}
-use Rattle.source_checker.specs.declared.programs.ProgramFault.TheVariants as refused
-use Rattle.source_checker.specs.Declarations.{IsTextOf}
+use Rattle.code_checker.specs.declared.programs.ProgramFault.TheVariants as refused
+use Rattle.code_checker.specs.Declarations.{IsTextOf}
 use Rattle.same_programs.specs.Laws.{AtMostOneProgram, DeclaredOnce, MemorySaysNothing, NeverBoth, OneTextOneProgram}
 use Rattle.same_programs.proofs.SameTrees.{same_tree}
 use Rattle.same_programs.proofs.DeclarePrograms.{program_step-bare}

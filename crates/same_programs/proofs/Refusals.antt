@@ -3,7 +3,7 @@ use Rattle.std.proofs.Common.{◌≡◌, ℕ, false, nat_eq, nat_lt, ◌&&◌, �
 use Rattle.std.proofs.Common.{le_antisymm, lt_of_not-le}
 use Rattle.std.proofs.lemmas.Bool.Decides.{nat_tests}
 use native.Mathlib.Decide.{dec_le}
-use Rattle.grammar_refusals.specs.Refusals.{IsHopeless, IsLeast, IsTooDeep}
+use Rattle.grammar.specs.Refusals.{IsHopeless, IsLeast, IsTooDeep}
 use Rattle.pas_lexer.specs.declared.kinds.Token.{Token}
 use Rattle.pas_lexer.specs.Lexed.{Lexed}
 use Rattle.pas_tree.specs.declared.blocks.Tree.{Tree}
@@ -17,10 +17,10 @@ use Rattle.check_steps.specs.declared.breaks.Break.{Break}
 use Rattle.check_steps.specs.declared.breaks.CheckFault.{CheckFault}
 use Rattle.check_steps.specs.declared.breaks.CheckFault.TheVariants as fault
 use Rattle.check_steps.specs.Breaks.{IsFirst, IsOfFirst, fault_of, group, is_before, number}
-use Rattle.source_checker.specs.declared.programs.ProgramFault.TheVariants as refused
-use Rattle.code_checker.specs.Programs.{broken}
-use Rattle.source_checker.specs.Declarations.{IsTextOf}
-use Rattle.source_checker.specs.Places.{TokenBegins, TokenOrLastBegins, token_or_last}
+use Rattle.code_checker.specs.declared.programs.ProgramFault.TheVariants as refused
+use Rattle.code_checker.specs.CheckedPrograms.{broken}
+use Rattle.code_checker.specs.Declarations.{IsTextOf}
+use Rattle.code_checker.specs.Places.{TokenBegins, TokenOrLastBegins, token_or_last}
 use Rattle.same_programs.specs.Laws.{RefusedOnce}
 use Rattle.same_programs.proofs.Programs.{one_text}
 

@@ -1,13 +1,13 @@
--- What the definitions of `Rattle.required_checker.specs.Actuals` say of bare trees.
+-- What the definitions of `Rattle.statement_checker.specs.Actuals` say of bare trees.
 use Rattle.std.specs.Prelude.{ℕ, false, Option, Some, None}
 use Rattle.pas_tree.specs.declared.statements.Actuals.{Actuals}
 use Rattle.pas_tree.specs.declared.statements.NextActual.{NextActual}
 use Rattle.pas_tree.specs.declared.statements.Actual.{Actual}
 use Rattle.pas_tree.specs.declared.statements.Width.{Width}
-use Rattle.program_tables.specs.declared.rows.TextFile.{TextFile}
+use Rattle.core_program.specs.declared.rows.TextFile.{TextFile}
 use Rattle.check_steps.specs.Known.{Known}
 use Rattle.check_steps.specs.Steps.{give, ◌>>=◌, late}
-use Rattle.required_checker.specs.Actuals.{surplus_width, no_width, plain_actual, next_plain, own_parts, wrong_number, named_file, file_without, actual_file}
+use Rattle.statement_checker.specs.Actuals.{surplus_width, no_width, plain_actual, next_plain, own_parts, wrong_number, named_file, file_without, actual_file}
 use Rattle.std.proofs.Common.{◌≡◌, refl, option_map}
 use Rattle.same_programs.proofs.Steps.{each-bare}
 use Rattle.same_programs.proofs.BareStatements.{bare_actual, bare_actuals, bare_next_actual, bare_width}

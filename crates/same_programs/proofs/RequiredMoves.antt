@@ -1,16 +1,16 @@
--- What the definitions of `Rattle.required_checker.specs.Moves` say of bare trees.
+-- What the definitions of `Rattle.statement_checker.specs.Moves` say of bare trees.
 use Rattle.std.specs.Prelude.{ℕ, Bool, true, false, List, [], ◌∷◌, Option, Some, None, nat_eq}
 use Rattle.std.specs.Global.{Box}
 use Rattle.pas_tree.specs.declared.statements.Actuals.{Actuals}
 use Rattle.pas_tree.specs.declared.statements.NextActual.{NextActual}
 use Rattle.pas_tree.specs.declared.statements.Actual.{Actual}
-use Rattle.program_tables.specs.declared.rows.StatementRow.TheVariants as statement
+use Rattle.core_program.specs.declared.rows.StatementRow.TheVariants as statement
 use Rattle.check_steps.specs.Steps.{give, ◌>>=◌, look, late}
-use Rattle.statement_rules.specs.Sequences.{stated}
-use Rattle.required_checker.specs.declared.actuals.RequiredCall.{RequiredCall}
-use Rattle.required_checker.specs.Moves.{domain_of, is_pointer, new_variable, new_one, dispose_one, pointer_one, pointer_some, pointer_call, move_checked}
-use Rattle.required_checker.specs.Moves.{operand_actual, pack_row}
-use Rattle.required_checker.specs.Moves.{pack_three, unpack_three, three, pack_some, pack_call}
+use Rattle.statement_checker.specs.Sequences.{stated}
+use Rattle.statement_checker.specs.declared.actuals.RequiredCall.{RequiredCall}
+use Rattle.statement_checker.specs.Moves.{domain_of, is_pointer, new_variable, new_one, dispose_one, pointer_one, pointer_some, pointer_call, move_checked}
+use Rattle.statement_checker.specs.Moves.{operand_actual, pack_row}
+use Rattle.statement_checker.specs.Moves.{pack_three, unpack_three, three, pack_some, pack_call}
 use Rattle.std.proofs.Common.{◌≡◌, refl, map, option_map}
 use lib.ListN.{length-map}
 use Rattle.same_programs.proofs.BareStatements.{bare_actual, bare_actuals, bare_boxed_actuals, bare_next_actual}

@@ -1,12 +1,12 @@
--- What the definitions of `Rattle.required_checker.specs.Procedures` say of bare trees.
+-- What the definitions of `Rattle.statement_checker.specs.Procedures` say of bare trees.
 use Rattle.std.specs.Prelude.{ℕ, true, false, Option}
 use Rattle.std.specs.Global.{Box}
 use Rattle.pas_tree.specs.declared.statements.Actuals.{Actuals}
-use Rattle.program_tables.specs.declared.rows.Required.{Required}
-use Rattle.program_tables.specs.declared.rows.Required.TheVariants as required
-use Rattle.required_checker.specs.declared.actuals.RequiredCall.{RequiredCall}
-use Rattle.required_checker.specs.declared.transfers.Transfer.TheVariants.{Reading, Writing}
-use Rattle.required_checker.specs.Procedures.{required_call}
+use Rattle.core_program.specs.declared.rows.Required.{Required}
+use Rattle.core_program.specs.declared.rows.Required.TheVariants as required
+use Rattle.statement_checker.specs.declared.actuals.RequiredCall.{RequiredCall}
+use Rattle.statement_checker.specs.declared.transfers.Transfer.TheVariants.{Reading, Writing}
+use Rattle.statement_checker.specs.Procedures.{required_call}
 use Rattle.std.proofs.Common.{◌≡◌, refl, option_map}
 use Rattle.same_programs.proofs.BareStatements.{bare_boxed_actuals}
 use Rattle.same_programs.proofs.RequiredTransfers.{transferred-bare, page-bare}

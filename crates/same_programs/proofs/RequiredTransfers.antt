@@ -1,26 +1,26 @@
--- What the definitions of `Rattle.required_checker.specs.Transfers` say of bare trees.
+-- What the definitions of `Rattle.statement_checker.specs.Transfers` say of bare trees.
 use Rattle.std.specs.Prelude.{ℕ, Bool, true, false, List, [], ◌∷◌, Option, Some, None, nat_eq, nat_lt, ◌||◌}
 use Rattle.std.specs.Global.{Box}
 use Rattle.pas_tree.specs.declared.statements.Actuals.{Actuals}
 use Rattle.pas_tree.specs.declared.statements.NextActual.{NextActual}
 use Rattle.pas_tree.specs.declared.statements.Actual.{Actual}
 use Rattle.pas_tree.specs.declared.statements.Width.{Width}
-use Rattle.program_tables.specs.declared.rows.ItemRow.TheVariants as item
-use Rattle.program_tables.specs.declared.rows.StatementRow.TheVariants as statement
-use Rattle.program_tables.specs.declared.rows.TextFile.{TextFile}
+use Rattle.core_program.specs.declared.rows.ItemRow.TheVariants as item
+use Rattle.core_program.specs.declared.rows.StatementRow.TheVariants as statement
+use Rattle.core_program.specs.declared.rows.TextFile.{TextFile}
 use Rattle.check_steps.specs.Steps.{give, ◌>>=◌, look, late}
-use Rattle.type_relations.specs.Operators.{is_operand, is_unknown_shape}
-use Rattle.type_relations.specs.Shapes.{shape_of}
-use Rattle.operand_checker.specs.declared.typed.Typed.{Typed}
-use Rattle.operand_checker.specs.Threats.{threat_alone}
-use Rattle.statement_rules.specs.Sequences.{stated}
-use Rattle.required_checker.specs.declared.actuals.RequiredCall.{RequiredCall}
-use Rattle.required_checker.specs.declared.transfers.Transfer.{Transfer}
-use Rattle.required_checker.specs.declared.transfers.Transfer.TheVariants.{Reading, Writing}
+use Rattle.kind_checker.specs.Operators.{is_operand, is_unknown_shape}
+use Rattle.kind_checker.specs.Shapes.{shape_of}
+use Rattle.expression_checker.specs.declared.typed.Typed.{Typed}
+use Rattle.expression_checker.specs.Threats.{threat_alone}
+use Rattle.statement_checker.specs.Sequences.{stated}
+use Rattle.statement_checker.specs.declared.actuals.RequiredCall.{RequiredCall}
+use Rattle.statement_checker.specs.declared.transfers.Transfer.{Transfer}
+use Rattle.statement_checker.specs.declared.transfers.Transfer.TheVariants.{Reading, Writing}
 use Rattle.check_steps.specs.Items.{add_item, link}
-use Rattle.required_checker.specs.Transfers.{is_readable, read_item, is_writable, width, written_item, put_written, write_item, item_by, next_item, is_file_of}
-use Rattle.required_checker.specs.Transfers.{first_item, first_comma, list_of, items, transfer_row, is_enough, transfer_with, transfer_call, page_other, paged}
-use Rattle.required_checker.specs.Transfers.{page_one, page_some, page}
+use Rattle.statement_checker.specs.Transfers.{is_readable, read_item, is_writable, width, written_item, put_written, write_item, item_by, next_item, is_file_of}
+use Rattle.statement_checker.specs.Transfers.{first_item, first_comma, list_of, items, transfer_row, is_enough, transfer_with, transfer_call, page_other, paged}
+use Rattle.statement_checker.specs.Transfers.{page_one, page_some, page}
 use Rattle.std.proofs.Common.{◌≡◌, refl, map, option_map}
 use Rattle.same_programs.proofs.Steps.{each-bare}
 use lib.ListN.{length-map}

@@ -1,9 +1,9 @@
--- What the definitions of `Rattle.statement_rules.specs.Labels` say of bare trees.
+-- What the definitions of `Rattle.statement_checker.specs.Labels` say of bare trees.
 use Rattle.std.specs.Prelude.{ℕ}
 use Rattle.pas_tree.specs.declared.statements.NextStatement.{NextStatement}
 use Rattle.pas_tree.specs.declared.statements.Statements.{Statements, out-Statements}
 use Rattle.check_steps.specs.Steps.{Step, ◌>>=◌, each}
-use Rattle.statement_rules.specs.Labels.{reach_label, leave, on_label, on_next, each_label, reach_all, leave_all}
+use Rattle.statement_checker.specs.Labels.{reach_label, leave, on_label, on_next, each_label, reach_all, leave_all}
 use Rattle.std.proofs.Common.{◌≡◌, refl, ◌∙◌}
 use Rattle.same_programs.proofs.Steps.{each-bare}
 use Rattle.same_programs.proofs.BareStatements.{bare_next_statement, bare_statements}

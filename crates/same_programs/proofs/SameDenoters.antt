@@ -12,7 +12,7 @@ use Rattle.pas_tree.specs.declared.denoters.TagField.{TagField}
 use Rattle.pas_tree.specs.declared.denoters.Tag.{Tag}
 use mathlib.Core.Path.{PathP, refl}
 use mathlib.Core.Former.{one_more}
-use Rattle.typed_trees.proofs.Memory.{boxed}
+use Rattle.pas_tree.proofs.Memory.{boxed}
 use Rattle.same_programs.proofs.Memory.{again, shaped_same}
 use Rattle.pas_tree.specs.SameDenoters.{SameEnumeration, SameTagField, SameTag, SameDenoter, SameStructure, SameArray, SameDenoters, SameFields, SameFixed}
 use Rattle.pas_tree.specs.SameDenoters.{SameSections, SameNextVariants, SameVariants, SameArms}

@@ -18,7 +18,7 @@ use Rattle.pas_tree.specs.declared.expressions.Member.{Member, Member', Held-Mem
 use Rattle.pas_tree.specs.declared.expressions.RangeEnd.{RangeEnd'}
 use mathlib.Core.Path.{PathP, refl}
 use mathlib.Core.Former.{one_more}
-use Rattle.typed_trees.proofs.Memory.{boxed}
+use Rattle.pas_tree.proofs.Memory.{boxed}
 use Rattle.same_programs.proofs.Memory.{again, all_same, bare_same, shaped_same}
 use Rattle.pas_tree.specs.SameExpressions.{SameExpression, SameRelation, SameSimple, SameTerms, SameTerm, SameFactors, SameFactor, SameSelectors}
 use Rattle.pas_tree.specs.SameExpressions.{SameSelector, SameIndex, SameArguments, SameExpressions, SameMembers, SameMoreMembers, SameMember, SameRangeEnd}

@@ -9,7 +9,7 @@ use Rattle.pas_tree.specs.declared.headings.Formal.{Formal, Value, Variable, Rou
 use Rattle.pas_tree.specs.declared.headings.FormalNames.{FormalNames}
 use mathlib.Core.Path.{PathP, refl}
 use mathlib.Core.Former.{one_more}
-use Rattle.typed_trees.proofs.Memory.{boxed}
+use Rattle.pas_tree.proofs.Memory.{boxed}
 use Rattle.same_programs.proofs.Memory.{again, shaped_same}
 use Rattle.pas_tree.specs.SameHeadings.{SameFormalNames, SameResult, SameHeading, SameProcedure, SameFunction, SameHeldFormals, SameFormals, SameMoreFormals}
 use Rattle.pas_tree.specs.SameHeadings.{SameFormal}

@@ -17,7 +17,7 @@ use Rattle.pas_tree.specs.declared.statements.NextAccess.{NextAccess}
 use mathlib.Core.Path.{PathP, refl}
 use Rattle.std.proofs.Common.{option_map}
 use mathlib.Core.Former.{one_more}
-use Rattle.typed_trees.proofs.Memory.{boxed}
+use Rattle.pas_tree.proofs.Memory.{boxed}
 use Rattle.same_programs.proofs.Memory.{again, all_same, bare_same, shaped_same}
 use Rattle.pas_tree.specs.SameStatements.{SameLabel, SameWidth, SameActual, SameNextActual, SameActuals, SameCall, SameAssignment, SameNextAccess, SamePlain}
 use Rattle.pas_tree.specs.SameStatements.{SameCompound, SameStatements, SameMoreStatements, SameIf, SameElse, SameCase, SameBranches, SameRepeat}

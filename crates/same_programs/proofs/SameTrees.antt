@@ -15,7 +15,7 @@ use Rattle.pas_tree.specs.declared.blocks.RoutineBody.{RoutineBody, Directive, B
 use mathlib.Core.Path.{PathP, refl}
 use Rattle.std.proofs.Common.{option_map}
 use mathlib.Core.Former.{one_more}
-use Rattle.typed_trees.proofs.Memory.{boxed}
+use Rattle.pas_tree.proofs.Memory.{boxed}
 use Rattle.same_programs.proofs.Memory.{again, all_equal, all_same, bare_same, held_same, is_short, shaped_same}
 use Rattle.pas_tree.specs.SameTrees.{SameNextLabel, SameLabels, SameConstantDefinition, SameConstantPart, SameTypeDefinition, SameTypePart}
 use Rattle.pas_tree.specs.SameTrees.{SameVariableDeclaration, SameVariablePart, SameBlock, SameRoutines, SameBody, SameParameters, SameTree}

@@ -12,21 +12,21 @@ use Rattle.check_steps.specs.Steps.{give, ◌>>=◌, look}
 use Rattle.expression_checker.specs.declared.actuals.Passing.{Passing}
 use Rattle.expression_checker.specs.declared.callees.Callee.{Callee}
 use Rattle.expression_checker.specs.declared.callees.Callee.TheVariants as callee
-use Rattle.operand_checker.specs.Threats.{threat_alone}
+use Rattle.expression_checker.specs.Threats.{threat_alone}
 use Rattle.expression_checker.specs.Actuals.{actuals_end}
 use Rattle.expression_checker.specs.Callees.{count_checked}
 use Rattle.expression_checker.specs.Expressions.{passing_to}
-use Rattle.statement_rules.specs.declared.assignments.Target.{Target}
-use Rattle.statement_rules.specs.declared.assignments.Target.TheVariants as target
-use Rattle.statement_rules.specs.declared.loops.Control.{Control}
+use Rattle.statement_checker.specs.declared.assignments.Target.{Target}
+use Rattle.statement_checker.specs.declared.assignments.Target.TheVariants as target
+use Rattle.statement_checker.specs.declared.loops.Control.{Control}
 use Rattle.statement_checker.specs.declared.parts.Opened.{Opened}
-use Rattle.statement_rules.specs.Assignments.{assigned, target_at}
-use Rattle.statement_rules.specs.Calls.{call_row, procedure_at}
-use Rattle.statement_rules.specs.Choices.{selector}
-use Rattle.statement_rules.specs.Conditions.{condition}
-use Rattle.statement_rules.specs.Loops.{bound, enter_for}
-use Rattle.statement_rules.specs.Records.{inside_record}
-use Rattle.statement_rules.specs.Sequences.{add_element, line_of}
+use Rattle.statement_checker.specs.Assignments.{assigned, target_at}
+use Rattle.statement_checker.specs.Calls.{call_row, procedure_at}
+use Rattle.statement_checker.specs.Choices.{selector}
+use Rattle.statement_checker.specs.Conditions.{condition}
+use Rattle.statement_checker.specs.Loops.{bound, enter_for}
+use Rattle.statement_checker.specs.Records.{inside_record}
+use Rattle.statement_checker.specs.Sequences.{add_element, line_of}
 use Rattle.statement_checker.specs.Parts.{condition_row, bounded, for_begins, selected, target_access, target_as, assigned_to, assignment, passed_actual}
 use Rattle.statement_checker.specs.Parts.{next_passed, actuals_in, call_with, declared_call, call_as, call_statement, first_record, next_record}
 use Rattle.std.proofs.Common.{◌≡◌, refl, option_map}

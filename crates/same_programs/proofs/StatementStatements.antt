@@ -8,12 +8,12 @@ use Rattle.pas_tree.specs.declared.statements.Case.{Case, Case' as CaseTree', Ro
 use Rattle.pas_tree.specs.declared.statements.Repeat.{Repeat, Repeat' as RepeatTree'}
 use Rattle.check_steps.specs.Steps.{◌>>=◌}
 use Rattle.denoter_checker.specs.declared.variants.Choosing.{Choosing}
-use Rattle.statement_rules.specs.declared.sequences.Branching.{Branching}
-use Rattle.statement_rules.specs.declared.sequences.Element.{Element}
-use Rattle.statement_rules.specs.Choices.{case_row}
+use Rattle.statement_checker.specs.declared.sequences.Branching.{Branching}
+use Rattle.statement_checker.specs.declared.sequences.Element.{Element}
+use Rattle.statement_checker.specs.Choices.{case_row}
 use Rattle.statement_checker.specs.Parts.{for_ends, next_record}
-use Rattle.statement_rules.specs.Records.{put_with}
-use Rattle.statement_rules.specs.Sequences.{add_element, compound_row, if_else_row, link_element, repeat_row, while_row}
+use Rattle.statement_checker.specs.Records.{put_with}
+use Rattle.statement_checker.specs.Sequences.{add_element, compound_row, if_else_row, link_element, repeat_row, while_row}
 use Rattle.statement_checker.specs.Statements.{element, branching, label_token, labelled_by, plain, compound, sequence, more_statements, if_statement}
 use Rattle.statement_checker.specs.Statements.{else_held, case_statement, more_branches, repeat_statement}
 use Rattle.std.proofs.Common.{◌≡◌, refl}

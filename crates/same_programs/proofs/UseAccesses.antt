@@ -1,4 +1,4 @@
--- What the definitions of `Rattle.use_checker.specs.Accesses` say of bare trees.
+-- What the definitions of `Rattle.decl_checker.specs.Accesses` say of bare trees.
 use Rattle.std.specs.Prelude.{ℕ}
 use Rattle.pas_tree.specs.declared.expressions.Factor.{Factor, Number, Text, Nil, Access', Call', Paren', Set', Not'}
 use Rattle.pas_tree.specs.declared.expressions.Access.{Access, Row_of-Selector, end_of-Selector, more_of-Selector}
@@ -18,10 +18,11 @@ use Rattle.pas_tree.specs.declared.expressions.NextMember.{NextMember, NextMembe
 use Rattle.pas_tree.specs.declared.expressions.Member.{Member, Member', Held-Member-last, Member-last-None', Member-last-Some'}
 use Rattle.pas_tree.specs.declared.expressions.RangeEnd.{RangeEnd, RangeEnd'}
 use Rattle.check_steps.specs.Steps.{give, ◌>>=◌}
-use Rattle.use_checker.specs.Accesses.{name_use, named_variable, indexed_type, expression_uses, relation_uses, related_uses, simple_uses, more_terms, next_term}
-use Rattle.use_checker.specs.Accesses.{term_uses, more_factors, factor_uses, selected, selector, indices, more_indices, next_index, arguments_uses}
-use Rattle.use_checker.specs.Accesses.{more_arguments, next_argument, members_uses, some_members_uses, more_members, next_member, member_uses, range_end_uses}
-use Rattle.use_checker.specs.Accesses.{last_uses, access_type, access_uses}
+use Rattle.decl_checker.specs.Accesses.{name_use, named_variable, indexed_type, expression_uses, relation_uses, related_uses, simple_uses, more_terms}
+use Rattle.decl_checker.specs.Accesses.{next_term}
+use Rattle.decl_checker.specs.Accesses.{term_uses, more_factors, factor_uses, selected, selector, indices, more_indices, next_index, arguments_uses}
+use Rattle.decl_checker.specs.Accesses.{more_arguments, next_argument, members_uses, some_members_uses, more_members, next_member, member_uses, range_end_uses}
+use Rattle.decl_checker.specs.Accesses.{last_uses, access_type, access_uses}
 use Rattle.std.proofs.Common.{◌≡◌, refl}
 use Rattle.same_programs.proofs.Steps.{each-bare}
 use Rattle.same_programs.proofs.BareExpressions.{bare_access, bare_arguments, bare_end, bare_expression, bare_expressions, bare_factor, bare_factors}

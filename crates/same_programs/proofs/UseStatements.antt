@@ -1,4 +1,4 @@
--- What the definitions of `Rattle.use_checker.specs.Statements` say of bare trees.
+-- What the definitions of `Rattle.decl_checker.specs.Statements` say of bare trees.
 use Rattle.std.specs.Prelude.{ℕ, Option, Some, None}
 use Rattle.std.specs.Global.{Box}
 use Rattle.pas_tree.specs.declared.constants.Constants.{Constants}
@@ -17,10 +17,10 @@ use Rattle.pas_tree.specs.declared.statements.Repeat.{Repeat, Repeat' as RepeatT
 use Rattle.pas_tree.specs.declared.statements.NextAccess.{NextAccess}
 use Rattle.check_steps.specs.Known.{type_at}
 use Rattle.check_steps.specs.Steps.{◌>>=◌, look}
-use Rattle.use_checker.specs.Accesses.{name_use}
-use Rattle.use_checker.specs.Statements.{assignment_uses, width_uses, actual_uses, next_actual, some_actuals_uses, actuals_uses, constants_uses, fields_in}
-use Rattle.use_checker.specs.Statements.{inside_of, inside_access, inside_next, plain_uses, compound_uses, statements_uses, more_statements, if_uses}
-use Rattle.use_checker.specs.Statements.{else_uses, case_uses, more_branches, repeat_uses}
+use Rattle.decl_checker.specs.Accesses.{name_use}
+use Rattle.decl_checker.specs.Statements.{assignment_uses, width_uses, actual_uses, next_actual, some_actuals_uses, actuals_uses, constants_uses, fields_in}
+use Rattle.decl_checker.specs.Statements.{inside_of, inside_access, inside_next, plain_uses, compound_uses, statements_uses, more_statements, if_uses}
+use Rattle.decl_checker.specs.Statements.{else_uses, case_uses, more_branches, repeat_uses}
 use Rattle.std.proofs.Common.{◌≡◌, refl, option_map}
 use Rattle.same_programs.proofs.Steps.{each-bare}
 use Rattle.same_programs.proofs.BareExpressions.{bare_access}

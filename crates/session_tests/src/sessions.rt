@@ -1,17 +1,18 @@
 //! A saved session that is gone on with, and the session of the moment.
 ghost use Rattle.std.specs.Prelude.{◌≡◌, None};
 ghost use Rattle.session_file.specs.Whole.{IsWhole};
-ghost use Rattle.session_book.specs.Fit.{misfit};
-ghost use Rattle.session_book.specs.Start.{IsWholeStart};
+ghost use Rattle.dialog_replies.specs.Fit.{misfit};
+ghost use Rattle.dialog_replies.specs.Start.{IsWholeStart};
 
 use crate::runs::a_run;
 use answer_book::{Entry, Judgement, What};
 use ask_session::{Ending, converse};
-use dialog_lines::instruction_in;
-use dialog_replies::{Debugged, answer, begin, open, state_now};
+use dialog_replies::{
+    Debugged, Start, answer, begin, instruction_in, open, refusal, resume, session_text_of,
+    state_now,
+};
 use edge_ports::{Keeper, Memory, Page, Shelf, Tape};
 use optimal_query::{Debug, SearchState};
-use session_book::{Start, refusal, resume, session_text_of};
 use session_file::{SavedEntries, Session, load};
 use std::alloc::Global;
 use std::test::Fail;

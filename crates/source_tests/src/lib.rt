@@ -1,8 +1,13 @@
-//! Tests of the lexer and of the console, the screen and the files: that each call that takes memory answers with ample
-//! memory, what real files and streams do, and results found by hand.
+//! Tests of the lexer, the readers and the checkers.
 #![tactic(auto)]
 
 #[cfg(test)]
 mod lexer;
 #[cfg(test)]
+mod phrase_tests;
+#[cfg(test)]
 mod ports;
+#[cfg(test)]
+mod reader_tests;
+#[cfg(test)]
+mod tree_tests;

@@ -3,10 +3,10 @@
 use crate::yardstick::nanos_since;
 use anyhow::{Result, bail};
 use call_tree::Calls;
+use code_checker::check_tokens;
+use core_program::Program;
 use pas_lexer::{MAX_SOURCE_BYTES, lex};
 use program_run::{History, run};
-use program_tables::Program;
-use source_checker::check_tokens;
 use std::alloc::Global;
 use std::rt::CpuClock;
 

@@ -1,2 +1,14 @@
+pub mod Actuals
+pub mod Assignments
+pub mod Calls
+pub mod Choices
+pub mod Conditions
+pub mod Labels
+pub mod Loops
+pub mod Moves
 pub mod Parts
+pub mod Procedures
+pub mod Records
+pub mod Sequences
 pub mod Statements
+pub mod Transfers

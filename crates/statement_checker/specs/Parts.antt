@@ -10,30 +10,30 @@ use Rattle.pas_tree.specs.declared.statements.NextActual.{NextActual}
 use Rattle.pas_tree.specs.declared.statements.Actual.{Actual}
 use Rattle.pas_tree.specs.declared.statements.NextAccess.{NextAccess}
 use Rattle.check_steps.specs.Steps.{Step, give, ◌>>=◌, look, each}
-use Rattle.pas_places.specs.Expressions.{first_of_expression}
+use Rattle.pas_tree.specs.ExpressionPlaces.{first_of_expression}
 use Rattle.expression_checker.specs.declared.actuals.Passing.{Passing}
 use Rattle.expression_checker.specs.declared.callees.Callee.{Callee}
 use Rattle.expression_checker.specs.declared.callees.Callee.TheVariants as callee
-use Rattle.operand_checker.specs.declared.typed.Typed.{Typed}
-use Rattle.operand_checker.specs.Threats.{threat_alone}
+use Rattle.expression_checker.specs.declared.typed.Typed.{Typed}
+use Rattle.expression_checker.specs.Threats.{threat_alone}
 use Rattle.expression_checker.specs.Actuals.{access_name, actuals_end}
 use Rattle.expression_checker.specs.Callees.{count_checked}
 use Rattle.expression_checker.specs.Expressions.{access, actual, expression, passing_to}
-use Rattle.statement_rules.specs.declared.assignments.Target.{Target}
-use Rattle.statement_rules.specs.declared.assignments.Target.TheVariants as target
-use Rattle.statement_rules.specs.declared.loops.Control.{Control}
+use Rattle.statement_checker.specs.declared.assignments.Target.{Target}
+use Rattle.statement_checker.specs.declared.assignments.Target.TheVariants as target
+use Rattle.statement_checker.specs.declared.loops.Control.{Control}
 use Rattle.statement_checker.specs.declared.parts.ForBounds.{ForBounds}
 use Rattle.statement_checker.specs.declared.parts.Opened.{Opened}
 use Rattle.statement_checker.specs.declared.parts.Selected.{Selected}
-use Rattle.statement_rules.specs.Assignments.{assigned, blockless_target, result_target, target_at}
-use Rattle.statement_rules.specs.Calls.{call_row, procedure_at}
-use Rattle.statement_rules.specs.Choices.{selector}
-use Rattle.statement_rules.specs.Conditions.{condition}
-use Rattle.statement_rules.specs.Loops.{bound, enter_for, for_row, leave_for, put_turns}
-use Rattle.statement_rules.specs.Records.{inside_record}
-use Rattle.statement_rules.specs.Sequences.{add_element, line_of}
-use Rattle.required_checker.specs.Actuals.{no_width}
-use Rattle.required_checker.specs.Procedures.{required_call}
+use Rattle.statement_checker.specs.Assignments.{assigned, blockless_target, result_target, target_at}
+use Rattle.statement_checker.specs.Calls.{call_row, procedure_at}
+use Rattle.statement_checker.specs.Choices.{selector}
+use Rattle.statement_checker.specs.Conditions.{condition}
+use Rattle.statement_checker.specs.Loops.{bound, enter_for, for_row, leave_for, put_turns}
+use Rattle.statement_checker.specs.Records.{inside_record}
+use Rattle.statement_checker.specs.Sequences.{add_element, line_of}
+use Rattle.statement_checker.specs.Actuals.{no_width}
+use Rattle.statement_checker.specs.Procedures.{required_call}
 
 -- ---- expressions
 

@@ -16,16 +16,16 @@ use Rattle.pas_tree.specs.declared.statements.Repeat.{Repeat, Repeat' as RepeatT
 use Rattle.check_steps.specs.Steps.{Step, give, ◌>>=◌, each}
 use Rattle.denoter_checker.specs.declared.variants.Choosing.{Choosing}
 use Rattle.denoter_checker.specs.Variants.{choices}
-use Rattle.statement_rules.specs.declared.sequences.Branching.{Branching}
-use Rattle.statement_rules.specs.declared.sequences.Element.{Element}
-use Rattle.statement_rules.specs.Choices.{case_row}
-use Rattle.statement_rules.specs.Labels.{jump, labelled, leave, leave_all, mark, reach_label, reach_all}
+use Rattle.statement_checker.specs.declared.sequences.Branching.{Branching}
+use Rattle.statement_checker.specs.declared.sequences.Element.{Element}
+use Rattle.statement_checker.specs.Choices.{case_row}
+use Rattle.statement_checker.specs.Labels.{jump, labelled, leave, leave_all, mark, reach_label, reach_all}
 use Rattle.statement_checker.specs.Parts.{assignment, call_statement, first_record, for_begins, for_ends, next_record}
 use Rattle.statement_checker.specs.Parts.{selected}
 use Rattle.statement_checker.specs.Parts.{condition_row}
-use Rattle.statement_rules.specs.Records.{put_with}
-use Rattle.statement_rules.specs.Sequences.{add_element, compound_row, empty, if_else_row, if_row}
-use Rattle.statement_rules.specs.Sequences.{link_element, repeat_row, while_row}
+use Rattle.statement_checker.specs.Records.{put_with}
+use Rattle.statement_checker.specs.Sequences.{add_element, compound_row, empty, if_else_row, if_row}
+use Rattle.statement_checker.specs.Sequences.{link_element, repeat_row, while_row}
 
 abbrev pub element : ℕ → ℕ → Element
 element slot item = record { slot = slot; item = item }

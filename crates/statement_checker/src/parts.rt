@@ -9,31 +9,29 @@ ghost use Rattle.statement_checker.specs.Parts.{call_as, call_with, declared_cal
 ghost use Rattle.statement_checker.specs.Parts.{next_record, passed_actual, selected, target_access, target_as};
 ghost use Rattle.statement_checker.specs.Parts.{for_begins, for_ends, condition_row};
 
+use crate::actuals::{RequiredCall, check_no_width};
+use crate::assignments::{
+    Target, check_assigned, check_blockless_target, check_result_target, target_at,
+};
+use crate::calls::{check_procedure, put_call};
+use crate::choices::check_selector;
+use crate::conditions::check_condition;
+use crate::loops::{Control, check_bound, enter_for, leave_for, put_for, put_turns};
+use crate::procedures::check_required;
+use crate::records::open_record;
+use crate::sequences::{Element, add_element, line_of};
 use check_steps::Work;
 use denoter_checker::variants::Choosing;
 use expression_checker::actuals::{access_name, check_closed};
 use expression_checker::callees::check_counted;
 use expression_checker::expressions::{check_access, check_actual, check_expression};
-use expression_checker::{Called, Callee, Passing};
-use operand_checker::Typed;
-use operand_checker::threats::check_threat_alone;
-use operand_checker::typed::unknown_at;
-use pas_places::first_of_expression;
+use expression_checker::threats::check_threat_alone;
+use expression_checker::typed::unknown_at;
+use expression_checker::{Called, Callee, Passing, Typed};
 use pas_tree::expressions::{Access, Expression};
+use pas_tree::first_of_expression;
 use pas_tree::operators::Direction;
 use pas_tree::statements::{Actual, Actuals, Assignment, NextAccess, NextActual};
-use required_checker::RequiredCall;
-use required_checker::actuals::check_no_width;
-use required_checker::procedures::check_required;
-use statement_rules::assignments::{
-    Target, check_assigned, check_blockless_target, check_result_target, target_at,
-};
-use statement_rules::calls::{check_procedure, put_call};
-use statement_rules::choices::check_selector;
-use statement_rules::conditions::check_condition;
-use statement_rules::loops::{Control, check_bound, enter_for, leave_for, put_for, put_turns};
-use statement_rules::records::open_record;
-use statement_rules::sequences::{Element, add_element, line_of};
 use std::alloc::AllocError;
 
 /// The selector of a case statement: what its constants have in common, and its own number.

@@ -6,23 +6,23 @@ ghost use Rattle.statement_checker.specs.Statements.{case_statement, compound, e
 ghost use Rattle.statement_checker.specs.Statements.{next_branch, next_statement, plain, repeat_statement, sequence};
 ghost use Rattle.statement_checker.specs.Statements.{statement_step};
 
+use crate::choices::put_case;
+use crate::labels::{
+    check_goto, check_mark, leave, leave_all, put_labelled, reach_all, reach_label,
+};
 use crate::parts::{
     begin_for, check_assignment, check_call, check_selected, check_tested, end_for,
     open_first_record, open_more_records,
+};
+use crate::records::put_with;
+use crate::sequences::{
+    Branching, Element, add_element, link_element, put_compound, put_empty, put_if, put_if_else,
+    put_repeat, put_while,
 };
 use check_steps::Work;
 use denoter_checker::variants::{Choosing, check_choices};
 use pas_tree::statements::{
     Case, Compound, If, NextBranch, NextStatement, Plain, Repeat, Statement, Statements,
-};
-use statement_rules::choices::put_case;
-use statement_rules::labels::{
-    check_goto, check_mark, leave, leave_all, put_labelled, reach_all, reach_label,
-};
-use statement_rules::records::put_with;
-use statement_rules::sequences::{
-    Branching, Element, add_element, link_element, put_compound, put_empty, put_if, put_if_else,
-    put_repeat, put_while,
 };
 use std::alloc::AllocError;
 
@@ -91,7 +91,7 @@ fn check_plain(
 
 /// A compound statement, seen from a frame: what is given is its number.
 #[cycle(statements)]
-#[tactic(auto, using(check_steps::proofs::Runs::steps, crate::proofs::Sequences::statement_outs))]
+#[tactic(auto, using(check_steps::proofs::Runs::steps, crate::proofs::StatementFields::statement_outs))]
 pub fn check_compound(work: &mut Work, c: &Compound, frame: u32) -> Result<u32, AllocError>
     ensures { IfOk result (λ n. Does (compound frame c.now) n work.old work.new) }
 {
@@ -103,7 +103,7 @@ pub fn check_compound(work: &mut Work, c: &Compound, frame: u32) -> Result<u32, 
 }
 
 #[cycle(statements)]
-#[tactic(auto, using(check_steps::proofs::Runs::steps, crate::proofs::Sequences::statement_outs))]
+#[tactic(auto, using(check_steps::proofs::Runs::steps, crate::proofs::StatementFields::statement_outs))]
 fn check_sequence(
     work: &mut Work,
     s: &Statements,
@@ -135,7 +135,7 @@ fn check_more_statements(
 }
 
 #[cycle(statements)]
-#[tactic(auto, using(check_steps::proofs::Runs::steps, crate::proofs::Sequences::statement_outs))]
+#[tactic(auto, using(check_steps::proofs::Runs::steps, crate::proofs::StatementFields::statement_outs))]
 fn check_if(work: &mut Work, x: &If, frame: u32, label: Option<u32>) -> Result<u32, AllocError>
     ensures { IfOk result (λ n. Does (if_statement frame label x.now) n work.old work.new) }
 {
@@ -157,7 +157,7 @@ fn check_if(work: &mut Work, x: &If, frame: u32, label: Option<u32>) -> Result<u
 }
 
 #[cycle(statements)]
-#[tactic(auto, using(check_steps::proofs::Runs::steps, crate::proofs::Sequences::statement_outs))]
+#[tactic(auto, using(check_steps::proofs::Runs::steps, crate::proofs::StatementFields::statement_outs))]
 fn check_case(work: &mut Work, x: &Case, frame: u32, label: Option<u32>) -> Result<u32, AllocError>
     ensures { IfOk result (λ n. Does (case_statement frame label x.now) n work.old work.new) }
 {
@@ -190,7 +190,7 @@ fn check_more_branches(
 }
 
 #[cycle(statements)]
-#[tactic(auto, using(check_steps::proofs::Runs::steps, crate::proofs::Sequences::statement_outs))]
+#[tactic(auto, using(check_steps::proofs::Runs::steps, crate::proofs::StatementFields::statement_outs))]
 fn check_repeat(
     work: &mut Work,
     x: &Repeat,

@@ -13,7 +13,7 @@ use Rattle.ask_session.specs.Console.{NotRisen}
 use Rattle.ask_session.specs.Dialog.{transcript}
 use Rattle.ask_session.specs.Reached.{Reached, telling}
 use Rattle.ask_session.specs.Saves.{FilesAfter, Save, counts_saved, saves_in}
-use Rattle.session_book.specs.Fit.{misfit}
+use Rattle.dialog_replies.specs.Fit.{misfit}
 use Rattle.debuggee.specs.Program.{NoProgram}
 use Rattle.debug_cli.specs.declared.status.Status.{Status}
 use Rattle.debug_cli.specs.Goes.{Goes}

@@ -12,7 +12,7 @@ use Rattle.ask_session.specs.Dialog.{transcript}
 use Rattle.ask_session.specs.Outside.{Outside}
 use Rattle.ask_session.specs.Reached.{Reached, Telling, telling}
 use Rattle.ask_session.specs.Saves.{FilesAfter, Save, saves_in}
-use Rattle.session_book.specs.Fit.{misfit}
+use Rattle.dialog_replies.specs.Fit.{misfit}
 use Rattle.debuggee.specs.Program.{NoProgram}
 use Rattle.debug_cli.specs.declared.status.Status.{Status}
 use Rattle.debug_cli.specs.Goes.{Goes}

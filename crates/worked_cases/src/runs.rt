@@ -8,11 +8,11 @@ use crate::sources::SOURCE_BYTES;
 use anyhow::{Context, Result, ensure};
 use call_tree::Calls;
 use cell_value::{Kind, Touch, Value, WayOut, Which};
+use code_checker::check_tokens;
+use core_program::Program;
 use effect_log::Log;
 use pas_lexer::lex;
 use program_run::{History, run};
-use program_tables::Program;
-use source_checker::check_tokens;
 use std::alloc::Global;
 use std::io::Write;
 

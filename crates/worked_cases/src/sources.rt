@@ -5,8 +5,8 @@ use crate::comparing::run;
 use crate::escapes::{append_unescaped, unescaped};
 use crate::rows::{Judged, is_row};
 use anyhow::{Context, Result, ensure};
+use code_checker::{ProgramFault, check_tokens, declare_source};
 use pas_lexer::lex;
-use source_checker::{ProgramFault, check_tokens, declare_source};
 use std::alloc::Global;
 use std::io::Write;
 

@@ -6,9 +6,9 @@ use crate::rows::{Judged, is_row};
 use crate::sources::SOURCE_BYTES;
 use anyhow::{Context, Result, bail, ensure};
 use check_steps::Def;
+use code_checker::declare_source;
+use core_program::rows::{Mode, NameRow, Row, TypeRow};
 use decl_checker::{Scopes, find, find_in};
-use program_tables::rows::{Mode, NameRow, Row, TypeRow};
-use source_checker::declare_source;
 use std::alloc::Global;
 
 /// Tries each question of a file. A line `source: SOURCE` has the source of the questions after it, each a line

@@ -1,5 +1,5 @@
 use Rattle.std.proofs.Common.{ℕ, List, [], inl, refl, arith, subst, ◌∙◌}
-use Rattle.session_book.specs.Start.{saved_text}
+use Rattle.dialog_replies.specs.Start.{saved_text}
 use Rattle.ask_session.specs.Saves.{FileAfter, Save}
 use Rattle.ask_session.specs.Turned.{DialogMoment}
 use Rattle.ask_session.proofs.LineIsAnswered.{save_out, save_said}

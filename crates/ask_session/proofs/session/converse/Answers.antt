@@ -1,5 +1,5 @@
 use Rattle.std.proofs.Common.{subst}
-use Rattle.session_book.specs.Fit.{misfit}
+use Rattle.dialog_replies.specs.Fit.{misfit}
 use Rattle.ask_session.specs.Heard.{RefusedBy}
 use Rattle.ask_session.specs.Outside.{Outside}
 use Rattle.ask_session.proofs.TranscriptIsGiven.{Cause, Closed, ScreenStayed, done_or_memory, refused_or_memory, spent_or_memory, told_so}

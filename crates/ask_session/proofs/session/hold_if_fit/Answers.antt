@@ -1,7 +1,7 @@
 use Rattle.std.proofs.Common.{ℕ, List, [], sym, subst, ◌∙◌, append-nil}
 use Rattle.edge_ports.specs.Told.{GaveAll, GavePrefix}
-use Rattle.session_book.specs.Fit.{misfit}
-use Rattle.session_book.specs.Lines.{misfit_line}
+use Rattle.dialog_replies.specs.Fit.{misfit}
+use Rattle.dialog_replies.specs.Lines.{misfit_line}
 use Rattle.ask_session.specs.Heard.{lines_in}
 use Rattle.ask_session.specs.Outside.{Outside}
 use Rattle.ask_session.proofs.SessionsAreHeld.{ended_at_once, fits_by, nothing, refused_so, said_misfit, screen_at_once, unfit_by}

@@ -1,7 +1,7 @@
 use Rattle.std.proofs.Common.{◌≡◌, ℕ, List, [], ap, subst, ◌∙◌}
 use Rattle.edge_ports.specs.Told.{GaveAll, GavePrefix}
 use Rattle.dialog_replies.specs.Replies.{opening}
-use Rattle.session_book.specs.Start.{entries_at_start}
+use Rattle.dialog_replies.specs.Start.{entries_at_start}
 use Rattle.ask_session.specs.Dialog.{replies}
 use Rattle.ask_session.specs.Heard.{lines_in}
 use Rattle.ask_session.specs.Outside.{Outside}

@@ -1,6 +1,6 @@
 use Rattle.std.proofs.Common.{subst}
 use Rattle.std.specs.FinMap.{get}
-use Rattle.program_meaning.specs.Agree.{Shows}
+use Rattle.core_program.specs.Agree.{Shows}
 use Rattle.body_replay.proofs.AgreementByParts.{one_more_holds}
 use Rattle.body_replay.proofs.agreement.are_as_seen.Goals as goal
 

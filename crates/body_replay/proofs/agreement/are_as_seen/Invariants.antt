@@ -1,6 +1,6 @@
 use Rattle.std.proofs.Common.{All, drop}
 use Rattle.std.specs.FinMap.{get}
-use Rattle.program_meaning.specs.Agree.{Shows}
+use Rattle.core_program.specs.Agree.{Shows}
 use Rattle.body_replay.proofs.agreement.are_as_seen.Given as goal
 
 abbrev pub invariant-reads : goal.invariant-reads

@@ -1,5 +1,5 @@
 use Rattle.std.proofs.Common.{◌≡◌, ◌+◌, drop}
-use Rattle.program_meaning.specs.Apply.{changed_cells}
+use Rattle.core_program.specs.Apply.{changed_cells}
 use Rattle.body_replay.proofs.applied.change_cells.Given as goal
 
 abbrev pub invariant-changes : goal.invariant-changes

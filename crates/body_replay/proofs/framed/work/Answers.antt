@@ -1,7 +1,7 @@
 use Rattle.std.proofs.Common.{◌≡◌, ◌+◌, ◌∙◌, Some, ap, subst, sym}
-use Rattle.program_tables.specs.ProgramRows.{routine_at}
-use Rattle.eval_machine.specs.Frames.{framing}
-use Rattle.eval_machine.specs.Machines.{IsReady, machine_state}
+use Rattle.core_program.specs.ProgramRows.{routine_at}
+use Rattle.eval_ops.specs.Frames.{framing}
+use Rattle.eval_ops.specs.Machines.{IsReady, machine_state}
 use Rattle.body_replay.specs.Counting.{CountsEachStep, Tally}
 use Rattle.body_replay.specs.Traces.{FrameMade, tally}
 use Rattle.body_replay.proofs.FramesAgain.{fits, made_fell}

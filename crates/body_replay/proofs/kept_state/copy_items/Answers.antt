@@ -1,5 +1,5 @@
 use Rattle.std.proofs.Common.{◌≡◌, suc, ◌+◌, [], ◌∷◌, ◌++◌, append_assoc, ap, sym, ◌∙◌, drop, length, length-append, arith}
-use Rattle.eval_machine.proofs.Lists.{drop_get}
+use Rattle.eval_ops.proofs.Lists.{drop_get}
 use Rattle.body_replay.proofs.kept_state.copy_items.Goals as goal
 
 pub items-preserved : goal.items-preserved

@@ -1,6 +1,6 @@
 use Rattle.std.proofs.Common.{◌≡◌, ◌+◌, ◌∙◌, Some, ap, refl, subst, sym}
-use Rattle.program_meaning.proofs.OutcomesCompose.{some_same}
-use Rattle.eval_machine.specs.Machines.{Moment}
+use Rattle.core_program.proofs.OutcomesCompose.{some_same}
+use Rattle.eval_ops.specs.Machines.{Moment}
 use Rattle.body_replay.specs.Counting.{changes_met, own_steps}
 use Rattle.body_replay.proofs.StepsAreCounted.{counted_at_end}
 use Rattle.body_replay.proofs.replays.replay.Goals as goal

@@ -1,6 +1,6 @@
 use Rattle.std.proofs.Common.{◌∙◌, ap, refl}
-use Rattle.program_meaning.specs.State.{State}
-use Rattle.eval_machine.specs.Machines.{Moment}
+use Rattle.core_program.specs.State.{State}
+use Rattle.eval_ops.specs.Machines.{Moment}
 use Rattle.body_replay.specs.Counting.{at_entry}
 use Rattle.body_replay.proofs.RecordsOfRuns.{kept, row_of_run, run_of_history}
 use Rattle.body_replay.proofs.StepsAreCounted.{counts_left, counts_none}

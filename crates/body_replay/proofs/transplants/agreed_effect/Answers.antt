@@ -1,6 +1,6 @@
 use Rattle.std.proofs.Common.{◌≡◌, ◌<◌, ◌∙◌, All, false, refl, subst, sym, true}
 use Rattle.std.specs.Prelude.{◌↔◌}
-use Rattle.program_meaning.specs.Agree.{Agrees}
+use Rattle.core_program.specs.Agree.{Agrees}
 use Rattle.body_replay.specs.Traces.{kept_state}
 use Rattle.body_replay.proofs.ChangesOneByOne.{below_listed}
 use Rattle.body_replay.proofs.RecordsOfRuns.{kept, row_of_run, run_of_history}

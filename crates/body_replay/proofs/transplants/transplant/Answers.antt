@@ -1,8 +1,8 @@
 use Rattle.std.proofs.Common.{◌≡◌, ◌<◌, ◌∙◌, All, arith, refl, subst, sym}
 use Rattle.std.specs.Prelude.{◌↔◌, IfSome, IsSome}
-use Rattle.program_meaning.specs.Agree.{Agrees}
-use Rattle.program_meaning.specs.Apply as effects
-use Rattle.program_meaning.specs.State.{IsSound}
+use Rattle.core_program.specs.Agree.{Agrees}
+use Rattle.core_program.specs.Apply as effects
+use Rattle.core_program.specs.State.{IsSound}
 use Rattle.body_replay.specs.ByRows.{IsEffectOf}
 use Rattle.body_replay.specs.Carried.{RunsTo}
 use Rattle.body_replay.specs.Traces.{kept_state}

@@ -1,5 +1,5 @@
 use Rattle.std.proofs.Common.{ℕ, ◌+◌, ◌≤◌, ◌≡◌, Some, ap, subst, sym, ◌∙◌}
-use Rattle.program_tables.specs.ProgramRows.{size_of, type_at}
+use Rattle.core_program.specs.ProgramRows.{size_of, type_at}
 use Rattle.cell_names.specs.Names.{SceneLists, scene_in}
 use Rattle.cell_names.specs.Walks.{left_of_component}
 use Rattle.cell_names.proofs.CellsAlike.{array_below, record_below}

@@ -2,7 +2,7 @@ use Rattle.std.proofs.Common.{◌≡◌, inl, refl, sym, ap, subst, ◌∙◌, B
 use Rattle.edge_ports.specs.Counts.{Counted}
 use Rattle.command_words.specs.Meaning.{Requested}
 use Rattle.command_words.specs.Reading.{requested_by}
-use Rattle.session_book.specs.declared.start.Start.{Start}
+use Rattle.dialog_replies.specs.declared.start.Start.{Start}
 use Rattle.ask_session.specs.Outside.{Outside}
 use Rattle.ask_session.specs.Went.{Went}
 use Rattle.debuggee.specs.Execution.{Execution, execution_of}

@@ -1,17 +1,17 @@
 use Rattle.std.proofs.Common.{◌≡◌, true, false, None, sym, ap, ◌∙◌, length, ◌==◌, ◌&&◌, if◌then◌else◌, reverse, sum_by, arith}
 use Rattle.std.proofs.lemmas.Bool.Decides.{nat_tests}
-use Rattle.program_meaning.specs.Tree.{Exec, Sub, Ret, Jump, bind}
-use Rattle.program_meaning.specs.Statements.{jumped, labelled_in}
-use Rattle.eval_tasks.specs.declared.tasks.Now.TheVariants.{Begin, Came}
-use Rattle.eval_tasks.specs.declared.tasks.Part.TheVariants as part
-use Rattle.eval_tasks.specs.declared.tasks.Way.TheVariants as way
-use Rattle.eval_tasks.specs.declared.tasks.Task.TheVariants as tasks
-use Rattle.eval_tasks.specs.Rest.{left_now, from, from_under, here, waiting, resume, tasks_of, values_of, lists_of, values_below, lists_below}
-use Rattle.eval_tasks.specs.Weight.{task_weight}
-use Rattle.eval_tasks.proofs.Moves.{bind_if}
+use Rattle.core_program.specs.Tree.{Exec, Sub, Ret, Jump, bind}
+use Rattle.core_program.specs.Statements.{jumped, labelled_in}
+use Rattle.evaluator.specs.declared.tasks.Now.TheVariants.{Begin, Came}
+use Rattle.evaluator.specs.declared.tasks.Part.TheVariants as part
+use Rattle.evaluator.specs.declared.tasks.Way.TheVariants as way
+use Rattle.evaluator.specs.declared.tasks.Task.TheVariants as tasks
+use Rattle.evaluator.specs.Rest.{left_now, from, from_under, here, waiting, resume, tasks_of, values_of, lists_of, values_below, lists_below}
+use Rattle.evaluator.specs.Weight.{task_weight}
+use Rattle.evaluator.proofs.Moves.{bind_if}
 use Rattle.evaluator.proofs.AfterStatements.{other_lands, each_weighs}
-use Rattle.eval_tasks.proofs.StepsFall.{falls_so}
-use Rattle.eval_tasks.proofs.Turning.{turns_same}
+use Rattle.evaluator.proofs.StepsFall.{falls_so}
+use Rattle.evaluator.proofs.Turning.{turns_same}
 use Rattle.evaluator.proofs.jumps.land.Goals as goal
 
 pub returns-in-Some-clause-turns : goal.returns-in-Some-clause-turns

@@ -1,13 +1,13 @@
 use Rattle.std.proofs.Common.{sym, ap, subst, ◌∙◌, reverse, sum_by, arith}
-use Rattle.program_meaning.specs.Tree.{bind}
-use Rattle.eval_tasks.specs.declared.tasks.Now.TheVariants.{Came}
-use Rattle.eval_tasks.specs.declared.tasks.Way.TheVariants as way
-use Rattle.eval_tasks.specs.Rest.{left_now, from_under, home_below, resume, tasks_of, values_of, lists_of, values_below, lists_below}
-use Rattle.eval_tasks.specs.Records.{SameFrame}
-use Rattle.eval_tasks.specs.Weight.{task_weight}
+use Rattle.core_program.specs.Tree.{bind}
+use Rattle.evaluator.specs.declared.tasks.Now.TheVariants.{Came}
+use Rattle.evaluator.specs.declared.tasks.Way.TheVariants as way
+use Rattle.evaluator.specs.Rest.{left_now, from_under, home_below, resume, tasks_of, values_of, lists_of, values_below, lists_below}
+use Rattle.evaluator.specs.Records.{SameFrame}
+use Rattle.evaluator.specs.Weight.{task_weight}
 use Rattle.evaluator.proofs.AfterStatements.{other_leaps, each_weighs, same_below}
-use Rattle.eval_tasks.proofs.StepsFall.{falls_so}
-use Rattle.eval_tasks.proofs.Turning.{turns_same}
+use Rattle.evaluator.proofs.StepsFall.{falls_so}
+use Rattle.evaluator.proofs.Turning.{turns_same}
 use Rattle.evaluator.proofs.jumps.leap.Goals as goal
 
 pub returns-in-Next-clause-turns : goal.returns-in-Next-clause-turns

@@ -1,11 +1,11 @@
-use Rattle.eval_tasks.proofs.Moves.{end_here, bind_ret, finished, stops_then}
+use Rattle.evaluator.proofs.Moves.{end_here, bind_ret, finished, stops_then}
 use Rattle.cell_value.specs.declared.values.Value.{Value}
-use Rattle.program_meaning.specs.Tree.{Scalar}
+use Rattle.core_program.specs.Tree.{Scalar}
 use Rattle.std.proofs.Common.{sym}
-use Rattle.program_meaning.specs.Tree.{Ret, doing}
-use Rattle.program_meaning.specs.Accesses.{scalar}
-use Rattle.eval_tasks.proofs.Moves.{comes_same}
-use Rattle.eval_tasks.proofs.Turning.{turns_failed, fails_after, fails}
+use Rattle.core_program.specs.Tree.{Ret, doing}
+use Rattle.core_program.specs.Accesses.{scalar}
+use Rattle.evaluator.proofs.Moves.{comes_same}
+use Rattle.evaluator.proofs.Turning.{turns_failed, fails_after, fails}
 use Rattle.evaluator.proofs.returns.give.Goals as goal
 
 pub returns-in-Ok-clause-turns : goal.returns-in-Ok-clause-turns

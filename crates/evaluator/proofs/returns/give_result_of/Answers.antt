@@ -1,13 +1,13 @@
-use Rattle.program_meaning.specs.Run.{result_read, result_of_type}
-use Rattle.program_meaning.specs.Heap.{pointer_result_at}
-use Rattle.program_meaning.specs.State as state
+use Rattle.core_program.specs.Run.{result_read, result_of_type}
+use Rattle.core_program.specs.Heap.{pointer_result_at}
+use Rattle.core_program.specs.State as state
 use mir.Syntax.{w32}
 use mir.Val.{of_z, to_z}
 use Rattle.std.proofs.Common.{rules}
-use Rattle.program_tables.specs.declared.rows.TypeRow.TheVariants as kinds
+use Rattle.core_program.specs.declared.rows.TypeRow.TheVariants as kinds
 use Rattle.std.proofs.Common.{◌≡◌, Some, ap, ◌∙◌}
-use Rattle.eval_machine.specs.Machines.{moment_of}
-use Rattle.eval_tasks.proofs.Turning.{turns_same}
+use Rattle.eval_ops.specs.Machines.{moment_of}
+use Rattle.evaluator.proofs.Turning.{turns_same}
 use Rattle.evaluator.proofs.returns.give_result_of.Goals as goal
 
 pub returns-in-Some-Ordinal-clause-turns : goal.returns-in-Some-Ordinal-clause-turns

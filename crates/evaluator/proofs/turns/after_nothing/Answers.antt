@@ -1,8 +1,8 @@
 use Rattle.std.proofs.Common.{ap}
-use Rattle.program_meaning.specs.Tree.{bind}
-use Rattle.eval_machine.specs.Machines.{moment_of}
-use Rattle.eval_tasks.specs.Rest.{home_below, resume, tasks_of, values_of, lists_of, values_below, lists_below}
-use Rattle.eval_tasks.proofs.Turning.{turns_same}
+use Rattle.core_program.specs.Tree.{bind}
+use Rattle.eval_ops.specs.Machines.{moment_of}
+use Rattle.evaluator.specs.Rest.{home_below, resume, tasks_of, values_of, lists_of, values_below, lists_below}
+use Rattle.evaluator.proofs.Turning.{turns_same}
 use Rattle.evaluator.proofs.AfterStatements.{other_nothing}
 use Rattle.evaluator.proofs.turns.after_nothing.Goals as goal
 

@@ -1,13 +1,13 @@
-use Rattle.eval_tasks.specs.declared.tasks.Way.TheVariants as way
-use Rattle.program_meaning.specs.Tree.{bind}
-use Rattle.eval_tasks.specs.Rest.{from_under, resume, tasks_of, values_of, lists_of, values_below, lists_below}
-use Rattle.eval_tasks.specs.Weight.{task_weight}
-use Rattle.eval_tasks.specs.declared.tasks.Task.TheVariants as tasks
+use Rattle.evaluator.specs.declared.tasks.Way.TheVariants as way
+use Rattle.core_program.specs.Tree.{bind}
+use Rattle.evaluator.specs.Rest.{from_under, resume, tasks_of, values_of, lists_of, values_below, lists_below}
+use Rattle.evaluator.specs.Weight.{task_weight}
+use Rattle.evaluator.specs.declared.tasks.Task.TheVariants as tasks
 use Rattle.evaluator.proofs.AfterStatements.{statement_ended}
-use Rattle.eval_tasks.proofs.StepsFall.{falls_so}
+use Rattle.evaluator.proofs.StepsFall.{falls_so}
 use Rattle.std.proofs.Common.{ap, ◌∙◌, arith}
-use Rattle.eval_tasks.specs.declared.tasks.Now.TheVariants.{Came}
-use Rattle.eval_tasks.proofs.Turning.{turns_same}
+use Rattle.evaluator.specs.declared.tasks.Now.TheVariants.{Came}
+use Rattle.evaluator.proofs.Turning.{turns_same}
 use Rattle.evaluator.proofs.turns.after_scalar.Goals as goal
 
 pub returns-in-Target-clause-turns : goal.returns-in-Target-clause-turns

@@ -1,7 +1,7 @@
-use Rattle.eval_tasks.specs.Rest.{from}
+use Rattle.evaluator.specs.Rest.{from}
 use Rattle.std.proofs.Common.{ap}
-use Rattle.eval_tasks.specs.declared.tasks.Now.TheVariants.{Begin}
-use Rattle.eval_tasks.proofs.Turning.{turns_same}
+use Rattle.evaluator.specs.declared.tasks.Now.TheVariants.{Begin}
+use Rattle.evaluator.proofs.Turning.{turns_same}
 use Rattle.evaluator.proofs.turns.begin.Goals as goal
 
 pub returns-in-Pass-clause-turns : goal.returns-in-Pass-clause-turns

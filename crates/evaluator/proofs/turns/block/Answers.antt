@@ -1,12 +1,12 @@
 use Rattle.std.proofs.Common.{◌≡◌, ℕ, List, Some, None, ap, sym}
-use Rattle.program_tables.specs.ProgramRows.{routine_at}
-use Rattle.program_meaning.specs.Tree.{Body, ActTree, Sub, Sequence, Ret}
-use Rattle.program_meaning.specs.Accesses.{no_row}
-use Rattle.program_meaning.specs.Layer.{of_body}
-use Rattle.eval_machine.specs.Machines.{moment_of}
-use Rattle.eval_tasks.specs.Rest.{bare, here, resume, lists_of, tasks_of, values_of}
-use Rattle.eval_tasks.proofs.Moves.{comes_then, comes_same}
-use Rattle.eval_tasks.proofs.Turning.{part_comes, spent, not_spent, turns_after, turns_failed, fails_after}
+use Rattle.core_program.specs.ProgramRows.{routine_at}
+use Rattle.core_program.specs.Tree.{Body, ActTree, Sub, Sequence, Ret}
+use Rattle.core_program.specs.Accesses.{no_row}
+use Rattle.core_program.specs.Layer.{of_body}
+use Rattle.eval_ops.specs.Machines.{moment_of}
+use Rattle.evaluator.specs.Rest.{bare, here, resume, lists_of, tasks_of, values_of}
+use Rattle.evaluator.proofs.Moves.{comes_then, comes_same}
+use Rattle.evaluator.proofs.Turning.{part_comes, spent, not_spent, turns_after, turns_failed, fails_after}
 use Rattle.evaluator.proofs.turns.block.Goals as goal
 
 pub returns-in-None-clause-turns : goal.returns-in-None-clause-turns

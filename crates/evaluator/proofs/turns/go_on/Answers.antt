@@ -1,8 +1,8 @@
 use Rattle.std.proofs.Common.{refl, sym, subst, ◌∙◌}
-use Rattle.eval_machine.specs.Machines.{machine_state, moment_of}
-use Rattle.eval_tasks.specs.Rest.{rest_of}
-use Rattle.eval_tasks.specs.Stops.{NextStopIs}
-use Rattle.eval_tasks.proofs.Moves.{comes_same, comes_then, stops_then}
+use Rattle.eval_ops.specs.Machines.{machine_state, moment_of}
+use Rattle.evaluator.specs.Rest.{rest_of}
+use Rattle.evaluator.specs.Stops.{NextStopIs}
+use Rattle.evaluator.proofs.Moves.{comes_same, comes_then, stops_then}
 use Rattle.evaluator.proofs.turns.go_on.Goals as goal
 
 pub turns-init : goal.turns-init

@@ -1,8 +1,8 @@
-use Rattle.eval_tasks.specs.Records.{SameFrame}
-use Rattle.eval_machine.specs.Machines.{IsReady, moment_of}
-use Rattle.eval_tasks.specs.Rest.{rest_of}
-use Rattle.eval_tasks.specs.Stops.{Comes}
-use Rattle.eval_tasks.specs.Weight.{measure_of}
+use Rattle.evaluator.specs.Records.{SameFrame}
+use Rattle.eval_ops.specs.Machines.{IsReady, moment_of}
+use Rattle.evaluator.specs.Rest.{rest_of}
+use Rattle.evaluator.specs.Stops.{Comes}
+use Rattle.evaluator.specs.Weight.{measure_of}
 use Rattle.evaluator.proofs.turns.go_on.Given as goal
 
 abbrev pub invariant-turns : goal.invariant-turns

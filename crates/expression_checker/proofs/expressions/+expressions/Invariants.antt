@@ -5,7 +5,7 @@ use Rattle.pas_tree.specs.declared.expressions.Simple.{out-Simple}
 use Rattle.pas_tree.specs.declared.expressions.SomeMembers.{out-SomeMembers}
 use Rattle.pas_tree.specs.declared.expressions.Term.{out-Term}
 use Rattle.check_steps.specs.Steps.{◌>>=◌, run_step, each}
-use Rattle.operand_checker.specs.Members.{set_constructor}
+use Rattle.expression_checker.specs.Members.{set_constructor}
 use Rattle.expression_checker.specs.Actuals.{actuals_end}
 use Rattle.expression_checker.specs.Callees.{applied}
 use Rattle.expression_checker.specs.Expressions.{call, constructor, index_at, simple, term}

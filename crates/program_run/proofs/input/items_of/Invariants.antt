@@ -1,5 +1,5 @@
 use Rattle.std.proofs.Common.{◌≡◌, ◌*◌, ◌++◌, ◌≤◌, length, drop}
-use Rattle.program_meaning.specs.Run.{input_items}
+use Rattle.core_program.specs.Run.{input_items}
 use Rattle.program_run.proofs.input.items_of.Given as goal
 
 abbrev pub invariant-bytes : goal.invariant-bytes

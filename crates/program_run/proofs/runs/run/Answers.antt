@@ -1,5 +1,5 @@
 use Rattle.std.proofs.Common.{subst}
-use Rattle.eval_machine.specs.Machines.{moment_of}
+use Rattle.eval_ops.specs.Machines.{moment_of}
 use Rattle.program_run.specs.History.{first_state}
 use Rattle.program_run.specs.Tower.{IsOver}
 use Rattle.program_run.proofs.RunsAreRuns.{calls_are, log_is, output_is}

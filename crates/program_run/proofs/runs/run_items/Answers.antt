@@ -2,7 +2,7 @@ use Rattle.std.specs.Prelude.{map, reverse}
 use Rattle.std.proofs.Common.{ap, ◌∙◌, ◌++◌, ◌∷◌, []}
 use Rattle.cell_value.specs.declared.values.Value.TheVariants.{Nil}
 use Rattle.call_tree.specs.Recording.{nothing_entered}
-use Rattle.eval_machine.specs.Machines.{moment_of}
+use Rattle.eval_ops.specs.Machines.{moment_of}
 use Rattle.program_run.specs.History.{first_state}
 use Rattle.program_run.specs.Tower.{View}
 use Rattle.program_run.specs.Runners.{open_in}

@@ -1,4 +1,4 @@
-use Rattle.eval_machine.specs.Machines.{IsReady}
+use Rattle.eval_ops.specs.Machines.{IsReady}
 use Rattle.body_replay.specs.Again.{AtBody, Job, work_left}
 use Rattle.body_replay.specs.Counting.{CountsEachStep, Tally}
 use Rattle.body_replay.specs.Traces.{tally_of}

@@ -1,10 +1,10 @@
 use Rattle.std.proofs.Common.{ap, arith, subst, sym}
-use Rattle.eval_machine.specs.declared.machine.Machine.{Machine}
-use Rattle.eval_machine.specs.Machines.{moment_of}
-use Rattle.eval_tasks.specs.Stops.{AtCall, AtEnd, AtLine, NextStopIs}
-use Rattle.eval_tasks.specs.Rest.{rest_of, waiting}
-use Rattle.program_meaning.specs.Replay.{end_of}
-use Rattle.eval_tasks.specs.Turns.{stop_of}
+use Rattle.eval_ops.specs.declared.machine.Machine.{Machine}
+use Rattle.eval_ops.specs.Machines.{moment_of}
+use Rattle.evaluator.specs.Stops.{AtCall, AtEnd, AtLine, NextStopIs}
+use Rattle.evaluator.specs.Rest.{rest_of, waiting}
+use Rattle.core_program.specs.Replay.{end_of}
+use Rattle.evaluator.specs.Turns.{stop_of}
 use Rattle.body_replay.specs.Counting.{CountsEachStep, Tally}
 use Rattle.body_replay.specs.Traces.{tally}
 use Rattle.body_replay.proofs.StepsAreCounted.{counts_fell, counts_line}

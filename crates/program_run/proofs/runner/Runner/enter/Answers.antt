@@ -3,9 +3,9 @@ use Rattle.program_run.specs.declared.runner.Runner.{Runner}
 use Rattle.std.proofs.Common.{◌+◌, ◌≤◌, length, length-append, ◌≡◌, Some, refl, sym, ap, subst, ◌∙◌, arith}
 use Rattle.std.proofs.lemmas.Option.{slice_get_within}
 use Rattle.call_tree.specs.Recording.{entered}
-use Rattle.program_tables.specs.ProgramRows.{routine_at}
-use Rattle.eval_machine.specs.Machines.{moment_of}
-use Rattle.program_meaning.specs.Run.{Halted, whole}
+use Rattle.core_program.specs.ProgramRows.{routine_at}
+use Rattle.eval_ops.specs.Machines.{moment_of}
+use Rattle.core_program.specs.Run.{Halted, whole}
 use Rattle.program_run.specs.Tower.{Ends, Rests, TowerAt, View, activation}
 use Rattle.program_run.specs.Runners.{CallBegun, invocation, open_in, rest_in, view_of, work_left}
 use Rattle.program_run.proofs.RunnerSteps.{begun_calls, counted_entered, entered_stands, few_begun, on_ok, pushed}

@@ -1,4 +1,4 @@
-use Rattle.program_meaning.specs.State.{State}
+use Rattle.core_program.specs.State.{State}
 use Rattle.program_run.specs.Runners.{AtRest, Chain, IsWell, opens_in, work_left}
 use Rattle.program_run.proofs.runner.Runner.go.Given as goal
 

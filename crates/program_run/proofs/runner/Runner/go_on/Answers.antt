@@ -1,10 +1,10 @@
 use Rattle.program_run.specs.declared.runner.Runner.{Runner}
 use Rattle.std.proofs.Common.{◌≡◌, ◌+◌, ◌<◌, ◌≤◌, arith, sym, subst}
-use Rattle.eval_machine.specs.Machines.{moment_of}
-use Rattle.eval_tasks.specs.Stops.{AtLine, AtCall, AtEnd, NextStopIs}
-use Rattle.eval_tasks.specs.Rest.{rest_of, waiting}
-use Rattle.program_meaning.specs.Replay.{end_of}
-use Rattle.eval_tasks.specs.Turns.{stop_of}
+use Rattle.eval_ops.specs.Machines.{moment_of}
+use Rattle.evaluator.specs.Stops.{AtLine, AtCall, AtEnd, NextStopIs}
+use Rattle.evaluator.specs.Rest.{rest_of, waiting}
+use Rattle.core_program.specs.Replay.{end_of}
+use Rattle.evaluator.specs.Turns.{stop_of}
 use Rattle.program_run.specs.Tower.{Calls, TowerAt}
 use Rattle.program_run.specs.Runners.{AtRest, rest_in, view_of, work_left}
 use Rattle.program_run.proofs.RunnerSteps.{calls_onward, few_onward, on_ok, steps_onward}

@@ -1,7 +1,7 @@
 use Rattle.std.proofs.Common.{◌≡◌, length}
-use Rattle.program_tables.specs.ProgramRows.{ProgramRows}
-use Rattle.program_meaning.specs.State.{State}
-use Rattle.program_meaning.specs.Run.{Halted}
+use Rattle.core_program.specs.ProgramRows.{ProgramRows}
+use Rattle.core_program.specs.State.{State}
+use Rattle.core_program.specs.Run.{Halted}
 use Rattle.program_run.specs.Tower.{Ends}
 use Rattle.program_run.specs.Runners.{At, IsWell}
 use Rattle.program_run.proofs.runner.Runner.halt.Given as goal

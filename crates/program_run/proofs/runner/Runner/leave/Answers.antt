@@ -3,8 +3,8 @@ use Rattle.std.specs.Prelude.{reverse}
 use Rattle.std.specs.Option.{option_to_list}
 use Rattle.std.proofs.lemmas.List.{reverse-append}
 use Rattle.call_tree.specs.Recording.{left}
-use Rattle.program_meaning.specs.Run.{call_closed, without_frame}
-use Rattle.eval_machine.specs.Machines.{moment_of}
+use Rattle.core_program.specs.Run.{call_closed, without_frame}
+use Rattle.eval_ops.specs.Machines.{moment_of}
 use Rattle.program_run.specs.Table.{side_of}
 use Rattle.program_run.specs.Tower.{TowerAt, stage_after}
 use Rattle.program_run.specs.Runners.{open_in, rest_in, view_of}

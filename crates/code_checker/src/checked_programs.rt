@@ -1,0 +1,41 @@
+//! The whole check of a program (6.10).
+
+ghost use Rattle.std.specs.Prelude.{◌≡◌, [], IfOk, IfErr};
+ghost use Rattle.check_steps.specs.Breaks.{FaultIs};
+ghost use Rattle.check_steps.specs.Steps.{Does};
+ghost use Rattle.code_checker.specs.CheckedPrograms.{broken, check_step, program_of};
+
+use crate::answers::answer;
+use crate::blocks::check_code;
+use check_steps::{CheckFault, Work};
+use core_program::Program;
+use decl_checker::check_program;
+use pas_lexer::Tokens;
+use pas_tree::blocks::Tree;
+use std::alloc::{AllocError, Global};
+
+/// The declarations of a program, and then the statements of its blocks.
+#[tactic(auto, using(check_steps::proofs::Runs::steps), unfolding(crate::specs::CheckedPrograms::check_step))]
+fn check_tree(work: &mut Work, alloc: Global, tree: &Tree) -> Result<(), AllocError>
+    ensures { IfOk result (λ _. Does (check_step tree.now) tt work.old work.new) }
+{
+    let frame = check_program(work, alloc, tree)?;
+    check_code(work, &tree.block, frame)?;
+    Ok(())
+}
+
+/// The program that a tree denotes, or why it denotes none. The tree is the formed one that spells the tokens.
+///
+/// `Rule` has the first broken rule and its token. Rules that can be told from declarations and names alone come before
+/// the others, then the order is that of the tokens, and at one token that of the rules' numbers. `TooBig` comes where
+/// no rule is broken: it has the first token of the names of variables and value parameters whose type needs more than
+/// 65,536 cells, and of the arguments of `new` whose pointer's domain does.
+pub fn check(alloc: Global, tokens: &Tokens, tree: &Tree) -> Result<Program, CheckFault>
+    ensures program { IfOk result (λ p. p ≡ program_of tokens.now tree.now) }
+    ensures unbroken { IfOk result (λ _. broken tokens.now tree.now ≡ []) }
+    ensures fault { IfErr result (FaultIs (broken tokens.now tree.now)) }
+{
+    let mut work = Work::new(alloc, tokens)?;
+    check_tree(&mut work, alloc, tree)?;
+    answer(work)
+}

@@ -1,0 +1,487 @@
+-- A depth that is always enough. A tree is told by its rank: before a step is taken it has parts of lower rank alone.
+use Rattle.std.proofs.Common.{◌≡◌, ◌⊎◌, inl, inr, ℕ, zero, suc, ◌+◌, ◌-◌, ◌*◌, ◌<◌, ◌≤◌, ◌==◌, ℤ, Bool, true, false, List, [], ◌∷◌, Option, Some, None, refl}
+use Rattle.std.proofs.Common.{sym, ap, subst, ◌∙◌, length, nat_lt, if◌then◌else◌, slice_get, unwrap_or, arith}
+use Rattle.std.proofs.Math.Nat.{mul-le-mul_left}
+use Rattle.std.proofs.lemmas.Bool.Decides.{nat_tests}
+use Rattle.cell_value.specs.declared.values.Value.{Value}
+use Rattle.cell_value.specs.declared.entries.Touch.{Touch}
+use Rattle.cell_value.specs.declared.ways_out.WayOut.{WayOut}
+use Rattle.cell_value.specs.declared.ways_out.Which.{Which}
+use Rattle.cell_value.specs.declared.ways_out.Which.TheVariants.{Stack}
+use Rattle.core_program.specs.declared.program.Routine.{Routine}
+use Rattle.core_program.specs.declared.rows.Row.{Row}
+use Rattle.core_program.specs.declared.rows.Row.TheVariants as rows
+use Rattle.core_program.specs.declared.rows.ItemRow.{ItemRow}
+use Rattle.core_program.specs.declared.rows.ItemRow.TheVariants as item
+use Rattle.core_program.specs.declared.rows.AccessRow.{AccessRow}
+use Rattle.core_program.specs.declared.rows.AccessRow.TheVariants as access
+use Rattle.core_program.specs.declared.rows.StatementRow.{StatementRow}
+use Rattle.core_program.specs.declared.rows.StatementRow.TheVariants as statement
+use Rattle.core_program.specs.ProgramRows.{ProgramRows, row_at, routine_at}
+use Rattle.core_program.specs.State.{State, stack_end}
+use Rattle.core_program.specs.Acts.{OutOfSteps, Limited, Act, Answer, ActResult, Went, Stops, Spend, perform, limit_passed, spent}
+use Rattle.core_program.specs.Tree.{
+  Out,
+  Jump,
+  Here,
+  Part,
+  Eval,
+  Locate,
+  Pass,
+  Gather,
+  Establish,
+  Exec,
+  Sequence,
+  Turn,
+  Count,
+  Receive,
+  Scanning,
+  RestOfLine,
+  Print,
+  Body,
+  ActTree,
+  Ret,
+  Halt,
+  Do,
+  Sub,
+  Enter,
+  Line,
+  way_of,
+  doing,
+}
+use Rattle.core_program.specs.declared.scan.Scan.{Scan}
+use Rattle.core_program.specs.declared.scan.Scan.TheVariants.{Blanks, Digits}
+use Rattle.core_program.specs.Accesses.{no_row, on_scalar, on_address, eval, locate_before, of_access, access_in, type_accessed}
+use Rattle.core_program.specs.Expressions.{expression_in, of_actual, of_members}
+use Rattle.core_program.specs.Statements.{on_normal, on_labelled, begins, line_of, statement_in, of_sequence, of_turn, of_count, of_records}
+use Rattle.core_program.specs.Input.{next_char}
+use Rattle.core_program.specs.Output.{char_type, host_at}
+use Rattle.core_program.specs.Transfers.{read_for, received, of_received, of_scan, of_printed}
+use Rattle.core_program.specs.Layer.{layer, of_body}
+use Rattle.core_program.proofs.ActsTakeSteps.{cost, Acted, acted}
+use Rattle.core_program.specs.Run.{
+  End,
+  Ended,
+  Halted,
+  Marked,
+  Result,
+  in_front,
+  ends,
+  on_end,
+  joined,
+  on_done,
+  if_allowed,
+  Outcome,
+  recorded,
+  after_all,
+  in_frame,
+  at_work,
+  call_of,
+  plain,
+  run_of,
+  whole,
+  with_frame,
+  without_frame,
+  opened,
+  call_closed,
+  Call as Record,
+}
+
+-- ---- ranks
+
+-- the rank of a part, where the tables have R rows
+abbrev rank : ℕ → Part → ℕ
+rank R (Exec row here) = R - row
+rank R (Body routine base) = 0
+rank R (Count row i last here) = 0
+rank R (Sequence first at here) = R + 1
+-- the lesser of R and the row
+rank R (Locate row target here) = R - (R - row)
+rank R (Eval row here) = R + 1
+rank R (Pass at passed here) = R + 2
+rank R (Gather at set here) = R + 2
+rank R (Establish at body here) = R + 1
+rank R (Turn row here) = R + 2
+rank R (Receive at here) = R + 2
+rank R (Scanning scan here) = 0
+rank R (RestOfLine here) = 0
+rank R (Print at here) = R + 2
+
+-- whether a part takes a step before it ends, if nothing stops the run
+abbrev pays : Part → Bool
+pays (Eval row here) = true
+pays (Locate row target here) = true
+pays (Exec row here) = true
+pays (Body routine base) = true
+pays (Scanning scan here) = true
+pays (RestOfLine here) = true
+pays part = false
+
+-- A tree of a rank; and where it is said to pay, it does not end without a step.
+abbrev Ranked : (R r : ℕ) → (pays : Bool) → ActTree → Type 0
+Ranked R r b (Ret out) = b ≡ false
+Ranked R r b (Halt line why) = Unit {0}
+Ranked R r b (Do line act next) = (1 ≤ cost act) ⊎ ((x : Answer act) → Ranked R r b (next x))
+Ranked R r b (Sub part next) = (rank R part < r) × ((pays part ≡ true) ⊎ ((out : Out) → Ranked R r b (next out)))
+Ranked R r b (Enter f cells args next) = 1 < r
+Ranked R r b (Line line next) = Unit {0}
+
+below_all : (R : ℕ) (part : Part) → rank R part < R + 3
+below_all R (Exec row here) = omega arith
+below_all R (Body routine base) = omega arith
+below_all R (Count row i last here) = omega arith
+below_all R (Sequence first at here) = omega arith
+below_all R (Locate row target here) = omega arith
+below_all R (Eval row here) = omega arith
+below_all R (Pass at passed here) = omega arith
+below_all R (Gather at set here) = omega arith
+below_all R (Establish at body here) = omega arith
+below_all R (Turn row here) = omega arith
+below_all R (Receive at here) = omega arith
+below_all R (Scanning scan here) = omega arith
+below_all R (RestOfLine here) = omega arith
+below_all R (Print at here) = omega arith
+
+-- each tree has this rank
+any_tree : (R : ℕ) (t : ActTree) → Ranked R (R + 3) false t
+any_tree R (Ret out) = refl
+any_tree R (Halt line why) = tt
+any_tree R (Do line act next) = inr (λ x. any_tree R (next x))
+any_tree R (Sub part next) = (below_all R part, inr (λ out. any_tree R (next out)))
+any_tree R (Enter f cells args next) = omega arith
+any_tree R (Line line next) = tt
+
+-- ---- each part has its rank
+
+below_length : (rs : List Row) (n : ℕ) → (unwrap_or (slice_get rs n) rows.Nothing ≡ rows.Nothing) ⊎ (n < length rs)
+below_length [] n = inl refl
+below_length (r ∷ rs) zero = inr (omega arith)
+below_length (r ∷ rs) (suc n) = elim (below_length rs n) [ inl e ↦ inl e | inr h ↦ inr (omega (arith, h)) ]
+
+module _ (p : ProgramRows) where
+  abbrev R : ℕ
+  R = length p.rows
+
+  abbrev Fits : Part → ActTree → Type 0
+  Fits part t = Ranked R (rank R part) (pays part) t
+
+  one : 1 ≤ 1
+  one = omega arith
+
+  locates : (row access : ℕ) (target : Bool) (here : Here) (go : ℕ → ActTree) → row < R
+      → Fits (Locate row target here) (locate_before row access target here go)
+  locates row access target here go h = by (nat_lt access row) refl
+    where
+      by : (b : Bool) → nat_lt access row ≡ b
+          → Fits (Locate row target here) (if b then Sub (Locate access target here) (on_address go) else no_row)
+      by true e = (grind (arith, nat_tests), inl refl)
+      by false e = tt
+
+  access_fits : (row : ℕ) (target : Bool) (here : Here) (a : AccessRow) → row < R → Fits (Locate row target here) (of_access p row target here a)
+  access_fits row target here (access.Variable place levels of') h = inl one
+  access_fits row target here (access.Reference place levels of') h = inl one
+  access_fits row target here (access.Within record' field of') h = inl one
+  access_fits row target here (access.Index inner index array of') h = locates row inner target here _ h
+  access_fits row target here (access.Field inner field of') h = locates row inner target here _ h
+  access_fits row target here (access.Dereference inner of') h = locates row inner target here _ h
+
+  there : (row : ℕ) (target : Bool) (here : Here) (r : Row) → row < R → Fits (Locate row target here) (access_in p row target here r)
+  there row target here (rows.Access a) h = access_fits row target here a h
+  there row target here rows.Nothing h = tt
+  there row target here (rows.Type t) h = tt
+  there row target here (rows.Name n) h = tt
+  there row target here (rows.Part q) h = tt
+  there row target here (rows.Statement s) h = tt
+  there row target here (rows.Expression e) h = tt
+  there row target here (rows.Item i) h = tt
+
+  located : (row : ℕ) (target : Bool) (here : Here) → Fits (Locate row target here) (access_in p row target here (row_at p row))
+  located row target here = elim (below_length p.rows row) [
+    | inl e ↦ subst (λ r. Fits (Locate row target here) (access_in p row target here r)) (sym e) tt
+    | inr h ↦ there row target here (row_at p row) h
+  ]
+
+  evaluated : (row : ℕ) (here : Here) (r : Row) → Fits (Eval row here) (expression_in p row here r)
+  evaluated row here (rows.Expression e) = inl one
+  evaluated row here (rows.Access a) = (omega arith, inl refl)
+  evaluated row here rows.Nothing = tt
+  evaluated row here (rows.Type t) = tt
+  evaluated row here (rows.Name n) = tt
+  evaluated row here (rows.Part q) = tt
+  evaluated row here (rows.Statement s) = tt
+  evaluated row here (rows.Item i) = tt
+
+  passed_item : (at : ℕ) (vs : List Value) (here : Here) (i : ItemRow) → Fits (Pass at vs here) (of_actual p vs here (rows.Item i))
+  passed_item at vs here (item.Value e of' next) = (omega arith, inl refl)
+  passed_item at vs here (item.Place a next) = (omega arith, inl refl)
+  passed_item at vs here (item.Routine routine levels next) = inl one
+  passed_item at vs here (item.RoutineFormal place levels next) = inl one
+  passed_item at vs here i = refl
+
+  passed_row : (at : ℕ) (vs : List Value) (here : Here) (r : Row) → Fits (Pass at vs here) (of_actual p vs here r)
+  passed_row at vs here (rows.Item i) = passed_item at vs here i
+  passed_row at vs here r = refl
+
+  gathered : (at : ℕ) (set : Value) (here : Here) (r : Row) → Fits (Gather at set here) (of_members set here r)
+  gathered at set here (rows.Item (item.Member e next)) = (omega arith, inl refl)
+  gathered at set here (rows.Item (item.Members first last next)) = (omega arith, inl refl)
+  gathered at set here r = refl
+
+  established : (at body : ℕ) (here : Here) (r : Row) → Fits (Establish at body here) (of_records here body r)
+  established at body here (rows.Item (item.Element a next)) = (omega arith, inl refl)
+  established at body here r = (omega arith, inl refl)
+
+  begun : (row : ℕ) (here : Here) (s : StatementRow) (o : Option ℕ) → Fits (Exec row here) (begins p row here s o)
+  begun row here s (Some line) = tt
+  begun row here s None = tt
+
+  labelled : (row label inner : ℕ) (here : Here) → row < R → Fits (Exec row here) (statement_in p row here (rows.Statement (statement.Labelled label inner)))
+  labelled row label inner here h = by (nat_lt row inner) refl
+    where
+      by : (b : Bool) → nat_lt row inner ≡ b → Fits (Exec row here) (if b then Sub (Exec inner here) (on_labelled row label here) else no_row)
+      by true e = (grind (arith, nat_tests), inl refl)
+      by false e = tt
+
+  executed : (row : ℕ) (here : Here) (r : Row) → row < R → Fits (Exec row here) (statement_in p row here r)
+  executed row here (rows.Statement statement.Empty) h = inl one
+  executed row here (rows.Statement (statement.Compound statements)) h = inl one
+  executed row here (rows.Statement (statement.Labelled label inner)) h = labelled row label inner here h
+  executed row here (rows.Statement s) h = begun row here s (line_of s)
+  executed row here r h = tt
+
+  done : (row : ℕ) (here : Here) → Fits (Exec row here) (statement_in p row here (row_at p row))
+  done row here = elim (below_length p.rows row) [
+    | inl e ↦ subst (λ r. Fits (Exec row here) (statement_in p row here r)) (sym e) tt
+    | inr h ↦ executed row here (row_at p row) h
+  ]
+
+  in_sequence : (first at : ℕ) (here : Here) (r : Row) → Fits (Sequence first at here) (of_sequence p here first r)
+  in_sequence first at here (rows.Item (item.Element s next)) = (omega arith, inl refl)
+  in_sequence first at here r = refl
+
+  repeated : (row condition : ℕ) (here : Here) (go : Value → ActTree) (out : Out) → Ranked R (R + 2) false (on_normal (eval condition here go) out)
+  repeated row condition here go (Jump label base) = refl
+  repeated row condition here go out = (omega arith, inl refl)
+
+  turned : (row : ℕ) (here : Here) (r : Row) → Fits (Turn row here) (of_turn row here r)
+  turned row here (rows.Statement (statement.While line condition body)) = (omega arith, inl refl)
+  turned row here (rows.Statement (statement.Repeat line statements condition)) = (omega arith, inr (repeated row condition here _))
+  turned row here r = tt
+
+  counted : (row : ℕ) (i last : ℤ) (here : Here) (r : Row) → Fits (Count row i last here) (of_count row here i last r)
+  counted row i last here (rows.Statement (statement.Turns direction last' place of' body)) = inl one
+  counted row i last here r = tt
+
+  read_for_fits : (at host : ℕ) (here : Here) (go : Value → ActTree) → Fits (Receive at here) (read_for here host go)
+  read_for_fits at host here go = by (host == char_type)
+    where
+      by : (b : Bool) → Fits (Receive at here) (if b then doing here.line next_char go else Sub (Scanning Blanks here) (on_scalar go))
+      by true = inl one
+      by false = (omega arith, inl refl)
+
+  received_row : (at access next : ℕ) (here : Here) (r : Row) → Fits (Receive at here) (received p here access next r)
+  received_row at access next here (rows.Access a) = read_for_fits at (host_at p (type_accessed a)) here _
+  received_row at access next here r = tt
+
+  receives : (at : ℕ) (here : Here) (r : Row) → Fits (Receive at here) (of_received p here r)
+  receives at here (rows.Item (item.Element access next)) = received_row at access next here (row_at p access)
+  receives at here r = refl
+
+  scans : (scan : Scan) (here : Here) → Fits (Scanning scan here) (of_scan scan here)
+  scans Blanks here = inl one
+  scans (Digits minus number) here = inl one
+
+  prints : (at : ℕ) (here : Here) (r : Row) → Fits (Print at here) (of_printed p here r)
+  prints at here (rows.Item (item.Written e of' next)) = (omega arith, inl refl)
+  prints at here (rows.Item (item.WrittenWide e of' width next)) = (omega arith, inl refl)
+  prints at here r = refl
+
+  bodied : (routine base : ℕ) (o : Option Routine) → Fits (Body routine base) (of_body base o)
+  bodied routine base None = tt
+  bodied routine base (Some r) = inl one
+
+  part_fits : (part : Part) → Fits part (layer p part)
+  part_fits (Eval row here) = evaluated row here (row_at p row)
+  part_fits (Locate row target here) = located row target here
+  part_fits (Pass at passed here) = passed_row at passed here (row_at p at)
+  part_fits (Gather at set here) = gathered at set here (row_at p at)
+  part_fits (Establish at body here) = established at body here (row_at p at)
+  part_fits (Exec row here) = done row here
+  part_fits (Sequence first at here) = in_sequence first at here (row_at p at)
+  part_fits (Turn row here) = turned row here (row_at p row)
+  part_fits (Count row i last here) = counted row i last here (row_at p row)
+  part_fits (Receive at here) = receives at here (row_at p at)
+  part_fits (Scanning scan here) = scans scan here
+  part_fits (RestOfLine here) = inl one
+  part_fits (Print at here) = prints at here (row_at p at)
+  part_fits (Body routine base) = bodied routine base (routine_at p routine)
+
+-- ---- each tree ends
+
+-- what was left of the steps falls, and where something pays it falls by one at least
+abbrev Fell : Bool → End → (after before : ℕ) → Type 0
+Fell true (Ended out) after before = after + 1 ≤ before
+Fell b e after before = after ≤ before
+
+fell_no_more : (b : Bool) (e : End) (a s : ℕ) → Fell b e a s → a ≤ s
+fell_no_more true (Ended out) a s h = omega (arith, h)
+fell_no_more false (Ended out) a s h = h
+fell_no_more true (Halted way) a s h = h
+fell_no_more false (Halted way) a s h = h
+
+fell_less : (b : Bool) (e : End) (a r s : ℕ) → r ≤ s → Fell b e a r → Fell b e a s
+fell_less true (Ended out) a r s k h = omega (arith, h, k)
+fell_less false (Ended out) a r s k h = omega (arith, h, k)
+fell_less true (Halted way) a r s k h = omega (arith, h, k)
+fell_less false (Halted way) a r s k h = omega (arith, h, k)
+
+fell_paid : (b : Bool) (e : End) (a r s : ℕ) → r + 1 ≤ s → a ≤ r → Fell b e a s
+fell_paid true (Ended out) a r s k h = omega (arith, h, k)
+fell_paid false (Ended out) a r s k h = omega (arith, h, k)
+fell_paid true (Halted way) a r s k h = omega (arith, h, k)
+fell_paid false (Halted way) a r s k h = omega (arith, h, k)
+
+fell_halted : (b : Bool) (way : WayOut) (a s : ℕ) → a ≤ s → Fell b (Halted way) a s
+fell_halted true way a s h = h
+fell_halted false way a s h = h
+
+-- there is a result, and the steps fell
+pub record Ends (b : Bool) (s : ℕ) (x : Outcome) : Type 0 where
+  pub result : Result State Record
+  pub is : x ≡ Some result
+  pub falls : Fell b result.end result.after.steps s
+
+halts : (b : Bool) (s : ℕ) (way : WayOut) (σ : State) → σ.steps ≤ s → Ends b s (ends (Halted way) σ)
+halts b s way σ h = record { result = _; is = refl; falls = fell_halted b way σ.steps s h }
+
+ends_less : (b : Bool) (s r : ℕ) (x : Outcome) → r ≤ s → Ends b r x → Ends b s x
+ends_less b s r x k h = record { result = h.result; is = h.is; falls = fell_less b h.result.end h.result.after.steps r s k h.falls }
+
+ends_paid : (b : Bool) (s r : ℕ) (x : Outcome) → r + 1 ≤ s → Ends false r x → Ends b s x
+ends_paid b s r x k h = record {
+  result = h.result;
+  is = h.is;
+  falls = fell_paid b h.result.end h.result.after.steps r s k (fell_no_more false h.result.end h.result.after.steps r h.falls);
+}
+
+ends_front : (b : Bool) (s : ℕ) (w : List Touch) (es : List (Marked Record)) (x : Outcome) → Ends b s x → Ends b s (in_front w es x)
+ends_front b s w es x h = record { result = _; is = ap (in_front w es) h.is; falls = h.falls }
+
+ends_allowed : (b : Bool) (o : Option Which) (σ : State) (x : Outcome) → Ends b σ.steps x → Ends b σ.steps (if_allowed o σ x)
+ends_allowed b None σ x h = h
+ends_allowed b (Some which) σ x h = halts b σ.steps _ σ (omega arith)
+
+ends_joined : (b c : Bool) (s : ℕ) (x : Outcome) (g : Out → State → Outcome) → Ends b s x
+    → ((out : Out) (τ : State) → Fell b (Ended out) τ.steps s → Ends c s (g out τ)) → Ends c s (joined x g)
+ends_joined b c s x g h k = go h.result.end refl
+  where
+    go : (e : End) → h.result.end ≡ e → Ends c s (joined x g)
+    go (Ended out) q =
+        let y = ends_front c s h.result.log h.result.events _ (k out h.result.after (subst (λ e. Fell b e h.result.after.steps s) q h.falls)) in
+        record { result = y.result; is = ap (λ z. joined z g) h.is ∙ ap (λ d. on_end d h.result g) q ∙ y.is; falls = y.falls }
+    go (Halted way) q = record {
+      result = h.result;
+      is = ap (λ z. joined z g) h.is ∙ ap (λ d. on_end d h.result g) q;
+      falls = subst (λ e. Fell c e h.result.after.steps s) (sym q) (fell_halted c way h.result.after.steps s
+          (fell_no_more b h.result.end h.result.after.steps s h.falls));
+    }
+
+ends_after : (b : Bool) (s : ℕ) (change : State → State) → ((τ : State) → (change τ).steps ≡ τ.steps) → (x : Outcome) → Ends b s x
+    → Ends b s (after_all change x)
+ends_after b s change keeps x h = record {
+  result = _;
+  is = ap (after_all change) h.is;
+  falls = subst (λ n. Fell b h.result.end n s) (sym (keeps h.result.after)) h.falls;
+}
+
+-- a rank, and this much for each step that is left
+abbrev need : (k r s : ℕ) → ℕ
+need k r s = r + k * s
+
+need_less : (k r a b : ℕ) → a ≤ b → need k r a ≤ need k r b
+need_less k r a b h = omega (arith, mul-le-mul_left k h)
+
+need_paid : (k r q a b : ℕ) → r ≤ k → a + 1 ≤ b → need k r a ≤ need k q b
+need_paid k r q a b h e = omega (arith, h, mul-le-mul_left k e)
+
+module _ (p : ProgramRows) where
+  abbrev K : ℕ
+  K = length p.rows + 4
+
+  abbrev Enough : ℕ → Type 0
+  Enough n = (t : ActTree) (b : Bool) (r : ℕ) → Ranked (length p.rows) r b t → (σ : State) → need K r σ.steps < n → Ends b σ.steps (run_of p n t σ)
+
+  call_ends : (run : ActTree → State → Outcome) (f : ℕ) (args : List Value) (σ : State)
+      → ((r : Routine) (τ : State) → τ.steps ≤ σ.steps → Ends true τ.steps (run (whole p f σ.top r) τ)) → Ends true σ.steps (call_of p run f args σ)
+  call_ends run f args σ h = rec (after_all (call_closed σ.depth) (in_frame (at_work p run f) args (opened σ) (routine_at p f)))
+      (ends_after true σ.steps (call_closed σ.depth) (λ τ. refl) _ (framed_so (routine_at p f)))
+    where
+      rec : (x : Outcome) → Ends true σ.steps x → Ends true σ.steps (recorded f args σ x)
+      rec x y = record { result = _; is = ap (recorded f args σ) y.is; falls = y.falls }
+
+      by : (r : Routine) (a b : Bool) → Ends true σ.steps (if a then ends (Halted (way_of 0 (Limited Stack))) (opened σ)
+          else if b then ends (Halted (way_of 0 OutOfSteps)) (spent (opened σ))
+          else after_all (without_frame σ.top r.cells) (run (whole p f σ.top r) (with_frame r.cells args (opened σ))))
+      by r true b = halts true σ.steps _ (opened σ) (omega arith)
+      by r false true = halts true σ.steps _ (spent (opened σ)) (omega arith)
+      by r false false = ends_after true σ.steps (without_frame σ.top r.cells) (λ τ. refl) _
+          (ends_less true σ.steps _ _ (omega arith) (h r (with_frame r.cells args (opened σ)) (omega arith)))
+
+      framed_so : (o : Option Routine) → Ends true σ.steps (in_frame (at_work p run f) args (opened σ) o)
+      framed_so None = halts true σ.steps _ (opened σ) (omega arith)
+      framed_so (Some r) = by r (nat_lt stack_end ((opened σ).top + r.cells)) (nat_lt (opened σ).steps r.cells)
+
+  act_ends : (b : Bool) (line : ℕ) (act : Act) (next : Answer act → State → Outcome) (σ : State)
+      → ((x : Answer act) (τ : State) → τ.steps + cost act ≤ σ.steps → Ends b σ.steps (next x τ))
+      → Ends b σ.steps (on_done (plain p) line σ (perform act σ) next)
+  act_ends b line act next σ h = go (perform act σ) (acted act σ)
+    where
+      go : (d : ActResult (Answer act)) → Acted (cost act) σ d → Ends b σ.steps (on_done (plain p) line σ d next)
+      go (Went x w τ) e = ends_front b σ.steps w [] _ (h x τ e)
+      go (Stops why w τ) e = ends_front b σ.steps w [] _ (halts b σ.steps _ τ e)
+
+  abbrev whatever : (t : ActTree) → Ranked (length p.rows) (length p.rows + 3) false t
+  whatever t = any_tree (length p.rows) t
+
+  -- a tree after a step
+  after_step : (n : ℕ) (r : ℕ) (σ τ : State) → need K r σ.steps < suc n → τ.steps + 1 ≤ σ.steps → need K (length p.rows + 3) τ.steps < suc n
+  after_step n r σ τ k e = omega (arith, k, need_paid K (length p.rows + 3) r τ.steps σ.steps (omega arith) e)
+
+  ends_more : (n : ℕ) → Enough n → Enough (suc n)
+  ends_more n h (Ret out) b r d σ k = record { result = _; is = refl; falls = subst (λ b. Fell b (Ended out) σ.steps σ.steps) (sym d) (omega arith) }
+  ends_more n h (Halt line why) b r d σ k = halts b σ.steps _ σ (omega arith)
+  ends_more n h (Line line next) b r d σ k = act_ends b line (Spend 1) _ σ (λ x τ e. ends_front b σ.steps [] [] _
+      (ends_paid b σ.steps τ.steps _ e (ends_more n h next false (length p.rows + 3) (whatever next) τ (after_step n r σ τ k e))))
+  ends_more n h (Do line act next) b r (inl c) σ k = act_ends b line act _ σ (λ x τ e.
+      let f : τ.steps + 1 ≤ σ.steps = omega (arith, e, c) in
+      ends_paid b σ.steps τ.steps _ f (ends_more n h (next x) false (length p.rows + 3) (whatever (next x)) τ (after_step n r σ τ k f)))
+  ends_more n h (Do line act next) b r (inr f) σ k = act_ends b line act _ σ (λ x τ e.
+      let m : τ.steps ≤ σ.steps = omega (arith, e) in
+      ends_less b σ.steps τ.steps _ m (ends_more n h (next x) b r (f x) τ (omega (arith, k, need_less K r τ.steps σ.steps m))))
+  ends_more n h (Sub part next) b r (l, inl e) σ k = ends_joined true b σ.steps _ _
+      (subst (λ q. Ends q σ.steps (run_of p n (layer p part) σ)) e
+      (h (layer p part) (pays part) (rank (length p.rows) part) (part_fits p part) σ (omega (arith, k, l))))
+      (λ out τ q. ends_paid b σ.steps τ.steps _ q (ends_more n h (next out) false (length p.rows + 3) (whatever (next out)) τ (after_step n r σ τ k q)))
+  ends_more n h (Sub part next) b r (l, inr f) σ k = ends_joined (pays part) b σ.steps _ _
+      (h (layer p part) (pays part) (rank (length p.rows) part) (part_fits p part) σ (omega (arith, k, l)))
+      (λ out τ q. let m = fell_no_more (pays part) (Ended out) τ.steps σ.steps q in
+      ends_less b σ.steps τ.steps _ m (ends_more n h (next out) b r (f out) τ (omega (arith, k, need_less K r τ.steps σ.steps m))))
+  ends_more n h (Enter f cells args next) b r d σ k = ends_allowed b (limit_passed σ cells) σ _
+      (ends_joined true b σ.steps _ _
+      (call_ends (run_of p n) f args σ (λ q τ m. h (whole p f σ.top q) true 1 (omega arith, inl refl) τ
+      (omega (arith, k, d, need_less K 1 τ.steps σ.steps m))))
+      (λ out τ q. ends_paid b σ.steps τ.steps _ q (ends_more n h (next out) false (length p.rows + 3) (whatever (next out)) τ (after_step n r σ τ k q))))
+
+  enough : (n : ℕ) → Enough n
+  enough zero = λ t b r d σ k. absurd (omega (arith, k))
+  enough (suc n) = ends_more n (enough n)
+
+  -- every tree has a run: this depth is enough
+  pub total : (t : ActTree) (σ : State) (n : ℕ) → (length p.rows + 4) * (σ.steps + 1) ≤ n → Ends false σ.steps (run_of p n t σ)
+  total t σ n k = enough n t false (length p.rows + 3) (any_tree (length p.rows) t) σ (omega (arith, k))
+
+  -- and so has every call
+  pub call_total : (f : ℕ) (args : List Value) (σ : State) (n : ℕ) → (length p.rows + 4) * (σ.steps + 1) ≤ n
+      → Ends true σ.steps (call_of p (run_of p n) f args σ)
+  call_total f args σ n k = call_ends (run_of p n) f args σ (λ q τ m. enough n (whole p f σ.top q) true 1 (omega arith, inl refl) τ
+      (omega (arith, k, need_less K 1 τ.steps σ.steps m)))

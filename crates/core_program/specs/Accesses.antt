@@ -1,0 +1,153 @@
+-- What each access does (6.5), and the parts of constructs that evaluate and locate.
+use Rattle.std.specs.Prelude.{ℕ, ℤ, Bool, true, false, List, [], Option, Some, None, nat_lt, slice_get, if◌then◌else◌}
+use Rattle.cell_value.specs.declared.values.Value.{Value}
+use Rattle.cell_value.specs.declared.ways_out.Kind.TheVariants as kind
+use Rattle.core_program.specs.declared.rows.Row.{Row}
+use Rattle.core_program.specs.declared.rows.Row.TheVariants as rows
+use Rattle.core_program.specs.declared.rows.AccessRow.{AccessRow}
+use Rattle.core_program.specs.declared.rows.AccessRow.TheVariants.{
+  Variable,
+  Reference,
+  Within,
+  Index,
+  Field,
+  Dereference,
+}
+use Rattle.core_program.specs.declared.rows.TypeRow.{TypeRow}
+use Rattle.core_program.specs.declared.rows.TypeRow.TheVariants.{Ordinal, Subrange, Set, Pointer, Array, Record}
+use Rattle.core_program.specs.ProgramRows.{ProgramRows, row_at, type_at, size_of}
+use Rattle.core_program.specs.declared.components.Components.{Components}
+use Rattle.core_program.specs.Acts.{Fault, Spend}
+use Rattle.core_program.specs.Tree.{
+  Out,
+  Scalar,
+  Cells,
+  Address,
+  Jump,
+  Here,
+  Eval,
+  Locate,
+  ActTree,
+  Ret,
+  Halt,
+  Do,
+  Sub,
+  doing,
+}
+use Rattle.core_program.specs.Cells.{read_values, ordinal_at, set_at, cell_out, reference_out, component}
+use Rattle.core_program.specs.Variants.{field_at}
+use Rattle.core_program.specs.Heap.{pointer_at, pointed_at}
+
+-- The tables name a row that they do not have, or that is of another kind. Such tables are no program of a source, so
+-- that the fault has no line.
+abbrev pub no_row : ActTree
+no_row = Halt 0 (Fault kind.Undefined)
+
+-- a step is taken first
+abbrev pub spend : Here → ActTree → ActTree
+spend here next = Do here.line (Spend 1) (λ _. next)
+
+-- Goes on with a value, the cells of one, or an address; a jump goes on outward.
+abbrev pub on_scalar : (Value → ActTree) → Out → ActTree
+on_scalar go (Scalar v) = go v
+on_scalar go (Jump label base) = Ret (Jump label base)
+on_scalar go out = no_row
+
+abbrev pub on_cells : (List Value → ActTree) → Out → ActTree
+on_cells go (Cells vs) = go vs
+on_cells go (Jump label base) = Ret (Jump label base)
+on_cells go out = no_row
+
+abbrev pub on_address : (ℕ → ActTree) → Out → ActTree
+on_address go (Address addr) = go addr
+on_address go (Jump label base) = Ret (Jump label base)
+on_address go out = no_row
+
+abbrev pub eval : (row : ℕ) → Here → (Value → ActTree) → ActTree
+eval row here go = Sub (Eval row here) (on_scalar go)
+
+abbrev pub eval_cells : (row : ℕ) → Here → (List Value → ActTree) → ActTree
+eval_cells row here go = Sub (Eval row here) (on_cells go)
+
+abbrev pub locate : (row : ℕ) → Here → (ℕ → ActTree) → ActTree
+locate row here go = Sub (Locate row false here) (on_address go)
+
+-- the same of a target access, which is one left of `:=`, or an argument of read, readln or new
+abbrev pub locate_target : (row : ℕ) → Here → (ℕ → ActTree) → ActTree
+locate_target row here go = Sub (Locate row true here) (on_address go)
+
+abbrev pub scalar : Value → ActTree
+scalar v = Ret (Scalar v)
+
+abbrev pub address : ℕ → ActTree
+address addr = Ret (Address addr)
+
+-- The access to which a selector is applied stands before the selector, and is a target as the whole is.
+abbrev pub locate_before : (row access : ℕ) → (target : Bool) → Here → (ℕ → ActTree) → ActTree
+locate_before row access target here go =
+    if nat_lt access row then Sub (Locate access target here) (on_address go) else no_row
+
+-- goes on with the bounds of an ordinal type
+abbrev pub with_bounds : Option TypeRow → (ℤ → ℤ → ActTree) → ActTree
+with_bounds (Some (Ordinal least greatest)) go = go least greatest
+with_bounds (Some (Subrange host least greatest)) go = go least greatest
+with_bounds t go = no_row
+
+-- goes on with what an array type says of its components
+abbrev pub with_components : ProgramRows → Option TypeRow → (Components → ActTree) → ActTree
+with_components p (Some (Array packed index component cells)) go = with_bounds (type_at p index) (λ least greatest.
+    go (record { least = least; greatest = greatest; size = size_of p component }))
+with_components p t go = no_row
+
+-- a field of the record variable at an address (6.5.3.3)
+abbrev pub locate_field : ProgramRows → (target : Bool) → (line addr field : ℕ) → ActTree
+locate_field p target line addr field = doing line (field_at p target addr (row_at p field)) address
+
+-- goes on with a record that a with statement around has established
+abbrev pub with_record : Option ℕ → (ℕ → ActTree) → ActTree
+with_record None go = no_row
+with_record (Some addr) go = go addr
+
+-- An access, in order of its text: its name and each index, field and `^` take a step. An index is evaluated after the
+-- variable before it is located, and is no target; there a pointer is read. A field in a with statement is a name alone
+-- (6.8.3.10).
+abbrev pub of_access : ProgramRows → (row : ℕ) → (target : Bool) → Here → AccessRow → ActTree
+of_access p row target here (Variable place levels of') =
+    spend here (doing here.line (cell_out levels here.base place) address)
+of_access p row target here (Reference place levels of') =
+    spend here (doing here.line (reference_out levels here.base place) address)
+of_access p row target here (Index access index array of') = locate_before row access target here (λ addr. spend here
+    (eval index here (λ v. with_components p (type_at p array) (λ a. doing here.line (component a addr v) address))))
+of_access p row target here (Field access field of') = locate_before row access target here (λ addr. spend here
+    (locate_field p target here.line addr field))
+of_access p row target here (Within record' field of') = spend here (with_record (slice_get here.records record')
+    (λ addr. locate_field p target here.line addr field))
+of_access p row target here (Dereference access of') = locate_before row access target here (λ addr. spend here
+    (doing here.line (pointed_at addr) address))
+
+abbrev pub access_in : ProgramRows → (row : ℕ) → (target : Bool) → Here → Row → ActTree
+access_in p row target here (rows.Access a) = of_access p row target here a
+access_in p row target here r = no_row
+
+-- the type of what is accessed
+abbrev pub type_accessed : AccessRow → ℕ
+type_accessed (Variable place levels of') = of'
+type_accessed (Reference place levels of') = of'
+type_accessed (Within record' field of') = of'
+type_accessed (Index access index array of') = of'
+type_accessed (Field access field of') = of'
+type_accessed (Dereference access of') = of'
+
+-- the values of this many cells from an address on, each read in order, also those that are undefined
+abbrev pub cells_at : (line addr cells : ℕ) → ActTree
+cells_at line addr cells = doing line (read_values [] addr cells) (λ vs. Ret (Cells vs))
+
+-- the value of an ordinal variable, a set or a pointer (6.5.1), or the values of the cells of an array or a record
+abbrev pub value_at : (line addr : ℕ) → Option TypeRow → ActTree
+value_at line addr (Some (Ordinal least greatest)) = doing line (ordinal_at least greatest addr) scalar
+value_at line addr (Some (Subrange host least greatest)) = doing line (ordinal_at least greatest addr) scalar
+value_at line addr (Some (Set packed base)) = doing line (set_at addr) scalar
+value_at line addr (Some (Pointer domain)) = doing line (pointer_at addr) scalar
+value_at line addr (Some (Array packed index component cells)) = cells_at line addr cells
+value_at line addr (Some (Record packed region cells variants)) = cells_at line addr cells
+value_at line addr t = no_row

@@ -1,0 +1,109 @@
+-- Actions on cells and frames.
+use Rattle.std.specs.Prelude.{ℕ, zero, suc, ◌*◌, ℤ, ◌-ℤ◌, List, [], ◌∷◌, ◌++◌, Bool, true, false, Option, Some, None}
+use Rattle.std.specs.Prelude.{min, int_le, unsigned_abs, ◌&&◌, if◌then◌else◌}
+use Rattle.cell_value.specs.declared.values.Value.{Value}
+use Rattle.cell_value.specs.declared.values.Value.TheVariants as value
+use Rattle.cell_value.specs.declared.ways_out.Kind.TheVariants as kind
+use Rattle.core_program.specs.declared.rows.TypeRow.{TypeRow}
+use Rattle.core_program.specs.declared.components.Components.{Components}
+use Rattle.cell_value.specs.Effects.{heap_end}
+use Rattle.core_program.specs.State.{moved}
+use Rattle.core_program.specs.Acts.{Fault, ReadCell, WriteCell}
+use Rattle.core_program.specs.Actions.{Action, Give, Fail, ◌>>=◌, act}
+use Rattle.core_program.specs.ProgramRows.{ProgramRows}
+use Rattle.core_program.specs.Values.{defined, defined_set, tested, or_fault}
+
+-- a cell of the heap that is not there was disposed of
+abbrev pub or_disposed : Option Value → Action Value
+or_disposed (Some v) = Give v
+or_disposed None = Fail (Fault kind.Disposed)
+
+-- the value in a cell
+abbrev pub read_value : (addr : ℕ) → Action Value
+read_value addr = do
+  found ← act (ReadCell addr)
+  or_disposed found
+
+abbrev pub if_there : Bool → Action (Unit {0})
+if_there true = Give tt
+if_there false = Fail (Fault kind.Disposed)
+
+-- a value is put into a cell
+abbrev pub write : (addr : ℕ) → Value → Action (Unit {0})
+write addr v = act (WriteCell addr v) >>= if_there
+
+-- the values of this many cells from an address on, after those that were read before
+abbrev pub read_values : List Value → (addr cells : ℕ) → Action (List Value)
+read_values vs addr zero = Give vs
+read_values vs addr (suc n) = read_value addr >>= λ v. read_values (vs ++ v ∷ []) (moved addr 1) n
+
+-- values are put into the cells from an address on
+abbrev pub writes : (addr : ℕ) → List Value → Action (Unit {0})
+writes addr [] = Give tt
+writes addr (v ∷ vs) = write addr v >>= λ _. writes (moved addr 1) vs
+
+-- the value of a variable of an ordinal type with these bounds
+abbrev pub ordinal_at : (least greatest : ℤ) → (addr : ℕ) → Action Value
+ordinal_at least greatest addr = read_value addr >>= defined least greatest
+
+-- the value of a variable of a set type
+abbrev pub set_at : (addr : ℕ) → Action Value
+set_at addr = read_value addr >>= defined_set
+
+-- a variable of a type of one cell gets a value
+abbrev pub assign : ProgramRows → Option TypeRow → (addr : ℕ) → Value → Action (Unit {0})
+assign p t addr v = or_fault (tested p t v) >>= write addr
+
+-- the base of the frame that a link names
+abbrev pub frame_of_link : Value → Action ℕ
+frame_of_link (value.Frame base) = Give base
+frame_of_link _ = Fail (Fault kind.Undefined)
+
+-- The base of the frame in which a frame's routine was declared. The link to it is the cell at the frame's base.
+abbrev pub linked : (base : ℕ) → Action ℕ
+linked base = read_value base >>= frame_of_link
+
+-- the base of the frame to which this many links lead
+abbrev pub frame_out : (levels base : ℕ) → Action ℕ
+frame_out zero base = Give base
+frame_out (suc n) base = linked base >>= frame_out n
+
+-- the cell at a place in the frame to which this many links lead
+abbrev pub cell_out : (levels base place : ℕ) → Action ℕ
+cell_out levels base place = frame_out levels base >>= λ frame. Give (moved frame place)
+
+-- the address of the variable that a variable parameter stands for
+abbrev pub variable_of : Value → Action ℕ
+variable_of (value.Place addr) = Give (min addr heap_end)
+variable_of _ = Fail (Fault kind.Undefined)
+
+-- the same, of a variable parameter whose cell is at an address
+abbrev pub referred : (addr : ℕ) → Action ℕ
+referred addr = read_value addr >>= variable_of
+
+-- and of the one at a place in the frame to which this many links lead
+abbrev pub reference_out : (levels base place : ℕ) → Action ℕ
+reference_out levels base place = cell_out levels base place >>= referred
+
+-- the routine that a routine parameter stands for, and the frame in which that was declared
+abbrev pub routine_meant : Value → Action (ℕ × ℕ)
+routine_meant (value.Routine routine frame) = Give (routine, frame)
+routine_meant _ = Fail (Fault kind.Undefined)
+
+-- the same, of a routine parameter whose cell is at an address
+abbrev pub routine_held : (addr : ℕ) → Action (ℕ × ℕ)
+routine_held addr = read_value addr >>= routine_meant
+
+-- and of the one at a place in the frame to which this many links lead
+abbrev pub routine_out : (levels base place : ℕ) → Action (ℕ × ℕ)
+routine_out levels base place = cell_out levels base place >>= routine_held
+
+-- how far an ordinal stands from the least of its type
+abbrev pub position_between : (least greatest : ℤ) → Value → Action ℕ
+position_between least greatest (value.Number n) =
+    if int_le least n && int_le n greatest then Give (unsigned_abs (n -ℤ least)) else Fail (Fault kind.OutOfRange)
+position_between least greatest _ = Fail (Fault kind.Undefined)
+
+-- the component of an array variable at an address, by the value of its index (6.5.3.2)
+abbrev pub component : Components → (addr : ℕ) → Value → Action ℕ
+component array addr v = position_between array.least array.greatest v >>= λ n. Give (moved addr (n * array.size))

@@ -1,0 +1,55 @@
+-- Packing and unpacking of arrays (6.6.5.4).
+use Rattle.std.specs.Prelude.{ℕ, ◌+◌, ◌*◌, ◌-ℤ◌, Bool, true, false, [], nat_lt, unsigned_abs, if◌then◌else◌}
+use Rattle.cell_value.specs.declared.values.Value.{Value}
+use Rattle.cell_value.specs.declared.ways_out.Kind.TheVariants as kind
+use Rattle.core_program.specs.declared.rows.Row.{Row}
+use Rattle.core_program.specs.declared.rows.Row.TheVariants as rows
+use Rattle.core_program.specs.ProgramRows.{ProgramRows, row_at, type_at, size_of}
+use Rattle.core_program.specs.declared.components.Components.{Components}
+use Rattle.core_program.specs.State.{moved}
+use Rattle.core_program.specs.Acts.{Fault}
+use Rattle.core_program.specs.Actions.{Action, Give, Fail, ◌>>=◌}
+use Rattle.core_program.specs.Tree.{Here, ActTree, doing}
+use Rattle.core_program.specs.Cells.{read_values, writes, position_between}
+use Rattle.core_program.specs.Accesses.{no_row, eval, locate, type_accessed, with_components}
+
+-- how many components an array has
+abbrev pub count_of : Components → ℕ
+count_of array = unsigned_abs (array.greatest -ℤ array.least) + 1
+
+-- The component at a position of an unpacked array variable at an address, if the array has as many from there on as
+-- a packed one.
+abbrev pub start_at : (unpacked packed : Components) → (addr n : ℕ) → Action ℕ
+start_at unpacked packed addr n =
+    if nat_lt (count_of unpacked) (n + count_of packed) then Fail (Fault kind.OutOfRange)
+    else Give (moved addr (n * unpacked.size))
+
+-- the same by the value of an index
+abbrev pub first_moved : (unpacked packed : Components) → (addr : ℕ) → Value → Action ℕ
+first_moved unpacked packed addr v =
+    position_between unpacked.least unpacked.greatest v >>= start_at unpacked packed addr
+
+-- this many cells are copied, all read before the first is written
+abbrev pub copies : (from to cells : ℕ) → Action (Unit {0})
+copies from to cells = read_values [] from cells >>= writes to
+
+-- goes on with an array that is accessed: its cells, and what its type says of its components
+abbrev pub with_array : ProgramRows → Row → (ℕ → Components → ActTree) → ActTree
+with_array p (rows.Access a) go = with_components p (type_at p (type_accessed a)) (go (size_of p (type_accessed a)))
+with_array p r go = no_row
+
+-- once both arrays are located and the index is known
+abbrev pub moves : ProgramRows → Here → (packing : Bool) → (unpacked packed : ℕ) → (a z : ℕ) → Value
+    → (Action (Unit {0}) → ActTree) → ActTree
+moves p here packing unpacked packed a z v go = with_array p (row_at p unpacked) (λ _ wide.
+    with_array p (row_at p packed) (λ cells close. doing here.line (first_moved wide close a v) (λ at.
+    go (if packing then copies at z cells else copies z at cells))))
+
+-- The arrays are located in the order of the actuals, then the index is evaluated and tested, and then the components
+-- of the packed array, in order, are those of the unpacked one from the index on, or the other way round.
+abbrev pub pack : ProgramRows → Here → (packing : Bool) → (unpacked index packed : ℕ) → (Action (Unit {0}) → ActTree)
+    → ActTree
+pack p here true unpacked index packed go = locate unpacked here (λ a. locate packed here (λ z.
+    eval index here (λ v. moves p here true unpacked packed a z v go)))
+pack p here false unpacked index packed go = locate packed here (λ z. locate unpacked here (λ a.
+    eval index here (λ v. moves p here false unpacked packed a z v go)))

@@ -1,0 +1,40 @@
+//! Laws of the definitions, each the contract of a call that does nothing.
+
+ghost use Rattle.core_program.specs.Laws.{
+  DepthIsEnough,
+  EveryProgramRuns,
+  EveryRunHasACall,
+  FirstHasNoParent,
+  LastIsACall,
+  MarksTellTheLog,
+  OthersHaveAParent,
+  SubtreeIsInterval,
+};
+
+/// Every program has a run with every input and budget, also one whose tables lack a row.
+pub fn every_program_runs()
+    ensures { EveryProgramRuns }
+{}
+
+/// Where parts and calls may stand deeper in one another, the run is the same.
+pub fn depth_is_enough()
+    ensures { DepthIsEnough }
+{}
+
+/// Every run has a first call.
+pub fn every_run_has_a_call()
+    ensures { EveryRunHasACall }
+{}
+
+/// The calls of each run make a tree, which the numbers of its calls tell.
+pub fn numbers_tell_the_tree()
+    ensures subtree { SubtreeIsInterval }
+    ensures last { LastIsACall }
+    ensures first { FirstHasNoParent }
+    ensures others { OthersHaveAParent }
+{}
+
+/// The mark of each call of a run says where its part of the log begins.
+pub fn marks_tell_the_log()
+    ensures { MarksTellTheLog }
+{}

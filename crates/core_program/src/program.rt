@@ -1,0 +1,188 @@
+//! A program.
+
+ghost use Rattle.std.specs.Prelude.{◌≡◌, ◌++◌, ◌∷◌, [], length, map, IfOk, OnOk};
+ghost use Rattle.core_program.specs.ProgramRows.{blank_tables, row_at, routine_at, text_at, type_at, name_of};
+ghost use Rattle.core_program.specs.ProgramRows.{frame_of};
+ghost use Rattle.core_program.specs.ProgramRows.{size_of, offset_of, with_row, with_routine};
+
+use crate::rows::{NameRow, Row, TypeRow};
+use std::alloc::{AllocError, Global};
+use std::marker::Model;
+
+/// A routine. Routine 0 is the program block, the others are numbered in the order of their first headings.
+#[derive(Clone, Copy)]
+pub struct Routine {
+    /// The token that spells its name, in its first heading.
+    pub name: u32,
+    /// The number of its first heading; of the program block 0.
+    pub heading: u32,
+    /// How many blocks are around its own.
+    pub level: u32,
+    /// The cells of its frame: the link, the parameters, the result of a function, and the variables.
+    pub cells: u32,
+    /// Of a function, the place of its result in the frame.
+    pub result: Option<u32>,
+    /// The list of the statements of its statement part.
+    pub statements: u32,
+    /// The line of the first token of its statement part.
+    pub line: u32,
+}
+
+/// The tables of a program.
+#[derive(Drop)]
+pub struct Program {
+    rows: Vec<Row>,
+    routines: Vec<Routine>,
+    texts: Vec<Vec<u8>>,
+}
+
+impl Model for Program {
+    ghost use Rattle.std.specs.Prelude.{◌<◌, ◌^◌, map, vec_len};
+    ghost use Rattle.core_program.specs.ProgramRows.{ProgramRows};
+
+    ghost Value = { ProgramRows };
+
+    ghost view = { λ p. record {
+      rows = p.rows.items;
+      routines = p.routines.items;
+      texts = map (λ v. v.items) p.texts.items;
+    } };
+
+    ghost invariant = { λ p. vec_len p.routines < 2 ^ 32 };
+}
+
+impl Program {
+    /// A program of which nothing is known yet but the texts of its tokens: of a name as it is written, of a string
+    /// its characters. It has as many rows as `rows`.
+    pub fn new(alloc: Global, rows: usize, texts: Vec<Vec<u8>>) -> Result<Self, AllocError>
+        ensures { IfOk result (λ p. p ≡ blank_tables rows (map (λ v. v.items) texts.items)) }
+    {
+        let rows = vec![in alloc; Row::Nothing; rows]?;
+        Ok(Program {
+            rows,
+            routines: Vec::new(alloc),
+            texts,
+        })
+    }
+
+    /// What stands at a number.
+    pub fn row(&self, number: u32) -> Row
+        ensures { result ≡ row_at self.now number }
+    {
+        match self.rows.get(number as usize) {
+            Some(row) => *row,
+            None => Row::Nothing,
+        }
+    }
+
+    /// The type of a number, if one stands there.
+    pub fn type_row(&self, number: u32) -> Option<TypeRow>
+        ensures { result ≡ type_at self.now number }
+    {
+        match self.row(number) {
+            Row::Type(row) => Some(row),
+            _ => None,
+        }
+    }
+
+    /// The routine of a number.
+    pub fn routine(&self, number: u32) -> Option<Routine>
+        ensures { result ≡ routine_at self.now number }
+    {
+        self.routines.get(number as usize).copied()
+    }
+
+    /// How many routines there are.
+    pub fn routines(&self) -> u32
+        ensures { result ≡ length self.now.routines }
+    {
+        self.routines.len() as u32
+    }
+
+    /// The text of a token, and nothing where it is neither a name nor a string.
+    pub fn text(&self, token: u32) -> &[u8]
+        ensures { result.now ≡ text_at self.now token }
+    {
+        match self.texts.get(token as usize) {
+            Some(text) => text,
+            None => &[],
+        }
+    }
+
+    /// The name of a routine, as its first heading spells it.
+    pub fn name(&self, routine: u32) -> &[u8]
+        ensures { result.now ≡ name_of self.now routine }
+    {
+        match self.routine(routine) {
+            Some(routine) => self.text(routine.name),
+            None => &[],
+        }
+    }
+
+    /// The cells of a routine's frame, the link included; 524,289 stands for more than 524,288.
+    pub fn frame(&self, routine: u32) -> u32
+        ensures { result ≡ frame_of self.now routine }
+    {
+        match self.routine(routine) {
+            Some(routine) => routine.cells,
+            None => 0,
+        }
+    }
+
+    /// The cells of a variable of a type; 65,537 stands for more than 65,536.
+    pub fn size_of(&self, kind: u32) -> u32
+        ensures { result ≡ size_of self.now kind }
+    {
+        match self.type_row(kind) {
+            Some(TypeRow::Array { cells, .. }) => cells,
+            Some(TypeRow::Record { cells, .. }) => cells,
+            Some(_) => 1,
+            None => 0,
+        }
+    }
+
+    /// Where a field's cells begin in a record; 65,537 stands for more than 65,536.
+    pub fn offset_of(&self, _kind: u32, field: u32) -> u32
+        ensures { result ≡ offset_of self.now field }
+    {
+        match self.row(field) {
+            Row::Name(NameRow::Field { offset, .. }) => offset,
+            Row::Name(NameRow::Tag { offset, .. }) => offset,
+            _ => 0,
+        }
+    }
+
+    /// Puts a row at a number. There is nothing to be done where the table has no such number.
+    pub fn put(&mut self, number: u32, row: Row)
+        ensures { self.new ≡ with_row self.old number row }
+    {
+        let number = number as usize;
+        if number < self.rows.len() {
+            self.rows[number] = row;
+        }
+    }
+
+    /// A new routine after the others, by its number. Of 4,294,967,295 routines there is none after the last, which
+    /// counts as out of memory.
+    pub fn add_routine(&mut self, routine: Routine) -> Result<u32, AllocError>
+        ensures number { IfOk result (λ n. n ≡ length self.old.routines) }
+        ensures added { OnOk result (self.new ≡ record self.old { routines = self.old.routines ++ routine ∷ [] }) }
+    {
+        let number = self.routines.len();
+        if number >= u32::MAX as usize {
+            return Err(AllocError);
+        }
+        self.routines.push(routine)?;
+        Ok(number as u32)
+    }
+
+    /// Puts a routine at a number, if there is one.
+    pub fn put_routine(&mut self, number: u32, routine: Routine)
+        ensures { self.new ≡ with_routine self.old number routine }
+    {
+        let number = number as usize;
+        if number < self.routines.len() {
+            self.routines[number] = routine;
+        }
+    }
+}

@@ -1,0 +1,34 @@
+use Rattle.std.proofs.Common.{◌≡◌, drop}
+use Rattle.pas_tree.specs.declared.expressions.Arguments.{out-Arguments}
+use Rattle.pas_tree.specs.declared.expressions.Index.{out-Index}
+use Rattle.pas_tree.specs.declared.expressions.Simple.{out-Simple}
+use Rattle.pas_tree.specs.declared.expressions.Term.{out-Term}
+use Rattle.check_steps.specs.Steps.{run_step, each}
+use Rattle.decl_checker.specs.Accesses.{access_type, arguments_uses, indices, members_uses, simple_uses, term_uses}
+use Rattle.decl_checker.specs.Accesses.{next_argument, next_factor, next_index, next_member, next_term, selector}
+use Rattle.decl_checker.proofs.expressions.+expressions.Given as goal
+
+abbrev pub invariant-use_simple-others : goal.invariant-use_simple-others
+invariant-use_simple-others l =
+    run_step (each (next_term l.frame) tt (drop l.other-index (out-Simple l.s).others.items)) l.work ≡ run_step (simple_uses l.frame l.s) l.fn.work
+
+abbrev pub invariant-use_term-others : goal.invariant-use_term-others
+invariant-use_term-others l =
+    run_step (each (next_factor l.frame) tt (drop l.other-index (out-Term l.t).others.items)) l.work ≡ run_step (term_uses l.frame l.t) l.fn.work
+
+abbrev pub invariant-check_access-selectors : goal.invariant-check_access-selectors
+invariant-check_access-selectors l =
+    run_step (each (selector l.frame l.a.name) l.part (drop l.selector-index l.a.selectors.items)) l.work ≡ run_step (access_type l.frame l.a) l.fn.work
+
+abbrev pub invariant-check_indices-others : goal.invariant-check_indices-others
+invariant-check_indices-others l =
+    run_step (each (next_index l.frame l.unknown) l.part (drop l.other-index (out-Index l.x).others.items)) l.work
+    ≡ run_step (indices l.frame l.unknown l.kind l.x) l.fn.work
+
+abbrev pub invariant-use_arguments-others : goal.invariant-use_arguments-others
+invariant-use_arguments-others l =
+    run_step (each (next_argument l.frame) tt (drop l.other-index (out-Arguments l.a).others.items)) l.work ≡ run_step (arguments_uses l.frame l.a) l.fn.work
+
+abbrev pub invariant-use_members-others : goal.invariant-use_members-others
+invariant-use_members-others l =
+    run_step (each (next_member l.frame) tt (drop l.other-index l.other-items)) l.work ≡ run_step (members_uses l.frame l.m) l.fn.work

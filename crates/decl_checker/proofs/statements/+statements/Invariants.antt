@@ -1,0 +1,14 @@
+use Rattle.std.proofs.Common.{◌≡◌, drop}
+use Rattle.pas_tree.specs.declared.statements.Case.{out-Case}
+use Rattle.pas_tree.specs.declared.statements.Statements.{out-Statements}
+use Rattle.check_steps.specs.Steps.{run_step, each}
+use Rattle.decl_checker.specs.Statements.{case_uses, next_branch, next_statement, statements_uses}
+use Rattle.decl_checker.proofs.statements.+statements.Given as goal
+
+abbrev pub invariant-use_statements-others : goal.invariant-use_statements-others
+invariant-use_statements-others l =
+    run_step (each (next_statement l.frame) tt (drop l.other-index (out-Statements l.s).others.items)) l.work ≡ run_step (statements_uses l.frame l.s) l.fn.work
+
+abbrev pub invariant-use_case-others : goal.invariant-use_case-others
+invariant-use_case-others l =
+    run_step (each (next_branch l.frame) tt (drop l.other-index (out-Case l.x).others.items)) l.work ≡ run_step (case_uses l.frame l.x) l.fn.work

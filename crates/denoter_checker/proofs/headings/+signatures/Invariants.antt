@@ -1,0 +1,9 @@
+use Rattle.std.proofs.Common.{◌≡◌, drop}
+use Rattle.check_steps.specs.Steps.{run_step, each}
+use Rattle.denoter_checker.specs.Headings.{next_formal_place}
+use Rattle.denoter_checker.proofs.headings.+signatures.Given as goal
+
+abbrev pub invariant-check_other_formals-others : goal.invariant-check_other_formals-others
+invariant-check_other_formals-others l =
+    run_step (each (next_formal_place l.frame) l.next (drop l.other-index l.others)) l.work
+    ≡ run_step (each (next_formal_place l.frame) l.fn.at l.others) l.fn.work

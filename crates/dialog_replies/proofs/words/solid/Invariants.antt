@@ -1,0 +1,9 @@
+use Rattle.std.proofs.Common.{◌≡◌, ◌+◌, drop, not}
+use Rattle.dialog_replies.specs.Words.{is_space_or_tab, count_while}
+use Rattle.dialog_replies.proofs.words.solid.Given as goal
+
+abbrev pub invariant-loop-c : goal.invariant-loop-c
+invariant-loop-c l = record {
+  so_far : l.n + count_while (λ c. not (is_space_or_tab c)) (drop l.c-index l.text) ≡ count_while (λ c. not (is_space_or_tab c)) l.text;
+  index : l.n ≡ l.c-index;
+}

@@ -1,0 +1,22 @@
+-- The words that begin a line.
+use Rattle.std.specs.Prelude.{ℕ, if◌then◌else◌, List, codes}
+use Rattle.std.specs.Str.{bytes_eq}
+use Rattle.answer_book.specs.declared.entries.Judgement.TheVariants.{Right, Wrong, Unknown}
+use Rattle.dialog_replies.specs.declared.keywords.Keyword.{Keyword}
+use Rattle.dialog_replies.specs.declared.keywords.Keyword.TheVariants.{Judge, Trust, Back, Show, State, Trace, Carry}
+use Rattle.dialog_replies.specs.declared.keywords.Keyword.TheVariants.{Tree, Save, Quit, Other}
+
+abbrev pub keyword_of : List ℕ → Keyword
+keyword_of word =
+    if bytes_eq word (codes "right") then Judge Right
+    else (if bytes_eq word (codes "wrong") then Judge Wrong
+    else (if bytes_eq word (codes "unknown") then Judge Unknown
+    else (if bytes_eq word (codes "trust") then Trust
+    else (if bytes_eq word (codes "back") then Back
+    else (if bytes_eq word (codes "show") then Show
+    else (if bytes_eq word (codes "state") then State
+    else (if bytes_eq word (codes "trace") then Trace
+    else (if bytes_eq word (codes "carry") then Carry
+    else (if bytes_eq word (codes "tree") then Tree
+    else (if bytes_eq word (codes "save") then Save
+    else (if bytes_eq word (codes "quit") then Quit else Other)))))))))))

@@ -1,0 +1,245 @@
+//! What a line of the console asks for.
+ghost use Rattle.std.specs.Prelude.{◌≡◌, ◌∷◌, [], ℕ, List};
+ghost use Rattle.dialog_replies.specs.Instructions.{carry_in, cell_in, instruction_by, instruction_of, save_in};
+ghost use Rattle.dialog_replies.specs.Instructions.{trust_in, with_number};
+ghost use Rattle.dialog_replies.specs.Numbers.{number_of};
+ghost use Rattle.dialog_replies.specs.Words.{after_word, words};
+ghost use Rattle.dialog_replies.specs.declared.instructions.Instruction.TheVariants as ask;
+ghost use Rattle.dialog_replies.specs.declared.keywords.Keyword.TheVariants as key;
+
+use crate::keywords::{Keyword, keyword_in};
+use crate::numbers::{number_in, routine_number};
+use crate::words::{after_blanks, before_blanks, first_word};
+use answer_book::Judgement;
+use std::marker::Model;
+
+/// The name of a routine or of cells, as it was typed. Clauses see its bytes.
+#[derive(Drop)]
+pub struct Name<'a> {
+    bytes: &'a [u8],
+}
+
+impl<'a> Model for Name<'a> {
+    ghost use Rattle.std.specs.Prelude.{ℕ, List};
+
+    ghost Value = { List ℕ };
+
+    ghost view = { λ name. name.bytes.now };
+}
+
+impl<'a> Name<'a> {
+    /// Its bytes.
+    pub fn bytes(&self) -> &[u8]
+        ensures { result.now ≡ self.now }
+    {
+        self.bytes
+    }
+}
+
+/// The name of a file, as it was typed: UTF-8. Clauses see its bytes.
+#[derive(Drop)]
+pub struct FileName<'a> {
+    name: &'a str,
+}
+
+impl<'a> Model for FileName<'a> {
+    ghost use Rattle.std.specs.Prelude.{ℕ, List};
+
+    ghost Value = { List ℕ };
+
+    ghost view = { λ file. file.name.now };
+}
+
+impl<'a> FileName<'a> {
+    /// The name as a text.
+    pub fn as_str(&self) -> &str
+        ensures { result.now ≡ self.now }
+    {
+        self.name
+    }
+}
+
+/// What a line of the console asks for.
+#[derive(Drop)]
+pub enum Instruction<'a> {
+    /// A line without words: nothing.
+    Nothing,
+    /// `right`, `wrong` and `unknown`: a judgement on the call of this number, or on the one that is
+    /// asked about.
+    Judge(Judgement, Option<u32>),
+    /// `trust NAME`: trust in the routine of this name.
+    TrustNamed(Name<'a>),
+    /// `trust #R`: trust in the routine of this number.
+    Trust(u32),
+    /// `back`: to take back the entry of this number, or the last one that stands.
+    TakeBack(Option<u32>),
+    /// `show K`: the card of the call of this number.
+    Show(u32),
+    /// `state K NAME`: what the cells of this name held before and after the call of this number.
+    State(u32, Name<'a>),
+    /// `trace K`: the trace of the call of this number.
+    Trace(u32),
+    /// `carry K J`: whether the record of the call of the first number may be put in place of its run where the call of
+    /// the second number was entered.
+    Carry(u32, u32),
+    /// `tree`: the marks of all calls.
+    Tree,
+    /// `save F`: the session goes into the file of this name.
+    Save(FileName<'a>),
+    /// `quit`: the end of the session.
+    Quit,
+    /// Any other line, which is not understood.
+    Other,
+}
+
+/// What a keyword alone asks for.
+fn alone<'a>(keyword: Keyword) -> Instruction<'a>
+    ensures { (rest : List ℕ) → result ≡ instruction_by keyword [] rest }
+{
+    match keyword {
+        Keyword::Judge(judgement) => Instruction::Judge(judgement, None),
+        Keyword::Back => Instruction::TakeBack(None),
+        Keyword::Tree => Instruction::Tree,
+        Keyword::Quit => Instruction::Quit,
+        Keyword::Trust
+        | Keyword::Show
+        | Keyword::State
+        | Keyword::Trace
+        | Keyword::Carry
+        | Keyword::Save
+        | Keyword::Other => Instruction::Other,
+    }
+}
+
+/// What `trust` asks for with this word after it.
+fn trust<'a>(routine: &'a [u8]) -> Instruction<'a>
+    ensures { result ≡ trust_in routine.now }
+{
+    match routine_number(routine) {
+        Some(number) => Instruction::Trust(number),
+        None => Instruction::TrustNamed(Name { bytes: routine }),
+    }
+}
+
+/// What `save` asks for with this word after it.
+fn save<'a>(file: &'a [u8]) -> Instruction<'a>
+    ensures { result ≡ save_in file.now }
+{
+    match str::from_utf8(file) {
+        Ok(name) => Instruction::Save(FileName { name }),
+        Err(_) => Instruction::Other,
+    }
+}
+
+/// What a keyword asks for with this word after it.
+fn with_operand<'a>(keyword: Keyword, operand: &'a [u8]) -> Instruction<'a>
+    ensures { (rest : List ℕ) → result ≡ instruction_by keyword (operand.now ∷ []) rest }
+{
+    match keyword {
+        Keyword::Trust => trust(operand),
+        Keyword::Judge(judgement) => match number_in(operand) {
+            Some(call) => Instruction::Judge(judgement, Some(call)),
+            None => Instruction::Other,
+        },
+        Keyword::Back => match number_in(operand) {
+            Some(entry) => Instruction::TakeBack(Some(entry)),
+            None => Instruction::Other,
+        },
+        Keyword::Show => match number_in(operand) {
+            Some(call) => Instruction::Show(call),
+            None => Instruction::Other,
+        },
+        Keyword::Trace => match number_in(operand) {
+            Some(call) => Instruction::Trace(call),
+            None => Instruction::Other,
+        },
+        Keyword::Save => save(operand),
+        Keyword::State | Keyword::Carry | Keyword::Tree | Keyword::Quit | Keyword::Other => {
+            Instruction::Other
+        }
+    }
+}
+
+/// What `state` asks for with this word after it, and this after the word.
+fn state<'a>(call: &'a [u8], rest: &'a [u8]) -> Instruction<'a>
+    ensures { result ≡ with_number (number_of call.now) (λ number. ask.State number (cell_in rest.now)) }
+{
+    match number_in(call) {
+        Some(number) => Instruction::State(
+            number,
+            Name {
+                bytes: before_blanks(after_blanks(rest)),
+            },
+        ),
+        None => Instruction::Other,
+    }
+}
+
+/// What `carry` asks for with these two words after it.
+fn carry<'a>(call: &[u8], onto: &[u8]) -> Instruction<'a>
+    ensures { result ≡ carry_in call.now onto.now }
+{
+    match (number_in(call), number_in(onto)) {
+        (Some(call), Some(onto)) => Instruction::Carry(call, onto),
+        _ => Instruction::Other,
+    }
+}
+
+/// What `carry` asks for with two words or more after it: the first two, and what follows them.
+fn carry_alone<'a>(call: &[u8], onto: &[u8], after: &[u8]) -> Instruction<'a>
+    ensures { (rest : List ℕ) → result ≡ instruction_by key.Carry (call.now ∷ onto.now ∷ words after.now) rest }
+{
+    match first_word(after) {
+        None => carry(call, onto),
+        Some(_) => Instruction::Other,
+    }
+}
+
+/// What a keyword asks for with more than one word after it: the first, and what follows it; the second, and what
+/// follows that.
+fn with_more<'a>(
+    keyword: Keyword,
+    operand: &'a [u8],
+    rest: &'a [u8],
+    second: &'a [u8],
+    after: &'a [u8],
+) -> Instruction<'a>
+    ensures { result ≡ instruction_by keyword (operand.now ∷ second.now ∷ words after.now) rest.now }
+{
+    match keyword {
+        Keyword::State => state(operand, rest),
+        Keyword::Carry => carry_alone(operand, second, after),
+        Keyword::Judge(_)
+        | Keyword::Trust
+        | Keyword::Back
+        | Keyword::Show
+        | Keyword::Trace
+        | Keyword::Tree
+        | Keyword::Save
+        | Keyword::Quit
+        | Keyword::Other => Instruction::Other,
+    }
+}
+
+/// What a keyword asks for, by what follows it in the line.
+fn with_rest<'a>(keyword: Keyword, rest: &'a [u8]) -> Instruction<'a>
+    ensures { result ≡ instruction_by keyword (words rest.now) (after_word rest.now) }
+{
+    match first_word(rest) {
+        None => alone(keyword),
+        Some((operand, more)) => match first_word(more) {
+            None => with_operand(keyword, operand),
+            Some((second, after)) => with_more(keyword, operand, more, second, after),
+        },
+    }
+}
+
+/// What a line of the console asks for.
+pub fn instruction_in<'a>(line: &'a [u8]) -> Instruction<'a>
+    ensures { result ≡ instruction_of line.now }
+{
+    match first_word(line) {
+        None => Instruction::Nothing,
+        Some((word, rest)) => with_rest(keyword_in(word), rest),
+    }
+}

@@ -1,0 +1,65 @@
+//! The first word of a line.
+ghost use Rattle.std.specs.Prelude.{◌≡◌};
+ghost use Rattle.dialog_replies.specs.Keywords.{keyword_of};
+
+use answer_book::Judgement;
+
+/// What the first word of a line says is to be done.
+#[derive(Clone, Copy)]
+pub enum Keyword {
+    /// `right`, `wrong` and `unknown`.
+    Judge(Judgement),
+    /// `trust`.
+    Trust,
+    /// `back`.
+    Back,
+    /// `show`.
+    Show,
+    /// `state`.
+    State,
+    /// `trace`.
+    Trace,
+    /// `carry`.
+    Carry,
+    /// `tree`.
+    Tree,
+    /// `save`.
+    Save,
+    /// `quit`.
+    Quit,
+    /// Any other word.
+    Other,
+}
+
+/// The keyword that a word is. Letter case counts.
+pub fn keyword_in(word: &[u8]) -> Keyword
+    ensures { result ≡ keyword_of word.now }
+{
+    if word == b"right".as_slice() {
+        Keyword::Judge(Judgement::Right)
+    } else if word == b"wrong".as_slice() {
+        Keyword::Judge(Judgement::Wrong)
+    } else if word == b"unknown".as_slice() {
+        Keyword::Judge(Judgement::Unknown)
+    } else if word == b"trust".as_slice() {
+        Keyword::Trust
+    } else if word == b"back".as_slice() {
+        Keyword::Back
+    } else if word == b"show".as_slice() {
+        Keyword::Show
+    } else if word == b"state".as_slice() {
+        Keyword::State
+    } else if word == b"trace".as_slice() {
+        Keyword::Trace
+    } else if word == b"carry".as_slice() {
+        Keyword::Carry
+    } else if word == b"tree".as_slice() {
+        Keyword::Tree
+    } else if word == b"save".as_slice() {
+        Keyword::Save
+    } else if word == b"quit".as_slice() {
+        Keyword::Quit
+    } else {
+        Keyword::Other
+    }
+}

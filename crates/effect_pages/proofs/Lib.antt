@@ -1,6 +1,0 @@
-mod AddressesAreListed
-mod BlocksAreMarked
-mod FoundGoesOn
-mod ListsGoOn
-mod PagesKeepCells
-mod TouchesAddUp

@@ -1,5 +1,0 @@
-use Rattle.effect_pages.specs.Marks.{MarksCells, block_mark}
-use Rattle.effect_pages.proofs.found.change_block.Given as goal
-
-abbrev pub invariant-loop-addr : goal.invariant-loop-addr
-invariant-loop-addr l = MarksCells l.base (block_mark l.number l.first l.addr) l.initial.pages l.pages

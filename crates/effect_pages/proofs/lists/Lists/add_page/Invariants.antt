@@ -1,6 +1,0 @@
-use Rattle.std.proofs.Common.{◌+◌, ◌*◌}
-use Rattle.effect_pages.specs.Lists.{ListsReach}
-use Rattle.effect_pages.proofs.lists.Lists.add_page.Given as goal
-
-abbrev pub invariant-loop-place : goal.invariant-loop-place
-invariant-loop-place l = ListsReach l.log l.pages (l.page * 32 + l.place) l.self

@@ -1,6 +1,0 @@
-use Rattle.std.proofs.Common.{◌*◌}
-use Rattle.effect_pages.specs.Lists.{ListsReach}
-use Rattle.effect_pages.proofs.lists.lists_of.Given as goal
-
-abbrev pub invariant-loop-page : goal.invariant-loop-page
-invariant-loop-page l = ListsReach l.log l.pages (l.page * 32) l.lists

@@ -1,2 +1,0 @@
-mod ExpressionsByRow
-mod LocatedWeighs

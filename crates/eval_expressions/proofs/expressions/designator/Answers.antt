@@ -1,7 +1,0 @@
-use Rattle.eval_expressions.proofs.expressions.designator.Goals as goal
-
-pub returns-in-Apply-clause-turns : goal.returns-in-Apply-clause-turns
-returns-in-Apply-clause-turns c p m = rw c.in-Apply.is (c.begin_call.ensures.turns p m)
-
-pub returns-in-ApplyFormal-clause-turns : goal.returns-in-ApplyFormal-clause-turns
-returns-in-ApplyFormal-clause-turns c p m = rw c.in-ApplyFormal.is (c.begin_call-in-ApplyFormal.ensures.turns p m)

@@ -1,9 +1,0 @@
-use Rattle.std.proofs.Common.{arith}
-use Rattle.eval_tasks.proofs.StepsFall.{falls_so}
-use Rattle.eval_expressions.proofs.sets.begin_right_text.Goals as goal
-
-pub returns-clause-turns : goal.returns-clause-turns
-returns-clause-turns c p m = c.wait.ensures.turns p m
-
-pub returns-clause-falls : goal.returns-clause-falls
-returns-clause-falls c = falls_so c.wait.result _ _ _ _ (λ h. omega (arith, h)) c.wait.ensures.falls

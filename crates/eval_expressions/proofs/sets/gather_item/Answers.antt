@@ -1,7 +1,0 @@
-use Rattle.eval_expressions.proofs.sets.gather_item.Goals as goal
-
-pub returns-in-Member-clause-turns : goal.returns-in-Member-clause-turns
-returns-in-Member-clause-turns c p m = rw c.in-Member.is (c.wait.ensures.turns p m)
-
-pub returns-in-Members-clause-turns : goal.returns-in-Members-clause-turns
-returns-in-Members-clause-turns c p m = rw c.in-Members.is (c.wait-in-Members.ensures.turns p m)

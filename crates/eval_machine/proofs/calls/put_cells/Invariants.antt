@@ -1,8 +1,0 @@
-use Rattle.std.proofs.Common.{◌≡◌, ◌+◌, drop}
-use Rattle.program_meaning.specs.Blocks.{filled}
-use Rattle.program_meaning.specs.Run.{frame_cells}
-use Rattle.eval_machine.proofs.calls.put_cells.Given as goal
-
-abbrev pub invariant-cells : goal.invariant-cells
-invariant-cells l =
-    filled l.base (frame_cells l.cells l.args) l.fn.store ≡ filled (l.base + l.i) (drop l.i (frame_cells l.cells l.args)) l.store

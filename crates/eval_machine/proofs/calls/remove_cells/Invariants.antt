@@ -1,6 +1,0 @@
-use Rattle.std.proofs.Common.{◌≡◌, ◌+◌, ◌-◌}
-use Rattle.program_meaning.specs.Blocks.{cleared}
-use Rattle.eval_machine.proofs.calls.remove_cells.Given as goal
-
-abbrev pub invariant-cells : goal.invariant-cells
-invariant-cells l = cleared l.base l.cells l.fn.store ≡ cleared (l.base + l.i) (l.cells - l.i) l.store

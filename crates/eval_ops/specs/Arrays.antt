@@ -1,0 +1,28 @@
+-- The components of an array that is accessed.
+use Rattle.std.specs.Prelude.{ℕ, Option, Some, None, option_map}
+use Rattle.core_program.specs.declared.rows.Row.{Row}
+use Rattle.core_program.specs.declared.rows.Row.TheVariants as rows
+use Rattle.core_program.specs.declared.rows.TypeRow.{TypeRow}
+use Rattle.core_program.specs.declared.rows.TypeRow.TheVariants.{Ordinal, Subrange, Array}
+use Rattle.core_program.specs.ProgramRows.{ProgramRows, type_at, size_of}
+use Rattle.core_program.specs.declared.components.Components.{Components}
+use Rattle.core_program.specs.Accesses.{type_accessed}
+
+-- by the index type and the cells of a component
+abbrev pub components_of : (size : ℕ) → Option TypeRow → Option Components
+components_of size (Some (Ordinal least greatest)) =
+    Some (record { least = least; greatest = greatest; size = size })
+components_of size (Some (Subrange host least greatest)) =
+    Some (record { least = least; greatest = greatest; size = size })
+components_of size t = None
+
+-- by the type of the array
+abbrev pub components_in : ProgramRows → Option TypeRow → Option Components
+components_in p (Some (Array packed index component cells)) = components_of (size_of p component) (type_at p index)
+components_in p t = None
+
+-- the cells of the array, and its components
+abbrev pub array_in : ProgramRows → Row → Option (ℕ × Components)
+array_in p (rows.Access a) =
+    option_map (λ c. (size_of p (type_accessed a), c)) (components_in p (type_at p (type_accessed a)))
+array_in p r = None

@@ -1,0 +1,10 @@
+pub mod Arrays
+pub mod Choices
+pub mod Counting
+pub mod Frames
+pub mod Input
+pub mod Items
+pub mod Machines
+pub mod Operators
+pub mod Output
+pub mod Results

@@ -1,2 +1,0 @@
-mod RecordsLeft
-mod StatementsByRow

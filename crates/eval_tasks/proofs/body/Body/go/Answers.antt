@@ -1,6 +1,0 @@
-use Rattle.std.proofs.Common.{refl}
-use Rattle.eval_tasks.proofs.Moves.{comes_same}
-use Rattle.eval_tasks.proofs.body.Body.go.Goals as goal
-
-pub returns-clause-turns : goal.returns-clause-turns
-returns-clause-turns c p m = comes_same refl

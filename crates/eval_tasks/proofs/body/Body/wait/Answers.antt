@@ -1,9 +1,0 @@
-use Rattle.std.proofs.Common.{sym, ap}
-use Rattle.eval_tasks.specs.Rest.{left_now, values_of, lists_of}
-use Rattle.eval_tasks.proofs.Moves.{comes_same}
-use Rattle.eval_tasks.proofs.Turning.{reverse_pushed}
-use Rattle.eval_tasks.proofs.body.Body.wait.Goals as goal
-
-pub returns-clause-turns : goal.returns-clause-turns
-returns-clause-turns c p m = comes_same (sym (ap (λ ts. left_now p c.args.self.now.home c.args.now ts (values_of c.args.self.now) (lists_of c.args.self.now))
-    (reverse_pushed c.args.self.now.tasks.items _ c.args.task c.in_ok-push.ensures.items)))

@@ -1,5 +1,0 @@
-pub mod Records
-pub mod Rest
-pub mod Stops
-pub mod Turns
-pub mod Weight

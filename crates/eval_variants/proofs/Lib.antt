@@ -1,2 +1,0 @@
-mod NextUndefined
-mod VariantsEntered

@@ -1,0 +1,13 @@
+-- What waits for an address weighs little.
+use Rattle.std.proofs.Common.{◌≤◌, arith}
+use Rattle.evaluator.specs.declared.tasks.Located.{Located}
+use Rattle.evaluator.specs.declared.tasks.Located.TheVariants.{Value, Index, Field, Pointed, Passed}
+use Rattle.evaluator.specs.declared.tasks.Task.TheVariants as tasks
+use Rattle.evaluator.specs.Weight.{task_weight}
+
+pub located_light : (l : Located) → task_weight (tasks.Located l) ≤ 2
+located_light (Value of' line) = omega arith
+located_light (Index index array line) = omega arith
+located_light (Field field target line) = omega arith
+located_light (Pointed line) = omega arith
+located_light (Passed next line) = omega arith

@@ -1,0 +1,78 @@
+-- What is read and written, by its rows.
+use Rattle.std.proofs.Common.{◌≡◌, ◌+◌, ◌≤◌, ℕ, Ok, Option, Some, None, option_map, refl, ◌∙◌}
+use Rattle.core_program.specs.declared.rows.AccessRow.{AccessRow}
+use Rattle.core_program.specs.declared.rows.ItemRow.{ItemRow}
+use Rattle.core_program.specs.declared.rows.ItemRow.TheVariants as item
+use Rattle.core_program.specs.declared.rows.Row.{Row}
+use Rattle.core_program.specs.declared.rows.Row.TheVariants as rows
+use Rattle.core_program.specs.declared.rows.TypeRow.{TypeRow}
+use Rattle.core_program.specs.declared.rows.TypeRow.TheVariants.{Ordinal, Subrange, Array}
+use Rattle.core_program.specs.ProgramRows.{ProgramRows, row_at, type_at, size_of}
+use Rattle.core_program.specs.declared.components.Components.{Components}
+use Rattle.core_program.specs.declared.scan.Scan.{Scan}
+use Rattle.core_program.specs.declared.scan.Scan.TheVariants.{Blanks, Digits}
+use Rattle.core_program.specs.declared.scan.Scanned.{Scanned}
+use Rattle.core_program.specs.Accesses.{no_row, type_accessed, with_bounds, with_components}
+use Rattle.core_program.specs.Actions.{performs}
+use Rattle.core_program.specs.Acts.{TakeIf}
+use Rattle.core_program.specs.Input.{further, is_digit, leading, leads_on, scan_on}
+use Rattle.core_program.specs.Packing.{with_array}
+use Rattle.core_program.specs.Statements.{nothing}
+use Rattle.core_program.specs.Transfers.{of_printed, of_received, received}
+use Rattle.core_program.specs.Tree.{Here, ActTree}
+use Rattle.eval_ops.specs.Machines.{DoesAll, Moment}
+use Rattle.eval_ops.specs.Arrays.{array_in, components_in, components_of}
+use Rattle.eval_ops.specs.Items.{element_in}
+use Rattle.evaluator.proofs.StepsFall.{first_falls}
+
+pub no_printed : (p : ProgramRows) (h : Here) (r : Row) → ((i : ItemRow) → r ≡ rows.Item i → ⊥) → of_printed p h r ≡ nothing
+no_printed p h (rows.Item i) f = absurd (f i refl)
+no_printed p h r f = refl
+
+abbrev pub with_element : ProgramRows → Here → Option (ℕ × ℕ) → ActTree
+with_element p h (Some (access, next)) = received p h access next (row_at p access)
+with_element p h None = nothing
+
+pub received_by : (p : ProgramRows) (h : Here) (r : Row) → of_received p h r ≡ with_element p h (element_in r)
+received_by p h (rows.Item (item.Element access next)) = refl
+received_by p h r = refl
+
+pub no_received : (p : ProgramRows) (h : Here) (access next : ℕ) (r : Row) → ((a : AccessRow) → r ≡ rows.Access a → ⊥)
+    → received p h access next r ≡ no_row
+no_received p h access next (rows.Access a) f = absurd (f a refl)
+no_received p h access next r f = refl
+
+-- a turn of the reading of an integer takes a step
+pub scan_falls : (s : Scan) (x : Scanned) (m m' : Moment) → DoesAll {A = Scanned} {X = Scanned} (λ s. s) (performs (scan_on s) m.state) (Ok x) m m'
+    → m'.state.steps + 1 ≤ m.state.steps
+scan_falls Blanks x m m' h = first_falls {X = Scanned} (λ s. s) (TakeIf leads_on) leading x m m' h
+scan_falls (Digits minus number) x m m' h = first_falls {X = Scanned} (λ s. s) (TakeIf is_digit) (further minus number) x m m' h
+
+-- ---- arrays
+
+abbrev pub with_found : Option (ℕ × Components) → (ℕ → Components → ActTree) → ActTree
+with_found (Some (cells, components)) go = go cells components
+with_found None go = no_row
+
+abbrev with_some : Option Components → (Components → ActTree) → ActTree
+with_some (Some components) go = go components
+with_some None go = no_row
+
+bounds_by : (size : ℕ) (t : Option TypeRow) (go : Components → ActTree)
+    → with_bounds t (λ least greatest. go (record { least = least; greatest = greatest; size = size })) ≡ with_some (components_of size t) go
+bounds_by size (Some (Ordinal least greatest)) go = refl
+bounds_by size (Some (Subrange host least greatest)) go = refl
+bounds_by size t go = refl
+
+components_by : (p : ProgramRows) (t : Option TypeRow) (go : Components → ActTree) → with_components p t go ≡ with_some (components_in p t) go
+components_by p (Some (Array packed index component cells)) go = bounds_by (size_of p component) (type_at p index) go
+components_by p t go = refl
+
+found_by : (cells : ℕ) (o : Option Components) (go : ℕ → Components → ActTree) → with_some o (go cells) ≡ with_found (option_map (λ c. (cells, c)) o) go
+found_by cells (Some c) go = refl
+found_by cells None go = refl
+
+pub array_by : (p : ProgramRows) (r : Row) (go : ℕ → Components → ActTree) → with_array p r go ≡ with_found (array_in p r) go
+array_by p (rows.Access a) go = components_by p (type_at p (type_accessed a)) (go (size_of p (type_accessed a)))
+    ∙ found_by (size_of p (type_accessed a)) (components_in p (type_at p (type_accessed a))) go
+array_by p r go = refl

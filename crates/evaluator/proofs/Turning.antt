@@ -1,0 +1,159 @@
+-- What the turns of a body are made of.
+use Rattle.std.proofs.Common.{◌≡◌, Bool, ℕ, ◌+◌, ◌<◌, ◌≤◌, List, [], ◌∷◌, ◌++◌}
+use Rattle.std.proofs.Common.{Result, Ok, Err, Option, Some, None, reverse, sym, ap, subst, ◌∙◌}
+use Rattle.std.proofs.Common.{if◌then◌else◌, nat_lt}
+use Rattle.std.proofs.lemmas.Bool.{lt-ltb, le-ltb}
+use Rattle.std.proofs.lemmas.List.{reverse-append, append-nil}
+use Rattle.core_program.specs.ProgramRows.{ProgramRows, routine_at}
+use Rattle.core_program.specs.Acts.{Trouble, Spend, perform}
+use Rattle.core_program.specs.Actions.{Action, act, performs}
+use Rattle.core_program.specs.Tree.{Out, Part, Locate, Here, ActTree, Sub, Enter, Line, way_of, bind, doing}
+use Rattle.core_program.specs.Accesses.{spend, on_address, locate_before, no_row}
+use Rattle.core_program.specs.Layer.{layer}
+use Rattle.core_program.proofs.ActsTakeSteps.{Acted, acted}
+use Rattle.core_program.specs.Run.{Halted}
+use Rattle.eval_ops.specs.declared.halt.Halt.{Halt}
+use Rattle.eval_ops.specs.declared.halt.Halt.TheVariants.{Fault, OutOfSteps, Limited, Memory}
+use Rattle.eval_ops.specs.Machines.{Moment, ActionStopped, DoesAct, DoesAll, Gives}
+use Rattle.eval_ops.proofs.ActionsCompose.{does_act}
+use Rattle.evaluator.specs.Stops.{AtCall, AtEnd, Comes, NextStopIs}
+use Rattle.evaluator.specs.Rest.{below_top, lists_of, resume, tasks_of, top_list, values_of}
+use Rattle.cell_value.specs.declared.values.Value.{Value}
+use Rattle.core_program.specs.declared.program.Routine.{Routine}
+use Rattle.core_program.specs.Acts.{limit_passed}
+use Rattle.evaluator.specs.Turns.{EntersRoutine, StopsForGood, Turns, configuration, pause_of}
+use Rattle.evaluator.specs.declared.tasks.Pause.TheVariants as pauses
+use Rattle.evaluator.specs.Weight.{Falls}
+use Rattle.evaluator.specs.declared.body.Body.{Body}
+use Rattle.evaluator.specs.declared.tasks.Pause.{Pause}
+use Rattle.evaluator.proofs.Moves.{bind_doing, call_here, comes_same, comes_then, stops_then, begins, finished, stopped, line_stopped}
+
+-- what was put on top comes first
+pub reverse_pushed : {A : Type 0} (xs ys : List A) (x : A) → ys ≡ xs ++ x ∷ [] → reverse ys ≡ x ∷ reverse xs
+reverse_pushed xs ys x h = ap reverse h ∙ reverse-append xs (x ∷ [])
+
+pub fails_after : (p : ProgramRows) (t t' : ActTree) (m m' m'' : Moment) (line : ℕ) (e : Halt) → Comes p t m t' m'
+    → StopsForGood p (configuration t' m') line e m''
+    → StopsForGood p (configuration t
+    m) line e m''
+fails_after p t t' m m' m'' line (Fault kind) f h = stops_then f h
+fails_after p t t' m m' m'' line OutOfSteps f h = stops_then f h
+fails_after p t t' m m' m'' line (Limited which) f h = stops_then f h
+fails_after p t t' m m' m'' line Memory f h = tt
+
+pub turns_after : (p : ProgramRows) (t t' : ActTree) (m m' m'' : Moment) (r : Result (Option Pause) Halt) (a : Body) → Comes p t m t' m'
+    → Turns p (configuration t'
+    m') r a m'' → Turns p (configuration t m) r a m''
+turns_after p t t' m m' m'' (Ok None) a f h = comes_then f h
+turns_after p t t' m m' m'' (Ok (Some s)) a f h = (stops_then f h.0, h.1)
+turns_after p t t' m m' m'' (Err e) a f h = fails_after p t t' m m' m'' a.line e f h
+
+pub turns_same : (p : ProgramRows) (t t' : ActTree) (m m' : Moment) (r : Result (Option Pause) Halt) (a : Body) → t ≡ t' → Turns p (configuration t' m) r a m'
+    → Turns
+    p (configuration t m) r a m'
+turns_same p t t' m m' r a e h = subst (λ t. Turns p (configuration t m) r a m') (sym e) h
+
+-- an action was done
+pub did : {A X : Type 0} (p : ProgramRows) (line : ℕ) (a : Action A) (k : A → ActTree) (K : Out → ActTree) (seen : X → A) (x : X) (m m' : Moment)
+    → DoesAll seen (performs a m.state) (Ok x) m m' → Comes p (bind (doing line a k) K) m (bind (k (seen x)) K) m'
+did p line a k K seen x m m' h = comes_then (comes_same (bind_doing line a k K)) (finished line a (λ x. bind (k x) K) (seen x) m m' h)
+
+stopped_in : {A : Type 0} (p : ProgramRows) (line : ℕ) (a : Action A) (k : A → ActTree) (K : Out → ActTree) (why : Trouble) (m m' : Moment)
+    → ActionStopped (performs a m.state) why m m' → NextStopIs p (bind (doing line a k) K) m (AtEnd (Halted (way_of line why))) m'
+stopped_in p line a k K why m m' h = stops_then (comes_same (bind_doing line a k K)) (stopped line a (λ x. bind (k x) K) why m m' h)
+
+-- an action was not done
+pub fails : {A X : Type 0} (p : ProgramRows) (line : ℕ) (a : Action A) (k : A → ActTree) (K : Out → ActTree) (seen : X → A) (e : Halt) (m m' : Moment)
+    → DoesAll seen (performs a m.state) (Err e) m m' → StopsForGood p (configuration (bind (doing line a k) K) m) line e m'
+fails p line a k K seen (Fault kind) m m' h = stopped_in p line a k K _ m m' h
+fails p line a k K seen OutOfSteps m m' h = stopped_in p line a k K _ m m' h
+fails p line a k K seen (Limited which) m m' h = stopped_in p line a k K _ m m' h
+fails p line a k K seen Memory m m' h = tt
+
+-- and so the body has failed
+pub turns_failed : (p : ProgramRows) (t : ActTree) (m m' : Moment) (line : ℕ) (e : Halt) (a : Body) (r : Result (Option Pause) Halt) → a.line ≡ line → r ≡ Err e
+    → StopsForGood p (configuration t m) line e m' → Turns p (configuration t m) r a m'
+turns_failed p t m m' line e a r g f h = subst (λ r. Turns p (configuration t m) r a m') (sym f)
+    (subst (λ l. StopsForGood p (configuration t m) l e m') (sym g) h)
+
+-- a part begins, by its row
+pub part_comes : (p : ProgramRows) (part : Part) (K : Out → ActTree) (m : Moment) (t : ActTree) → layer p part ≡ t → Comes p (Sub part K) m (bind t K) m
+part_comes p part K m t e = comes_then (begins part K m) (comes_same (ap (λ t. bind t K) e))
+
+-- a step was taken
+pub spent : (p : ProgramRows) (h : Here) (t : ActTree) (K : Out → ActTree) (m m' : Moment)
+    → DoesAct {X = Unit {0}} (λ _. tt) (perform (Spend 1) m.state) (Ok tt) m m' → Comes p (bind (spend h t) K) m (bind t K) m'
+spent p h t K m m' w = did {X = Unit {0}} p h.line (act (Spend 1)) (λ _. t) K (λ _. tt) tt m m' (does_act {X = Unit {0}} (Spend 1) (λ _. tt) m m' (Ok tt) w)
+
+-- no step was left
+pub not_spent : (p : ProgramRows) (h : Here) (t : ActTree) (K : Out → ActTree) (e : Halt) (m m' : Moment)
+    → DoesAct {X = Unit {0}} (λ _. tt) (perform (Spend 1) m.state) (Err e) m m' → StopsForGood p (configuration (bind (spend h t) K) m) h.line e m'
+not_spent p h t K e m m' w = fails {X = Unit {0}} p h.line (act (Spend 1)) (λ _. t) K (λ _. tt) e m m'
+    (does_act {X = Unit {0}} (Spend 1) (λ _. tt) m m' (Err e) w)
+
+-- a statement did not begin, since no step was left
+pub line_fails : (p : ProgramRows) (line : ℕ) (t : ActTree) (e : Halt) (m m' : Moment)
+    → DoesAct {X = Unit {0}} (λ _. tt) (perform (Spend 1) m.state) (Err e) m m' → StopsForGood p (configuration (Line line t) m) line e m'
+line_fails p line t (Fault kind) m m' w = line_stopped line t _ m m' w
+line_fails p line t OutOfSteps m m' w = line_stopped line t _ m m' w
+line_fails p line t (Limited which) m m' w = line_stopped line t _ m m' w
+line_fails p line t Memory m m' w = tt
+
+-- a step fewer is left where one was taken
+pub spent_less : (m m' : Moment) → DoesAct {X = Unit {0}} (λ _. tt) (perform (Spend 1) m.state) (Ok tt) m m' → m'.state.steps + 1 ≤ m.state.steps
+spent_less m m' w = subst (Acted 1 m.state) w.1 (acted (Spend 1) m.state)
+
+-- what needs no machine
+pub given : {A X : Type 0} (seen : X → A) (a : Action A) (r : Result X Halt) (m : Moment) → Gives seen a r → DoesAll seen (performs a m.state) r m m
+given seen a (Ok x) m h = ([], ap (λ a. performs a m.state) h, sym (append-nil m.log))
+given seen a (Err (Fault kind)) m h = ([], ap (λ a. performs a m.state) h, sym (append-nil m.log))
+given seen a (Err OutOfSteps) m h = absurd h
+given seen a (Err (Limited which)) m h = absurd h
+given seen a (Err Memory) m h = absurd h
+
+-- a turn that failed leaves no more to do
+pub falls_failed : (r : Result (Option Pause) Halt) (e : Halt) (a b : ℕ) → r ≡ Err e → Falls r a b
+falls_failed r e a b h = subst (λ r. Falls r a b) (sym h) tt
+
+-- an access before a selector
+pub before_it : (row access : ℕ) (target : Bool) (h : Here) (go : ℕ → ActTree) (K : Out → ActTree) → access < row
+    → bind (locate_before row access target h go) K ≡ bind (Sub (Locate access target h) (on_address go)) K
+before_it row access target h go K l = ap (λ b. bind (if b then Sub (Locate access target h) (on_address go) else no_row) K) (lt-ltb access row l)
+
+pub not_before_it : (row access : ℕ) (target : Bool) (h : Here) (go : ℕ → ActTree) (K : Out → ActTree) → row ≤ access
+    → bind (locate_before row access target h go) K ≡ no_row
+not_before_it row access target h go K l = ap (λ b. bind (if b then Sub (Locate access target h) (on_address go) else no_row) K) (le-ltb access row l)
+
+-- a row that is to stand after another one
+pub after_it : (a b : ℕ) (t : ActTree) (K : Out → ActTree) → a < b → bind (if nat_lt a b then t else no_row) K ≡ bind t K
+after_it a b t K l = ap (λ x. bind (if x then t else no_row) K) (lt-ltb a b l)
+
+pub not_after_it : (a b : ℕ) (t : ActTree) (K : Out → ActTree) → b ≤ a → bind (if nat_lt a b then t else no_row) K ≡ no_row
+not_after_it a b t K l = ap (λ x. bind (if x then t else no_row) K) (le-ltb a b l)
+
+-- a call is to be entered, whose link and cells are the last list that waits
+pub call_pauses : {p : ProgramRows} {m : Moment} {K : Out → ActTree} {args : List Value} {ls : List (List Value)} (f cells : ℕ) (a : Body)
+    → limit_passed m.state cells ≡ None → lists_of a ≡ args ∷ ls → K ≡ resume p a.home (tasks_of a) (values_of a) ls
+    → NextStopIs p (Enter f cells args K) m (pause_of p a (pauses.Enter f)) m
+call_pauses {p = p} {m = m} {K = K} {args = args} {ls = ls} f cells a h l w =
+    subst (λ l. NextStopIs p (Enter f cells args K) m (AtCall f (top_list l) (resume p a.home (tasks_of a) (values_of a) (below_top l))) m) (sym l)
+    (subst (λ k. NextStopIs p (Enter f cells args K) m (AtCall f args k) m) w (call_here f cells args K m h))
+
+-- a call was reached, with room for it
+pub entered_turns : (p : ProgramRows) (t : ActTree) (m : Moment) (f : ℕ) (r : Result (Option Pause) Halt) (a : Body) → EntersRoutine p (configuration t m) f r a
+    → (x : Routine) → routine_at p f ≡ Some x → limit_passed m.state x.cells ≡ None → Turns p (configuration t m) r a m
+entered_turns p t m f (Ok None) a h x e l = absurd h
+entered_turns p t m f (Ok (Some (pauses.Line n))) a h x e l = absurd h
+entered_turns p t m f (Ok (Some (pauses.Enter g))) a h x e l = (h.0, (x, ap (routine_at p) h.1 ∙ e, l))
+entered_turns p t m f (Ok (Some pauses.Ended)) a h x e l = absurd h
+entered_turns p t m f (Err (Fault kind)) a h x e l = absurd h
+entered_turns p t m f (Err OutOfSteps) a h x e l = absurd h
+entered_turns p t m f (Err (Limited which)) a h x e l = absurd h
+entered_turns p t m f (Err Memory) a h x e l = tt
+
+pub entered_falls : (p : ProgramRows) (t : ActTree) (m : Moment) (f : ℕ) (r : Result (Option Pause) Halt) (a : Body) (left before : ℕ)
+    → EntersRoutine p (configuration t m)
+    f r a → Falls r left before
+entered_falls p t m f (Ok None) a left before h = absurd h
+entered_falls p t m f (Ok (Some s)) a left before h = tt
+entered_falls p t m f (Err e) a left before h = tt

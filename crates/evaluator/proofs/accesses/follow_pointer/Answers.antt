@@ -1,0 +1,20 @@
+use Rattle.std.proofs.Common.{arith}
+use Rattle.core_program.specs.Heap.{pointed_at}
+use Rattle.core_program.specs.Tree.{doing}
+use Rattle.core_program.specs.Accesses.{address}
+use Rattle.eval_ops.specs.Machines.{moment_of}
+use Rattle.evaluator.specs.Rest.{here, waiting}
+use Rattle.evaluator.proofs.StepsFall.{falls_so}
+use Rattle.evaluator.proofs.Turning.{spent, turns_after, spent_less}
+use Rattle.evaluator.proofs.accesses.follow_pointer.Goals as goal
+
+pub returns-in-Ok-clause-turns : goal.returns-in-Ok-clause-turns
+returns-in-Ok-clause-turns c p = turns_after p _ _ _ _ _ c.address.result c.address.new.self
+    (spent p (here c.args.body.now.home c.args.line) (doing c.args.line (pointed_at c.args.addr) address)
+    (waiting p c.args.body.now) (moment_of c.args.machine.now) (moment_of c.spend.new.machine) c.in-Ok.ensures.act)
+    (c.address.ensures.turns p (pointed_at c.args.addr) _ _ c.pointed_at.ensures.action)
+
+pub returns-in-Ok-clause-falls : goal.returns-in-Ok-clause-falls
+returns-in-Ok-clause-falls c = falls_so c.address.result _ _ _ _
+    (λ k. let l = spent_less (moment_of c.args.machine.now) (moment_of c.spend.new.machine) c.in-Ok.ensures.act in omega arith)
+    (c.address.ensures.less (pointed_at c.args.addr) _ _ c.pointed_at.ensures.action)

@@ -1,0 +1,106 @@
+use Rattle.std.proofs.Common.{[], ◌∷◌, ◌++◌, ap, arith}
+use Rattle.cell_value.specs.declared.values.Value.TheVariants as value
+use Rattle.core_program.specs.declared.rows.Row.TheVariants as rows
+use Rattle.core_program.specs.Cells.{routine_out}
+use Rattle.core_program.specs.Expressions.{of_actual}
+use Rattle.core_program.specs.Tree.{bind, doing}
+use Rattle.evaluator.specs.Rest.{declared, here, pass, resume, top_list, below_top, tasks_of, values_of, lists_of}
+use Rattle.evaluator.proofs.Turning.{spent, not_spent, spent_less, turns_after, turns_failed, fails_after, falls_failed}
+use Rattle.evaluator.proofs.Moves.{comes_then, comes_same}
+use Rattle.evaluator.proofs.StepsFall.{falls_so}
+use Rattle.evaluator.proofs.actuals.pass_actual.Goals as goal
+use Rattle.eval_ops.specs.Machines.{moment_of}
+
+pub returns-in-Value-clause-turns : goal.returns-in-Value-clause-turns
+returns-in-Value-clause-turns c = rw c.in-Value.is (c.wait.ensures.turns c.args.program.now (moment_of c.args.machine.now))
+
+pub returns-in-Value-clause-falls : goal.returns-in-Value-clause-falls
+returns-in-Value-clause-falls c = falls_so c.wait.result _ _ _ _ (λ h. omega (arith, h)) c.wait.ensures.falls
+
+pub returns-in-Place-clause-turns : goal.returns-in-Place-clause-turns
+returns-in-Place-clause-turns c = rw c.in-Place.is (c.wait-in-Place.ensures.turns c.args.program.now (moment_of c.args.machine.now))
+
+pub returns-in-Place-clause-falls : goal.returns-in-Place-clause-falls
+returns-in-Place-clause-falls c = falls_so c.wait-in-Place.result _ _ _ _ (λ h. omega (arith, h)) c.wait-in-Place.ensures.falls
+
+pub returns-in-Ok-clause-turns : goal.returns-in-Ok-clause-turns
+returns-in-Ok-clause-turns c =
+    let p = c.args.program.now in
+    let a = c.args.body.now in
+    let h = here a.home c.args.line in
+    let i = c.in-Routine in
+    let K = resume p a.home (tasks_of a) (values_of a) (below_top (lists_of a)) in
+    let found = declared i.routine i.levels a.home.base in
+    let m' = moment_of c.spend.new.machine in
+    turns_after p _ _ _ _ _ c.add_routine.result c.add_routine.new.body
+    (comes_then (comes_same (ap (λ i. bind (of_actual p (top_list (lists_of a)) h (rows.Item i)) K) i.is))
+    (spent p h (doing c.args.line found (λ x. pass a.home i.next c.args.line (top_list (lists_of a) ++ value.Routine x.0 x.1 ∷ []))) K
+    (moment_of c.args.machine.now) m' c.in-Ok.ensures.act))
+    (c.add_routine.ensures.turns found m' (moment_of c.routine_in-found.new.machine) c.routine_in-found.ensures.action)
+
+pub returns-in-Ok-clause-falls : goal.returns-in-Ok-clause-falls
+returns-in-Ok-clause-falls c =
+    let i = c.in-Routine in
+    let a = c.args.body.now in
+    let m' = moment_of c.spend.new.machine in
+    falls_so c.add_routine.result _ _ _ _ (λ h. omega (arith, h, spent_less (moment_of c.args.machine.now) m' c.in-Ok.ensures.act))
+    (c.add_routine.ensures.less (declared i.routine i.levels a.home.base) m' (moment_of c.routine_in-found.new.machine) c.routine_in-found.ensures.action)
+
+pub returns-in-Err-clause-turns : goal.returns-in-Err-clause-turns
+returns-in-Err-clause-turns c =
+    let p = c.args.program.now in
+    let a = c.args.body.now in
+    let h = here a.home c.args.line in
+    let i = c.in-Routine in
+    let K = resume p a.home (tasks_of a) (values_of a) (below_top (lists_of a)) in
+    let found = declared i.routine i.levels a.home.base in
+    turns_failed p _ _ _ c.args.line c.in-Err.halt c.fail.new.self c.fail.result c.fail.ensures.line c.fail.ensures.fails
+    (fails_after p _ _ _ _ _ c.args.line c.in-Err.halt
+    (comes_same (ap (λ i. bind (of_actual p (top_list (lists_of a)) h (rows.Item i)) K) i.is))
+    (not_spent p h (doing c.args.line found (λ x. pass a.home i.next c.args.line (top_list (lists_of a) ++ value.Routine x.0 x.1 ∷ []))) K c.in-Err.halt
+    (moment_of c.args.machine.now) (moment_of c.spend.new.machine) c.in-Err.ensures.act))
+
+pub returns-in-Err-clause-falls : goal.returns-in-Err-clause-falls
+returns-in-Err-clause-falls c = falls_failed c.fail.result c.in-Err.halt _ _ c.fail.ensures.fails
+
+pub returns-in-Ok-spend-clause-turns : goal.returns-in-Ok-spend-clause-turns
+returns-in-Ok-spend-clause-turns c =
+    let p = c.args.program.now in
+    let a = c.args.body.now in
+    let h = here a.home c.args.line in
+    let i = c.in-RoutineFormal in
+    let K = resume p a.home (tasks_of a) (values_of a) (below_top (lists_of a)) in
+    let found = routine_out i.levels a.home.base i.place in
+    let m' = moment_of c.spend-in-RoutineFormal.new.machine in
+    turns_after p _ _ _ _ _ c.add_routine-in-Ok-spend.result c.add_routine-in-Ok-spend.new.body
+    (comes_then (comes_same (ap (λ i. bind (of_actual p (top_list (lists_of a)) h (rows.Item i)) K) i.is))
+    (spent p h (doing c.args.line found (λ x. pass a.home i.next c.args.line (top_list (lists_of a) ++ value.Routine x.0 x.1 ∷ []))) K
+    (moment_of c.args.machine.now) m' c.in-Ok-spend.ensures.act))
+    (c.add_routine-in-Ok-spend.ensures.turns found m' (moment_of c.routine_out-found.new.machine) c.routine_out-found.ensures.action)
+
+pub returns-in-Ok-spend-clause-falls : goal.returns-in-Ok-spend-clause-falls
+returns-in-Ok-spend-clause-falls c =
+    let i = c.in-RoutineFormal in
+    let a = c.args.body.now in
+    let m' = moment_of c.spend-in-RoutineFormal.new.machine in
+    falls_so c.add_routine-in-Ok-spend.result _ _ _ _ (λ h. omega (arith, h, spent_less (moment_of c.args.machine.now) m' c.in-Ok-spend.ensures.act))
+    (c.add_routine-in-Ok-spend.ensures.less (routine_out i.levels a.home.base i.place) m' (moment_of c.routine_out-found.new.machine)
+    c.routine_out-found.ensures.action)
+
+pub returns-in-Err-spend-clause-turns : goal.returns-in-Err-spend-clause-turns
+returns-in-Err-spend-clause-turns c =
+    let p = c.args.program.now in
+    let a = c.args.body.now in
+    let h = here a.home c.args.line in
+    let i = c.in-RoutineFormal in
+    let K = resume p a.home (tasks_of a) (values_of a) (below_top (lists_of a)) in
+    let found = routine_out i.levels a.home.base i.place in
+    turns_failed p _ _ _ c.args.line c.in-Err-spend.halt c.fail-in-Err-spend.new.self c.fail-in-Err-spend.result c.fail-in-Err-spend.ensures.line
+    c.fail-in-Err-spend.ensures.fails
+    (fails_after p _ _ _ _ _ c.args.line c.in-Err-spend.halt
+    (comes_same (ap (λ i. bind (of_actual p (top_list (lists_of a)) h (rows.Item i)) K) i.is))
+    (not_spent p h (doing c.args.line found (λ x. pass a.home i.next c.args.line (top_list (lists_of a) ++ value.Routine x.0 x.1 ∷ []))) K c.in-Err-spend.halt
+    (moment_of c.args.machine.now) (moment_of c.spend-in-RoutineFormal.new.machine) c.in-Err-spend.ensures.act))
+
+pub returns-in-Err-spend-clause-falls : goal.returns-in-Err-spend-clause-falls
+returns-in-Err-spend-clause-falls c = falls_failed c.fail-in-Err-spend.result c.in-Err-spend.halt _ _ c.fail-in-Err-spend.ensures.fails

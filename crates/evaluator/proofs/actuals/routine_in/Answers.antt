@@ -1,0 +1,21 @@
+use Rattle.std.proofs.Common.{Ok, refl}
+use Rattle.std.proofs.lemmas.Result.{err_from_is_err_and}
+use Rattle.core_program.specs.Actions.{Give}
+use Rattle.core_program.specs.Cells.{frame_out}
+use Rattle.eval_ops.specs.Machines.{moment_of}
+use Rattle.eval_ops.proofs.ActionsCompose.{does_bind, does_given, does_stop}
+use Rattle.evaluator.proofs.actuals.routine_in.Goals as goal
+
+pub returns-in_err-frame-clause-action : goal.returns-in_err-frame-clause-action
+returns-in_err-frame-clause-action c =
+    let p = err_from_is_err_and c.from_residual.result c.from_residual.ensures.1 in
+    rw (p.1, p.2) (does_stop (λ b. b) (λ x. x) (frame_out c.args.levels c.args.base) (λ frame. Give (c.args.routine, frame))
+    (moment_of c.args.machine.now) (moment_of c.frame_out.new.machine) _ c.in_err-frame.ensures.action)
+
+pub returns-clause-action : goal.returns-clause-action
+returns-clause-action c =
+    let frame = c.in_ok-frame.frame in
+    let m' = moment_of c.frame_out.new.machine in
+    does_bind (λ x. x) (frame_out c.args.levels c.args.base) (λ frame. Give (c.args.routine, frame)) frame (moment_of c.args.machine.now) m' m'
+    (Ok (c.args.routine, frame)) c.in_ok-frame.ensures.action
+    (does_given (λ x. x) (Give (c.args.routine, frame)) (Ok (c.args.routine, frame)) m' refl)

@@ -1,0 +1,49 @@
+use Rattle.std.proofs.Common.{ap, ◌∙◌, refl, arith}
+use Rattle.core_program.specs.Tree.{bind}
+use Rattle.eval_ops.specs.Choices.{case_tree}
+use Rattle.evaluator.specs.Rest.{here, waiting}
+use Rattle.cell_value.specs.declared.ways_out.Kind.TheVariants as kinds
+use Rattle.eval_ops.specs.declared.halt.Halt.TheVariants as halts
+use Rattle.evaluator.proofs.StepsFall.{falls_so}
+use Rattle.evaluator.proofs.Turning.{turns_same, turns_failed}
+use Rattle.evaluator.proofs.after_parts.choose_case.Goals as goal
+
+pub returns-in-Statement-clause-turns : goal.returns-in-Statement-clause-turns
+returns-in-Statement-clause-turns c m =
+    let p = c.args.program.now in
+    let h = here c.args.body.now.home c.args.line in
+    let rest = waiting p c.args.body.now in
+    turns_same p _ _ m m c.go.result c.go.new.self
+    (ap (λ t. bind t rest) (c.case_of.ensures h ∙ ap (case_tree h) c.in-Statement.is))
+    (c.go.ensures.turns p m)
+
+pub returns-in-Statement-clause-falls : goal.returns-in-Statement-clause-falls
+returns-in-Statement-clause-falls c =
+    falls_so c.go.result _ _ _ _ (λ h. omega (arith, h)) c.go.ensures.falls
+
+pub returns-in-NoCase-clause-turns : goal.returns-in-NoCase-clause-turns
+returns-in-NoCase-clause-turns c m =
+    let p = c.args.program.now in
+    let h = here c.args.body.now.home c.args.line in
+    let rest = waiting p c.args.body.now in
+    turns_same p _ _ m m c.fail.result c.fail.new.self
+    (ap (λ t. bind t rest) (c.case_of.ensures h ∙ ap (case_tree h) c.in-NoCase.is))
+    (turns_failed p _ m m c.args.line (halts.Fault kinds.NoCase) c.fail.new.self c.fail.result c.fail.ensures.line c.fail.ensures.fails
+    (record { moves = 1; is = refl }))
+
+pub returns-in-NoCase-clause-falls : goal.returns-in-NoCase-clause-falls
+returns-in-NoCase-clause-falls c =
+    rw c.fail.ensures.fails tt
+
+pub returns-in-NoNumber-clause-turns : goal.returns-in-NoNumber-clause-turns
+returns-in-NoNumber-clause-turns c m =
+    let p = c.args.program.now in
+    let h = here c.args.body.now.home c.args.line in
+    let rest = waiting p c.args.body.now in
+    turns_same p _ _ m m c.no_row.result c.no_row.new.self
+    (ap (λ t. bind t rest) (c.case_of.ensures h ∙ ap (case_tree h) c.in-NoNumber.is))
+    (c.no_row.ensures.turns p m)
+
+pub returns-in-NoNumber-clause-falls : goal.returns-in-NoNumber-clause-falls
+returns-in-NoNumber-clause-falls c =
+    falls_so c.no_row.result _ _ _ _ (λ h. omega (arith, h)) c.no_row.ensures.falls

@@ -1,0 +1,12 @@
+use Rattle.std.proofs.Common.{arith}
+use Rattle.evaluator.proofs.StepsFall.{falls_so}
+use Rattle.evaluator.proofs.assignments.locate_target.Goals as goal
+
+pub returns-clause-turns : goal.returns-clause-turns
+returns-clause-turns c m =
+    let p = c.args.program.now in
+    c.hold.ensures.turns p m
+
+pub returns-clause-falls : goal.returns-clause-falls
+returns-clause-falls c =
+    falls_so c.hold.result _ _ _ _ (λ h. omega (arith, h)) c.hold.ensures.falls

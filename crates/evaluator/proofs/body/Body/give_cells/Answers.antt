@@ -1,0 +1,11 @@
+use Rattle.std.proofs.Common.{sym, ap}
+use Rattle.core_program.specs.Tree.{Cells}
+use Rattle.evaluator.specs.Rest.{resume, top_list, below_top, tasks_of, values_of}
+use Rattle.evaluator.proofs.Moves.{comes_same}
+use Rattle.evaluator.proofs.Turning.{reverse_pushed}
+use Rattle.evaluator.proofs.body.Body.give_cells.Goals as goal
+
+pub returns-clause-turns : goal.returns-clause-turns
+returns-clause-turns c p m = comes_same (sym (
+    ap (λ ls. resume p c.args.self.now.home (tasks_of c.args.self.now) (values_of c.args.self.now) (below_top ls) (Cells (top_list ls)))
+    (reverse_pushed c.args.self.now.lists.items _ c.args.values c.in_ok-push.ensures.items)))

@@ -1,0 +1,24 @@
+use Rattle.std.proofs.Common.{Ok, Err}
+use Rattle.cell_value.specs.declared.values.Value.{Value}
+use Rattle.core_program.specs.Tree.{Gather, Ret, Sub}
+use Rattle.core_program.specs.Values.{or_fault}
+use Rattle.evaluator.specs.Rest.{here, waiting}
+use Rattle.evaluator.proofs.Turning.{turns_after, turns_failed, did, fails, given}
+use Rattle.evaluator.proofs.sets.gathered.Goals as goal
+
+pub returns-in-Ok-clause-turns : goal.returns-in-Ok-clause-turns
+returns-in-Ok-clause-turns c p m =
+    let a = c.args.body.now in
+    let k = λ (set : Value). Sub (Gather c.args.next set (here a.home c.args.line)) Ret in
+    turns_after p _ _ _ _ _ c.gather_from.result c.gather_from.new.body
+    (did {X = Value} p c.args.line (or_fault c.args.done) k (waiting p a) (λ v. v) c.in-Ok.set m m
+    (given {X = Value} (λ v. v) (or_fault c.args.done) (Ok c.in-Ok.set) m c.in-Ok.ensures))
+    (c.gather_from.ensures.turns p m)
+
+pub returns-in-Err-clause-turns : goal.returns-in-Err-clause-turns
+returns-in-Err-clause-turns c p m =
+    let a = c.args.body.now in
+    let k = λ (set : Value). Sub (Gather c.args.next set (here a.home c.args.line)) Ret in
+    turns_failed p _ _ _ c.args.line c.in-Err.halt c.fail.new.self c.fail.result c.fail.ensures.line c.fail.ensures.fails
+    (fails {X = Value} p c.args.line (or_fault c.args.done) k (waiting p a) (λ v. v) c.in-Err.halt m m
+    (given {X = Value} (λ v. v) (or_fault c.args.done) (Err c.in-Err.halt) m c.in-Err.ensures))

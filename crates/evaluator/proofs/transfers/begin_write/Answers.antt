@@ -1,0 +1,34 @@
+use Rattle.std.proofs.Common.{ap, arith, if◌then◌else◌}
+use Rattle.core_program.specs.Output.{end_line}
+use Rattle.core_program.specs.Statements.{finally, nothing, on_normal}
+use Rattle.core_program.specs.Tree.{Print, Sub, bind}
+use Rattle.evaluator.specs.Rest.{here, waiting}
+use Rattle.evaluator.proofs.StepsFall.{falls_so}
+use Rattle.evaluator.proofs.Turning.{turns_same}
+use Rattle.evaluator.proofs.transfers.begin_write.Goals as goal
+
+pub returns-then-ends_line-clause-turns : goal.returns-then-ends_line-clause-turns
+returns-then-ends_line-clause-turns c p m =
+    let a = c.args.body.now in
+    let h = here a.home c.args.line in
+    let K = waiting p a in
+    let e = c.if-ends_line.true in
+    turns_same p _ _ m m c.wait.result c.wait.new.self
+    (ap (λ b. bind (Sub (Print c.args.actuals h) (on_normal (if b then finally h end_line else nothing))) K) e)
+    (c.wait.ensures.turns p m)
+
+pub returns-then-ends_line-clause-falls : goal.returns-then-ends_line-clause-falls
+returns-then-ends_line-clause-falls c = falls_so c.wait.result _ _ _ _ (λ h. omega (arith, h)) c.wait.ensures.falls
+
+pub returns-else-ends_line-clause-turns : goal.returns-else-ends_line-clause-turns
+returns-else-ends_line-clause-turns c p m =
+    let a = c.args.body.now in
+    let h = here a.home c.args.line in
+    let K = waiting p a in
+    let e = c.if-ends_line.false in
+    turns_same p _ _ m m c.wait-else-ends_line.result c.wait-else-ends_line.new.self
+    (ap (λ b. bind (Sub (Print c.args.actuals h) (on_normal (if b then finally h end_line else nothing))) K) e)
+    (c.wait-else-ends_line.ensures.turns p m)
+
+pub returns-else-ends_line-clause-falls : goal.returns-else-ends_line-clause-falls
+returns-else-ends_line-clause-falls c = falls_so c.wait-else-ends_line.result _ _ _ _ (λ h. omega (arith, h)) c.wait-else-ends_line.ensures.falls

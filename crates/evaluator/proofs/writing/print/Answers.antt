@@ -1,0 +1,27 @@
+use Rattle.std.proofs.Common.{◌≡◌, sym, ap, ◌∙◌}
+use Rattle.core_program.specs.declared.rows.Row.TheVariants as rows
+use Rattle.core_program.specs.ProgramRows.{row_at}
+use Rattle.core_program.specs.Tree.{Print}
+use Rattle.core_program.specs.Transfers.{of_printed}
+use Rattle.evaluator.specs.Rest.{here, waiting}
+use Rattle.evaluator.proofs.Turning.{part_comes, turns_after}
+use Rattle.evaluator.proofs.TransfersByRow.{no_printed}
+use Rattle.evaluator.proofs.writing.print.Goals as goal
+
+pub returns-in-Item-clause-turns : goal.returns-in-Item-clause-turns
+returns-in-Item-clause-turns c m =
+    let p = c.args.program.now in
+    let h = here c.args.body.now.home c.args.line in
+    let e : row_at p c.args.at ≡ rows.Item c.in-Item.item = cc in
+    turns_after p _ _ _ _ _ c.print_item.result c.print_item.new.body
+    (part_comes p (Print c.args.at h) (waiting p c.args.body.now) m _ (ap (of_printed p h) e))
+    (c.print_item.ensures.turns p m)
+
+pub returns-in_default-clause-turns : goal.returns-in_default-clause-turns
+returns-in_default-clause-turns c m =
+    let p = c.args.program.now in
+    let h = here c.args.body.now.home c.args.line in
+    turns_after p _ _ _ _ _ c.go.result c.go.new.self
+    (part_comes p (Print c.args.at h) (waiting p c.args.body.now) m _
+    (ap (of_printed p h) (sym c.row.ensures) ∙ no_printed p h c.row.result c.in_default.not-Item))
+    (c.go.ensures.turns p m)

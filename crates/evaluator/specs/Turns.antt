@@ -1,0 +1,85 @@
+-- What a turn of a body does.
+use Rattle.std.specs.Prelude.{◌≡◌, Result, Ok, Err, Option, Some, None, ℕ}
+use Rattle.cell_value.specs.declared.ways_out.WayOut.TheVariants as way
+use Rattle.core_program.specs.ProgramRows.{ProgramRows, routine_at}
+use Rattle.core_program.specs.declared.program.Routine.{Routine}
+use Rattle.core_program.specs.State.{State}
+use Rattle.core_program.specs.Acts.{limit_passed}
+use Rattle.core_program.specs.Tree.{Out, Nothing, Scalar, Jump, ActTree}
+use Rattle.core_program.specs.Run.{Ended, Halted}
+use Rattle.core_program.specs.Replay.{end_of}
+use Rattle.eval_ops.specs.Machines.{Moment}
+use Rattle.eval_ops.specs.declared.halt.Halt.{Halt}
+use Rattle.eval_ops.specs.declared.halt.Halt.TheVariants as halts
+use Rattle.evaluator.specs.Stops.{Stop, AtLine, AtCall, AtEnd, Comes, NextStopIs}
+use Rattle.evaluator.specs.Rest.{below_top, lists_of, rest_of, resume, tasks_of, top_list, values_of, waiting}
+use Rattle.evaluator.specs.declared.body.Body.{Body}
+use Rattle.evaluator.specs.declared.tasks.Now.{Now}
+use Rattle.evaluator.specs.declared.tasks.Now.TheVariants.{Came}
+use Rattle.evaluator.specs.declared.tasks.Way.TheVariants as came
+use Rattle.evaluator.specs.declared.tasks.Pause.{Pause}
+use Rattle.evaluator.specs.declared.tasks.Pause.TheVariants as pauses
+use Rattle.evaluator.specs.declared.tasks.Stop as stop
+use Rattle.evaluator.specs.declared.tasks.Stop.TheVariants as stops
+
+-- the stop of the definitions
+abbrev pub stop_of : ProgramRows → Body → stop.Stop → Stop
+stop_of p a (stops.Line line) = AtLine line (rest_of p a)
+stop_of p a (stops.Enter f args) = AtCall f args (waiting p a)
+stop_of p a (stops.Ended way answer) = AtEnd (end_of way answer)
+
+-- how a body ended whose tasks are done, by what came last
+abbrev pub ended_by : Now → Out
+ended_by (Came (came.Jump label base)) = Jump label base
+ended_by (Came (came.Scalar v)) = Scalar v
+ended_by now = Nothing
+
+-- the stop of the definitions at which a turn pauses: the cells of a call are the last list that waits, and what came
+-- tells how a body ended
+abbrev pub pause_of : ProgramRows → Body → Pause → Stop
+pause_of p a (pauses.Line line) = AtLine line (rest_of p a)
+pause_of p a (pauses.Enter f) =
+    AtCall f (top_list (lists_of a)) (resume p a.home (tasks_of a) (values_of a) (below_top (lists_of a)))
+pause_of p a pauses.Ended = AtEnd (Ended (ended_by a.now))
+
+-- a point of a run, as a configuration of structural operational semantics: what is still to be done, and the moment
+pub record Configuration : Type 0 where
+  pub tree : ActTree
+  pub moment : Moment
+
+abbrev pub configuration : ActTree → Moment → Configuration
+configuration t m = record { tree = t; moment = m }
+
+-- it stops for good there, unless memory ran out
+abbrev pub StopsForGood : ProgramRows → Configuration → (line : ℕ) → Halt → Moment → Type 0
+StopsForGood p c line (halts.Fault kind) m = NextStopIs p c.tree c.moment (AtEnd (Halted (way.Faulted kind line))) m
+StopsForGood p c line halts.OutOfSteps m = NextStopIs p c.tree c.moment (AtEnd (Halted way.OutOfSteps)) m
+StopsForGood p c line (halts.Limited which) m = NextStopIs p c.tree c.moment (AtEnd (Halted (way.Limited which))) m
+StopsForGood p c line halts.Memory m = Unit {0}
+
+-- the routine is one of the program, and no limit forbids a call of it
+abbrev pub MayEnter : ProgramRows → (routine : ℕ) → State → Type 0
+MayEnter p f σ = (r : Routine) × (routine_at p f ≡ Some r) × (limit_passed σ r.cells ≡ None)
+
+-- a call at which a body stops may be entered
+abbrev pub MayGoOn : ProgramRows → stop.Stop → State → Type 0
+MayGoOn p (stops.Enter f args) σ = MayEnter p f σ
+MayGoOn p s σ = Unit {0}
+
+-- a call at which a turn pauses may be entered
+abbrev pub PausesInRoom : ProgramRows → Pause → State → Type 0
+PausesInRoom p (pauses.Enter f) σ = MayEnter p f σ
+PausesInRoom p pause σ = Unit {0}
+
+-- it comes from there to a stop, or to what the body has now to do
+abbrev pub Turns : ProgramRows → Configuration → Result (Option Pause) Halt → Body → Moment → Type 0
+Turns p c (Ok None) a m = Comes p c.tree c.moment (rest_of p a) m
+Turns p c (Ok (Some pause)) a m = NextStopIs p c.tree c.moment (pause_of p a pause) m × PausesInRoom p pause m.state
+Turns p c (Err e) a m = StopsForGood p c a.line e m
+
+-- a call of a routine is to be entered there, unless memory ran out
+abbrev pub EntersRoutine : ProgramRows → Configuration → (routine : ℕ) → Result (Option Pause) Halt → Body → Type 0
+EntersRoutine p c routine (Ok (Some (pauses.Enter f))) a =
+    NextStopIs p c.tree c.moment (pause_of p a (pauses.Enter f)) c.moment × (f ≡ routine)
+EntersRoutine p c routine (Err halts.Memory) a = Unit {0}
+EntersRoutine p c routine r a = ⊥

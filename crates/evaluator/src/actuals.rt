@@ -1,0 +1,243 @@
+//! Actual parameters.
+
+ghost use Rattle.std.specs.Prelude.{◌≡◌, ◌+◌, ◌++◌, ◌∷◌, [], ℕ, None, OnOk, IfErr};
+ghost use Rattle.cell_value.specs.declared.values.Value.{Value as CellValue};
+ghost use Rattle.eval_ops.specs.Machines.{DoesAll, IsReady, Moment, machine_state, moment_of};
+ghost use Rattle.core_program.specs.Actions.{Action, performs};
+ghost use Rattle.core_program.specs.Tree.{bind, doing};
+ghost use Rattle.core_program.specs.Expressions as expressions;
+ghost use Rattle.evaluator.specs.Rest.{below_top, declared, from, from_under, here, lists_of, pass, resume, tasks_of};
+ghost use Rattle.evaluator.specs.Rest.{top_list, values_of};
+ghost use Rattle.evaluator.specs.Turns.{Turns, configuration};
+ghost use Rattle.evaluator.specs.Weight.{Falls, body_weight, come, measure_of, left_with, part_weight, task_weight};
+ghost use Rattle.evaluator.specs.Weight.{now_weight, tasks_weight};
+
+use crate::body::{Body, Turned};
+use crate::tasks::{Located, Now, Part, Task, Way};
+use cell_value::{Cells, Value};
+use core_program::Program;
+use core_program::rows::{ItemRow, Row};
+use eval_ops::{Halt, Machine, frame_out, passed, routine_out, spend, test};
+use std::alloc::Global;
+
+/// The actual parameters from an item on.
+pub fn pass_actuals(
+    body: &mut Body,
+    alloc: Global,
+    program: &Program,
+    machine: &mut Machine,
+    at: u32,
+    line: u32,
+) -> Turned
+    requires ready { IsReady machine.old }
+    ensures turns { Turns program.now (configuration (from program.now body.old (Now.Begin (Part.Pass at line)))
+        (moment_of machine.old)) result body.new (moment_of machine.new) }
+    ensures falls { Falls result (measure_of body.new machine.new)
+        (left_with machine.old.steps (now_weight (Now.Begin (Part.Pass at line)) + tasks_weight body.old)) }
+    ensures home { body.new.home ≡ body.old.home }
+    ensures ready { IsReady machine.new }
+{
+    match program.row(at) {
+        Row::Item(item) => pass_actual(body, alloc, program, machine, item, line),
+        _ => body.go(Now::Came(Way::Cells)),
+    }
+}
+
+/// The same, by what kind of item it is.
+fn pass_actual(
+    body: &mut Body,
+    alloc: Global,
+    program: &Program,
+    machine: &mut Machine,
+    item: ItemRow,
+    line: u32,
+) -> Turned
+    requires ready { IsReady machine.old }
+    ensures turns { Turns program.now (configuration (bind (expressions.of_actual program.now
+        (top_list (lists_of body.old))
+        (here body.old.home line) (Row.Item item)) (resume program.now body.old.home (tasks_of body.old)
+        (values_of body.old) (below_top (lists_of body.old)))) (moment_of machine.old)) result body.new
+        (moment_of machine.new) }
+    ensures falls { Falls result (measure_of body.new machine.new)
+        (left_with machine.old.steps (come + 1 + tasks_weight body.old)) }
+    ensures home { body.new.home ≡ body.old.home }
+    ensures ready { IsReady machine.new }
+{
+    match item {
+        ItemRow::Value { value, of, next } => body.wait(
+            Task::Actual { of, next, line },
+            Now::Begin(Part::Eval { row: value, line }),
+        ),
+        ItemRow::Place { access, next } => body.wait(
+            Task::Located(Located::Passed { next, line }),
+            Now::Begin(Part::Locate {
+                row: access,
+                target: false,
+                line,
+            }),
+        ),
+        ItemRow::Routine {
+            routine,
+            levels,
+            next,
+        } => match spend(machine, 1) {
+            Ok(()) => {
+                let found = routine_in(machine, routine, levels, body.home.base);
+                add_routine(body, alloc, program, found, next, line)
+            }
+            Err(halt) => body.fail(line, halt),
+        },
+        ItemRow::RoutineFormal {
+            place,
+            levels,
+            next,
+        } => match spend(machine, 1) {
+            Ok(()) => {
+                let found = routine_out(machine, levels, body.home.base, place);
+                add_routine(body, alloc, program, found, next, line)
+            }
+            Err(halt) => body.fail(line, halt),
+        },
+        _ => body.go(Now::Came(Way::Cells)),
+    }
+}
+
+/// An action on a line gave an actual routine parameter and the frame in which it was declared, or it was not done.
+fn add_routine(
+    body: &mut Body,
+    alloc: Global,
+    program: &Program,
+    found: Result<(u32, u32), Halt>,
+    next: u32,
+    line: u32,
+) -> Turned
+    ensures turns { (a : Action (ℕ × ℕ)) (m m' : Moment) → DoesAll (λ x. x) (performs a m.state) found m m'
+        → Turns program.now (configuration (bind (doing line a (λ (routine, frame). pass body.old.home next line
+        (top_list (lists_of body.old) ++ CellValue.Routine routine frame ∷ []))) (resume program.now body.old.home
+        (tasks_of body.old) (values_of body.old) (below_top (lists_of body.old)))) m) result body.new m' }
+    ensures less { (a : Action (ℕ × ℕ)) (m m' : Moment) → DoesAll (λ x. x) (performs a m.state) found m m'
+        → Falls result (left_with m'.state.steps (body_weight body.new))
+        (left_with m.state.steps (part_weight (Part.Pass next line) + 1 + tasks_weight body.old)) }
+    ensures home { body.new.home ≡ body.old.home }
+{
+    match found {
+        Ok((routine, frame)) => add_cell(
+            body,
+            alloc,
+            program,
+            Value::Routine(routine, frame),
+            next,
+            line,
+        ),
+        Err(halt) => body.fail(line, halt),
+    }
+}
+
+/// An actual value parameter of a type of one cell has its value.
+pub fn add_actual(
+    body: &mut Body,
+    alloc: Global,
+    program: &Program,
+    of: u32,
+    next: u32,
+    line: u32,
+    value: Value,
+) -> Turned
+    ensures turns { (m : Moment) → Turns program.now (configuration (from_under program.now body.old
+        (Now.Came (Way.Scalar value)) (Task.Actual of next line)) m)
+        result body.new m }
+    ensures falls { Falls result (body_weight body.new) (come + task_weight (Task.Actual of next line)
+        + tasks_weight body.old) }
+    ensures home { body.new.home ≡ body.old.home }
+{
+    match passed(test(program, program.type_row(of), value)) {
+        Ok(tested) => add_cell(body, alloc, program, tested, next, line),
+        Err(halt) => body.fail(line, halt),
+    }
+}
+
+/// One cell more of the actual parameters is known.
+pub fn add_cell(
+    body: &mut Body,
+    alloc: Global,
+    program: &Program,
+    value: Value,
+    next: u32,
+    line: u32,
+) -> Turned
+    ensures turns { (m : Moment) → Turns program.now (configuration (bind (pass body.old.home next line
+        (top_list (lists_of body.old) ++ value ∷ [])) (resume program.now body.old.home (tasks_of body.old)
+        (values_of body.old) (below_top (lists_of body.old)))) m) result body.new m }
+    ensures falls { Falls result (body_weight body.new)
+        (part_weight (Part.Pass next line) + 1 + tasks_weight body.old) }
+    ensures home { body.new.home ≡ body.old.home }
+{
+    let mut list = body.take_list(alloc);
+    append(&mut list, value)?;
+    body.lists.push(list)?;
+    body.now = Now::Begin(Part::Pass { at: next, line });
+    Ok(None)
+}
+
+/// An actual value parameter of a type of several cells has its values.
+pub fn add_actual_cells(
+    body: &mut Body,
+    alloc: Global,
+    program: &Program,
+    of: u32,
+    next: u32,
+    line: u32,
+) -> Turned
+    ensures turns { (m : Moment) → Turns program.now (configuration (from_under program.now body.old
+        (Now.Came Way.Cells) (Task.Actual of next line)) m)
+        result body.new m }
+    ensures falls { Falls result (body_weight body.new) (come + task_weight (Task.Actual of next line)
+        + tasks_weight body.old) }
+    ensures home { body.new.home ≡ body.old.home }
+{
+    let values = body.take_list(alloc);
+    let mut list = body.take_list(alloc);
+    append_all(&mut list, &values)?;
+    body.lists.push(list)?;
+    body.now = Now::Begin(Part::Pass { at: next, line });
+    Ok(None)
+}
+
+/// A routine that was declared this many blocks out, as an actual parameter, and the base of the frame of that block.
+fn routine_in(
+    machine: &mut Machine,
+    routine: u32,
+    levels: u32,
+    base: u32,
+) -> Result<(u32, u32), Halt>
+    requires ready { IsReady machine.old }
+    ensures action { DoesAll (λ x. x) (performs (declared routine levels base) (machine_state machine.old)) result
+        (moment_of machine.old) (moment_of machine.new) }
+    ensures ready { IsReady machine.new }
+{
+    let frame = frame_out(machine, levels, base)?;
+    Ok((routine, frame))
+}
+
+/// Puts a value at the end of a list. A list of 4,294,967,295 values takes no more, which counts as out of memory.
+pub(crate) fn append(list: &mut Cells, value: Value) -> Result<(), Halt>
+    ensures added { OnOk result (list.new ≡ list.old ++ value ∷ []) }
+    ensures memory { IfErr result (λ e. e ≡ Halt.Memory) }
+{
+    if list.len() == u32::MAX {
+        return Err(Halt::Memory);
+    }
+    list.push(value)?;
+    Ok(())
+}
+
+/// Puts the values of a list at the end of another.
+pub(crate) fn append_all(list: &mut Cells, values: &Cells) -> Result<(), Halt>
+    ensures added { OnOk result (list.new ≡ list.old ++ values.now) }
+    ensures memory { IfErr result (λ e. e ≡ Halt.Memory) }
+{
+    'cells: for i in 0..values.len() {
+        append(list, values.at(i))?;
+    }
+    Ok(())
+}

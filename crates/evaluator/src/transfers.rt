@@ -1,0 +1,133 @@
+//! Read, write, page, pack and unpack statements: what begins.
+
+ghost use Rattle.std.specs.Prelude.{◌≡◌, ◌+◌, ℕ, if◌then◌else◌};
+ghost use Rattle.core_program.specs.ProgramRows.{ProgramRows};
+ghost use Rattle.core_program.specs.Output.{end_line};
+ghost use Rattle.core_program.specs.Packing as arrays;
+ghost use Rattle.core_program.specs.Statements as meaning;
+ghost use Rattle.core_program.specs.Tree as parts;
+ghost use Rattle.core_program.specs.Tree.{Ret, Sub, bind};
+ghost use Rattle.eval_ops.specs.Machines.{IsReady, Moment, moment_of};
+ghost use Rattle.evaluator.specs.Rest.{here, waiting};
+ghost use Rattle.evaluator.specs.Turns.{Turns, configuration};
+ghost use Rattle.evaluator.specs.Weight.{Falls, body_weight, come, measure_of, left_with, tasks_weight};
+ghost use Rattle.evaluator.specs.TransferFamilies.{of_transfer};
+
+use crate::body::{Body, Turned};
+use crate::tasks::{Next, Now, Part, Task};
+use core_program::rows::StatementRow;
+use eval_ops::{Machine, end_page};
+
+/// A read, write, page, pack or unpack statement whose line is told.
+pub fn transfer_statement(body: &mut Body, machine: &mut Machine, statement: StatementRow) -> Turned
+    requires ready { IsReady machine.old }
+    ensures turns { (p : ProgramRows) (row : ℕ) → Turns p
+        (configuration (bind (of_transfer p body.old.home row statement) (waiting p body.old)) (moment_of machine.old))
+        result body.new (moment_of machine.new) }
+    ensures falls { Falls result (measure_of body.new machine.new)
+        (left_with machine.old.steps (come + 10 + tasks_weight body.old)) }
+    ensures home { body.new.home ≡ body.old.home }
+    ensures ready { IsReady machine.new }
+{
+    match statement {
+        StatementRow::Read {
+            ends_line,
+            line,
+            actuals,
+        } => begin_read(body, ends_line, actuals, line),
+        StatementRow::Write {
+            ends_line,
+            line,
+            actuals,
+        } => begin_write(body, ends_line, actuals, line),
+        StatementRow::Page { line } => {
+            let done = end_page(machine);
+            body.finally(line, done)
+        }
+        StatementRow::Pack {
+            packing,
+            line,
+            unpacked,
+            index,
+            packed,
+        } => begin_pack(body, packing, unpacked, index, packed, line),
+        _ => body.no_row(),
+    }
+}
+
+/// The actuals of a read statement begin. After them comes the rest of the line, if it ends one.
+fn begin_read(body: &mut Body, ends_line: bool, actuals: u32, line: u32) -> Turned
+    ensures turns { (p : ProgramRows) (m : Moment) → Turns p (configuration (bind (Sub (parts.Receive actuals
+        (here body.old.home line)) (meaning.on_normal (if ends_line
+        then Sub (parts.RestOfLine (here body.old.home line)) Ret else meaning.nothing))) (waiting p body.old)) m)
+        result body.new m }
+    ensures falls { Falls result (body_weight body.new) (come + 10 + tasks_weight body.old) }
+    ensures home { body.new.home ≡ body.old.home }
+{
+    let part = Now::Begin(Part::Receive { at: actuals, line });
+    if ends_line {
+        body.wait(Task::Next(Next::PassLine { line }), part)
+    } else {
+        body.wait(Task::Next(Next::Forget), part)
+    }
+}
+
+/// The actuals of a write statement begin. After them comes the end of the line, if it ends one.
+fn begin_write(body: &mut Body, ends_line: bool, actuals: u32, line: u32) -> Turned
+    ensures turns { (p : ProgramRows) (m : Moment) → Turns p (configuration (bind (Sub (parts.Print actuals
+        (here body.old.home line)) (meaning.on_normal (if ends_line
+        then meaning.finally (here body.old.home line) end_line else meaning.nothing))) (waiting p body.old)) m)
+        result body.new m }
+    ensures falls { Falls result (body_weight body.new) (come + 10 + tasks_weight body.old) }
+    ensures home { body.new.home ≡ body.old.home }
+{
+    let part = Now::Begin(Part::Print { at: actuals, line });
+    if ends_line {
+        body.wait(Task::Next(Next::EndLine { line }), part)
+    } else {
+        body.wait(Task::Next(Next::Forget), part)
+    }
+}
+
+/// The first array of a pack or an unpack statement is to be located.
+fn begin_pack(
+    body: &mut Body,
+    packing: bool,
+    unpacked: u32,
+    index: u32,
+    packed: u32,
+    line: u32,
+) -> Turned
+    ensures turns { (p : ProgramRows) (m : Moment) → Turns p (configuration
+        (bind (arrays.pack p (here body.old.home line) packing
+        unpacked index packed (meaning.finally (here body.old.home line))) (waiting p body.old)) m) result body.new m }
+    ensures falls { Falls result (body_weight body.new) (come + 10 + tasks_weight body.old) }
+    ensures home { body.new.home ≡ body.old.home }
+{
+    let task = Task::PackFirst {
+        packing,
+        unpacked,
+        index,
+        packed,
+        line,
+    };
+    if packing {
+        body.wait(
+            task,
+            Now::Begin(Part::Locate {
+                row: unpacked,
+                target: false,
+                line,
+            }),
+        )
+    } else {
+        body.wait(
+            task,
+            Now::Begin(Part::Locate {
+                row: packed,
+                target: false,
+                line,
+            }),
+        )
+    }
+}

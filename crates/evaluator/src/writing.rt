@@ -1,0 +1,263 @@
+//! Write statements: their actuals, one after the other (6.9.3).
+
+ghost use Rattle.std.specs.Prelude.{◌≡◌, ◌+◌};
+ghost use Rattle.core_program.specs.ProgramRows.{ProgramRows};
+ghost use Rattle.core_program.specs.Actions.{Action, performs};
+ghost use Rattle.core_program.specs.Output as output;
+ghost use Rattle.core_program.specs.Transfers as transfers;
+ghost use Rattle.core_program.specs.Tree.{ActTree, bind, doing};
+ghost use Rattle.eval_ops.specs.Machines.{DoesAll, IsReady, Moment, moment_of};
+ghost use Rattle.evaluator.specs.Rest.{below_top, from, from_under, here, lists_of, resume, tasks_of, top_list};
+ghost use Rattle.evaluator.specs.Rest.{values_of, waiting};
+ghost use Rattle.evaluator.specs.Turns.{Turns, configuration};
+ghost use Rattle.evaluator.specs.Weight.{Falls, body_weight, come, measure_of, left_with, now_weight, part_weight};
+ghost use Rattle.evaluator.specs.Weight.{task_weight, tasks_weight};
+
+use crate::body::{Body, Turned};
+use crate::reading::locate_read;
+use crate::tasks::{Now, Part, Task, TransferTask, Way};
+use cell_value::Value;
+use core_program::Program;
+use core_program::rows::{ItemRow, Row, TypeRow};
+use eval_ops::{Halt, Machine, write_scalar, write_string};
+use std::alloc::Global;
+
+/// A type itself, or that of a subrange's constants, by the number of its row.
+pub(crate) fn host_of(program: &Program, of: u32) -> u32
+    ensures { result ≡ output.host_at program.now of }
+{
+    match program.type_row(of) {
+        Some(TypeRow::Subrange { host, .. }) => host,
+        _ => of,
+    }
+}
+
+/// An action on a line was done, and then this is at work, or it was not done.
+pub(crate) fn go_after(body: &mut Body, line: u32, done: Result<(), Halt>, now: Now) -> Turned
+    ensures turns { (p : ProgramRows) (a : Action (Unit {0})) (t : ActTree) (m m' : Moment)
+        → bind t (waiting p body.old) ≡ from p body.old now → DoesAll (λ _. tt) (performs a m.state) done m m'
+        → Turns p (configuration (bind (doing line a (λ _. t)) (waiting p body.old)) m) result body.new m' }
+    ensures less { (a : Action (Unit {0})) (m m' : Moment) → DoesAll (λ _. tt) (performs a m.state) done m m'
+        → Falls result (left_with m'.state.steps (body_weight body.new))
+        (left_with m.state.steps (now_weight now + tasks_weight body.old + 1)) }
+    ensures home { body.new.home ≡ body.old.home }
+{
+    match done {
+        Ok(()) => body.go(now),
+        Err(halt) => body.fail(line, halt),
+    }
+}
+
+/// The actuals of a write statement from an item on.
+pub fn print(body: &mut Body, program: &Program, at: u32, line: u32) -> Turned
+    ensures turns { (m : Moment) → Turns program.now (configuration
+        (from program.now body.old (Now.Begin (Part.Print at line))) m) result body.new m }
+    ensures falls { Falls result (body_weight body.new)
+        (part_weight (Part.Print at line) + tasks_weight body.old) }
+    ensures home { body.new.home ≡ body.old.home }
+{
+    match program.row(at) {
+        Row::Item(item) => print_item(body, item, line),
+        _ => body.go(Now::Came(Way::Nothing)),
+    }
+}
+
+/// The same, by what kind of item it is.
+fn print_item(body: &mut Body, item: ItemRow, line: u32) -> Turned
+    ensures turns { (p : ProgramRows) (m : Moment) → Turns p (configuration (bind (transfers.of_printed p
+        (here body.old.home line) (Row.Item item)) (waiting p body.old)) m) result body.new m }
+    ensures falls { Falls result (body_weight body.new) (come + 1 + tasks_weight body.old) }
+    ensures home { body.new.home ≡ body.old.home }
+{
+    match item {
+        ItemRow::Written { value, of, next } => {
+            evaluate(body, value, TransferTask::Written { of, next, line }, line)
+        }
+        ItemRow::WrittenWide {
+            value,
+            of,
+            width,
+            next,
+        } => {
+            let wide = TransferTask::Wide {
+                of,
+                width,
+                next,
+                line,
+            };
+            evaluate(body, value, wide, line)
+        }
+        _ => body.go(Now::Came(Way::Nothing)),
+    }
+}
+
+/// An expression of an actual begins, and the actual is to go on by its value.
+#[inline(always)]
+fn evaluate(body: &mut Body, expression: u32, transfer: TransferTask, line: u32) -> Turned
+    ensures turns { (p : ProgramRows) (m : Moment) → Turns p
+        (configuration (from_under p body.old (Now.Begin (Part.Eval expression line)) (Task.Transfer transfer)) m)
+        result body.new m }
+    ensures falls { Falls result (body_weight body.new) (come + tasks_weight body.old) }
+    ensures home { body.new.home ≡ body.old.home }
+{
+    let value = Part::Eval {
+        row: expression,
+        line,
+    };
+    body.wait(Task::Transfer(transfer), Now::Begin(value))
+}
+
+/// A value is written, in a width if one is given, and then comes the next actual.
+fn write(
+    body: &mut Body,
+    program: &Program,
+    machine: &mut Machine,
+    of: u32,
+    next: u32,
+    line: u32,
+    value: Value,
+    width: Option<Value>,
+) -> Turned
+    requires ready { IsReady machine.old }
+    ensures turns { Turns program.now (configuration (bind (transfers.print (here body.old.home line) next
+        (output.scalar_text (output.host_at program.now of) value) width) (waiting program.now body.old))
+        (moment_of machine.old)) result body.new (moment_of machine.new) }
+    ensures falls { Falls result (measure_of body.new machine.new)
+        (left_with machine.old.steps (come + 2 + tasks_weight body.old)) }
+    ensures home { body.new.home ≡ body.old.home }
+    ensures ready { IsReady machine.new }
+{
+    let host = host_of(program, of);
+    let done = write_scalar(machine, host, value, width);
+    go_after(body, line, done, Now::Begin(Part::Print { at: next, line }))
+}
+
+/// The value that waited is written in a width, and then comes the next actual.
+fn write_waiting(
+    body: &mut Body,
+    program: &Program,
+    machine: &mut Machine,
+    of: u32,
+    next: u32,
+    line: u32,
+    width: Value,
+) -> Turned
+    requires ready { IsReady machine.old }
+    ensures turns { Turns program.now
+        (configuration (from_under program.now body.old (Now.Came (Way.Scalar width))
+        (Task.Transfer (TransferTask.Width of next line)))
+        (moment_of machine.old)) result body.new (moment_of machine.new) }
+    ensures falls { Falls result (measure_of body.new machine.new)
+        (left_with machine.old.steps (come + 2 + tasks_weight body.old)) }
+    ensures home { body.new.home ≡ body.old.home }
+    ensures ready { IsReady machine.new }
+{
+    let value = body.take_value();
+    write(body, program, machine, of, next, line, value, Some(width))
+}
+
+/// The string that waited is written, in a width if one is given, and then comes the next actual.
+fn write_text(
+    body: &mut Body,
+    alloc: Global,
+    machine: &mut Machine,
+    next: u32,
+    line: u32,
+    width: Option<Value>,
+) -> Turned
+    requires ready { IsReady machine.old }
+    ensures turns { (p : ProgramRows) → Turns p (configuration (bind (transfers.print (here body.old.home line) next
+        (output.string_text (top_list (lists_of body.old))) width) (resume p body.old.home (tasks_of body.old)
+        (values_of body.old) (below_top (lists_of body.old)))) (moment_of machine.old)) result body.new
+        (moment_of machine.new) }
+    ensures falls { Falls result (measure_of body.new machine.new)
+        (left_with machine.old.steps (come + 2 + tasks_weight body.old)) }
+    ensures home { body.new.home ≡ body.old.home }
+    ensures ready { IsReady machine.new }
+{
+    let list = body.take_list(alloc);
+    let done = write_string(machine, &list, width);
+    go_after(body, line, done, Now::Begin(Part::Print { at: next, line }))
+}
+
+/// An actual of a read or a write statement goes on by the integer that was read, the value that is to be written, or
+/// its width.
+pub fn continue_transfer(
+    body: &mut Body,
+    alloc: Global,
+    program: &Program,
+    machine: &mut Machine,
+    transfer: TransferTask,
+    value: Value,
+) -> Turned
+    requires ready { IsReady machine.old }
+    ensures turns { Turns program.now
+        (configuration (from_under program.now body.old (Now.Came (Way.Scalar value)) (Task.Transfer transfer))
+        (moment_of machine.old)) result body.new (moment_of machine.new) }
+    ensures falls { Falls result (measure_of body.new machine.new)
+        (left_with machine.old.steps (come + task_weight (Task.Transfer transfer) + tasks_weight body.old)) }
+    ensures home { body.new.home ≡ body.old.home }
+    ensures ready { IsReady machine.new }
+{
+    match transfer {
+        TransferTask::Integer {
+            access,
+            of,
+            next,
+            line,
+        } => locate_read(body, access, of, next, line, value),
+        TransferTask::Into { .. } => body.no_row(),
+        TransferTask::Written { of, next, line } => {
+            write(body, program, machine, of, next, line, value, None)
+        }
+        TransferTask::Wide {
+            of,
+            width,
+            next,
+            line,
+        } => body.hold(
+            value,
+            Task::Transfer(TransferTask::Width { of, next, line }),
+            Now::Begin(Part::Eval { row: width, line }),
+        ),
+        TransferTask::Width { of, next, line } => {
+            write_waiting(body, program, machine, of, next, line, value)
+        }
+        TransferTask::TextWidth { next, line } => {
+            write_text(body, alloc, machine, next, line, Some(value))
+        }
+    }
+}
+
+/// An actual of a write statement goes on by the string that is to be written.
+pub fn continue_with_text(
+    body: &mut Body,
+    alloc: Global,
+    machine: &mut Machine,
+    transfer: TransferTask,
+) -> Turned
+    requires ready { IsReady machine.old }
+    ensures turns { (p : ProgramRows) → Turns p
+        (configuration (from_under p body.old (Now.Came Way.Cells) (Task.Transfer transfer))
+        (moment_of machine.old)) result body.new (moment_of machine.new) }
+    ensures falls { Falls result (measure_of body.new machine.new)
+        (left_with machine.old.steps (come + task_weight (Task.Transfer transfer) + tasks_weight body.old)) }
+    ensures home { body.new.home ≡ body.old.home }
+    ensures ready { IsReady machine.new }
+{
+    match transfer {
+        TransferTask::Written { next, line, .. } => write_text(
+            body, alloc, machine, next, line, None,
+        ),
+        TransferTask::Wide {
+            width,
+            next,
+            line,
+            ..
+        } => evaluate(body, width, TransferTask::TextWidth { next, line }, line),
+        TransferTask::Integer { .. } => body.no_row(),
+        TransferTask::Into { .. } => body.no_row(),
+        TransferTask::Width { .. } => body.no_row(),
+        TransferTask::TextWidth { .. } => body.no_row(),
+    }
+}

@@ -1,0 +1,108 @@
+-- What a name stands for in an expression.
+use Rattle.std.specs.Prelude.{ℕ, zero, suc, ◌-◌, Bool, true, false, Option, Some, None, length, if◌then◌else◌}
+use Rattle.core_program.specs.declared.rows.Row.{Row}
+use Rattle.core_program.specs.declared.rows.Row.TheVariants as row
+use Rattle.core_program.specs.declared.rows.AccessRow.{AccessRow}
+use Rattle.core_program.specs.declared.rows.AccessRow.TheVariants as accessed
+use Rattle.core_program.specs.declared.rows.Mode.{Mode}
+use Rattle.core_program.specs.declared.rows.Mode.TheVariants as mode
+use Rattle.core_program.specs.declared.rows.NameRow.TheVariants as named
+use Rattle.core_program.specs.declared.rows.PartRow.TheVariants as part
+use Rattle.core_program.specs.declared.rows.TypeRow.TheVariants as kind
+use Rattle.check_steps.specs.declared.regions.Found.{Found}
+use Rattle.check_steps.specs.Known.{Known, frame_at, row_at}
+use Rattle.check_steps.specs.Names.{use_at}
+use Rattle.check_steps.specs.Steps.{Step, give, ◌>>=◌, look, late, put}
+use Rattle.kind_checker.specs.declared.constants.ConstantValue.TheVariants as value
+use Rattle.kind_checker.specs.declared.shapes.ExpressionType.TheVariants as expression
+use Rattle.expression_checker.specs.declared.names.Meaning.{Meaning}
+use Rattle.expression_checker.specs.declared.names.Meaning.TheVariants as meaning
+use Rattle.expression_checker.specs.declared.typed.Location.{Location}
+use Rattle.expression_checker.specs.declared.typed.Location.TheVariants as location
+use Rattle.expression_checker.specs.declared.typed.Typed.{Typed}
+use Rattle.expression_checker.specs.Typed.{unknown_at}
+
+-- ---- variables
+
+-- how many links lead from a frame to that of what is declared at a level
+abbrev pub levels_to : Known → ℕ → ℕ → ℕ
+levels_to k frame level = (frame_at k frame).level - level
+
+abbrev pub variable_row : Mode → ℕ → ℕ → ℕ → AccessRow
+variable_row mode.Place place levels of' = accessed.Reference place levels of'
+variable_row m place levels of' = accessed.Variable place levels of'
+
+-- ---- fields of the records of with statements
+
+-- what holds a variant, or a variant part
+abbrev pub holder_in : Row → Option ℕ
+holder_in (row.Part (part.Variant variants position)) = Some variants
+holder_in (row.Part (part.Variants hidden offset cells values holder)) = Some holder
+holder_in r = None
+
+abbrev pub is_packed_record : Row → Bool
+is_packed_record (row.Type (kind.Record packed region cells variants)) = packed
+is_packed_record r = false
+
+abbrev pub packed_or : Option ℕ → Bool → (ℕ → Bool) → Bool
+packed_or None packed outward = packed
+packed_or (Some holder) packed outward = outward holder
+
+abbrev pub is_packed_from : ℕ → Known → ℕ → Bool
+is_packed_from zero k at = false
+is_packed_from (suc n) k at = packed_or (holder_in (row_at k at)) (is_packed_record (row_at k at)) (is_packed_from n k)
+
+-- Whether a holder of fields is a packed record, or a variant in one. No variant lies deeper than there are tokens.
+abbrev pub is_packed : Known → ℕ → Bool
+is_packed k holder = is_packed_from (length k.words) k holder
+
+abbrev pub component_if : Bool → Location
+component_if within = if within then location.Component else location.Variable
+
+-- the position of a frame's with statement among those around
+abbrev pub with_position : Known → ℕ → ℕ
+with_position k frame = (frame_at k frame).withs - 1
+
+-- ---- names
+
+-- a field, or a tag, of the record of a with statement
+abbrev pub field_meaning : Known → Found → ℕ → Location → Meaning
+field_meaning k f of' l =
+    meaning.Variable (accessed.Within (with_position k f.frame) f.definition.token of') of' l
+
+-- what a name stands for by its row, seen from a frame
+abbrev pub meaning_in : Known → ℕ → Found → Row → Meaning
+meaning_in k frame f (row.Name (named.Constant of' v)) = meaning.Constant (Some (value.Ordinal of' v))
+meaning_in k frame f (row.Name (named.Text token)) = meaning.Constant (Some (value.Text token))
+meaning_in k frame f row.Nothing = meaning.Constant None
+meaning_in k frame f (row.Name (named.Variable m of' place level)) =
+    meaning.Variable (variable_row m place (levels_to k frame level) of') of' location.Variable
+meaning_in k frame f (row.Name (named.Field of' offset holder)) =
+    field_meaning k f of' (component_if (is_packed k holder))
+meaning_in k frame f (row.Name (named.Tag of' offset holder variants)) = field_meaning k f of' location.Component
+meaning_in k frame f r = meaning.Other
+
+abbrev pub meaning_of : Known → ℕ → Option Found → Meaning
+meaning_of k frame None = meaning.Unknown
+meaning_of k frame (Some f) = meaning_in k frame f (row_at k f.definition.token)
+
+-- A name of unknown meaning breaks no further rule.
+abbrev pub is_variable : Meaning → Bool
+is_variable meaning.Unknown = true
+is_variable (meaning.Variable r of' l) = true
+is_variable m = false
+
+-- an access by a name alone
+abbrev pub accessed_as : ℕ → Meaning → Step Typed
+accessed_as name (meaning.Variable r of' l) = do
+  _ ← put name (row.Access r)
+  give (record { row = name; of = expression.Of of'; location = l })
+accessed_as name m = give (unknown_at name)
+
+-- rule 3: the name stands for another kind of thing than a variable, a parameter or a field
+unfoldable pub variable : ℕ → ℕ → Step Typed
+variable frame name = do
+  found ← use_at frame name name
+  m ← look (λ k. meaning_of k frame found)
+  _ ← late 3 name (is_variable m)
+  accessed_as name m

@@ -1,9 +1,0 @@
-pub mod Complete
-pub mod DeepIsBegun
-pub mod Deepest
-pub mod FirstRefusals
-pub mod Formed
-pub mod Hopeless
-pub mod Local
-pub mod ReadOrTooDeep
-pub mod Starting

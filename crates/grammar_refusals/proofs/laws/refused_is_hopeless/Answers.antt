@@ -1,8 +1,0 @@
-use Rattle.grammar_refusals.proofs.Hopeless.{unfit_hopeless, surplus_hopeless}
-use Rattle.grammar_refusals.proofs.laws.refused_is_hopeless.Goals as goal
-
-pub returns-clause-unfit : goal.returns-clause-unfit
-returns-clause-unfit c = unfit_hopeless
-
-pub returns-clause-surplus : goal.returns-clause-surplus
-returns-clause-surplus c = surplus_hopeless

@@ -1,3 +1,0 @@
-pub mod Formals
-pub mod Headings
-pub mod RoutineParts

@@ -1,5 +1,0 @@
-use Rattle.log_tests.specs.Logs.{IsLogOf}
-use Rattle.log_tests.proofs.log.log_of.Given as goal
-
-abbrev pub invariant-loop-i : goal.invariant-loop-i
-invariant-loop-i l = IsLogOf l.i l.log

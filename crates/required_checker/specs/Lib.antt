@@ -1,4 +1,0 @@
-pub mod Actuals
-pub mod Transfers
-pub mod Moves
-pub mod Procedures

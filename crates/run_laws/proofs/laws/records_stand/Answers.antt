@@ -1,6 +1,0 @@
-use Rattle.run_laws.proofs.LawsOfRuns.{made}
-use Rattle.run_laws.proofs.RecordsStand.{stands}
-use Rattle.run_laws.proofs.laws.records_stand.Goals as goal
-
-pub returns : goal.returns
-returns c = λ p input budget r e k d h. λ σ s a. stands p d _ (made p input budget r e k d h) σ s a

@@ -1,3 +1,0 @@
-mod EntriesInTurn
-mod MisfitsInTurn
-mod FitsTheRun

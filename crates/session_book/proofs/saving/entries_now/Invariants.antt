@@ -1,5 +1,0 @@
-use Rattle.std.proofs.Common.{◌≡◌, take}
-use Rattle.session_book.proofs.saving.entries_now.Given as goal
-
-abbrev pub invariant-places : goal.invariant-places
-invariant-places l = l.entries ≡ take l.place l.debug.book.entries

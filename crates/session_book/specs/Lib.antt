@@ -1,3 +1,0 @@
-pub mod Start
-pub mod Fit
-pub mod Lines

@@ -1,2 +1,0 @@
-pub mod WhatComesOfATree
-pub mod ProgramOfATree

@@ -1,0 +1,191 @@
+-- The required procedures of text files: read, readln, write, writeln and page (6.9).
+use Rattle.std.specs.Prelude.{ℕ, Bool, true, false, List, [], ◌∷◌, Option, Some, None, nat_eq, nat_lt, length}
+use Rattle.std.specs.Prelude.{◌||◌, ◌&&◌}
+use Rattle.std.specs.Global.{Box}
+use Rattle.pas_tree.specs.declared.statements.Actuals.{Actuals}
+use Rattle.pas_tree.specs.declared.statements.NextActual.{NextActual}
+use Rattle.pas_tree.specs.declared.statements.Actual.{Actual}
+use Rattle.pas_tree.specs.declared.statements.Width.{Width}
+use Rattle.core_program.specs.declared.rows.ItemRow.{ItemRow}
+use Rattle.core_program.specs.declared.rows.ItemRow.TheVariants as item
+use Rattle.core_program.specs.declared.rows.StatementRow.{StatementRow}
+use Rattle.core_program.specs.declared.rows.StatementRow.TheVariants as statement
+use Rattle.core_program.specs.declared.rows.TextFile.{TextFile}
+use Rattle.core_program.specs.declared.rows.TextFile.TheVariants.{Input, Output}
+use Rattle.check_steps.specs.Known.{Known}
+use Rattle.check_steps.specs.Steps.{Step, give, ◌>>=◌, look, late, each}
+use Rattle.pas_tree.specs.ExpressionPlaces.{first_of_expression}
+use Rattle.kind_checker.specs.declared.shapes.ExpressionType.{ExpressionType}
+use Rattle.kind_checker.specs.declared.shapes.ExpressionType.TheVariants as expression
+use Rattle.kind_checker.specs.declared.shapes.Shape.{Shape}
+use Rattle.kind_checker.specs.declared.shapes.Shape.TheVariants as shape
+use Rattle.kind_checker.specs.Operators.{is_of_host, is_operand, is_unknown_shape}
+use Rattle.kind_checker.specs.Shapes.{shape_of}
+use Rattle.expression_checker.specs.declared.typed.Location.{Location}
+use Rattle.expression_checker.specs.declared.typed.Location.TheVariants as location
+use Rattle.expression_checker.specs.declared.typed.Typed.{Typed}
+use Rattle.expression_checker.specs.Threats.{threat_alone}
+use Rattle.expression_checker.specs.Actuals.{name_alone}
+use Rattle.expression_checker.specs.Expressions.{expression as expression_step}
+use Rattle.statement_checker.specs.Sequences.{stated}
+use Rattle.statement_checker.specs.declared.actuals.RequiredCall.{RequiredCall}
+use Rattle.statement_checker.specs.declared.transfers.Transfer.{Transfer}
+use Rattle.statement_checker.specs.declared.transfers.Transfer.TheVariants.{Reading, Writing}
+use Rattle.check_steps.specs.Items.{add_item, link}
+use Rattle.statement_checker.specs.Actuals.{actual_file, plain_actual, wrong_number}
+
+-- ---- what is read
+
+abbrev pub is_access : Location → Bool
+is_access location.Nowhere = false
+is_access l = true
+
+-- An access of an integer or a char type, or of a subrange of one. What is of unknown type breaks no further rule.
+abbrev pub is_readable : Known → Typed → Bool
+is_readable k v = is_unknown_shape (shape_of k v.of)
+    || (is_access v.location && (is_of_host 0 (shape_of k v.of) || is_of_host 2 (shape_of k v.of)))
+
+-- rule 32: an actual of read is no access of an integer or a char type, at its first token; a variable as a whole is
+-- threatened
+unfoldable pub read_item : ℕ → ℕ → ℕ → Actual → Step ℕ
+read_item frame last slot a = do
+  _ ← threat_alone frame (name_alone a.expression)
+  v ← plain_actual frame a
+  fine ← look (λ k. is_readable k v)
+  _ ← late 32 (first_of_expression a.expression) fine
+  add_item last slot (item.Element v.row 0)
+
+-- ---- what is written
+
+-- an integer, a char, a Boolean or a string
+abbrev pub is_writable : Shape → Bool
+is_writable (shape.Ordinal host) = nat_eq host 0 || nat_eq host 1 || nat_eq host 2
+is_writable (shape.Text length) = true
+is_writable s = is_unknown_shape s
+
+-- rule 33: a width is not an integer, at the `:`
+unfoldable pub width : ℕ → Width → Step ℕ
+width frame w = do
+  v ← expression_step frame w.width
+  fine ← look (λ k. is_operand 0 (shape_of k v.of))
+  _ ← late 33 w.colon fine
+  give v.row
+
+-- The type of what is written. A string constant has none: its own number is given, at which no type stands.
+abbrev pub written_type : ExpressionType → ℕ → ℕ
+written_type (expression.Of t) number = t
+written_type t number = number
+
+abbrev pub written_item : Typed → Option ℕ → ItemRow
+written_item v None = item.Written v.row (written_type v.of v.row) 0
+written_item v (Some width) = item.WrittenWide v.row (written_type v.of v.row) width 0
+
+-- an actual and its width; where the last item of the list stands is given
+abbrev pub put_written : ℕ → ℕ → Typed → ℕ → Option Width → Step ℕ
+put_written frame last v slot None = add_item last slot (written_item v None)
+put_written frame last v slot (Some w) = do
+  n ← width frame w
+  add_item last slot (written_item v (Some n))
+
+-- rule 32: an actual of write is no integer, char, Boolean or string, at its first token
+unfoldable pub write_item : ℕ → ℕ → ℕ → Actual → Step ℕ
+write_item frame last slot a = do
+  v ← expression_step frame a.expression
+  fine ← look (λ k. is_writable (shape_of k v.of))
+  _ ← late 32 (first_of_expression a.expression) fine
+  put_written frame last v slot a.width
+
+-- ---- lists of what is read or written
+
+abbrev pub item_by : Transfer → ℕ → ℕ → ℕ → Actual → Step ℕ
+item_by Reading frame last slot a = read_item frame last slot a
+item_by Writing frame last slot a = write_item frame last slot a
+
+unfoldable pub next_item : Transfer → ℕ → ℕ → NextActual → Step ℕ
+next_item t frame last n = item_by t frame last n.comma n.actual
+
+-- the input is read, the output is written
+abbrev pub is_file_of : Transfer → TextFile → Bool
+is_file_of Reading Input = true
+is_file_of Writing Output = true
+is_file_of t file = false
+
+-- The first actual may name the text file; rule 32: it is the wrong one, at its first token.
+abbrev pub first_item : Transfer → ℕ → ℕ → ℕ → Actual → Option TextFile → Step ℕ
+first_item t frame last slot a None = item_by t frame last slot a
+first_item t frame last slot a (Some file) = do
+  _ ← late 32 (first_of_expression a.expression) (is_file_of t file)
+  give last
+
+abbrev pub first_comma : List NextActual → ℕ → ℕ
+first_comma [] close = close
+first_comma (n ∷ ns) close = n.comma
+
+-- the number of the list: the `(`, or after a text file the first comma, or the `)`
+abbrev pub list_of : Option TextFile → Actuals → ℕ
+list_of None a = a.«open»
+list_of (Some file) a = first_comma a.others.items a.close
+
+-- the list of what is read or written, by its number
+unfoldable pub items : Transfer → ℕ → ℕ → Actuals → Option TextFile → Step ℕ
+items t frame name a file = do
+  one ← first_item t frame name a.«open» a.first file
+  last ← each (next_item t frame) one a.others.items
+  _ ← link last a.close
+  give (list_of file a)
+
+abbrev pub transfer_row : Transfer → Bool → ℕ → ℕ → StatementRow
+transfer_row Reading ends_line line list = statement.Read ends_line line list
+transfer_row Writing ends_line line list = statement.Write ends_line line list
+
+-- Rule 26: read and write want one actual at least after the text file, at the procedure's name.
+abbrev pub is_enough : Bool → Option TextFile → Actuals → Bool
+is_enough ends_line None a = true
+is_enough ends_line (Some file) a = ends_line || nat_lt 0 (length a.others.items)
+
+-- a call with actuals of read, write, or of readln and writeln, which end a line
+unfoldable pub transfer_with : Transfer → Bool → ℕ → RequiredCall → Actuals → Step ℕ
+transfer_with t ends_line frame c a = do
+  file ← look (λ k. actual_file k frame a.first)
+  _ ← late 26 c.name (is_enough ends_line file a)
+  list ← items t frame c.name a file
+  stated c.name (transfer_row t ends_line c.line list)
+
+-- the same without actuals: no item stands at the procedure's name
+unfoldable pub transfer_alone : Transfer → Bool → RequiredCall → Step ℕ
+transfer_alone t ends_line c = do
+  _ ← late 26 c.name ends_line
+  stated c.name (transfer_row t ends_line c.line c.name)
+
+abbrev pub transfer_call : Transfer → Bool → ℕ → RequiredCall → Option (Box Actuals) → Step ℕ
+transfer_call t ends_line frame c None = transfer_alone t ends_line c
+transfer_call t ends_line frame c (Some a) = transfer_with t ends_line frame c a.value
+
+-- ---- page
+
+-- What is no text file is known to be none, unless its type is unknown.
+unfoldable pub page_other : ℕ → Actual → Step (Unit {0})
+page_other frame a = do
+  v ← plain_actual frame a
+  fine ← look (λ k. is_unknown_shape (shape_of k v.of))
+  late 32 (first_of_expression a.expression) fine
+
+-- rule 32: what page takes is not the output, at its first token
+abbrev pub paged : ℕ → Actual → Option TextFile → Step (Unit {0})
+paged frame a None = page_other frame a
+paged frame a (Some file) = late 32 (first_of_expression a.expression) (is_file_of Writing file)
+
+unfoldable pub page_one : ℕ → RequiredCall → Actual → Step ℕ
+page_one frame c a = do
+  file ← look (λ k. actual_file k frame a)
+  _ ← paged frame a file
+  stated c.name (statement.Page c.line)
+
+-- rule 26: page takes one actual at most
+abbrev pub page_some : ℕ → RequiredCall → Actuals → Bool → Step ℕ
+page_some frame c a true = page_one frame c a.first
+page_some frame c a false = wrong_number frame c.name a
+
+abbrev pub page : ℕ → RequiredCall → Option (Box Actuals) → Step ℕ
+page frame c None = stated c.name (statement.Page c.line)
+page frame c (Some a) = page_some frame c a.value (nat_eq (length a.value.others.items) 0)
