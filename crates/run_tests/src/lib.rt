@@ -1,8 +1,13 @@
-//! Tests of the store, the log, the machine, the body and whole runs.
+//! Tests of what a run is made of and kept in: lists of values, the store, the log and its effects, the calls, a
+//! machine and a body; and of whole runs, with their calls done again.
 #![tactic(auto)]
 
 #[cfg(test)]
+mod actions;
+#[cfg(test)]
 mod log;
+#[cfg(test)]
+mod runs;
 #[cfg(test)]
 mod store;
 #[cfg(test)]

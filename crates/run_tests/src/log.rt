@@ -109,23 +109,13 @@ fn log_of(alloc: Global, kinds: &[Kind], entries: u32) -> Result<Log, Memory>
     Ok(log)
 }
 
-/// What is kept by address while an effect is found: maps, or, from 10,000 entries on, pages.
-#[derive(Clone, Copy)]
-enum By {
-    Maps,
-    Pages,
-}
-
 /// The effect of such a log.
-fn effect_of(alloc: Global, by: By, kinds: &[Kind], entries: u32) -> Result<Footprint, Memory>
+fn effect_of(alloc: Global, kinds: &[Kind], entries: u32) -> Result<Footprint, Memory>
     requires some { 0 < length kinds.now }
     requires few { entries ≤ 8000000 }
 {
     let log = log_of(alloc, kinds, entries)?;
-    match by {
-        By::Maps => effect(alloc, &log, 0, entries, 0, 0),
-        By::Pages => effect_log::effect(alloc, &log, 0, entries, 0, 0),
-    }
+    effect(alloc, &log, 0, entries, 0, 0)
 }
 
 const THERE: Option<Seen> = Some(Seen::There);
@@ -166,7 +156,7 @@ type Row = (Kind, Kind, Option<Seen>, Option<Change>);
 
 fn row_holds(alloc: Global, row: &Row) -> bool {
     let (first, second, seen, change) = *row;
-    match effect_of(alloc, By::Maps, &[first, second], 2) {
+    match effect_of(alloc, &[first, second], 2) {
         Ok(found) => reads_first(&found.reads, seen) && changes_at(&found.changes, 0, change),
         Err(_) => false,
     }
@@ -253,7 +243,7 @@ fn block_is(found: &Footprint, row: &BlockRow) -> bool {
 
 fn block_holds(alloc: Global, row: &BlockRow) -> bool {
     let kinds = [Kind::Make, Kind::Write, Kind::Drop, Kind::Make];
-    match effect_of(alloc, By::Maps, &kinds, row.0.min(4)) {
+    match effect_of(alloc, &kinds, row.0.min(4)) {
         Ok(found) => block_is(&found, row),
         Err(_) => false,
     }
@@ -267,34 +257,46 @@ fn a_block_is_made_again(rt: HostRuntime) {
     }
 }
 
-/// How the effect of this many entries is found; and what was seen of the cell at `ADDR`, what becomes of it, and how
-/// many items were looked at and taken.
-type LogRow = (By, u32, Option<Seen>, Option<Change>, u32, u32);
+/// A number of entries. After them: what was seen of the cell at `ADDR`, what becomes of it, and how many items were
+/// looked at and taken.
+type LogRow = (u32, Option<Seen>, Option<Change>, u32, u32);
 
-const LOGS: [LogRow; 4] = [
-    (By::Maps, 0, None, None, 0, 0),
-    (By::Pages, 0, None, None, 0, 0),
+/// What is found of an address is kept in a map below 10,000 entries, and in a page from there on.
+const LOGS: [LogRow; 5] = [
+    (0, None, None, 0, 0),
     (
-        By::Maps,
-        8_000_000,
+        9_999,
         HELD_1,
-        Some(Change::Set(Value::Number(7_999_998))),
+        Some(Change::Set(Value::Number(9_998))),
         6,
-        2_000_000,
+        2_499,
     ),
     (
-        By::Pages,
-        12_000,
+        10_000,
+        HELD_1,
+        Some(Change::Set(Value::Number(9_998))),
+        6,
+        2_500,
+    ),
+    (
+        12_001,
         HELD_1,
         Some(Change::Set(Value::Number(11_998))),
         6,
         3_000,
     ),
+    (
+        1_000_000,
+        HELD_1,
+        Some(Change::Set(Value::Number(999_998))),
+        6,
+        250_000,
+    ),
 ];
 
 /// Whether the effect is what the row says.
 fn effect_is(found: &Footprint, row: &LogRow) -> bool {
-    let (_, _, seen, change, looked, taken) = *row;
+    let (_, seen, change, looked, taken) = *row;
     found.reads.len() <= 1
         && found.changes.len() <= 1
         && reads_first(&found.reads, seen)
@@ -306,15 +308,15 @@ fn effect_is(found: &Footprint, row: &LogRow) -> bool {
 
 fn log_holds(alloc: Global, row: &LogRow) -> bool {
     let kinds = [Kind::Read, Kind::Write, Kind::Look, Kind::Take];
-    match effect_of(alloc, row.0, &kinds, row.1.min(8_000_000)) {
+    match effect_of(alloc, &kinds, row.0.min(8_000_000)) {
         Ok(found) => effect_is(&found, row),
         Err(_) => false,
     }
 }
 
-/// The effect of no entries, and of as many as a log can have.
+/// The effect of no entries, of about as many as pages are used from on, and of very many.
 #[test]
-fn none_and_as_many_as_there_can_be(rt: HostRuntime) {
+fn logs_short_and_long(rt: HostRuntime) {
     for (i, row) in LOGS.iter().enumerate() {
         assert!(rt; log_holds(rt.alloc(), row), "row {i}");
     }

@@ -1,10 +1,11 @@
-//! Tests of the lexer, the readers and the checkers.
+//! Tests of what is outside and of what stands before a run: ports, files and streams, pieces, trees and their readers,
+//! and the static rules.
 #![tactic(auto)]
 
 #[cfg(test)]
-mod lexer;
+mod checks;
 #[cfg(test)]
-mod phrase_tests;
+mod lexer;
 #[cfg(test)]
 mod ports;
 #[cfg(test)]

@@ -15,7 +15,7 @@ use std::alloc::Global;
 use std::test::Fail;
 
 /// Tokens of these terminals.
-pub fn row(alloc: Global, kinds: &[Terminal]) -> Result<TerminalList, Fail> {
+fn row(alloc: Global, kinds: &[Terminal]) -> Result<TerminalList, Fail> {
     let mut items = Vec::new(alloc);
     for kind in kinds {
         items.push(*kind)?;
