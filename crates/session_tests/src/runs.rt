@@ -1,9 +1,11 @@
-//! From a source to its run, and the texts on its calls.
+//! From a source to its run, the texts on its calls, and its sessions.
+use crate::sessions::sessions_held;
 use call_tree::Mark;
 use debuggee::{Debuggee, SourceFault, SourceProgram, read_source, run_program};
-use dialog_replies::{Debugged, write_named_call, write_number};
+use dialog_replies::{Debugged, write_named_call};
 use edge_ports::{Bytes, Memory};
-use std::alloc::Global;
+use made_program::{made_lines, make_source};
+use std::alloc::{AllocError, Global};
 use std::test::Fail;
 
 /// It calls `twice` for 3, and then for 5.
@@ -47,7 +49,7 @@ fn run_of<'a>(
 }
 
 /// The run of the source.
-pub fn a_run(alloc: Global) -> Result<Debuggee<'static>, SourceFault> {
+fn a_run(alloc: Global) -> Result<Debuggee<'static>, SourceFault> {
     run_of(alloc, SOURCE, INPUT, 1_000)
 }
 
@@ -149,33 +151,64 @@ fn run_holds(run: &Debuggee<'_>) -> bool {
     read && input && output && run.history.calls.len() == 3
 }
 
+/// Whether this is said of each call.
+fn all_texts_hold<D: Debugged>(alloc: Global, run: &D) -> Result<bool, Memory> {
+    'calls: for (call, wanted) in (0..3).zip(&TEXTS) {
+        if !texts_hold(alloc, run, call, wanted)? {
+            return Ok(false);
+        }
+    }
+    Ok(true)
+}
+
+/// Whether the made search finds call 1, before which one of the three calls was entered, and asks about it first.
+fn made_holds<D: Debugged>(alloc: Global, run: &D) -> Result<bool, Memory> {
+    let text = made_lines(alloc, run)?;
+    Ok(text.as_slice() == b"calls 3\nquestions 1\nfound call 1 twice\n".as_slice())
+}
+
+/// Which of these hold.
+fn texts_held<D: Debugged>(alloc: Global, run: &D) -> Result<[bool; 3], Memory> {
+    let texts = all_texts_hold(alloc, run)?;
+    let tree = tree_holds(alloc, run)?;
+    let made = made_holds(alloc, run)?;
+    Ok([texts, tree, made])
+}
+
 #[test]
-fn a_source_that_runs(rt: HostRuntime) -> Result<(), Fail> {
+fn a_run_and_its_sessions(rt: HostRuntime) -> Result<(), Fail> {
     let run = a_run(rt.alloc())?;
     assert!(rt; run_holds(&run));
-    for (call, wanted) in (0..3).zip(&TEXTS) {
-        let holds = texts_hold(rt.alloc(), &run, call, wanted)?;
-        assert!(rt; holds, "of call {call}");
+    let texts = texts_held(rt.alloc(), &run)?;
+    let sessions = sessions_held(rt.alloc(), &run)?;
+    for (number, holds) in texts.iter().chain(&sessions).enumerate() {
+        assert!(rt; *holds, "part {number}");
     }
-    let holds = tree_holds(rt.alloc(), &run)?;
-    assert!(rt; holds);
     Ok(())
 }
 
-const NUMBERS: [(u32, &str); 3] = [(0, "0"), (10, "10"), (4_294_967_295, "4294967295")];
+/// The text of each made program up to its number.
+const BEFORE: &str = "program made;
+var s: integer;
+procedure t(d: integer);
+begin
+  s := s + 1;
+  if d > 0 then begin t(d - 1); t(d - 1) end
+end;
+begin
+  s := 0;
+  t(";
 
-/// Whether a number is written so.
-fn number_holds(alloc: Global, number: u32, wanted: &str) -> Result<bool, Memory> {
-    let mut text = Bytes::new(alloc);
-    write_number(&mut text, number)?;
-    Ok(text.as_slice() == wanted.as_bytes())
+/// Whether this comes after that in the text of the made program of the greatest number.
+fn source_holds(alloc: Global, after: &str) -> Result<bool, AllocError> {
+    let text = make_source(alloc, 14)?;
+    let given = text.as_slice();
+    let joined = given.starts_with(BEFORE.as_bytes()) && given.ends_with(after.as_bytes());
+    Ok(joined && given.len() == BEFORE.len() + after.len())
 }
 
 #[test]
-fn numbers(rt: HostRuntime) -> Result<(), Fail> {
-    for (number, wanted) in &NUMBERS {
-        let holds = number_holds(rt.alloc(), *number, wanted)?;
-        assert!(rt; holds, "of {number}");
-    }
+fn a_made_source(rt: HostRuntime) -> Result<(), Fail> {
+    assert!(rt; source_holds(rt.alloc(), "14)\nend.\n")?);
     Ok(())
 }

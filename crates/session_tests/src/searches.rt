@@ -1,14 +1,11 @@
-//! Searches over entries that stand already, and the plain form over columns.
-ghost use Rattle.std.specs.Prelude.{◌≡◌, ◌<◌, [], All, IsTrue, length};
-ghost use Rattle.std.specs.Option.{ForSome};
-ghost use Rattle.answer_book.specs.InRange.{IsInRange};
+//! Searches and their books: new ones, and over entries that stand already.
+ghost use Rattle.std.specs.Prelude.{◌≡◌, ◌<◌, [], length};
 
-use crate::runs::a_run;
+use crate::trees::grown;
 use answer_book::{Book, Entry, EntryList, Judgement, What};
 use call_tree::{Calls, Mark};
 use cell_value::{Memory, Steps};
-use dialog_replies::Debugged;
-use optimal_query::{Debug, SearchState, plain};
+use optimal_query::{Debug, SearchState};
 use std::alloc::Global;
 use std::test::Fail;
 
@@ -68,183 +65,61 @@ fn search_holds(alloc: Global, calls: &Calls) -> Result<bool, Memory>
     Ok(marked && search.state() == SearchState::Found(0))
 }
 
-/// Whether the book and the search over the calls of a run are those of the entries.
-fn run_holds<D: Debugged>(alloc: Global, run: &D) -> Result<bool, Memory> {
-    let calls = run.calls();
+/// Whether the book and the search over three calls of two routines are those of the entries.
+fn entries_hold(alloc: Global, calls: &Calls) -> Result<bool, Memory>
+    requires all_left { calls.now.open_calls ≡ [] }
+{
     if calls.len() != 3 || calls.routines() != 2 {
         return Ok(false);
     }
+    let list = list_holds(alloc)?;
     let first = new_book_holds(alloc, calls)?;
     let book = book_holds(alloc, calls)?;
     let search = search_holds(alloc, calls)?;
-    Ok(first && book && search)
+    Ok(list && first && book && search)
 }
 
+/// A program calls 1 and 2, both of one routine.
 #[test]
 fn entries_that_stand_already(rt: HostRuntime) -> Result<(), Fail> {
-    let list = list_holds(rt.alloc())?;
-    assert!(rt; list);
-    let run = a_run(rt.alloc())?;
-    let holds = run_holds(rt.alloc(), &run)?;
+    let calls = grown(&rt, rt.alloc(), 2, &[(0, 0), (1, 1), (1, 1)])?;
+    let holds = entries_hold(rt.alloc(), &calls)?;
     assert!(rt; holds);
     Ok(())
 }
 
-/// The last call of each subtree: call 0 calls 1, which calls 2 and 3, and then it calls 4.
-const LAST: [u32; 5] = [4, 3, 2, 3, 4];
+/// Call 1, with three suspects under it and itself, leaves two at most.
+const FIRST: SearchState = SearchState::Ask {
+    call: 1,
+    weight: 3,
+    suspects: 4,
+    left: 2,
+};
 
-/// The marks of the calls and the one that is accused; and what the search has come to by them: the suspects, the
-/// doubts, the state, and the least doubt after call 0.
-#[derive(Clone, Copy)]
-struct Row {
-    marks: [Mark; 5],
-    accused: Option<u32>,
-    suspects: &'static [u32],
-    doubts: &'static [u32],
-    state: SearchState,
-    next: Option<u32>,
-}
-
-const ROWS: [Row; 6] = [
-    Row {
-        marks: [
-            Mark::Wrong,
-            Mark::Unjudged,
-            Mark::Unjudged,
-            Mark::Unjudged,
-            Mark::Unjudged,
-        ],
-        accused: Some(0),
-        suspects: &[1, 2, 3, 4],
-        doubts: &[],
-        state: SearchState::Ask {
-            call: 1,
-            weight: 3,
-            suspects: 4,
-            left: 2,
-        },
-        next: None,
-    },
-    Row {
-        marks: [
-            Mark::Wrong,
-            Mark::Wrong,
-            Mark::Unknown,
-            Mark::Right,
-            Mark::Unjudged,
-        ],
-        accused: Some(1),
-        suspects: &[],
-        doubts: &[2],
-        state: SearchState::Narrowed(1),
-        next: Some(2),
-    },
-    Row {
-        marks: [
-            Mark::Wrong,
-            Mark::Unjudged,
-            Mark::Wrong,
-            Mark::Unjudged,
-            Mark::Unjudged,
-        ],
-        accused: Some(2),
-        suspects: &[],
-        doubts: &[],
-        state: SearchState::Found(2),
-        next: None,
-    },
-    Row {
-        marks: [
-            Mark::Unknown,
-            Mark::Right,
-            Mark::Unjudged,
-            Mark::Unjudged,
-            Mark::Unknown,
-        ],
-        accused: None,
-        suspects: &[],
-        doubts: &[0, 4],
-        state: SearchState::Unclear,
-        next: Some(4),
-    },
-    Row {
-        marks: [
-            Mark::Right,
-            Mark::Unjudged,
-            Mark::Unjudged,
-            Mark::Unknown,
-            Mark::Unjudged,
-        ],
-        accused: None,
-        suspects: &[],
-        doubts: &[],
-        state: SearchState::NothingWrong,
-        next: None,
-    },
-    Row {
-        marks: [
-            Mark::Unjudged,
-            Mark::Trusted,
-            Mark::Unknown,
-            Mark::Unjudged,
-            Mark::Unknown,
-        ],
-        accused: None,
-        suspects: &[0],
-        doubts: &[4],
-        state: SearchState::Ask {
-            call: 0,
-            weight: 1,
-            suspects: 1,
-            left: 0,
-        },
-        next: Some(4),
-    },
-];
-
-/// Whether the call that is accused, if there is one, is one of this many.
-fn is_call(accused: Option<u32>, calls: usize) -> bool
-    ensures { IsTrue result → ForSome accused (λ accused. accused < calls) }
+/// Whether call 1 is found by a judgement and by trust in the routine of those below it, and all is as before once both
+/// are taken back.
+fn commands_hold(alloc: Global, calls: &Calls) -> Result<bool, Memory>
+    requires some { 0 < length calls.now.calls }
+    requires all_left { calls.now.open_calls ≡ [] }
 {
-    match accused {
-        Some(call) => (call as usize) < calls,
-        None => true,
-    }
+    let mut steps: Steps<()> = Steps::new();
+    let mut search = Debug::new(alloc, calls)?;
+    let first = search.state();
+    let judged = search.judge(1, Judgement::Wrong, &mut steps);
+    let trusted = search.trust(2, &mut steps);
+    let found = search.state();
+    let back = search.take_back(3, &mut steps);
+    let last = search.take_back_last(&mut steps);
+    let made = judged == Ok(2) && trusted == Ok(3) && back == Ok(()) && last == Ok(2);
+    Ok(made && first == FIRST && found == SearchState::Found(1) && search.state() == FIRST)
 }
 
-/// Whether the suspects and the doubts are those of a row.
-fn region_holds(alloc: Global, row: &Row) -> Result<bool, Memory>
-    requires accused_is_a_call { ForSome row.now.accused (λ accused. accused < 5) }
-{
-    let suspects = plain::suspects(alloc, &LAST, &row.marks, row.accused)?;
-    let doubts = plain::doubts(alloc, &LAST, &row.marks, row.accused)?;
-    Ok(suspects.as_slice() == row.suspects && doubts.as_slice() == row.doubts)
-}
-
-/// Whether the state and the next doubt are those of a row.
-fn state_holds(alloc: Global, row: &Row) -> Result<bool, Memory>
-    requires accused_is_a_call { ForSome row.now.accused (λ accused. accused < 5) }
-{
-    let state = plain::state(alloc, &LAST, &row.marks, row.accused)?;
-    let next = plain::next_unknown(alloc, &LAST, &row.marks, row.accused, Some(0))?;
-    Ok(state == row.state && next == row.next)
-}
-
-/// Whether what the search has come to is that of a row.
-fn row_holds(alloc: Global, row: &Row) -> Result<bool, Memory> {
-    if !is_call(row.accused, 5) {
-        return Ok(false);
-    }
-    let region = region_holds(alloc, row)?;
-    let state = state_holds(alloc, row)?;
-    Ok(region && state)
-}
-
+/// A program calls 1, which calls 2 and 3 of one routine, and then it calls 4.
 #[test]
-fn searches_over_columns(rt: HostRuntime) -> Result<(), Fail> {
-    for (number, row) in ROWS.iter().enumerate() {
-        let holds = row_holds(rt.alloc(), row)?;
-        assert!(rt; holds, "row {number}");
-    }
+fn a_search_by_hand(rt: HostRuntime) -> Result<(), Fail> {
+    let called = [(0, 0), (1, 1), (2, 2), (2, 2), (1, 3)];
+    let calls = grown(&rt, rt.alloc(), 4, &called)?;
+    let holds = commands_hold(rt.alloc(), &calls)?;
+    assert!(rt; holds);
     Ok(())
 }

@@ -4,7 +4,6 @@ ghost use Rattle.session_file.specs.Whole.{IsWhole};
 ghost use Rattle.dialog_replies.specs.Fit.{misfit};
 ghost use Rattle.dialog_replies.specs.Start.{IsWholeStart};
 
-use crate::runs::a_run;
 use answer_book::{Entry, Judgement, What};
 use ask_session::{Ending, converse};
 use dialog_replies::{
@@ -42,14 +41,6 @@ fn begun_holds<D: Debugged>(alloc: Global, run: &D) -> Result<bool, Memory> {
     let opening = open(alloc, run, &debug)?;
     let found = answer(alloc, run, &mut debug, instruction_in(b"wrong 2"))?;
     Ok(opening.as_slice() == OPENING.as_bytes() && found.as_slice() == FOUND.as_bytes())
-}
-
-#[test]
-fn a_session_begins(rt: HostRuntime) -> Result<(), Fail> {
-    let run = a_run(rt.alloc())?;
-    let holds = begun_holds(rt.alloc(), &run)?;
-    assert!(rt; holds);
-    Ok(())
 }
 
 /// The session of a run with these digests and this budget: call 0 is wrong, and call 1 is right; that routine 1 can be
@@ -112,85 +103,41 @@ fn fitting_holds<D: Debugged>(alloc: Global, run: &D, start: &Start) -> Result<b
     }
 }
 
-#[test]
-fn a_session_goes_on(rt: HostRuntime) -> Result<(), Fail> {
-    let run = a_run(rt.alloc())?;
-    let session = load(rt.alloc(), SAVED.as_bytes())?;
-    let start = start_with(session);
-    let holds = fitting_holds(rt.alloc(), &run, &start)?;
-    assert!(rt; holds);
-    Ok(())
-}
-
-/// By what a run is told from others: the byte that its source's digest repeats, the one that its input's repeats, and
-/// its budget.
-type Named = (u8, u8, u32);
-
-/// A run, a session's run, what the session's second entry says, and the line that refuses it; none where it fits.
-type Row = (Named, Named, What, Option<&'static str>);
-
-const RIGHT: What = What::Judged(2, Judgement::Right);
-
-const ROWS: [Row; 2] = [
-    ((1, 2, 1_000), (1, 2, 1_000), RIGHT, None),
-    (
-        (1, 2, 4_000_000),
-        (1, 2, 999),
-        RIGHT,
-        Some("session: budget is 4000000 but the session has 999\n"),
-    ),
-];
-
-/// An entry that says that call 0 is wrong, and one that was taken back.
-fn entries_of(alloc: Global, second: What) -> Result<SavedEntries, Memory> {
+/// That call 0 is wrong, and that call 2 is right, which was taken back.
+fn entries_of(alloc: Global) -> Result<SavedEntries, Memory> {
     let mut entries = SavedEntries::new(alloc);
     entries.push(Entry {
         what: What::Judged(0, Judgement::Wrong),
         standing: true,
     })?;
     entries.push(Entry {
-        what: second,
+        what: What::Judged(2, Judgement::Right),
         standing: false,
     })?;
     Ok(entries)
 }
 
-/// What the dialog of a run starts with that is to go on with a session.
-fn start_of(alloc: Global, run: Named, saved: Named, second: What) -> Result<Start, Memory> {
-    let entries = entries_of(alloc, second)?;
-    Ok(Start {
-        source: [run.0; 32],
-        input: [run.1; 32],
-        budget: run.2,
+/// Whether a session of a run with another budget is refused.
+fn other_holds<D: Debugged>(alloc: Global, run: &D) -> Result<bool, Memory> {
+    let entries = entries_of(alloc)?;
+    let start = Start {
+        source: [1; 32],
+        input: [2; 32],
+        budget: 4_000_000,
         saved: Some(Session {
-            source: [saved.0; 32],
-            input: [saved.1; 32],
-            budget: saved.2,
+            source: [1; 32],
+            input: [2; 32],
+            budget: 999,
             entries,
         }),
-    })
-}
-
-/// Whether a session is refused so.
-fn row_holds<D: Debugged>(alloc: Global, run: &D, row: &Row) -> Result<bool, Memory> {
-    let start = start_of(alloc, row.0, row.1, row.2)?;
+    };
     let refused = refusal(alloc, run, &start)?;
-    let holds = match (&refused, &row.3) {
-        (Some(line), Some(wanted)) => line.as_slice() == wanted.as_bytes(),
-        (None, None) => true,
-        _ => false,
+    let holds = match &refused {
+        Some(line) => line.as_slice()
+            == b"session: budget is 4000000 but the session has 999\n".as_slice(),
+        None => false,
     };
     Ok(holds)
-}
-
-#[test]
-fn sessions_of_other_runs(rt: HostRuntime) -> Result<(), Fail> {
-    let run = a_run(rt.alloc())?;
-    for (number, row) in ROWS.iter().enumerate() {
-        let holds = row_holds(rt.alloc(), &run, row)?;
-        assert!(rt; holds, "row {number}");
-    }
-    Ok(())
 }
 
 const LINES: &[u8] = b"wrong\nsave s\ntree\n";
@@ -237,12 +184,14 @@ fn session_holds<D: Debugged>(alloc: Global, run: &D, start: &Start) -> Result<b
     Ok(said && saved && matches!(ending, Ending::Done))
 }
 
-#[test]
-fn a_session_on_the_console(rt: HostRuntime) -> Result<(), Fail> {
-    let run = a_run(rt.alloc())?;
-    let session = load(rt.alloc(), SAVED.as_bytes())?;
+/// Which of these hold of the run of `runs`: a new session, one that is gone on with, one of another run, and a dialog
+/// on a console.
+pub fn sessions_held<D: Debugged>(alloc: Global, run: &D) -> Result<[bool; 4], Fail> {
+    let session = load(alloc, SAVED.as_bytes())?;
     let start = start_with(session);
-    let holds = session_holds(rt.alloc(), &run, &start)?;
-    assert!(rt; holds);
-    Ok(())
+    let begun = begun_holds(alloc, run)?;
+    let gone_on = fitting_holds(alloc, run, &start)?;
+    let other = other_holds(alloc, run)?;
+    let console = session_holds(alloc, run, &start)?;
+    Ok([begun, gone_on, other, console])
 }

@@ -73,11 +73,3 @@ pub fn grown(
     assert!(rt; calls.len() > 0);
     Ok(calls)
 }
-
-/// A program calls 1, which calls 2 and 3 of one routine, and then it calls 4.
-pub fn five_calls(rt: &impl Abort, alloc: Global) -> Result<Calls, Memory>
-    ensures all_left { IfOk result (λ calls. calls.open_calls ≡ []) }
-    ensures some { IfOk result (λ calls. 0 < length calls.calls) }
-{
-    grown(rt, alloc, 4, &[(0, 0), (1, 1), (2, 2), (2, 2), (1, 3)])
-}
