@@ -1,4 +1,3 @@
-mod Passed
 mod PassingNumbers
 mod LeastExists
 mod Searched

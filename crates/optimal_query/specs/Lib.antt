@@ -6,7 +6,6 @@ pub mod Narrowing
 pub mod Search
 pub mod Standing
 pub mod Accepted
-pub mod PlainKept
 pub mod Changed
 pub mod DebugKept
 pub mod Nested

@@ -4,14 +4,11 @@
 
 pub mod laws;
 mod markings;
-pub mod plain;
-mod plain_debug;
 mod region;
 mod routine_calls;
 mod runs;
 mod search;
 mod state;
 
-pub use plain_debug::PlainDebug;
 pub use search::Debug;
 pub use state::SearchState;
