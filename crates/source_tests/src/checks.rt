@@ -1,6 +1,6 @@
 //! The static rules of whole trees: the tables of their declarations, and their programs, or the first broken rule.
 use check_steps::{CheckFault, Def};
-use code_checker::checked_programs::check;
+use code_checker::check;
 use core_program::Program;
 use core_program::rows::{AccessRow, ExpressionRow, ItemRow, Row, StatementRow};
 use decl_checker::{Scopes, declare, find, find_in};
