@@ -230,6 +230,8 @@ run_program() {
         echo "pasask: there is no program $program" >&2
         exit 1
     fi
+    # beyond a limit of file sizes a save fails and says so; its signal would end the dialog, and the copying of a pipe
+    trap '' XFSZ 2>/dev/null || :
     # what is no plain file could be read only once
     if read_words "$@" && [ -f "$path" ]; then
         explain_if_refused "$@"

@@ -4,6 +4,7 @@
 #
 # build.sh --try OUT.wasm does the same with code of which nothing is proved, in a few minutes, and prints `nothing is proved`.
 set -eu
+unset CDPATH # it would lead `cd` elsewhere
 here=$(cd "$(dirname "$0")" && pwd)
 top=$(cd "$here/../.." && pwd)
 is_try=

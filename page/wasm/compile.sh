@@ -4,6 +4,7 @@
 # What target.sh sets is not seen by shellcheck.
 # shellcheck disable=SC1091,SC2154
 set -eu
+unset CDPATH # it would lead `cd` elsewhere
 here=$(cd "$(dirname "$0")" && pwd)
 . "$here/target.sh"
 module=$1 out=$2

@@ -1,6 +1,7 @@
 #!/bin/sh
 # Whether narrow.py does what it says: a small module with each kind of access is made, and called by Node.
 set -eu
+unset CDPATH # it would lead `cd` elsewhere
 here=$(cd "$(dirname "$0")" && pwd)
 work=$(mktemp -d)
 trap 'rm -rf "$work"' EXIT
