@@ -4,14 +4,15 @@ ghost use Rattle.eval_ops.specs.Machines.{IsReady};
 
 use crate::runs::{ADD, INPUT, program_of};
 use cell_value::{Cells, Items, Kind, Memory, Value, WayOut};
-use core_program::rows::INTEGER;
-use core_program::{Program, Scan, Scanned};
+use core_program::rows::{INTEGER, PartRow, Row};
+use core_program::{Program, Scan, Scanned, VariantPart};
 use edge_ports::Bytes;
 use effect_log::Log;
 use eval_ops::{
-    Halt, Machine, assign_to, at_end, at_line_end, copy_cells, dispose, end_line, end_page,
-    field_at, make_frame, make_variable, next_char, ordinal_at, past_item, read_cells,
-    remove_frame, scan_on, string_of, write_cell, write_cells, write_scalar, write_string,
+    Halt, Machine, activate, assign_to, at_end, at_line_end, copy_cells, dispose, drop_block,
+    end_line, end_page, field_at, make_block, make_frame, make_variable, next_char, ordinal_at,
+    past_item, read_cell, read_cells, remove_frame, scan_on, string_of, write_cell, write_cells,
+    write_scalar, write_string,
 };
 use evaluator::{Body, Stop, go_on};
 use persistent_store::Store;
@@ -25,6 +26,31 @@ type c = (red, green);
 begin end.";
 
 const T: u32 = 33;
+
+/// The word `case`.
+const CASE: u32 = 19;
+
+/// The variant part of the record.
+fn variants_of(program: &Program) -> Option<VariantPart> {
+    match program.row(CASE) {
+        Row::Part(
+            PartRow::Variants {
+                hidden,
+                offset,
+                cells,
+                values,
+                holder,
+            },
+        ) => Some(VariantPart {
+            hidden,
+            offset,
+            cells,
+            values,
+            holder,
+        }),
+        _ => None,
+    }
+}
 
 /// The items of an input of at most 1,000 bytes: 256 for each line end.
 fn items_of(alloc: Global, text: &[u8]) -> Result<Items, Memory> {
@@ -76,8 +102,9 @@ fn cells_hold(alloc: Global, machine: &mut Machine) -> Result<bool, Halt>
 {
     write_cell(alloc, machine, 5, Value::Number(97))?;
     copy_cells(alloc, machine, 5, 6, 1)?;
+    let copied = read_cell(machine, 6)?;
     let held = read_cells(alloc, machine, 5, 2)?;
-    Ok(held.as_slice() == [Value::Number(97), Value::Number(97)].as_slice())
+    Ok(copied == Value::Number(97) && held.as_slice() == [copied, copied].as_slice())
 }
 
 /// Whether a text goes into cells.
@@ -106,7 +133,22 @@ fn record_holds(alloc: Global, program: &Program, machine: &mut Machine) -> Resu
     Ok(field == 4 && held.as_slice() == wanted.as_slice())
 }
 
-/// Whether a variable of the heap is made, and disposed of once.
+/// Whether a value for the tag chooses the other variant, and leaves no value in the cells of both.
+fn variants_hold(alloc: Global, program: &Program, machine: &mut Machine) -> Result<bool, Halt>
+    requires ready { IsReady machine.old }
+    ensures ready { IsReady machine.new }
+{
+    let Some(part) = variants_of(program) else {
+        return Ok(false);
+    };
+    write_cell(alloc, machine, 4, Value::Number(65))?;
+    activate(alloc, program, machine, part, 2, Value::Number(1))?;
+    let held = read_cells(alloc, machine, 2, 3)?;
+    let wanted = [Value::Number(1), Value::Undefined, Value::Undefined];
+    Ok(held.as_slice() == wanted.as_slice())
+}
+
+/// Whether a variable of the heap is made, and disposed of once; and a block, which gets other addresses.
 fn heap_holds(alloc: Global, machine: &mut Machine) -> Result<bool, Halt>
     requires ready { IsReady machine.old }
     ensures ready { IsReady machine.new }
@@ -114,7 +156,10 @@ fn heap_holds(alloc: Global, machine: &mut Machine) -> Result<bool, Halt>
     let pointer = make_variable(alloc, machine, 2, INTEGER)?;
     dispose(alloc, machine, 2, pointer)?;
     let again = dispose(alloc, machine, 2, pointer);
-    Ok(pointer == Value::Heap(524_288) && again == Err(Halt::Fault(Kind::Disposed)))
+    let block = make_block(alloc, machine, 3, INTEGER)?;
+    drop_block(alloc, machine, block, 3)?;
+    let gone = again == Err(Halt::Fault(Kind::Disposed));
+    Ok(gone && pointer == Value::Heap(524_288) && block == 524_290)
 }
 
 /// Reads an integer of fewer than ten chars.
@@ -161,19 +206,20 @@ fn output_holds(alloc: Global, machine: &mut Machine) -> Result<bool, Halt>
 }
 
 /// Which of these hold on a machine with a frame of seven cells; and whether the frame is removed after them.
-fn actions_held(alloc: Global, program: &Program, machine: &mut Machine) -> Result<[bool; 7], Halt>
+fn actions_held(alloc: Global, program: &Program, machine: &mut Machine) -> Result<[bool; 8], Halt>
     requires ready { IsReady machine.old }
 {
     furnish(alloc, machine, 7)?;
     let cells = cells_hold(alloc, machine)?;
     let text = text_holds(alloc, machine)?;
     let record = record_holds(alloc, program, machine)?;
+    let variants = variants_hold(alloc, program, machine)?;
     let heap = heap_holds(alloc, machine)?;
     let input = input_holds(machine)?;
     let output = output_holds(alloc, machine)?;
     remove_frame(alloc, machine, 0, 7)?;
     let removed = machine.top == 0 && machine.store.get(5).is_none();
-    Ok([cells, text, record, heap, input, output, removed])
+    Ok([cells, text, record, variants, heap, input, output, removed])
 }
 
 #[test]
