@@ -120,7 +120,7 @@ STATEMENTS = [
     (1, "begin\n{block}end;"),
     (3, "{for}"),
     (12, "{call}"),
-    (3, "{goto}"),
+    (5, "{goto}"),
 ]  # fmt: skip
 
 # What a variable holds at first; a few are left without a value.
@@ -403,7 +403,7 @@ class Maker:
         self.scopes.pop()
 
     def declare_labels(self, level):
-        if self.chance(0.5):
+        if self.chance(0.7):
             self.scopes[-1].labels = [str(10 * level + 1), str(10 * level + 2)]
             self.put(f"label {', '.join(self.scopes[-1].labels)};")
 
