@@ -24,7 +24,7 @@ use Rattle.cell_names.specs.Names.{Scene, component_step, field_step, is_result,
 use Rattle.cell_names.specs.Names.{result_of, spot, step, step_by, step_down, typed_step}
 use Rattle.cell_names.specs.Walks.{before_result, left_of_component, moved, moved_local, moved_step}
 
-same_row : (place size k : ℕ) → k ≤ size - place % suc size → place % suc size ≤ size → (place + k) / suc size ≡ place / suc size
+pub same_row : (place size k : ℕ) → k ≤ size - place % suc size → place % suc size ≤ size → (place + k) / suc size ≡ place / suc size
 same_row place size k below in_row =
     let e = div-add-mod' place (suc size) in
     let s : place + k ≡ place / suc size * suc size + (place % suc size + k) = omega (arith, e) in
@@ -40,7 +40,7 @@ abbrev in_array : ProgramRows → (index component which place : ℕ) → Option
 in_array p index component which place =
     Some (step (selector.Index index (least_in (bounds_of p index) +ℤ pos which)) (spot (held.Variable component) place))
 
-mod_le : (a n : ℕ) → a % suc n ≤ n
+pub mod_le : (a n : ℕ) → a % suc n ≤ n
 mod_le a n = let h : a % suc n < suc n = mod-lt a (omega arith) in omega (arith, h)
 
 -- cells of one component of an array

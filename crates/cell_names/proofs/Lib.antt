@@ -1,4 +1,6 @@
 mod CellsAlike
+pub mod Decimals
+mod IndicesPassed
 mod MembersInTurn
 pub mod NameParts
 mod NamesMade

@@ -86,7 +86,7 @@ is_it_by part name true e all =
     ∙ append-nil (take (length part) name) ∙ sym ((bytes_eq-Decides part (take (length part) name)).0 e)
 is_it_by part name false e all = absurd (let z : false ≡ true = all in cc)
 
-alike : (a b : Bool) → (a ≡ true → b ≡ true) → (b ≡ true → a ≡ true) → a ≡ b
+pub alike : (a b : Bool) → (a ≡ true → b ≡ true) → (b ≡ true → a ≡ true) → a ≡ b
 alike true true f g = refl
 alike true false f g = sym (f refl)
 alike false true f g = g refl

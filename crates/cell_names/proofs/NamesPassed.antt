@@ -7,10 +7,10 @@ use Rattle.cell_names.specs.declared.names.Step.{Step}
 use Rattle.cell_names.specs.declared.names.Origin.TheVariants as origins
 use Rattle.cell_names.specs.declared.names.Root.{Root}
 use Rattle.cell_names.specs.Names.{Scene, most_types, origin_text, root, step_down}
-use Rattle.cell_names.specs.NamedBy.{after_part, call_text, is_all, is_named_by, is_of_all, is_over, leads_by, leads_on, leads_within, then_part}
+use Rattle.cell_names.specs.NamedBy.{after_part, block_text, call_text, is_all, is_named_by, is_of_all, is_over, leads_by, leads_on, leads_within, then_part}
 use Rattle.cell_names.specs.Walks.{moved, moved_step}
 use Rattle.cell_names.proofs.CellsAlike.{moved_none, moved_twice}
-use Rattle.cell_names.proofs.NameParts.{call_is_all, local_in_parts, whose_in_parts}
+use Rattle.cell_names.proofs.NameParts.{block_is_all, call_is_all, heap_in_parts, local_in_parts, whose_in_parts}
 use Rattle.cell_names.proofs.WaysDown.{left}
 
 -- a name goes on to a cell as it does to another of the same component
@@ -144,3 +144,11 @@ call_unnamed s call routine token at name first none =
     ∙ ap (then_part (text_at p token)) (whose_in_parts p call routine (Some name)
     ∙ ap (λ (b : Bool). if b then Some name else then_part (codes ".") (then_part (call_text p call routine) (Some name))) first
     ∙ ap (then_part (codes ".")) called))
+
+-- no name of a variable of the heap goes on so
+pub block_unnamed : (s : Scene) (base : ℕ) (at : Spot) (name : List ℕ) → after_part (block_text base) name ≡ None
+    → is_named_by s (root (origins.Heap base) at) name ≡ false
+block_unnamed s base at name none =
+    let gone : then_part (block_text base) (Some name) ≡ None = none in
+    unnamed_whole s (root (origins.Heap base) at) name (block_is_all base name ∙ ap is_all gone)
+    (heap_in_parts base (Some name) ∙ ap (then_part (codes "^")) gone)

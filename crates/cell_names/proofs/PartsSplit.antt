@@ -149,7 +149,7 @@ found_by at parts slice place n x e f s some is =
     let t : IsSplit (at + 1) parts (suc (n - 1)) = rw (← e, ← f, ← m) s in
     ap Some is ∙ sym (found_at at parts (n - 1) x t)
 
-last_pushed : {X : Type 0} (xs : List X) (x : X) → last_of (xs ++ x ∷ []) ≡ Some x
+pub last_pushed : {X : Type 0} (xs : List X) (x : X) → last_of (xs ++ x ∷ []) ≡ Some x
 last_pushed [] x = refl
 last_pushed (y ∷ []) x = refl
 last_pushed (y ∷ z ∷ zs) x = last_pushed (z ∷ zs) x

@@ -1,6 +1,6 @@
 -- What a walk passes over of frames, of variables and of the heap.
 use Rattle.std.proofs.Common.{◌≡◌, ℕ, ◌+◌, ◌-◌, ◌<◌, ◌≤◌, ◌==◌, Bool, true, false, ◌||◌, List, Option, Some, None, if◌then◌else◌}
-use Rattle.std.proofs.Common.{refl, ap, ◌∙◌, arith}
+use Rattle.std.proofs.Common.{codes, decimal, refl, ap, ◌∙◌, arith}
 use Rattle.std.specs.Prelude.{is_some, nat_le, slice_get}
 use Rattle.std.proofs.lemmas.Bool.Decides.{nat_tests}
 use Rattle.cell_value.specs.Effects.{heap_start}
@@ -12,11 +12,13 @@ use Rattle.cell_names.specs.declared.names.Root.{Root}
 use Rattle.cell_names.specs.declared.walks.Walked.{Walked}
 use Rattle.cell_names.specs.declared.walks.Walked.TheVariants as walked
 use Rattle.cell_names.specs.Places.{is_begun_by}
+use Rattle.cell_names.specs.Values.{heap_number}
 use Rattle.cell_names.specs.Names.{Scene, heap_root, local_at, local_root, root, root_at, root_in, spot, stack_root}
-use Rattle.cell_names.specs.NamedBy.{after_part, call_text, is_named_by}
-use Rattle.cell_names.specs.Walks.{Walks, WalksOver, is_named_at, is_named_root, is_of_call, limited, moved_root}
+use Rattle.cell_names.specs.NamedBy.{after_part, block_text, call_text, is_named_by, then_part}
+use Rattle.cell_names.specs.Walks.{Walks, WalksOver, is_named_at, is_named_root, is_of_block, is_of_call, is_of_heap, limited, moved_root}
 use Rattle.cell_names.proofs.CellsAlike.{after_begin, moved_none}
-use Rattle.cell_names.proofs.NamesPassed.{call_unnamed}
+use Rattle.cell_names.proofs.NameParts.{then_both}
+use Rattle.cell_names.proofs.NamesPassed.{block_unnamed, call_unnamed}
 
 -- no more than this many are passed over
 pub walked_limited : (s : Scene) (name : List ℕ) (roots others : ℕ → Option Root) (w : Walked) (more : ℕ) → WalksOver s name roots w
@@ -33,7 +35,7 @@ not_called_by : (a b : Bool) → (a || b) ≡ false → (a ≡ false) × (b ≡ 
 not_called_by true b e = absurd (let z : true ≡ false = e in cc)
 not_called_by false b e = (refl, e)
 
-nothing_by : {X : Type 0} (o : Option X) → is_some o ≡ false → o ≡ None
+pub nothing_by : {X : Type 0} (o : Option X) → is_some o ≡ false → o ≡ None
 nothing_by None e = refl
 nothing_by (Some x) e = absurd (let z : true ≡ false = e in cc)
 
@@ -74,6 +76,33 @@ pub block_passed : (s : Scene) (name : List ℕ) (address : ℕ) (part : Option 
 block_passed s name address part r (walked.Named x) begun some h = (block_moves 0 address part r begun some ∙ h.0, h.1)
 block_passed s name address part r (walked.Unnamed m) begun some h = λ k below.
     ap (is_named_root s name) (block_moves k address part r begun some) ∙ h k below
+
+not_of_block : (name : List ℕ) (base : ℕ) → is_of_heap name ≡ false → after_part (block_text base) name ≡ None
+not_of_block name base e =
+    then_both (codes "^") (decimal (heap_number base)) (Some name)
+    ∙ ap (then_part (decimal (heap_number base))) (nothing_by (after_part (codes "^") name) e)
+
+unnamed_in_heap : (s : Scene) (name : List ℕ) (address : ℕ) (part : Option PlacedPart) → is_of_heap name ≡ false
+    → is_named_root s name (heap_root address part) ≡ false
+unnamed_in_heap s name address None e = refl
+unnamed_in_heap s name address (Some part) e =
+    block_unnamed s part.place (spot (held.Variable part.number) (address - part.place)) name (not_of_block name part.place e)
+
+-- the whole heap, where the name is none of its variables
+pub heap_passed : (s : Scene) (name : List ℕ) (address more : ℕ) → is_of_heap name ≡ false
+    → WalksOver s name (λ k. heap_root (address + k) (s.finding.block (address + k))) (walked.Unnamed more)
+heap_passed s name address more e = λ k below. unnamed_in_heap s name (address + k) (s.finding.block (address + k)) e
+
+unnamed_in_block : (s : Scene) (name : List ℕ) (address : ℕ) (part : Option PlacedPart) → is_of_block name part ≡ false
+    → is_named_root s name (heap_root address part) ≡ false
+unnamed_in_block s name address None e = refl
+unnamed_in_block s name address (Some part) e =
+    block_unnamed s part.place (spot (held.Variable part.number) (address - part.place)) name (nothing_by (after_part (block_text part.place) name) e)
+
+-- a variable of the heap, where the name is another one's
+pub other_block : (s : Scene) (name : List ℕ) (address more : ℕ) (part : Option PlacedPart) → is_of_block name part ≡ false
+    → WalksOver s name (λ k. heap_root (address + k) part) (walked.Unnamed more)
+other_block s name address more part e = λ k below. unnamed_in_block s name (address + k) part e
 
 stack_at : (s : Scene) (address : ℕ) → address < 524288 → root_at s address ≡ stack_root s address (s.opened address)
 unfolding root_at

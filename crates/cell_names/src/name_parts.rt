@@ -1,28 +1,71 @@
 //! What is left of a name after the parts that it begins with. They are compared where they stand: no text is written.
 
-ghost use Rattle.std.specs.Prelude.{◌≡◌, ◌++◌, codes, decimal, option_copied};
+ghost use Rattle.std.specs.Prelude.{◌≡◌, ◌∷◌, ◌++◌, [], codes, decimal, length, nat_eq, option_copied};
+ghost use Rattle.std.specs.List.{starts_with};
+ghost use Rattle.std.specs.Str.{bytes_eq};
 ghost use Rattle.std.specs.Fmt.{signed_decimal};
 ghost use Rattle.cell_names.specs.Pieces.{byte_text, shown_char};
-ghost use Rattle.cell_names.specs.Values.{constant_text, heap_number, host_text, ordinal_text};
+ghost use Rattle.cell_names.specs.Values.{constant_text, heap_number, host_text, within_bounds};
 ghost use Rattle.cell_names.specs.Names.{origin_text, selector_text, whose_text};
 ghost use Rattle.cell_names.specs.NamedBy.{after_part, block_text, call_text, is_all, then_part};
 
 use crate::names::{Origin, Selector};
 use crate::pieces::is_plain;
-use crate::values::{bounds_of, constant_token, has_ordinal};
+use crate::values::{Bounds, bounds_of, constant_token, has_ordinal};
 use core_program::Program;
 use core_program::rows::{BOOLEAN, CHAR, INTEGER};
-use itoa::Buffer;
+
+/// Whether a name begins with a part. Most often the lengths or the first bytes tell.
+#[tactic(auto, using(crate::proofs::Decimals::too_short))]
+#[inline]
+fn begins_with(name: &[u8], part: &[u8]) -> bool
+    ensures { result ≡ starts_with nat_eq name.now part.now }
+{
+    if part.is_empty() {
+        true
+    } else if name.len() < part.len() {
+        false
+    } else if name[0] == part[0] {
+        name.starts_with(part)
+    } else {
+        false
+    }
+}
 
 /// What is left of a name after its first part, if it begins so.
 #[inline]
 fn after_part<'a>(name: &'a [u8], part: &[u8]) -> Option<&'a [u8]>
     ensures { option_copied result ≡ after_part part.now name.now }
 {
-    if name.starts_with(part) {
+    if begins_with(name, part) {
         Some(&name[part.len()..])
     } else {
         None
+    }
+}
+
+/// What is left of a name after a byte, if it begins with it.
+#[inline]
+fn after_sign(name: &[u8], sign: u8) -> Option<&[u8]>
+    ensures { option_copied result ≡ after_part (sign ∷ []) name.now }
+{
+    if name.is_empty() {
+        None
+    } else if name[0] == sign {
+        Some(&name[1..])
+    } else {
+        None
+    }
+}
+
+/// What is left of a name after one more byte, if it goes on so.
+#[inline]
+pub(crate) fn then_sign(left: Option<&[u8]>, sign: u8) -> Option<&[u8]>
+    ensures { option_copied result ≡ then_part (sign ∷ []) (option_copied left.entry) }
+{
+    match left {
+        None => None,
+        Some(name) => after_sign(name, sign),
     }
 }
 
@@ -48,6 +91,75 @@ pub(crate) fn is_all(left: Option<&[u8]>) -> bool
     }
 }
 
+/// How many digits a number has in decimal.
+#[inline]
+fn digits_in(number: u32) -> usize
+    ensures { result ≡ length (decimal number) }
+{
+    if number < 10 {
+        1
+    } else if number < 100 {
+        2
+    } else if number < 1_000 {
+        3
+    } else if number < 10_000 {
+        4
+    } else if number < 100_000 {
+        5
+    } else if number < 1_000_000 {
+        6
+    } else if number < 10_000_000 {
+        7
+    } else if number < 100_000_000 {
+        8
+    } else if number < 1_000_000_000 {
+        9
+    } else {
+        10
+    }
+}
+
+/// Whether a text is a number in decimal: its digits are compared from the last one on, the one that tells numbers in a
+/// row apart.
+#[inline]
+fn is_number(text: &[u8], number: u32) -> bool
+    ensures { result ≡ bytes_eq (decimal number) text.now }
+{
+    let mut left = number;
+    let mut end = text.len();
+    'digits: while left >= 10 {
+        if end == 0 {
+            return false;
+        }
+        end -= 1;
+        if u32::from(text[end]) != 48 + left % 10 {
+            return false;
+        }
+        left /= 10;
+    }
+    if end == 1 {
+        u32::from(text[0]) == 48 + left
+    } else {
+        false
+    }
+}
+
+/// What is left of a name after a number in decimal, if it begins so.
+#[inline]
+fn after_number(name: &[u8], number: u32) -> Option<&[u8]>
+    ensures { option_copied result ≡ after_part (decimal number) name.now }
+{
+    let count = digits_in(number);
+    if count > name.len() {
+        return None;
+    }
+    if is_number(&name[..count], number) {
+        Some(&name[count..])
+    } else {
+        None
+    }
+}
+
 /// What is left after a number in decimal.
 #[inline]
 fn then_number<'a>(left: Option<&'a [u8]>, number: u32) -> Option<&'a [u8]>
@@ -55,10 +167,7 @@ fn then_number<'a>(left: Option<&'a [u8]>, number: u32) -> Option<&'a [u8]>
 {
     match left {
         None => None,
-        Some(name) => {
-            let mut buffer = Buffer::new();
-            after_part(name, buffer.format(number).as_bytes())
-        }
+        Some(name) => after_number(name, number),
     }
 }
 
@@ -66,12 +175,10 @@ fn then_number<'a>(left: Option<&'a [u8]>, number: u32) -> Option<&'a [u8]>
 fn then_integer<'a>(left: Option<&'a [u8]>, number: i32) -> Option<&'a [u8]>
     ensures { option_copied result ≡ then_part (signed_decimal number) (option_copied left.entry) }
 {
-    match left {
-        None => None,
-        Some(name) => {
-            let mut buffer = Buffer::new();
-            after_part(name, buffer.format(number).as_bytes())
-        }
+    if number < 0 {
+        then_number(then_sign(left, b'-'), number.unsigned_abs())
+    } else {
+        then_number(left, number as u32)
     }
 }
 
@@ -89,7 +196,7 @@ fn then_chr<'a>(left: Option<&'a [u8]>, ordinal: u32) -> Option<&'a [u8]>
 {
     let opened = then_part(left, b"chr(");
     let shown = then_number(opened, ordinal);
-    then_part(shown, b")")
+    then_sign(shown, b')')
 }
 
 /// What is left after a value of the type char.
@@ -100,9 +207,9 @@ fn then_char<'a>(left: Option<&'a [u8]>, ordinal: u32) -> Option<&'a [u8]>
     if ordinal == 39 {
         then_part(left, b"''''")
     } else if is_plain(ordinal) {
-        let opened = then_part(left, b"'");
+        let opened = then_sign(left, b'\'');
         let shown = then_byte(opened, ordinal);
-        then_part(shown, b"'")
+        then_sign(shown, b'\'')
     } else {
         then_chr(left, ordinal)
     }
@@ -142,46 +249,46 @@ fn then_of_host<'a>(
     if host == INTEGER {
         then_integer(left, ordinal)
     } else if ordinal < 0 {
-        then_part(left, b"?")
+        then_sign(left, b'?')
     } else {
         then_constant(left, program, host, ordinal as u32)
     }
 }
 
-/// What is left after a value of an ordinal type by its ordinal.
+/// What is left after a value of an ordinal type with these values, by its ordinal.
 fn then_ordinal<'a>(
     left: Option<&'a [u8]>,
     program: &Program,
-    of: u32,
+    bounds: Option<Bounds>,
     ordinal: i64,
 ) -> Option<&'a [u8]>
-    ensures { option_copied result ≡ then_part (ordinal_text program.now of ordinal) (option_copied left.entry) }
+    ensures { option_copied result ≡ then_part (within_bounds program.now ordinal bounds) (option_copied left.entry) }
 {
-    match bounds_of(program, of) {
-        None => then_part(left, b"?"),
+    match bounds {
+        None => then_sign(left, b'?'),
         Some(bounds) => {
             if has_ordinal(bounds, ordinal) {
                 then_of_host(left, program, bounds.host, ordinal as i32)
             } else {
-                then_part(left, b"?")
+                then_sign(left, b'?')
             }
         }
     }
 }
 
-/// What is left after an index of a type, by its ordinal.
-fn then_index<'a>(
+/// What is left after an index of a type with these values, by its ordinal.
+pub(crate) fn then_index<'a>(
     left: Option<&'a [u8]>,
     program: &Program,
-    of: u32,
+    bounds: Option<Bounds>,
     value: i64,
 ) -> Option<&'a [u8]>
     ensures { option_copied result
-        ≡ then_part (codes "[" ++ ordinal_text program.now of value ++ codes "]") (option_copied left.entry) }
+        ≡ then_part (codes "[" ++ within_bounds program.now value bounds ++ codes "]") (option_copied left.entry) }
 {
-    let opened = then_part(left, b"[");
-    let indexed = then_ordinal(opened, program, of, value);
-    then_part(indexed, b"]")
+    let opened = then_sign(left, b'[');
+    let indexed = then_ordinal(opened, program, bounds, value);
+    then_sign(indexed, b']')
 }
 
 /// What is left after a selector.
@@ -194,9 +301,9 @@ pub(crate) fn then_selector<'a>(
     ensures { option_copied result ≡ then_part (selector_text program.now selector) (option_copied left.entry) }
 {
     match selector {
-        Selector::Index { of, value } => then_index(left, program, of, value),
+        Selector::Index { of, value } => then_index(left, program, bounds_of(program, of), value),
         Selector::Field(number) => {
-            let selected = then_part(left, b".");
+            let selected = then_sign(left, b'.');
             then_part(selected, program.text(number))
         }
         Selector::Case => then_part(left, b".case"),
@@ -215,7 +322,7 @@ pub(crate) fn then_call<'a>(
     ensures { option_copied result ≡ then_part (call_text program.now call routine) (option_copied left.entry) }
 {
     let named = then_part(left, program.name(routine));
-    let marked = then_part(named, b"#");
+    let marked = then_sign(named, b'#');
     then_number(marked, call)
 }
 
@@ -225,7 +332,7 @@ pub(crate) fn then_call<'a>(
 pub(crate) fn then_block<'a>(left: Option<&'a [u8]>, base: u32) -> Option<&'a [u8]>
     ensures { option_copied result ≡ then_part (block_text base) (option_copied left.entry) }
 {
-    let marked = then_part(left, b"^");
+    let marked = then_sign(left, b'^');
     then_number(marked, base.saturating_sub(524_287))
 }
 
@@ -244,7 +351,7 @@ pub(crate) fn then_whose<'a>(
         left
     } else {
         let called = then_call(left, program, call, routine);
-        then_part(called, b".")
+        then_sign(called, b'.')
     }
 }
 
@@ -261,7 +368,7 @@ pub(crate) fn then_origin<'a>(
     match origin {
         Origin::Heap(base) => {
             let block = then_block(left, base);
-            then_part(block, b"^")
+            then_sign(block, b'^')
         }
         Origin::Local {
             call,

@@ -103,7 +103,7 @@ pub struct Local {
 }
 
 /// The least of some values.
-fn least_in(bounds: Option<Bounds>) -> i32
+pub(crate) fn least_in(bounds: Option<Bounds>) -> i32
     ensures { result ≡ least_in bounds }
 {
     match bounds {

@@ -145,7 +145,7 @@ impl PlacedParts {
     pub fn push(&mut self, part: PlacedPart) -> Result<(), AllocError>
         ensures { OnOk result (finds self.new ≡ finds (self.old ++ part ∷ [])) }
     {
-        let before = count_before(&self.parts, u64::from(part.place));
+        let before = count_near(&self.parts, u64::from(part.place), self.parts.len());
         self.parts.truncate(before);
         self.parts.push(part)?;
         Ok(())

@@ -1,21 +1,24 @@
 //! A walk over the addresses of a run in search of the cells that a name names: what has another name is passed over at
 //! once, be it a frame, a variable, a component of an array or a field of a record.
 
-ghost use Rattle.std.specs.Prelude.{◌≡◌, ◌+◌, ◌≤◌, ◌<◌, ℕ, Bool, List, IfSome, Some, true, false, slice_get};
+ghost use Rattle.std.specs.Prelude.{◌≡◌, ◌+◌, ◌≤◌, ◌<◌, ℕ, Bool, List, IfSome, Some, is_some, pos, true, false};
+ghost use Rattle.std.specs.Prelude.{◌+ℤ◌, slice_get};
 ghost use Rattle.std.specs.Option.{MatchOption};
 ghost use Rattle.cell_names.specs.declared.names.Spot.{Spot as SpotValue};
 ghost use Rattle.cell_names.specs.Places.{is_begun_by};
 ghost use Rattle.cell_names.specs.Finding.{finding_in};
-ghost use Rattle.cell_names.specs.Names.{heap_root, local_at, local_in, most_types, root_in, scene_in, stack_root};
-ghost use Rattle.cell_names.specs.Names.{step_down};
-ghost use Rattle.cell_names.specs.NamedBy.{leads_by, leads_within};
-ghost use Rattle.cell_names.specs.Walks.{Walks, WalksOver, before_result, is_of_call, left_of_component, limited};
+ghost use Rattle.cell_names.specs.Names.{heap_root, least_in, local_at, local_in, most_types, root_in, scene_in};
+ghost use Rattle.cell_names.specs.Names.{stack_root, step_down};
+ghost use Rattle.cell_names.specs.NamedBy.{after_part, leads_by, leads_within};
+ghost use Rattle.cell_names.specs.Walks.{Walks, WalksOver, before_result, components_of, index_text, is_indexed};
+ghost use Rattle.cell_names.specs.Walks.{is_of_block, is_of_call, is_of_heap, left_of_component, limited};
 ghost use Rattle.cell_names.specs.Walks.{moved, moved_local, moved_root, moved_step};
 
-use crate::name_parts::{then_call, then_origin};
+use crate::name_parts::{then_block, then_call, then_index, then_origin, then_sign};
 use crate::named_by::{is_of_all, step_named};
-use crate::names::{Held, Origin, Root, Scene, Spot, heap_root, is_result, local_at};
+use crate::names::{Held, Origin, Root, Scene, Spot, heap_root, is_result, least_in, local_at};
 use crate::places::PlacedPart;
+use crate::values::{Bounds, bounds_of};
 use core_program::rows::TypeRow;
 use core_program::{Program, Routine};
 
@@ -107,6 +110,153 @@ fn passed_next(scene: &Scene, at: Spot, name: &[u8], more: u32) -> Option<u32>
     }
 }
 
+/// The components of an array.
+#[derive(Clone, Copy)]
+pub(crate) struct Components {
+    /// The type of the index, and its values.
+    pub(crate) index: u32,
+    pub(crate) bounds: Option<Bounds>,
+    /// The type of a component, and its cells.
+    pub(crate) component: u32,
+    pub(crate) size: u32,
+}
+
+/// The components of the array that a cell is of, if it is of one.
+#[inline]
+fn components_of(program: &Program, held: Held) -> Option<Components>
+    ensures { result ≡ components_of program.now held }
+{
+    match held {
+        Held::Variable(of) => match program.type_row(of) {
+            Some(
+                TypeRow::Array {
+                    index,
+                    component,
+                    ..
+                },
+            ) => Some(Components {
+                index,
+                bounds: bounds_of(program, index),
+                component,
+                size: program.size_of(component),
+            }),
+            _ => None,
+        },
+        _ => None,
+    }
+}
+
+/// The ordinal of the index of the component of an array before which there are this many.
+#[inline]
+fn ordinal_of(bounds: Option<Bounds>, which: u32) -> i64
+    ensures { result ≡ least_in bounds +ℤ pos which }
+{
+    i64::from(least_in(bounds)) + i64::from(which)
+}
+
+/// Whether a name goes on with the index of the component of an array before which there are this many.
+#[inline]
+fn goes_on_by(program: &Program, array: Components, which: u32, name: &[u8]) -> bool
+    ensures { result ≡ is_some (after_part (index_text program.now array which) name.now) }
+{
+    let value = ordinal_of(array.bounds, which);
+    then_index(Some(name), program, array.bounds, value).is_some()
+}
+
+/// Whether a name goes on with the index of the component that has a place of an array.
+#[inline]
+fn is_indexed(program: &Program, array: Components, place: u32, name: &[u8]) -> bool
+    ensures { result ≡ is_indexed program.now array place name.now }
+{
+    if array.size == 0 {
+        false
+    } else {
+        goes_on_by(program, array, place / array.size, name)
+    }
+}
+
+/// The place after the one that stands this many after another.
+#[inline]
+fn place_after(place: u32, more: u32) -> Option<u32>
+    ensures is { IfSome result (λ next. next ≡ place + (more + 1)) }
+    ensures fits { IfSome result (λ next. more < 4294967295) }
+{
+    match more.checked_add(1) {
+        None => None,
+        Some(places) => place.checked_add(places),
+    }
+}
+
+/// How many cells after one of an array a name does not go on to, where that is known of this many: more than these, or
+/// none if it goes on to the next one.
+#[inline]
+fn passed_component(
+    program: &Program,
+    array: Components,
+    place: u32,
+    name: &[u8],
+    more: u32,
+) -> Option<u32>
+    ensures further { IfSome result (λ passed. more < passed) }
+    ensures passed { IfSome result (λ passed. (k : ℕ) → more < k → k ≤ passed
+        → is_indexed program.now array (place + k) name.now ≡ false) }
+{
+    match place_after(place, more) {
+        None => None,
+        Some(next) => {
+            if is_indexed(program, array, next, name) {
+                None
+            } else {
+                Some(
+                    more.saturating_add(1)
+                        .saturating_add(left_of_component(next, array.size)),
+                )
+            }
+        }
+    }
+}
+
+/// How many cells after one of an array a name does not go on to, where that is known of this many. It looks no further
+/// than this limit.
+fn passed_components(
+    program: &Program,
+    array: Components,
+    place: u32,
+    name: &[u8],
+    first: u32,
+    limit: u32,
+) -> u32
+    requires { (k : ℕ) → k ≤ first → is_indexed program.now array (place + k) name.now ≡ false }
+    ensures { (k : ℕ) → k ≤ result → is_indexed program.now array (place + k) name.now ≡ false }
+{
+    let mut more = first;
+    'components: while more < limit {
+        match passed_component(program, array, place, name, more) {
+            None => return more,
+            Some(passed) => more = passed,
+        }
+    }
+    more
+}
+
+/// How many cells after one, to which a name does not go on, it does not go on to either, where that is known of this
+/// many. It looks no further than this limit.
+fn passed_fields(scene: &Scene, at: Spot, name: &[u8], first: u32, limit: u32) -> u32
+    requires { (go : SpotValue → List ℕ → Bool) (k : ℕ) → k ≤ first
+        → leads_by scene.now.program go name.now (step_down (scene_in scene.now) (moved k at)) ≡ false }
+    ensures { (go : SpotValue → List ℕ → Bool) (k : ℕ) → k ≤ result
+        → leads_by scene.now.program go name.now (step_down (scene_in scene.now) (moved k at)) ≡ false }
+{
+    let mut more = first;
+    'components: while more < limit {
+        match passed_next(scene, at, name, more) {
+            None => return more,
+            Some(passed) => more = passed,
+        }
+    }
+    more
+}
+
 /// How many cells after one, to which a name does not go on, it does not go on to either. It looks no further than this
 /// many.
 fn passed_over(scene: &Scene, at: Spot, name: &[u8], limit: u32) -> u32
@@ -115,14 +265,11 @@ fn passed_over(scene: &Scene, at: Spot, name: &[u8], limit: u32) -> u32
     ensures { (go : SpotValue → List ℕ → Bool) (k : ℕ) → k ≤ result
         → leads_by scene.now.program go name.now (step_down (scene_in scene.now) (moved k at)) ≡ false }
 {
-    let mut more = alike_below(scene, at);
-    'components: while more < limit {
-        match passed_next(scene, at, name, more) {
-            None => return more,
-            Some(passed) => more = passed,
-        }
+    let first = alike_below(scene, at);
+    match components_of(scene.program, at.held) {
+        None => passed_fields(scene, at, name, first, limit),
+        Some(array) => passed_components(scene.program, array, at.place, name, first, limit),
     }
-    more
 }
 
 /// Whether what is left of a name does not lead to a cell, and how many after it, no more than this many, it does not
@@ -343,16 +490,73 @@ fn walk_stack(scene: &Scene, name: &[u8], address: u32, limit: u32, guess: usize
     (limited(walked, limit), found.begun)
 }
 
+/// Whether a name can be that of a variable of the heap: all of theirs begin with `^`.
+#[inline]
+fn is_of_heap(name: &[u8]) -> bool
+    ensures { result ≡ is_of_heap name.now }
+{
+    then_sign(Some(name), b'^').is_some()
+}
+
+/// Whether a name goes on after that of a variable of the heap, without its last `^`.
+#[inline]
+fn is_of_block(name: &[u8], part: Option<PlacedPart>) -> bool
+    ensures { result ≡ is_of_block name.now part }
+{
+    match part {
+        None => false,
+        Some(part) => then_block(Some(name), part.place).is_some(),
+    }
+}
+
+/// The same as `walk_block`, quick where the name is that of another variable.
+#[inline]
+fn walk_near_block(
+    scene: &Scene,
+    name: &[u8],
+    address: u32,
+    limit: u32,
+    part: Option<PlacedPart>,
+) -> Walked
+    requires { is_begun_by address part ≡ true }
+    ensures { WalksOver (scene_in scene.now) name.now (λ k. heap_root (address + k) part) result }
+{
+    if is_of_block(name, part) {
+        walk_block(scene, name, address, limit, part)
+    } else {
+        Walked::Unnamed(limit)
+    }
+}
+
 /// A walk over addresses of the heap, and the number of its variables that begin at the first or before.
 #[inline]
-fn walk_heap(scene: &Scene, name: &[u8], address: u32, limit: u32, guess: usize) -> (Walked, usize)
+fn walk_blocks(
+    scene: &Scene,
+    name: &[u8],
+    address: u32,
+    limit: u32,
+    guess: usize,
+) -> (Walked, usize)
     ensures { WalksOver (scene_in scene.now) name.now
         (λ k. heap_root (address + k) ((scene_in scene.now).finding.block (address + k))) result.0 }
 {
     let found = scene.names.block_near(guess, address);
     let limit = limit.min(found.more);
-    let walked = walk_block(scene, name, address, limit, found.part);
+    let walked = walk_near_block(scene, name, address, limit, found.part);
     (limited(walked, limit), found.begun)
+}
+
+/// The same, over all of them at once where the name is none of the heap.
+#[inline]
+fn walk_heap(scene: &Scene, name: &[u8], address: u32, limit: u32, guess: usize) -> (Walked, usize)
+    ensures { WalksOver (scene_in scene.now) name.now
+        (λ k. heap_root (address + k) ((scene_in scene.now).finding.block (address + k))) result.0 }
+{
+    if is_of_heap(name) {
+        walk_blocks(scene, name, address, limit, guess)
+    } else {
+        (Walked::Unnamed(limit), guess)
+    }
 }
 
 /// Whether a name names the cell at an address; if not, how many after it, no more than this many, it does not name

@@ -18,33 +18,16 @@ reverse-push xs x = reverse-append xs (x ∷ [])
 deeper : (most counter : ℕ) → counter < most → most - counter ≡ suc (most - (counter + 1))
 deeper most counter below = omega (arith, below)
 
--- no frame is further out
-pub opened_none : (calls : List Call) (most counter : ℕ) (at : Option ℕ) (frames all : List PlacedPart) (o : Option OpenFrame) → counter < most
-    → o ≡ frame_of_call calls at → o ≡ None → opened_from calls (most - counter) at ++ reverse frames ≡ all → reverse frames ≡ all
-opened_none calls most counter at frames all o below is none so_far =
-    sym (ap (λ n. opened_from calls n at ++ reverse frames) (deeper most counter below)
-    ∙ ap (λ f. opened_by f (opened_from calls (most - (counter + 1))) ++ reverse frames) (sym is ∙ none)) ∙ so_far
-
--- one frame further out
-pub opened_on : (calls : List Call) (most counter : ℕ) (at : Option ℕ) (frames more all : List PlacedPart) (o : Option OpenFrame) (f : OpenFrame)
-    → counter < most
-    → o ≡ frame_of_call calls at → o ≡ Some f → more ≡ frames ++ f.part ∷ [] → opened_from calls (most - counter) at ++ reverse frames ≡ all
-    → opened_from calls (most - (counter + 1)) f.outer ++ reverse more ≡ all
-opened_on calls most counter at frames more all o f below is some pushed so_far =
-    let outer = opened_from calls (most - (counter + 1)) f.outer in
+-- one frame further out, of this many at most
+pub row_on : (calls : List Call) (left : ℕ) (at : Option ℕ) (frames more all : List PlacedPart) (o : Option OpenFrame) (f : OpenFrame) → 0 < left
+    → o ≡ frame_of_call calls at → o ≡ Some f → more ≡ frames ++ f.part ∷ [] → opened_from calls left at ++ reverse frames ≡ all
+    → opened_from calls (left - 1) f.outer ++ reverse more ≡ all
+row_on calls left at frames more all o f some is found pushed so_far =
+    let outer = opened_from calls (left - 1) f.outer in
     ap (λ l. outer ++ reverse l) pushed ∙ ap (λ l. outer ++ l) (reverse-push frames f.part)
     ∙ sym (append_assoc outer (f.part ∷ []) (reverse frames))
-    ∙ sym (ap (λ n. opened_from calls n at ++ reverse frames) (deeper most counter below)
-    ∙ ap (λ g. opened_by g (opened_from calls (most - (counter + 1))) ++ reverse frames) (sym is ∙ some)) ∙ so_far
-
-pub opened_all : (calls : List Call) (most counter : ℕ) (at : Option ℕ) (frames all : List PlacedPart) → most ≤ counter
-    → opened_from calls (most - counter) at ++ reverse frames ≡ all → reverse frames ≡ all
-opened_all calls most counter at frames all past so_far =
-    sym (ap (λ n. opened_from calls n at ++ reverse frames) (let e : most - counter ≡ zero = omega (arith, past) in e)) ∙ so_far
-
-pub opened_first : (calls : List Call) (most : ℕ) (at : Option ℕ) → opened_from calls (most - 0) at ++ reverse [] ≡ opened_from calls most at
-opened_first calls most at =
-    append-nil (opened_from calls (most - 0) at) ∙ ap (λ n. opened_from calls n at) (let e : most - 0 ≡ most = omega arith in e)
+    ∙ sym (ap (λ n. opened_from calls n at ++ reverse frames) (let e : left ≡ suc (left - 1) = omega (arith, some) in e)
+    ∙ ap (λ g. opened_by g (opened_from calls (left - 1)) ++ reverse frames) (sym is ∙ found)) ∙ so_far
 
 reverse_taken : {X : Type 0} (xs : List X) (n : ℕ) (d : X) → n < length xs → reverse (take (suc n) xs) ≡ get_or xs n d ∷ reverse (take n xs)
 reverse_taken xs n d below = ap reverse (take-suc xs n d below) ∙ reverse-push (take n xs) (get_or xs n d)

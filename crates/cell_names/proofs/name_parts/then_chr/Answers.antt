@@ -5,4 +5,4 @@ use Rattle.cell_names.proofs.name_parts.then_chr.Goals as goal
 pub returns : goal.returns
 returns c =
     in_three (option_copied c.args.left) (codes "chr(") (decimal c.args.ordinal) (codes ")") c.then_part-opened.ensures
-    c.then_number-shown.ensures c.then_part.ensures
+    c.then_number-shown.ensures c.then_sign.ensures

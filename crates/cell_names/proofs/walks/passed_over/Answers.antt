@@ -1,7 +1,28 @@
-use Rattle.cell_names.specs.Names.{scene_in}
+use Rattle.std.proofs.Common.{◌≡◌, ℕ, ◌+◌, ◌≤◌, false, Some, subst, sym, ◌∙◌}
+use Rattle.cell_names.specs.Names.{SceneLists, scene_in}
+use Rattle.cell_names.specs.Walks.{components_of, is_indexed}
+use Rattle.cell_names.proofs.IndicesPassed.{no_component, no_index}
 use Rattle.cell_names.proofs.NamesPassed.{none_alike}
 use Rattle.cell_names.proofs.walks.passed_over.Goals as goal
 
-pub components-init : goal.components-init
-components-init c =
-    none_alike (scene_in c.args.scene.now) c.args.at c.args.name.now c.alike_below-more.result c.alike_below-more.ensures c.requires
+pub passed_fields-requires : goal.passed_fields-requires
+passed_fields-requires c =
+    none_alike (scene_in c.args.scene.now) c.args.at c.args.name.now c.alike_below-first.result c.alike_below-first.ensures c.requires
+
+pub passed_components-requires : goal.passed_components-requires
+passed_components-requires c =
+    let s = scene_in c.args.scene.now in
+    let array = subst (λ (v : SceneLists). components_of v.program c.args.at.held ≡ Some c.in-Some.array) c.scene.view_is
+    (sym c.components_of.ensures ∙ c.in-Some.is) in
+    subst (λ (v : SceneLists). (k : ℕ) → k ≤ c.alike_below-first.result
+    → is_indexed v.program c.in-Some.array (c.args.at.place + k) c.args.name.now ≡ false) (sym c.scene.view_is)
+    (no_index s c.args.at c.args.name.now c.in-Some.array array c.alike_below-first.result
+    (none_alike s c.args.at c.args.name.now c.alike_below-first.result c.alike_below-first.ensures c.requires))
+
+pub returns-in-Some : goal.returns-in-Some
+returns-in-Some c =
+    let array = subst (λ (v : SceneLists). components_of v.program c.args.at.held ≡ Some c.in-Some.array) c.scene.view_is
+    (sym c.components_of.ensures ∙ c.in-Some.is) in
+    no_component (scene_in c.args.scene.now) c.args.at c.args.name.now c.in-Some.array array c.passed_components.result
+    (subst (λ (v : SceneLists). (k : ℕ) → k ≤ c.passed_components.result
+    → is_indexed v.program c.in-Some.array (c.args.at.place + k) c.args.name.now ≡ false) c.scene.view_is c.passed_components.ensures)

@@ -3,7 +3,7 @@ use Rattle.cell_names.specs.declared.names.Spot.{Spot}
 use Rattle.cell_names.specs.Names.{scene_in, step_down}
 use Rattle.cell_names.specs.NamedBy.{leads_by}
 use Rattle.cell_names.specs.Walks.{moved}
-use Rattle.cell_names.proofs.walks.passed_over.Given as goal
+use Rattle.cell_names.proofs.walks.passed_fields.Given as goal
 
 abbrev pub decreases-components : goal.decreases-components
 decreases-components l = l.limit - l.more

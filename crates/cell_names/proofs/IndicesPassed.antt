@@ -1,0 +1,103 @@
+-- The indices of an array that a name does not go on with.
+use Rattle.std.proofs.Common.{◌≡◌, ℕ, zero, suc, ◌+◌, ◌-◌, ◌/◌, ◌%◌, ◌<◌, ◌≤◌, Bool, true, false, List, ◌++◌, Option, Some, None, codes, refl, sym, ap, subst}
+use Rattle.std.proofs.Common.{◌∙◌, arith}
+use Rattle.std.specs.Prelude.{pos, ◌+ℤ◌, is_some}
+use Rattle.core_program.specs.declared.rows.TypeRow.{TypeRow}
+use Rattle.core_program.specs.declared.rows.TypeRow.TheVariants as kinds
+use Rattle.core_program.specs.ProgramRows.{ProgramRows, size_of, type_at}
+use Rattle.cell_names.specs.declared.names.Held.{Held}
+use Rattle.cell_names.specs.declared.names.Held.TheVariants as held
+use Rattle.cell_names.specs.declared.names.Spot.{Spot}
+use Rattle.cell_names.specs.declared.names.Step.{Step}
+use Rattle.cell_names.specs.declared.values.Bounds.{Bounds}
+use Rattle.cell_names.specs.declared.walks.Components.{Components}
+use Rattle.cell_names.specs.Values.{bounds_of, within_bounds}
+use Rattle.cell_names.specs.Names.{Scene, component_step, least_in, spot, step_by, step_down, typed_step}
+use Rattle.cell_names.specs.NamedBy.{after_part, leads_by, leads_on}
+use Rattle.cell_names.specs.Walks.{components_in, components_of, index_text, is_indexed, is_indexed_by, left_of_component, moved}
+use Rattle.cell_names.proofs.CellsAlike.{mod_le, same_row}
+use Rattle.cell_names.proofs.RootsPassed.{nothing_by}
+
+pub sized : (p : ProgramRows) (a : Components) (place size : ℕ) (name : List ℕ) → (size ≡ 0 → ⊥)
+    → is_some (after_part (index_text p a (place / size)) name) ≡ is_indexed_by p a place size name
+sized p a place zero name some = absurd (some refl)
+sized p a place (suc n) name some = refl
+
+-- cells of one component
+indexed_alike : (p : ProgramRows) (a : Components) (next m size : ℕ) (name : List ℕ) → m ≤ left_of_component next size
+    → is_indexed_by p a (next + m) size name ≡ is_indexed_by p a next size name
+indexed_alike p a next m zero name below = refl
+indexed_alike p a next m (suc n) name below =
+    ap (λ q. is_some (after_part (index_text p a q) name)) (same_row next n m below (mod_le next n))
+
+-- the cells of the next component
+pub none_indexed : (p : ProgramRows) (a : Components) (place more next left passed : ℕ) (name : List ℕ) → next ≡ place + (more + 1)
+    → is_indexed p a next name ≡ false → left ≡ left_of_component next a.size → passed ≤ more + 1 + left
+    → (k : ℕ) → more < k → k ≤ passed → is_indexed p a (place + k) name ≡ false
+none_indexed p a place more next left passed name is none alike within k above below =
+    let e : place + k ≡ next + (k - (more + 1)) = omega (arith, is, above) in
+    ap (λ n. is_indexed p a n name) e
+    ∙ indexed_alike p a next (k - (more + 1)) a.size name (subst (λ n. k - (more + 1) ≤ n) alike (omega (arith, above, below, within))) ∙ none
+
+typed_array : (s : Scene) (of' place : ℕ) (t : Option TypeRow) (a : Components) → components_in s.program t ≡ Some a
+    → typed_step s of' place t ≡ component_step s.program a.index a.component place a.size
+typed_array s of' place (Some (kinds.Array packed index component cells)) a e =
+    ap (λ (x : Components). component_step s.program x.index x.component place x.size)
+    (let f : record { index = index; bounds = bounds_of s.program index; component = component; size = size_of s.program component } ≡ a = cc in f)
+typed_array s of' place t a e = absurd (let z : ◌≡◌ {A = Option Components} None (Some a) = e in cc)
+
+held_array : (s : Scene) (place : ℕ) (h : Held) (a : Components) → components_of s.program h ≡ Some a
+    → step_by s place h ≡ component_step s.program a.index a.component place a.size
+held_array s place (held.Variable of') a e = typed_array s of' place (type_at s.program of') a e
+held_array s place h a e = absurd (let z : ◌≡◌ {A = Option Components} None (Some a) = e in cc)
+
+step_in_array : (s : Scene) (at : Spot) (a : Components) (k : ℕ) → components_of s.program at.held ≡ Some a
+    → step_down s (moved k at) ≡ component_step s.program a.index a.component (at.place + k) a.size
+unfolding step_down
+step_in_array s at a k e = held_array s (at.place + k) at.held a e
+
+typed_bounds : (p : ProgramRows) (t : Option TypeRow) (a : Components) → components_in p t ≡ Some a → a.bounds ≡ bounds_of p a.index
+typed_bounds p (Some (kinds.Array packed index component cells)) a e =
+    let f : record { index = index; bounds = bounds_of p index; component = component; size = size_of p component } ≡ a = cc in
+    ap (λ (x : Components). x.bounds) (sym f) ∙ ap (λ (x : Components). bounds_of p x.index) f
+typed_bounds p t a e = absurd (let z : ◌≡◌ {A = Option Components} None (Some a) = e in cc)
+
+held_bounds : (p : ProgramRows) (h : Held) (a : Components) → components_of p h ≡ Some a → a.bounds ≡ bounds_of p a.index
+held_bounds p (held.Variable of') a e = typed_bounds p (type_at p of') a e
+held_bounds p h a e = absurd (let z : ◌≡◌ {A = Option Components} None (Some a) = e in cc)
+
+abbrev text_within : ProgramRows → Option Bounds → (which : ℕ) → List ℕ
+text_within p b which = codes "[" ++ within_bounds p (least_in b +ℤ pos which) b ++ codes "]"
+
+not_led : (p : ProgramRows) (a : Components) (place size : ℕ) (name : List ℕ) (go : Spot → List ℕ → Bool) → a.bounds ≡ bounds_of p a.index
+    → is_indexed_by p a place size name ≡ false → leads_by p go name (component_step p a.index a.component place size) ≡ false
+not_led p a place zero name go is none = refl
+not_led p a place (suc n) name go is none =
+    let at = spot (held.Variable a.component) (place % suc n) in
+    ap (λ b. leads_on (go at) (after_part (text_within p b (place / suc n)) name)) (sym is)
+    ∙ ap (leads_on (go at)) (nothing_by (after_part (index_text p a (place / suc n)) name) none)
+
+led_if_some : (o : Option (List ℕ)) → is_some o ≡ leads_on (λ rest. true) o
+led_if_some None = refl
+led_if_some (Some rest) = refl
+
+not_indexed : (p : ProgramRows) (a : Components) (place size : ℕ) (name : List ℕ) → a.bounds ≡ bounds_of p a.index
+    → leads_by p (λ at rest. true) name (component_step p a.index a.component place size) ≡ false → is_indexed_by p a place size name ≡ false
+not_indexed p a place zero name is none = refl
+not_indexed p a place (suc n) name is none =
+    led_if_some (after_part (index_text p a (place / suc n)) name)
+    ∙ ap (λ b. leads_on (λ rest. true) (after_part (text_within p b (place / suc n)) name)) is ∙ none
+
+module _ (s : Scene) (at : Spot) (name : List ℕ) (a : Components) (array : components_of s.program at.held ≡ Some a) where
+  -- to which cells a name does not go on, by the indices
+  pub no_index : (first : ℕ) → ((go : Spot → List ℕ → Bool) (k : ℕ) → k ≤ first → leads_by s.program go name (step_down s (moved k at)) ≡ false)
+      → (k : ℕ) → k ≤ first → is_indexed s.program a (at.place + k) name ≡ false
+  no_index first none k below =
+      not_indexed s.program a (at.place + k) a.size name (held_bounds s.program at.held a array)
+      (ap (leads_by s.program (λ x rest. true) name) (sym (step_in_array s at a k array)) ∙ none (λ x rest. true) k below)
+
+  pub no_component : (passed : ℕ) → ((k : ℕ) → k ≤ passed → is_indexed s.program a (at.place + k) name ≡ false)
+      → (go : Spot → List ℕ → Bool) (k : ℕ) → k ≤ passed → leads_by s.program go name (step_down s (moved k at)) ≡ false
+  no_component passed none go k below =
+      ap (leads_by s.program go name) (step_in_array s at a k array)
+      ∙ not_led s.program a (at.place + k) a.size name go (held_bounds s.program at.held a array) (none k below)
