@@ -8,7 +8,6 @@ use Rattle.core_program.specs.ProgramRows.{ProgramRows, size_of, type_at}
 use Rattle.cell_names.specs.declared.names.Held.{Held}
 use Rattle.cell_names.specs.declared.names.Held.TheVariants as held
 use Rattle.cell_names.specs.declared.names.Spot.{Spot}
-use Rattle.cell_names.specs.declared.names.Step.{Step}
 use Rattle.cell_names.specs.declared.values.Bounds.{Bounds}
 use Rattle.cell_names.specs.declared.walks.Components.{Components}
 use Rattle.cell_names.specs.Values.{bounds_of, within_bounds}
