@@ -35,6 +35,11 @@ pub either_code : (s one other : Status) (n : ℕ) → n ≡ code_of s → (s �
 either_code s one other n e (inl h) = inl (e ∙ ap code_of h)
 either_code s one other n e (inr h) = inr (e ∙ ap code_of h)
 
+-- what failed, by the counts of the console and of the screen
+pub record Failed (s : Status) (console console' screen screen' : ℕ) : Type 0 where
+  pub console_counted : Counted (is_console s) console console'
+  pub screen_counted : Counted (is_screen s) screen screen'
+
 -- an object that did not fail is not the cause
 pub no_console : (s : Status) (before now : ℕ) → Counted (is_console s) before now → NotRisen before now → s ≡ Console → ⊥
 no_console s before now k stayed e = stayed (subst (λ (x : Status). Counted (is_console x) before now) e k)

@@ -14,7 +14,7 @@ use Rattle.ask_session.specs.Outside.{Outside}
 use Rattle.ask_session.specs.Heard.{RefusedBy}
 use Rattle.debug_cli.specs.declared.status.Status.{Status}
 use Rattle.debug_cli.specs.declared.status.Status.TheVariants as status
-use Rattle.debug_cli.specs.Goes.{Goes, Owes, Talks}
+use Rattle.debug_cli.specs.Goes.{Goes, HasGone, Owes, Talks}
 use Rattle.debug_cli.specs.Laws.{OneRun}
 use Rattle.debug_cli.specs.Named.{Begun, Checked, FileSought, IsFetchFault, IsSource, IsSought, MadeProgram, NotFetched, start_in, subject_in}
 use Rattle.debug_cli.specs.Outside.{NoFetchFailed, NoneRisen}
@@ -71,11 +71,11 @@ module _ (before after : Outside) (told : IsSome before.files) (well : NoFetchFa
     made_refused status.Session (inr t) screen = absurd t
     made_refused status.Spent t screen = absurd t
 
-  pub program_refused : (m : Option Meant) → MeansNoProgram m before.files → (s : Status) → Goes m before after s → (s ≡ status.Screen → ⊥)
+  program_by : (m : Option Meant) → MeansNoProgram m before.files → (s : Status) → Goes m before after s → (s ≡ status.Screen → ⊥)
       → (s ≡ status.Source) ⊎ (s ≡ status.Memory)
-  program_refused None means s h screen = absurd means
-  program_refused (Some (Source r)) (bytes, source, none) s h screen = source_refused r bytes source none s h screen
-  program_refused (Some (Made number)) (bytes, source, none) s h screen = made_refused number bytes source none s h screen
+  program_by None means s h screen = absurd means
+  program_by (Some (Source r)) (bytes, source, none) s h screen = source_refused r bytes source none s h screen
+  program_by (Some (Made number)) (bytes, source, none) s h screen = made_refused number bytes source none s h screen
 
   -- ---- the session is refused
 
@@ -108,16 +108,19 @@ module _ (before after : Outside) (told : IsSome before.files) (well : NoFetchFa
       by (inr (inl is)) refused = not_none (subst (λ (e : Ending). RefusedBy e (misfit (subject_in a) (start_in a))) is refused)
       by (inr (inr is)) refused = not_none (subst (λ (e : Ending). RefusedBy e (misfit (subject_in a) (start_in a))) is refused)
 
-  pub session_refused : OneRun → (m : Option Meant) → MeansNoSession m before.files → (s : Status) → Goes m before after s → (s ≡ status.Screen → ⊥)
+  session_by : OneRun → (m : Option Meant) → MeansNoSession m before.files → (s : Status) → Goes m before after s → (s ≡ status.Screen → ⊥)
       → (s ≡ status.Session) ⊎ (s ≡ status.Memory)
-  session_refused one None means s h screen = absurd means
-  session_refused one (Some (Made number)) means s h screen = absurd means
-  session_refused one (Some (Source r)) (inl x) s h screen =
+  session_by one None means s h screen = absurd means
+  session_by one (Some (Made number)) means s h screen = absurd means
+  session_by one (Some (Source r)) (inl x) s h screen =
       refused_so r x.run.source (refused_comes r before.files told x) (λ e which t. no_other_session r before.files told t.0 x) s h screen
-  session_refused one (Some (Source r)) (inr (b, unfit)) s h screen =
+  session_by one (Some (Source r)) (inr (b, unfit)) s h screen =
       refused_so r b.run.source (begun_comes r before.files told b) (unfit_talks one r b unfit) s h screen
 
 -- ---- by the counts, where files need not be told
+
+abbrev Expected : Status → Type 0
+Expected s = (code_of s ≡ 0) ⊎ (code_of s ≡ 3) ⊎ (code_of s ≡ 7) ⊎ (code_of s ≡ 8) ⊎ (code_of s ≡ 9)
 
 module _ (before after : Outside) where
   not_fetched : NoneRisen before.counts after.counts → (why : FetchFault) → CountsFetch (Err why) before.counts after.counts → (why ≡ fetch.Memory → ⊥) → ⊥
@@ -129,9 +132,6 @@ module _ (before after : Outside) where
   no_memory : (why : FetchFault) (file : FileSought) (files : Option FileMap) → IsFetchFault why file files → why ≡ fetch.Memory → ⊥
   no_memory why file files cause is = subst (λ (w : FetchFault). IsFetchFault w file files) is cause
 
-  abbrev Expected : Status → Type 0
-  Expected s = (code_of s ≡ 0) ⊎ (code_of s ≡ 3) ⊎ (code_of s ≡ 7) ⊎ (code_of s ≡ 8) ⊎ (code_of s ≡ 9)
-
   file_not : (m : Option Meant) → NoneRisen before.counts after.counts → (text : List ℕ) → Owes m before after status.File text → ⊥
   file_not None none text o = o
   file_not (Some (Made number)) none text o = o
@@ -142,27 +142,44 @@ module _ (before after : Outside) where
   words_not (Some (Made number)) some text o = o
   words_not (Some (Source r)) some text o = o
 
-  pub no_fault_status : (m : Option Meant) → IsSome m → NoneRisen before.counts after.counts → (s : Status) → Goes m before after s
+  no_fault_by : (m : Option Meant) → IsSome m → NoneRisen before.counts after.counts → (s : Status) → Goes m before after s
       → (s ≡ status.Console → ⊥) → (s ≡ status.Screen → ⊥) → Expected s
-  no_fault_status m some none status.Done h console screen = inl refl
-  no_fault_status m some none status.Words x console screen = absurd (words_not m some x.text x.owed)
-  no_fault_status m some none status.Source h console screen = inr (inl refl)
-  no_fault_status m some none status.File x console screen = absurd (file_not m none x.text x.owed)
-  no_fault_status m some none status.Console h console screen = absurd (console refl)
-  no_fault_status m some none status.Screen h console screen = absurd (screen refl)
-  no_fault_status m some none status.Memory h console screen = inr (inr (inl refl))
-  no_fault_status m some none status.Session h console screen = inr (inr (inr (inl refl)))
-  no_fault_status m some none status.Spent h console screen = inr (inr (inr (inr refl)))
+  no_fault_by m some none status.Done h console screen = inl refl
+  no_fault_by m some none status.Words x console screen = absurd (words_not m some x.text x.owed)
+  no_fault_by m some none status.Source h console screen = inr (inl refl)
+  no_fault_by m some none status.File x console screen = absurd (file_not m none x.text x.owed)
+  no_fault_by m some none status.Console h console screen = absurd (console refl)
+  no_fault_by m some none status.Screen h console screen = absurd (screen refl)
+  no_fault_by m some none status.Memory h console screen = inr (inr (inl refl))
+  no_fault_by m some none status.Session h console screen = inr (inr (inr (inl refl)))
+  no_fault_by m some none status.Spent h console screen = inr (inr (inr (inr refl)))
 
-  pub no_words_status : (s : Status) → Goes None before after s → (code_of s ≡ 2) ⊎ (code_of s ≡ 6) ⊎ (code_of s ≡ 7)
-  no_words_status status.Done (inl x) = absurd x.owed
-  no_words_status status.Done (inr t) = absurd t
-  no_words_status status.Words x = inl refl
-  no_words_status status.Source x = absurd x.owed
-  no_words_status status.File x = absurd x.owed
-  no_words_status status.Console t = absurd t
-  no_words_status status.Screen h = inr (inl refl)
-  no_words_status status.Memory h = inr (inr refl)
-  no_words_status status.Session (inl x) = absurd x.owed
-  no_words_status status.Session (inr t) = absurd t
-  no_words_status status.Spent t = absurd t
+  no_words_by : (s : Status) → Goes None before after s → (code_of s ≡ 2) ⊎ (code_of s ≡ 6) ⊎ (code_of s ≡ 7)
+  no_words_by status.Done (inl x) = absurd x.owed
+  no_words_by status.Done (inr t) = absurd t
+  no_words_by status.Words x = inl refl
+  no_words_by status.Source x = absurd x.owed
+  no_words_by status.File x = absurd x.owed
+  no_words_by status.Console t = absurd t
+  no_words_by status.Screen h = inr (inl refl)
+  no_words_by status.Memory h = inr (inr refl)
+  no_words_by status.Session (inl x) = absurd x.owed
+  no_words_by status.Session (inr t) = absurd t
+  no_words_by status.Spent t = absurd t
+
+-- ---- all of it, by what the command did
+
+module _ {m : Option Meant} {before after : Outside} {s : Status} (x : HasGone m before after s) where
+  pub program_refused : IsSome before.files → NoFetchFailed before.counts after.counts → MeansNoProgram m before.files → (s ≡ status.Screen → ⊥)
+      → (s ≡ status.Source) ⊎ (s ≡ status.Memory)
+  program_refused told well means screen = program_by before after told well m means s x.goes screen
+
+  pub session_refused : OneRun → IsSome before.files → NoFetchFailed before.counts after.counts → MeansNoSession m before.files
+      → (s ≡ status.Screen → ⊥) → (s ≡ status.Session) ⊎ (s ≡ status.Memory)
+  session_refused one told well means screen = session_by before after told well one m means s x.goes screen
+
+  pub no_fault_status : IsSome m → NoneRisen before.counts after.counts → (s ≡ status.Console → ⊥) → (s ≡ status.Screen → ⊥) → Expected s
+  no_fault_status some none console screen = no_fault_by before after m some none s x.goes console screen
+
+  pub no_words_status : m ≡ None → (code_of s ≡ 2) ⊎ (code_of s ≡ 6) ⊎ (code_of s ≡ 7)
+  no_words_status none = no_words_by before after s (subst (λ (m : Option Meant). Goes m before after s) none x.goes)

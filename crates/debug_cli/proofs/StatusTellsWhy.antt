@@ -1,143 +1,102 @@
 -- By the status that the command answers: why it came, what the screen got, and what became of the files.
-use Rattle.std.proofs.Common.{◌≡◌, ◌⊎◌, inl, inr, ℕ, List, Option, Some, None, Result, Ok, Err, refl, sym, ap, subst}
-use Rattle.edge_ports.specs.Counts.{KeeperCounts, CountsFetch}
-use Rattle.edge_ports.specs.Files.{FileMap, LacksFile, HoldsLonger}
-use Rattle.edge_ports.specs.declared.ports.FetchFault.{FetchFault}
-use Rattle.edge_ports.specs.declared.ports.FetchFault.TheVariants as fetch
+use Rattle.std.proofs.Common.{◌≡◌, inl, inr, List, ℕ, Option, Some, None, refl, sym, subst}
 use Rattle.command_words.specs.Meaning.{Meant, Requested, Source, Made}
-use Rattle.session_file.specs.Reading.{session_of}
-use Rattle.session_file.specs.declared.session.Session.{Session}
-use Rattle.session_file.specs.declared.session.LoadFault.{LoadFault}
-use Rattle.session_file.specs.declared.session.LoadFault.TheVariants as load
 use Rattle.ask_session.specs.declared.dialog.Ending.{Ending}
 use Rattle.ask_session.specs.declared.dialog.Ending.TheVariants as ending
 use Rattle.ask_session.specs.Outside.{Outside}
 use Rattle.ask_session.specs.Went.{Went}
+use Rattle.debug_cli.specs.declared.refusals.Refusal.{Refusal}
+use Rattle.debug_cli.specs.declared.refusals.Refusal.TheVariants as refusal
 use Rattle.debug_cli.specs.declared.status.Status.{Status}
 use Rattle.debug_cli.specs.declared.status.Status.TheVariants as status
-use Rattle.debug_cli.specs.Given.{GivesText, GivesNothing}
-use Rattle.debug_cli.specs.Goes.{Goes, Owes, Says}
-use Rattle.debug_cli.specs.Named.{Begun, FileSought, IsFetchFault, IsSought, MadeProgram, NotFetched, SessionRefused, SourceRefused}
-use Rattle.debug_cli.specs.Named.{made_text, start_in, subject_in}
-use Rattle.debug_cli.specs.Outside.{CountsOneFault, LeavesAlone}
+use Rattle.debug_cli.specs.Given.{GivesText}
+use Rattle.debug_cli.specs.Goes.{Goes, HasGone, Owes, Says}
+use Rattle.debug_cli.specs.Named.{Begun, MadeProgram, made_text, start_in, subject_in}
+use Rattle.debug_cli.specs.Outside.{LeavesAlone, outside}
+use Rattle.debug_cli.specs.Refusals.{GivesLine, IsRefusal, line_on, refusal_status}
 use Rattle.debug_cli.specs.Status.{session_status}
-use Rattle.debug_cli.specs.Texts.{file_line, refused_line, session_line, usage_line}
+use Rattle.debug_cli.specs.Texts.{usage_line}
 
--- what is outside, as the objects tell it
-abbrev pub outside_at : {K I O : Type 0} (files : K → Option FileMap) (counts : K → KeeperCounts) (left : I → Option (List ℕ)) (given : O → Option (List ℕ))
-    → K → I → O → Outside
-outside_at files counts left given k i o = record { files = files k; counts = counts k; streams = record { left = left i; given = given o } }
+-- the keeper alone
+abbrev pub keeper_of : Outside → Outside
+keeper_of x = outside x.files x.counts None None
 
--- what a fetch says of the fault that it answers
-pub record Tells (fault : FetchFault) (file : FileSought) (files : Option FileMap) : Type 0 where
-  pub absent : fault ≡ fetch.Absent → LacksFile files file.name
-  pub longer : (bound : ℕ) → fault ≡ fetch.TooLong bound → HoldsLonger files file.name file.limit
+-- a text that is owed, whole or a first part of it
+text_goes : (m : Option Meant) (before after : Outside) → LeavesAlone before after → (result wanted : Status) (text : List ℕ)
+    → Owes m before after wanted text → GivesText result wanted text before.streams.given after.streams.given
+    → (Says m before after wanted → Goes m before after wanted) → Goes m before after result
+text_goes m before after alone result wanted text owed (inl g) whole =
+    subst (Goes m before after) (sym g.0) (whole (record { text = text; owed = owed; gave = g.1; alone = alone }))
+text_goes m before after alone result wanted text owed (inr g) whole =
+    subst (Goes m before after) (sym g.0) (inl (record { wanted = wanted; text = text; owed = owed; gave = g.1; alone = alone }))
 
-fault_of : (fault : FetchFault) (file : FileSought) (files : Option FileMap) → Tells fault file files → (fault ≡ fetch.Memory → ⊥)
-    → IsFetchFault fault file files
-fault_of fetch.Absent file files tells other = tells.absent refl
-fault_of fetch.Failed file files tells other = tt
-fault_of (fetch.TooLong bound) file files tells other = tells.longer bound refl
-fault_of fetch.Memory file files tells other = absurd (other refl)
+-- ---- what is refused
 
-module _ (m : Option Meant) (before after : Outside) where
-  abbrev pub Here : Status → Type 0
-  Here s = Goes m before after s
+-- what is owed is told by the keeper alone
+owed_here : (why : Refusal) (m : Meant) (before after : Outside) (text : List ℕ)
+    → Owes (Some m) (keeper_of before) (keeper_of after) (refusal_status why) text → Owes (Some m) before after (refusal_status why) text
+owed_here (refusal.Source why) m before after text owed = owed
+owed_here (refusal.File name why) (Source r) before after text owed = owed
+owed_here (refusal.File name why) (Made number) before after text owed = absurd owed
+owed_here (refusal.Session why) (Source r) before after text owed = owed
+owed_here (refusal.Session why) (Made number) before after text owed = absurd owed
+owed_here refusal.Memory m before after text owed = absurd owed
 
-  abbrev Gives : Status → Status → List ℕ → Type 0
-  Gives result wanted text = GivesText result wanted text before.streams.given after.streams.given
+whole_here : (why : Refusal) (m : Meant) (before after : Outside) → Says (Some m) before after (refusal_status why)
+    → Goes (Some m) before after (refusal_status why)
+whole_here (refusal.Source why) m before after s = s
+whole_here (refusal.File name why) m before after s = s
+whole_here (refusal.Session why) m before after s = inl s
+whole_here refusal.Memory m before after s = absurd s.owed
 
-  abbrev Nothing : Status → Type 0
-  Nothing result = GivesNothing result before.streams.given after.streams.given
+refusal_goes : (m : Meant) (before after : Outside) → after.streams.left ≡ before.streams.left → (why : Refusal)
+    → IsRefusal m (keeper_of before) (keeper_of after) why → (result : Status)
+    → GivesLine (line_on why) (refusal_status why) result before.streams.given after.streams.given → Goes (Some m) before after result
+refusal_goes m before after left why is result (inl (text, line, gives)) =
+    text_goes (Some m) before after (record { files = is.files; left = left }) result (refusal_status why) text
+    (owed_here why m before after text (is.owed text line)) gives (whole_here why m before after)
+refusal_goes m before after left why is result (inr g) =
+    subst (Goes (Some m) before after) (sym g.0)
+    (inl (record { given = g.1; counts = is.counts; alone = record { files = is.files; left = left } }))
 
-  module _ (alone : LeavesAlone before after) where
-    -- a text, whole or a first part of it
-    text_goes : (result wanted : Status) (text : List ℕ) → Owes m before after wanted text → Gives result wanted text
-        → (Says m before after wanted → Here wanted) → Here result
-    text_goes result wanted text owed (inl g) whole = subst Here (sym g.0) (whole (record { text = text; owed = owed; gave = g.1; alone = alone }))
-    text_goes result wanted text owed (inr g) whole =
-        subst Here (sym g.0) (inl (record { wanted = wanted; text = text; owed = owed; gave = g.1; alone = alone }))
+-- ---- a session
 
-    nothing_goes : (result : Status) → CountsOneFault before.counts after.counts → Nothing result → Here result
-    nothing_goes result counts g = subst Here (sym g.0) (inl (record { given = g.1; counts = counts; alone = alone }))
+pub talk_goes : (r : Requested) (before after : Outside) (b : Begun r before.files) (e : Ending)
+    → Went (subject_in b) (start_in b) before e after → Goes (Some (Source r)) before after (session_status e)
+talk_goes r before after b ending.Done w = inr (b, w)
+talk_goes r before after b ending.Console w = (b, w)
+talk_goes r before after b ending.Screen w = inr (b, w)
+talk_goes r before after b ending.Spent w = (b, w)
+talk_goes r before after b ending.Refused w = inr (b, w)
+talk_goes r before after b ending.Memory w = inr (b, w)
 
-    -- the text, or memory that ran out before
-    pub text_or_nothing : (result wanted : Status) (text : List ℕ) → Owes m before after wanted text → CountsOneFault before.counts after.counts
-        → Gives result wanted text ⊎ Nothing result → (Says m before after wanted → Here wanted) → Here result
-    text_or_nothing result wanted text owed counts (inl g) whole = text_goes result wanted text owed g whole
-    text_or_nothing result wanted text owed counts (inr n) whole = nothing_goes result counts n
+-- after files were fetched all is as it was before
+same_outside : (before after : Outside) → keeper_of after ≡ keeper_of before → after.streams ≡ before.streams → after ≡ before
+same_outside before after kept streams = λ i. record { files = (kept i).files; counts = (kept i).counts; streams = streams i }
 
--- a source that is refused
-pub refused_goes : (m : Meant) (before after : Outside) → LeavesAlone before after → after.counts ≡ before.counts → (x : SourceRefused m before.files)
-    → (result : Status) → GivesText result status.Source (refused_line x.why x.line x.byte) before.streams.given after.streams.given
-    ⊎ GivesNothing result before.streams.given after.streams.given → Goes (Some m) before after result
-refused_goes m before after alone counts x result gives =
-    text_or_nothing (Some m) before after alone result status.Source (refused_line x.why x.line x.byte) (x, refl, counts) (inl counts) gives (λ s. s)
+-- ---- by what the words mean
 
-module _ (r : Requested) (before after : Outside) where
-  abbrev pub Asked : Status → Type 0
-  Asked s = Goes (Some (Source r)) before after s
+module _ {means : Option Meant} {before after : Outside} {s : Status} where
+  as_meant : {m : Option Meant} → means ≡ m → Goes m before after s → HasGone means before after s
+  as_meant {m} is goes = subst (λ (x : Option Meant). HasGone x before after s) (sym is) (record { goes = goes })
 
-  -- a file that was not fetched
-  pub fault_goes : LeavesAlone before after → (file : FileSought) → IsSought r before.files file → (fault : FetchFault) → Tells fault file before.files
-      → CountsFetch (Err fault) before.counts after.counts → (result : Status)
-      → ((fault ≡ fetch.Memory → ⊥) × GivesText result status.File (file_line fault file.name) before.streams.given after.streams.given)
-      ⊎ GivesNothing result before.streams.given after.streams.given → Asked result
-  fault_goes alone file sought fault tells counts result (inl l) =
-      let x : NotFetched r before.files = record { file = file; sought = sought; why = fault; cause = fault_of fault file before.files tells l.0 } in
-      text_or_nothing (Some (Source r)) before after alone result status.File (file_line fault file.name) (x, refl, counts) (inr (fault, counts)) (inl l.1)
-      (λ s. s)
-  fault_goes alone file sought fault tells counts result (inr n) =
-      subst Asked (sym n.0) (inl (record { given = n.1; counts = inr (fault, counts); alone = alone }))
+  pub session_gone : {m : Option Meant} {middle : Outside} → means ≡ m → HasGone m middle after s → keeper_of middle ≡ keeper_of before
+      → middle.streams ≡ before.streams → HasGone means before after s
+  session_gone {m} {middle} is x kept streams =
+      as_meant is (subst (λ (o : Outside). Goes m o after s) (same_outside before middle kept streams) x.goes)
 
-  -- a file that is no session
-  pub no_session_goes : LeavesAlone before after → after.counts ≡ before.counts → (why : LoadFault)
-      → ((why ≡ load.Memory → ⊥) → (x : SessionRefused r before.files) × (x.why ≡ why)) → (result : Status)
-      → ((why ≡ load.Memory → ⊥) × GivesText result status.Session (session_line why) before.streams.given after.streams.given)
-      ⊎ GivesNothing result before.streams.given after.streams.given → Asked result
-  no_session_goes alone counts why refused result (inl l) =
-      let x = refused l.0 in
-      text_or_nothing (Some (Source r)) before after alone result status.Session (session_line why) (x.0, ap session_line (sym x.1), counts) (inl counts)
-      (inl l.1) (λ s. inl s)
-  no_session_goes alone counts why refused result (inr n) = subst Asked (sym n.0) (inl (record { given = n.1; counts = inl counts; alone = alone }))
+  pub refusal_gone : {m : Meant} → means ≡ Some m → (why : Refusal) → IsRefusal m (keeper_of before) (keeper_of after) why
+      → after.streams.left ≡ before.streams.left → GivesLine (line_on why) (refusal_status why) s before.streams.given after.streams.given
+      → HasGone means before after s
+  refusal_gone {m} is why refused left says = as_meant is (refusal_goes m before after left why refused s says)
 
-  -- a session
-  pub talk_goes : (b : Begun r before.files) (e : Ending) → Went (subject_in b) (start_in b) before e after → Asked (session_status e)
-  talk_goes b ending.Done w = inr (b, w)
-  talk_goes b ending.Console w = (b, w)
-  talk_goes b ending.Screen w = inr (b, w)
-  talk_goes b ending.Spent w = (b, w)
-  talk_goes b ending.Refused w = inr (b, w)
-  talk_goes b ending.Memory w = inr (b, w)
+  -- the lines of a made program, and the one on words that mean nothing
+  pub made_gone : {number : ℕ} → means ≡ Some (Made number) → LeavesAlone before after → after.counts ≡ before.counts → (x : MadeProgram number)
+      → GivesText s status.Done (made_text x) before.streams.given after.streams.given → HasGone means before after s
+  made_gone {number} is alone counts x gives =
+      as_meant is (text_goes (Some (Made number)) before after alone s status.Done (made_text x) (x, refl, counts) gives (λ y. inl y))
 
--- after a fetch that went well all is as it was before
-pub same_outside : (before middle : Outside) → middle.files ≡ before.files → middle.counts ≡ before.counts → middle.streams ≡ before.streams
-    → middle ≡ before
-same_outside before middle files counts streams = λ i. record { files = files i; counts = counts i; streams = streams i }
-
--- ---- a file that is a session, or is none
-
-pub loaded : (bytes : List ℕ) (s : Session) → (◌≡◌ {A = Result Session LoadFault} (Ok s) (Err load.Memory)) ⊎ (Ok s ≡ session_of bytes)
-    → session_of bytes ≡ Ok s
-loaded bytes s (inl e) = absurd (let x : ⊥ = cc in x)
-loaded bytes s (inr e) = sym e
-
-pub not_loaded : (bytes : List ℕ) (why : LoadFault) → (◌≡◌ {A = Result Session LoadFault} (Err why) (Err load.Memory)) ⊎ (Err why ≡ session_of bytes)
-    → (why ≡ load.Memory → ⊥) → session_of bytes ≡ Err why
-not_loaded bytes why (inl e) other = absurd (other (let x : why ≡ load.Memory = cc in x))
-not_loaded bytes why (inr e) other = sym e
-
--- ---- a made program
-
-pub made_goes : (number : ℕ) (before after : Outside) → LeavesAlone before after → after.counts ≡ before.counts → (x : MadeProgram number)
-    → (text : List ℕ) → text ≡ made_text x → (result : Status) → GivesText result status.Done text before.streams.given after.streams.given
-    → Goes (Some (Made number)) before after result
-made_goes number before after alone counts x text is result gives =
-    text_or_nothing (Some (Made number)) before after alone result status.Done text (x, is, counts) (inl counts) (inl gives) (λ s. inl s)
-
--- ---- words that mean nothing
-
-pub words_goes : (before after : Outside) → LeavesAlone before after → after.counts ≡ before.counts → (result : Status)
-    → GivesText result status.Words usage_line before.streams.given after.streams.given → Goes None before after result
-words_goes before after alone counts result gives =
-    text_or_nothing None before after alone result status.Words usage_line (refl, counts) (inl counts) (inl gives) (λ s. s)
+  pub words_gone : means ≡ None → LeavesAlone before after → after.counts ≡ before.counts
+      → GivesText s status.Words usage_line before.streams.given after.streams.given → HasGone means before after s
+  words_gone is alone counts gives =
+      as_meant is (text_goes None before after alone s status.Words usage_line (refl, counts) gives (λ y. y))

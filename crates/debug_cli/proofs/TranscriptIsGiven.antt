@@ -1,6 +1,6 @@
 -- Where the keeper tells the files that the words name, or they mean a made program: what the screen got, what became of the files, and which
 -- status comes.
-use Rattle.std.proofs.Common.{◌≡◌, ◌⊎◌, ◌≤◌, inl, inr, ℕ, Bool, List, [], Option, Some, None, IsSome, length, refl, sym, subst, ◌∙◌, arith}
+use Rattle.std.proofs.Common.{◌≡◌, ◌⊎◌, ◌≤◌, inl, inr, ℕ, Bool, List, [], Option, Some, None, length, refl, sym, ap, subst, ◌∙◌, arith}
 use Rattle.edge_ports.specs.Counts.{Counted}
 use Rattle.edge_ports.specs.Lines.{lines_of}
 use Rattle.edge_ports.specs.Told.{GaveAll, GavePrefix}
@@ -8,14 +8,12 @@ use Rattle.edge_ports.proofs.PiecesAddUp.{gave_nothing, gave_prefix_before, gave
 use Rattle.command_words.specs.Meaning.{Meant, Requested, Source, Made}
 use Rattle.dialog_replies.specs.Subject.{Subject}
 use Rattle.dialog_replies.specs.declared.start.Start.{Start}
-use Rattle.dialog_replies.specs.declared.misfits.Misfit.{Misfit}
 use Rattle.dialog_replies.specs.Fit.{misfit}
 use Rattle.debuggee.specs.Program.{IsProgram}
 use Rattle.ask_session.specs.declared.dialog.Ending.{Ending}
 use Rattle.ask_session.specs.declared.dialog.Ending.TheVariants as ending
-use Rattle.ask_session.specs.Console.{EndsInTime, FirstAnswered, GaveOf, GoesOn}
+use Rattle.ask_session.specs.Console.{FirstAnswered, GaveOf, NotRisen}
 use Rattle.ask_session.specs.Dialog.{transcript}
-use Rattle.ask_session.specs.Heard as session
 use Rattle.ask_session.specs.Outside.{Outside}
 use Rattle.ask_session.specs.Reached.{Reached, Telling, telling}
 use Rattle.ask_session.specs.Saves.{FilesAfter, Save, counts_saved, saves_in}
@@ -23,14 +21,15 @@ use Rattle.ask_session.specs.Went.{Went}
 use Rattle.ask_session.proofs.TranscriptIsGiven.{Cause, Closed, done_or_memory, spent_or_memory, told_so}
 use Rattle.debug_cli.specs.declared.status.Status.{Status}
 use Rattle.debug_cli.specs.declared.status.Status.TheVariants as status
-use Rattle.debug_cli.specs.Goes.{Goes, Owes, SaysPart, Talks}
+use Rattle.debug_cli.specs.Goes.{Goes, HasGone, Owes, Talks}
 use Rattle.debug_cli.specs.Laws.{OneRun}
 use Rattle.debug_cli.specs.Named.{Words, meaning, MadeProgram, SourceRefused, made_text, start_in, subject_in}
 use Rattle.debug_cli.specs.Outside.{LeavesAlone, NoFetchFailed}
 use Rattle.debug_cli.specs.Setting.{AllFetched, ComesTo, InFiles, IsMade, NothingFailed, Setting, Told, lines_of_console, saves_of, telling_made}
 use Rattle.debug_cli.specs.Setting.{telling_of, transcript_of}
-use Rattle.debug_cli.specs.Status.{is_console, is_screen}
-use Rattle.debug_cli.proofs.StatusByCode.{no_console, no_screen}
+use Rattle.debug_cli.specs.Status.{code_of, session_status}
+use Rattle.debug_cli.proofs.ByStatus.{View, nothing, part, said, talked, view}
+use Rattle.debug_cli.proofs.StatusByCode.{Failed, code_is, console_by_end, no_screen, screen_by_end}
 use Rattle.debug_cli.proofs.FilesAreTold.{begun_comes, no_fault, no_other_session, no_refusal, same_made, same_start, same_subject}
 
 -- the screen has got this much, and the files and the counts followed
@@ -103,43 +102,6 @@ module _ (before after : Outside) (s : Subject) (start : Start) (bytes : List �
       by ending.Spent w t = part_with w.saves t.0 t.1 (t.2, t.3)
       by ending.Memory w t = part_with w.saves t.0 t.1 (t.2, t.3)
 
-  -- ---- how it ended, where the saved session fits
-
-  module _ (fits : misfit s start ≡ None) where
-    cause : (e : Ending) → Went s start before e after → Cause s start before.streams.left after.streams.left bytes console e
-    cause e w = record { heard = w.heard; is_heard = w.is_heard; ended = w.ended; refused = w.refused; fits = fits }
-
-    closed : (e : Ending) → Counted (session.is_console e) 0 0 → Counted (session.is_screen e) 0 0 → Closed e 0 0 0 0
-    closed e a b = record {
-      console_counted = a;
-      console_stayed = λ r. let x : ⊥ = omega (arith, r) in x;
-      screen_counted = b;
-      screen_stayed = λ r. let x : ⊥ = omega (arith, r) in x;
-    }
-
-    not_spent : Went s start before ending.Spent after → EndsInTime bytes → ⊥
-    not_spent w ends =
-        by (done_or_memory s start before.streams.left after.streams.left bytes console ending.Spent (cause ending.Spent w) (closed ending.Spent refl refl)
-        ends)
-      where
-        by : (ending.Spent ≡ ending.Done) ⊎ (ending.Spent ≡ ending.Memory) → ⊥
-        by (inl e) = let x : ⊥ = cc in x
-        by (inr e) = let x : ⊥ = cc in x
-
-    not_done : Went s start before ending.Done after → GoesOn bytes → ⊥
-    not_done w on =
-        by (spent_or_memory s start before.streams.left after.streams.left bytes console ending.Done (cause ending.Done w) (closed ending.Done refl refl) on)
-      where
-        by : (ending.Done ≡ ending.Spent) ⊎ (ending.Done ≡ ending.Memory) → ⊥
-        by (inl e) = let x : ⊥ = cc in x
-        by (inr e) = let x : ⊥ = cc in x
-
-    not_refused : Went s start before ending.Refused after → ⊥
-    not_refused w = none_some (subst IsSome fits w.refused)
-      where
-        none_some : IsSome {T = Misfit} None → ⊥
-        none_some e = let x : ⊥ = cc in x
-
 -- ---- files that are told
 
 module _ (one : OneRun) (r : Requested) (before after : Outside) (told : Told r before.files before.streams.left) where
@@ -174,57 +136,40 @@ module _ (one : OneRun) (r : Requested) (before after : Outside) (told : Told r 
     none_owed status.Session text o = no_other_session r before.files told.files_told told.begun o.0
     none_owed status.Spent text o = o
 
-    part : (e : Ending) → Talks (Some (Source r)) before after e → Part before after about begins told.console told.console_told
-    part e t = part_of before after about begins told.console told.console_told e (talk e t)
+    part_told : {s : Status} → View (Some (Source r)) before after s → Part before after about begins told.console told.console_told
+    part_told (said s x) = absurd (none_owed s x.text x.owed)
+    part_told (part x) = absurd (none_owed x.wanted x.text x.owed)
+    part_told (nothing x) = nothing_follows before after (telling about begins) (lines_of told.console) refl x.given x.alone
+    part_told (talked e t) = part_of before after about begins told.console told.console_told e (talk e t)
 
-    part_told : (s : Status) → Here s → Part before after about begins told.console told.console_told
-    part_told status.Done (inl x) = absurd (none_owed status.Done x.text x.owed)
-    part_told status.Done (inr t) = part ending.Done t
-    part_told status.Words x = absurd (none_owed status.Words x.text x.owed)
-    part_told status.Source x = absurd (none_owed status.Source x.text x.owed)
-    part_told status.File x = absurd (none_owed status.File x.text x.owed)
-    part_told status.Console t = part ending.Console t
-    part_told status.Screen (inl x) = absurd (none_owed x.wanted x.text x.owed)
-    part_told status.Screen (inr t) = part ending.Screen t
-    part_told status.Memory (inl x) = nothing_follows before after (telling about begins) (lines_of told.console) refl x.given x.alone
-    part_told status.Memory (inr t) = part ending.Memory t
-    part_told status.Session (inl x) = absurd (none_owed status.Session x.text x.owed)
-    part_told status.Session (inr t) = part ending.Refused t
-    part_told status.Spent t = part ending.Spent t
+    -- where the session fits and neither the console nor the screen failed: it ends as it is known to end, or memory runs out
+    module _ (fits : misfit about begins ≡ None) {console console' screen screen' : ℕ} (calm : NotRisen console console')
+        (still : NotRisen screen screen') (wanted : Ending)
+        (ends : (e : Ending) → Cause about begins before.streams.left after.streams.left told.console told.console_told e
+        → Closed e console console' screen screen' → (e ≡ wanted) ⊎ (e ≡ ending.Memory))
+      where
+        ended_told : {s : Status} → Failed s console console' screen screen' → View (Some (Source r)) before after s
+            → (s ≡ session_status wanted) ⊎ (s ≡ status.Memory)
+        ended_told f (said s x) = absurd (none_owed s x.text x.owed)
+        ended_told f (part x) = absurd (no_screen status.Screen screen screen' f.screen_counted still refl)
+        ended_told f (nothing x) = inr refl
+        ended_told f (talked e t) = by (ends e (cause (talk e t)) closed)
+          where
+            cause : Went about begins before e after
+                → Cause about begins before.streams.left after.streams.left told.console told.console_told e
+            cause w = record { heard = w.heard; is_heard = w.is_heard; ended = w.ended; refused = w.refused; fits = fits }
 
-    module _ (fits : misfit about begins ≡ None) where
-      abbrev Either : Status → Status → Type 0
-      Either wanted s = (s ≡ status.Console → ⊥) → (s ≡ status.Screen → ⊥) → (s ≡ wanted) ⊎ (s ≡ status.Memory)
+            closed : Closed e console console' screen screen'
+            closed = record {
+              console_counted = subst (λ (b : Bool). Counted b console console') (sym (console_by_end e)) f.console_counted;
+              console_stayed = calm;
+              screen_counted = subst (λ (b : Bool). Counted b screen screen') (sym (screen_by_end e)) f.screen_counted;
+              screen_stayed = still;
+            }
 
-      no_misfit : Talks (Some (Source r)) before after ending.Refused → ⊥
-      no_misfit t = not_refused before after about begins told.console told.console_told fits (talk ending.Refused t)
-
-      done_comes : EndsInTime told.console → (s : Status) → Here s → Either status.Done s
-      done_comes ends status.Done h console screen = inl refl
-      done_comes ends status.Words x console screen = absurd (none_owed status.Words x.text x.owed)
-      done_comes ends status.Source x console screen = absurd (none_owed status.Source x.text x.owed)
-      done_comes ends status.File x console screen = absurd (none_owed status.File x.text x.owed)
-      done_comes ends status.Console h console screen = absurd (console refl)
-      done_comes ends status.Screen h console screen = absurd (screen refl)
-      done_comes ends status.Memory h console screen = inr refl
-      done_comes ends status.Session (inl x) console screen = absurd (none_owed status.Session x.text x.owed)
-      done_comes ends status.Session (inr t) console screen = absurd (no_misfit t)
-      done_comes ends status.Spent t console screen =
-          absurd (not_spent before after about begins told.console told.console_told fits (talk ending.Spent t) ends)
-
-      spent_comes : GoesOn told.console → (s : Status) → Here s → Either status.Spent s
-      spent_comes on status.Done (inl x) console screen = absurd (none_owed status.Done x.text x.owed)
-      spent_comes on status.Done (inr t) console screen =
-          absurd (not_done before after about begins told.console told.console_told fits (talk ending.Done t) on)
-      spent_comes on status.Words x console screen = absurd (none_owed status.Words x.text x.owed)
-      spent_comes on status.Source x console screen = absurd (none_owed status.Source x.text x.owed)
-      spent_comes on status.File x console screen = absurd (none_owed status.File x.text x.owed)
-      spent_comes on status.Console h console screen = absurd (console refl)
-      spent_comes on status.Screen h console screen = absurd (screen refl)
-      spent_comes on status.Memory h console screen = inr refl
-      spent_comes on status.Session (inl x) console screen = absurd (none_owed status.Session x.text x.owed)
-      spent_comes on status.Session (inr t) console screen = absurd (no_misfit t)
-      spent_comes on status.Spent h console screen = inl refl
+            by : (e ≡ wanted) ⊎ (e ≡ ending.Memory) → (session_status e ≡ session_status wanted) ⊎ (session_status e ≡ status.Memory)
+            by (inl is) = inl (ap session_status is)
+            by (inr is) = inr (ap session_status is)
 
 -- ---- a made program
 
@@ -258,62 +203,47 @@ module _ (one : OneRun) (number : ℕ) (before after : Outside) (x : MadeProgram
     reached = reached_none before.streams.given after.streams.given (telling_made x) [] refl gave;
   }
 
-  owed_made : (y : SaysPart (Some (Made number)) before after) → PartMade
-  owed_made y = by y.wanted y.owed
-    where
-      by : (wanted : Status) → Owes (Some (Made number)) before after wanted y.text → PartMade
-      by status.Done o =
-          some_made y.alone
-          (subst (λ (text : List ℕ). GavePrefix before.streams.given after.streams.given text) (o.1 ∙ same_made one number o.0 x) y.gave)
-      by status.Words o = absurd o
-      by status.Source o = absurd (no_made_refusal o.0)
-      by status.File o = absurd o
-      by status.Console o = absurd o
-      by status.Screen o = absurd o
-      by status.Memory o = absurd o
-      by status.Session o = absurd o
-      by status.Spent o = absurd o
+  owed_made : (wanted : Status) (text : List ℕ) → Owes (Some (Made number)) before after wanted text
+      → (wanted ≡ status.Done) × (text ≡ made_text x)
+  owed_made status.Done text o = (refl, o.1 ∙ same_made one number o.0 x)
+  owed_made status.Words text o = absurd o
+  owed_made status.Source text o = absurd (no_made_refusal o.0)
+  owed_made status.File text o = absurd o
+  owed_made status.Console text o = absurd o
+  owed_made status.Screen text o = absurd o
+  owed_made status.Memory text o = absurd o
+  owed_made status.Session text o = absurd o
+  owed_made status.Spent text o = absurd o
 
-  part_made : (s : Status) → AsMade s → PartMade
-  part_made status.Done h = by h (gave_prefix_whole before.streams.given after.streams.given (made_text x) (whole_made h).gave)
-    where
-      by : AsMade status.Done → GavePrefix before.streams.given after.streams.given (made_text x) → PartMade
-      by (inl y) gave = some_made y.alone gave
-      by (inr t) gave = absurd t
-  part_made status.Words y = absurd y.owed
-  part_made status.Source y = absurd (no_made_refusal y.owed.0)
-  part_made status.File y = absurd y.owed
-  part_made status.Console t = absurd t
-  part_made status.Screen (inl y) = owed_made y
-  part_made status.Screen (inr t) = absurd t
-  part_made status.Memory (inl y) = nothing_follows before after (telling_made x) [] refl y.given y.alone
-  part_made status.Memory (inr t) = absurd t
-  part_made status.Session (inl y) = absurd y.owed
-  part_made status.Session (inr t) = absurd t
-  part_made status.Spent t = absurd t
+  part_made : {s : Status} → View (Some (Made number)) before after s → PartMade
+  part_made (said s y) = some_made y.alone
+      (subst (λ (text : List ℕ). GavePrefix before.streams.given after.streams.given text) (owed_made s y.text y.owed).1
+      (gave_prefix_whole before.streams.given after.streams.given y.text y.gave))
+  part_made (part y) =
+      some_made y.alone (subst (λ (text : List ℕ). GavePrefix before.streams.given after.streams.given text) (owed_made y.wanted y.text y.owed).1 y.gave)
+  part_made (nothing y) = nothing_follows before after (telling_made x) [] refl y.given y.alone
+  part_made (talked e t) = absurd t
 
-  made_comes : (s : Status) → AsMade s → (s ≡ status.Screen → ⊥) → (s ≡ status.Done) ⊎ (s ≡ status.Memory)
-  made_comes status.Done h screen = inl refl
-  made_comes status.Words y screen = absurd y.owed
-  made_comes status.Source y screen = absurd (no_made_refusal y.owed.0)
-  made_comes status.File y screen = absurd y.owed
-  made_comes status.Console t screen = absurd t
-  made_comes status.Screen h screen = absurd (screen refl)
-  made_comes status.Memory h screen = inr refl
-  made_comes status.Session (inl y) screen = absurd y.owed
-  made_comes status.Session (inr t) screen = absurd t
-  made_comes status.Spent t screen = absurd t
+  made_comes : {s : Status} → View (Some (Made number)) before after s → (s ≡ status.Screen → ⊥) → (s ≡ status.Done) ⊎ (s ≡ status.Memory)
+  made_comes (said s y) screen = inl (owed_made s y.text y.owed).0
+  made_comes (part y) screen = absurd (screen refl)
+  made_comes (nothing y) screen = inr refl
+  made_comes (talked e t) screen = absurd t
 
 -- ---- either
 
-module _ (one : OneRun) (words : Words) (before after : Outside) where
-  abbrev At : Option Meant → Status → Type 0
-  At m s = Goes m before after s
+module _ (one : OneRun) (words : Words) {before after : Outside} {s : Status} (x : HasGone (meaning words) before after s) where
+  at : {m : Option Meant} → meaning words ≡ m → View m before after s
+  at {m} is = view m before after s (subst (λ (m : Option Meant). Goes m before after s) is x.goes)
 
-  pub whole_transcript : (set : Setting words before.files before.streams.left) → At (meaning words) status.Done
+  goes_done : {m : Option Meant} → meaning words ≡ m → code_of s ≡ 0 → Goes m before after status.Done
+  goes_done {m} is done =
+      subst (Goes m before after) (code_is s status.Done done) (subst (λ (m : Option Meant). Goes m before after s) is x.goes)
+
+  pub whole_transcript : (set : Setting words before.files before.streams.left) → code_of s ≡ 0
       → Follows before after (transcript_of set) (saves_of set)
-  whole_transcript (InFiles r means told) h = whole_told one r before after told (subst (λ (m : Option Meant). At m status.Done) means h)
-  whole_transcript (IsMade number means x) h = whole_made one number before after x (subst (λ (m : Option Meant). At m status.Done) means h)
+  whole_transcript (InFiles r means told) done = whole_told one r before after told (goes_done means done)
+  whole_transcript (IsMade number means y) done = whole_made one number before after y (goes_done means done)
 
   pub record FirstPart (set : Setting words before.files before.streams.left) : Type 0 where
     pub saves : List Bool
@@ -322,45 +252,40 @@ module _ (one : OneRun) (words : Words) (before after : Outside) where
     pub files_are : FilesAfter saves (saves_of set) before.files after.files
     pub reached : Reached (telling_of set) (lines_of_console set) saves before.streams.given after.streams.given
 
-  pub first_part : (set : Setting words before.files before.streams.left) → AllFetched set before.counts after.counts → (s : Status)
-      → At (meaning words) s → FirstPart set
-  first_part (InFiles r means told) well s h =
-      let f = part_told one r before after told well s (subst (λ (m : Option Meant). At m s) means h) in
+  pub first_part : (set : Setting words before.files before.streams.left) → AllFetched set before.counts after.counts → FirstPart set
+  first_part (InFiles r means told) well =
+      let f = part_told one r before after told well (at means) in
       record { saves = f.saves; few = f.few; gave = f.gave; files_are = f.files_are; reached = f.reached }
-  first_part (IsMade number means x) well s h =
-      let f = part_made one number before after x s (subst (λ (m : Option Meant). At m s) means h) in
+  first_part (IsMade number means y) well =
+      let f = part_made one number before after y (at means) in
       record { saves = f.saves; few = f.few; gave = f.gave; files_are = f.files_are; reached = f.reached }
 
-  -- what failed, by the counts of the console and of the screen
-  pub record Failed (s : Status) (console console' screen screen' : ℕ) : Type 0 where
-    pub console_counted : Counted (is_console s) console console'
-    pub screen_counted : Counted (is_screen s) screen screen'
-
-  pub wanted_or_memory : (set : Setting words before.files before.streams.left) (wanted : Status) → ComesTo set wanted
-      → {console console' screen screen' : ℕ}
+  pub wanted_or_memory : {console console' screen screen' : ℕ} → Failed s console console' screen screen'
+      → (set : Setting words before.files before.streams.left) (wanted : Status) → ComesTo set wanted
       → NothingFailed set (record { keeper = before.counts; console = console; screen = screen })
-      (record { keeper = after.counts; console = console'; screen = screen' })
-      → (s : Status) → Failed s console console' screen screen' → At (meaning words) s → (s ≡ wanted) ⊎ (s ≡ status.Memory)
-  wanted_or_memory (InFiles r means told) status.Done (fits, ends) {console} {console'} {screen} {screen'} (well, calm, still) s f h =
-      done_comes one r before after told well fits ends s (subst (λ (m : Option Meant). At m s) means h)
-      (no_console s console console' f.console_counted calm) (no_screen s screen screen' f.screen_counted still)
-  wanted_or_memory (InFiles r means told) status.Spent (fits, on) {console} {console'} {screen} {screen'} (well, calm, still) s f h =
-      spent_comes one r before after told well fits on s (subst (λ (m : Option Meant). At m s) means h)
-      (no_console s console console' f.console_counted calm) (no_screen s screen screen' f.screen_counted still)
-  wanted_or_memory (InFiles r means told) status.Words c n s f h = absurd c
-  wanted_or_memory (InFiles r means told) status.Source c n s f h = absurd c
-  wanted_or_memory (InFiles r means told) status.File c n s f h = absurd c
-  wanted_or_memory (InFiles r means told) status.Console c n s f h = absurd c
-  wanted_or_memory (InFiles r means told) status.Screen c n s f h = absurd c
-  wanted_or_memory (InFiles r means told) status.Memory c n s f h = absurd c
-  wanted_or_memory (InFiles r means told) status.Session c n s f h = absurd c
-  wanted_or_memory (IsMade number means x) status.Done c {console} {console'} {screen} {screen'} still s f h =
-      made_comes one number before after x s (subst (λ (m : Option Meant). At m s) means h) (no_screen s screen screen' f.screen_counted still)
-  wanted_or_memory (IsMade number means x) status.Spent c n s f h = absurd c
-  wanted_or_memory (IsMade number means x) status.Words c n s f h = absurd c
-  wanted_or_memory (IsMade number means x) status.Source c n s f h = absurd c
-  wanted_or_memory (IsMade number means x) status.File c n s f h = absurd c
-  wanted_or_memory (IsMade number means x) status.Console c n s f h = absurd c
-  wanted_or_memory (IsMade number means x) status.Screen c n s f h = absurd c
-  wanted_or_memory (IsMade number means x) status.Memory c n s f h = absurd c
-  wanted_or_memory (IsMade number means x) status.Session c n s f h = absurd c
+      (record { keeper = after.counts; console = console'; screen = screen' }) → (s ≡ wanted) ⊎ (s ≡ status.Memory)
+  wanted_or_memory f (InFiles r means told) status.Done (fits, ends) (well, calm, still) =
+      ended_told one r before after told well fits calm still ending.Done
+      (λ e w c. done_or_memory (subject_in told.begun) (start_in told.begun) before.streams.left after.streams.left told.console told.console_told
+      e w c ends) f (at means)
+  wanted_or_memory f (InFiles r means told) status.Spent (fits, on) (well, calm, still) =
+      ended_told one r before after told well fits calm still ending.Spent
+      (λ e w c. spent_or_memory (subject_in told.begun) (start_in told.begun) before.streams.left after.streams.left told.console told.console_told
+      e w c on) f (at means)
+  wanted_or_memory f (InFiles r means told) status.Words c n = absurd c
+  wanted_or_memory f (InFiles r means told) status.Source c n = absurd c
+  wanted_or_memory f (InFiles r means told) status.File c n = absurd c
+  wanted_or_memory f (InFiles r means told) status.Console c n = absurd c
+  wanted_or_memory f (InFiles r means told) status.Screen c n = absurd c
+  wanted_or_memory f (InFiles r means told) status.Memory c n = absurd c
+  wanted_or_memory f (InFiles r means told) status.Session c n = absurd c
+  wanted_or_memory {console} {console'} {screen} {screen'} f (IsMade number means y) status.Done c still =
+      made_comes one number before after y (at means) (no_screen s screen screen' f.screen_counted still)
+  wanted_or_memory f (IsMade number means y) status.Spent c n = absurd c
+  wanted_or_memory f (IsMade number means y) status.Words c n = absurd c
+  wanted_or_memory f (IsMade number means y) status.Source c n = absurd c
+  wanted_or_memory f (IsMade number means y) status.File c n = absurd c
+  wanted_or_memory f (IsMade number means y) status.Console c n = absurd c
+  wanted_or_memory f (IsMade number means y) status.Screen c n = absurd c
+  wanted_or_memory f (IsMade number means y) status.Memory c n = absurd c
+  wanted_or_memory f (IsMade number means y) status.Session c n = absurd c

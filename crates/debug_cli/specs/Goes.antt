@@ -66,3 +66,7 @@ Goes m before after status.Screen = SaysPart m before after ⊎ Talks m before a
 Goes m before after status.Memory = SaysNothing before after ⊎ Talks m before after ending.Memory
 Goes m before after status.Session = Says m before after status.Session ⊎ Talks m before after ending.Refused
 Goes m before after status.Spent = Talks m before after ending.Spent
+
+-- the same, as a record
+pub record HasGone (m : Option Meant) (before after : Outside) (s : Status) : Type 0 where
+  pub goes : Goes m before after s

@@ -4,6 +4,7 @@ pub mod Given
 pub mod Named
 pub mod Outside
 pub mod Goes
+pub mod Refusals
 pub mod Exits
 pub mod Setting
 pub mod Laws

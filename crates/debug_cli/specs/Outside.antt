@@ -1,9 +1,15 @@
 -- What became of what is outside of the command.
-use Rattle.std.specs.Prelude.{◌≡◌, ◌⊎◌, ◌≢◌, ℕ, Err}
+use Rattle.std.specs.Prelude.{◌≡◌, ◌⊎◌, ◌≢◌, ℕ, List, Option, Err}
 use Rattle.edge_ports.specs.Counts.{KeeperCounts, CountsFetch}
+use Rattle.edge_ports.specs.Files.{FileMap}
 use Rattle.edge_ports.specs.declared.ports.FetchFault.{FetchFault}
 use Rattle.ask_session.specs.Console.{NotRisen}
 use Rattle.ask_session.specs.Outside.{Outside}
+
+-- what is outside: the keeper's files and its counts, what the console has left, and what the screen was given
+abbrev pub outside : Option FileMap → KeeperCounts → (left given : Option (List ℕ)) → Outside
+outside files counts left given =
+    record { files = files; counts = counts; streams = record { left = left; given = given } }
 
 -- no file was stored, and nothing was taken of the console
 pub record LeavesAlone (before after : Outside) : Type 0 where

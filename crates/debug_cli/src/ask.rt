@@ -1,10 +1,9 @@
 //! The command: from its words to its exit status.
-ghost use Rattle.std.specs.Prelude.{◌≡◌, ◌⊎◌, ◌≤◌, ◌==◌, Bool, List, Some, None, false, IsTrue, IsSome, length};
+ghost use Rattle.std.specs.Prelude.{◌≡◌, ◌⊎◌, ◌≤◌, ◌==◌, Bool, List, Some, None, IsTrue, IsSome, length};
 ghost use Rattle.edge_ports.specs.Counts.{Counted};
 ghost use Rattle.edge_ports.specs.Told.{GaveAll, GavePrefix};
-ghost use Rattle.command_words.specs.Meaning.{IsWithinLimits, Requested};
+ghost use Rattle.command_words.specs.Meaning.{Requested};
 ghost use Rattle.command_words.specs.Meaning as meant;
-ghost use Rattle.command_words.specs.Reading.{meant_of};
 ghost use Rattle.body_replay.specs.Laws.{BodiesGiveTheirExits};
 ghost use Rattle.ask_session.specs.Console.{NotRisen};
 ghost use Rattle.ask_session.specs.Laws.{AsksTheBest, FindsTheFault, NamesTheAccused, NarrowsTheFault};
@@ -13,17 +12,18 @@ ghost use Rattle.ask_session.specs.Reached.{Reached};
 ghost use Rattle.ask_session.specs.Saves.{FilesAfter, counts_saved};
 ghost use Rattle.debug_cli.specs.Headline.{Headline};
 ghost use Rattle.debug_cli.specs.declared.status.Status.{Status};
-ghost use Rattle.debug_cli.specs.Goes.{Goes};
+ghost use Rattle.debug_cli.specs.Goes.{Goes, HasGone};
 ghost use Rattle.debug_cli.specs.Laws.{InEachRun, OneRun};
 ghost use Rattle.debug_cli.specs.Named.{meaning};
-ghost use Rattle.debug_cli.specs.Outside.{NoFetchFailed, NoneRisen};
+ghost use Rattle.debug_cli.specs.Outside.{NoFetchFailed, NoneRisen, outside};
 ghost use Rattle.debug_cli.specs.Setting.{AllFetched, ComesTo, NothingFailed, Setting, Told, saves_of, transcript_of};
 ghost use Rattle.debug_cli.specs.Setting.{MeansNoProgram, MeansNoSession, NamesNoFile, lines_of_console, telling_of};
 ghost use Rattle.debug_cli.specs.Status.{code_of, is_console, is_screen};
 
-use crate::files::ask_files;
+use crate::files::{ask_about, supply};
 use crate::laws;
-use crate::made::ask_made;
+use crate::made::made_text;
+use crate::refusals::refuse;
 use crate::status::{Status, give_text};
 use command_words::{Asked, WordFault, read_words};
 use edge_ports::{Keeper, Sink, Source};
@@ -32,58 +32,17 @@ use std::alloc::Global;
 /// The line on words that are refused.
 const USAGE: &[u8] = b"usage: pasask SOURCE [--input F] [--budget N] [--load F]\n";
 
-/// Does what the words ask for.
-fn ask_for<K: Keeper, I: Source, O: Sink>(
-    alloc: Global,
-    asked: &Asked,
-    keeper: &mut K,
-    console: &mut I,
-    screen: &mut O,
-) -> Status
-    requires range { IsWithinLimits (meant_of asked.now) }
-    ensures goes { Goes (Some (meant_of asked.now))
-        (record {
-          files = K.files keeper.old;
-          counts = K.counts keeper.old;
-          streams = record { left = I.left console.old; given = O.given screen.old };
-        })
-        (record {
-          files = K.files keeper.new;
-          counts = K.counts keeper.new;
-          streams = record { left = I.left console.new; given = O.given screen.new };
-        }) result }
-    ensures console_faults { Counted (is_console result) (I.faults console.old) (I.faults console.new) }
-    ensures screen_faults { Counted (is_screen result) (O.faults screen.old) (O.faults screen.new) }
-    ensures last { IsTrue (is_screen result) → IsTrue (O.last_failed screen.new) }
-    ensures loan { O.loan screen.new ≡ O.loan screen.old }
-    ensures untouched { NamesNoFile (Some (meant_of asked.now))
-        → (keeper.new ≡ keeper.old) × (console.new ≡ console.old) }
-{
-    match asked {
-        Asked::Source(request) => ask_files(alloc, request, keeper, console, screen),
-        Asked::Made(number) => ask_made(alloc, *number, screen),
-    }
-}
-
 /// Does what the words mean.
-fn ask_words<K: Keeper, I: Source, O: Sink>(
+fn ask<K: Keeper, I: Source, O: Sink>(
     alloc: Global,
     words: &[String],
     keeper: &mut K,
     console: &mut I,
     screen: &mut O,
 ) -> Status
-    ensures goes { Goes (meaning words.now)
-        (record {
-          files = K.files keeper.old;
-          counts = K.counts keeper.old;
-          streams = record { left = I.left console.old; given = O.given screen.old };
-        })
-        (record {
-          files = K.files keeper.new;
-          counts = K.counts keeper.new;
-          streams = record { left = I.left console.new; given = O.given screen.new };
-        }) result }
+    ensures gone { HasGone (meaning words.now)
+        (outside (K.files keeper.old) (K.counts keeper.old) (I.left console.old) (O.given screen.old))
+        (outside (K.files keeper.new) (K.counts keeper.new) (I.left console.new) (O.given screen.new)) result }
     ensures console_faults { Counted (is_console result) (I.faults console.old) (I.faults console.new) }
     ensures screen_faults { Counted (is_screen result) (O.faults screen.old) (O.faults screen.new) }
     ensures last { IsTrue (is_screen result) → IsTrue (O.last_failed screen.new) }
@@ -91,7 +50,14 @@ fn ask_words<K: Keeper, I: Source, O: Sink>(
     ensures untouched { NamesNoFile (meaning words.now) → (keeper.new ≡ keeper.old) × (console.new ≡ console.old) }
 {
     match read_words(alloc, words) {
-        Ok(asked) => ask_for(alloc, &asked, keeper, console, screen),
+        Ok(Asked::Source(request)) => match supply(alloc, &request, keeper) {
+            Ok(supplied) => ask_about(alloc, &request, supplied, keeper, console, screen),
+            Err(refusal) => refuse(alloc, &refusal, screen),
+        },
+        Ok(Asked::Made(number)) => match made_text(alloc, number) {
+            Ok(text) => give_text(screen, text.as_slice(), Status::Done),
+            Err(refusal) => refuse(alloc, &refusal, screen),
+        },
         Err(WordFault::Refused) => give_text(screen, USAGE, Status::Words),
         Err(WordFault::Memory) => Status::Memory,
     }
@@ -102,7 +68,9 @@ fn ask_words<K: Keeper, I: Source, O: Sink>(
 /// within the budget, gives the card of call 0 and a report to the screen, and answers the console's lines up to `quit`
 /// or its end. A report asks about a call, or names the call at fault, as the answers stand. A line may ask for the
 /// session to be saved, which the keeper stores. `make:N` as SOURCE means a made program, which is asked about with no
-/// one asked: its three lines are all that is given.
+/// one asked: its lines are all that is given. Then `transcript`, `prefix` and `complete` have the premise that the
+/// made source is a program; and there is a third line, with the call at fault, where its run has fewer than 100,000
+/// calls. No clause says that either is so.
 ///
 /// It answers the exit status: 0 after `quit` or the console's end, or the lines of a made program; 2 where the words
 /// mean nothing; 3 where the source is refused; 4 where a file could not be fetched; 5 and 6 where the console and the
@@ -121,9 +89,9 @@ pub fn ask_pascal<K: Keeper, I: Source, O: Sink>(
         → meaning words.now ≡ Some (meant.Source r) → result ≡ 0
         → Headline t (O.given screen.old) (O.given screen.new) }
     // Where the keeper tells the named files, the source is a program and the console tells its bytes, or the words
-    // mean a made program: what the screen got and what became of the files, by the answers to lines that ask to save,
-    // at status 0, and at every status unless a fetch failed, and then of how many lines each save has its answer; and
-    // the status, 0 or 9, if nothing failed but stores.
+    // mean a made source that is a program: what the screen got and what became of the files, by the answers to lines
+    // that ask to save, at status 0, and at every status unless a fetch failed, and then of how many lines each save
+    // has its answer; and the status, 0 or 9, if nothing failed but stores.
     ensures transcript { (s : Setting words.now (K.files keeper.old) (I.left console.old)) → result ≡ 0
         → (saves : List Bool) × (length saves ≡ length (saves_of s))
         × GaveAll (O.given screen.old) (O.given screen.new) (transcript_of s saves)
@@ -186,5 +154,5 @@ pub fn ask_pascal<K: Keeper, I: Source, O: Sink>(
     laws::exits_are_given();
     laws::verdicts_are_found();
     laws::one_run();
-    ask_words(alloc, words, keeper, console, screen).code()
+    ask(alloc, words, keeper, console, screen).code()
 }

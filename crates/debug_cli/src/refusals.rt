@@ -1,79 +1,89 @@
-//! What is said of sources, files and sessions that are refused.
-ghost use Rattle.std.specs.Prelude.{◌≡◌, ◌⊎◌, Err, false, IfOk, IsTrue, alloc_error};
+//! What is refused, and what is said of it.
+ghost use Rattle.std.specs.Prelude.{◌≡◌, false, IsTrue};
 ghost use Rattle.edge_ports.specs.Counts.{Counted};
-ghost use Rattle.debug_cli.specs.Given.{GivesNothing, GivesText};
+ghost use Rattle.debug_cli.specs.Refusals.{GivesLine, line_on, refusal_status};
 ghost use Rattle.debug_cli.specs.Status.{is_console, is_screen};
-ghost use Rattle.debug_cli.specs.Texts.{file_line, refused_line, session_line};
 
 use crate::status::{Status, give_text};
-use crate::texts::{absent_text, failed_text, refused_text, session_text, too_long_text};
-use debuggee::SourceRefusal;
-use edge_ports::{Bytes, FetchFault, Sink};
+use crate::texts::refusal_line;
+use debuggee::SourceFault;
+use edge_ports::{FetchFault, Sink};
 use session_file::LoadFault;
 use std::alloc::{AllocError, Global};
 
-/// Says why and where a source is refused.
-pub fn refuse_source<O: Sink>(
-    alloc: Global,
-    why: SourceRefusal,
-    line: u32,
-    byte: u32,
-    screen: &mut O,
-) -> Status
-    ensures says { GivesText result Status.Source (refused_line why line byte) (O.given screen.old) (O.given screen.new)
-        ⊎ GivesNothing result (O.given screen.old) (O.given screen.new) }
+/// Why what the words name is not gone on with.
+#[derive(Clone, Copy, Drop)]
+pub enum Refusal<'a> {
+    /// The source is no program.
+    Source(SourceFault),
+    /// The file of this name could not be fetched.
+    File(&'a str, FetchFault),
+    /// The file that is named as a session's is none.
+    Session(LoadFault),
+    /// Memory ran out.
+    Memory,
+}
+
+impl<'a> From<SourceFault> for Refusal<'a> {
+    ghost use Rattle.std.specs.Prelude.{◌≡◌};
+    ghost use Rattle.debug_cli.specs.declared.refusals.Refusal.TheVariants.{Source};
+
+    ghost from_gives = { λ fault e. e ≡ Source fault };
+
+    fn from(fault: SourceFault) -> Refusal<'a> {
+        Refusal::Source(fault)
+    }
+}
+
+impl<'a> From<LoadFault> for Refusal<'a> {
+    ghost use Rattle.std.specs.Prelude.{◌≡◌};
+    ghost use Rattle.debug_cli.specs.declared.refusals.Refusal.TheVariants.{Session};
+
+    ghost from_gives = { λ fault e. e ≡ Session fault };
+
+    fn from(fault: LoadFault) -> Refusal<'a> {
+        Refusal::Session(fault)
+    }
+}
+
+impl<'a> From<AllocError> for Refusal<'a> {
+    ghost use Rattle.std.specs.Prelude.{◌≡◌};
+    ghost use Rattle.debug_cli.specs.declared.refusals.Refusal.TheVariants.{Memory};
+
+    ghost from_gives = { λ _ e. e ≡ Memory };
+
+    fn from(_e: AllocError) -> Refusal<'a> {
+        Refusal::Memory
+    }
+}
+
+impl<'a> Refusal<'a> {
+    /// The status that comes with it.
+    fn status(&self) -> Status
+        ensures status { result ≡ refusal_status self.now }
+        ensures not_screen { is_screen result ≡ false }
+        ensures not_console { is_console result ≡ false }
+    {
+        match self {
+            Refusal::Source(_) => Status::Source,
+            Refusal::File(_, _) => Status::File,
+            Refusal::Session(_) => Status::Session,
+            Refusal::Memory => Status::Memory,
+        }
+    }
+}
+
+/// Says what is refused, by its line. Where memory ran out nothing is said.
+pub fn refuse<O: Sink>(alloc: Global, refusal: &Refusal<'_>, screen: &mut O) -> Status
+    ensures says { GivesLine (line_on refusal.now) (refusal_status refusal.now) result
+        (O.given screen.old) (O.given screen.new) }
     ensures not_console { is_console result ≡ false }
     ensures faults { Counted (is_screen result) (O.faults screen.old) (O.faults screen.new) }
     ensures last { IsTrue (is_screen result) → IsTrue (O.last_failed screen.new) }
     ensures loan { O.loan screen.new ≡ O.loan screen.old }
 {
-    match refused_text(alloc, why, line, byte) {
-        Ok(text) => give_text(screen, text.as_slice(), Status::Source),
-        Err(_) => Status::Memory,
-    }
-}
-
-/// The line on a file that could not be fetched.
-fn file_text(alloc: Global, fault: FetchFault, name: &[u8]) -> Result<Bytes, AllocError>
-    ensures text { IfOk result (λ text. text ≡ file_line fault name.now) }
-    ensures memory { fault ≡ FetchFault.Memory → result ≡ Err alloc_error }
-{
-    match fault {
-        FetchFault::Absent => absent_text(alloc, name),
-        FetchFault::Failed => failed_text(alloc, name),
-        FetchFault::TooLong(_) => too_long_text(alloc, name),
-        FetchFault::Memory => Err(AllocError),
-    }
-}
-
-/// Says why a file could not be fetched.
-pub fn refuse_file<O: Sink>(alloc: Global, fault: FetchFault, name: &str, screen: &mut O) -> Status
-    ensures says { ((fault ≡ FetchFault.Memory → ⊥)
-        × GivesText result Status.File (file_line fault name.now) (O.given screen.old) (O.given screen.new))
-        ⊎ GivesNothing result (O.given screen.old) (O.given screen.new) }
-    ensures not_console { is_console result ≡ false }
-    ensures faults { Counted (is_screen result) (O.faults screen.old) (O.faults screen.new) }
-    ensures last { IsTrue (is_screen result) → IsTrue (O.last_failed screen.new) }
-    ensures loan { O.loan screen.new ≡ O.loan screen.old }
-{
-    match file_text(alloc, fault, name.as_bytes()) {
-        Ok(text) => give_text(screen, text.as_slice(), Status::File),
-        Err(_) => Status::Memory,
-    }
-}
-
-/// Says why a file is no session.
-pub fn refuse_session<O: Sink>(alloc: Global, fault: LoadFault, screen: &mut O) -> Status
-    ensures says { ((fault ≡ LoadFault.Memory → ⊥)
-        × GivesText result Status.Session (session_line fault) (O.given screen.old) (O.given screen.new))
-        ⊎ GivesNothing result (O.given screen.old) (O.given screen.new) }
-    ensures not_console { is_console result ≡ false }
-    ensures faults { Counted (is_screen result) (O.faults screen.old) (O.faults screen.new) }
-    ensures last { IsTrue (is_screen result) → IsTrue (O.last_failed screen.new) }
-    ensures loan { O.loan screen.new ≡ O.loan screen.old }
-{
-    match session_text(alloc, fault) {
-        Ok(text) => give_text(screen, text.as_slice(), Status::Session),
+    match refusal_line(alloc, refusal) {
+        Ok(text) => give_text(screen, text.as_slice(), refusal.status()),
         Err(_) => Status::Memory,
     }
 }

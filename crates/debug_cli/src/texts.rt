@@ -1,11 +1,12 @@
 //! The texts on what is refused.
-ghost use Rattle.std.specs.Prelude.{◌≡◌, ◌++◌, Err, IfOk, OnOk, alloc_error, codes, decimal};
-ghost use Rattle.debug_cli.specs.Texts.{absent_line, failed_line, too_long_line};
-ghost use Rattle.debug_cli.specs.Texts.{field_key, refusal_name, refusal_text, refused_line, session_line};
+ghost use Rattle.std.specs.Prelude.{◌≡◌, ◌++◌, IfOk, OnOk, Some, codes, decimal};
+ghost use Rattle.debug_cli.specs.Refusals.{file_told, line_on, session_told};
+ghost use Rattle.debug_cli.specs.Texts.{field_key, refusal_name, refusal_text, refused_line};
 
+use crate::refusals::Refusal;
 use cell_names::write_number;
-use debuggee::SourceRefusal;
-use edge_ports::Bytes;
+use debuggee::{SourceFault, SourceRefusal};
+use edge_ports::{Bytes, FetchFault};
 use itoa::Buffer;
 use session_file::{LoadFault, SessionField};
 use std::alloc::{AllocError, Global};
@@ -21,25 +22,16 @@ fn named_line(alloc: Global, begin: &[u8], name: &[u8]) -> Result<Bytes, AllocEr
     Ok(text)
 }
 
-/// The line on a file that is not there.
-pub fn absent_text(alloc: Global, name: &[u8]) -> Result<Bytes, AllocError>
-    ensures { IfOk result (λ text. text ≡ absent_line name.now) }
+/// The line on a file that could not be fetched.
+fn file_text(alloc: Global, name: &[u8], why: FetchFault) -> Result<Bytes, AllocError>
+    ensures { IfOk result (λ text. file_told why name.now ≡ Some text) }
 {
-    named_line(alloc, b"file: absent ", name)
-}
-
-/// The line on a file that could not be read.
-pub fn failed_text(alloc: Global, name: &[u8]) -> Result<Bytes, AllocError>
-    ensures { IfOk result (λ text. text ≡ failed_line name.now) }
-{
-    named_line(alloc, b"file: failed ", name)
-}
-
-/// The line on a file with too many bytes.
-pub fn too_long_text(alloc: Global, name: &[u8]) -> Result<Bytes, AllocError>
-    ensures { IfOk result (λ text. text ≡ too_long_line name.now) }
-{
-    named_line(alloc, b"file: too long ", name)
+    match why {
+        FetchFault::Absent => named_line(alloc, b"file: absent ", name),
+        FetchFault::Failed => named_line(alloc, b"file: failed ", name),
+        FetchFault::TooLong(_) => named_line(alloc, b"file: too long ", name),
+        FetchFault::Memory => Err(AllocError),
+    }
 }
 
 /// The name of a reason for which a source is refused.
@@ -76,7 +68,7 @@ fn write_refusal(out: &mut Bytes, why: SourceRefusal) -> Result<(), AllocError>
 }
 
 /// The line on a source that is refused for this reason at this place.
-pub fn refused_text(
+fn refused_text(
     alloc: Global,
     why: SourceRefusal,
     line: u32,
@@ -124,14 +116,27 @@ fn version_text(alloc: Global, version: u64) -> Result<Bytes, AllocError>
 }
 
 /// The line on a file that is no session.
-pub fn session_text(alloc: Global, fault: LoadFault) -> Result<Bytes, AllocError>
-    ensures text { IfOk result (λ text. text ≡ session_line fault) }
-    ensures memory { fault ≡ LoadFault.Memory → result ≡ Err alloc_error }
+fn session_text(alloc: Global, why: LoadFault) -> Result<Bytes, AllocError>
+    ensures { IfOk result (λ text. session_told why ≡ Some text) }
 {
-    match fault {
+    match why {
         LoadFault::NotJson => word_line(alloc, b"session: ", "NotJson"),
         LoadFault::BadShape(field) => word_line(alloc, b"session: BadShape ", field_key(field)),
         LoadFault::BadVersion(version) => version_text(alloc, version),
         LoadFault::Memory => Err(AllocError),
+    }
+}
+
+/// The line on a refusal, unless memory ran out.
+pub fn refusal_line(alloc: Global, refusal: &Refusal<'_>) -> Result<Bytes, AllocError>
+    ensures { IfOk result (λ text. line_on refusal.now ≡ Some text) }
+{
+    match *refusal {
+        Refusal::Source(SourceFault::Refused { why, line, byte }) => {
+            refused_text(alloc, why, line, byte)
+        }
+        Refusal::File(name, why) => file_text(alloc, name.as_bytes(), why),
+        Refusal::Session(why) => session_text(alloc, why),
+        Refusal::Source(SourceFault::Memory) | Refusal::Memory => Err(AllocError),
     }
 }

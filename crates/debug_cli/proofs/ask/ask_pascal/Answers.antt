@@ -1,25 +1,15 @@
 use Rattle.std.proofs.Common.{◌≡◌, ◌⊎◌, ℕ, sym, subst, ◌∙◌}
-use Rattle.ask_session.specs.Outside.{Outside}
 use Rattle.debuggee.specs.Execution.{Supply}
 use Rattle.debug_cli.specs.declared.status.Status.TheVariants as status
-use Rattle.debug_cli.specs.Goes.{Goes}
-use Rattle.debug_cli.specs.Named.{meaning}
 use Rattle.debug_cli.specs.Setting.{InFiles}
-use Rattle.debug_cli.proofs.StatusByCode.{code_is, either_code, no_console, no_screen, screen_code, console_counted, screen_counted}
+use Rattle.debug_cli.proofs.StatusByCode.{either_code, no_console, no_screen, screen_code, console_counted, screen_counted}
 use Rattle.debug_cli.proofs.StatusIsRefusal.{program_refused, session_refused, no_fault_status, no_words_status}
-use Rattle.debug_cli.proofs.StatusTellsWhy.{outside_at}
 use Rattle.debug_cli.proofs.TranscriptIsGiven.{whole_transcript, first_part, wanted_or_memory}
 use Rattle.debug_cli.proofs.ask.ask_pascal.Goals as goal
 
 pub returns-clause-headline : goal.returns-clause-headline
 returns-clause-headline g c = λ r t means e.
-    let before : Outside = outside_at g.K.Keeper.files g.K.Keeper.counts g.I.Source.left g.O.Sink.given c.args.keeper.now c.args.console.now
-    c.args.screen.now in
-    let after : Outside = outside_at g.K.Keeper.files g.K.Keeper.counts g.I.Source.left g.O.Sink.given c.ask_words.new.keeper c.ask_words.new.console
-    c.ask_words.new.screen in
-    let done = code_is c.ask_words.result status.Done (sym c.code.ensures ∙ e) in
-    let f = whole_transcript c.one_run.ensures c.args.words.now before after (InFiles r means t)
-    (subst (Goes (meaning c.args.words.now) before after) done c.ask_words.ensures.goes) in
+    let f = whole_transcript c.one_run.ensures c.args.words.now c.ask.ensures.gone (InFiles r means t) (sym c.code.ensures ∙ e) in
     let tokens = t.begun.run.source.tokens in
     let rows = t.begun.run.source.rows in
     let supply : Supply = record { input = t.begun.run.input; budget = r.budget } in
@@ -33,90 +23,52 @@ returns-clause-headline g c = λ r t means e.
 
 pub returns-clause-transcript : goal.returns-clause-transcript
 returns-clause-transcript g c = λ set e.
-    let before : Outside = outside_at g.K.Keeper.files g.K.Keeper.counts g.I.Source.left g.O.Sink.given c.args.keeper.now c.args.console.now
-    c.args.screen.now in
-    let after : Outside = outside_at g.K.Keeper.files g.K.Keeper.counts g.I.Source.left g.O.Sink.given c.ask_words.new.keeper c.ask_words.new.console
-    c.ask_words.new.screen in
-    let done = code_is c.ask_words.result status.Done (sym c.code.ensures ∙ e) in
-    let f = whole_transcript c.one_run.ensures c.args.words.now before after set
-    (subst (Goes (meaning c.args.words.now) before after) done c.ask_words.ensures.goes) in
+    let f = whole_transcript c.one_run.ensures c.args.words.now c.ask.ensures.gone set (sym c.code.ensures ∙ e) in
     (f.saves, f.each, f.gave, f.files_are, f.counts_are)
 
 pub returns-clause-prefix : goal.returns-clause-prefix
 returns-clause-prefix g c = λ set well.
-    let before : Outside = outside_at g.K.Keeper.files g.K.Keeper.counts g.I.Source.left g.O.Sink.given c.args.keeper.now c.args.console.now
-    c.args.screen.now in
-    let after : Outside = outside_at g.K.Keeper.files g.K.Keeper.counts g.I.Source.left g.O.Sink.given c.ask_words.new.keeper c.ask_words.new.console
-    c.ask_words.new.screen in
-    let f = first_part c.one_run.ensures c.args.words.now before after set well c.ask_words.result c.ask_words.ensures.goes in
-    (f.saves, f.few, f.gave, f.files_are, f.reached)
+    let f = first_part c.one_run.ensures c.args.words.now c.ask.ensures.gone set well in (f.saves, f.few, f.gave, f.files_are, f.reached)
 
 pub returns-clause-complete : goal.returns-clause-complete
 returns-clause-complete g c = λ set wanted comes none.
-    let before : Outside = outside_at g.K.Keeper.files g.K.Keeper.counts g.I.Source.left g.O.Sink.given c.args.keeper.now c.args.console.now
-    c.args.screen.now in
-    let after : Outside = outside_at g.K.Keeper.files g.K.Keeper.counts g.I.Source.left g.O.Sink.given c.ask_words.new.keeper c.ask_words.new.console
-    c.ask_words.new.screen in
-    either_code c.ask_words.result wanted status.Memory c.code.result c.code.ensures
-    (wanted_or_memory c.one_run.ensures c.args.words.now before after set wanted comes none c.ask_words.result
-    (record { console_counted = c.ask_words.ensures.console_faults; screen_counted = c.ask_words.ensures.screen_faults }) c.ask_words.ensures.goes)
+    either_code c.ask.result wanted status.Memory c.code.result c.code.ensures
+    (wanted_or_memory c.one_run.ensures c.args.words.now c.ask.ensures.gone
+    (record { console_counted = c.ask.ensures.console_faults; screen_counted = c.ask.ensures.screen_faults }) set wanted comes none)
 
 pub returns-clause-usage : goal.returns-clause-usage
-returns-clause-usage g c = λ none.
-    let before : Outside = outside_at g.K.Keeper.files g.K.Keeper.counts g.I.Source.left g.O.Sink.given c.args.keeper.now c.args.console.now
-    c.args.screen.now in
-    let after : Outside = outside_at g.K.Keeper.files g.K.Keeper.counts g.I.Source.left g.O.Sink.given c.ask_words.new.keeper c.ask_words.new.console
-    c.ask_words.new.screen in
-    subst (λ (n : ℕ). (n ≡ 2) ⊎ (n ≡ 6) ⊎ (n ≡ 7)) (sym c.code.ensures)
-    (no_words_status before after c.ask_words.result (subst (λ m. Goes m before after c.ask_words.result) none c.ask_words.ensures.goes))
+returns-clause-usage g c = λ none. subst (λ (n : ℕ). (n ≡ 2) ⊎ (n ≡ 6) ⊎ (n ≡ 7)) (sym c.code.ensures) (no_words_status c.ask.ensures.gone none)
 
 pub returns-clause-no_program : goal.returns-clause-no_program
 returns-clause-no_program g c = λ means told well still.
-    let before : Outside = outside_at g.K.Keeper.files g.K.Keeper.counts g.I.Source.left g.O.Sink.given c.args.keeper.now c.args.console.now
-    c.args.screen.now in
-    let after : Outside = outside_at g.K.Keeper.files g.K.Keeper.counts g.I.Source.left g.O.Sink.given c.ask_words.new.keeper c.ask_words.new.console
-    c.ask_words.new.screen in
-    let screen = no_screen c.ask_words.result (g.O.Sink.faults c.args.screen.now) (g.O.Sink.faults c.ask_words.new.screen)
-    c.ask_words.ensures.screen_faults still in
-    either_code c.ask_words.result status.Source status.Memory c.code.result c.code.ensures
-    (program_refused before after told well (meaning c.args.words.now) means c.ask_words.result c.ask_words.ensures.goes screen)
+    let screen = no_screen c.ask.result (g.O.Sink.faults c.args.screen.now) (g.O.Sink.faults c.ask.new.screen) c.ask.ensures.screen_faults still in
+    either_code c.ask.result status.Source status.Memory c.code.result c.code.ensures (program_refused c.ask.ensures.gone told well means screen)
 
 pub returns-clause-no_session : goal.returns-clause-no_session
 returns-clause-no_session g c = λ means told well still.
-    let before : Outside = outside_at g.K.Keeper.files g.K.Keeper.counts g.I.Source.left g.O.Sink.given c.args.keeper.now c.args.console.now
-    c.args.screen.now in
-    let after : Outside = outside_at g.K.Keeper.files g.K.Keeper.counts g.I.Source.left g.O.Sink.given c.ask_words.new.keeper c.ask_words.new.console
-    c.ask_words.new.screen in
-    let screen = no_screen c.ask_words.result (g.O.Sink.faults c.args.screen.now) (g.O.Sink.faults c.ask_words.new.screen)
-    c.ask_words.ensures.screen_faults still in
-    either_code c.ask_words.result status.Session status.Memory c.code.result c.code.ensures
-    (session_refused before after told well c.one_run.ensures (meaning c.args.words.now) means c.ask_words.result c.ask_words.ensures.goes screen)
+    let screen = no_screen c.ask.result (g.O.Sink.faults c.args.screen.now) (g.O.Sink.faults c.ask.new.screen) c.ask.ensures.screen_faults still in
+    either_code c.ask.result status.Session status.Memory c.code.result c.code.ensures
+    (session_refused c.ask.ensures.gone c.one_run.ensures told well means screen)
 
 pub returns-clause-without_faults : goal.returns-clause-without_faults
 returns-clause-without_faults g c = λ some none calm still.
-    let before : Outside = outside_at g.K.Keeper.files g.K.Keeper.counts g.I.Source.left g.O.Sink.given c.args.keeper.now c.args.console.now
-    c.args.screen.now in
-    let after : Outside = outside_at g.K.Keeper.files g.K.Keeper.counts g.I.Source.left g.O.Sink.given c.ask_words.new.keeper c.ask_words.new.console
-    c.ask_words.new.screen in
-    let console = no_console c.ask_words.result (g.I.Source.faults c.args.console.now) (g.I.Source.faults c.ask_words.new.console)
-    c.ask_words.ensures.console_faults calm in
-    let screen = no_screen c.ask_words.result (g.O.Sink.faults c.args.screen.now) (g.O.Sink.faults c.ask_words.new.screen)
-    c.ask_words.ensures.screen_faults still in
+    let console = no_console c.ask.result (g.I.Source.faults c.args.console.now) (g.I.Source.faults c.ask.new.console) c.ask.ensures.console_faults calm in
+    let screen = no_screen c.ask.result (g.O.Sink.faults c.args.screen.now) (g.O.Sink.faults c.ask.new.screen) c.ask.ensures.screen_faults still in
     subst (λ (n : ℕ). (n ≡ 0) ⊎ (n ≡ 3) ⊎ (n ≡ 7) ⊎ (n ≡ 8) ⊎ (n ≡ 9)) (sym c.code.ensures)
-    (no_fault_status before after (meaning c.args.words.now) some none c.ask_words.result c.ask_words.ensures.goes console screen)
+    (no_fault_status c.ask.ensures.gone some none console screen)
 
 pub returns-clause-goes : goal.returns-clause-goes
-returns-clause-goes g c = (c.ask_words.result, c.code.ensures, c.ask_words.ensures.goes)
+returns-clause-goes g c = (c.ask.result, c.code.ensures, c.ask.ensures.gone.goes)
 
 pub returns-clause-console_faults : goal.returns-clause-console_faults
 returns-clause-console_faults g c =
-    console_counted c.ask_words.result c.code.result (g.I.Source.faults c.args.console.now) (g.I.Source.faults c.ask_words.new.console)
-    c.code.ensures c.ask_words.ensures.console_faults
+    console_counted c.ask.result c.code.result (g.I.Source.faults c.args.console.now) (g.I.Source.faults c.ask.new.console)
+    c.code.ensures c.ask.ensures.console_faults
 
 pub returns-clause-screen_faults : goal.returns-clause-screen_faults
 returns-clause-screen_faults g c =
-    screen_counted c.ask_words.result c.code.result (g.O.Sink.faults c.args.screen.now) (g.O.Sink.faults c.ask_words.new.screen)
-    c.code.ensures c.ask_words.ensures.screen_faults
+    screen_counted c.ask.result c.code.result (g.O.Sink.faults c.args.screen.now) (g.O.Sink.faults c.ask.new.screen)
+    c.code.ensures c.ask.ensures.screen_faults
 
 pub returns-clause-last : goal.returns-clause-last
-returns-clause-last g c = λ e. c.ask_words.ensures.last (screen_code c.ask_words.result (sym c.code.ensures ∙ e))
+returns-clause-last g c = λ e. c.ask.ensures.last (screen_code c.ask.result (sym c.code.ensures ∙ e))

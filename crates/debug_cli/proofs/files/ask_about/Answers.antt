@@ -1,0 +1,69 @@
+use Rattle.std.proofs.Common.{◌≡◌, ◌≤◌, inl, length, List, ℕ, Some, refl, sym, ap, subst, ◌∙◌, Bool}
+use Rattle.sha2.specs.Sha256.{sha256}
+use Rattle.edge_ports.specs.Counts.{Counted}
+use Rattle.command_words.specs.Meaning.{Requested, Source}
+use Rattle.command_words.specs.Reading.{requested_by}
+use Rattle.dialog_replies.specs.declared.start.Start.{Start}
+use Rattle.ask_session.specs.Outside.{Outside}
+use Rattle.ask_session.specs.Went.{Went}
+use Rattle.debuggee.specs.Execution.{Execution, execution_of}
+use Rattle.debuggee.specs.Limits.{input_bytes}
+use Rattle.debuggee.specs.Subjects.{subject_of}
+use Rattle.debug_cli.specs.Goes.{Goes}
+use Rattle.debug_cli.specs.Named.{Begun, start_in}
+use Rattle.debug_cli.specs.Outside.{outside}
+use Rattle.debug_cli.specs.Status.{is_console, is_screen}
+use Rattle.debug_cli.proofs.StatusByCode.{console_by_end, screen_by_end}
+use Rattle.debug_cli.proofs.StatusTellsWhy.{talk_goes}
+use Rattle.debug_cli.proofs.files.ask_about.Goals as goal
+
+pub run_program-requires-clause-input : goal.run_program-requires-clause-input
+run_program-requires-clause-input g c = subst (λ (b : List ℕ). length b ≤ input_bytes) (sym c.as_slice-3.ensures) c.requires.supplied.short
+
+pub converse-requires : goal.converse-requires
+converse-requires g c = record { whole = record { source = c.digest.ensures.whole; input = c.digest-2.ensures.whole; saved = c.requires.supplied.whole } }
+
+pub returns-in-Ok-clause-gone : goal.returns-in-Ok-clause-gone
+returns-in-Ok-clause-gone g c =
+    let before : Outside = outside (g.K.Keeper.files c.args.keeper.now) (g.K.Keeper.counts c.args.keeper.now) (g.I.Source.left c.args.console.now)
+    (g.O.Sink.given c.args.screen.now) in
+    let after : Outside = outside (g.K.Keeper.files c.converse.new.keeper) (g.K.Keeper.counts c.converse.new.keeper) (g.I.Source.left c.converse.new.console)
+    (g.O.Sink.given c.converse.new.screen) in
+    let s = c.args.supplied in
+    let is = c.requires.supplied in
+    let r : Requested = requested_by c.args.request.now in
+    let b : Begun r before.files = record {
+      run = record {
+        source = record { bytes = s.source; fetched = is.source; tokens = s.program.tokens; rows = s.program.program; program = is.program };
+        input = s.input;
+        is_input = is.input;
+      };
+      saved = s.saved;
+      is_saved = is.saved;
+    } in
+    let begins : Start = record { source = c.digest.result; input = c.digest-2.result; budget = r.budget; saved = s.saved } in
+    let source = c.digest.ensures.value ∙ ap sha256 c.as_slice.ensures in
+    let input = c.digest-2.ensures.value ∙ ap sha256 c.as_slice-2.ensures in
+    let same : begins ≡ start_in b = λ i. record { source = source i; input = input i; budget = r.budget; saved = s.saved } in
+    let run : List ℕ → Execution = λ x. execution_of s.program.tokens s.program.program (record { input = x; budget = r.budget }) in
+    let kept = c.in-Ok.ensures.kept ∙ ap run c.as_slice-3.ensures in
+    let ran = subst (λ (h : Execution). Went (subject_of h) begins before c.converse.result after) kept c.converse.ensures.goes in
+    let went = subst (λ (s' : Start). Went (subject_of (run s.input)) s' before c.converse.result after) same ran in
+    record { goes = subst (Goes (Some (Source r)) before after) (sym c.status_of.ensures) (talk_goes r before after b c.converse.result went) }
+
+pub returns-in-Ok-clause-console_faults : goal.returns-in-Ok-clause-console_faults
+returns-in-Ok-clause-console_faults g c =
+    subst (λ (b : Bool). Counted b (g.I.Source.faults c.args.console.now) (g.I.Source.faults c.converse.new.console))
+    (console_by_end c.converse.result ∙ ap is_console (sym c.status_of.ensures)) c.converse.ensures.console_faults
+
+pub returns-in-Ok-clause-screen_faults : goal.returns-in-Ok-clause-screen_faults
+returns-in-Ok-clause-screen_faults g c =
+    subst (λ (b : Bool). Counted b (g.O.Sink.faults c.args.screen.now) (g.O.Sink.faults c.converse.new.screen))
+    (screen_by_end c.converse.result ∙ ap is_screen (sym c.status_of.ensures)) c.converse.ensures.screen_faults
+
+pub returns-in-Ok-clause-last : goal.returns-in-Ok-clause-last
+returns-in-Ok-clause-last g c = λ failed.
+    c.converse.ensures.last (screen_by_end c.converse.result ∙ ap is_screen (sym c.status_of.ensures) ∙ failed)
+
+pub returns-clause-gone : goal.returns-clause-gone
+returns-clause-gone g c = record { goes = inl (record { given = refl; counts = inl refl; alone = record { files = refl; left = refl } }) }
