@@ -8,10 +8,11 @@ use Rattle.edge_ports.specs.Counts.{counts_stored}
 use Rattle.edge_ports.specs.Limits.{line_bytes}
 use Rattle.edge_ports.specs.declared.ports.StoreFault.TheVariants as store
 use Rattle.answer_book.specs.declared.entries.Entry.{Entry}
+use Rattle.dialog_replies.specs.declared.instructions.DialogCommand.{DialogCommand}
 use Rattle.dialog_replies.specs.declared.instructions.Instruction.{Instruction}
 use Rattle.dialog_replies.specs.declared.instructions.Instruction.TheVariants as asks
 use Rattle.dialog_replies.specs.Instructions.{instruction_of}
-use Rattle.dialog_replies.specs.Replies.{LineOutcome, outcome, replied}
+use Rattle.dialog_replies.specs.Replies.{LineOutcome, command_outcome, outcome, replied}
 use Rattle.dialog_replies.specs.Subject.{Subject}
 use Rattle.dialog_replies.specs.declared.start.Start.{Start}
 use Rattle.dialog_replies.specs.Start.{saved_text}
@@ -75,12 +76,13 @@ module _ (s : Subject) (start : Start) (old : LineAt) where
   pub breaks_off : (entries : List Entry) → BreaksOff s start old.moment old.line (with_entries old.moment entries)
   breaks_off entries = record { saves = []; answered = omega arith; files_are = refl; counts_are = inl refl }
 
-  pub replies_so : (entries : List Entry) (reply : List ℕ) (i : Instruction) → Asks old.line i → (is_quit i ≡ false) × (saved_file i ≡ None)
-      → replied entries reply ≡ outcome s old.moment.entries i → AnswersLine s start old (Ok reply) (with_entries old.moment entries)
-  replies_so entries reply i a on is =
-      let none : file_asked old.line ≡ None = asked_by old.line i a None on.1 in (
+  pub replies_so : (entries : List Entry) (reply : List ℕ) (c : DialogCommand) → Asks old.line (asks.Command c)
+      → replied entries reply ≡ command_outcome s old.moment.entries c → AnswersLine s start old (Ok reply) (with_entries old.moment entries)
+  replies_so entries reply c a is =
+      let i : Instruction = asks.Command c in
+      let none : file_asked old.line ≡ None = asked_by old.line i a None refl in (
         [],
-        passes_plain entries (ends_by old.line i a false on.0) none
+        passes_plain entries (ends_by old.line i a false refl) none
             (ap (λ (o : LineOutcome). o.entries) is ∙ sym (entries_by old.line i a s old.moment.entries)),
         ap (λ (o : LineOutcome). o.reply) is ∙ sym (plain_by old.line i a s old.moment.entries) ∙ sym (plainly s start old.moment.entries old.line true none),
       )
@@ -98,58 +100,24 @@ module _ (s : Subject) (start : Start) (old : LineAt) where
 
 -- ---- a line that asks to save
 
-module _ (s : Subject) where
-  -- only such an instruction names a file, and it leaves the entries
-  entries_stay : (entries : List Entry) (i : Instruction) (file : List ℕ) → saved_file i ≡ Some file → (outcome s entries i).entries ≡ entries
-  unfolding outcome
-  entries_stay entries (asks.Save f) file e = refl
-  entries_stay entries asks.Nothing file e = absurd (let x : ⊥ = cc in x)
-  entries_stay entries (asks.Judge judgement call) file e = absurd (let x : ⊥ = cc in x)
-  entries_stay entries (asks.TrustNamed name) file e = absurd (let x : ⊥ = cc in x)
-  entries_stay entries (asks.Trust routine) file e = absurd (let x : ⊥ = cc in x)
-  entries_stay entries (asks.TakeBack number) file e = absurd (let x : ⊥ = cc in x)
-  entries_stay entries (asks.Show call) file e = absurd (let x : ⊥ = cc in x)
-  entries_stay entries (asks.State call name) file e = absurd (let x : ⊥ = cc in x)
-  entries_stay entries (asks.Trace call) file e = absurd (let x : ⊥ = cc in x)
-  entries_stay entries (asks.Carry call onto) file e = absurd (let x : ⊥ = cc in x)
-  entries_stay entries asks.Tree file e = absurd (let x : ⊥ = cc in x)
-  entries_stay entries asks.Quit file e = absurd (let x : ⊥ = cc in x)
-  entries_stay entries asks.Other file e = absurd (let x : ⊥ = cc in x)
-
--- an instruction that names a file is not `quit`
-goes_on : (i : Instruction) (file : List ℕ) → saved_file i ≡ Some file → is_quit i ≡ false
-goes_on (asks.Save f) file e = refl
-goes_on asks.Nothing file e = refl
-goes_on (asks.Judge judgement call) file e = refl
-goes_on (asks.TrustNamed name) file e = refl
-goes_on (asks.Trust routine) file e = refl
-goes_on (asks.TakeBack number) file e = refl
-goes_on (asks.Show call) file e = refl
-goes_on (asks.State call name) file e = refl
-goes_on (asks.Trace call) file e = refl
-goes_on (asks.Carry call onto) file e = refl
-goes_on asks.Tree file e = refl
-goes_on asks.Quit file e = absurd (let x : ⊥ = cc in x)
-goes_on asks.Other file e = refl
-
 -- a save of the moment's session, and the same moment but for the keeper
 pub record Keeps (start : Start) (old new : DialogMoment) (file : List ℕ) (r : Result (List ℕ) Ending) : Type 0 where
   pub goes : SaveGoes (record { file = file; text = saved_text start old.entries }) old r new
   pub entries : new.entries ≡ old.entries
 
 module _ (s : Subject) (start : Start) (old : LineAt) where
-  pub saves_so : (new : DialogMoment) (r : Result (List ℕ) Ending) (i : Instruction) (file : List ℕ) → Asks old.line i × (saved_file i ≡ Some file)
+  pub saves_so : (new : DialogMoment) (r : Result (List ℕ) Ending) (file : List ℕ) → Asks old.line (asks.Save file)
       → Keeps start old.moment new file r → AnswersLine s start old r new
-  saves_so new r i file names k = by r k.goes
+  saves_so new r file a k = by r k.goes
     where
       entries : List Entry
       entries = old.moment.entries
 
       on : ends_session old.line ≡ false
-      on = ends_by old.line i names.0 false (goes_on i file names.1)
+      on = ends_by old.line (asks.Save file) a false refl
 
       named : file_asked old.line ≡ Some file
-      named = asked_by old.line i names.0 (Some file) names.1
+      named = asked_by old.line (asks.Save file) a (Some file) refl
 
       save : Save
       save = record { file = file; text = saved_text start entries }
@@ -162,7 +130,7 @@ module _ (s : Subject) (start : Start) (old : LineAt) where
         g.0 ∷ [],
         record {
           on = one_on old.line false on;
-          entries_are = k.entries ∙ sym (entries_by old.line i names.0 s entries ∙ entries_stay s entries i file names.1);
+          entries_are = k.entries ∙ sym (entries_by old.line (asks.Save file) a s entries);
           answered = sym (ap length asked);
           files_are = subst (λ (saves : List Save). FilesAfter (g.0 ∷ []) saves old.moment.files new.files) (sym asked) g.2;
           counts_are = g.3;

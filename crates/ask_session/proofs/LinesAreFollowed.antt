@@ -17,11 +17,13 @@ use Rattle.optimal_query.specs.Search.{Search, search_with, search_without}
 use Rattle.optimal_query.specs.Standing.{Command, Judge, Trust, TakeBack, TakeBackLast, after_command, if_accepted, search_taken_back}
 use Rattle.optimal_query.proofs.StandUnlessTakenBack.{Follow, follow_command, said_alike}
 use Rattle.optimal_query.proofs.GivenEntriesStand.{follow_given}
+use Rattle.dialog_replies.specs.declared.instructions.DialogCommand.{DialogCommand}
+use Rattle.dialog_replies.specs.declared.instructions.DialogCommand.TheVariants as commands
 use Rattle.dialog_replies.specs.declared.instructions.Instruction.{Instruction}
 use Rattle.dialog_replies.specs.declared.instructions.Instruction.TheVariants as asked
 use Rattle.dialog_replies.specs.Instructions.{instruction_of}
 use Rattle.dialog_replies.specs.Subject.{Subject, book_of, routine_named, state_after}
-use Rattle.dialog_replies.specs.Replies.{adds, judges_asked, outcome, takes_back, takes_back_last, trust_outcome, trusts_named}
+use Rattle.dialog_replies.specs.Replies.{adds, command_outcome, judges_asked, outcome, takes_back, takes_back_last, trust_outcome, trusts_named}
 use Rattle.ask_session.specs.Dialog.{entries_after_line, is_too_long}
 use Rattle.ask_session.specs.LineActs.{EntriesFollowLines, act_by, acts_after_line, acts_after_lines, command_in, judgement_on}
 use Rattle.ask_session.specs.Turned.{entries_through}
@@ -86,29 +88,32 @@ module _ (s : Subject) where
     trusted_named name (Some routine) = trusted routine
     trusted_named name None = before
 
-    pub by_instruction : (i : Instruction) → FollowBy (command_in s acts i) (outcome s entries i).entries
-    unfolding outcome
-    by_instruction asked.Nothing = before
-    by_instruction (asked.Judge judgement None) =
+    by_dialog : (c : DialogCommand) → FollowBy (command_in s acts (asked.Command c)) (command_outcome s entries c).entries
+    unfolding command_outcome
+    by_dialog commands.Nothing = before
+    by_dialog (commands.Judge judgement None) =
         subst (λ (answers : List What). FollowBy (judgement_on judgement (state_in s.tree answers))
         (judges_asked s entries judgement (state_after s entries)).entries) (said_after before) (judged_asked judgement (state_after s entries))
-    by_instruction (asked.Judge judgement (Some call)) = judged judgement call
-    by_instruction (asked.TrustNamed name) = trusted_named name (routine_named s name)
-    by_instruction (asked.Trust routine) = trusted routine
-    by_instruction (asked.TakeBack None) =
+    by_dialog (commands.Judge judgement (Some call)) = judged judgement call
+    by_dialog (commands.TrustNamed name) = trusted_named name (routine_named s name)
+    by_dialog (commands.Trust routine) = trusted routine
+    by_dialog (commands.TakeBack None) =
         subst (λ (now : List Entry). FollowBy (Some TakeBackLast) now) (takes_last_as entries (take_back_last_answer (book_of s entries)))
         (by_command TakeBackLast)
-    by_instruction (asked.TakeBack (Some number)) =
+    by_dialog (commands.TakeBack (Some number)) =
         subst (λ (now : List Entry). FollowBy (Some (TakeBack number)) now) (takes_as entries number (take_back_answer (book_of s entries) number))
         (by_command (TakeBack number))
-    by_instruction (asked.Show call) = before
-    by_instruction (asked.State call name) = before
-    by_instruction (asked.Trace call) = before
-    by_instruction (asked.Carry call onto) = before
-    by_instruction asked.Tree = before
+    by_dialog (commands.Show call) = before
+    by_dialog (commands.State call name) = before
+    by_dialog (commands.Trace call) = before
+    by_dialog (commands.Carry call onto) = before
+    by_dialog commands.Tree = before
+    by_dialog commands.Other = before
+
+    pub by_instruction : (i : Instruction) → FollowBy (command_in s acts i) (outcome s entries i).entries
+    by_instruction (asked.Command command) = by_dialog command
     by_instruction (asked.Save file) = before
     by_instruction asked.Quit = before
-    by_instruction asked.Other = before
 
   -- ---- one line, and those after it
 

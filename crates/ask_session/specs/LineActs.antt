@@ -8,6 +8,7 @@ use Rattle.optimal_query.specs.declared.state.SearchState.TheVariants.{Ask}
 use Rattle.optimal_query.specs.Accepted.{CommandAct, act_of, acts_giving, and_then, entries_after, standing_after}
 use Rattle.optimal_query.specs.Laws.{state_in}
 use Rattle.optimal_query.specs.Standing.{Command, Judge, Trust, TakeBack, TakeBackLast}
+use Rattle.dialog_replies.specs.declared.instructions.DialogCommand.TheVariants as commands
 use Rattle.dialog_replies.specs.declared.instructions.Instruction.{Instruction}
 use Rattle.dialog_replies.specs.declared.instructions.Instruction.TheVariants as asked
 use Rattle.dialog_replies.specs.Instructions.{instruction_of}
@@ -22,12 +23,13 @@ judgement_on judgement state = None
 
 -- the command to a search that an instruction is after these acts, if it is one
 abbrev pub command_in : Subject → List CommandAct → Instruction → Option Command
-command_in s acts (asked.Judge judgement None) = judgement_on judgement (state_in s.tree (standing_after acts))
-command_in s acts (asked.Judge judgement (Some call)) = Some (Judge call judgement)
-command_in s acts (asked.TrustNamed name) = option_map Trust (routine_named s name)
-command_in s acts (asked.Trust routine) = Some (Trust routine)
-command_in s acts (asked.TakeBack None) = Some TakeBackLast
-command_in s acts (asked.TakeBack (Some number)) = Some (TakeBack number)
+command_in s acts (asked.Command (commands.Judge judgement None)) =
+    judgement_on judgement (state_in s.tree (standing_after acts))
+command_in s acts (asked.Command (commands.Judge judgement (Some call))) = Some (Judge call judgement)
+command_in s acts (asked.Command (commands.TrustNamed name)) = option_map Trust (routine_named s name)
+command_in s acts (asked.Command (commands.Trust routine)) = Some (Trust routine)
+command_in s acts (asked.Command (commands.TakeBack None)) = Some TakeBackLast
+command_in s acts (asked.Command (commands.TakeBack (Some number))) = Some (TakeBack number)
 command_in s acts instruction = None
 
 -- what it does; nothing where it is refused

@@ -1,7 +1,6 @@
 //! The dialog on the console.
 ghost use Rattle.std.specs.Prelude.{◌≡◌, ◌<◌, ◌≤◌, [], ◌∷◌, false, IsTrue, length, codes, Err, IfErr, IfOk, OnErr};
 ghost use Rattle.std.specs.Prelude.{OnOk};
-ghost use Rattle.std.specs.Option.{option_map};
 ghost use Rattle.std.specs.Io.KnownBytes.{IsAtEnd};
 ghost use Rattle.edge_ports.specs.Counts.{Counted, counts_stored};
 ghost use Rattle.edge_ports.specs.Told.{GaveAll, GavePrefix};
@@ -13,7 +12,7 @@ ghost use Rattle.dialog_replies.specs.Kept.{IsSearchOf};
 ghost use Rattle.dialog_replies.specs.Subject.{Subject};
 ghost use Rattle.dialog_replies.specs.Start.{entries_at_start, saved_text};
 ghost use Rattle.dialog_replies.specs.declared.start.Start.{Start as StartValue};
-ghost use Rattle.ask_session.specs.Dialog.{saved_file, is_quit, save_reply};
+ghost use Rattle.ask_session.specs.Dialog.{save_reply};
 ghost use Rattle.ask_session.specs.Heard.{is_console, is_screen};
 ghost use Rattle.ask_session.specs.Saves.{FileAfter, counts_saved};
 ghost use Rattle.ask_session.specs.Turned.{AnswersLine, LineAt, NextReply, SaveGoes, Talked, ReplyGiven};
@@ -63,48 +62,6 @@ impl<T: Drop> From<AllocFailed<T>> for Ending {
 
     fn from(_e: AllocFailed<T>) -> Ending {
         Ending::Memory
-    }
-}
-
-/// Whether the session ends here.
-fn is_quit(instruction: &Instruction<'_>) -> bool
-    ensures { result ≡ is_quit instruction.now }
-{
-    match instruction {
-        Instruction::Quit => true,
-        Instruction::Nothing
-        | Instruction::Judge(_, _)
-        | Instruction::TrustNamed(_)
-        | Instruction::Trust(_)
-        | Instruction::TakeBack(_)
-        | Instruction::Show(_)
-        | Instruction::State(_, _)
-        | Instruction::Trace(_)
-        | Instruction::Carry(_, _)
-        | Instruction::Tree
-        | Instruction::Save(_)
-        | Instruction::Other => false,
-    }
-}
-
-/// The file that the session is to be saved in, if that is asked for.
-fn saved_file<'a, 'b>(instruction: &'a Instruction<'b>) -> Option<&'a FileName<'b>>
-    ensures { option_map (λ file. file.now) result ≡ saved_file instruction.now }
-{
-    match instruction {
-        Instruction::Save(file) => Some(file),
-        Instruction::Nothing
-        | Instruction::Judge(_, _)
-        | Instruction::TrustNamed(_)
-        | Instruction::Trust(_)
-        | Instruction::TakeBack(_)
-        | Instruction::Show(_)
-        | Instruction::State(_, _)
-        | Instruction::Trace(_)
-        | Instruction::Carry(_, _)
-        | Instruction::Tree
-        | Instruction::Quit
-        | Instruction::Other => None,
     }
 }
 
@@ -188,16 +145,13 @@ fn answer_line<D: Debugged, K: Keeper>(
         (record { entries = debug.new.book.entries; files = K.files keeper.new; counts = K.counts keeper.new }) }
     ensures search { IsSearchOf (D.subject run.now) debug.new }
 {
-    let instruction = instruction_in(line);
-    if is_quit(&instruction) {
-        return Err(Ending::Done);
-    }
-    if let Some(file) = saved_file(&instruction) {
-        return save(alloc, start, keeper, debug, file);
-    }
-    match answer(alloc, run, debug, instruction) {
-        Ok(reply) => Ok(reply),
-        Err(_) => Err(Ending::Memory),
+    match instruction_in(line) {
+        Instruction::Quit => Err(Ending::Done),
+        Instruction::Save(file) => save(alloc, start, keeper, debug, &file),
+        Instruction::Command(command) => match answer(alloc, run, debug, command) {
+            Ok(reply) => Ok(reply),
+            Err(_) => Err(Ending::Memory),
+        },
     }
 }
 

@@ -1,6 +1,7 @@
 -- What a line of the console asks for.
 use Rattle.std.specs.Prelude.{ℕ, if◌then◌else◌, List, [], ◌∷◌, Option, Some, None}
 use Rattle.std.specs.Str.{is_utf8}
+use Rattle.dialog_replies.specs.declared.instructions.DialogCommand.TheVariants as commands
 use Rattle.dialog_replies.specs.declared.instructions.Instruction.{Instruction}
 use Rattle.dialog_replies.specs.declared.instructions.Instruction.TheVariants as ask
 use Rattle.dialog_replies.specs.declared.keywords.Keyword.{Keyword}
@@ -12,23 +13,24 @@ use Rattle.dialog_replies.specs.Words.{after_blanks, after_word, before_blanks, 
 -- what is asked for with a number, where the word is one
 abbrev pub with_number : Option ℕ → (ℕ → Instruction) → Instruction
 with_number (Some number) asked = asked number
-with_number None asked = ask.Other
+with_number None asked = ask.Command commands.Other
 
 -- a word after `trust` that is no `#` with a number is a name
 abbrev pub trust_by : (word : List ℕ) → Option ℕ → Instruction
-trust_by word (Some routine) = ask.Trust routine
-trust_by word None = ask.TrustNamed word
+trust_by word (Some routine) = ask.Command (commands.Trust routine)
+trust_by word None = ask.Command (commands.TrustNamed word)
 
 abbrev pub trust_in : List ℕ → Instruction
 trust_in word = trust_by word (routine_number word)
 
 -- a file has a name in UTF-8
 abbrev pub save_in : List ℕ → Instruction
-save_in word = if is_utf8 word then ask.Save word else ask.Other
+save_in word = if is_utf8 word then ask.Save word else ask.Command commands.Other
 
 -- two calls, where both words are numbers
 abbrev pub carry_in : (call onto : List ℕ) → Instruction
-carry_in call onto = with_number (number_of call) (λ call. with_number (number_of onto) (λ onto. ask.Carry call onto))
+carry_in call onto =
+    with_number (number_of call) (λ call. with_number (number_of onto) (λ onto. ask.Command (commands.Carry call onto)))
 
 -- a cell's name is the rest of a line, since it may have blanks inside, as `a[' ']`
 abbrev pub cell_in : (rest : List ℕ) → List ℕ
@@ -36,24 +38,25 @@ cell_in rest = before_blanks (after_blanks rest)
 
 -- by the first word and those after it, and by what follows the second word
 abbrev pub instruction_by : Keyword → List (List ℕ) → (rest : List ℕ) → Instruction
-instruction_by (key.Judge judgement) [] rest = ask.Judge judgement None
+instruction_by (key.Judge judgement) [] rest = ask.Command (commands.Judge judgement None)
 instruction_by (key.Judge judgement) (call ∷ []) rest =
-    with_number (number_of call) (λ number. ask.Judge judgement (Some number))
+    with_number (number_of call) (λ number. ask.Command (commands.Judge judgement (Some number)))
 instruction_by key.Trust (routine ∷ []) rest = trust_in routine
-instruction_by key.Back [] rest = ask.TakeBack None
-instruction_by key.Back (entry ∷ []) rest = with_number (number_of entry) (λ number. ask.TakeBack (Some number))
-instruction_by key.Show (call ∷ []) rest = with_number (number_of call) ask.Show
+instruction_by key.Back [] rest = ask.Command (commands.TakeBack None)
+instruction_by key.Back (entry ∷ []) rest =
+    with_number (number_of entry) (λ number. ask.Command (commands.TakeBack (Some number)))
+instruction_by key.Show (call ∷ []) rest = with_number (number_of call) (λ number. ask.Command (commands.Show number))
 instruction_by key.State (call ∷ name ∷ names) rest =
-    with_number (number_of call) (λ number. ask.State number (cell_in rest))
-instruction_by key.Trace (call ∷ []) rest = with_number (number_of call) ask.Trace
+    with_number (number_of call) (λ number. ask.Command (commands.State number (cell_in rest)))
+instruction_by key.Trace (call ∷ []) rest = with_number (number_of call) (λ number. ask.Command (commands.Trace number))
 instruction_by key.Carry (call ∷ onto ∷ []) rest = carry_in call onto
-instruction_by key.Tree [] rest = ask.Tree
+instruction_by key.Tree [] rest = ask.Command commands.Tree
 instruction_by key.Save (file ∷ []) rest = save_in file
 instruction_by key.Quit [] rest = ask.Quit
-instruction_by keyword others rest = ask.Other
+instruction_by keyword others rest = ask.Command commands.Other
 
 abbrev pub instruction_of_words : List (List ℕ) → (rest : List ℕ) → Instruction
-instruction_of_words [] rest = ask.Nothing
+instruction_of_words [] rest = ask.Command commands.Nothing
 instruction_of_words (word ∷ others) rest = instruction_by (keyword_of word) others rest
 
 -- what a line asks for

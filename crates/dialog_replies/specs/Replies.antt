@@ -11,6 +11,8 @@ use Rattle.answer_book.specs.Answers.{judge_answer, take_back_answer, take_back_
 use Rattle.answer_book.specs.Entries.{entries_with, entries_without}
 use Rattle.optimal_query.specs.declared.state.SearchState.{SearchState}
 use Rattle.optimal_query.specs.declared.state.SearchState.TheVariants.{Ask}
+use Rattle.dialog_replies.specs.declared.instructions.DialogCommand.{DialogCommand}
+use Rattle.dialog_replies.specs.declared.instructions.DialogCommand.TheVariants as commands
 use Rattle.dialog_replies.specs.declared.instructions.Instruction.{Instruction}
 use Rattle.dialog_replies.specs.declared.instructions.Instruction.TheVariants as asked
 use Rattle.dialog_replies.specs.Subject.{Subject, book_of, calls_recorded, routine_named, state_after}
@@ -110,25 +112,28 @@ carry_or_none s call onto =
     (if nat_lt onto (calls_recorded s) then carry_text (s.carries call onto) call onto else no_call onto)
     else no_call call
 
--- What a line that saves is replied depends on the keeper, and is said where the session is held.
-unfoldable pub outcome : Subject → List Entry → Instruction → LineOutcome
-outcome s entries asked.Nothing = replied entries []
-outcome s entries (asked.Judge judgement None) = judges_asked s entries judgement (state_after s entries)
-outcome s entries (asked.Judge judgement (Some call)) = judges s entries judgement call
-outcome s entries (asked.TrustNamed name) = trusts_named s entries name (routine_named s name)
-outcome s entries (asked.Trust routine) = trust_outcome s entries routine
-outcome s entries (asked.TakeBack None) =
+unfoldable pub command_outcome : Subject → List Entry → DialogCommand → LineOutcome
+command_outcome s entries commands.Nothing = replied entries []
+command_outcome s entries (commands.Judge judgement None) = judges_asked s entries judgement (state_after s entries)
+command_outcome s entries (commands.Judge judgement (Some call)) = judges s entries judgement call
+command_outcome s entries (commands.TrustNamed name) = trusts_named s entries name (routine_named s name)
+command_outcome s entries (commands.Trust routine) = trust_outcome s entries routine
+command_outcome s entries (commands.TakeBack None) =
     takes_back_last s entries (take_back_last_answer (book_of s entries))
-outcome s entries (asked.TakeBack (Some number)) =
+command_outcome s entries (commands.TakeBack (Some number)) =
     takes_back s entries number (take_back_answer (book_of s entries) number)
-outcome s entries (asked.Show call) = replied entries (card_or_none s call)
-outcome s entries (asked.State call name) = replied entries (state_or_none s call name)
-outcome s entries (asked.Trace call) = replied entries (trace_or_none s call)
-outcome s entries (asked.Carry call onto) = replied entries (carry_or_none s call onto)
-outcome s entries asked.Tree = replied entries (tree_text s entries)
+command_outcome s entries (commands.Show call) = replied entries (card_or_none s call)
+command_outcome s entries (commands.State call name) = replied entries (state_or_none s call name)
+command_outcome s entries (commands.Trace call) = replied entries (trace_or_none s call)
+command_outcome s entries (commands.Carry call onto) = replied entries (carry_or_none s call onto)
+command_outcome s entries commands.Tree = replied entries (tree_text s entries)
+command_outcome s entries commands.Other = replied entries (codes "not understood\n")
+
+-- What a line that saves is replied depends on the keeper, and is said where the session is held.
+abbrev pub outcome : Subject → List Entry → Instruction → LineOutcome
+outcome s entries (asked.Command command) = command_outcome s entries command
 outcome s entries (asked.Save file) = replied entries []
 outcome s entries asked.Quit = replied entries []
-outcome s entries asked.Other = replied entries (codes "not understood\n")
 
 -- ---- what a session with these entries opens with: the card of call 0, and a report
 

@@ -4,6 +4,7 @@ ghost use Rattle.dialog_replies.specs.Instructions.{carry_in, cell_in, instructi
 ghost use Rattle.dialog_replies.specs.Instructions.{trust_in, with_number};
 ghost use Rattle.dialog_replies.specs.Numbers.{number_of};
 ghost use Rattle.dialog_replies.specs.Words.{after_word, words};
+ghost use Rattle.dialog_replies.specs.declared.instructions.DialogCommand.TheVariants as commands;
 ghost use Rattle.dialog_replies.specs.declared.instructions.Instruction.TheVariants as ask;
 ghost use Rattle.dialog_replies.specs.declared.keywords.Keyword.TheVariants as key;
 
@@ -62,6 +63,17 @@ impl<'a> FileName<'a> {
 /// What a line of the console asks for.
 #[derive(Drop)]
 pub enum Instruction<'a> {
+    /// `quit`: the end of the session.
+    Quit,
+    /// `save F`: the session goes into the file of this name.
+    Save(FileName<'a>),
+    /// What the run and the entries alone can answer.
+    Command(DialogCommand<'a>),
+}
+
+/// What a line of the console asks of the run and of the entries.
+#[derive(Drop)]
+pub enum DialogCommand<'a> {
     /// A line without words: nothing.
     Nothing,
     /// `right`, `wrong` and `unknown`: a judgement on the call of this number, or on the one that is
@@ -84,10 +96,6 @@ pub enum Instruction<'a> {
     Carry(u32, u32),
     /// `tree`: the marks of all calls.
     Tree,
-    /// `save F`: the session goes into the file of this name.
-    Save(FileName<'a>),
-    /// `quit`: the end of the session.
-    Quit,
     /// Any other line, which is not understood.
     Other,
 }
@@ -97,9 +105,9 @@ fn alone<'a>(keyword: Keyword) -> Instruction<'a>
     ensures { (rest : List ℕ) → result ≡ instruction_by keyword [] rest }
 {
     match keyword {
-        Keyword::Judge(judgement) => Instruction::Judge(judgement, None),
-        Keyword::Back => Instruction::TakeBack(None),
-        Keyword::Tree => Instruction::Tree,
+        Keyword::Judge(judgement) => Instruction::Command(DialogCommand::Judge(judgement, None)),
+        Keyword::Back => Instruction::Command(DialogCommand::TakeBack(None)),
+        Keyword::Tree => Instruction::Command(DialogCommand::Tree),
         Keyword::Quit => Instruction::Quit,
         Keyword::Trust
         | Keyword::Show
@@ -107,7 +115,7 @@ fn alone<'a>(keyword: Keyword) -> Instruction<'a>
         | Keyword::Trace
         | Keyword::Carry
         | Keyword::Save
-        | Keyword::Other => Instruction::Other,
+        | Keyword::Other => Instruction::Command(DialogCommand::Other),
     }
 }
 
@@ -116,8 +124,8 @@ fn trust<'a>(routine: &'a [u8]) -> Instruction<'a>
     ensures { result ≡ trust_in routine.now }
 {
     match routine_number(routine) {
-        Some(number) => Instruction::Trust(number),
-        None => Instruction::TrustNamed(Name { bytes: routine }),
+        Some(number) => Instruction::Command(DialogCommand::Trust(number)),
+        None => Instruction::Command(DialogCommand::TrustNamed(Name { bytes: routine })),
     }
 }
 
@@ -127,7 +135,7 @@ fn save<'a>(file: &'a [u8]) -> Instruction<'a>
 {
     match str::from_utf8(file) {
         Ok(name) => Instruction::Save(FileName { name }),
-        Err(_) => Instruction::Other,
+        Err(_) => Instruction::Command(DialogCommand::Other),
     }
 }
 
@@ -138,40 +146,41 @@ fn with_operand<'a>(keyword: Keyword, operand: &'a [u8]) -> Instruction<'a>
     match keyword {
         Keyword::Trust => trust(operand),
         Keyword::Judge(judgement) => match number_in(operand) {
-            Some(call) => Instruction::Judge(judgement, Some(call)),
-            None => Instruction::Other,
+            Some(call) => Instruction::Command(DialogCommand::Judge(judgement, Some(call))),
+            None => Instruction::Command(DialogCommand::Other),
         },
         Keyword::Back => match number_in(operand) {
-            Some(entry) => Instruction::TakeBack(Some(entry)),
-            None => Instruction::Other,
+            Some(entry) => Instruction::Command(DialogCommand::TakeBack(Some(entry))),
+            None => Instruction::Command(DialogCommand::Other),
         },
         Keyword::Show => match number_in(operand) {
-            Some(call) => Instruction::Show(call),
-            None => Instruction::Other,
+            Some(call) => Instruction::Command(DialogCommand::Show(call)),
+            None => Instruction::Command(DialogCommand::Other),
         },
         Keyword::Trace => match number_in(operand) {
-            Some(call) => Instruction::Trace(call),
-            None => Instruction::Other,
+            Some(call) => Instruction::Command(DialogCommand::Trace(call)),
+            None => Instruction::Command(DialogCommand::Other),
         },
         Keyword::Save => save(operand),
         Keyword::State | Keyword::Carry | Keyword::Tree | Keyword::Quit | Keyword::Other => {
-            Instruction::Other
+            Instruction::Command(DialogCommand::Other)
         }
     }
 }
 
 /// What `state` asks for with this word after it, and this after the word.
 fn state<'a>(call: &'a [u8], rest: &'a [u8]) -> Instruction<'a>
-    ensures { result ≡ with_number (number_of call.now) (λ number. ask.State number (cell_in rest.now)) }
+    ensures { result ≡ with_number (number_of call.now)
+        (λ number. ask.Command (commands.State number (cell_in rest.now))) }
 {
     match number_in(call) {
-        Some(number) => Instruction::State(
+        Some(number) => Instruction::Command(DialogCommand::State(
             number,
             Name {
                 bytes: before_blanks(after_blanks(rest)),
             },
-        ),
-        None => Instruction::Other,
+        )),
+        None => Instruction::Command(DialogCommand::Other),
     }
 }
 
@@ -180,8 +189,8 @@ fn carry<'a>(call: &[u8], onto: &[u8]) -> Instruction<'a>
     ensures { result ≡ carry_in call.now onto.now }
 {
     match (number_in(call), number_in(onto)) {
-        (Some(call), Some(onto)) => Instruction::Carry(call, onto),
-        _ => Instruction::Other,
+        (Some(call), Some(onto)) => Instruction::Command(DialogCommand::Carry(call, onto)),
+        _ => Instruction::Command(DialogCommand::Other),
     }
 }
 
@@ -191,7 +200,7 @@ fn carry_alone<'a>(call: &[u8], onto: &[u8], after: &[u8]) -> Instruction<'a>
 {
     match first_word(after) {
         None => carry(call, onto),
-        Some(_) => Instruction::Other,
+        Some(_) => Instruction::Command(DialogCommand::Other),
     }
 }
 
@@ -217,7 +226,7 @@ fn with_more<'a>(
         | Keyword::Tree
         | Keyword::Save
         | Keyword::Quit
-        | Keyword::Other => Instruction::Other,
+        | Keyword::Other => Instruction::Command(DialogCommand::Other),
     }
 }
 
@@ -239,7 +248,7 @@ pub fn instruction_in<'a>(line: &'a [u8]) -> Instruction<'a>
     ensures { result ≡ instruction_of line.now }
 {
     match first_word(line) {
-        None => Instruction::Nothing,
+        None => Instruction::Command(DialogCommand::Nothing),
         Some((word, rest)) => with_rest(keyword_in(word), rest),
     }
 }

@@ -24,7 +24,7 @@ mod words;
 pub use calls::{write_named_call, write_number};
 pub use debugged::Debugged;
 pub use fit::refusal;
-pub use instructions::{FileName, Instruction, instruction_in};
+pub use instructions::{DialogCommand, FileName, Instruction, instruction_in};
 pub use replies::{answer, open};
 pub use reports::state_now;
 pub use resuming::resume;

@@ -2,7 +2,7 @@
 ghost use Rattle.std.specs.Prelude.{◌≡◌, ◌<◌, ◌++◌, IfOk, codes, if◌then◌else◌, nat_lt};
 ghost use Rattle.dialog_replies.specs.Kept.{IsSearchOf};
 ghost use Rattle.dialog_replies.specs.Replies.{card_or_none, carry_line, carry_or_none, carry_text};
-ghost use Rattle.dialog_replies.specs.Replies.{judges_asked, no_call, no_cell, opening, outcome, replied};
+ghost use Rattle.dialog_replies.specs.Replies.{command_outcome, judges_asked, no_call, no_cell, opening, replied};
 ghost use Rattle.dialog_replies.specs.Replies.{state_or_none, trace_or_none, trusts_named};
 ghost use Rattle.dialog_replies.specs.Subject.{calls_recorded, routine_named, state_after};
 ghost use Rattle.dialog_replies.specs.Texts.{tree_text};
@@ -10,7 +10,7 @@ ghost use Rattle.dialog_replies.specs.Texts.{tree_text};
 use crate::calls::{routine_named, write_number};
 use crate::changes::{judge, refusal, take_back, take_back_last, text_of, trust};
 use crate::debugged::Debugged;
-use crate::instructions::Instruction;
+use crate::instructions::DialogCommand;
 use crate::marks::marks_now;
 use crate::reports::{state_now, write_report};
 use answer_book::{BookFault, Judgement};
@@ -205,33 +205,32 @@ fn tree_of<D: Debugged>(alloc: Global, run: &D, debug: &Debug) -> Result<Bytes, 
     Ok(text)
 }
 
-/// Does what a line asks for, and answers the reply to it. A line that saves is answered nothing: its reply depends on
-/// the keeper.
-#[tactic(auto, unfolding(crate::specs::Replies::outcome))]
+/// Does what a line asks of the run and of the entries, and answers the reply to it.
+#[tactic(auto, unfolding(crate::specs::Replies::command_outcome))]
 pub fn answer<D: Debugged>(
     alloc: Global,
     run: &D,
     debug: &mut Debug,
-    instruction: Instruction<'_>,
+    command: DialogCommand<'_>,
 ) -> Result<Bytes, Memory>
     requires search { IsSearchOf (D.subject run.now) debug.old }
     ensures outcome { IfOk result (λ text. replied debug.new.book.entries text
-        ≡ outcome (D.subject run.now) debug.old.book.entries instruction.entry) }
+        ≡ command_outcome (D.subject run.now) debug.old.book.entries command.entry) }
     ensures search { IsSearchOf (D.subject run.now) debug.new }
 {
-    match instruction {
-        Instruction::Nothing | Instruction::Save(_) | Instruction::Quit => Ok(Bytes::new(alloc)),
-        Instruction::Judge(judgement, None) => judge_asked(alloc, run, debug, judgement),
-        Instruction::Judge(judgement, Some(call)) => judge(alloc, run, debug, judgement, call),
-        Instruction::TrustNamed(name) => trust_named(alloc, run, debug, name.bytes()),
-        Instruction::Trust(routine) => trust(alloc, run, debug, routine),
-        Instruction::TakeBack(None) => take_back_last(alloc, run, debug),
-        Instruction::TakeBack(Some(entry)) => take_back(alloc, run, debug, entry),
-        Instruction::Show(call) => card_of(alloc, run, call),
-        Instruction::State(call, name) => state_of(alloc, run, call, name.bytes()),
-        Instruction::Trace(call) => trace_of(alloc, run, call),
-        Instruction::Carry(call, onto) => carry_of(alloc, run, call, onto),
-        Instruction::Tree => tree_of(alloc, run, debug),
-        Instruction::Other => text_of(alloc, b"not understood\n"),
+    match command {
+        DialogCommand::Nothing => Ok(Bytes::new(alloc)),
+        DialogCommand::Judge(judgement, None) => judge_asked(alloc, run, debug, judgement),
+        DialogCommand::Judge(judgement, Some(call)) => judge(alloc, run, debug, judgement, call),
+        DialogCommand::TrustNamed(name) => trust_named(alloc, run, debug, name.bytes()),
+        DialogCommand::Trust(routine) => trust(alloc, run, debug, routine),
+        DialogCommand::TakeBack(None) => take_back_last(alloc, run, debug),
+        DialogCommand::TakeBack(Some(entry)) => take_back(alloc, run, debug, entry),
+        DialogCommand::Show(call) => card_of(alloc, run, call),
+        DialogCommand::State(call, name) => state_of(alloc, run, call, name.bytes()),
+        DialogCommand::Trace(call) => trace_of(alloc, run, call),
+        DialogCommand::Carry(call, onto) => carry_of(alloc, run, call, onto),
+        DialogCommand::Tree => tree_of(alloc, run, debug),
+        DialogCommand::Other => text_of(alloc, b"not understood\n"),
     }
 }

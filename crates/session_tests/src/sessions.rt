@@ -7,8 +7,8 @@ ghost use Rattle.dialog_replies.specs.Start.{IsWholeStart};
 use answer_book::{Entry, Judgement, What};
 use ask_session::{Ending, converse};
 use dialog_replies::{
-    Debugged, Start, answer, begin, instruction_in, open, refusal, resume, session_text_of,
-    state_now,
+    Debugged, DialogCommand, Instruction, Start, answer, begin, instruction_in, open, refusal,
+    resume, session_text_of, state_now,
 };
 use edge_ports::{Keeper, Memory, Page, Shelf, Tape};
 use optimal_query::{Debug, SearchState};
@@ -35,11 +35,19 @@ found call 2 twice
   returned
 ";
 
+/// The command that a line is, and one that is not understood where it is none.
+fn command_in(line: &[u8]) -> DialogCommand<'_> {
+    match instruction_in(line) {
+        Instruction::Command(command) => command,
+        _ => DialogCommand::Other,
+    }
+}
+
 /// Whether a new session begins so, and `wrong 2` is replied so.
 fn begun_holds<D: Debugged>(alloc: Global, run: &D) -> Result<bool, Memory> {
     let mut debug = begin(alloc, run)?;
     let opening = open(alloc, run, &debug)?;
-    let found = answer(alloc, run, &mut debug, instruction_in(b"wrong 2"))?;
+    let found = answer(alloc, run, &mut debug, command_in(b"wrong 2"))?;
     Ok(opening.as_slice() == OPENING.as_bytes() && found.as_slice() == FOUND.as_bytes())
 }
 
@@ -89,7 +97,7 @@ fn resumed_holds<D: Debugged>(alloc: Global, run: &D, start: &Start) -> Result<b
     let mut debug = resume(alloc, run, start)?;
     let saved = session_text_of(alloc, start, &debug)?;
     let asked = state_now(run, &debug) == ASKED;
-    let tree = answer(alloc, run, &mut debug, instruction_in(b"tree"))?;
+    let tree = answer(alloc, run, &mut debug, command_in(b"tree"))?;
     Ok(asked && saved.as_slice() == SAVED.as_bytes() && tree.as_slice() == TREE.as_bytes())
 }
 

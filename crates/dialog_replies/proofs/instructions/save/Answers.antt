@@ -1,11 +1,12 @@
 use Rattle.std.proofs.Common.{◌≡◌, Bool, true, false, ℕ, List, ap, refl}
 use Rattle.std.proofs.lemmas.Str.{IsUtf8-from_is_utf8, is_utf8-from_IsUtf8}
 use Rattle.std.specs.Str.{IsUtf8, is_utf8}
+use Rattle.dialog_replies.specs.declared.instructions.DialogCommand.TheVariants as commands
 use Rattle.dialog_replies.specs.declared.instructions.Instruction.TheVariants as ask
 use Rattle.dialog_replies.specs.Instructions.{save_in}
 use Rattle.dialog_replies.proofs.instructions.save.Goals as goal
 
-no_file : (word : List ℕ) (b : Bool) → is_utf8 word ≡ b → (IsUtf8 word → ⊥) → ask.Other ≡ save_in word
+no_file : (word : List ℕ) (b : Bool) → is_utf8 word ≡ b → (IsUtf8 word → ⊥) → ask.Command commands.Other ≡ save_in word
 no_file word true e none = absurd (none (IsUtf8-from_is_utf8 word e))
 no_file word false e none = rw e refl
 
