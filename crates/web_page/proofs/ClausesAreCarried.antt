@@ -115,11 +115,11 @@ module _ {x : Situation} (g : TurnGiven) {shown : List ℕ} (is : x ≡ turn_sit
   pub headline : {status : ℕ} → HeadlineAt status x → (c : CanAsk g) → status ≡ 0 → Headline c.told (Some []) (Some shown)
   headline {status} clause c = subst (HeadlineAt status) is clause c.request c.told c.meant
 
-  pub first_part : {now : FilesState} → FirstPartAt now x → (c : CanAsk g)
+  pub first_part : (now : FilesState) → FirstPartAt now x → (c : CanAsk g)
       → (saves : List Bool) × (length saves ≤ length (saves_of_turn c)) × GavePrefix (Some []) (Some shown) (transcript_of_turn c saves)
       × FilesAfter saves (saves_of_turn c) (Some (turn_files g)) (Some now.files)
       × Reached (telling_of_turn c) (lines_of c.told.console) saves (Some []) (Some shown)
-  first_part {now} clause c = subst (FirstPartAt now) is clause c.request c.told c.meant
+  first_part now clause c = subst (FirstPartAt now) is clause c.request c.told c.meant
 
   pub ends : {status wanted : ℕ} (console : List ℕ → Type 0) {calm : Type 0} → EndingAt status wanted console calm x
       → (c : CanAsk g) → misfit (subject_in c.told.begun) (start_in c.told.begun) ≡ None → console c.told.console

@@ -32,6 +32,7 @@ returns-in-Ok-clause-prefix c = λ can.
     let it = first_part (given_by c.args.turn.now) (is_turn _ (given_by c.args.turn.now)
     (ap (λ (it : Words). meaning it) c.deref.ensures.value ∙ c.in-Ok.ensures.meaning)
     c.in-Ok.ensures.files c.new-console.ensures c.new-page.ensures.given (search rules))
+    c.ask_pascal-status.new.keeper
     (λ r t means. c.ask_pascal-status.ensures.prefix (InFiles r means t) (no_fetch_failed c.in-Ok.files c.ask_pascal-status.new.keeper)) can in
     (it.0, it.1, it.2, it.4, c.ask_pascal-status.new.keeper.files, it.3, c.give_back.ensures)
 
