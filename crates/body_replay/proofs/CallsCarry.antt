@@ -14,6 +14,7 @@ use Rattle.cell_value.specs.declared.entries.Touch.TheVariants as touch
 use Rattle.cell_value.specs.declared.entries.Seen.{Seen}
 use Rattle.cell_value.specs.Effects.{asked_by, change_by, heap_end, is_shared, listed, looked_of, read_by, reads_of, seen_at, seen_by, shared, taken_of}
 use Rattle.cell_value.specs.declared.entries.Change.{Change}
+use Rattle.core_program.specs.WholeTables.{WholeTables}
 use Rattle.core_program.specs.ProgramRows.{ProgramRows}
 use Rattle.core_program.specs.State.{State, IsSound, most_depth}
 use Rattle.core_program.specs.Run.{Call, Result, depth_enough, input_items, record_of}
@@ -204,9 +205,9 @@ get_among (suc n) (suc k) (x ∷ xs) l = get_among n k xs (omega (arith, l))
 
 -- An input that ends after the last item that a call looked at agrees with the call, and so the call from there ends
 -- within it.
-pub took_what_it_saw : {p : ProgramRows} {c : Call} {cs : List Call} → MadeBy p c cs → Agrees c (take c.below cs) c.entry
+pub took_what_it_saw : {p : ProgramRows} {c : Call} {cs : List Call} → WholeTables p → MadeBy p c cs → Agrees c (take c.below cs) c.entry
     → taken_of c.log ≤ looked_of c.entry.place c.log
-took_what_it_saw {p = p} {c = c} {cs = cs} h a =
+took_what_it_saw {p = p} {c = c} {cs = cs} W h a =
     let looked = looked_of c.entry.place c.log in
     let s = h.sound in
     let σ : State = record c.entry { items = take (c.entry.place + looked) c.entry.items } in
@@ -232,7 +233,7 @@ took_what_it_saw {p = p} {c = c} {cs = cs} h a =
       depth = a.depth;
     } in
     let deep : depth_enough p σ.steps ≤ depth_enough p σ.steps = omega arith in
-    let stand = stands p c cs h σ sound agrees (depth_enough p σ.steps) deep in
+    let stand = stands p W c cs h σ sound agrees (depth_enough p σ.steps) deep in
     let after = calls_sound p (depth_enough p σ.steps) c.routine c.args σ stand.run sound h.limits.calls h.limits.depth stand.is in
     let within = subst (λ (τ : State). τ.place ≤ length τ.items) stand.after after.input in
     let short = taken_short (c.entry.place + looked) c.entry.items in

@@ -8,13 +8,13 @@ use Rattle.body_replay.specs.Laws.{BodiesGiveTheirExits, GivesItsExit}
 use Rattle.body_replay.specs.Replays.{records_of, work_at, work_of}
 
 pub exits_are_given : BodiesRepeat → BodiesGiveTheirExits
-exits_are_given law p input budget number c = by (run p input budget) refl
+exits_are_given law p W input budget number c = by (run p input budget) refl
   where
     by : (x : Outcome) → run p input budget ≡ x → slice_get (records_of x) number ≡ Some c → GivesItsExit c (work_of p x number)
     by None e at = absurd (none_some at)
     by (Some r) e at =
         let enough : depth_enough p c.entry.steps ≤ depth_enough p c.entry.steps = omega arith in
-        let b = law p input budget r e number c at (depth_enough p c.entry.steps) enough in
+        let b = law p input budget r e number c at W (depth_enough p c.entry.steps) enough in
         record {
           body = b.run;
           is = ap (work_at p (calls_in r) number) at ∙ b.is;

@@ -9,6 +9,7 @@ use Rattle.cell_value.specs.Effects.{made_of, taken_of}
 use Rattle.call_tree.specs.Told.{IsTold}
 use Rattle.call_tree.specs.declared.records.Call as table
 use Rattle.core_program.specs.ProgramRows.{ProgramRows}
+use Rattle.core_program.specs.WholeTables.{WholeTables}
 use Rattle.core_program.specs.State.{State}
 use Rattle.core_program.specs.Run.{Marked, Result, Call, Outcome, run, input_items, depth_enough, block, start}
 use Rattle.core_program.specs.Numbering.{StandsAt, belows, parent_of, depth_of}
@@ -41,13 +42,15 @@ stands_for P [] k x h e = absurd (none_some e)
 stands_for P (y ∷ ys) zero x h e = subst P (some_same e) (h 0 y (omega arith))
 stands_for P (y ∷ ys) (suc k) x h e = stands_for P ys k x (λ j d l. h (suc j) d (omega (arith, l))) e
 
--- what holds of all that is kept of a run
-pub record Kept (h : History) : Type 0 where
+-- what holds of all that is kept of a run of a program
+pub record Kept (p : ProgramRows) (h : History) : Type 0 where
+  pub whole : WholeTables p
   pub budget : h.budget ≤ 4000000
   pub told : (number : ℕ) (row : table.Call) → slice_get h.calls.calls number ≡ Some row → IsTold h.log h.input row
 
-pub kept : {p : ProgramRows} {input : List ℕ} {h : History} → length input ≤ most_bytes → IsOfRun p input h.budget h → h.budget ≤ 4000000 → Kept h
-kept {p = p} {input = input} {h = h} few g budget = record { budget = budget; told = calls_told p input h.budget h few g }
+pub kept : {p : ProgramRows} {input : List ℕ} {h : History} → WholeTables p → length input ≤ most_bytes → IsOfRun p input h.budget h → h.budget ≤ 4000000
+    → Kept p h
+kept {p = p} {input = input} {h = h} W few g budget = record { whole = W; budget = budget; told = calls_told p input h.budget h few g }
 
 -- a run, and what its history keeps of it
 pub record RunOf (p : ProgramRows) (input : List ℕ) (h : History) : Type 0 where
@@ -57,10 +60,10 @@ pub record RunOf (p : ProgramRows) (input : List ℕ) (h : History) : Type 0 whe
   pub log : h.log ≡ result.log
   pub output : h.output ≡ result.after.output
   pub items : h.input ≡ input_items input
-  pub kept : Kept h
+  pub kept : Kept p h
 
-pub run_of_history : {p : ProgramRows} {input : List ℕ} {h : History} → Kept h → IsOfRun p input h.budget h → RunOf p input h
-run_of_history {p = p} {input = input} {h = h} k g = by (run p input h.budget) refl (runs p input h.budget)
+pub run_of_history : {p : ProgramRows} {input : List ℕ} {h : History} → Kept p h → IsOfRun p input h.budget h → RunOf p input h
+run_of_history {p = p} {input = input} {h = h} k g = by (run p input h.budget) refl (runs p k.whole input h.budget)
   where
     by : (x : Outcome) → run p input h.budget ≡ x → IsSome x → RunOf p input h
     by None e s = absurd (let z : ⊥ = cc in z)

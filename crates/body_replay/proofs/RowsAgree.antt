@@ -202,7 +202,7 @@ module _ {p : ProgramRows} {input : List ℕ} {h : History} (g : RunOf p input h
         place_fits a l =
             let itself = agrees_itself r.made a.way
             (shallow p (input_items input) c (number + 1) (calls_in g.result) (all_recorded p input h.budget g.result g.is) r.made) in
-            let saw = took_what_it_saw r.made itself in
+            let saw = took_what_it_saw g.kept.whole r.made itself in
             let told = r.told.in_input in
             let there : r.call.entry.place + taken_of r.call.log ≤ length r.call.entry.items =
             let a = ap taken_of part in let b = place_is in let c = ap length r.items in omega (arith, told, a, b, c) in
@@ -212,11 +212,11 @@ module _ {p : ProgramRows} {input : List ℕ} {h : History} (g : RunOf p input h
 
     pub runs_to : (σ : State) → Agrees c below σ → IsSound σ → RunsTo p c σ (apply c σ)
     runs_to σ a s depth deep =
-        let x = stands p c (drop (number + 1) (calls_in g.result)) r.made σ s a depth deep in
+        let x = stands p g.kept.whole c (drop (number + 1) (calls_in g.result)) r.made σ s a depth deep in
         record { run = x.run; is = x.is; way = x.way; result = x.result; after = x.after }
 
 -- what holds of the call of a row, with the calls below it, holds of the call of that number
-pub for_call : {p : ProgramRows} {h : History} {number : ℕ} {row : table.Call} (P : Call → List Call → Type 0) → Kept h
+pub for_call : {p : ProgramRows} {h : History} {number : ℕ} {row : table.Call} (P : Call → List Call → Type 0) → Kept p h
     → slice_get h.calls.calls number ≡ Some row
     → ((input : List ℕ) → IsOfRun p input h.budget h → (g : RunOf p input h) (r : RowOf p h (calls_in g.result) number row) → P r.call (below g r))
     → OfCall p h number P
@@ -251,7 +251,7 @@ row_there [] k l = absurd (omega (arith, l))
 row_there (row ∷ rows) zero l = (row, refl)
 row_there (row ∷ rows) (suc k) l = row_there rows k (omega (arith, l))
 
-pub carries_so : {p : ProgramRows} {h : History} (call onto : ℕ) {row other : table.Call} → Kept h → slice_get h.calls.calls call ≡ Some row
+pub carries_so : {p : ProgramRows} {h : History} (call onto : ℕ) {row other : table.Call} → Kept p h → slice_get h.calls.calls call ≡ Some row
     → slice_get h.calls.calls onto ≡ Some other → (σ : State) (found : Bool) → OfCall p h onto (λ d below. σ ≡ d.entry)
     → OfCall p h call (λ d below. (found ≡ true) ↔ Agrees d below σ) → (input : List ℕ) → IsOfRun p input h.budget h
     → found ≡ carries (run p input h.budget) call onto

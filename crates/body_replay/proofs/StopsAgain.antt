@@ -10,7 +10,7 @@ use Rattle.cell_value.specs.declared.ways_out.Which.{Which}
 use Rattle.core_program.specs.ProgramRows.{ProgramRows}
 use Rattle.core_program.specs.State.{State}
 use Rattle.core_program.specs.Acts.{Answer, Spend, ActResult, Went, Stops, perform, limit_passed}
-use Rattle.core_program.specs.Tree.{Out, ActTree, Ret, Halt, Do, Sub, Enter, Line, way_of, bind}
+use Rattle.core_program.specs.Tree.{Out, ActTree, Ret, Halt, Meaningless, Do, Sub, Enter, Line, way_of, bind}
 use Rattle.core_program.specs.Layer.{layer}
 use Rattle.core_program.specs.Run.{End, Ended, Halted, Marked, Result, Call, in_front, ends, on_end, joined, on_done, if_allowed}
 use Rattle.core_program.specs.Replay.{Event, ChildOf, Replaying, Replayed, same_args, end_of, next_call, replaying, replay_of}
@@ -102,6 +102,7 @@ module _ (p : ProgramRows) (told : List Event) (r : Result Replaying Event) (sto
   onward (suc k) (suc n) (Ret out) s l rest h e g = at_once (AtEnd (Ended out)) _ s h (over_is told (Ended out) s r rest e g)
   onward (suc k) (suc n) (Halt line why) s l rest h e g =
       at_once (AtEnd (Halted (way_of line why))) _ s h (over_is told (Halted (way_of line why)) s r rest e g)
+  onward (suc k) (suc n) Meaningless s l rest h e g = absurd (none_some h)
   onward (suc k) (suc n) (Do line act next) s l rest h e g =
       on_stop line s l rest (Answer act) (perform act s.state) _ (λ x τ. replay_of p (suc n) (next x) τ)
       (λ x w τ rest' h e f. onward k (suc n) (next x) (with_state s τ) (l ++ w) rest' h e (past_more g f)) h e g

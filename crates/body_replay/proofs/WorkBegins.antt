@@ -142,7 +142,7 @@ module _ {p : ProgramRows} {input : List ℕ} {h : History} (g : RunOf p input h
     framed = framed_run in_replaying (at_work p (replay_of p depth) r.call.routine) r.call.args first (routine_at p r.call.routine)
 
     the_body : IsBody number r.call below (body p depth r.call number below)
-    the_body = body_is p number r.call (drop (number + 1) (calls_in g.result)) r.made depth (omega arith)
+    the_body = body_is p g.kept.whole number r.call (drop (number + 1) (calls_in g.result)) r.made depth (omega arith)
 
     -- what is left of it once the call is open
     in_call : Before (on_state (call_closed r.call.depth)) framed the_body.run
@@ -229,7 +229,7 @@ items_few h row m e few = subst (λ n. n < 4294967296) (ap (λ (σ : State). len
 -- a call's work was done from the state before it
 pub record Done (p : ProgramRows) (h : History) (number : ℕ) (row : table.Call) (e : WorkEnd) : Type 0 where
   pub at : slice_get h.calls.calls number ≡ Some row
-  pub kept : Kept h
+  pub kept : Kept p h
   pub items : length h.input < 4294967296
   pub machine : Machine
   pub before : IsBefore h row machine

@@ -1,9 +1,8 @@
 -- The work of a call that was entered: its frame, and its end.
 use Rattle.std.proofs.Common.{◌≡◌, ◌+◌, ◌-◌, List, [], ◌∷◌, Option, Some, None, refl, sym, ap, subst, ◌∙◌, drop, map, arith}
 use Rattle.std.specs.List.{All}
+use Rattle.std.specs.Prelude.{IsSome, is_some}
 use Rattle.cell_value.specs.declared.ways_out.WayOut.{WayOut}
-use Rattle.cell_value.specs.declared.ways_out.WayOut.TheVariants as ways
-use Rattle.cell_value.specs.declared.ways_out.Kind.TheVariants as kind
 use Rattle.call_tree.specs.declared.records.Call as table
 use Rattle.core_program.specs.declared.program.Routine.{Routine}
 use Rattle.core_program.specs.ProgramRows.{ProgramRows, routine_at}
@@ -11,7 +10,7 @@ use Rattle.core_program.specs.State.{State}
 use Rattle.core_program.specs.Tree.{ActTree}
 use Rattle.core_program.specs.Run.{End, Halted, Result, ends, framed_run, at_work, way_out, result_in, whole, without_frame}
 use Rattle.core_program.specs.Replay.{Event, Replaying, in_replaying, on_state, replay_of}
-use Rattle.core_program.proofs.OutcomesCompose.{some_same}
+use Rattle.core_program.proofs.OutcomesCompose.{some_same, none_some}
 use Rattle.core_program.specs.RunLaws.{IsMet}
 use Rattle.eval_ops.specs.Machines.{machine_state}
 use Rattle.eval_ops.specs.Frames.{framing}
@@ -38,10 +37,6 @@ ends_so {j = j} change e r w a s es = record {
   events = sym (kept_all j.work.events) ∙ ap (map kept_event) r.stands.events ∙ sym r.events ∙ sym es;
 }
 
-pub none_there : {A : Type 0} (o : Option A) → ((x : A) → o ≡ Some x → ⊥) → o ≡ None
-none_there None h = refl
-none_there (Some x) h = absurd (h x refl)
-
 -- a call that did nothing, and ended so
 pub record DidNothing (out : WayOut) (σ : State) (e : WorkEnd) : Type 0 where
   pub way : e.way ≡ out
@@ -64,10 +59,13 @@ module _ {p : ProgramRows} {h : History} {j : Job h} {row : table.Call} {σ : St
   abbrev first : Replaying
   first = record { state = σ; number = j.number + 1; calls = j.below }
 
-  -- a routine that is not there
-  pub ends_without : (e : WorkEnd) → routine_at p row.routine ≡ None → DidNothing (ways.Faulted kind.Undefined 0) σ e → EndsAs j.work e
-  ends_without e none d = halts (ways.Faulted kind.Undefined 0) first e
-      (sym (ap (framed_run in_replaying (at_work p (replay_of p n.depth) row.routine) row.args first) none) ∙ n.is) d
+  -- its routine is there
+  pub routine_there : IsSome (routine_at p row.routine)
+  routine_there = by (routine_at p row.routine) refl
+    where
+      by : (o : Option Routine) → routine_at p row.routine ≡ o → IsSome (routine_at p row.routine)
+      by None e = absurd (none_some (sym (ap (framed_run in_replaying (at_work p (replay_of p n.depth) row.routine) row.args first) e) ∙ n.is))
+      by (Some r) e = ap is_some e
 
   -- a frame that was not made
   pub ends_unframed : (r : Routine) (τ : State) (way : WayOut) (e : WorkEnd) → routine_at p row.routine ≡ Some r

@@ -2,6 +2,7 @@
 use Rattle.std.specs.Prelude.{◌≡◌, ◌↔◌, ℕ, IsTrue, List, Some}
 use Rattle.std.specs.List.{slice_get}
 use Rattle.core_program.specs.ProgramRows.{ProgramRows}
+use Rattle.core_program.specs.WholeTables.{WholeTables}
 use Rattle.core_program.specs.State.{State}
 use Rattle.core_program.specs.Run.{Call, Result, result_in, run, way_out}
 use Rattle.core_program.specs.Agree.{Agrees, EndedByItself}
@@ -20,9 +21,9 @@ pub record GivesItsExit (c : Call) (work : Replayed) : Type 0 where
   pub result : result_in body.end ≡ c.result
   pub exit : body.after.state ≡ c.exit
 
--- so it is with each call of the run of each program, with each input and each budget of steps
+-- so it is with each call of the run of each program with whole tables, with each input and each budget of steps
 abbrev pub BodiesGiveTheirExits : Type 0
-BodiesGiveTheirExits = (p : ProgramRows) (input : List ℕ) (budget number : ℕ) (c : Call)
+BodiesGiveTheirExits = (p : ProgramRows) → WholeTables p → (input : List ℕ) (budget number : ℕ) (c : Call)
     → slice_get (records_of (run p input budget)) number ≡ Some c
     → GivesItsExit c (work_of p (run p input budget) number)
 

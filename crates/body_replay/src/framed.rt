@@ -13,7 +13,7 @@ ghost use Rattle.body_replay.specs.Traces.{EndsAs, FrameToMake, FrameMade, chang
 use crate::counted::count_steps;
 use crate::replayer::Replayer;
 use call_tree::{Call, Events};
-use cell_value::{Cells, Kind, Memory, Steps, Value, WayOut};
+use cell_value::{Cells, Memory, Steps, Value, WayOut};
 use core_program::Program;
 use eval_ops::{Halt, Machine, make_frame, remove_frame};
 use evaluator::Body;
@@ -120,10 +120,7 @@ pub(crate) fn work<L>(
         → IfOk result (λ e. CountsEachStep run.now first (tally steps.new e.machine e.events)) }
 {
     let mut machine = machine;
-    let Some(routine) = program.routine(row.routine) else {
-        let way = WayOut::Faulted(Kind::Undefined, 0);
-        return Ok(refused(alloc, machine, way));
-    };
+    let routine = program.routine(row.routine).unwrap();
     let base = machine.top;
     let before = machine.steps;
     let halted = frame_made(alloc, &mut machine, &row.args, routine.cells)?;

@@ -51,6 +51,7 @@ fn work_again<L>(
         (tally steps.new e.machine e.events)) }
     ensures ready { IfOk result (λ e. IsReady e.machine) }
 {
+    program.is_whole();
     let mut machine = machine_before(alloc, run, row)?;
     open_call(&mut machine);
     let ending = work(alloc, program, run, number, row, machine, steps)?;

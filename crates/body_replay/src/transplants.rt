@@ -61,6 +61,7 @@ fn agreed_effect(
         IsSome found ↔ Agrees c below (kept_state at.now))) }
     ensures found { IfOk result (λ found. IfSome found (λ f. IsEffectOf run.now.log row.now f)) }
 {
+    program.is_whole();
     if !ended_by_itself(row.way) {
         return Ok(None);
     }
@@ -152,6 +153,7 @@ pub fn transplant(
         IsSound (kept_state at.now)
         → IfSome after (λ after. RunsTo program.now c (kept_state at.now) (kept_state after)))) }
 {
+    program.is_whole();
     let row = run.calls.call(call);
     let agreed = agreed_effect(alloc, program, run, call, row, at)?;
     match agreed {
@@ -177,6 +179,7 @@ pub fn entry_of(
     requires call { call < length run.now.calls.calls }
     ensures { IfOk result (λ entry. OfCall program.now run.now call (λ c below. kept_state entry ≡ c.entry)) }
 {
+    program.is_whole();
     let row = run.calls.call(call);
     let machine = machine_before(alloc, run, row)?;
     Ok(keep_state(machine))
@@ -200,6 +203,7 @@ pub fn carries(
     ensures { IfOk result (λ carried. (input : List ℕ) → IsOfRun program.now input run.now.budget run.now
         → carried ≡ carries (meaning.run program.now input run.now.budget) call onto) }
 {
+    program.is_whole();
     let row = run.calls.call(call);
     let at = entry_of(alloc, program, run, onto)?;
     let agreed = agreed_effect(alloc, program, run, call, row, &at)?;

@@ -9,7 +9,7 @@ use Rattle.check_steps.specs.declared.regions.Frame.{Frame}
 use Rattle.check_steps.specs.declared.frames.KeptFrame.{KeptFrame}
 use Rattle.check_steps.specs.Frames.{IsChained, Leads, frame_in, frame_of}
 
-got_before : {A : Type 0} (xs : List A) (y : A) (n : ℕ) → n < length xs → slice_get (xs ++ y ∷ []) n ≡ slice_get xs n
+pub got_before : {A : Type 0} (xs : List A) (y : A) (n : ℕ) → n < length xs → slice_get (xs ++ y ∷ []) n ≡ slice_get xs n
 got_before [] y n below = absurd (omega arith)
 got_before (x ∷ xs) y zero below = refl
 got_before (x ∷ xs) y (suc n) below = got_before xs y n (omega arith)

@@ -3,6 +3,9 @@ pub mod Order
 pub mod First
 pub mod Maps
 pub mod Chains
+pub mod Books
+pub mod HomeLists
+pub mod FirstHome
 pub mod Outward
 pub mod NameLists
 pub mod FirstThreat

@@ -12,7 +12,7 @@ abbrev pub actual_on : ItemRow → ℕ → ItemRow
 actual_on (item.Value v of' end) next = item.Value v of' next
 actual_on (item.Place access end) next = item.Place access next
 actual_on (item.Routine routine levels end) next = item.Routine routine levels next
-actual_on (item.RoutineFormal place levels end) next = item.RoutineFormal place levels next
+actual_on (item.RoutineFormal formal levels end) next = item.RoutineFormal formal levels next
 actual_on (item.Written v of' end) next = item.Written v of' next
 actual_on (item.WrittenWide v of' width end) next = item.WrittenWide v of' width next
 actual_on i next = i
@@ -30,13 +30,13 @@ abbrev pub row_on : Row → ℕ → Row
 row_on (row.Item i) next = row.Item (going_on i next)
 row_on r next = r
 
--- the last item of a list goes on at a number, at which the next one stands or the list ends
+-- the last item of a list, if it has one, goes on at the number of the next
 unfoldable pub link : ℕ → ℕ → Step (Unit {0})
 link last next = do
   r ← look (λ k. row_on (row_at k last) next)
   put last r
 
--- one more item at a slot after the last one; where it stands is given
+-- One more item at a slot after the last one, with which the list ends: it names 0. Where it stands is given.
 unfoldable pub add_item : ℕ → ℕ → ItemRow → Step ℕ
 add_item last slot i = do
   _ ← link last slot

@@ -2,6 +2,8 @@ pub mod Breaks
 pub mod Regions
 pub mod Threats
 pub mod Frames
+pub mod Around
+pub mod Homes
 pub mod Known
 pub mod Words
 pub mod Steps

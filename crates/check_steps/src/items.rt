@@ -22,8 +22,8 @@ fn actual_on(item: ItemRow, next: u32) -> ItemRow
             levels,
             next,
         },
-        ItemRow::RoutineFormal { place, levels, .. } => ItemRow::RoutineFormal {
-            place,
+        ItemRow::RoutineFormal { formal, levels, .. } => ItemRow::RoutineFormal {
+            formal,
             levels,
             next,
         },
@@ -68,16 +68,16 @@ fn row_on(row: Row, next: u32) -> Row
     }
 }
 
-/// The last item of a list goes on at a number, at which the next one stands or the list ends.
+/// The last item of a list, if it has one, goes on at the number of the next.
 #[tactic(auto, using(crate::proofs::Runs::steps), unfolding(crate::specs::Items::link))]
-pub fn put_link(work: &mut Work, last: u32, next: u32)
+fn put_link(work: &mut Work, last: u32, next: u32)
     ensures { Does (link last next) tt work.old work.new }
 {
     let row = row_on(work.tables.row(last), next);
     work.put(last, row);
 }
 
-/// One more item of a list, at a slot after the last one: what is given is where it stands.
+/// One more item of a list, at a slot after the last one, with which the list ends: what is given is where it stands.
 #[tactic(auto, using(crate::proofs::Runs::steps), unfolding(crate::specs::Items::add_item))]
 pub fn put_item(work: &mut Work, last: u32, slot: u32, item: ItemRow) -> u32
     ensures { Does (add_item last slot item) result work.old work.new }

@@ -3,11 +3,14 @@
 //! check does one step, whose definition is an equation over the steps of its parts.
 #![tactic(auto)]
 
+mod around;
 pub mod breaks;
 mod frames;
+mod homes;
 pub mod items;
 pub mod regions;
 pub mod required;
+mod scopes;
 pub mod tables;
 mod threats;
 mod words;

@@ -1,23 +1,27 @@
 //! The tables that a check fills.
 
-ghost use Rattle.std.specs.Prelude.{◌≡◌, ◌+◌, ◌<◌, ◌^◌, ◌++◌, ◌∷◌, None, Some, length, OnOk, IfOk};
+ghost use Rattle.std.specs.Prelude.{◌≡◌, ◌+◌, ◌<◌, ◌^◌, ◌++◌, ◌∷◌, ℕ, true, None, Some, length, OnOk, IfOk};
+ghost use Rattle.check_steps.specs.declared.regions.Found.{Found};
 ghost use Rattle.check_steps.specs.Known.{and_choice, is_chosen};
 ghost use Rattle.check_steps.specs.Known.{and_control, and_definition, and_frame, and_label, and_region, and_routine};
 ghost use Rattle.check_steps.specs.Known.{and_threat, in_block, is_control, label_at, threat_of, without_control};
 ghost use Rattle.check_steps.specs.Known.{find, find_label, found_in, frame_at, line_at, name_at, row_at, spelled_at};
 ghost use Rattle.check_steps.specs.Known.{type_at, with_routine, with_row, word_at};
+ghost use Rattle.check_steps.specs.Around.{is_around};
 ghost use Rattle.check_steps.specs.Frames.{Leads};
 ghost use Rattle.check_steps.specs.Names.{usable};
 ghost use Rattle.check_steps.specs.Regions.{declared_in, defined_in, region_at};
 ghost use Rattle.check_steps.specs.Words.{number_of_name, known_at_start};
 
-use crate::frames::{Beyond, Frames};
-use crate::regions::{Definition, Found, Frame, Region, Span};
+use crate::around::Around;
+use crate::frames::Beyond;
+use crate::regions::{Definition, Found, Frame, Span};
+use crate::scopes::Scopes;
 use crate::threats::Threats;
 use crate::words::{REQUIRED_NAMES, Spelled, SpelledToken, names, texts, words};
 use core_program::rows::{Row, TypeRow};
-use core_program::{Program, Routine};
-use indexmap::{IndexMap, IndexSet};
+use core_program::{ProgramTables, Routine};
+use indexmap::IndexSet;
 use pas_lexer::Tokens;
 use std::alloc::{AllocError, Global};
 use std::marker::Model;
@@ -27,9 +31,9 @@ use std::marker::Model;
 pub struct Tables {
     names: IndexSet<Vec<u8>>,
     words: Vec<SpelledToken>,
-    program: Program,
-    regions: Vec<Region>,
-    frames: Frames,
+    program: ProgramTables,
+    regions: Scopes,
+    frames: Around,
     controls: Vec<u32>,
     threats: Threats,
     block: Span,
@@ -47,12 +51,7 @@ impl Model for Tables {
       names = map (λ v. v.items) t.names.keys;
       words = t.words.items;
       program = t.program;
-      regions = map (λ r. record {
-        token = r.token;
-        frame = r.frame;
-        names = r.names.entries;
-        labels = r.labels.entries;
-      }) t.regions.items;
+      regions = t.regions;
       frames = t.frames;
       controls = t.controls.items;
       threats = t.threats;
@@ -60,7 +59,7 @@ impl Model for Tables {
       choices = t.choices.keys;
     } };
 
-    ghost invariant = { λ t. (vec_len t.regions < 2 ^ 32) × (length t.frames < 2 ^ 32)
+    ghost invariant = { λ t. (length t.regions < 2 ^ 32) × (length t.frames < 2 ^ 32)
         × (vec_len t.words + 26 < 2 ^ 32) × (index_set_len t.names < 2 ^ 32) };
 }
 
@@ -80,14 +79,14 @@ impl Tables {
         }
         let words = words(alloc, &names, tokens)?;
         let texts = texts(alloc, tokens)?;
-        let program = Program::new(alloc, (count + REQUIRED_NAMES) as usize, texts)?;
+        let program = ProgramTables::new(alloc, (count + REQUIRED_NAMES) as usize, texts)?;
         let threats = Threats::new(alloc, count)?;
         Ok(Tables {
             names,
             words,
             program,
-            regions: Vec::new(alloc),
-            frames: Frames::new(alloc),
+            regions: Scopes::new(alloc),
+            frames: Around::new(alloc),
             controls: Vec::new(alloc),
             threats,
             block: Span {
@@ -178,14 +177,14 @@ impl Tables {
     }
 
     /// The program as far as it is known.
-    pub fn program(&self) -> &Program
+    pub fn program(&self) -> &ProgramTables
         ensures { result.now ≡ self.now.program }
     {
         &self.program
     }
 
-    /// Gives up all but the program.
-    pub fn into_program(self) -> Program
+    /// Gives up all but the tables of the program.
+    pub fn into_program(self) -> ProgramTables
         ensures { result ≡ self.program }
     {
         self.program
@@ -239,40 +238,28 @@ impl Tables {
     pub fn region_token(&self, region: u32) -> u32
         ensures { result ≡ (region_at self.now.regions region).token }
     {
-        match self.regions.get(region as usize) {
-            Some(region) => region.token,
-            None => 0,
-        }
+        self.regions.token(region)
     }
 
     /// A region's own frame, and 0, the outermost one, where there is no region of this number.
     pub fn region_frame(&self, region: u32) -> u32
         ensures { result ≡ (region_at self.now.regions region).frame }
     {
-        match self.regions.get(region as usize) {
-            Some(region) => region.frame,
-            None => 0,
-        }
+        self.regions.frame(region)
     }
 
     /// What a region itself defines a name as.
     pub fn defined_in(&self, region: u32, name: u32) -> Option<Definition>
         ensures { result ≡ defined_in self.now.regions region name }
     {
-        match self.regions.get(region as usize) {
-            Some(region) => region.names.get(&name).copied(),
-            None => None,
-        }
+        self.regions.defined_in(region, name)
     }
 
     /// The token at which a region itself declares a label of this value.
     pub fn declared_in(&self, region: u32, value: u32) -> Option<u32>
         ensures { result ≡ declared_in self.now.regions region value }
     {
-        match self.regions.get(region as usize) {
-            Some(region) => region.labels.get(&value).copied(),
-            None => None,
-        }
+        self.regions.declared_in(region, value)
     }
 
     /// A frame, and the outermost where there is none of this number.
@@ -288,6 +275,13 @@ impl Tables {
             (frame_at self.now number).outer result.to }
     {
         self.frames.beyond(number)
+    }
+
+    /// Whether a frame is known to be of a region or inside of one of its frames: false says nothing.
+    pub fn is_around(&self, frame: u32, region: u32) -> bool
+        ensures { result ≡ true → is_around self.now.frames frame region ≡ true }
+    {
+        self.frames.is_around(frame, region)
     }
 
     /// What the region of a frame itself defines a name as.
@@ -307,9 +301,16 @@ impl Tables {
         self.frames.len()
     }
 
-    /// The definition in the closest region around that defines a name, a frame's own region being the closest.
+    /// Names are looked up in this frame from now on: what is known of a program stays the same.
+    pub fn come_to(&mut self, frame: u32)
+        ensures { self.new ≡ self.old }
+    {
+        self.frames.come_to(Some(frame));
+    }
+
+    /// The definition in the closest region around, by a way through all frames.
     #[tactic(auto, using(crate::proofs::Outward::outward))]
-    pub fn find(&self, frame: u32, name: u32) -> Option<Found>
+    fn find_outward(&self, frame: u32, name: u32) -> Option<Found>
         ensures { result ≡ find self.now frame name }
     {
         let mut at = Some(frame);
@@ -328,6 +329,69 @@ impl Tables {
         None
     }
 
+    /// The first frame outward whose region may define a name, where it is known.
+    fn first_home(&self, frame: u32, name: u32) -> Option<Option<u32>>
+        ensures nowhere { result ≡ Some None → find self.now frame name ≡ None }
+        ensures there { (f : ℕ) (found : Found) → result ≡ Some (Some f) → found_in self.now f name ≡ Some found
+            → find self.now frame name ≡ Some found }
+    {
+        self.frames.first_of(frame, self.regions.homes(name))
+    }
+
+    /// The definition in the region of the frame itself.
+    #[tactic(auto, using(crate::proofs::Outward::outward))]
+    fn find_here(&self, frame: u32, name: u32) -> Option<Found>
+        ensures { (found : Found) → result ≡ Some found → find self.now frame name ≡ Some found }
+    {
+        if self.frames() > 0 {
+            self.found_in(frame, name)
+        } else {
+            None
+        }
+    }
+
+    /// The definition in the closest region around, by the regions that may define the name.
+    fn find_home(&self, frame: u32, name: u32) -> Option<Found>
+        ensures { result ≡ find self.now frame name }
+    {
+        match self.first_home(frame, name) {
+            None => self.find_outward(frame, name),
+            Some(None) => None,
+            Some(Some(first)) => match self.found_in(first, name) {
+                Some(found) => Some(found),
+                None => self.find_outward(frame, name),
+            },
+        }
+    }
+
+    /// Whether a way through the blocks and with statements around a frame is shorter than one through all regions that
+    /// may define a name.
+    fn is_common(&self, frame: u32, name: u32) -> bool {
+        let around = self.frame(frame);
+        8 * (around.level as usize + around.withs as usize) < self.regions.homes(name).len()
+    }
+
+    /// The definition in the closest region around, by the way that seems shorter.
+    fn find_shorter(&self, frame: u32, name: u32) -> Option<Found>
+        ensures { result ≡ find self.now frame name }
+    {
+        if self.is_common(frame, name) {
+            self.find_outward(frame, name)
+        } else {
+            self.find_home(frame, name)
+        }
+    }
+
+    /// The definition in the closest region around that defines a name, a frame's own region being the closest.
+    pub fn find(&self, frame: u32, name: u32) -> Option<Found>
+        ensures { result ≡ find self.now frame name }
+    {
+        match self.find_here(frame, name) {
+            Some(found) => Some(found),
+            None => self.find_shorter(frame, name),
+        }
+    }
+
     /// What a name stands for, if it may be used for that as if at the token `at`.
     pub fn usable(&self, frame: u32, at: u32, token: u32) -> Option<Found>
         ensures { result ≡ usable at (find self.now frame (name_at self.now token)) }
@@ -344,9 +408,9 @@ impl Tables {
         }
     }
 
-    /// The token that declares a label of this value in the closest block around that does.
+    /// The token that declares a label in the closest block around, by a way through all frames.
     #[tactic(auto, using(crate::proofs::Outward::outward))]
-    pub fn find_label(&self, frame: u32, value: u32) -> Option<u32>
+    fn label_outward(&self, frame: u32, value: u32) -> Option<u32>
         ensures { result ≡ find_label self.now frame value }
     {
         let mut at = Some(frame);
@@ -363,6 +427,30 @@ impl Tables {
             left = (left - 1).saturating_sub(beyond.passed as usize);
         }
         None
+    }
+
+    /// The first frame outward whose region may declare a label of this value, where it is known.
+    fn first_label_home(&self, frame: u32, value: u32) -> Option<Option<u32>>
+        ensures nowhere { result ≡ Some None → find_label self.now frame value ≡ None }
+        ensures there { (f token : ℕ) → result ≡ Some (Some f)
+            → declared_in self.now.regions (frame_at self.now f).region value ≡ Some token
+            → find_label self.now frame value ≡ Some token }
+    {
+        self.frames.first_of(frame, self.regions.label_homes(value))
+    }
+
+    /// The token that declares a label of this value in the closest block around that does.
+    pub fn find_label(&self, frame: u32, value: u32) -> Option<u32>
+        ensures { result ≡ find_label self.now frame value }
+    {
+        match self.first_label_home(frame, value) {
+            None => self.label_outward(frame, value),
+            Some(None) => None,
+            Some(Some(first)) => match self.declared_in(self.frame(first).region, value) {
+                Some(token) => Some(token),
+                None => self.label_outward(frame, value),
+            },
+        }
     }
 
     /// A new region that begins at a token, with its own frame inside another or none, and this many blocks around its
@@ -383,12 +471,7 @@ impl Tables {
         if region >= u32::MAX as usize || frame >= u32::MAX as usize {
             return Err(AllocError);
         }
-        self.regions.push(Region {
-            token,
-            frame: frame as u32,
-            names: IndexMap::new(alloc),
-            labels: IndexMap::new(alloc),
-        })?;
+        self.regions.push(alloc, token, frame as u32)?;
         self.frames.push(Frame {
             region: region as u32,
             outer,
@@ -408,10 +491,7 @@ impl Tables {
         requires { defined_in self.old.regions region name ≡ None }
         ensures { OnOk result (self.new ≡ and_definition self.old region name definition) }
     {
-        let region = region as usize;
-        if region < self.regions.len() {
-            self.regions[region].names.insert(name, definition)?;
-        }
+        self.regions.add_definition(region, name, definition)?;
         Ok(())
     }
 
@@ -420,10 +500,7 @@ impl Tables {
         requires { declared_in self.old.regions region value ≡ None }
         ensures { OnOk result (self.new ≡ and_label self.old region value token) }
     {
-        let region = region as usize;
-        if region < self.regions.len() {
-            self.regions[region].labels.insert(value, token)?;
-        }
+        self.regions.add_label(region, value, token)?;
         Ok(())
     }
 

@@ -225,11 +225,19 @@ impl Work {
         }
     }
 
+    /// Names are looked up in this frame from now on, which makes look-ups there fast. What is known stays the same.
+    pub fn come_to(&mut self, frame: u32)
+        ensures { self.new ≡ self.old }
+    {
+        self.tables.come_to(frame);
+    }
+
     /// What a name stands for where it is used, as if at the token `at`.
     #[tactic(auto, using(crate::proofs::Runs::steps), unfolding(crate::specs::Names::use_at))]
     pub fn use_at(&mut self, frame: u32, at: u32, token: u32) -> Option<Found>
         ensures { Does (use_at frame at token) result self.old self.new }
     {
+        self.come_to(frame);
         let usable = self.tables.usable(frame, at, token);
         self.early(1, token, usable.is_some());
         usable

@@ -5,10 +5,10 @@ ghost use Rattle.check_steps.specs.declared.breaks.Break.{Break};
 ghost use Rattle.check_steps.specs.Breaks.{fault_of};
 
 use check_steps::{CheckFault, Work};
-use core_program::Program;
+use core_program::ProgramTables;
 
-/// The program that a check has left, or what is to be told of the first of the broken rules.
-pub(crate) fn answer(work: Work) -> Result<Program, CheckFault>
+/// The tables that a check has left, or what is to be told of the first of the broken rules.
+pub(crate) fn answer(work: Work) -> Result<ProgramTables, CheckFault>
     ensures program { IfOk result (λ p. p ≡ work.tables.program) }
     ensures unbroken { IfOk result (λ _. work.least ≡ None) }
     ensures fault { IfErr result (λ e. (b : Break) × (work.least ≡ Some b) × (e ≡ fault_of b)) }

@@ -8,11 +8,12 @@ ghost use Rattle.code_checker.specs.CheckedPrograms.{broken, check_step, program
 use crate::answers::answer;
 use crate::blocks::check_code;
 use check_steps::{CheckFault, Work};
-use core_program::Program;
+use core_program::{Program, ProgramTables};
 use decl_checker::check_program;
 use pas_lexer::Tokens;
 use pas_tree::blocks::Tree;
 use std::alloc::{AllocError, Global};
+use whole_tables::is_whole;
 
 /// The declarations of a program, and then the statements of its blocks.
 #[tactic(auto, using(check_steps::proofs::Runs::steps), unfolding(crate::specs::CheckedPrograms::check_step))]
@@ -22,6 +23,17 @@ fn check_tree(work: &mut Work, alloc: Global, tree: &Tree) -> Result<(), AllocEr
     let frame = check_program(work, alloc, tree)?;
     check_code(work, &tree.block, frame)?;
     Ok(())
+}
+
+/// The tables that a check of a tree leaves, or why the tree denotes no program.
+fn known_tables(alloc: Global, tokens: &Tokens, tree: &Tree) -> Result<ProgramTables, CheckFault>
+    ensures program { IfOk result (λ p. p ≡ program_of tokens.now tree.now) }
+    ensures unbroken { IfOk result (λ _. broken tokens.now tree.now ≡ []) }
+    ensures fault { IfErr result (FaultIs (broken tokens.now tree.now)) }
+{
+    let mut work = Work::new(alloc, tokens)?;
+    check_tree(&mut work, alloc, tree)?;
+    answer(work)
 }
 
 /// The program that a tree denotes, or why it denotes none. The tree is the formed one that spells the tokens.
@@ -35,7 +47,11 @@ pub fn check(alloc: Global, tokens: &Tokens, tree: &Tree) -> Result<Program, Che
     ensures unbroken { IfOk result (λ _. broken tokens.now tree.now ≡ []) }
     ensures fault { IfErr result (FaultIs (broken tokens.now tree.now)) }
 {
-    let mut work = Work::new(alloc, tokens)?;
-    check_tree(&mut work, alloc, tree)?;
-    answer(work)
+    let tables = known_tables(alloc, tokens, tree)?;
+    if is_whole(alloc, &tables)? {
+        Ok(Program::new(tables))
+    } else {
+        // No check is known to leave such tables. One that did would be told as if memory had run out.
+        Err(CheckFault::Memory)
+    }
 }

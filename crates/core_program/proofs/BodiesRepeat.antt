@@ -21,8 +21,8 @@ use Rattle.core_program.specs.declared.rows.TypeRow.TheVariants as type
 use Rattle.core_program.specs.ProgramRows.{ProgramRows, routine_at, row_at}
 use Rattle.core_program.specs.State.{State, IsSound, moved}
 use Rattle.core_program.specs.Acts.{OutOfSteps, Limited, Answer, spent, limit_passed, Spend}
-use Rattle.core_program.specs.Actions.{Action, Give, Fail, Perform}
-use Rattle.core_program.specs.Tree.{Out, Nothing, Scalar, Cells, Address, Jump, ActTree, Ret, Halt, Do, Sub, Enter, Line, way_of, doing}
+use Rattle.core_program.specs.Actions.{Action, Give, Fail, NoMeaning, Perform}
+use Rattle.core_program.specs.Tree.{Out, Nothing, Scalar, Cells, Address, Jump, ActTree, Ret, Halt, Meaningless, Do, Sub, Enter, Line, way_of, doing}
 use Rattle.core_program.specs.Layer.{layer}
 use Rattle.core_program.specs.Heap.{pointer_result_at}
 use Rattle.core_program.specs.Accesses.{scalar}
@@ -53,6 +53,7 @@ IsCallEnd e = Unit {0}
 abbrev Returns : ActTree → Type 0
 Returns (Ret out) = IsCallEnd (Ended out)
 Returns (Halt line why) = Unit {0}
+Returns Meaningless = Unit {0}
 Returns (Do line act next) = (x : Answer act) → Returns (next x)
 Returns (Sub part next) = (out : Out) → Returns (next out)
 Returns (Enter f cells args next) = (out : Out) → Returns (next out)
@@ -61,6 +62,7 @@ Returns (Line line next) = Returns next
 doing_returns : {A : Type 0} (line : ℕ) (a : Action A) (k : A → ActTree) → ((x : A) → Returns (k x)) → Returns (doing line a k)
 doing_returns line (Give x) k h = h x
 doing_returns line (Fail why) k h = tt
+doing_returns line NoMeaning k h = tt
 doing_returns line (Perform act next) k h = λ x. doing_returns line (next x) k h
 
 whole_returns : (p : ProgramRows) (f base : ℕ) (q : Routine) → Returns (whole p f base q)
@@ -98,7 +100,6 @@ module _ (p : ProgramRows) where
   ran_returns (ways.Began q a) h = ran_returns a h
 
   frame_returns : {n f : ℕ} {args : List Value} {σ : State} {r : Result State Call} → RanFrame p n f args σ r → IsCallEnd r.end
-  frame_returns (ways.NoRoutine e) = tt
   frame_returns (ways.NoRoom e t) = tt
   frame_returns (ways.NoSteps e t u) = tt
   frame_returns (ways.Worked {f = f} {σ = σ} {q = q} e t u h) = ran_returns h (whole_returns p f σ.top q)
@@ -357,8 +358,6 @@ module _ (p : ProgramRows) where
 
   frame_redo : {n f : ℕ} {args : List Value} {σ : State} {r : Result State Call} → RanFrame p n f args σ r → IsSound σ → (k : ℕ) (cs : List Call)
       → Redo k r cs (framed_again n f args (at σ k (unmarked r.events ++ cs)) (routine_at p f))
-  frame_redo (ways.NoRoutine {n = n} {f = f} {args = args} {σ = σ} e) s k cs =
-      redo_at (ap (framed_again n f args (at σ k cs)) e) (ends_redo (Halted (way.Faulted kind.Undefined 0)) σ k cs)
   frame_redo (ways.NoRoom {n = n} {f = f} {args = args} {σ = σ} {q = q} e t) s k cs =
       redo_at (ap (framed_again n f args (at σ k cs)) e ∙ ap (chosen n f args q (at σ k cs)) t) (ends_redo (Halted (way_of 0 (Limited Stack))) σ k cs)
   frame_redo (ways.NoSteps {n = n} {f = f} {args = args} {σ = σ} {q = q} e t u) s k cs =

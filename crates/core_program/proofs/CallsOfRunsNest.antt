@@ -14,7 +14,7 @@ use Rattle.core_program.specs.declared.program.Routine.{Routine}
 use Rattle.core_program.specs.ProgramRows.{ProgramRows, routine_at}
 use Rattle.core_program.specs.State.{State, stack_end}
 use Rattle.core_program.specs.Acts.{ActResult, Went, Stops, Spend, perform, spent, limit_passed}
-use Rattle.core_program.specs.Tree.{Out, Part, ActTree, Ret, Halt, Do, Sub, Enter, Line, way_of}
+use Rattle.core_program.specs.Tree.{Out, Part, ActTree, Ret, Halt, Meaningless, Do, Sub, Enter, Line, way_of}
 use Rattle.core_program.specs.Layer.{layer}
 use Rattle.core_program.specs.Run.{
   End,
@@ -155,7 +155,7 @@ good_if false x y g h = h
 
 good_frame : (p : ProgramRows) (go : ActTree → State → Outcome) → ((t : ActTree) (σ : State) → Good (go t σ)) → (f : ℕ) (args : List Value) (σ : State)
     (o : Option Routine) → Good (in_frame (at_work p go f) args σ o)
-good_frame p go h f args σ None = good_ends _ σ
+good_frame p go h f args σ None = good_none
 good_frame p go h f args σ (Some r) =
     good_if (nat_lt stack_end (σ.top + r.cells)) _ _ (good_ends _ σ)
     (good_if (nat_lt σ.steps r.cells) _ _ (good_ends _ (spent σ))
@@ -170,6 +170,7 @@ good_walk : (p : ProgramRows) (sub : Part → State → Outcome) (call : ℕ →
     → (t : ActTree) (σ : State) → Good (walk (plain p) sub call t σ)
 good_walk p sub call hs hc (Ret out) σ = good_ends _ σ
 good_walk p sub call hs hc (Halt line why) σ = good_ends _ σ
+good_walk p sub call hs hc Meaningless σ = good_none
 good_walk p sub call hs hc (Do line act next) σ = good_done p line σ (perform act σ) _ (λ x τ. good_walk p sub call hs hc (next x) τ)
 good_walk p sub call hs hc (Sub part next) σ = good_joined (sub part σ) _ (hs part σ) (λ out τ. good_walk p sub call hs hc (next out) τ)
 good_walk p sub call hs hc (Enter f cells args next) σ = good_allowed (limit_passed σ cells) σ _

@@ -1,6 +1,6 @@
 -- A depth that is always enough. A tree is told by its rank: before a step is taken it has parts of lower rank alone.
 use Rattle.std.proofs.Common.{◌≡◌, ◌⊎◌, inl, inr, ℕ, zero, suc, ◌+◌, ◌-◌, ◌*◌, ◌<◌, ◌≤◌, ◌==◌, ℤ, Bool, true, false, List, [], ◌∷◌, Option, Some, None, refl}
-use Rattle.std.proofs.Common.{sym, ap, subst, ◌∙◌, length, nat_lt, if◌then◌else◌, slice_get, unwrap_or, arith}
+use Rattle.std.proofs.Common.{sym, ap, subst, ◌∙◌, length, nat_lt, if◌then◌else◌, slice_get, unwrap_or, arith, is_some}
 use Rattle.std.proofs.Math.Nat.{mul-le-mul_left}
 use Rattle.std.proofs.lemmas.Bool.Decides.{nat_tests}
 use Rattle.cell_value.specs.declared.values.Value.{Value}
@@ -17,7 +17,11 @@ use Rattle.core_program.specs.declared.rows.AccessRow.{AccessRow}
 use Rattle.core_program.specs.declared.rows.AccessRow.TheVariants as access
 use Rattle.core_program.specs.declared.rows.StatementRow.{StatementRow}
 use Rattle.core_program.specs.declared.rows.StatementRow.TheVariants as statement
-use Rattle.core_program.specs.ProgramRows.{ProgramRows, row_at, routine_at}
+use Rattle.core_program.specs.declared.rows.NameRow.TheVariants as named
+use Rattle.core_program.specs.declared.rows.TypeRow.{TypeRow}
+use Rattle.core_program.specs.declared.rows.TypeRow.TheVariants as kinds
+use Rattle.core_program.specs.ProgramRows.{ProgramRows, row_at, type_at, routine_at}
+use Rattle.core_program.specs.WholeTables.{WholeTables, is_routine}
 use Rattle.core_program.specs.State.{State, stack_end}
 use Rattle.core_program.specs.Acts.{OutOfSteps, Limited, Act, Answer, ActResult, Went, Stops, Spend, perform, limit_passed, spent}
 use Rattle.core_program.specs.Tree.{
@@ -42,6 +46,7 @@ use Rattle.core_program.specs.Tree.{
   ActTree,
   Ret,
   Halt,
+  Meaningless,
   Do,
   Sub,
   Enter,
@@ -51,14 +56,21 @@ use Rattle.core_program.specs.Tree.{
 }
 use Rattle.core_program.specs.declared.scan.Scan.{Scan}
 use Rattle.core_program.specs.declared.scan.Scan.TheVariants.{Blanks, Digits}
-use Rattle.core_program.specs.Accesses.{no_row, on_scalar, on_address, eval, locate_before, of_access, access_in, type_accessed}
-use Rattle.core_program.specs.Expressions.{expression_in, of_actual, of_members}
-use Rattle.core_program.specs.Statements.{on_normal, on_labelled, begins, line_of, statement_in, of_sequence, of_turn, of_count, of_records}
+use Rattle.core_program.specs.Accesses.{no_row, is_end, until_end, on_scalar, on_address, eval, locate_before, of_access, access_in, type_accessed}
+use Rattle.core_program.specs.Accesses.{with_formal}
+use Rattle.core_program.specs.Cells.{routine_out}
+use Rattle.core_program.specs.Expressions.{expression_in, pass_routine, of_actual, of_members}
+use Rattle.core_program.specs.Statements.{nothing, on_normal, on_labelled, begins, line_of, statement_in, of_sequence, of_turn, of_count, of_records}
 use Rattle.core_program.specs.Input.{next_char}
-use Rattle.core_program.specs.Output.{char_type, host_at}
-use Rattle.core_program.specs.Transfers.{read_for, received, of_received, of_scan, of_printed}
+use Rattle.core_program.specs.Output.{char_type}
+use Rattle.core_program.specs.Transfers.{with_host, read_for, received, of_received, of_scan, of_printed}
 use Rattle.core_program.specs.Layer.{layer, of_body}
 use Rattle.core_program.proofs.ActsTakeSteps.{cost, Acted, acted}
+use Rattle.core_program.proofs.ActionsMeant.{no}
+use Rattle.core_program.proofs.WholeParts as places
+use Rattle.core_program.proofs.WholeParts.{Takes, gives, gives_call, Good}
+use Rattle.core_program.proofs.WholeActions.{below_length}
+use Rattle.core_program.proofs.WholeStatements.{part_good, routine_good}
 use Rattle.core_program.specs.Run.{
   End,
   Ended,
@@ -121,6 +133,7 @@ pays part = false
 abbrev Ranked : (R r : ℕ) → (pays : Bool) → ActTree → Type 0
 Ranked R r b (Ret out) = b ≡ false
 Ranked R r b (Halt line why) = Unit {0}
+Ranked R r b Meaningless = Unit {0}
 Ranked R r b (Do line act next) = (1 ≤ cost act) ⊎ ((x : Answer act) → Ranked R r b (next x))
 Ranked R r b (Sub part next) = (rank R part < r) × ((pays part ≡ true) ⊎ ((out : Out) → Ranked R r b (next out)))
 Ranked R r b (Enter f cells args next) = 1 < r
@@ -146,6 +159,7 @@ below_all R (Print at here) = omega arith
 any_tree : (R : ℕ) (t : ActTree) → Ranked R (R + 3) false t
 any_tree R (Ret out) = refl
 any_tree R (Halt line why) = tt
+any_tree R Meaningless = tt
 any_tree R (Do line act next) = inr (λ x. any_tree R (next x))
 any_tree R (Sub part next) = (below_all R part, inr (λ out. any_tree R (next out)))
 any_tree R (Enter f cells args next) = omega arith
@@ -153,10 +167,12 @@ any_tree R (Line line next) = tt
 
 -- ---- each part has its rank
 
-below_length : (rs : List Row) (n : ℕ) → (unwrap_or (slice_get rs n) rows.Nothing ≡ rows.Nothing) ⊎ (n < length rs)
-below_length [] n = inl refl
-below_length (r ∷ rs) zero = inr (omega arith)
-below_length (r ∷ rs) (suc n) = elim (below_length rs n) [ inl e ↦ inl e | inr h ↦ inr (omega (arith, h)) ]
+until_ranked : (R r : ℕ) (b : Bool) (at : ℕ) (e g : ActTree) → Ranked R r b e → Ranked R r b g → Ranked R r b (until_end at e g)
+until_ranked R r b at e g h k = by (is_end at)
+  where
+    by : (c : Bool) → Ranked R r b (if c then e else g)
+    by true = h
+    by false = k
 
 module _ (p : ProgramRows) where
   abbrev R : ℕ
@@ -211,25 +227,30 @@ module _ (p : ProgramRows) where
   evaluated row here (rows.Statement s) = tt
   evaluated row here (rows.Item i) = tt
 
+  passed_formal : (at next levels : ℕ) (vs : List Value) (here : Here) (r : Row)
+      → Fits (Pass at vs here) (with_formal r (λ place heading. pass_routine here next vs (routine_out p heading levels here.base place)))
+  passed_formal at next levels vs here (rows.Name (named.RoutineFormal place level heading)) = inl one
+  passed_formal at next levels vs here r = tt
+
   passed_item : (at : ℕ) (vs : List Value) (here : Here) (i : ItemRow) → Fits (Pass at vs here) (of_actual p vs here (rows.Item i))
   passed_item at vs here (item.Value e of' next) = (omega arith, inl refl)
   passed_item at vs here (item.Place a next) = (omega arith, inl refl)
   passed_item at vs here (item.Routine routine levels next) = inl one
-  passed_item at vs here (item.RoutineFormal place levels next) = inl one
-  passed_item at vs here i = refl
+  passed_item at vs here (item.RoutineFormal formal levels next) = passed_formal at next levels vs here (row_at p formal)
+  passed_item at vs here i = tt
 
   passed_row : (at : ℕ) (vs : List Value) (here : Here) (r : Row) → Fits (Pass at vs here) (of_actual p vs here r)
   passed_row at vs here (rows.Item i) = passed_item at vs here i
-  passed_row at vs here r = refl
+  passed_row at vs here r = tt
 
   gathered : (at : ℕ) (set : Value) (here : Here) (r : Row) → Fits (Gather at set here) (of_members set here r)
   gathered at set here (rows.Item (item.Member e next)) = (omega arith, inl refl)
   gathered at set here (rows.Item (item.Members first last next)) = (omega arith, inl refl)
-  gathered at set here r = refl
+  gathered at set here r = tt
 
   established : (at body : ℕ) (here : Here) (r : Row) → Fits (Establish at body here) (of_records here body r)
   established at body here (rows.Item (item.Element a next)) = (omega arith, inl refl)
-  established at body here r = (omega arith, inl refl)
+  established at body here r = tt
 
   begun : (row : ℕ) (here : Here) (s : StatementRow) (o : Option ℕ) → Fits (Exec row here) (begins p row here s o)
   begun row here s (Some line) = tt
@@ -257,7 +278,7 @@ module _ (p : ProgramRows) where
 
   in_sequence : (first at : ℕ) (here : Here) (r : Row) → Fits (Sequence first at here) (of_sequence p here first r)
   in_sequence first at here (rows.Item (item.Element s next)) = (omega arith, inl refl)
-  in_sequence first at here r = refl
+  in_sequence first at here r = tt
 
   repeated : (row condition : ℕ) (here : Here) (go : Value → ActTree) (out : Out) → Ranked R (R + 2) false (on_normal (eval condition here go) out)
   repeated row condition here go (Jump label base) = refl
@@ -279,13 +300,19 @@ module _ (p : ProgramRows) where
       by true = inl one
       by false = (omega arith, inl refl)
 
+  host_fits : (at of' : ℕ) (here : Here) (go : ℕ → Value → ActTree) (t : Option TypeRow)
+      → Fits (Receive at here) (with_host of' t (λ host. read_for here host (go host)))
+  host_fits at of' here go (Some (kinds.Ordinal least greatest)) = read_for_fits at of' here (go of')
+  host_fits at of' here go (Some (kinds.Subrange host least greatest)) = read_for_fits at host here (go host)
+  host_fits at of' here go t = tt
+
   received_row : (at access next : ℕ) (here : Here) (r : Row) → Fits (Receive at here) (received p here access next r)
-  received_row at access next here (rows.Access a) = read_for_fits at (host_at p (type_accessed a)) here _
+  received_row at access next here (rows.Access a) = host_fits at (type_accessed a) here _ (type_at p (type_accessed a))
   received_row at access next here r = tt
 
   receives : (at : ℕ) (here : Here) (r : Row) → Fits (Receive at here) (of_received p here r)
   receives at here (rows.Item (item.Element access next)) = received_row at access next here (row_at p access)
-  receives at here r = refl
+  receives at here r = tt
 
   scans : (scan : Scan) (here : Here) → Fits (Scanning scan here) (of_scan scan here)
   scans Blanks here = inl one
@@ -294,7 +321,7 @@ module _ (p : ProgramRows) where
   prints : (at : ℕ) (here : Here) (r : Row) → Fits (Print at here) (of_printed p here r)
   prints at here (rows.Item (item.Written e of' next)) = (omega arith, inl refl)
   prints at here (rows.Item (item.WrittenWide e of' width next)) = (omega arith, inl refl)
-  prints at here r = refl
+  prints at here r = tt
 
   bodied : (routine base : ℕ) (o : Option Routine) → Fits (Body routine base) (of_body base o)
   bodied routine base None = tt
@@ -303,17 +330,17 @@ module _ (p : ProgramRows) where
   part_fits : (part : Part) → Fits part (layer p part)
   part_fits (Eval row here) = evaluated row here (row_at p row)
   part_fits (Locate row target here) = located row target here
-  part_fits (Pass at passed here) = passed_row at passed here (row_at p at)
-  part_fits (Gather at set here) = gathered at set here (row_at p at)
-  part_fits (Establish at body here) = established at body here (row_at p at)
+  part_fits (Pass at passed here) = until_ranked R (R + 2) false at _ _ refl (passed_row at passed here (row_at p at))
+  part_fits (Gather at set here) = until_ranked R (R + 2) false at _ _ refl (gathered at set here (row_at p at))
+  part_fits (Establish at body here) = until_ranked R (R + 1) false at _ _ (omega arith, inl refl) (established at body here (row_at p at))
   part_fits (Exec row here) = done row here
-  part_fits (Sequence first at here) = in_sequence first at here (row_at p at)
+  part_fits (Sequence first at here) = until_ranked R (R + 1) false at _ _ refl (in_sequence first at here (row_at p at))
   part_fits (Turn row here) = turned row here (row_at p row)
   part_fits (Count row i last here) = counted row i last here (row_at p row)
-  part_fits (Receive at here) = receives at here (row_at p at)
+  part_fits (Receive at here) = until_ranked R (R + 2) false at _ _ refl (receives at here (row_at p at))
   part_fits (Scanning scan here) = scans scan here
   part_fits (RestOfLine here) = inl one
-  part_fits (Print at here) = prints at here (row_at p at)
+  part_fits (Print at here) = until_ranked R (R + 2) false at _ _ refl (prints at here (row_at p at))
   part_fits (Body routine base) = bodied routine base (routine_at p routine)
 
 -- ---- each tree ends
@@ -345,53 +372,62 @@ fell_halted : (b : Bool) (way : WayOut) (a s : ℕ) → a ≤ s → Fell b (Halt
 fell_halted true way a s h = h
 fell_halted false way a s h = h
 
--- there is a result, and the steps fell
-pub record Ends (b : Bool) (s : ℕ) (x : Outcome) : Type 0 where
+abbrev EndFits : Takes → End → Type 0
+EndFits k (Ended out) = places.Fits k out
+EndFits k (Halted way) = Unit {0}
+
+-- there is a result, which a place takes, and the steps fell
+pub record Ends (k : Takes) (b : Bool) (s : ℕ) (x : Outcome) : Type 0 where
   pub result : Result State Record
   pub is : x ≡ Some result
   pub falls : Fell b result.end result.after.steps s
+  pub takes : EndFits k result.end
 
-halts : (b : Bool) (s : ℕ) (way : WayOut) (σ : State) → σ.steps ≤ s → Ends b s (ends (Halted way) σ)
-halts b s way σ h = record { result = _; is = refl; falls = fell_halted b way σ.steps s h }
+halts : (k : Takes) (b : Bool) (s : ℕ) (way : WayOut) (σ : State) → σ.steps ≤ s → Ends k b s (ends (Halted way) σ)
+halts k b s way σ h = record { result = _; is = refl; falls = fell_halted b way σ.steps s h; takes = tt }
 
-ends_less : (b : Bool) (s r : ℕ) (x : Outcome) → r ≤ s → Ends b r x → Ends b s x
-ends_less b s r x k h = record { result = h.result; is = h.is; falls = fell_less b h.result.end h.result.after.steps r s k h.falls }
+ends_less : (k : Takes) (b : Bool) (s r : ℕ) (x : Outcome) → r ≤ s → Ends k b r x → Ends k b s x
+ends_less k b s r x l h = record { result = h.result; is = h.is; falls = fell_less b h.result.end h.result.after.steps r s l h.falls; takes = h.takes }
 
-ends_paid : (b : Bool) (s r : ℕ) (x : Outcome) → r + 1 ≤ s → Ends false r x → Ends b s x
-ends_paid b s r x k h = record {
+ends_paid : (k : Takes) (b : Bool) (s r : ℕ) (x : Outcome) → r + 1 ≤ s → Ends k false r x → Ends k b s x
+ends_paid k b s r x l h = record {
   result = h.result;
   is = h.is;
-  falls = fell_paid b h.result.end h.result.after.steps r s k (fell_no_more false h.result.end h.result.after.steps r h.falls);
+  falls = fell_paid b h.result.end h.result.after.steps r s l (fell_no_more false h.result.end h.result.after.steps r h.falls);
+  takes = h.takes;
 }
 
-ends_front : (b : Bool) (s : ℕ) (w : List Touch) (es : List (Marked Record)) (x : Outcome) → Ends b s x → Ends b s (in_front w es x)
-ends_front b s w es x h = record { result = _; is = ap (in_front w es) h.is; falls = h.falls }
+ends_front : (k : Takes) (b : Bool) (s : ℕ) (w : List Touch) (es : List (Marked Record)) (x : Outcome) → Ends k b s x → Ends k b s (in_front w es x)
+ends_front k b s w es x h = record { result = _; is = ap (in_front w es) h.is; falls = h.falls; takes = h.takes }
 
-ends_allowed : (b : Bool) (o : Option Which) (σ : State) (x : Outcome) → Ends b σ.steps x → Ends b σ.steps (if_allowed o σ x)
-ends_allowed b None σ x h = h
-ends_allowed b (Some which) σ x h = halts b σ.steps _ σ (omega arith)
+ends_allowed : (k : Takes) (b : Bool) (o : Option Which) (σ : State) (x : Outcome) → Ends k b σ.steps x → Ends k b σ.steps (if_allowed o σ x)
+ends_allowed k b None σ x h = h
+ends_allowed k b (Some which) σ x h = halts k b σ.steps _ σ (omega arith)
 
-ends_joined : (b c : Bool) (s : ℕ) (x : Outcome) (g : Out → State → Outcome) → Ends b s x
-    → ((out : Out) (τ : State) → Fell b (Ended out) τ.steps s → Ends c s (g out τ)) → Ends c s (joined x g)
-ends_joined b c s x g h k = go h.result.end refl
+ends_joined : (j k : Takes) (b c : Bool) (s : ℕ) (x : Outcome) (g : Out → State → Outcome) → Ends j b s x
+    → ((out : Out) (τ : State) → Fell b (Ended out) τ.steps s → places.Fits j out → Ends k c s (g out τ)) → Ends k c s (joined x g)
+ends_joined j k b c s x g h go_on = go h.result.end refl
   where
-    go : (e : End) → h.result.end ≡ e → Ends c s (joined x g)
+    go : (e : End) → h.result.end ≡ e → Ends k c s (joined x g)
     go (Ended out) q =
-        let y = ends_front c s h.result.log h.result.events _ (k out h.result.after (subst (λ e. Fell b e h.result.after.steps s) q h.falls)) in
-        record { result = y.result; is = ap (λ z. joined z g) h.is ∙ ap (λ d. on_end d h.result g) q ∙ y.is; falls = y.falls }
+        let y = ends_front k c s h.result.log h.result.events _
+        (go_on out h.result.after (subst (λ e. Fell b e h.result.after.steps s) q h.falls) (subst (EndFits j) q h.takes)) in
+        record { result = y.result; is = ap (λ z. joined z g) h.is ∙ ap (λ d. on_end d h.result g) q ∙ y.is; falls = y.falls; takes = y.takes }
     go (Halted way) q = record {
       result = h.result;
       is = ap (λ z. joined z g) h.is ∙ ap (λ d. on_end d h.result g) q;
       falls = subst (λ e. Fell c e h.result.after.steps s) (sym q) (fell_halted c way h.result.after.steps s
           (fell_no_more b h.result.end h.result.after.steps s h.falls));
+      takes = subst (EndFits k) (sym q) tt;
     }
 
-ends_after : (b : Bool) (s : ℕ) (change : State → State) → ((τ : State) → (change τ).steps ≡ τ.steps) → (x : Outcome) → Ends b s x
-    → Ends b s (after_all change x)
-ends_after b s change keeps x h = record {
+ends_after : (k : Takes) (b : Bool) (s : ℕ) (change : State → State) → ((τ : State) → (change τ).steps ≡ τ.steps) → (x : Outcome) → Ends k b s x
+    → Ends k b s (after_all change x)
+ends_after k b s change keeps x h = record {
   result = _;
   is = ap (after_all change) h.is;
   falls = subst (λ n. Fell b h.result.end n s) (sym (keeps h.result.after)) h.falls;
+  takes = h.takes;
 }
 
 -- a rank, and this much for each step that is left
@@ -404,41 +440,47 @@ need_less k r a b h = omega (arith, mul-le-mul_left k h)
 need_paid : (k r q a b : ℕ) → r ≤ k → a + 1 ≤ b → need k r a ≤ need k q b
 need_paid k r q a b h e = omega (arith, h, mul-le-mul_left k e)
 
-module _ (p : ProgramRows) where
+module _ (p : ProgramRows) (W : WholeTables p) where
   abbrev K : ℕ
   K = length p.rows + 4
 
   abbrev Enough : ℕ → Type 0
-  Enough n = (t : ActTree) (b : Bool) (r : ℕ) → Ranked (length p.rows) r b t → (σ : State) → need K r σ.steps < n → Ends b σ.steps (run_of p n t σ)
+  Enough n = (t : ActTree) (j : Takes) (b : Bool) (r : ℕ) → Ranked (length p.rows) r b t → Good p W j t → (σ : State) → need K r σ.steps < n
+      → Ends j b σ.steps (run_of p n t σ)
 
-  call_ends : (run : ActTree → State → Outcome) (f : ℕ) (args : List Value) (σ : State)
-      → ((r : Routine) (τ : State) → τ.steps ≤ σ.steps → Ends true τ.steps (run (whole p f σ.top r) τ)) → Ends true σ.steps (call_of p run f args σ)
-  call_ends run f args σ h = rec (after_all (call_closed σ.depth) (in_frame (at_work p run f) args (opened σ) (routine_at p f)))
-      (ends_after true σ.steps (call_closed σ.depth) (λ τ. refl) _ (framed_so (routine_at p f)))
+  call_ends : (run : ActTree → State → Outcome) (f : ℕ) (args : List Value) (σ : State) → is_routine p f ≡ true
+      → ((r : Routine) (τ : State) → routine_at p f ≡ Some r → τ.steps ≤ σ.steps → Ends (gives_call p f) true τ.steps (run (whole p f σ.top r) τ))
+      → Ends (gives_call p f) true σ.steps (call_of p run f args σ)
+  call_ends run f args σ there h = rec (after_all (call_closed σ.depth) (in_frame (at_work p run f) args (opened σ) (routine_at p f)))
+      (ends_after J true σ.steps (call_closed σ.depth) (λ τ. refl) _ (framed_so (routine_at p f) refl))
     where
-      rec : (x : Outcome) → Ends true σ.steps x → Ends true σ.steps (recorded f args σ x)
-      rec x y = record { result = _; is = ap (recorded f args σ) y.is; falls = y.falls }
+      J : Takes
+      J = gives_call p f
 
-      by : (r : Routine) (a b : Bool) → Ends true σ.steps (if a then ends (Halted (way_of 0 (Limited Stack))) (opened σ)
+      rec : (x : Outcome) → Ends (gives_call p f) true σ.steps x → Ends (gives_call p f) true σ.steps (recorded f args σ x)
+      rec x y = record { result = _; is = ap (recorded f args σ) y.is; falls = y.falls; takes = y.takes }
+
+      by : (r : Routine) → routine_at p f ≡ Some r → (a b : Bool) → Ends (gives_call p f) true σ.steps
+          (if a then ends (Halted (way_of 0 (Limited Stack))) (opened σ)
           else if b then ends (Halted (way_of 0 OutOfSteps)) (spent (opened σ))
           else after_all (without_frame σ.top r.cells) (run (whole p f σ.top r) (with_frame r.cells args (opened σ))))
-      by r true b = halts true σ.steps _ (opened σ) (omega arith)
-      by r false true = halts true σ.steps _ (spent (opened σ)) (omega arith)
-      by r false false = ends_after true σ.steps (without_frame σ.top r.cells) (λ τ. refl) _
-          (ends_less true σ.steps _ _ (omega arith) (h r (with_frame r.cells args (opened σ)) (omega arith)))
+      by r q true b = halts (gives_call p f) true σ.steps _ (opened σ) (omega arith)
+      by r q false true = halts (gives_call p f) true σ.steps _ (spent (opened σ)) (omega arith)
+      by r q false false = ends_after (gives_call p f) true σ.steps (without_frame σ.top r.cells) (λ τ. refl) _
+          (ends_less (gives_call p f) true σ.steps _ _ (omega arith) (h r (with_frame r.cells args (opened σ)) q (omega arith)))
 
-      framed_so : (o : Option Routine) → Ends true σ.steps (in_frame (at_work p run f) args (opened σ) o)
-      framed_so None = halts true σ.steps _ (opened σ) (omega arith)
-      framed_so (Some r) = by r (nat_lt stack_end ((opened σ).top + r.cells)) (nat_lt (opened σ).steps r.cells)
+      framed_so : (o : Option Routine) → routine_at p f ≡ o → Ends (gives_call p f) true σ.steps (in_frame (at_work p run f) args (opened σ) o)
+      framed_so None q = no (sym (ap is_some q) ∙ there)
+      framed_so (Some r) q = by r q (nat_lt stack_end ((opened σ).top + r.cells)) (nat_lt (opened σ).steps r.cells)
 
-  act_ends : (b : Bool) (line : ℕ) (act : Act) (next : Answer act → State → Outcome) (σ : State)
-      → ((x : Answer act) (τ : State) → τ.steps + cost act ≤ σ.steps → Ends b σ.steps (next x τ))
-      → Ends b σ.steps (on_done (plain p) line σ (perform act σ) next)
-  act_ends b line act next σ h = go (perform act σ) (acted act σ)
+  act_ends : (j : Takes) (b : Bool) (line : ℕ) (act : Act) (next : Answer act → State → Outcome) (σ : State)
+      → ((x : Answer act) (τ : State) → τ.steps + cost act ≤ σ.steps → Ends j b σ.steps (next x τ))
+      → Ends j b σ.steps (on_done (plain p) line σ (perform act σ) next)
+  act_ends j b line act next σ h = go (perform act σ) (acted act σ)
     where
-      go : (d : ActResult (Answer act)) → Acted (cost act) σ d → Ends b σ.steps (on_done (plain p) line σ d next)
-      go (Went x w τ) e = ends_front b σ.steps w [] _ (h x τ e)
-      go (Stops why w τ) e = ends_front b σ.steps w [] _ (halts b σ.steps _ τ e)
+      go : (d : ActResult (Answer act)) → Acted (cost act) σ d → Ends j b σ.steps (on_done (plain p) line σ d next)
+      go (Went x w τ) e = ends_front j b σ.steps w [] _ (h x τ e)
+      go (Stops why w τ) e = ends_front j b σ.steps w [] _ (halts j b σ.steps _ τ e)
 
   abbrev whatever : (t : ActTree) → Ranked (length p.rows) (length p.rows + 3) false t
   whatever t = any_tree (length p.rows) t
@@ -448,40 +490,48 @@ module _ (p : ProgramRows) where
   after_step n r σ τ k e = omega (arith, k, need_paid K (length p.rows + 3) r τ.steps σ.steps (omega arith) e)
 
   ends_more : (n : ℕ) → Enough n → Enough (suc n)
-  ends_more n h (Ret out) b r d σ k = record { result = _; is = refl; falls = subst (λ b. Fell b (Ended out) σ.steps σ.steps) (sym d) (omega arith) }
-  ends_more n h (Halt line why) b r d σ k = halts b σ.steps _ σ (omega arith)
-  ends_more n h (Line line next) b r d σ k = act_ends b line (Spend 1) _ σ (λ x τ e. ends_front b σ.steps [] [] _
-      (ends_paid b σ.steps τ.steps _ e (ends_more n h next false (length p.rows + 3) (whatever next) τ (after_step n r σ τ k e))))
-  ends_more n h (Do line act next) b r (inl c) σ k = act_ends b line act _ σ (λ x τ e.
+  ends_more n h (Ret out) j b r d g σ k = record {
+    result = _;
+    is = refl;
+    falls = subst (λ b. Fell b (Ended out) σ.steps σ.steps) (sym d) (omega arith);
+    takes = g;
+  }
+  ends_more n h (Halt line why) j b r d g σ k = halts j b σ.steps _ σ (omega arith)
+  ends_more n h Meaningless j b r d g σ k = absurd g
+  ends_more n h (Line line next) j b r d g σ k = act_ends j b line (Spend 1) _ σ (λ x τ e. ends_front j b σ.steps [] [] _
+      (ends_paid j b σ.steps τ.steps _ e (ends_more n h next j false (length p.rows + 3) (whatever next) g τ (after_step n r σ τ k e))))
+  ends_more n h (Do line act next) j b r (inl c) g σ k = act_ends j b line act _ σ (λ x τ e.
       let f : τ.steps + 1 ≤ σ.steps = omega (arith, e, c) in
-      ends_paid b σ.steps τ.steps _ f (ends_more n h (next x) false (length p.rows + 3) (whatever (next x)) τ (after_step n r σ τ k f)))
-  ends_more n h (Do line act next) b r (inr f) σ k = act_ends b line act _ σ (λ x τ e.
+      ends_paid j b σ.steps τ.steps _ f (ends_more n h (next x) j false (length p.rows + 3) (whatever (next x)) (g x) τ (after_step n r σ τ k f)))
+  ends_more n h (Do line act next) j b r (inr f) g σ k = act_ends j b line act _ σ (λ x τ e.
       let m : τ.steps ≤ σ.steps = omega (arith, e) in
-      ends_less b σ.steps τ.steps _ m (ends_more n h (next x) b r (f x) τ (omega (arith, k, need_less K r τ.steps σ.steps m))))
-  ends_more n h (Sub part next) b r (l, inl e) σ k = ends_joined true b σ.steps _ _
-      (subst (λ q. Ends q σ.steps (run_of p n (layer p part) σ)) e
-      (h (layer p part) (pays part) (rank (length p.rows) part) (part_fits p part) σ (omega (arith, k, l))))
-      (λ out τ q. ends_paid b σ.steps τ.steps _ q (ends_more n h (next out) false (length p.rows + 3) (whatever (next out)) τ (after_step n r σ τ k q)))
-  ends_more n h (Sub part next) b r (l, inr f) σ k = ends_joined (pays part) b σ.steps _ _
-      (h (layer p part) (pays part) (rank (length p.rows) part) (part_fits p part) σ (omega (arith, k, l)))
-      (λ out τ q. let m = fell_no_more (pays part) (Ended out) τ.steps σ.steps q in
-      ends_less b σ.steps τ.steps _ m (ends_more n h (next out) b r (f out) τ (omega (arith, k, need_less K r τ.steps σ.steps m))))
-  ends_more n h (Enter f cells args next) b r d σ k = ends_allowed b (limit_passed σ cells) σ _
-      (ends_joined true b σ.steps _ _
-      (call_ends (run_of p n) f args σ (λ q τ m. h (whole p f σ.top q) true 1 (omega arith, inl refl) τ
+      ends_less j b σ.steps τ.steps _ m (ends_more n h (next x) j b r (f x) (g x) τ (omega (arith, k, need_less K r τ.steps σ.steps m))))
+  ends_more n h (Sub part next) j b r (l, inl e) g σ k = ends_joined (gives p part) j true b σ.steps _ _
+      (subst (λ q. Ends (gives p part) q σ.steps (run_of p n (layer p part) σ)) e
+      (h (layer p part) (gives p part) (pays part) (rank (length p.rows) part) (part_fits p part) (part_good p W part g.0) σ (omega (arith, k, l))))
+      (λ out τ q m. ends_paid j b σ.steps τ.steps _ q
+      (ends_more n h (next out) j false (length p.rows + 3) (whatever (next out)) (g.1 out m) τ (after_step n r σ τ k q)))
+  ends_more n h (Sub part next) j b r (l, inr f) g σ k = ends_joined (gives p part) j (pays part) b σ.steps _ _
+      (h (layer p part) (gives p part) (pays part) (rank (length p.rows) part) (part_fits p part) (part_good p W part g.0) σ (omega (arith, k, l)))
+      (λ out τ q u. let m = fell_no_more (pays part) (Ended out) τ.steps σ.steps q in
+      ends_less j b σ.steps τ.steps _ m (ends_more n h (next out) j b r (f out) (g.1 out u) τ (omega (arith, k, need_less K r τ.steps σ.steps m))))
+  ends_more n h (Enter f cells args next) j b r d g σ k = ends_allowed j b (limit_passed σ cells) σ _
+      (ends_joined (gives_call p f) j true b σ.steps _ _
+      (call_ends (run_of p n) f args σ g.0 (λ q τ e m. h (whole p f σ.top q) (gives_call p f) true 1 (omega arith, inl refl) (routine_good p W f σ.top q e) τ
       (omega (arith, k, d, need_less K 1 τ.steps σ.steps m))))
-      (λ out τ q. ends_paid b σ.steps τ.steps _ q (ends_more n h (next out) false (length p.rows + 3) (whatever (next out)) τ (after_step n r σ τ k q))))
+      (λ out τ q u. ends_paid j b σ.steps τ.steps _ q
+      (ends_more n h (next out) j false (length p.rows + 3) (whatever (next out)) (g.1 out u) τ (after_step n r σ τ k q))))
 
   enough : (n : ℕ) → Enough n
-  enough zero = λ t b r d σ k. absurd (omega (arith, k))
+  enough zero = λ t j b r d g σ k. absurd (omega (arith, k))
   enough (suc n) = ends_more n (enough n)
 
-  -- every tree has a run: this depth is enough
-  pub total : (t : ActTree) (σ : State) (n : ℕ) → (length p.rows + 4) * (σ.steps + 1) ≤ n → Ends false σ.steps (run_of p n t σ)
-  total t σ n k = enough n t false (length p.rows + 3) (any_tree (length p.rows) t) σ (omega (arith, k))
+  -- Every tree that is meant has a run: this depth is enough.
+  pub total : (t : ActTree) (j : Takes) → Good p W j t → (σ : State) (n : ℕ) → (length p.rows + 4) * (σ.steps + 1) ≤ n → Ends j false σ.steps (run_of p n t σ)
+  total t j g σ n k = enough n t j false (length p.rows + 3) (any_tree (length p.rows) t) g σ (omega (arith, k))
 
-  -- and so has every call
-  pub call_total : (f : ℕ) (args : List Value) (σ : State) (n : ℕ) → (length p.rows + 4) * (σ.steps + 1) ≤ n
-      → Ends true σ.steps (call_of p (run_of p n) f args σ)
-  call_total f args σ n k = call_ends (run_of p n) f args σ (λ q τ m. enough n (whole p f σ.top q) true 1 (omega arith, inl refl) τ
-      (omega (arith, k, need_less K 1 τ.steps σ.steps m)))
+  -- And so has every call of a routine.
+  pub call_total : (f : ℕ) (args : List Value) (σ : State) (n : ℕ) → is_routine p f ≡ true → (length p.rows + 4) * (σ.steps + 1) ≤ n
+      → Ends (gives_call p f) true σ.steps (call_of p (run_of p n) f args σ)
+  call_total f args σ n there k = call_ends (run_of p n) f args σ there (λ q τ e m. enough n (whole p f σ.top q) (gives_call p f) true 1 (omega arith, inl refl)
+      (routine_good p W f σ.top q e) τ (omega (arith, k, need_less K 1 τ.steps σ.steps m)))

@@ -8,6 +8,7 @@ use Rattle.std.proofs.lemmas.List.Elements.{All-cons, All-nil}
 use Rattle.cell_value.specs.declared.values.Value.{Value}
 use Rattle.cell_value.specs.Effects.{IsCountable}
 use Rattle.core_program.specs.ProgramRows.{ProgramRows, routine_at}
+use Rattle.core_program.specs.WholeTables.{WholeTables}
 use Rattle.core_program.specs.State.{State, IsSound, most_calls, most_depth}
 use Rattle.core_program.specs.Acts.{Act, ActResult, Went, Stops, perform}
 use Rattle.core_program.specs.Tree.{Part}
@@ -122,10 +123,10 @@ all_met n cs (e ∷ es) h = λ k d l. by k d l (all_met n cs es h.1)
     by zero d l g = h.0
     by (suc k) d l g = g k d (omega arith)
 
-pub body_is : (p : ProgramRows) (k : ℕ) (c : Call) (cs : List Call) → MadeBy p c cs → (depth : ℕ) → depth_enough p c.entry.steps ≤ depth
+pub body_is : (p : ProgramRows) → WholeTables p → (k : ℕ) (c : Call) (cs : List Call) → MadeBy p c cs → (depth : ℕ) → depth_enough p c.entry.steps ≤ depth
     → IsBody k c (take c.below cs) (body p depth c k (take c.below cs))
-body_is p k c cs h depth deep =
-    let a = call_redo p (call_at h.ran depth deep) h.sound h.limits (k + 1) [] in
+body_is p W k c cs h depth deep =
+    let a = call_redo p (call_at W h.ran depth deep) h.sound h.limits (k + 1) [] in
     let l : unmarked h.result.events ++ [] ≡ take c.below cs = append-nil (unmarked h.result.events) ∙ h.calls in
     let d : c.entry.depth ≡ c.depth = ap (λ (c : Call). c.depth) h.record' in
     let b : Redo (k + 1) h.result [] (body p depth c k (take c.below cs)) =

@@ -1,3 +1,4 @@
+pub mod ActionsMeant
 pub mod ActsLeave
 pub mod ActsRepeat
 pub mod ActsTakeSteps
@@ -9,6 +10,8 @@ pub mod EachTreeEnds
 pub mod Effects
 pub mod Events
 pub mod LawsOfRuns
+pub mod Lists
+pub mod MainStands
 pub mod MoreDepthSameResult
 pub mod NestedCallsAreIntervals
 pub mod OutcomesCompose
@@ -19,3 +22,7 @@ pub mod RunsRecord
 pub mod RunsRepeat
 pub mod Touches
 pub mod Ways
+pub mod WholeActions
+pub mod WholeParts
+pub mod WholeRows
+pub mod WholeStatements

@@ -29,7 +29,7 @@ use Rattle.core_program.specs.declared.program.Routine.{Routine}
 use Rattle.core_program.specs.ProgramRows.{ProgramRows, routine_at}
 use Rattle.core_program.specs.State.{State, stack_end}
 use Rattle.core_program.specs.Acts.{ActResult, Went, Stops, Spend, perform, limit_passed}
-use Rattle.core_program.specs.Tree.{Out, Part, ActTree, Ret, Halt, Do, Sub, Enter, Line}
+use Rattle.core_program.specs.Tree.{Out, Part, ActTree, Ret, Halt, Meaningless, Do, Sub, Enter, Line}
 use Rattle.core_program.specs.Layer.{layer}
 use Rattle.core_program.specs.Run.{
   End,
@@ -100,6 +100,7 @@ module _ {S E : Type 0} where
       → (t : ActTree) (σ : S) → Less (walk rules sub call t σ) (walk rules sub' call' t σ)
   walk_less rules sub sub' call call' hs hc (Ret out) σ = less_same _
   walk_less rules sub sub' call call' hs hc (Halt line why) σ = less_same _
+  walk_less rules sub sub' call call' hs hc Meaningless σ = less_none _
   walk_less rules sub sub' call call' hs hc (Do line act next) σ =
       on_done_less rules line σ (perform act (rules.state_of σ)) _ _ (λ x τ. walk_less rules sub sub' call call' hs hc (next x) τ)
   walk_less rules sub sub' call call' hs hc (Sub part next) σ =

@@ -5,7 +5,7 @@ use Rattle.cell_value.specs.declared.values.Value.{Value}
 use Rattle.cell_value.specs.declared.entries.Touch.{Touch}
 use Rattle.cell_value.specs.declared.ways_out.Which.{Which}
 use Rattle.core_program.specs.Acts.{ActResult, Went, Stops, Spend, perform, limit_passed}
-use Rattle.core_program.specs.Tree.{Out, Part, ActTree, Ret, Halt, Do, Sub, Enter, Line, bind, way_of}
+use Rattle.core_program.specs.Tree.{Out, Part, ActTree, Ret, Halt, Meaningless, Do, Sub, Enter, Line, bind, way_of}
 use Rattle.core_program.specs.Run.{End, Ended, Halted, Marked, Result, Rules, later_by, in_front, ends, on_end, joined, on_done, if_allowed, walk}
 use Rattle.core_program.proofs.MoreDepthSameResult.{Less}
 
@@ -83,6 +83,7 @@ module _ {S E : Type 0} where
       (σ : S) → walk rules sub call (bind t f) σ ≡ joined (walk rules sub call t σ) (λ out τ. walk rules sub call (f out) τ)
   walk_bind rules sub call (Ret out) f σ = sym (front_nothing _)
   walk_bind rules sub call (Halt line why) f σ = refl
+  walk_bind rules sub call Meaningless f σ = refl
   walk_bind rules sub call (Do line act next) f σ =
       on_done_joined rules line σ (perform act (rules.state_of σ)) _ _ _ (λ x τ. walk_bind rules sub call (next x) f τ)
   walk_bind rules sub call (Sub part next) f σ =

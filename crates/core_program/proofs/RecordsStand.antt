@@ -12,6 +12,7 @@ use Rattle.cell_value.specs.declared.entries.Touch.{Touch}
 use Rattle.cell_value.specs.declared.entries.Seen.{Seen}
 use Rattle.cell_value.specs.Effects.{heap_end, is_shared, seen_at, listed, shared, reads_of, changes_of}
 use Rattle.core_program.specs.ProgramRows.{ProgramRows}
+use Rattle.core_program.specs.WholeTables.{WholeTables}
 use Rattle.core_program.specs.State.{State, IsSound, most_depth}
 use Rattle.core_program.specs.Run.{End, Ended, Halted, Result, Call, way_out, result_in, record_of, recorded, call_of, run_of, depth_enough}
 use Rattle.core_program.proofs.RunAtAnyDepth.{call_deeper}
@@ -77,7 +78,8 @@ by_itself (Halted way) h = h
 
 -- ---- the record stands
 
-module _ (p : ProgramRows) {n f : ℕ} {args : List Value} {σ0 : State} {y : Result State Call} (ran : RanCall p n f args σ0 y) (s0 : IsSound σ0)
+module _ (p : ProgramRows) (W : WholeTables p) {n f : ℕ} {args : List Value} {σ0 : State} {y : Result State Call} (ran : RanCall p n f args σ0 y)
+    (s0 : IsSound σ0)
     (m0 : MayEnter σ0) where
   abbrev c : Call
   c = record_of f args σ0 y
@@ -108,7 +110,7 @@ module _ (p : ProgramRows) {n f : ℕ} {args : List Value} {σ0 : State} {y : Re
       (record { calls = omega (arith, ag.calls); depth = omega (arith, ag.depth) }) in
       record {
         run = of_call f args σ again.run;
-        is = (call_deeper p n depth f args σ deep).gives (of_call f args σ again.run) (ap (recorded f args σ) again.is);
+        is = (call_deeper p W n depth f args σ deep).gives (of_call f args σ again.run) (ap (recorded f args σ) again.is);
         way = ap way_out again.end;
         result = ap result_in again.end;
         after = sym (effect_is c σ again.run.after again.run.log (suc (length again.run.events)) s new.leaves (record {
@@ -131,9 +133,9 @@ module _ (p : ProgramRows) {n f : ℕ} {args : List Value} {σ0 : State} {y : Re
       cell inner a true e = seen_serves a y.log (get σ0.cells a) (get σ.cells a) (inner.leaves.shows a e) (seen_in σ σ0.top y.log ag.cells a e)
       cell inner a false e = inl (unshared σ0 a s0 e ∙ sym (unshared σ a s (ap (λ t. is_shared t a) ag.top ∙ e)))
 
-pub stands : (p : ProgramRows) (c : Call) (cs : List Call) → MadeBy p c cs → (σ : State) → IsSound σ → Agrees c (take c.below cs) σ
+pub stands : (p : ProgramRows) → WholeTables p → (c : Call) (cs : List Call) → MadeBy p c cs → (σ : State) → IsSound σ → Agrees c (take c.below cs) σ
     → (depth : ℕ) → depth_enough p σ.steps ≤ depth → StandsFor c σ (call_of p (run_of p depth) c.routine c.args σ)
-stands p c cs h σ s = subst
+stands p W c cs h σ s = subst
     (λ (d : Call). Agrees d (take c.below cs) σ → (depth : ℕ) → depth_enough p σ.steps ≤ depth
     → StandsFor d σ (call_of p (run_of p depth) c.routine c.args σ)) h.record'
-    (λ a. stand p h.ran h.sound h.limits σ s (subst (λ l. Agrees (record_of c.routine c.args c.entry h.result) l σ) (sym h.calls) a))
+    (λ a. stand p W h.ran h.sound h.limits σ s (subst (λ l. Agrees (record_of c.routine c.args c.entry h.result) l σ) (sym h.calls) a))

@@ -219,7 +219,6 @@ module _ (p : ProgramRows) where
         left_front [] l (left_front [] (leaves_same τ l.sound) (ran_leaves h l.sound))
 
     pub frame_leaves : {n f : ℕ} {args : List Value} {σ : State} {r : Result State Call} → RanFrame p n f args σ r → IsSound σ → Left σ r
-    frame_leaves (ways.NoRoutine {σ = σ} e) s = left_ending σ tt s
     frame_leaves (ways.NoRoom {σ = σ} e t) s = left_ending σ tt s
     frame_leaves (ways.NoSteps {σ = σ} e t u) s = record { leaves = leaves_steps σ 0 (omega arith) s; proper = tt }
     frame_leaves (ways.Worked {args = args} {σ = σ} {q = q} e t u h) s =

@@ -101,7 +101,6 @@ module _ (p : ProgramRows) (xs : List ℕ) where
         records_front w [] (front [] [] y) tt (records_front [] [] y tt (ran_records h l.sound (l.items ∙ i)))
 
     frame_records : {n f : ℕ} {args : List Value} {σ : State} {r : Result State Call} → RanFrame p n f args σ r → IsSound σ → σ.items ≡ xs → Records r
-    frame_records (ways.NoRoutine e) s i = tt
     frame_records (ways.NoRoom e t) s i = tt
     frame_records (ways.NoSteps e t u) s i = tt
     frame_records (ways.Worked {args = args} {σ = σ} {q = q} e t u h) s i = ran_records h (sound_framed q.cells args σ s (grind (arith, nat_tests))) i

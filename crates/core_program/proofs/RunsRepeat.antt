@@ -311,8 +311,6 @@ module _ (p : ProgramRows) where
 
     frame_again : {n f : ℕ} {args : List Value} {σ : State} {r : Result State Call} → RanFrame p n f args σ r → IsSound σ
         → Repeated σ r (λ τ. in_frame (at_work p (run_of p n) f) args τ (routine_at p f))
-    frame_again (ways.NoRoutine {n = n} {f = f} {args = args} {σ = σ} e) s = λ from to τ v a k.
-        again_at (ap (in_frame (at_work p (run_of p n) f) args τ) e) (ends_again (Halted (way.Faulted kind.Undefined 0)) σ from to τ v a k)
     frame_again (ways.NoRoom e t) s = λ from to τ v a k. absurd k.itself
     frame_again (ways.NoSteps e t u) s = λ from to τ v a k. absurd k.itself
     frame_again (ways.Worked {n = n} {f = f} {args = args} {σ = σ} {q = q} {y = y} e t u h) s = λ from to τ v a k.

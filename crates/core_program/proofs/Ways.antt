@@ -5,14 +5,14 @@ use Rattle.cell_value.specs.declared.values.Value.{Value}
 use Rattle.cell_value.specs.declared.entries.Touch.{Touch}
 use Rattle.cell_value.specs.declared.ways_out.WayOut.{WayOut}
 use Rattle.cell_value.specs.declared.ways_out.WayOut.TheVariants as way
-use Rattle.cell_value.specs.declared.ways_out.Kind.TheVariants as kind
 use Rattle.cell_value.specs.declared.ways_out.Which.{Which}
 use Rattle.cell_value.specs.declared.ways_out.Which.TheVariants.{Stack}
 use Rattle.core_program.specs.declared.program.Routine.{Routine}
 use Rattle.core_program.specs.ProgramRows.{ProgramRows, routine_at}
+use Rattle.core_program.specs.WholeTables.{WholeTables}
 use Rattle.core_program.specs.State.{State, stack_end}
 use Rattle.core_program.specs.Acts.{Trouble, OutOfSteps, Limited, Act, Answer, ActResult, Went, Stops, perform, spent, limit_passed, Spend}
-use Rattle.core_program.specs.Tree.{Out, Part, ActTree, Ret, Halt, Do, Sub, Enter, Line, way_of}
+use Rattle.core_program.specs.Tree.{Out, Part, ActTree, Ret, Halt, Meaningless, Do, Sub, Enter, Line, way_of}
 use Rattle.core_program.specs.Layer.{layer}
 use Rattle.core_program.specs.Run.{End, Ended, Halted, Marked, Result, later_by, in_front, ends, on_end, joined, on_done, if_allowed, Call, Outcome}
 use Rattle.core_program.specs.Run.{record_of, recorded, after_all, in_frame, at_work, call_of, plain, run_of, depth_enough, whole, with_frame, without_frame}
@@ -76,8 +76,6 @@ mutual
 
   -- the frame of a routine at a state, and the routine at work in it
   pub data RanFrame (p : ProgramRows) : ℕ → ℕ → List Value → State → Result State Call → Type 0 where
-    NoRoutine : {n f : ℕ} {args : List Value} {σ : State} → routine_at p f ≡ None
-        → RanFrame p n f args σ (ending (Halted (way.Faulted kind.Undefined 0)) σ)
     NoRoom : {n f : ℕ} {args : List Value} {σ : State} {q : Routine} → routine_at p f ≡ Some q → nat_lt stack_end (σ.top + q.cells) ≡ true
         → RanFrame p n f args σ (ending (Halted (way_of 0 (Limited Stack))) σ)
     NoSteps : {n f : ℕ} {args : List Value} {σ : State} {q : Routine} → routine_at p f ≡ Some q → nat_lt stack_end (σ.top + q.cells) ≡ false
@@ -122,7 +120,7 @@ gives_joined P (Some s) g h k = by s.end refl
 module _ (p : ProgramRows) (n : ℕ) (R : (t : ActTree) (σ : State) → Gives (Ran p n t σ) (run_of p n t σ)) where
   gives_frame : (f : ℕ) (args : List Value) (σ : State) (o : Option Routine) → routine_at p f ≡ o
       → Gives (RanFrame p n f args σ) (in_frame (at_work p (run_of p n) f) args σ o)
-  gives_frame f args σ None h = gives_this (RanFrame p n f args σ) _ (NoRoutine h)
+  gives_frame f args σ None h = λ r e. absurd (none_some e)
   gives_frame f args σ (Some q) h = by (nat_lt stack_end (σ.top + q.cells)) (nat_lt σ.steps q.cells) refl refl
     where
       by : (a b : Bool) → nat_lt stack_end (σ.top + q.cells) ≡ a → nat_lt σ.steps q.cells ≡ b
@@ -150,6 +148,7 @@ module _ (p : ProgramRows) (n : ℕ) (R : (t : ActTree) (σ : State) → Gives (
   deeper : (t : ActTree) (σ : State) → Gives (Ran p (suc n) t σ) (run_of p (suc n) t σ)
   deeper (Ret out) σ = gives_this (Ran p (suc n) (Ret out) σ) _ Returned
   deeper (Halt line why) σ = gives_this (Ran p (suc n) (Halt line why) σ) _ Stopped
+  deeper Meaningless σ = λ r e. absurd (none_some e)
   deeper (Do line act next) σ = by (λ x τ. deeper (next x) τ) (perform act σ) refl
     where
       by : ((x : Answer act) (τ : State) → Gives (Ran p (suc n) (next x) τ) (run_of p (suc n) (next x) τ)) → (d : ActResult (Answer act)) → perform act σ ≡ d
@@ -184,13 +183,13 @@ run_gives p zero t σ = λ r e. absurd (none_some e)
 run_gives p (suc n) t σ = deeper p n (run_gives p n) t σ
 
 -- the same went on at each depth that is enough
-pub call_at : {p : ProgramRows} {n f : ℕ} {args : List Value} {σ : State} {y : Result State Call} → RanCall p n f args σ y → (m : ℕ)
+pub call_at : {p : ProgramRows} → WholeTables p → {n f : ℕ} {args : List Value} {σ : State} {y : Result State Call} → RanCall p n f args σ y → (m : ℕ)
     → depth_enough p σ.steps ≤ m → RanCall p m f args σ y
-call_at {p = p} (Closed {n = n} {f = f} {args = args} {σ = σ} {y = y} c h) m k =
+call_at {p = p} W (Closed {n = n} {f = f} {args = args} {σ = σ} {y = y} c h) m k =
     gives_call p m (run_gives p m) (λ r. r ≡ of_call f args σ (changed (call_closed σ.depth) y) → RanCall p m f args σ (changed (call_closed σ.depth) y)) f
     args σ
     (λ z a e. subst (RanCall p m f args σ) (ap uncalled e) a) (of_call f args σ (changed (call_closed σ.depth) y))
-    ((call_deeper p n m f args σ k).gives _ (ap (λ x. recorded f args σ (after_all (call_closed σ.depth) x)) c)) refl
+    ((call_deeper p W n m f args σ k).gives _ (ap (λ x. recorded f args σ (after_all (call_closed σ.depth) x)) c)) refl
   where
     rest : List (Marked Call) → List (Marked Call)
     rest [] = []

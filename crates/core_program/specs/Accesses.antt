@@ -1,9 +1,9 @@
 -- What each access does (6.5), and the parts of constructs that evaluate and locate.
 use Rattle.std.specs.Prelude.{ℕ, ℤ, Bool, true, false, List, [], Option, Some, None, nat_lt, slice_get, if◌then◌else◌}
 use Rattle.cell_value.specs.declared.values.Value.{Value}
-use Rattle.cell_value.specs.declared.ways_out.Kind.TheVariants as kind
 use Rattle.core_program.specs.declared.rows.Row.{Row}
 use Rattle.core_program.specs.declared.rows.Row.TheVariants as rows
+use Rattle.core_program.specs.declared.rows.NameRow.TheVariants as named
 use Rattle.core_program.specs.declared.rows.AccessRow.{AccessRow}
 use Rattle.core_program.specs.declared.rows.AccessRow.TheVariants.{
   Variable,
@@ -15,9 +15,11 @@ use Rattle.core_program.specs.declared.rows.AccessRow.TheVariants.{
 }
 use Rattle.core_program.specs.declared.rows.TypeRow.{TypeRow}
 use Rattle.core_program.specs.declared.rows.TypeRow.TheVariants.{Ordinal, Subrange, Set, Pointer, Array, Record}
-use Rattle.core_program.specs.ProgramRows.{ProgramRows, row_at, type_at, size_of}
+use Rattle.core_program.specs.ProgramRows.{ProgramRows, row_at, type_at, cells_in}
+use Rattle.core_program.specs.Headings.{heading_in}
+pub use Rattle.core_program.specs.WholeTables.{is_end, type_accessed}
 use Rattle.core_program.specs.declared.components.Components.{Components}
-use Rattle.core_program.specs.Acts.{Fault, Spend}
+use Rattle.core_program.specs.Acts.{Spend}
 use Rattle.core_program.specs.Tree.{
   Out,
   Scalar,
@@ -29,7 +31,7 @@ use Rattle.core_program.specs.Tree.{
   Locate,
   ActTree,
   Ret,
-  Halt,
+  Meaningless,
   Do,
   Sub,
   doing,
@@ -38,10 +40,13 @@ use Rattle.core_program.specs.Cells.{read_values, ordinal_at, set_at, cell_out, 
 use Rattle.core_program.specs.Variants.{field_at}
 use Rattle.core_program.specs.Heap.{pointer_at, pointed_at}
 
--- The tables name a row that they do not have, or that is of another kind. Such tables are no program of a source, so
--- that the fault has no line.
+-- the tables name a row that they do not have, or that is of another kind than its place takes
 abbrev pub no_row : ActTree
-no_row = Halt 0 (Fault kind.Undefined)
+no_row = Meaningless
+
+-- goes on with an item of a list, if the list does not end
+abbrev pub until_end : (at : ℕ) → (ended goes : ActTree) → ActTree
+until_end at ended goes = if is_end at then ended else goes
 
 -- a step is taken first
 abbrev pub spend : Here → ActTree → ActTree
@@ -93,10 +98,15 @@ with_bounds (Some (Ordinal least greatest)) go = go least greatest
 with_bounds (Some (Subrange host least greatest)) go = go least greatest
 with_bounds t go = no_row
 
+-- goes on with the cells of a variable of a type
+abbrev pub with_size : Option TypeRow → (ℕ → ActTree) → ActTree
+with_size None go = no_row
+with_size (Some t) go = go (cells_in (Some t))
+
 -- goes on with what an array type says of its components
 abbrev pub with_components : ProgramRows → Option TypeRow → (Components → ActTree) → ActTree
 with_components p (Some (Array packed index component cells)) go = with_bounds (type_at p index) (λ least greatest.
-    go (record { least = least; greatest = greatest; size = size_of p component }))
+    with_size (type_at p component) (λ size. go (record { least = least; greatest = greatest; size = size })))
 with_components p t go = no_row
 
 -- a field of the record variable at an address (6.5.3.3)
@@ -129,25 +139,22 @@ abbrev pub access_in : ProgramRows → (row : ℕ) → (target : Bool) → Here 
 access_in p row target here (rows.Access a) = of_access p row target here a
 access_in p row target here r = no_row
 
--- the type of what is accessed
-abbrev pub type_accessed : AccessRow → ℕ
-type_accessed (Variable place levels of') = of'
-type_accessed (Reference place levels of') = of'
-type_accessed (Within record' field of') = of'
-type_accessed (Index access index array of') = of'
-type_accessed (Field access field of') = of'
-type_accessed (Dereference access of') = of'
-
 -- the values of this many cells from an address on, each read in order, also those that are undefined
 abbrev pub cells_at : (line addr cells : ℕ) → ActTree
 cells_at line addr cells = doing line (read_values [] addr cells) (λ vs. Ret (Cells vs))
 
 -- the value of an ordinal variable, a set or a pointer (6.5.1), or the values of the cells of an array or a record
-abbrev pub value_at : (line addr : ℕ) → Option TypeRow → ActTree
-value_at line addr (Some (Ordinal least greatest)) = doing line (ordinal_at least greatest addr) scalar
-value_at line addr (Some (Subrange host least greatest)) = doing line (ordinal_at least greatest addr) scalar
-value_at line addr (Some (Set packed base)) = doing line (set_at addr) scalar
-value_at line addr (Some (Pointer domain)) = doing line (pointer_at addr) scalar
-value_at line addr (Some (Array packed index component cells)) = cells_at line addr cells
-value_at line addr (Some (Record packed region cells variants)) = cells_at line addr cells
-value_at line addr t = no_row
+abbrev pub value_at : ProgramRows → (line addr : ℕ) → Option TypeRow → ActTree
+value_at p line addr (Some (Ordinal least greatest)) = doing line (ordinal_at least greatest addr) scalar
+value_at p line addr (Some (Subrange host least greatest)) = doing line (ordinal_at least greatest addr) scalar
+value_at p line addr (Some (Set packed base)) =
+    with_bounds (type_at p base) (λ least greatest. doing line (set_at least greatest addr) scalar)
+value_at p line addr (Some (Pointer domain)) = doing line (pointer_at addr) scalar
+value_at p line addr (Some (Array packed index component cells)) = cells_at line addr cells
+value_at p line addr (Some (Record packed region cells variants)) = cells_at line addr cells
+value_at p line addr None = no_row
+
+-- goes on with the place of a routine parameter, by the row of its name, and with its heading
+abbrev pub with_formal : Row → (ℕ → ℕ → ActTree) → ActTree
+with_formal (rows.Name (named.RoutineFormal place level heading)) go = go place heading
+with_formal r go = no_row

@@ -11,7 +11,8 @@ use Rattle.core_program.specs.State.{moved}
 use Rattle.core_program.specs.Acts.{Fault, ReadCell, WriteCell}
 use Rattle.core_program.specs.Actions.{Action, Give, Fail, ◌>>=◌, act}
 use Rattle.core_program.specs.ProgramRows.{ProgramRows}
-use Rattle.core_program.specs.Values.{defined, defined_set, tested, or_fault}
+use Rattle.core_program.specs.Headings.{may_stand_for}
+use Rattle.core_program.specs.Values.{defined, defined_set, tested}
 
 -- a cell of the heap that is not there was disposed of
 abbrev pub or_disposed : Option Value → Action Value
@@ -46,13 +47,13 @@ writes addr (v ∷ vs) = write addr v >>= λ _. writes (moved addr 1) vs
 abbrev pub ordinal_at : (least greatest : ℤ) → (addr : ℕ) → Action Value
 ordinal_at least greatest addr = read_value addr >>= defined least greatest
 
--- the value of a variable of a set type
-abbrev pub set_at : (addr : ℕ) → Action Value
-set_at addr = read_value addr >>= defined_set
+-- the value of a variable of a set type whose base type has these bounds
+abbrev pub set_at : (least greatest : ℤ) → (addr : ℕ) → Action Value
+set_at least greatest addr = read_value addr >>= defined_set least greatest
 
 -- a variable of a type of one cell gets a value
 abbrev pub assign : ProgramRows → Option TypeRow → (addr : ℕ) → Value → Action (Unit {0})
-assign p t addr v = or_fault (tested p t v) >>= write addr
+assign p t addr v = tested p t v >>= write addr
 
 -- the base of the frame that a link names
 abbrev pub frame_of_link : Value → Action ℕ
@@ -85,18 +86,20 @@ referred addr = read_value addr >>= variable_of
 abbrev pub reference_out : (levels base place : ℕ) → Action ℕ
 reference_out levels base place = cell_out levels base place >>= referred
 
--- the routine that a routine parameter stands for, and the frame in which that was declared
-abbrev pub routine_meant : Value → Action (ℕ × ℕ)
-routine_meant (value.Routine routine frame) = Give (routine, frame)
-routine_meant _ = Fail (Fault kind.Undefined)
+-- The routine that a routine parameter with this heading stands for, and the frame in which that was declared. A
+-- routine that may be no actual of it counts as undefined.
+abbrev pub routine_meant : ProgramRows → (heading : ℕ) → Value → Action (ℕ × ℕ)
+routine_meant p heading (value.Routine routine frame) =
+    if may_stand_for p heading routine then Give (routine, frame) else Fail (Fault kind.Undefined)
+routine_meant p heading _ = Fail (Fault kind.Undefined)
 
 -- the same, of a routine parameter whose cell is at an address
-abbrev pub routine_held : (addr : ℕ) → Action (ℕ × ℕ)
-routine_held addr = read_value addr >>= routine_meant
+abbrev pub routine_held : ProgramRows → (heading addr : ℕ) → Action (ℕ × ℕ)
+routine_held p heading addr = read_value addr >>= routine_meant p heading
 
 -- and of the one at a place in the frame to which this many links lead
-abbrev pub routine_out : (levels base place : ℕ) → Action (ℕ × ℕ)
-routine_out levels base place = cell_out levels base place >>= routine_held
+abbrev pub routine_out : ProgramRows → (heading levels base place : ℕ) → Action (ℕ × ℕ)
+routine_out p heading levels base place = cell_out levels base place >>= routine_held p heading
 
 -- how far an ordinal stands from the least of its type
 abbrev pub position_between : (least greatest : ℤ) → Value → Action ℕ

@@ -1,5 +1,5 @@
 -- What each expression does (6.7), with function designators, actual parameters and set constructors.
-use Rattle.std.specs.Prelude.{ℕ, List, [], ◌∷◌, ◌++◌, not, Option, Some, None, Result}
+use Rattle.std.specs.Prelude.{ℕ, List, [], ◌∷◌, ◌++◌, not, Option, Some, None, Result, slice_get}
 use Rattle.cell_value.specs.Arithmetic.{arith_of}
 use Rattle.cell_value.specs.declared.faults.OpFault.{OpFault}
 use Rattle.cell_value.specs.declared.values.Value.{Value}
@@ -31,7 +31,7 @@ use Rattle.core_program.specs.declared.rows.ExpressionRow.TheVariants.{
   Eof,
   Eoln,
 }
-use Rattle.core_program.specs.ProgramRows.{ProgramRows, type_at, routine_at, text_at}
+use Rattle.core_program.specs.ProgramRows.{ProgramRows, row_at, type_at, routine_at}
 use Rattle.core_program.specs.Tree.{Out, Scalar, Cells, Jump, Here, Eval, Pass, Gather, ActTree, Ret, Sub, Enter}
 use Rattle.core_program.specs.Tree.{doing}
 use Rattle.core_program.specs.Values.{
@@ -65,6 +65,7 @@ use Rattle.core_program.specs.Accesses.{
   scalar,
   type_accessed,
   value_at,
+  with_formal,
 }
 
 -- the result of an operation as a value, or its fault
@@ -92,15 +93,22 @@ enter p routine frame args go =
 -- The call of a routine parameter: the actual parameters, then the links to the frame that has the parameter, its cell,
 -- and the routine that it stands for is entered, with a link to the frame in which that was declared (6.6.3.4,
 -- 6.6.3.5).
-abbrev pub call_formal : ProgramRows → Here → (place levels actuals : ℕ) → (Out → ActTree) → ActTree
-call_formal p here place levels actuals go = Sub (Pass actuals [] here) (on_cells (λ args.
-    doing here.line (routine_out levels here.base place) (λ (routine, frame). enter p routine frame args go)))
+abbrev pub call_formal : ProgramRows → Here → (formal levels actuals : ℕ) → (Out → ActTree) → ActTree
+call_formal p here formal levels actuals go = Sub (Pass actuals [] here) (on_cells (λ args.
+    with_formal (row_at p formal) (λ place heading.
+    doing here.line (routine_out p heading levels here.base place) (λ (routine, frame).
+    enter p routine frame args go))))
+
+-- a string, if the token has a text
+abbrev pub string_in : Option (List ℕ) → ActTree
+string_in None = no_row
+string_in (Some text) = Ret (Cells (string_of text))
 
 -- An expression, once its step is taken. Operands are evaluated from left to right, and both operands of `and` and of
 -- `or` always.
 abbrev pub of_expression : ProgramRows → Here → ExpressionRow → ActTree
 of_expression p here (Constant n) = scalar (value.Number n)
-of_expression p here (Text token) = Ret (Cells (string_of (text_at p token)))
+of_expression p here (Text token) = string_in (slice_get p.texts token)
 of_expression p here Nil = scalar value.Nil
 of_expression p here (Sign minus operand) = eval operand here (λ v. operation_result here (with_sign_of minus v))
 of_expression p here (Not operand) = eval operand here (λ v. scalar (truth (not (is_true v))))
@@ -122,7 +130,7 @@ of_expression p here (CompareTexts order left right) =
     eval_cells left here (λ xs. eval_cells right here (λ ys. operation_result here (texts_compared order xs ys)))
 of_expression p here (Set members) = Sub (Gather members no_members here) Ret
 of_expression p here (Apply routine levels actuals) = call p here routine levels actuals Ret
-of_expression p here (ApplyFormal place levels actuals) = call_formal p here place levels actuals Ret
+of_expression p here (ApplyFormal formal levels actuals) = call_formal p here formal levels actuals Ret
 of_expression p here (Function f operand least greatest) =
     eval operand here (λ v. operation_result here (function_of f least greatest v))
 of_expression p here Eof = doing here.line at_end scalar
@@ -132,13 +140,13 @@ of_expression p here Eoln = doing here.line at_line_end scalar
 abbrev pub expression_in : ProgramRows → (row : ℕ) → Here → Row → ActTree
 expression_in p row here (rows.Expression e) = spend here (of_expression p here e)
 expression_in p row here (rows.Access a) = locate row here (λ addr.
-    value_at here.line addr (type_at p (type_accessed a)))
+    value_at p here.line addr (type_at p (type_accessed a)))
 expression_in p row here r = no_row
 
 -- the cells of a value parameter of a type, from the value of its actual; the whole of an array or a record is copied
 -- as it is
 abbrev pub on_actual : ProgramRows → Here → Option TypeRow → (List Value → ActTree) → Out → ActTree
-on_actual p here t go (Scalar v) = doing here.line (or_fault (tested p t v)) (λ w. go (w ∷ []))
+on_actual p here t go (Scalar v) = doing here.line (tested p t v) (λ w. go (w ∷ []))
 on_actual p here t go (Cells vs) = go vs
 on_actual p here t go (Jump label base) = Ret (Jump label base)
 on_actual p here t go out = no_row
@@ -148,7 +156,7 @@ abbrev pub pass_routine : Here → (next : ℕ) → List Value → Action (ℕ �
 pass_routine here next passed found = spend here (doing here.line found (λ (routine, frame).
     Sub (Pass next (passed ++ value.Routine routine frame ∷ []) here) Ret))
 
--- The actual parameters from an item on, from left to right (6.6.3.2 to 6.6.3.5). What is no actual ends them.
+-- The actual parameters from an item on, from left to right (6.6.3.2 to 6.6.3.5).
 abbrev pub of_actual : ProgramRows → List Value → Here → Row → ActTree
 of_actual p passed here (rows.Item (item.Value e of' next)) =
     Sub (Eval e here) (on_actual p here (type_at p of') (λ vs. Sub (Pass next (passed ++ vs) here) Ret))
@@ -156,19 +164,20 @@ of_actual p passed here (rows.Item (item.Place access next)) = locate access her
     Sub (Pass next (passed ++ value.Place addr ∷ []) here) Ret)
 of_actual p passed here (rows.Item (item.Routine routine levels next)) =
     pass_routine here next passed (frame_out levels here.base >>= λ frame. Give (routine, frame))
-of_actual p passed here (rows.Item (item.RoutineFormal place levels next)) =
-    pass_routine here next passed (routine_out levels here.base place)
-of_actual p passed here r = Ret (Cells passed)
+of_actual p passed here (rows.Item (item.RoutineFormal formal levels next)) =
+    with_formal (row_at p formal) (λ place heading.
+    pass_routine here next passed (routine_out p heading levels here.base place))
+of_actual p passed here r = no_row
 
 -- goes on with the members from an item on, where those before it passed their tests
 abbrev pub gather : Here → (next : ℕ) → Result Value OpFault → ActTree
 gather here next r = doing here.line (or_fault r) (λ set. Sub (Gather next set here) Ret)
 
 -- The members of a set constructor from an item on, from left to right (6.7.1): each member, or both ends of a range,
--- is tested directly after it is evaluated. What is no member ends them.
+-- is tested directly after it is evaluated.
 abbrev pub of_members : Value → Here → Row → ActTree
 of_members set here (rows.Item (item.Member e next)) =
     eval e here (λ v. gather here next (members_added set v v))
 of_members set here (rows.Item (item.Members first last next)) =
     eval first here (λ v. eval last here (λ w. gather here next (members_added set v w)))
-of_members set here r = scalar set
+of_members set here r = no_row

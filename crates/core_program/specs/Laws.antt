@@ -1,18 +1,27 @@
 -- What holds of every run.
 use Rattle.std.specs.Prelude.{◌≡◌, ◌↔◌, ℕ, ◌+◌, ◌<◌, ◌≤◌, List, Some, None, IsSome, length}
 use Rattle.std.specs.List.{All}
-use Rattle.core_program.specs.ProgramRows.{ProgramRows}
+use Rattle.cell_value.specs.declared.values.Value.{Value}
+use Rattle.core_program.specs.ProgramRows.{ProgramRows, routine_at}
+use Rattle.core_program.specs.WholeTables.{WholeTables}
 use Rattle.core_program.specs.State.{State}
-use Rattle.core_program.specs.Run.{Result, Call, run, run_of, block, start, depth_enough}
+use Rattle.core_program.specs.Run.{Result, Call, call_of, run, run_of, block, start, depth_enough}
 use Rattle.core_program.specs.Numbering.{StandsAt, belows, last_below, parent_of, depth_of, InSubtree}
 
--- every program has a run with every input and budget
+-- Every program with whole tables has a run with every input and budget: no state of a run comes to a row that is
+-- missing or of the wrong kind, nor to a list that does not end as it says.
 abbrev pub EveryProgramRuns : Type 0
-EveryProgramRuns = (p : ProgramRows) (input : List ℕ) (budget : ℕ) → IsSome (run p input budget)
+EveryProgramRuns = (p : ProgramRows) → WholeTables p → (input : List ℕ) (budget : ℕ) → IsSome (run p input budget)
+
+-- and so has every call of a routine that is there, from every state, also one that no run reaches
+abbrev pub EveryCallRuns : Type 0
+EveryCallRuns = (p : ProgramRows) → WholeTables p → (routine : ℕ) (args : List Value) (σ : State) (depth : ℕ)
+    → IsSome (routine_at p routine) → depth_enough p σ.steps ≤ depth
+    → IsSome (call_of p (run_of p depth) routine args σ)
 
 -- where parts and calls may stand deeper in one another, the run is the same
 abbrev pub DepthIsEnough : Type 0
-DepthIsEnough = (p : ProgramRows) (input : List ℕ) (budget more : ℕ)
+DepthIsEnough = (p : ProgramRows) → WholeTables p → (input : List ℕ) (budget more : ℕ)
     → run_of p (depth_enough p budget + more) block (start input budget) ≡ run p input budget
 
 -- this holds of the calls of each run, which are told from how many are below each

@@ -3,6 +3,7 @@ use Rattle.std.specs.Prelude.{ℕ, [], Option, Some, None}
 use Rattle.core_program.specs.declared.program.Routine.{Routine}
 use Rattle.core_program.specs.ProgramRows.{ProgramRows, row_at, routine_at}
 use Rattle.core_program.specs.Tree.{
+  Cells,
   Here,
   Part,
   Eval,
@@ -23,9 +24,9 @@ use Rattle.core_program.specs.Tree.{
   Ret,
   Sub,
 }
-use Rattle.core_program.specs.Accesses.{no_row, spend, access_in}
+use Rattle.core_program.specs.Accesses.{no_row, spend, scalar, until_end, access_in}
 use Rattle.core_program.specs.Expressions.{expression_in, of_actual, of_members}
-use Rattle.core_program.specs.Statements.{statement_in, of_sequence, of_turn, of_count, of_records}
+use Rattle.core_program.specs.Statements.{nothing, statement_in, of_sequence, of_turn, of_count, of_records}
 use Rattle.core_program.specs.Transfers.{of_received, of_scan, of_rest_of_line, of_printed}
 
 -- where the statement part of a routine is at work, whose frame is at a base: no with statement is around it
@@ -41,15 +42,15 @@ of_body base (Some r) =
 abbrev pub layer : ProgramRows → Part → ActTree
 layer p (Eval row here) = expression_in p row here (row_at p row)
 layer p (Locate row target here) = access_in p row target here (row_at p row)
-layer p (Pass at passed here) = of_actual p passed here (row_at p at)
-layer p (Gather at set here) = of_members set here (row_at p at)
-layer p (Establish at body here) = of_records here body (row_at p at)
+layer p (Pass at passed here) = until_end at (Ret (Cells passed)) (of_actual p passed here (row_at p at))
+layer p (Gather at set here) = until_end at (scalar set) (of_members set here (row_at p at))
+layer p (Establish at body here) = until_end at (Sub (Exec body here) Ret) (of_records here body (row_at p at))
 layer p (Exec row here) = statement_in p row here (row_at p row)
-layer p (Sequence first at here) = of_sequence p here first (row_at p at)
+layer p (Sequence first at here) = until_end at nothing (of_sequence p here first (row_at p at))
 layer p (Turn row here) = of_turn row here (row_at p row)
 layer p (Count row i last here) = of_count row here i last (row_at p row)
-layer p (Receive at here) = of_received p here (row_at p at)
+layer p (Receive at here) = until_end at nothing (of_received p here (row_at p at))
 layer p (Scanning scan here) = of_scan scan here
 layer p (RestOfLine here) = of_rest_of_line here
-layer p (Print at here) = of_printed p here (row_at p at)
+layer p (Print at here) = until_end at nothing (of_printed p here (row_at p at))
 layer p (Body routine base) = of_body base (routine_at p routine)

@@ -7,6 +7,7 @@ pub mod Blocks
 pub mod Cells
 pub mod Choices
 pub mod Expressions
+pub mod Headings
 pub mod Heap
 pub mod Input
 pub mod Laws
@@ -24,3 +25,4 @@ pub mod Transfers
 pub mod Tree
 pub mod Values
 pub mod Variants
+pub mod WholeTables

@@ -5,9 +5,6 @@ use Rattle.std.specs.Fmt.{signed_decimal}
 use Rattle.cell_value.specs.declared.values.Value.{Value}
 use Rattle.cell_value.specs.declared.values.Value.TheVariants as value
 use Rattle.cell_value.specs.declared.ways_out.Kind.TheVariants as kind
-use Rattle.core_program.specs.declared.rows.TypeRow.{TypeRow}
-use Rattle.core_program.specs.declared.rows.TypeRow.TheVariants.{Subrange}
-use Rattle.core_program.specs.ProgramRows.{ProgramRows, type_at}
 use Rattle.core_program.specs.Acts.{Fault, GiveByte}
 use Rattle.core_program.specs.Actions.{Action, Give, Fail, ◌>>=◌, act}
 use Rattle.core_program.specs.Values.{is_true}
@@ -21,14 +18,6 @@ boolean_type = 1
 
 abbrev pub char_type : ℕ
 char_type = 2
-
-abbrev pub host_in : (of' : ℕ) → Option TypeRow → ℕ
-host_in of' (Some (Subrange host least greatest)) = host
-host_in of' t = of'
-
--- the type itself, or that of a subrange's constants
-abbrev pub host_at : ProgramRows → (of' : ℕ) → ℕ
-host_at p of' = host_in of' (type_at p of')
 
 -- ---- texts
 

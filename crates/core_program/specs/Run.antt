@@ -68,6 +68,7 @@ use Rattle.core_program.specs.Tree.{
   ActTree,
   Ret,
   Halt,
+  Meaningless,
   Do,
   Sub,
   Enter,
@@ -146,12 +147,13 @@ module _ {S E : Type 0} where
   if_allowed None σ goes = goes
   if_allowed (Some which) σ goes = ends (Halted (way.Limited which)) σ
 
-  -- a tree from a state, with its parts and its calls left open
+  -- A tree from a state, with its parts and its calls left open. Where the tables are not whole there is no result.
   abbrev pub walk : Rules S E → (Part → S → Option (Result S E)) → (ℕ → List Value → S → Option (Result S E)) → ActTree
       → S
       → Option (Result S E)
   walk rules sub call (Ret out) σ = ends (Ended out) σ
   walk rules sub call (Halt line why) σ = ends (Halted (way_of line why)) σ
+  walk rules sub call Meaningless σ = None
   walk rules sub call (Do line act next) σ = on_done rules line σ (perform act (rules.state_of σ))
       (λ x τ. walk rules sub call (next x) τ)
   walk rules sub call (Sub part next) σ = joined (sub part σ) (λ out τ. walk rules sub call (next out) τ)
@@ -290,10 +292,10 @@ abbrev pub at_work : {S E : Type 0} → ProgramRows → (ActTree → S → Optio
 at_work p run routine r base = run (whole p routine base r)
 
 -- A routine at work in a new frame, which is then removed however it ended. A frame that ends above the stack is not
--- made, nor one that needs more steps than are left.
+-- made, nor one that needs more steps than are left. Where the tables lack the routine there is no result.
 abbrev pub framed_run : {S E : Type 0} → Holder S → (work : Routine → ℕ → S → Option (Result S E)) → List Value → S
     → Option Routine → Option (Result S E)
-framed_run holder work args s None = ends (Halted (way.Faulted kind.Undefined 0)) s
+framed_run holder work args s None = None
 framed_run holder work args s (Some r) =
     if nat_lt stack_end ((holder.state s).top + r.cells) then ends (Halted (way_of 0 (Limited Stack))) s
     else if nat_lt (holder.state s).steps r.cells then ends (Halted (way_of 0 OutOfSteps)) (holder.change spent s)

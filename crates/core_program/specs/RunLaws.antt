@@ -5,6 +5,7 @@ use Rattle.cell_value.specs.declared.values.Value.{Value}
 use Rattle.cell_value.specs.declared.entries.Touch.{Touch}
 use Rattle.cell_value.specs.Effects.{IsCountable, reads_of, changes_of, made_of, looked_of, taken_of, given_of}
 use Rattle.core_program.specs.ProgramRows.{ProgramRows}
+use Rattle.core_program.specs.WholeTables.{WholeTables}
 use Rattle.core_program.specs.State.{State, IsSound, most_calls, most_depth}
 use Rattle.core_program.specs.Acts.{Act, ActResult, Went, Stops, perform}
 use Rattle.core_program.specs.Tree.{Part}
@@ -131,9 +132,10 @@ pub record IsBody (number : ℕ) (c : Call) (below : List Call) (work : Replayed
   pub met : All (λ e. IsMet (number + 1) below e.event) run.events
   pub used : run.after.calls ≡ []
 
--- the own work of each call of each run, from the effects of the calls that it made, at each depth that is enough
+-- the own work of each call of each run of whole tables, from the effects of the calls that it made, at each depth that
+-- is enough
 abbrev pub BodiesRepeat : Type 0
-BodiesRepeat = OfEachCall (λ p number c below. (depth : ℕ) → depth_enough p c.entry.steps ≤ depth
+BodiesRepeat = OfEachCall (λ p number c below. WholeTables p → (depth : ℕ) → depth_enough p c.entry.steps ≤ depth
     → IsBody number c below (body p depth c number below))
 
 -- ---- records in place of runs
@@ -152,9 +154,9 @@ pub record StandsFor (c : Call) (σ : State) (call : Outcome) : Type 0 where
   pub taken : taken_of run.log ≡ taken_of c.log
   pub given : given_of run.log ≡ given_of c.log
 
--- the record of each call of each run stands for the call from each sound state that agrees with it, at each depth
--- that is enough
+-- the record of each call of each run of whole tables stands for the call from each sound state that agrees with it, at
+-- each depth that is enough
 abbrev pub RecordsStand : Type 0
-RecordsStand = OfEachCall (λ p number c below. (σ : State) → IsSound σ → Agrees c below σ
+RecordsStand = OfEachCall (λ p number c below. WholeTables p → (σ : State) → IsSound σ → Agrees c below σ
     → (depth : ℕ) → depth_enough p σ.steps ≤ depth
     → StandsFor c σ (call_of p (run_of p depth) c.routine c.args σ))

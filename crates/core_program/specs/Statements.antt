@@ -35,7 +35,8 @@ use Rattle.core_program.specs.declared.rows.StatementRow.TheVariants.{
   New,
   Dispose,
 }
-use Rattle.core_program.specs.ProgramRows.{ProgramRows, row_at, type_at, size_of}
+use Rattle.core_program.specs.ProgramRows.{ProgramRows, row_at, type_at}
+use Rattle.core_program.specs.WholeTables.{is_end}
 use Rattle.core_program.specs.State.{moved}
 use Rattle.core_program.specs.Acts.{Fault}
 use Rattle.core_program.specs.Actions.{Action, ◌>>=◌}
@@ -62,12 +63,12 @@ use Rattle.core_program.specs.Tree.{
   Line,
   doing,
 }
-use Rattle.core_program.specs.Values.{or_fault, tested, is_true}
+use Rattle.core_program.specs.Values.{tested, is_true}
 use Rattle.core_program.specs.Cells.{write, writes, frame_out}
-pub use Rattle.core_program.specs.Choices.{along, choose_at, choice_of}
+pub use Rattle.core_program.specs.Choices.{Sought, unless_end, along, on_to, choose_at, choice_along, choice_of}
 use Rattle.core_program.specs.Variants.{tag_accessed, assign_to}
 use Rattle.core_program.specs.Heap.{made_variable, dispose}
-use Rattle.core_program.specs.Accesses.{no_row, spend, eval, locate, locate_target}
+use Rattle.core_program.specs.Accesses.{no_row, spend, eval, locate, locate_target, with_size}
 use Rattle.core_program.specs.Expressions.{call, call_formal}
 use Rattle.core_program.specs.Output.{end_line, end_page}
 use Rattle.core_program.specs.Packing.{pack}
@@ -96,13 +97,14 @@ on_value p here target of' (Cells vs) = locate_target target here (λ addr. fina
 on_value p here target of' (Jump label base) = Ret (Jump label base)
 on_value p here target of' out = no_row
 
-abbrev pub choose : Here → Option ℕ → ActTree
-choose here (Some s) = Sub (Exec s here) Ret
-choose here None = Halt here.line (Fault kind.NoCase)
+abbrev pub choose : Here → Sought → ActTree
+choose here (Some (Some s)) = Sub (Exec s here) Ret
+choose here (Some None) = Halt here.line (Fault kind.NoCase)
+choose here None = no_row
 
 abbrev pub chosen_by : ProgramRows → Here → (choices : ℕ) → Value → ActTree
 chosen_by p here choices (value.Number i) = choose here (choice_of p (length p.rows) choices i)
-chosen_by p here choices _ = no_row
+chosen_by p here choices _ = Halt here.line (Fault kind.Undefined)
 
 -- whether a for statement has a turn with this value, where it counts to the last one (6.8.3.9)
 abbrev pub has_turn : Direction → (i last : ℤ) → Bool
@@ -120,13 +122,15 @@ undefine here place = finally here (write (moved here.base place) value.Undefine
 
 -- both bounds of a for statement that has a turn are within the control variable's type
 abbrev pub bounds_tested : ProgramRows → Option TypeRow → (i last : ℤ) → Action Value
-bounds_tested p t i last = or_fault (tested p t (value.Number i)) >>= λ _. or_fault (tested p t (value.Number last))
+bounds_tested p t i last = tested p t (value.Number i) >>= λ _. tested p t (value.Number last)
 
 -- a for statement, once its bounds are known
 abbrev pub first_turn : ProgramRows → Here → (turns : ℕ) → Row → Value → Value → ActTree
 first_turn p here turns (rows.Statement (Turns direction last' place of' body)) (value.Number i) (value.Number last) =
     if has_turn direction i last then doing here.line (bounds_tested p (type_at p of') i last) (λ _.
     Sub (Count turns i last here) Ret) else undefine here place
+first_turn p here turns (rows.Statement (Turns direction last' place of' body)) _ _ =
+    Halt here.line (Fault kind.Undefined)
 first_turn p here turns r _ _ = no_row
 
 -- the bounds of a for statement, both evaluated before the first turn
@@ -151,8 +155,8 @@ of_statement p row here (Case line selector choices) = eval selector here (chose
 of_statement p row here (Repeat line statements condition) = Sub (Turn row here) Ret
 of_statement p row here (While line condition body) = Sub (Turn row here) Ret
 of_statement p row here (For line initial turns) = bounds p here initial turns (row_at p turns)
-of_statement p row here (CallFormal line place levels actuals) =
-    call_formal p here place levels actuals (on_normal nothing)
+of_statement p row here (CallFormal line formal levels actuals) =
+    call_formal p here formal levels actuals (on_normal nothing)
 of_statement p row here (Goto line label levels) = doing here.line (frame_out levels here.base) (λ base.
     Ret (Jump label base))
 of_statement p row here (With line records body) = Sub (Establish records body here) Ret
@@ -164,8 +168,9 @@ of_statement p row here (Page line) = finally here end_page
 of_statement p row here (Pack packing line unpacked index packed) =
     pack p here packing unpacked index packed (finally here)
 of_statement p row here (New line access of') =
-    doing here.line (made_variable (size_of p of') of') (point here access)
-of_statement p row here (Dispose line e of') = eval e here (λ v. finally here (dispose (size_of p of') v))
+    with_size (type_at p of') (λ cells. doing here.line (made_variable cells of') (point here access))
+of_statement p row here (Dispose line e of') =
+    eval e here (λ v. with_size (type_at p of') (λ cells. finally here (dispose cells v)))
 of_statement p row here s = no_row
 
 -- the line of a statement that is neither compound nor empty
@@ -178,7 +183,7 @@ line_of (Case line selector choices) = Some line
 line_of (Repeat line statements condition) = Some line
 line_of (While line condition body) = Some line
 line_of (For line initial turns) = Some line
-line_of (CallFormal line place levels actuals) = Some line
+line_of (CallFormal line formal levels actuals) = Some line
 line_of (Goto line label levels) = Some line
 line_of (With line records body) = Some line
 line_of (Read ends_line line actuals) = Some line
@@ -218,30 +223,33 @@ has_label (rows.Statement (Labelled goal inner)) label = goal == label
 has_label r label = false
 
 -- the item of the statement that has a label, among those from an item on
-abbrev pub item_labelled : ProgramRows → Row → (at label : ℕ) → (ℕ → Option ℕ) → Option ℕ
+abbrev pub item_labelled : ProgramRows → Row → (at label : ℕ) → (ℕ → Sought) → Sought
 item_labelled p (rows.Item (item.Element s next)) at label go =
-    if has_label (row_at p s) label then Some at else if nat_lt at next then go next else None
+    if has_label (row_at p s) label then Some (Some at) else on_to at next go
 item_labelled p r at label go = None
 
-abbrev pub labelled_in : ProgramRows → (n at label : ℕ) → Option ℕ
-labelled_in p n at label = along (λ at go. item_labelled p (row_at p at) at label go) n at
+abbrev pub label_along : ProgramRows → (n at label : ℕ) → Sought
+label_along p n at label = along (λ at go. item_labelled p (row_at p at) at label go) n at
 
-abbrev pub jumped : Here → (first label base : ℕ) → Option ℕ → ActTree
-jumped here first label base (Some at) = Sub (Sequence first at here) Ret
-jumped here first label base None = Ret (Jump label base)
+abbrev pub labelled_in : ProgramRows → (n at label : ℕ) → Sought
+labelled_in p n at label = unless_end at (label_along p n at label)
+
+abbrev pub jumped : Here → (first label base : ℕ) → Sought → ActTree
+jumped here first label base (Some (Some at)) = Sub (Sequence first at here) Ret
+jumped here first label base (Some None) = Ret (Jump label base)
+jumped here first label base None = no_row
 
 -- After a statement of a sequence comes the next one. A jump to the label of a statement of the sequence, in the same
 -- frame, goes on from that statement (6.8.1).
 abbrev pub on_statement : ProgramRows → Here → (first next : ℕ) → Out → ActTree
 on_statement p here first next (Jump label base) = jumped here first label base
-    (if base == here.base then labelled_in p (length p.rows) first label else None)
+    (if base == here.base then labelled_in p (length p.rows) first label else Some None)
 on_statement p here first next out = Sub (Sequence first next here) Ret
 
--- The statements from an item on, in order (6.8.3.2), of the sequence that begins with the first item. What is no
--- statement ends them.
+-- The statements from an item on, in order (6.8.3.2), of the sequence that begins with the first item.
 abbrev pub of_sequence : ProgramRows → Here → (first : ℕ) → Row → ActTree
 of_sequence p here first (rows.Item (item.Element s next)) = Sub (Exec s here) (on_statement p here first next)
-of_sequence p here first r = nothing
+of_sequence p here first r = no_row
 
 -- a turn of a while or repeat statement, and those after it (6.8.3.7, 6.8.3.8)
 abbrev pub of_turn : (row : ℕ) → Here → Row → ActTree
@@ -269,8 +277,8 @@ abbrev pub inside : Here → (addr : ℕ) → Here
 inside here addr = record here { records = here.records ++ addr ∷ [] }
 
 -- The records of a with statement from an item on, each established before the next one and inside of those before it,
--- and then the body (6.8.3.10). What is no record ends them.
+-- and then the body (6.8.3.10).
 abbrev pub of_records : Here → (body : ℕ) → Row → ActTree
 of_records here body (rows.Item (item.Element access next)) =
     locate access here (λ addr. Sub (Establish next body (inside here addr)) Ret)
-of_records here body r = Sub (Exec body here) Ret
+of_records here body r = no_row

@@ -4,6 +4,8 @@ use Rattle.cell_value.specs.declared.values.Value.{Value}
 use Rattle.core_program.specs.declared.rows.Row.{Row}
 use Rattle.core_program.specs.declared.rows.Row.TheVariants as rows
 use Rattle.core_program.specs.declared.rows.ItemRow.TheVariants as item
+use Rattle.core_program.specs.declared.rows.TypeRow.{TypeRow}
+use Rattle.core_program.specs.declared.rows.TypeRow.TheVariants.{Ordinal, Subrange}
 use Rattle.core_program.specs.ProgramRows.{ProgramRows, row_at, type_at}
 use Rattle.core_program.specs.declared.scan.Scan.{Scan}
 use Rattle.core_program.specs.declared.scan.Scan.TheVariants.{Blanks}
@@ -26,10 +28,16 @@ use Rattle.core_program.specs.Tree.{
   doing,
 }
 use Rattle.core_program.specs.Input.{next_char, past_item, scan_on}
-use Rattle.core_program.specs.Output.{Text, char_type, host_at, scalar_text, string_text, written}
+use Rattle.core_program.specs.Output.{Text, char_type, scalar_text, string_text, written}
 use Rattle.core_program.specs.Variants.{tag_accessed, assign_to}
 use Rattle.core_program.specs.Accesses.{no_row, on_scalar, eval, locate_target, scalar, type_accessed}
 use Rattle.core_program.specs.Statements.{nothing}
+
+-- goes on with the host of an ordinal type: the type itself, or that of a subrange's constants
+abbrev pub with_host : (of' : ℕ) → Option TypeRow → (ℕ → ActTree) → ActTree
+with_host of' (Some (Ordinal least greatest)) go = go of'
+with_host of' (Some (Subrange host least greatest)) go = go host
+with_host of' t go = no_row
 
 -- ---- reading
 
@@ -47,13 +55,14 @@ read_for here host go =
 
 abbrev pub received : ProgramRows → Here → (access next : ℕ) → Row → ActTree
 received p here access next (rows.Access a) =
-    read_for here (host_at p (type_accessed a)) (into p here access (type_accessed a) next)
+    with_host (type_accessed a) (type_at p (type_accessed a)) (λ host.
+    read_for here host (into p here access (type_accessed a) next))
 received p here access next r = no_row
 
--- The actuals of a read statement from an item on. What is no actual ends them.
+-- The actuals of a read statement from an item on.
 abbrev pub of_received : ProgramRows → Here → Row → ActTree
 of_received p here (rows.Item (item.Element access next)) = received p here access next (row_at p access)
-of_received p here r = nothing
+of_received p here r = no_row
 
 -- after a turn of the reading of an integer: the next one, or the value
 abbrev pub on_scanned : Here → Scanned → ActTree
@@ -72,7 +81,7 @@ of_rest_of_line here = doing here.line past_item (λ ended. if ended then nothin
 
 -- goes on with the text of a value that is written, by the number of its type
 abbrev pub on_text : ProgramRows → (of' : ℕ) → (Text → ActTree) → Out → ActTree
-on_text p of' go (Scalar v) = go (scalar_text (host_at p of') v)
+on_text p of' go (Scalar v) = with_host of' (type_at p of') (λ host. go (scalar_text host v))
 on_text p of' go (Cells vs) = go (string_text vs)
 on_text p of' go (Jump label base) = Ret (Jump label base)
 on_text p of' go out = no_row
@@ -82,10 +91,9 @@ abbrev pub print : Here → (next : ℕ) → Text → Option Value → ActTree
 print here next text width = doing here.line (written text width) (λ _. Sub (Print next here) Ret)
 
 -- The actuals of a write statement from an item on: of each the value, then its width, and then its bytes are given.
--- What is no actual ends them.
 abbrev pub of_printed : ProgramRows → Here → Row → ActTree
 of_printed p here (rows.Item (item.Written e of' next)) =
     Sub (Eval e here) (on_text p of' (λ text. print here next text None))
 of_printed p here (rows.Item (item.WrittenWide e of' width next)) =
     Sub (Eval e here) (on_text p of' (λ text. eval width here (λ w. print here next text (Some w))))
-of_printed p here r = nothing
+of_printed p here r = no_row

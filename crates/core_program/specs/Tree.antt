@@ -5,7 +5,7 @@ use Rattle.cell_value.specs.declared.ways_out.WayOut.{WayOut}
 use Rattle.cell_value.specs.declared.ways_out.WayOut.TheVariants as way
 use Rattle.core_program.specs.declared.scan.Scan.{Scan}
 use Rattle.core_program.specs.Acts.{Trouble, Fault, OutOfSteps, Limited, Act, Answer}
-use Rattle.core_program.specs.Actions.{Action, Give, Fail, Perform}
+use Rattle.core_program.specs.Actions.{Action, Give, Fail, NoMeaning, Perform}
 
 -- how a part ends, if nothing stops the run
 pub data Out : Type 0 where
@@ -64,6 +64,9 @@ pub data ActTree : Type 0 where
   Ret : (out : Out) → ActTree
   -- the run stops at a statement on this line
   Halt : (line : ℕ) (why : Trouble) → ActTree
+  -- The program's tables are not whole: a row is missing that is needed here, or it is of another kind than its place
+  -- takes, or a list does not end where it says. That is no fault of a program, and no way out of a call.
+  Meaningless : ActTree
   -- an act of a statement on this line
   Do : (line : ℕ) (act : Act) (next : Answer act → ActTree) → ActTree
   -- a part, and how it goes on after it
@@ -83,6 +86,7 @@ way_of line (Limited which) = way.Limited which
 abbrev pub bind : ActTree → (Out → ActTree) → ActTree
 bind (Ret out) f = f out
 bind (Halt line why) f = Halt line why
+bind Meaningless f = Meaningless
 bind (Do line act next) f = Do line act (λ x. bind (next x) f)
 bind (Sub part next) f = Sub part (λ x. bind (next x) f)
 bind (Enter routine cells args next) f = Enter routine cells args (λ x. bind (next x) f)
@@ -92,4 +96,5 @@ bind (Line line next) f = Line line (bind next f)
 abbrev pub doing : {A : Type 0} → (line : ℕ) → Action A → (A → ActTree) → ActTree
 doing line (Give x) k = k x
 doing line (Fail why) k = Halt line why
+doing line NoMeaning k = Meaningless
 doing line (Perform act next) k = Do line act (λ x. doing line (next x) k)

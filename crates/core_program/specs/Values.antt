@@ -14,6 +14,7 @@ use Rattle.std.specs.Prelude.{
   ◌||◌,
   Option,
   Some,
+  None,
   Result,
   Ok,
   Err,
@@ -53,7 +54,7 @@ use Rattle.cell_value.specs.declared.faults.OpFault.TheVariants.{
 use Rattle.cell_value.specs.declared.ways_out.Kind.{Kind}
 use Rattle.cell_value.specs.declared.ways_out.Kind.TheVariants as kind
 use Rattle.core_program.specs.declared.rows.TypeRow.{TypeRow}
-use Rattle.core_program.specs.declared.rows.TypeRow.TheVariants.{Ordinal, Subrange, Set}
+use Rattle.core_program.specs.declared.rows.TypeRow.TheVariants.{Ordinal, Subrange, Set, Pointer}
 use Rattle.cell_value.specs.declared.values.Order.{Order}
 use Rattle.cell_value.specs.declared.values.Order.TheVariants.{Equal, NotEqual, Less, Greater, AtMost, AtLeast}
 use Rattle.core_program.specs.declared.rows.Logic.{Logic}
@@ -64,7 +65,7 @@ use Rattle.core_program.specs.declared.rows.SetOperator.{SetOperator}
 use Rattle.core_program.specs.declared.rows.SetOperator.TheVariants.{Union, Difference, Intersection}
 use Rattle.core_program.specs.ProgramRows.{ProgramRows, type_at}
 use Rattle.core_program.specs.Acts.{Fault}
-use Rattle.core_program.specs.Actions.{Action, Give, Fail}
+use Rattle.core_program.specs.Actions.{Action, Give, Fail, NoMeaning}
 
 -- the fault of an operation that has no result
 abbrev pub kind_of : OpFault → Kind
@@ -88,10 +89,12 @@ or_undefined (Err e) = Fail (Fault kind.Undefined)
 abbrev pub defined : (least greatest : ℤ) → Value → Action Value
 defined least greatest v = or_undefined (in_range_of v least greatest)
 
--- a value that was read from a variable of a set type, for its use (6.5.1)
-abbrev pub defined_set : Value → Action Value
-defined_set (value.Bits set) = Give (value.Bits set)
-defined_set _ = Fail (Fault kind.Undefined)
+-- A value that was read from a variable of a set type, for its use (6.5.1); the base type has these bounds. A set with
+-- a member outside of them is no value of the type.
+abbrev pub defined_set : (least greatest : ℤ) → Value → Action Value
+defined_set least greatest (value.Bits set) =
+    if lies_between set least greatest then Give (value.Bits set) else Fail (Fault kind.Undefined)
+defined_set least greatest _ = Fail (Fault kind.Undefined)
 
 -- each member of a set is a value of the base type with these bounds
 abbrev pub set_in_range : Value → (least greatest : ℤ) → Result Value OpFault
@@ -100,18 +103,27 @@ set_in_range (value.Bits set) least greatest =
 set_in_range _ least greatest = Err UndefinedValue
 
 -- the test of a value that a variable of a set type with this base type is to get
-abbrev pub tested_set : (base : Option TypeRow) → Value → Result Value OpFault
-tested_set (Some (Ordinal least greatest)) v = set_in_range v least greatest
-tested_set (Some (Subrange host least greatest)) v = set_in_range v least greatest
-tested_set t v = Ok v
+abbrev pub set_test : (base : Option TypeRow) → Value → Option (Result Value OpFault)
+set_test (Some (Ordinal least greatest)) v = Some (set_in_range v least greatest)
+set_test (Some (Subrange host least greatest)) v = Some (set_in_range v least greatest)
+set_test t v = None
 
 -- the test of a value that a variable of a type is to get (6.4.6): within an ordinal type, and of a set each member
 -- within the base type
-abbrev pub tested : ProgramRows → Option TypeRow → Value → Result Value OpFault
-tested p (Some (Ordinal least greatest)) v = in_range_of v least greatest
-tested p (Some (Subrange host least greatest)) v = in_range_of v least greatest
-tested p (Some (Set packed base)) v = tested_set (type_at p base) v
-tested p t v = Ok v
+abbrev pub test_of : ProgramRows → Option TypeRow → Value → Option (Result Value OpFault)
+test_of p (Some (Ordinal least greatest)) v = Some (in_range_of v least greatest)
+test_of p (Some (Subrange host least greatest)) v = Some (in_range_of v least greatest)
+test_of p (Some (Set packed base)) v = set_test (type_at p base) v
+test_of p (Some (Pointer domain)) v = Some (Ok v)
+test_of p t v = None
+
+-- the result of a test, if the type is there and is one of values of one cell
+abbrev pub as_tested : Option (Result Value OpFault) → Action Value
+as_tested None = NoMeaning
+as_tested (Some r) = or_fault r
+
+abbrev pub tested : ProgramRows → Option TypeRow → Value → Action Value
+tested p t v = as_tested (test_of p t v)
 
 -- false has the ordinal 0, and true 1
 abbrev pub truth : Bool → Value

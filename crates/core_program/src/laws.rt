@@ -2,6 +2,7 @@
 
 ghost use Rattle.core_program.specs.Laws.{
   DepthIsEnough,
+  EveryCallRuns,
   EveryProgramRuns,
   EveryRunHasACall,
   FirstHasNoParent,
@@ -11,9 +12,14 @@ ghost use Rattle.core_program.specs.Laws.{
   SubtreeIsInterval,
 };
 
-/// Every program has a run with every input and budget, also one whose tables lack a row.
+/// Every program with whole tables has a run with every input and budget.
 pub fn every_program_runs()
     ensures { EveryProgramRuns }
+{}
+
+/// Every call of a routine of such a program has a result, from every state.
+pub fn every_call_runs()
+    ensures { EveryCallRuns }
 {}
 
 /// Where parts and calls may stand deeper in one another, the run is the same.

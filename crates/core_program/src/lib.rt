@@ -6,16 +6,19 @@
 #![tactic(auto)]
 
 mod components;
+mod headings;
 mod laws;
 mod program;
 pub mod rows;
 mod run_laws;
 mod scan;
+mod tables;
 mod variants;
 
 pub use components::Components;
+pub use headings::may_stand_for;
 pub use laws::{
-    depth_is_enough, every_program_runs, every_run_has_a_call, marks_tell_the_log,
+    depth_is_enough, every_call_runs, every_program_runs, every_run_has_a_call, marks_tell_the_log,
     numbers_tell_the_tree,
 };
 pub use program::{Program, Routine};
@@ -23,4 +26,5 @@ pub use run_laws::{
     bodies_repeat, calls_are_counted, records_stand, states_are_sound, touches_are_countable,
 };
 pub use scan::{Scan, Scanned};
+pub use tables::ProgramTables;
 pub use variants::VariantPart;

@@ -1,12 +1,12 @@
 //! A program.
 
-ghost use Rattle.std.specs.Prelude.{◌≡◌, ◌++◌, ◌∷◌, [], length, map, IfOk, OnOk};
-ghost use Rattle.core_program.specs.ProgramRows.{blank_tables, row_at, routine_at, text_at, type_at, name_of};
-ghost use Rattle.core_program.specs.ProgramRows.{frame_of};
-ghost use Rattle.core_program.specs.ProgramRows.{size_of, offset_of, with_row, with_routine};
+ghost use Rattle.std.specs.Prelude.{◌≡◌, ◌<◌, Some, length};
+ghost use Rattle.core_program.specs.ProgramRows.{frame_of, name_of, offset_of, row_at, routine_at, size_of, text_at};
+ghost use Rattle.core_program.specs.ProgramRows.{type_at};
+ghost use Rattle.core_program.specs.WholeTables.{WholeTables};
 
-use crate::rows::{NameRow, Row, TypeRow};
-use std::alloc::{AllocError, Global};
+use crate::rows::{Row, TypeRow};
+use crate::tables::ProgramTables;
 use std::marker::Model;
 
 /// A routine. Routine 0 is the program block, the others are numbered in the order of their first headings.
@@ -28,161 +28,119 @@ pub struct Routine {
     pub line: u32,
 }
 
-/// The tables of a program.
+/// A program: its tables, which are whole. So each number that a row names is that of a row of the kind that its place
+/// takes, lists end where they say, and the program block is there.
 #[derive(Drop)]
 pub struct Program {
-    rows: Vec<Row>,
-    routines: Vec<Routine>,
-    texts: Vec<Vec<u8>>,
+    tables: ProgramTables,
+    main: Routine,
 }
 
 impl Model for Program {
-    ghost use Rattle.std.specs.Prelude.{◌<◌, ◌^◌, map, vec_len};
-    ghost use Rattle.core_program.specs.ProgramRows.{ProgramRows};
+    ghost use Rattle.std.specs.Prelude.{◌≡◌, Some};
+    ghost use Rattle.core_program.specs.ProgramRows.{ProgramRows, routine_at};
+    ghost use Rattle.core_program.specs.WholeTables.{WholeTables};
 
     ghost Value = { ProgramRows };
 
-    ghost view = { λ p. record {
-      rows = p.rows.items;
-      routines = p.routines.items;
-      texts = map (λ v. v.items) p.texts.items;
-    } };
+    ghost view = { λ p. p.tables };
 
-    ghost invariant = { λ p. vec_len p.routines < 2 ^ 32 };
+    ghost invariant = { λ p. WholeTables p.tables × (routine_at p.tables 0 ≡ Some p.main) };
 }
 
 impl Program {
-    /// A program of which nothing is known yet but the texts of its tokens: of a name as it is written, of a string
-    /// its characters. It has as many rows as `rows`.
-    pub fn new(alloc: Global, rows: usize, texts: Vec<Vec<u8>>) -> Result<Self, AllocError>
-        ensures { IfOk result (λ p. p ≡ blank_tables rows (map (λ v. v.items) texts.items)) }
+    /// The program of these tables, which are whole.
+    pub fn new(tables: ProgramTables) -> Self
+        requires whole { WholeTables tables }
+        ensures { result ≡ tables }
     {
-        let rows = vec![in alloc; Row::Nothing; rows]?;
-        Ok(Program {
-            rows,
-            routines: Vec::new(alloc),
-            texts,
-        })
+        let main = tables.routine(0).unwrap();
+        Program { tables, main }
+    }
+
+    /// Its tables are whole, and the program block is there. The call does nothing.
+    #[tactic(auto, using(crate::proofs::MainStands::block_there))]
+    pub fn is_whole(&self)
+        ensures whole { WholeTables self.now }
+        ensures block { 0 < length self.now.routines }
+    {
+        let _ = &self.tables;
+    }
+
+    /// The routine that is the program block.
+    pub fn main(&self) -> Routine
+        ensures { routine_at self.now 0 ≡ Some result }
+    {
+        self.main
+    }
+
+    /// How many rows there are.
+    pub fn rows(&self) -> usize
+        ensures { result ≡ length self.now.rows }
+    {
+        self.tables.rows()
     }
 
     /// What stands at a number.
     pub fn row(&self, number: u32) -> Row
         ensures { result ≡ row_at self.now number }
     {
-        match self.rows.get(number as usize) {
-            Some(row) => *row,
-            None => Row::Nothing,
-        }
+        self.tables.row(number)
     }
 
     /// The type of a number, if one stands there.
     pub fn type_row(&self, number: u32) -> Option<TypeRow>
         ensures { result ≡ type_at self.now number }
     {
-        match self.row(number) {
-            Row::Type(row) => Some(row),
-            _ => None,
-        }
+        self.tables.type_row(number)
     }
 
     /// The routine of a number.
     pub fn routine(&self, number: u32) -> Option<Routine>
         ensures { result ≡ routine_at self.now number }
     {
-        self.routines.get(number as usize).copied()
+        self.tables.routine(number)
     }
 
     /// How many routines there are.
     pub fn routines(&self) -> u32
         ensures { result ≡ length self.now.routines }
     {
-        self.routines.len() as u32
+        self.tables.routines()
     }
 
     /// The text of a token, and nothing where it is neither a name nor a string.
     pub fn text(&self, token: u32) -> &[u8]
         ensures { result.now ≡ text_at self.now token }
     {
-        match self.texts.get(token as usize) {
-            Some(text) => text,
-            None => &[],
-        }
+        self.tables.text(token)
     }
 
     /// The name of a routine, as its first heading spells it.
     pub fn name(&self, routine: u32) -> &[u8]
         ensures { result.now ≡ name_of self.now routine }
     {
-        match self.routine(routine) {
-            Some(routine) => self.text(routine.name),
-            None => &[],
-        }
+        self.tables.name(routine)
     }
 
     /// The cells of a routine's frame, the link included; 524,289 stands for more than 524,288.
     pub fn frame(&self, routine: u32) -> u32
         ensures { result ≡ frame_of self.now routine }
     {
-        match self.routine(routine) {
-            Some(routine) => routine.cells,
-            None => 0,
-        }
+        self.tables.frame(routine)
     }
 
     /// The cells of a variable of a type; 65,537 stands for more than 65,536.
     pub fn size_of(&self, kind: u32) -> u32
         ensures { result ≡ size_of self.now kind }
     {
-        match self.type_row(kind) {
-            Some(TypeRow::Array { cells, .. }) => cells,
-            Some(TypeRow::Record { cells, .. }) => cells,
-            Some(_) => 1,
-            None => 0,
-        }
+        self.tables.size_of(kind)
     }
 
     /// Where a field's cells begin in a record; 65,537 stands for more than 65,536.
-    pub fn offset_of(&self, _kind: u32, field: u32) -> u32
+    pub fn offset_of(&self, kind: u32, field: u32) -> u32
         ensures { result ≡ offset_of self.now field }
     {
-        match self.row(field) {
-            Row::Name(NameRow::Field { offset, .. }) => offset,
-            Row::Name(NameRow::Tag { offset, .. }) => offset,
-            _ => 0,
-        }
-    }
-
-    /// Puts a row at a number. There is nothing to be done where the table has no such number.
-    pub fn put(&mut self, number: u32, row: Row)
-        ensures { self.new ≡ with_row self.old number row }
-    {
-        let number = number as usize;
-        if number < self.rows.len() {
-            self.rows[number] = row;
-        }
-    }
-
-    /// A new routine after the others, by its number. Of 4,294,967,295 routines there is none after the last, which
-    /// counts as out of memory.
-    pub fn add_routine(&mut self, routine: Routine) -> Result<u32, AllocError>
-        ensures number { IfOk result (λ n. n ≡ length self.old.routines) }
-        ensures added { OnOk result (self.new ≡ record self.old { routines = self.old.routines ++ routine ∷ [] }) }
-    {
-        let number = self.routines.len();
-        if number >= u32::MAX as usize {
-            return Err(AllocError);
-        }
-        self.routines.push(routine)?;
-        Ok(number as u32)
-    }
-
-    /// Puts a routine at a number, if there is one.
-    pub fn put_routine(&mut self, number: u32, routine: Routine)
-        ensures { self.new ≡ with_routine self.old number routine }
-    {
-        let number = number as usize;
-        if number < self.routines.len() {
-            self.routines[number] = routine;
-        }
+        self.tables.offset_of(kind, field)
     }
 }

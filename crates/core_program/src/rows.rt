@@ -7,7 +7,7 @@
 //! Boolean and char have the numbers 0, 1 and 2, and required names have those after the last token.
 //!
 //! A list (statements, actuals, members, values of a case) is a chain of rows at the token that opens it and at its
-//! separators: each names the next one, and a number at which no such row stands ends the list.
+//! separators: each names the next one, which stands after it, and the last one names the number 0, which ends lists.
 //!
 //! A type of which a broken rule leaves nothing known is a number at which no type stands.
 
@@ -16,6 +16,9 @@ use std::mem::size_of;
 
 /// The number of the type integer.
 pub const INTEGER: u32 = 0;
+
+/// The number that ends a list. No item stands there, since the type integer does.
+pub const LIST_END: u32 = 0;
 
 /// The number of the type Boolean.
 pub const BOOLEAN: u32 = 1;
@@ -246,9 +249,10 @@ pub enum ItemRow {
         levels: u32,
         next: u32,
     },
-    /// An actual of a routine parameter that is itself one: its place, and how many links lead to its frame.
+    /// An actual of a routine parameter that is itself one: the number of its name's row, and how many links lead to
+    /// its frame.
     RoutineFormal {
-        place: u32,
+        formal: u32,
         levels: u32,
         next: u32,
     },
@@ -314,10 +318,10 @@ pub enum StatementRow {
         levels: u32,
         actuals: u32,
     },
-    /// A call of a routine parameter: its place, and how many links lead to its frame.
+    /// A call of a routine parameter: the number of its name's row, and how many links lead to its frame.
     CallFormal {
         line: u32,
-        place: u32,
+        formal: u32,
         levels: u32,
         actuals: u32,
     },
@@ -500,7 +504,7 @@ pub enum ExpressionRow {
     },
     /// A function designator of a routine parameter, as `StatementRow::CallFormal`.
     ApplyFormal {
-        place: u32,
+        formal: u32,
         levels: u32,
         actuals: u32,
     },

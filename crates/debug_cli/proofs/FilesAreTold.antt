@@ -54,13 +54,20 @@ module _ (r : Requested) (files : Option FileMap) (told : IsSome files) where
     same_given : a.run.input ≡ b.run.input
     same_given = same_input r.input a.run.input b.run.input a.run.is_input b.run.is_input
 
-    pub same_subject : subject_in a ≡ subject_in b
-    same_subject =
+    same_run : execution_of a.run.source.tokens a.run.source.rows (record { input = a.run.input; budget = r.budget })
+        ≡ execution_of b.run.source.tokens b.run.source.rows (record { input = a.run.input; budget = r.budget })
+    same_run =
         let x = a.run.source in
         let y = b.run.source in
         let program = subst (λ (bytes : List ℕ). IsProgram bytes x.tokens x.rows) same_bytes x.program in
-        ap subject_of (one y.bytes x.tokens y.tokens x.rows y.rows program y.program (record { input = a.run.input; budget = r.budget })
-        ∙ ap (λ (input : List ℕ). execution_of y.tokens y.rows (record { input = input; budget = r.budget })) same_given)
+        one y.bytes x.tokens y.tokens x.rows y.rows program y.program (record { input = a.run.input; budget = r.budget })
+
+    pub same_rows : a.run.source.rows ≡ b.run.source.rows
+    same_rows = ap (λ (e : Execution). e.recorded.program) same_run
+
+    pub same_subject : subject_in a ≡ subject_in b
+    same_subject = ap subject_of (same_run
+        ∙ ap (λ (input : List ℕ). execution_of b.run.source.tokens b.run.source.rows (record { input = input; budget = r.budget })) same_given)
 
     pub same_start : start_in a ≡ start_in b
     same_start =

@@ -95,7 +95,7 @@ module _ (before after : Outside) (told : IsSome before.files) (well : NoFetchFa
 
   unfit_talks : OneRun → (r : Requested) (b : Begun r before.files) → IsSome (misfit (subject_in b) (start_in b)) → (e : Ending)
       → (e ≡ ending.Done) ⊎ (e ≡ ending.Console) ⊎ (e ≡ ending.Spent) → Talks (Some (Source r)) before after e → ⊥
-  unfit_talks one r b unfit e which (a, w) = by which w.refused
+  unfit_talks one r b unfit e which (a, w, whole) = by which w.refused
     where
       same : misfit (subject_in a) (start_in a) ≡ misfit (subject_in b) (start_in b)
       same = λ i. misfit (same_subject r before.files told one a b i) (same_start r before.files told one a b i)

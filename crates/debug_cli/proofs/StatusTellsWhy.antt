@@ -1,5 +1,6 @@
 -- By the status that the command answers: why it came, what the screen got, and what became of the files.
 use Rattle.std.proofs.Common.{◌≡◌, inl, inr, List, ℕ, Option, Some, None, refl, sym, subst}
+use Rattle.core_program.specs.WholeTables.{WholeTables}
 use Rattle.command_words.specs.Meaning.{Meant, Requested, Source, Made}
 use Rattle.ask_session.specs.declared.dialog.Ending.{Ending}
 use Rattle.ask_session.specs.declared.dialog.Ending.TheVariants as ending
@@ -61,14 +62,14 @@ refusal_goes m before after left why is result (inr g) =
 
 -- ---- a session
 
-pub talk_goes : (r : Requested) (before after : Outside) (b : Begun r before.files) (e : Ending)
+pub talk_goes : (r : Requested) (before after : Outside) (b : Begun r before.files) → WholeTables b.run.source.rows → (e : Ending)
     → Went (subject_in b) (start_in b) before e after → Goes (Some (Source r)) before after (session_status e)
-talk_goes r before after b ending.Done w = inr (b, w)
-talk_goes r before after b ending.Console w = (b, w)
-talk_goes r before after b ending.Screen w = inr (b, w)
-talk_goes r before after b ending.Spent w = (b, w)
-talk_goes r before after b ending.Refused w = inr (b, w)
-talk_goes r before after b ending.Memory w = inr (b, w)
+talk_goes r before after b whole ending.Done w = inr (b, w, whole)
+talk_goes r before after b whole ending.Console w = (b, w, whole)
+talk_goes r before after b whole ending.Screen w = inr (b, w, whole)
+talk_goes r before after b whole ending.Spent w = (b, w, whole)
+talk_goes r before after b whole ending.Refused w = inr (b, w, whole)
+talk_goes r before after b whole ending.Memory w = inr (b, w, whole)
 
 -- after files were fetched all is as it was before
 same_outside : (before after : Outside) → keeper_of after ≡ keeper_of before → after.streams ≡ before.streams → after ≡ before

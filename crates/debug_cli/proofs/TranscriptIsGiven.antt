@@ -5,6 +5,7 @@ use Rattle.edge_ports.specs.Counts.{Counted}
 use Rattle.edge_ports.specs.Lines.{lines_of}
 use Rattle.edge_ports.specs.Told.{GaveAll, GavePrefix}
 use Rattle.edge_ports.proofs.PiecesAddUp.{gave_nothing, gave_prefix_before, gave_prefix_whole}
+use Rattle.core_program.specs.WholeTables.{WholeTables}
 use Rattle.command_words.specs.Meaning.{Meant, Requested, Source, Made}
 use Rattle.dialog_replies.specs.Subject.{Subject}
 use Rattle.dialog_replies.specs.declared.start.Start.{Start}
@@ -30,7 +31,7 @@ use Rattle.debug_cli.specs.Setting.{telling_of, transcript_of}
 use Rattle.debug_cli.specs.Status.{code_of, session_status}
 use Rattle.debug_cli.proofs.ByStatus.{View, nothing, part, said, talked, view}
 use Rattle.debug_cli.proofs.StatusByCode.{Failed, code_is, console_by_end, no_screen, screen_by_end}
-use Rattle.debug_cli.proofs.FilesAreTold.{begun_comes, no_fault, no_other_session, no_refusal, same_made, same_start, same_subject}
+use Rattle.debug_cli.proofs.FilesAreTold.{begun_comes, no_fault, no_other_session, no_refusal, same_made, same_rows, same_start, same_subject}
 
 -- the screen has got this much, and the files and the counts followed
 pub record Follows (before after : Outside) (text : List Bool → List ℕ) (asked : List Save) : Type 0 where
@@ -115,9 +116,13 @@ module _ (one : OneRun) (r : Requested) (before after : Outside) (told : Told r 
   begins = start_in told.begun
 
   talk : (e : Ending) → Talks (Some (Source r)) before after e → Went about begins before e after
-  talk e (b, w) =
+  talk e (b, w, whole) =
       subst (λ (start : Start). Went about start before e after) (same_start r before.files told.files_told one b told.begun)
       (subst (λ (s : Subject). Went s (start_in b) before e after) (same_subject r before.files told.files_told one b told.begun) w)
+
+  tables_told : Here status.Done → WholeTables told.begun.run.source.rows
+  tables_told (inl x) = absurd x.owed
+  tables_told (inr (b, w, whole)) = subst WholeTables (same_rows r before.files told.files_told one b told.begun) whole
 
   whole_told : Here status.Done → Whole before after about begins told.console told.console_told
   whole_told (inl x) = absurd x.owed
@@ -239,6 +244,11 @@ module _ (one : OneRun) (words : Words) {before after : Outside} {s : Status} (x
   goes_done : {m : Option Meant} → meaning words ≡ m → code_of s ≡ 0 → Goes m before after status.Done
   goes_done {m} is done =
       subst (Goes m before after) (code_is s status.Done done) (subst (λ (m : Option Meant). Goes m before after s) is x.goes)
+
+  -- the program of the source has whole tables
+  pub tables_are_whole : (r : Requested) → meaning words ≡ Some (Source r) → (told : Told r before.files before.streams.left) → code_of s ≡ 0
+      → WholeTables told.begun.run.source.rows
+  tables_are_whole r means told done = tables_told one r before after told (goes_done means done)
 
   pub whole_transcript : (set : Setting words before.files before.streams.left) → code_of s ≡ 0
       → Follows before after (transcript_of set) (saves_of set)

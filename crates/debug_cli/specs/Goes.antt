@@ -2,6 +2,7 @@
 use Rattle.std.specs.Prelude.{◌≡◌, ◌⊎◌, ℕ, List, Option, Some, None, Err}
 use Rattle.edge_ports.specs.Counts.{CountsFetch}
 use Rattle.edge_ports.specs.Told.{GaveAll, GavePrefix}
+use Rattle.core_program.specs.WholeTables.{WholeTables}
 use Rattle.command_words.specs.Meaning.{Meant, Source, Made}
 use Rattle.ask_session.specs.declared.dialog.Ending.{Ending}
 use Rattle.ask_session.specs.declared.dialog.Ending.TheVariants as ending
@@ -50,9 +51,10 @@ pub record SaysNothing (before after : Outside) : Type 0 where
   pub counts : CountsOneFault before.counts after.counts
   pub alone : LeavesAlone before after
 
--- a session is held about the run of the source that is meant, and ends so
+-- a session is held about the run of the source that is meant, whose program has whole tables, and ends so
 abbrev pub Talks : Option Meant → (before after : Outside) → Ending → Type 0
-Talks (Some (Source r)) before after e = (b : Begun r before.files) × Went (subject_in b) (start_in b) before e after
+Talks (Some (Source r)) before after e =
+    (b : Begun r before.files) × Went (subject_in b) (start_in b) before e after × WholeTables b.run.source.rows
 Talks m before after e = ⊥
 
 -- by the status: why it comes, what the screen gets, and what becomes of the files and of the keeper's counts

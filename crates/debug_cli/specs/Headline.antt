@@ -6,6 +6,7 @@ use Rattle.edge_ports.specs.Files.{FileMap}
 use Rattle.edge_ports.specs.Told.{GaveAll}
 use Rattle.pas_lexer.specs.Lexed.{Lexed}
 use Rattle.core_program.specs.ProgramRows.{ProgramRows}
+use Rattle.core_program.specs.WholeTables.{WholeTables}
 use Rattle.core_program.specs.Run.{Call, run}
 use Rattle.core_program.specs.Replay.{Replayed}
 use Rattle.command_words.specs.Meaning.{Requested}
@@ -50,9 +51,10 @@ abbrev pub EachVerdictIsFound : Execution → Type 0
 EachVerdictIsFound e =
     (entries : List Entry) (call : ℕ) → state_after (subject_of e) entries ≡ Found call → VerdictHolds e entries call
 
--- and in the run of each program, with each input and budget
+-- and in the run of each program, whose tables are whole, with each input and budget
 abbrev pub VerdictsAreFound : Type 0
-VerdictsAreFound = (t : Lexed) (p : ProgramRows) (s : Supply) → EachVerdictIsFound (execution_of t p s)
+VerdictsAreFound =
+    (t : Lexed) (p : ProgramRows) → WholeTables p → (s : Supply) → EachVerdictIsFound (execution_of t p s)
 
 -- The theorem. The words name a source that is a program, and all files and the console tell their bytes.
 pub record Headline {r : Requested} {files : Option FileMap} {left : Option (List ℕ)} (t : Told r files left)

@@ -175,6 +175,7 @@ pub fn ask_about<K: Keeper, I: Source, O: Sink>(
         budget: request.budget,
         saved,
     };
+    program.program.is_whole();
     match run_program(alloc, program, input.as_slice(), request.budget) {
         Ok(debuggee) => status_of(converse(alloc, &debuggee, &start, keeper, console, screen)),
         Err(_) => Status::Memory,

@@ -13,6 +13,7 @@ use Rattle.call_tree.specs.Numbering.{IsParent, IsNumbered}
 use Rattle.call_tree.specs.Recording.{Recording, lasts_of, parents_of, routines_of}
 use Rattle.call_tree.specs.declared.records.Call as table
 use Rattle.core_program.specs.ProgramRows.{ProgramRows}
+use Rattle.core_program.specs.WholeTables.{WholeTables}
 use Rattle.core_program.specs.Run.{Call, Marked, Outcome, run}
 use Rattle.core_program.specs.Numbering.{greatest, belows, calls_of, last_below, parent_of, is_below, each_from, InSubtree, Root, Child}
 use Rattle.core_program.specs.Laws.{SubtreeIsInterval, LastIsACall, EveryProgramRuns, EveryRunHasACall}
@@ -175,11 +176,11 @@ some_in : EveryRunHasACall → (p : ProgramRows) (s : Supply) (o : Outcome) → 
 some_in has p s None e is = let x : ⊥ = cc in absurd x
 some_in has p s (Some r) e is = let some = has p s.input s.budget r e in omega (arith, belows_length r.events, some)
 
-pub some_call : EveryRunHasACall → EveryProgramRuns → (p : ProgramRows) (s : Supply) (calls : Recording)
+pub some_call : EveryRunHasACall → EveryProgramRuns → (p : ProgramRows) → WholeTables p → (s : Supply) (calls : Recording)
     → calls ≡ recording_of p (run p s.input s.budget) → 0 < length calls.calls
-some_call has runs p s calls e =
+some_call has runs p whole s calls e =
     let cs = calls_of (run p s.input s.budget) in
-    let some = some_in has p s (run p s.input s.budget) refl (runs p s.input s.budget) in
+    let some = some_in has p s (run p s.input s.budget) refl (runs p whole s.input s.budget) in
     omega (arith, ap (λ (c : Recording). length c.calls) e, each_length (table_row (belows cs)) 0 cs, some)
 
 -- the calls that are kept of a run are those of the run

@@ -148,8 +148,7 @@ pub fn read_source(alloc: Global, source: &[u8]) -> Result<SourceProgram, Source
     Ok(SourceProgram { tokens, program })
 }
 
-/// The run of a program, with an input and a budget of steps. It takes memory, also for the names of cells. Tables
-/// without a routine are no program of a source; they count as out of memory.
+/// The run of a program, with an input and a budget of steps. It takes memory, also for the names of cells.
 pub fn run_program<'a>(
     alloc: Global,
     source: SourceProgram,
@@ -170,9 +169,7 @@ pub fn run_program<'a>(
     // Of each call can be told what it did.
     calls_are_told();
     let SourceProgram { tokens, program } = source;
-    if program.routines() == 0 {
-        return Err(AllocError);
-    }
+    program.is_whole();
     let history = run(alloc, &program, input, budget)?;
     let names = NameFinder::new(alloc, &program, tokens.len(), &history.log)?;
     Ok(Debuggee {

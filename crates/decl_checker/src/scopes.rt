@@ -7,7 +7,7 @@ ghost use Rattle.decl_checker.specs.Scopes.{held_around, held_in, routine_region
 
 use crate::regions::starts;
 use check_steps::{Def, Definition, Tables};
-use core_program::Program;
+use core_program::ProgramTables;
 use core_program::rows::{NameRow, Row};
 use indexmap::IndexMap;
 use std::alloc::{AllocError, Global};
@@ -55,7 +55,7 @@ impl Scopes {
     }
 
     /// The rows of the program, as far as the declarations give them.
-    pub fn program(&self) -> &Program
+    pub fn program(&self) -> &ProgramTables
         ensures { result.now ≡ self.now.program }
     {
         self.tables.program()

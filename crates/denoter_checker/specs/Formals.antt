@@ -41,9 +41,6 @@ is_complete h = not (is_function h) || is_some (result_of h)
 abbrev pub opening_parenthesis : Formals → ℕ
 opening_parenthesis f = (out-Formals f).«open»
 
-abbrev pub closing_parenthesis : Formals → ℕ
-closing_parenthesis f = (out-Formals f).close
-
 abbrev pub first_formal : Formals → Formal
 first_formal f = (out-Formals f).first
 

@@ -28,7 +28,7 @@ use Rattle.kind_checker.specs.Names.{each_name}
 use Rattle.kind_checker.specs.Sizes.{frame_capped}
 use Rattle.kind_checker.specs.Types.{named_type}
 use Rattle.denoter_checker.specs.Formals.{held_formals, is_complete, define_formals_at}
-use Rattle.denoter_checker.specs.Formals.{opening_parenthesis, closing_parenthesis, first_formal, other_formals}
+use Rattle.denoter_checker.specs.Formals.{opening_parenthesis, first_formal, other_formals}
 
 -- ---- value and variable parameters
 
@@ -97,16 +97,16 @@ put_section slot f next = do
 unfoldable pub put_next_section : ℕ → NextFormal → Step ℕ
 put_next_section next n = put_section n.semicolon n.formal next
 
--- The sections stand at the `(` and the semicolons, put down from the last one on; none stands at the `)`.
+-- The sections stand at the `(` and the semicolons, put down from the last one on.
 unfoldable pub put_sections : Formals → Step ℕ
 put_sections f = do
-  next ← each_back put_next_section (closing_parenthesis f) (other_formals f)
+  next ← each_back put_next_section 0 (other_formals f)
   put_section (opening_parenthesis f) (first_formal f) next
 
--- the list of a heading's sections; without formals its word, where no section stands
-abbrev pub section_list : ℕ → Option Formals → Step ℕ
-section_list word None = give word
-section_list word (Some f) = put_sections f
+-- the list of a heading's sections, which is empty without formals
+abbrev pub section_list : Option Formals → Step ℕ
+section_list None = give 0
+section_list (Some f) = put_sections f
 
 -- ---- results, and the rows of headings
 
@@ -133,12 +133,12 @@ result_or around name (Some r) = checked_result_type around r.name
 
 unfoldable pub procedure_row : ℕ → ℕ → Option Formals → Step (Unit {0})
 procedure_row word name formals = do
-  list ← section_list word formals
+  list ← section_list formals
   put word (row.Part (part.Heading name list None))
 
 unfoldable pub function_row : ℕ → ℕ → ℕ → Option Formals → Option ResultType → Step (Unit {0})
 function_row around word name formals result = do
-  list ← section_list word formals
+  list ← section_list formals
   t ← result_or around name result
   put word (row.Part (part.Heading name list (Some t)))
 

@@ -60,19 +60,19 @@ abbrev pub value_if : Bool → Option ConstantValue → Option ℤ
 value_if true (Some (Ordinal of' value)) = Some value
 value_if ok v = None
 
--- One more value, at a slot after the last one: no item stands at the constant's first token, so the list ends there.
-unfoldable pub add_choice : ℤ → ℕ → ℕ → ℕ → ℕ → Step ℕ
-add_choice value chosen last slot end = add_item last slot (item.Choice value chosen end)
+-- one more value, at a slot after the last one
+unfoldable pub add_choice : ℤ → ℕ → ℕ → ℕ → Step ℕ
+add_choice value chosen last slot = add_item last slot (item.Choice value chosen 0)
 
 -- the same, with the value put down for the list
-unfoldable pub chosen_value : ℕ → ℤ → ℕ → ℕ → ℕ → ℕ → Step ℕ
-chosen_value list value chosen last slot end = do
+unfoldable pub chosen_value : ℕ → ℤ → ℕ → ℕ → ℕ → Step ℕ
+chosen_value list value chosen last slot = do
   _ ← add_chosen list value
-  add_choice value chosen last slot end
+  add_choice value chosen last slot
 
-abbrev pub listed_choice : ℕ → Option ℤ → ℕ → ℕ → ℕ → ℕ → Step ℕ
-listed_choice list None chosen last slot end = give last
-listed_choice list (Some value) chosen last slot end = chosen_value list value chosen last slot end
+abbrev pub listed_choice : ℕ → Option ℤ → ℕ → ℕ → ℕ → Step ℕ
+listed_choice list None chosen last slot = give last
+listed_choice list (Some value) chosen last slot = chosen_value list value chosen last slot
 
 -- rule 22: a case constant is not of the selector's or tag's host type, or its value is repeated in the same case
 -- statement or variant part
@@ -81,7 +81,7 @@ case_constant c chosen last slot x = do
   v ← constant c.frame x
   fine ← look (λ k. is_choice k c v)
   _ ← late 22 (first_of_constant x) fine
-  listed_choice c.list (value_if fine v) chosen last slot (first_of_constant x)
+  listed_choice c.list (value_if fine v) chosen last slot
 
 unfoldable pub next_choice : Choosing → ℕ → ℕ → NextConstant → Step ℕ
 next_choice c chosen last n = case_constant c chosen last n.comma n.constant

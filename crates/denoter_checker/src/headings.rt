@@ -12,7 +12,7 @@ ghost use Rattle.denoter_checker.specs.Headings.{section_list, section_row, sign
 
 use crate::formals::{define_formals_at, is_complete};
 use check_steps::Work;
-use core_program::rows::{ItemRow, Mode, NameRow, PartRow, Row, TypeRow};
+use core_program::rows::{ItemRow, LIST_END, Mode, NameRow, PartRow, Row, TypeRow};
 use kind_checker::sizes::place_after;
 use kind_checker::types::check_named_type;
 use pas_tree::constants::{Names, NextName};
@@ -198,10 +198,10 @@ fn put_next_section(work: &mut Work, other: &NextFormal, next: u32) -> u32
 
 /// The sections after the first, from the last one on.
 #[tactic(auto, using(check_steps::proofs::Runs::back_loops))]
-fn put_other_sections(work: &mut Work, others: &[NextFormal], close: u32) -> u32
-    ensures { Does (each_back put_next_section close others.now) result work.old work.new }
+fn put_other_sections(work: &mut Work, others: &[NextFormal]) -> u32
+    ensures { Does (each_back put_next_section 0 others.now) result work.old work.new }
 {
-    let mut next = close;
+    let mut next = LIST_END;
     let mut left = others.len();
     'others: while left > 0 {
         left -= 1;
@@ -214,17 +214,17 @@ fn put_other_sections(work: &mut Work, others: &[NextFormal], close: u32) -> u32
 fn put_sections(work: &mut Work, formals: &Formals) -> u32
     ensures { Does (put_sections formals.now) result work.old work.new }
 {
-    let next = put_other_sections(work, &formals.others, formals.close);
+    let next = put_other_sections(work, &formals.others);
     put_section(work, formals.open, &formals.first, next)
 }
 
-/// The list of a heading's sections. It begins at the word of a heading without formals, where no section stands.
+/// The list of a heading's sections, which is empty without formals.
 #[tactic(auto, using(check_steps::proofs::Runs::steps))]
-fn put_section_list(work: &mut Work, word: u32, formals: &Option<Formals>) -> u32
-    ensures { Does (section_list word formals.now) result work.old work.new }
+fn put_section_list(work: &mut Work, formals: &Option<Formals>) -> u32
+    ensures { Does (section_list formals.now) result work.old work.new }
 {
     match formals {
-        None => word,
+        None => LIST_END,
         Some(formals) => put_sections(work, formals),
     }
 }
@@ -267,7 +267,7 @@ fn put_procedure(work: &mut Work, word: u32, name: u32, formals: &Option<Formals
 {
     let row = PartRow::Heading {
         name,
-        sections: put_section_list(work, word, formals),
+        sections: put_section_list(work, formals),
         result: None,
     };
     work.put(word, Row::Part(row));
@@ -284,7 +284,7 @@ fn put_function(
 )
     ensures { Does (function_row around word name formals.now written.now) tt work.old work.new }
 {
-    let sections = put_section_list(work, word, formals);
+    let sections = put_section_list(work, formals);
     let of = check_result(work, around, name, written);
     let row = PartRow::Heading {
         name,

@@ -9,7 +9,7 @@ ghost use Rattle.denoter_checker.specs.Variants.{tag_type, value_if, variant_par
 
 use check_steps::items::put_item;
 use check_steps::{Tables, Work};
-use core_program::rows::{ItemRow, NameRow, PartRow, Row};
+use core_program::rows::{ItemRow, LIST_END, NameRow, PartRow, Row};
 use kind_checker::ConstantValue;
 use kind_checker::constants::check_constant;
 use kind_checker::sizes::{host_of, offset_after};
@@ -122,13 +122,13 @@ fn value_if(fine: bool, value: Option<ConstantValue>) -> Option<i32>
 }
 
 #[tactic(auto, using(check_steps::proofs::Runs::steps), unfolding(crate::specs::Variants::add_choice))]
-fn add_choice(work: &mut Work, value: i32, chosen: u32, last: u32, slot: u32, end: u32) -> u32
-    ensures { Does (add_choice value chosen last slot end) result work.old work.new }
+fn add_choice(work: &mut Work, value: i32, chosen: u32, last: u32, slot: u32) -> u32
+    ensures { Does (add_choice value chosen last slot) result work.old work.new }
 {
     let item = ItemRow::Choice {
         value,
         chosen,
-        next: end,
+        next: LIST_END,
     };
     put_item(work, last, slot, item)
 }
@@ -142,12 +142,11 @@ fn add_chosen(
     chosen: u32,
     last: u32,
     slot: u32,
-    end: u32,
 ) -> Result<u32, AllocError>
-    ensures { IfOk result (λ n. Does (chosen_value list value chosen last slot end) n work.old work.new) }
+    ensures { IfOk result (λ n. Does (chosen_value list value chosen last slot) n work.old work.new) }
 {
     work.add_chosen(list, value)?;
-    Ok(add_choice(work, value, chosen, last, slot, end))
+    Ok(add_choice(work, value, chosen, last, slot))
 }
 
 #[tactic(auto, using(check_steps::proofs::Runs::steps))]
@@ -158,13 +157,12 @@ fn add_listed(
     chosen: u32,
     last: u32,
     slot: u32,
-    end: u32,
 ) -> Result<u32, AllocError>
-    ensures { IfOk result (λ n. Does (listed_choice list value chosen last slot end) n work.old work.new) }
+    ensures { IfOk result (λ n. Does (listed_choice list value chosen last slot) n work.old work.new) }
 {
     match value {
         None => Ok(last),
-        Some(value) => add_chosen(work, list, value, chosen, last, slot, end),
+        Some(value) => add_chosen(work, list, value, chosen, last, slot),
     }
 }
 
@@ -181,8 +179,7 @@ fn check_choice(
 {
     let value = check_constant(work, choosing.frame, c);
     let fine = is_choice(&work.tables, choosing, value);
-    let first = first_of_constant(c);
-    work.late(22, first, fine);
+    work.late(22, first_of_constant(c), fine);
     add_listed(
         work,
         choosing.list,
@@ -190,7 +187,6 @@ fn check_choice(
         chosen,
         last,
         slot,
-        first,
     )
 }
 

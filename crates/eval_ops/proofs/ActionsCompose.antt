@@ -7,11 +7,13 @@ use Rattle.core_program.specs.Actions.{
   Action,
   Give,
   Fail,
+  NoMeaning,
   Perform,
   ◌>>=◌,
   Performed,
   Finished,
   Stopped,
+  NotMeant,
   before,
   follow,
   performs,
@@ -24,19 +26,23 @@ use Rattle.eval_ops.specs.Machines.{Moment, ActionFinished, DoesAct, DoesAll, Gi
 before_nothing : {A : Type 0} (x : Performed A) → before [] x ≡ x
 before_nothing (Finished x w σ) = refl
 before_nothing (Stopped x w σ) = refl
+before_nothing NotMeant = refl
 
 before_before : {A : Type 0} (w v : List Touch) (d : Performed A) → before w (before v d) ≡ before (w ++ v) d
 before_before w v (Finished x u σ) = ap (λ l. Finished x l σ) (sym (append_assoc w v u))
 before_before w v (Stopped why u σ) = ap (λ l. Stopped why l σ) (sym (append_assoc w v u))
+before_before w v NotMeant = refl
 
 -- what follows what was performed
 abbrev then_performs : {A B : Type 0} → Performed A → (A → Action B) → Performed B
 then_performs (Finished x w σ) f = before w (performs (f x) σ)
 then_performs (Stopped why w σ) f = Stopped why w σ
+then_performs NotMeant f = NotMeant
 
 before_then : {A B : Type 0} (w : List Touch) (d : Performed A) (f : A → Action B) → before w (then_performs d f) ≡ then_performs (before w d) f
 before_then w (Finished x v σ) f = before_before w v (performs (f x) σ)
 before_then w (Stopped why v σ) f = refl
+before_then w NotMeant f = refl
 
 follow_then : {A B C : Type 0} (d : ActResult A) (g : A → State → Performed B) (h : A → State → Performed C) (f : B → Action C)
     → ((x : A) (σ : State) → h x σ ≡ then_performs (g x σ) f) → follow d h ≡ then_performs (follow d g) f
@@ -47,6 +53,7 @@ follow_then (Stops why w σ) g h f e = refl
 performs_bind : {A B : Type 0} (a : Action A) (f : A → Action B) (σ : State) → performs (a >>= f) σ ≡ then_performs (performs a σ) f
 performs_bind (Give x) f σ = sym (before_nothing (performs (f x) σ))
 performs_bind (Fail why) f σ = refl
+performs_bind NoMeaning f σ = refl
 performs_bind (Perform act next) f σ = follow_then (perform act σ) _ _ f (λ x τ. performs_bind (next x) f τ)
 
 -- so far an action has come to this rest of it
@@ -111,7 +118,7 @@ does_given seen a (Ok x) m h = ([], ap (λ a. performs a m.state) h, sym (append
 does_given seen a (Err (Fault kind)) m h = ([], ap (λ a. performs a m.state) h, sym (append-nil m.log))
 does_given seen a (Err OutOfSteps) m h = absurd h
 does_given seen a (Err (Limited which)) m h = absurd h
-does_given seen a (Err Memory) m h = absurd h
+does_given seen a (Err Memory) m h = tt
 
 -- an action, and another after it
 pub does_bind : {A B Y : Type 0} (seen : Y → B) (a : Action A) (f : A → Action B) (x : A) (old mid new : Moment) (r : Result Y Halt)

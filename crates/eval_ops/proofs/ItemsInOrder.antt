@@ -1,5 +1,5 @@
 -- Items, one after another: as many as there are rows are enough to look at.
-use Rattle.std.proofs.Common.{◌≡◌, ℕ, zero, suc, ◌+◌, ◌<◌, ◌≤◌, ℤ, Bool, true, false, Option, Some, None, refl, sym, ap, length, unwrap_or, nat_lt}
+use Rattle.std.proofs.Common.{◌≡◌, ℕ, zero, suc, ◌+◌, ◌<◌, ◌≤◌, ℤ, Bool, true, false, Some, None, refl, sym, ap, length, unwrap_or, nat_lt}
 use Rattle.std.proofs.Common.{if◌then◌else◌, arith}
 use Rattle.std.proofs.lemmas.Option.{slice_get_past}
 use Rattle.std.specs.Ordering.{int_eq}
@@ -8,14 +8,15 @@ use Rattle.core_program.specs.declared.rows.Row.{Row}
 use Rattle.core_program.specs.declared.rows.Row.TheVariants as rows
 use Rattle.core_program.specs.declared.rows.ItemRow.TheVariants as item
 use Rattle.core_program.specs.ProgramRows.{ProgramRows, row_at}
-use Rattle.core_program.specs.Statements.{along, choose_at, choice_of, has_label, item_labelled, labelled_in}
+use Rattle.core_program.specs.Statements.{Sought, along, choose_at, choice_along, has_label, item_labelled, label_along}
+use Rattle.core_program.specs.WholeTables.{is_end}
 
 -- what is looked for goes on only with items that stand after, and finds nothing at what is no row
-record LooksOn (rows : ℕ) (look : ℕ → (ℕ → Option ℕ) → Option ℕ) : Type 0 where
-  same : (at : ℕ) (go go' : ℕ → Option ℕ) → ((next : ℕ) → at < next → go next ≡ go' next) → look at go ≡ look at go'
-  past : (at : ℕ) (go : ℕ → Option ℕ) → rows ≤ at → look at go ≡ None
+record LooksOn (rows : ℕ) (look : ℕ → (ℕ → Sought) → Sought) : Type 0 where
+  same : (at : ℕ) (go go' : ℕ → Sought) → ((next : ℕ) → at < next → go next ≡ go' next) → look at go ≡ look at go'
+  past : (at : ℕ) (go : ℕ → Sought) → rows ≤ at → look at go ≡ None
 
-module _ {rows : ℕ} {look : ℕ → (ℕ → Option ℕ) → Option ℕ} (on : LooksOn rows look) where
+module _ {rows : ℕ} {look : ℕ → (ℕ → Sought) → Sought} (on : LooksOn rows look) where
   enough : (n m at : ℕ) → rows ≤ at + n → rows ≤ at + m → along look n at ≡ along look m at
   enough zero zero at h k = refl
   enough zero (suc m) at h k = sym (on.past at (along look m) (omega arith))
@@ -26,32 +27,35 @@ module _ {rows : ℕ} {look : ℕ → (ℕ → Option ℕ) → Option ℕ} (on :
   one_more at = enough rows (suc rows) at (omega arith) (omega arith)
 
 -- what comes after an item counts only where it stands after it
-by_tests : (a b : Bool) (x u v : Option ℕ) → (b ≡ true → u ≡ v) → (if a then x else if b then u else None) ≡ (if a then x else if b then v else None)
-by_tests true b x u v h = refl
-by_tests false true x u v h = h refl
-by_tests false false x u v h = refl
+by_tests : (a e b : Bool) (x y u v : Sought) → (b ≡ true → u ≡ v)
+    → (if a then x else if e then y else if b then u else None) ≡ (if a then x else if e then y else if b then v else None)
+by_tests true e b x y u v h = refl
+by_tests false true b x y u v h = refl
+by_tests false false true x y u v h = h refl
+by_tests false false false x y u v h = refl
 
 module _ (p : ProgramRows) where
-  choose_same : (i : ℤ) (r : Row) (at : ℕ) (go go' : ℕ → Option ℕ) → ((next : ℕ) → at < next → go next ≡ go' next)
+  choose_same : (i : ℤ) (r : Row) (at : ℕ) (go go' : ℕ → Sought) → ((next : ℕ) → at < next → go next ≡ go' next)
       → choose_at r at i go ≡ choose_at r at i go'
   choose_same i (rows.Item (item.Choice constant chosen next)) at go go' h =
-      by_tests (int_eq constant i) (nat_lt at next) (Some chosen) (go next) (go' next) (λ e. h next (ltb-true at next e))
+      by_tests (int_eq constant i) (is_end next) (nat_lt at next) (Some (Some chosen)) (Some None) (go next) (go' next) (λ e. h next (ltb-true at next e))
   choose_same i r at go go' h = refl
 
-  label_same : (label : ℕ) (r : Row) (at : ℕ) (go go' : ℕ → Option ℕ) → ((next : ℕ) → at < next → go next ≡ go' next)
+  label_same : (label : ℕ) (r : Row) (at : ℕ) (go go' : ℕ → Sought) → ((next : ℕ) → at < next → go next ≡ go' next)
       → item_labelled p r at label go ≡ item_labelled p r at label go'
   label_same label (rows.Item (item.Element s next)) at go go' h =
-      by_tests (has_label (row_at p s) label) (nat_lt at next) (Some at) (go next) (go' next) (λ e. h next (ltb-true at next e))
+      by_tests (has_label (row_at p s) label) (is_end next) (nat_lt at next) (Some (Some at)) (Some None) (go next) (go' next)
+      (λ e. h next (ltb-true at next e))
   label_same label r at go go' h = refl
 
-  pub one_choice : (at : ℕ) (i : ℤ) → choice_of p (length p.rows) at i ≡ choose_at (row_at p at) at i (λ next. choice_of p (length p.rows) next i)
+  pub one_choice : (at : ℕ) (i : ℤ) → choice_along p (length p.rows) at i ≡ choose_at (row_at p at) at i (λ next. choice_along p (length p.rows) next i)
   one_choice at i = one_more (record {
     same = λ at. choose_same i (row_at p at) at;
     past = λ at go h. ap (λ r. choose_at (unwrap_or r rows.Nothing) at i go) (slice_get_past p.rows at h);
   }) at
 
-  pub one_label : (at label : ℕ) → labelled_in p (length p.rows) at label
-      ≡ item_labelled p (row_at p at) at label (λ next. labelled_in p (length p.rows) next label)
+  pub one_label : (at label : ℕ) → label_along p (length p.rows) at label
+      ≡ item_labelled p (row_at p at) at label (λ next. label_along p (length p.rows) next label)
   one_label at label = one_more (record {
     same = λ at. label_same label (row_at p at) at;
     past = λ at go h. ap (λ r. item_labelled p (unwrap_or r rows.Nothing) at label go) (slice_get_past p.rows at h);

@@ -4,21 +4,27 @@ use Rattle.core_program.specs.declared.rows.Row.{Row}
 use Rattle.core_program.specs.declared.rows.Row.TheVariants as rows
 use Rattle.core_program.specs.declared.rows.TypeRow.{TypeRow}
 use Rattle.core_program.specs.declared.rows.TypeRow.TheVariants.{Ordinal, Subrange, Array}
-use Rattle.core_program.specs.ProgramRows.{ProgramRows, type_at, size_of}
+use Rattle.core_program.specs.ProgramRows.{ProgramRows, type_at, cells_in, size_of}
 use Rattle.core_program.specs.declared.components.Components.{Components}
 use Rattle.core_program.specs.Accesses.{type_accessed}
 
+-- the cells of a variable of a type, if the type is there
+abbrev pub size_in : Option TypeRow → Option ℕ
+size_in None = None
+size_in (Some t) = Some (cells_in (Some t))
+
 -- by the index type and the cells of a component
-abbrev pub components_of : (size : ℕ) → Option TypeRow → Option Components
-components_of size (Some (Ordinal least greatest)) =
+abbrev pub components_of : (size : Option ℕ) → Option TypeRow → Option Components
+components_of (Some size) (Some (Ordinal least greatest)) =
     Some (record { least = least; greatest = greatest; size = size })
-components_of size (Some (Subrange host least greatest)) =
+components_of (Some size) (Some (Subrange host least greatest)) =
     Some (record { least = least; greatest = greatest; size = size })
 components_of size t = None
 
 -- by the type of the array
 abbrev pub components_in : ProgramRows → Option TypeRow → Option Components
-components_in p (Some (Array packed index component cells)) = components_of (size_of p component) (type_at p index)
+components_in p (Some (Array packed index component cells)) =
+    components_of (size_in (type_at p component)) (type_at p index)
 components_in p t = None
 
 -- the cells of the array, and its components

@@ -78,8 +78,9 @@ DoesAll seen did (Err OutOfSteps) old new = ActionStopped did trouble.OutOfSteps
 DoesAll seen did (Err (Limited which)) old new = ActionStopped did (trouble.Limited which) old new
 DoesAll seen did (Err Memory) old new = Unit {0}
 
--- a call that needs no machine is the action, which has no acts
+-- A call that needs no machine is the action, which has no acts. Where none is meant, memory counts as run out.
 abbrev pub Gives : {A X : Type 0} → (X → A) → Action A → Result X Halt → Type 0
 Gives seen does (Ok x) = does ≡ Give (seen x)
 Gives seen does (Err (Fault kind)) = does ≡ Fail (trouble.Fault kind)
+Gives seen does (Err Memory) = Unit {0}
 Gives seen does (Err e) = ⊥

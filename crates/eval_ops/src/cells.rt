@@ -7,10 +7,10 @@ ghost use Rattle.core_program.specs.Values as values;
 ghost use Rattle.eval_ops.specs.Machines.{DoesAll, Gives, IsReady, machine_state, moment_of};
 
 use crate::frames::moved;
-use crate::halt::{Halt, passed};
+use crate::halt::{Halt, passed_test};
 use crate::machine::{Machine, read_cell, write_cell};
 use crate::values::test;
-use cell_value::{Cells, Kind, Value, in_range};
+use cell_value::{Cells, Kind, Value, between, in_range};
 use core_program::Program;
 use core_program::rows::TypeRow;
 use std::alloc::Global;
@@ -68,12 +68,19 @@ pub fn defined(least: i32, greatest: i32, value: Value) -> Result<Value, Halt>
     }
 }
 
-/// A value that was read from a variable of a set type, for its use: what is no set is the fault `Undefined`.
-pub fn defined_set(value: Value) -> Result<Value, Halt>
-    ensures { Gives (λ v. v) (values.defined_set value) result }
+/// A value that was read from a variable of a set type, for its use; the base type has these bounds. What is no set, or
+/// one with a member outside of them, is the fault `Undefined`.
+pub fn defined_set(least: i32, greatest: i32, value: Value) -> Result<Value, Halt>
+    ensures { Gives (λ v. v) (values.defined_set least greatest value) result }
 {
     match value {
-        Value::Bits(_) => Ok(value),
+        Value::Bits(set) => {
+            if between(set, i64::from(least), i64::from(greatest)) {
+                Ok(value)
+            } else {
+                Err(Halt::Fault(Kind::Undefined))
+            }
+        }
         _ => Err(Halt::Fault(Kind::Undefined)),
     }
 }
@@ -96,15 +103,16 @@ pub fn ordinal_at(
     Ok(value)
 }
 
-/// The value of a variable of a set type. Where the cell holds no set, it is the fault `Undefined`, after the read.
-pub fn set_at(machine: &mut Machine, addr: u32) -> Result<Value, Halt>
+/// The value of a variable of a set type whose base type has these bounds. Where the cell holds no value of the type,
+/// it is the fault `Undefined`, after the read.
+pub fn set_at(machine: &mut Machine, least: i32, greatest: i32, addr: u32) -> Result<Value, Halt>
     requires ready { IsReady machine.old }
-    ensures action { DoesAll (λ v. v) (performs (action.set_at addr) (machine_state machine.old)) result
+    ensures action { DoesAll (λ v. v) (performs (action.set_at least greatest addr) (machine_state machine.old)) result
         (moment_of machine.old) (moment_of machine.new) }
     ensures ready { IsReady machine.new }
 {
     let held = read_cell(machine, addr)?;
-    let value = defined_set(held)?;
+    let value = defined_set(least, greatest, held)?;
     Ok(value)
 }
 
@@ -123,7 +131,7 @@ pub fn assign(
         (machine_state machine.old)) result (moment_of machine.old) (moment_of machine.new) }
     ensures ready { IsReady machine.new }
 {
-    let tested = passed(test(program, kind, value))?;
+    let tested = passed_test(test(program, kind, value))?;
     write_cell(alloc, machine, addr, tested)?;
     Ok(())
 }

@@ -9,7 +9,7 @@ ghost use Rattle.eval_ops.specs.Machines.{DoesAll, Gives, IsReady, machine_state
 use crate::halt::Halt;
 use crate::machine::{Machine, read_cell};
 use cell_value::{Kind, Value};
-use core_program::Components;
+use core_program::{Components, Program, may_stand_for};
 
 /// The address that stands so far from another. No cell is at 1,048,576 or above it, and each address there counts as
 /// that one.
@@ -71,33 +71,56 @@ pub fn reference_out(machine: &mut Machine, levels: u32, base: u32, place: u32) 
     Ok(addr)
 }
 
-/// The routine that the routine parameter at such a place stands for, and the base of the frame in which that was
-/// declared. Where the cell holds no routine, it is the fault `Undefined`, after the read.
+/// The routine that the routine parameter at such a place stands for, which has this heading, and the base of the frame
+/// in which that was declared. Where the cell holds no routine that may be an actual of it, it is the fault
+/// `Undefined`, after the read.
 pub fn routine_out(
+    program: &Program,
     machine: &mut Machine,
+    heading: u32,
     levels: u32,
     base: u32,
     place: u32,
 ) -> Result<(u32, u32), Halt>
     requires ready { IsReady machine.old }
-    ensures action { DoesAll (λ x. x) (performs (action.routine_out levels base place) (machine_state machine.old))
-        result (moment_of machine.old) (moment_of machine.new) }
+    ensures action { DoesAll (λ x. x) (performs (action.routine_out program.now heading levels base place)
+        (machine_state machine.old)) result (moment_of machine.old) (moment_of machine.new) }
     ensures ready { IsReady machine.new }
 {
     let cell = cell_out(machine, levels, base, place)?;
-    let found = routine_held(machine, cell)?;
+    let found = routine_held(program, machine, heading, cell)?;
     Ok(found)
 }
 
 /// The routine that a routine parameter stands for, whose cell is at an address, and the base of its frame.
-fn routine_held(machine: &mut Machine, cell: u32) -> Result<(u32, u32), Halt>
+fn routine_held(
+    program: &Program,
+    machine: &mut Machine,
+    heading: u32,
+    cell: u32,
+) -> Result<(u32, u32), Halt>
     requires ready { IsReady machine.old }
-    ensures action { DoesAll (λ x. x) (performs (action.routine_held cell) (machine_state machine.old)) result
-        (moment_of machine.old) (moment_of machine.new) }
+    ensures action { DoesAll (λ x. x) (performs (action.routine_held program.now heading cell)
+        (machine_state machine.old)) result (moment_of machine.old) (moment_of machine.new) }
     ensures ready { IsReady machine.new }
 {
-    match read_cell(machine, cell)? {
-        Value::Routine(routine, frame) => Ok((routine, frame)),
+    let held = read_cell(machine, cell)?;
+    let found = routine_meant(program, heading, held)?;
+    Ok(found)
+}
+
+/// The routine and the frame that a value stands for, in the cell of a routine parameter with this heading.
+fn routine_meant(program: &Program, heading: u32, value: Value) -> Result<(u32, u32), Halt>
+    ensures { Gives (λ x. x) (action.routine_meant program.now heading value) result }
+{
+    match value {
+        Value::Routine(routine, frame) => {
+            if may_stand_for(program, heading, routine) {
+                Ok((routine, frame))
+            } else {
+                Err(Halt::Fault(Kind::Undefined))
+            }
+        }
         _ => Err(Halt::Fault(Kind::Undefined)),
     }
 }

@@ -62,3 +62,14 @@ pub fn passed(done: Result<Value, OpFault>) -> Result<Value, Halt>
         Err(fault) => Err(Halt::Fault(fault_kind(fault))),
     }
 }
+
+/// The result of the test of a value, or its fault. Without a test the tables are not whole, which never comes of a
+/// program; it counts as out of memory.
+pub fn passed_test(done: Option<Result<Value, OpFault>>) -> Result<Value, Halt>
+    ensures { Gives (λ v. v) (values.as_tested done) result }
+{
+    match done {
+        Some(done) => passed(done),
+        None => Err(Halt::Memory),
+    }
+}

@@ -2,13 +2,14 @@
 
 ghost use Rattle.std.specs.Prelude.{◌≡◌, ℕ, Option, length};
 ghost use Rattle.core_program.specs.ProgramRows.{row_at};
+ghost use Rattle.core_program.specs.Statements.{Sought};
 ghost use Rattle.core_program.specs.Statements as statements;
 ghost use Rattle.eval_ops.specs.Choices.{Rises, found_by};
 
-use crate::choices::Said;
+use crate::choices::{Said, after};
 use crate::statements::element_of;
 use core_program::Program;
-use core_program::rows::{Row, StatementRow};
+use core_program::rows::{LIST_END, Row, StatementRow};
 
 /// Whether a statement has this label.
 fn has_label(row: Row, label: u32) -> bool
@@ -22,7 +23,7 @@ fn has_label(row: Row, label: u32) -> bool
 
 /// What the item of a sequence that stands at a row says of a label.
 fn look_for(program: &Program, at: u32, label: u32) -> Said
-    ensures found { (go : ℕ → Option ℕ) → statements.item_labelled program.now (row_at program.now at) at label go
+    ensures found { (go : ℕ → Sought) → statements.item_labelled program.now (row_at program.now at) at label go
         ≡ found_by result go }
     ensures rises { Rises at result }
 {
@@ -30,27 +31,37 @@ fn look_for(program: &Program, at: u32, label: u32) -> Said
         Some((statement, next)) => {
             if has_label(program.row(statement), label) {
                 Said::Chosen(at)
-            } else if at < next {
-                Said::After(next)
             } else {
-                Said::Nothing
+                after(at, next)
             }
         }
-        None => Said::Nothing,
+        None => Said::Broken,
     }
 }
 
-/// The item of the statement that has a label, among the items of a sequence from one on (6.8.1). Each item stands
-/// after the one before it.
-pub fn labelled_in(program: &Program, first: u32, label: u32) -> Option<u32>
-    ensures { result ≡ statements.labelled_in program.now (length program.now.rows) first label }
+/// The item of the statement that has a label, among the items of a sequence from one on.
+fn label_from(program: &Program, first: u32, label: u32) -> Option<Option<u32>>
+    ensures { result ≡ statements.label_along program.now (length program.now.rows) first label }
 {
     let mut at = first;
     'items: loop {
         match look_for(program, at, label) {
-            Said::Chosen(item) => return Some(item),
+            Said::Chosen(item) => return Some(Some(item)),
             Said::After(next) => at = next,
-            Said::Nothing => return None,
+            Said::Nothing => return Some(None),
+            Said::Broken => return None,
         }
+    }
+}
+
+/// The item of the statement that has a label, if one has it, in a sequence (6.8.1). Each item stands after the one
+/// before it. There is no answer where the list does not end as it says.
+pub fn labelled_in(program: &Program, first: u32, label: u32) -> Option<Option<u32>>
+    ensures { result ≡ statements.labelled_in program.now (length program.now.rows) first label }
+{
+    if first == LIST_END {
+        Some(None)
+    } else {
+        label_from(program, first, label)
     }
 }

@@ -27,7 +27,7 @@ mod strings;
 mod values;
 mod variants;
 
-pub use arrays::array_of;
+pub use arrays::{array_of, size_of};
 pub use blocks::{drop_block, make_block};
 pub use calls::{close_call, make_frame, open_call, remove_frame};
 pub use cells::{ordinal_at, read_cells, set_at, write_cells};
@@ -38,7 +38,7 @@ pub use counting::{
 };
 pub use expressions::{combine, constant, type_accessed};
 pub use frames::{cell_out, component, frame_out, moved, reference_out, routine_out};
-pub use halt::{Halt, passed};
+pub use halt::{Halt, passed, passed_test};
 pub use input::{at_end, at_line_end, next_char, past_item, scan_on};
 pub use labels::labelled_in;
 pub use machine::{Machine, STACK_END, limit_passed, read_cell, spend, write_cell};

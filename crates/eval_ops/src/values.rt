@@ -83,42 +83,47 @@ fn set_in_range(value: Value, least: i32, greatest: i32) -> Result<Value, OpFaul
 }
 
 /// The test of a value that a variable of a set type with this base type is to get.
-fn test_set(base: Option<TypeRow>, value: Value) -> Result<Value, OpFault>
-    ensures { result ≡ values.tested_set base value }
+fn test_set(base: Option<TypeRow>, value: Value) -> Option<Result<Value, OpFault>>
+    ensures { result ≡ values.set_test base value }
 {
     match base {
-        Some(TypeRow::Ordinal { least, greatest }) => set_in_range(value, least, greatest),
+        Some(TypeRow::Ordinal { least, greatest }) => Some(set_in_range(value, least, greatest)),
         Some(
             TypeRow::Subrange {
                 least,
                 greatest,
                 ..
             },
-        ) => set_in_range(value, least, greatest),
-        _ => Ok(value),
+        ) => Some(set_in_range(value, least, greatest)),
+        _ => None,
     }
 }
 
 /// The test of a value that a variable of a type is to get: an ordinal is to be one of the type's, and each member of a
-/// set one of its base type's.
-pub fn test(program: &Program, kind: Option<TypeRow>, value: Value) -> Result<Value, OpFault>
-    ensures { result ≡ values.tested program.now kind value }
+/// set one of its base type's. There is none where the type is not there, or is not one of values of one cell.
+pub fn test(
+    program: &Program,
+    kind: Option<TypeRow>,
+    value: Value,
+) -> Option<Result<Value, OpFault>>
+    ensures { result ≡ values.test_of program.now kind value }
 {
     match kind {
-        Some(TypeRow::Ordinal { least, greatest }) => in_range(
+        Some(TypeRow::Ordinal { least, greatest }) => Some(in_range(
             value,
             i64::from(least),
             i64::from(greatest),
-        ),
+        )),
         Some(
             TypeRow::Subrange {
                 least,
                 greatest,
                 ..
             },
-        ) => in_range(value, i64::from(least), i64::from(greatest)),
+        ) => Some(in_range(value, i64::from(least), i64::from(greatest))),
         Some(TypeRow::Set { base, .. }) => test_set(program.type_row(base), value),
-        _ => Ok(value),
+        Some(TypeRow::Pointer { .. }) => Some(Ok(value)),
+        _ => None,
     }
 }
 

@@ -8,7 +8,7 @@ ghost use Rattle.eval_ops.specs.Machines.{DoesAll, IsReady, machine_state, momen
 use crate::cells::assign;
 use crate::choices::chosen;
 use crate::frames::moved;
-use crate::halt::{Halt, passed};
+use crate::halt::{Halt, passed_test};
 use crate::machine::{Machine, read_cell, write_cell};
 use crate::values::test;
 use cell_value::{Kind, Value};
@@ -40,18 +40,19 @@ fn part_in(row: Row) -> Option<VariantPart>
     }
 }
 
-/// A variant: its variant part, and its position there, from 1.
-fn at_position(part: Option<VariantPart>, position: u32) -> Option<(VariantPart, u32)>
+/// A variant: its variant part, and its position there, from 1. There is none where the part is not there.
+fn at_position(part: Option<VariantPart>, position: u32) -> Option<Option<(VariantPart, u32)>>
     ensures { result ≡ action.at_position part position }
 {
     match part {
-        Some(part) => Some((part, position)),
+        Some(part) => Some(Some((part, position))),
         None => None,
     }
 }
 
-/// The variant that a holder of fields is. The fixed part of a record is none.
-fn variant_at(program: &Program, holder: u32) -> Option<(VariantPart, u32)>
+/// The variant that a holder of fields is, if it is one. A record holds the fields of its fixed part. What is neither
+/// holds no fields, and there is no answer.
+fn variant_at(program: &Program, holder: u32) -> Option<Option<(VariantPart, u32)>>
     ensures { result ≡ action.variant_at program.now holder }
 {
     match program.row(holder) {
@@ -59,43 +60,46 @@ fn variant_at(program: &Program, holder: u32) -> Option<(VariantPart, u32)>
             part_in(program.row(variants)),
             position,
         ),
+        Row::Type(TypeRow::Record { .. }) => Some(None),
         _ => None,
     }
 }
 
-/// The position of the variant of a row.
-fn position_in(row: Row) -> Option<i64>
+/// The position of the variant of a row, if the row is that of one.
+fn position_in(row: Row) -> Option<Option<i64>>
     ensures { result ≡ action.position_in row }
 {
     match row {
-        Row::Part(PartRow::Variant { position, .. }) => Some(i64::from(position)),
+        Row::Part(PartRow::Variant { position, .. }) => Some(Some(i64::from(position))),
         _ => None,
     }
 }
 
-/// The position of a variant, by its row.
-fn position_at(program: &Program, variant: Option<u32>) -> Option<i64>
+/// The position of the variant that was found, if one was.
+fn position_at(program: &Program, variant: Option<Option<u32>>) -> Option<Option<i64>>
     ensures { result ≡ action.position_at program.now variant }
 {
     match variant {
-        Some(variant) => position_in(program.row(variant)),
+        Some(Some(variant)) => position_in(program.row(variant)),
+        Some(None) => Some(None),
         None => None,
     }
 }
 
-/// The position of the variant that a tag with a value chooses, if it chooses one.
-fn chosen_position(program: &Program, part: VariantPart, tag: Value) -> Option<i64>
+/// The position of the variant that a tag with a value chooses, if it chooses one. There is no answer where the tables
+/// are not whole.
+fn chosen_position(program: &Program, part: VariantPart, tag: Value) -> Option<Option<i64>>
     ensures { result ≡ action.chosen program.now part tag }
 {
     match tag {
         Value::Number(number) => {
             if part.hidden {
-                Some(number)
+                Some(Some(number))
             } else {
                 position_at(program, chosen(program, part.values, number))
             }
         }
-        _ => None,
+        _ => Some(None),
     }
 }
 
@@ -154,6 +158,29 @@ fn undefine_if(
     Ok(())
 }
 
+/// The same, where another variant is chosen than before, or none was; `Memory` where it is not known which.
+fn undefine_changed(
+    alloc: Global,
+    machine: &mut Machine,
+    before: Option<Option<i64>>,
+    now: Option<Option<i64>>,
+    addr: u32,
+    cells: u32,
+) -> Result<(), Halt>
+    requires ready { IsReady machine.old }
+    ensures action { DoesAll (λ _. tt) (performs (action.answered before (λ was. action.answered now (λ is.
+        action.undefine_if (action.changes was is) addr cells))) (machine_state machine.old)) result
+        (moment_of machine.old) (moment_of machine.new) }
+    ensures ready { IsReady machine.new }
+{
+    match (before, now) {
+        (Some(before), Some(now)) => {
+            undefine_if(alloc, machine, changes(before, now), addr, cells)
+        }
+        _ => Err(Halt::Memory),
+    }
+}
+
 /// Puts a value into the tag of a variant part, whose cell is at an address (6.5.3.3). It is read before. Where another
 /// variant is chosen then, or none was chosen before, every cell of the variants becomes undefined.
 pub fn activate(
@@ -171,11 +198,14 @@ pub fn activate(
 {
     let before = read_cell(machine, addr)?;
     write_cell(alloc, machine, addr, tag)?;
-    let changed = changes(
+    undefine_changed(
+        alloc,
+        machine,
         chosen_position(program, part, before),
         chosen_position(program, part, tag),
-    );
-    undefine_if(alloc, machine, changed, moved(addr, 1), part.cells)?;
+        moved(addr, 1),
+        part.cells,
+    )?;
     Ok(())
 }
 
@@ -212,6 +242,31 @@ fn activate_unless(
     Err(Halt::Fault(Kind::InactiveVariant))
 }
 
+/// The same, by the position of the chosen one; `Memory` where that is not known.
+fn activate_unless_at(
+    alloc: Global,
+    program: &Program,
+    machine: &mut Machine,
+    target: bool,
+    variant: (VariantPart, u32),
+    addr: u32,
+    now: Option<Option<i64>>,
+) -> Result<(), Halt>
+    requires ready { IsReady machine.old }
+    ensures action { DoesAll (λ _. tt) (performs (action.answered now (λ is. action.or_activated program.now target
+        variant.0 variant.1 addr (action.is_at is variant.1))) (machine_state machine.old)) result
+        (moment_of machine.old) (moment_of machine.new) }
+    ensures ready { IsReady machine.new }
+{
+    match now {
+        Some(now) => {
+            let active = is_at(now, variant.1);
+            activate_unless(alloc, program, machine, target, variant, addr, active)
+        }
+        None => Err(Halt::Memory),
+    }
+}
+
 /// Reads and tests the tag before a variant of the record variable at an address.
 fn enter(
     alloc: Global,
@@ -226,22 +281,22 @@ fn enter(
         (machine_state machine.old)) result (moment_of machine.old) (moment_of machine.new) }
     ensures ready { IsReady machine.new }
 {
-    let (part, position) = variant;
+    let (part, _) = variant;
     let cell = moved(addr, part.offset);
     let tag = read_cell(machine, cell)?;
-    let active = is_at(chosen_position(program, part, tag), position);
-    activate_unless(alloc, program, machine, target, variant, cell, active)?;
+    let now = chosen_position(program, part, tag);
+    activate_unless_at(alloc, program, machine, target, variant, cell, now)?;
     Ok(())
 }
 
-/// Reads and tests the tags around what a holder holds, the outermost first.
+/// Reads and tests the tags around what a holder holds, the outermost first. A holder stands before what it holds.
 fn enter_all(
     alloc: Global,
     program: &Program,
     machine: &mut Machine,
     target: bool,
     addr: u32,
-    most: u32,
+    most: u64,
     holder: u32,
 ) -> Result<(), Halt>
     requires ready { IsReady machine.old }
@@ -250,10 +305,13 @@ fn enter_all(
     ensures ready { IsReady machine.new }
 {
     if most == 0 {
-        return Ok(());
+        return Err(Halt::Memory);
     }
     match variant_at(program, holder) {
-        Some(variant) => {
+        Some(Some(variant)) => {
+            if variant.0.holder >= holder {
+                return Err(Halt::Memory);
+            }
             enter_all(
                 alloc,
                 program,
@@ -266,7 +324,8 @@ fn enter_all(
             enter(alloc, program, machine, target, addr, variant)?;
             Ok(())
         }
-        None => Ok(()),
+        Some(None) => Ok(()),
+        None => Err(Halt::Memory),
     }
 }
 
@@ -284,7 +343,7 @@ fn field_in(row: Row) -> Option<(u32, u32)>
 /// The field of this row of the record variable at an address (6.5.3.3). The tags of the variant parts around it are
 /// read, the outermost first, and each is tested before the next: where it does not choose the variant that holds the
 /// field, it is the fault `InactiveVariant`. In a target access a variant of a part without a tag field is activated
-/// instead. What is no field is the fault `Undefined`.
+/// instead. What is no field, or stands in tables that are not whole, counts as out of memory.
 pub fn field_at(
     alloc: Global,
     program: &Program,
@@ -300,30 +359,44 @@ pub fn field_at(
 {
     match field_in(row) {
         Some((offset, holder)) => {
-            enter_all(alloc, program, machine, target, addr, holder, holder)?;
+            let most = u64::from(holder) + 1;
+            enter_all(alloc, program, machine, target, addr, most, holder)?;
             Ok(moved(addr, offset))
         }
-        None => Err(Halt::Fault(Kind::Undefined)),
+        None => Err(Halt::Memory),
     }
 }
 
-/// The variant part whose tag field stands at a row.
-fn tag_of(program: &Program, row: Row) -> Option<VariantPart>
+/// A variant part before the tag field that chooses in it.
+fn tag_before(part: Option<VariantPart>) -> Option<Option<VariantPart>>
+    ensures { result ≡ action.tag_before part }
+{
+    match part {
+        Some(part) => Some(Some(part)),
+        None => None,
+    }
+}
+
+/// The variant part whose tag field stands at a row, if that is a tag field. There is no answer where it is no field.
+fn tag_of(program: &Program, row: Row) -> Option<Option<VariantPart>>
     ensures { result ≡ action.tag_of program.now row }
 {
     match row {
-        Row::Name(NameRow::Tag { variants, .. }) => part_in(program.row(variants)),
+        Row::Name(NameRow::Tag { variants, .. }) => tag_before(part_in(program.row(variants))),
+        Row::Name(NameRow::Field { .. }) => Some(None),
         _ => None,
     }
 }
 
-/// The variant part whose tag field the access of this row denotes.
-pub fn tag_accessed(program: &Program, row: Row) -> Option<VariantPart>
+/// The variant part whose tag field the access of this row denotes, if it denotes one. There is no answer where the
+/// row is no access, or the tables are not whole.
+pub fn tag_accessed(program: &Program, row: Row) -> Option<Option<VariantPart>>
     ensures { result ≡ action.tag_accessed program.now row }
 {
     match row {
         Row::Access(AccessRow::Within { field, .. }) => tag_of(program, program.row(field)),
         Row::Access(AccessRow::Field { field, .. }) => tag_of(program, program.row(field)),
+        Row::Access(_) => Some(None),
         _ => None,
     }
 }
@@ -343,19 +416,19 @@ fn assign_tag(
         (machine_state machine.old)) result (moment_of machine.old) (moment_of machine.new) }
     ensures ready { IsReady machine.new }
 {
-    let tested = passed(test(program, kind, value))?;
+    let tested = passed_test(test(program, kind, value))?;
     activate(alloc, program, machine, part, addr, tested)?;
     Ok(())
 }
 
 /// Puts a value into the variable of a type of one cell that an access denotes, after the test for the type: of a value
 /// that does not pass it is the fault, and nothing is read or written. `tag` is the variant part whose tag field it is,
-/// if it is one: the value then chooses a variant.
+/// if it is one: the value then chooses a variant. Where it is not known, that counts as out of memory.
 pub fn assign_to(
     alloc: Global,
     program: &Program,
     machine: &mut Machine,
-    tag: Option<VariantPart>,
+    tag: Option<Option<VariantPart>>,
     kind: Option<TypeRow>,
     addr: u32,
     value: Value,
@@ -366,7 +439,8 @@ pub fn assign_to(
     ensures ready { IsReady machine.new }
 {
     match tag {
-        Some(part) => assign_tag(alloc, program, machine, part, kind, addr, value),
-        None => assign(alloc, program, machine, kind, addr, value),
+        Some(Some(part)) => assign_tag(alloc, program, machine, part, kind, addr, value),
+        Some(None) => assign(alloc, program, machine, kind, addr, value),
+        None => Err(Halt::Memory),
     }
 }

@@ -7,8 +7,8 @@ use Rattle.cell_value.specs.declared.ways_out.Which.{Which}
 use Rattle.core_program.specs.ProgramRows.{ProgramRows}
 use Rattle.core_program.specs.State.{State}
 use Rattle.core_program.specs.Acts.{Trouble, Act, Answer, Spend, ActResult, Went, Stops, perform, limit_passed}
-use Rattle.core_program.specs.Actions.{Action, Give, Fail, Perform, Performed, Finished, Stopped, before, follow, performs}
-use Rattle.core_program.specs.Tree.{Out, Part, ActTree, Ret, Halt, Do, Sub, Enter, Line, way_of, bind, doing}
+use Rattle.core_program.specs.Actions.{Action, Give, Fail, NoMeaning, Perform, Performed, Finished, Stopped, NotMeant, before, follow, performs}
+use Rattle.core_program.specs.Tree.{Out, Part, ActTree, Ret, Halt, Meaningless, Do, Sub, Enter, Line, way_of, bind, doing}
 use Rattle.core_program.specs.Layer.{layer}
 use Rattle.core_program.specs.Run.{Ended, Halted}
 use Rattle.eval_ops.specs.Machines.{Moment, ActDone, ActRefused, ActionFinished, ActionStopped}
@@ -17,6 +17,7 @@ use Rattle.evaluator.specs.Stops.{Stop, AtLine, AtCall, AtEnd, at_call, on_act, 
 pub bind_ret : (t : ActTree) → bind t Ret ≡ t
 bind_ret (Ret out) = refl
 bind_ret (Halt line why) = refl
+bind_ret Meaningless = refl
 bind_ret (Do line act next) = λ i. Do line act (λ x. bind_ret (next x) i)
 bind_ret (Sub part next) = λ i. Sub part (λ x. bind_ret (next x) i)
 bind_ret (Enter routine cells args next) = λ i. Enter routine cells args (λ x. bind_ret (next x) i)
@@ -25,6 +26,7 @@ bind_ret (Line line next) = λ i. Line line (bind_ret next i)
 pub bind_bind : (t : ActTree) (f g : Out → ActTree) → bind (bind t f) g ≡ bind t (λ x. bind (f x) g)
 bind_bind (Ret out) f g = refl
 bind_bind (Halt line why) f g = refl
+bind_bind Meaningless f g = refl
 bind_bind (Do line act next) f g = λ i. Do line act (λ x. bind_bind (next x) f g i)
 bind_bind (Sub part next) f g = λ i. Sub part (λ x. bind_bind (next x) f g i)
 bind_bind (Enter routine cells args next) f g = λ i. Enter routine cells args (λ x. bind_bind (next x) f g i)
@@ -39,6 +41,7 @@ bind_if false t u K = refl
 pub bind_doing : {A : Type 0} (line : ℕ) (a : Action A) (k : A → ActTree) (f : Out → ActTree) → bind (doing line a k) f ≡ doing line a (λ x. bind (k x) f)
 bind_doing line (Give x) k f = refl
 bind_doing line (Fail why) k f = refl
+bind_doing line NoMeaning k f = refl
 bind_doing line (Perform act next) k f = λ i. Do line act (λ x. bind_doing line (next x) k f i)
 
 module _ {p : ProgramRows} where
@@ -88,11 +91,13 @@ module _ (p : ProgramRows) where
   abbrev stop_after : {A : Type 0} → (line n : ℕ) → (A → ActTree) → List Touch → Performed A → Option (Stop × Moment)
   stop_after line n k l (Finished x w σ) = next_stop p n (k x) (record { state = σ; log = l ++ w })
   stop_after line n k l (Stopped why w σ) = Some (AtEnd (Halted (way_of line why)), record { state = σ; log = l ++ w })
+  stop_after line n k l NotMeant = None
 
   after_before : {A : Type 0} (line n : ℕ) (k : A → ActTree) (l w : List Touch) (d : Performed A)
       → stop_after line n k (l ++ w) d ≡ stop_after line n k l (before w d)
   after_before line n k l w (Finished x v σ) = ap (λ u. next_stop p n (k x) (record { state = σ; log = u })) (append_assoc l w v)
   after_before line n k l w (Stopped why v σ) = ap (λ u. Some (AtEnd (Halted (way_of line why)), record { state = σ; log = u })) (append_assoc l w v)
+  after_before line n k l w NotMeant = refl
 
   abbrev Acted : {A : Type 0} → ℕ → (A → ActTree) → ActTree → State → List Touch → ℕ → Performed A → Type 0
   Acted line k t σ l n d = (j : ℕ) × (next_stop p j t (record { state = σ; log = l }) ≡ stop_after line n k l d)
@@ -115,6 +120,7 @@ module _ (p : ProgramRows) where
   acted : {A : Type 0} (line : ℕ) (a : Action A) (k : A → ActTree) (σ : State) (l : List Touch) (n : ℕ) → Acted line k (doing line a k) σ l n (performs a σ)
   acted line (Give x) k σ l n = (n, ap (λ u. next_stop p n (k x) (record { state = σ; log = u })) (sym (append-nil l)))
   acted line (Fail why) k σ l n = (suc n, ap (λ u. Some (AtEnd (Halted (way_of line why)), record { state = σ; log = u })) (sym (append-nil l)))
+  acted line NoMeaning k σ l n = (suc n, refl)
   acted line (Perform act next) k σ l n = acted_act line act next k σ l n (λ x τ w. acted line (next x) k τ (l ++ w) n) (perform act σ) refl
 
 module _ {p : ProgramRows} where

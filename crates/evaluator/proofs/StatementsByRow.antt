@@ -30,7 +30,9 @@ use Rattle.core_program.specs.declared.rows.StatementRow.TheVariants.{
   Pack,
 }
 use Rattle.core_program.specs.ProgramRows.{ProgramRows, row_at}
-use Rattle.core_program.specs.Tree.{Here, ActTree, Ret, Sub, Line}
+use Rattle.cell_value.specs.declared.ways_out.Kind.TheVariants as kind
+use Rattle.core_program.specs.Acts.{Fault}
+use Rattle.core_program.specs.Tree.{Here, ActTree, Halt, Ret, Sub, Line}
 use Rattle.core_program.specs.Tree as parts
 use Rattle.core_program.specs.Accesses.{no_row, eval, locate}
 use Rattle.core_program.specs.Statements.{
@@ -46,7 +48,6 @@ use Rattle.core_program.specs.Statements.{
   of_records,
   inside,
   on_statement,
-  nothing,
 }
 use Rattle.eval_ops.specs.Counting.{turns_in, turns_row, span_in, both_there}
 use Rattle.eval_ops.specs.Items.{element_in}
@@ -131,7 +132,7 @@ other_carried p home n s o = refl
 
 abbrev pub from_record : Here → (body : ℕ) → Option (ℕ × ℕ) → ActTree
 from_record h body (Some (access, next)) = locate access h (λ addr. Sub (parts.Establish next body (inside h addr)) Ret)
-from_record h body None = Sub (parts.Exec body h) Ret
+from_record h body None = no_row
 
 pub records_by : (h : Here) (body : ℕ) (r : Row) → of_records h body r ≡ from_record h body (element_in r)
 records_by h body (rows.Item (item.Element access next)) = refl
@@ -141,7 +142,7 @@ records_by h body r = refl
 
 abbrev pub in_sequence : ProgramRows → Here → (first : ℕ) → Option (ℕ × ℕ) → ActTree
 in_sequence p h first (Some (s, next)) = Sub (parts.Exec s h) (on_statement p h first next)
-in_sequence p h first None = nothing
+in_sequence p h first None = no_row
 
 pub sequence_by : (p : ProgramRows) (h : Here) (first : ℕ) (r : Row) → of_sequence p h first r ≡ in_sequence p h first (element_in r)
 sequence_by p h first (rows.Item (item.Element s next)) = refl
@@ -163,9 +164,14 @@ abbrev pub with_turns : Option Counting → (Counting → ActTree) → ActTree
 with_turns None go = no_row
 with_turns (Some c) go = go c
 
-abbrev pub with_span : Option ForProgress → (ForProgress → ActTree) → ActTree
-with_span None go = no_row
-with_span (Some s) go = go s
+abbrev pub with_span : (otherwise : ActTree) → Option ForProgress → (ForProgress → ActTree) → ActTree
+with_span otherwise None go = otherwise
+with_span otherwise (Some s) go = go s
+
+-- a for statement whose bounds are no numbers
+abbrev pub without_numbers : Here → Option Counting → ActTree
+without_numbers h None = no_row
+without_numbers h (Some c) = Halt h.line (Fault kind.Undefined)
 
 pub bounds_by : (p : ProgramRows) (h : Here) (i n : ℕ) (r : Row) → bounds p h i n r ≡ with_turns (turns_in r) (λ c.
     eval i h (λ v. eval c.last h (λ w. first_turn p h n (row_at p n) v w)))
@@ -178,11 +184,12 @@ first_by p h n (rows.Statement (Turns direction last place of' body)) v w = refl
 first_by p h n r v w = refl
 
 pub first_of_numbers : (p : ProgramRows) (h : Here) (n : ℕ) (c : Counting) (v w : Value)
-    → first_turn p h n (turns_row c) v w ≡ with_span (span_in v w) (λ s. first_turn p h n (turns_row c) (value.Number s.value) (value.Number s.last))
+    → first_turn p h n (turns_row c) v w ≡ with_span (without_numbers h (Some c)) (span_in v w)
+    (λ s. first_turn p h n (turns_row c) (value.Number s.value) (value.Number s.last))
 first_of_numbers p h n c (value.Number i) (value.Number j) = refl
 first_of_numbers p h n c v w = refl
 
-pub numbers_by : (v w : Value) (go : ℤ → ℤ → ActTree) → with_numbers v w go ≡ with_span (span_in v w) (λ s. go s.value s.last)
+pub numbers_by : (v w : Value) (go : ℤ → ℤ → ActTree) → with_numbers v w go ≡ with_span no_row (span_in v w) (λ s. go s.value s.last)
 numbers_by (value.Number i) (value.Number j) go = refl
 numbers_by v w go = refl
 
@@ -206,32 +213,36 @@ first_of_both None b c s e = absurd (let q : ⊥ = cc in q)
 pub row_of_both : (r : Row) (b : Option ForProgress) (c : Counting) (s : ForProgress) → both_there (turns_in r) b ≡ Some (c, s) → r ≡ turns_row c
 row_of_both r b c s e = turns_row_is r c (first_of_both (turns_in r) b c s e)
 
-abbrev pub with_both : Option (Counting × ForProgress) → (Counting → ForProgress → ActTree) → ActTree
-with_both None go = no_row
-with_both (Some (c, s)) go = go c s
+abbrev pub with_both : (otherwise : ActTree) → Option (Counting × ForProgress) → (Counting → ForProgress → ActTree) → ActTree
+with_both otherwise None go = otherwise
+with_both otherwise (Some (c, s)) go = go c s
 
-span_both : (c : Counting) (b : Option ForProgress) (go : Counting → ForProgress → ActTree) → with_span b (go c) ≡ with_both (both_there (Some c) b) go
-span_both c None go = refl
-span_both c (Some s) go = refl
+span_both : (t : ActTree) (c : Counting) (b : Option ForProgress) (go : Counting → ForProgress → ActTree)
+    → with_span t b (go c) ≡ with_both t (both_there (Some c) b) go
+span_both t c None go = refl
+span_both t c (Some s) go = refl
 
 pub first_both : (p : ProgramRows) (h : Here) (n : ℕ) (r : Row) (v w : Value) → first_turn p h n r v w
-    ≡ with_both (both_there (turns_in r) (span_in v w)) (λ c s. first_turn p h n (turns_row c) (value.Number s.value) (value.Number s.last))
+    ≡ with_both (without_numbers h (turns_in r)) (both_there (turns_in r) (span_in v w))
+    (λ c s. first_turn p h n (turns_row c) (value.Number s.value) (value.Number s.last))
 first_both p h n r v w = first_by p h n r v w ∙ by (turns_in r)
   where
     by : (a : Option Counting) → with_turns a (λ c. first_turn p h n (turns_row c) v w)
-        ≡ with_both (both_there a (span_in v w)) (λ c s. first_turn p h n (turns_row c) (value.Number s.value) (value.Number s.last))
+        ≡ with_both (without_numbers h a) (both_there a (span_in v w))
+        (λ c s. first_turn p h n (turns_row c) (value.Number s.value) (value.Number s.last))
     by None = refl
     by (Some c) = first_of_numbers p h n c v w
-        ∙ span_both c (span_in v w) (λ c s. first_turn p h n (turns_row c) (value.Number s.value) (value.Number s.last))
+        ∙ span_both (without_numbers h (Some c)) c (span_in v w) (λ c s. first_turn p h n (turns_row c) (value.Number s.value) (value.Number s.last))
 
 pub counted_both : (home : Home) (n line : ℕ) (r : Row) (v w : Value) → with_numbers v w (λ i last. after_turn home n line i last r)
-    ≡ with_both (both_there (turns_in r) (span_in v w)) (λ c s. after_turn home n line s.value s.last (turns_row c))
+    ≡ with_both no_row (both_there (turns_in r) (span_in v w)) (λ c s. after_turn home n line s.value s.last (turns_row c))
 counted_both home n line r v w = numbers_by v w (λ i last. after_turn home n line i last r)
     ∙ by (turns_in r) (span_in v w) (λ s. counted_by home n line s.value s.last r)
   where
     by : (a : Option Counting) (b : Option ForProgress)
         → ((s : ForProgress) → after_turn home n line s.value s.last r ≡ with_turns a (λ c. after_turn home n line s.value s.last (turns_row c)))
-        → with_span b (λ s. after_turn home n line s.value s.last r) ≡ with_both (both_there a b) (λ c s. after_turn home n line s.value s.last (turns_row c))
+        → with_span no_row b (λ s. after_turn home n line s.value s.last r)
+        ≡ with_both no_row (both_there a b) (λ c s. after_turn home n line s.value s.last (turns_row c))
     by None None h = refl
     by (Some c) None h = refl
     by None (Some s) h = h s

@@ -3,7 +3,7 @@ use Rattle.std.proofs.Common.{ℕ, ◌+◌, ◌<◌, ◌≤◌, Result, Err, Lis
 use Rattle.cell_value.specs.declared.entries.Touch.{Touch}
 use Rattle.core_program.specs.State.{State}
 use Rattle.core_program.specs.Acts.{Act, Answer, ActResult, Went, Stops, perform}
-use Rattle.core_program.specs.Actions.{Action, Give, Fail, Perform, Performed, Finished, Stopped, before, follow, performs}
+use Rattle.core_program.specs.Actions.{Action, Give, Fail, NoMeaning, Perform, Performed, Finished, Stopped, NotMeant, before, follow, performs}
 use Rattle.core_program.proofs.ActsTakeSteps.{Acted, acted, cost}
 use Rattle.eval_ops.specs.declared.halt.Halt.{Halt}
 use Rattle.eval_ops.specs.Machines.{Moment, DoesAll}
@@ -13,10 +13,12 @@ use Rattle.evaluator.specs.Weight.{Falls}
 abbrev TookAll : {A : Type 0} → ℕ → Performed A → Type 0
 TookAll n (Finished x w τ) = τ.steps ≤ n
 TookAll n (Stopped why w τ) = Unit {0}
+TookAll n NotMeant = Unit {0}
 
 before_took : {A : Type 0} (w : List Touch) (n k : ℕ) (d : Performed A) → n ≤ k → TookAll n d → TookAll k (before w d)
 before_took w n k (Finished x v τ) h t = omega arith
 before_took w n k (Stopped why v τ) h t = tt
+before_took w n k NotMeant h t = tt
 
 follow_took : {A B : Type 0} (cost : ℕ) (σ : State) (d : ActResult A) (go : A → State → Performed B) → Acted cost σ d
     → ((x : A) (τ : State) → TookAll τ.steps (go x τ)) → TookAll σ.steps (follow d go)
@@ -26,6 +28,7 @@ follow_took cost σ (Stops why w τ) go h t = tt
 took_all : {A : Type 0} (a : Action A) (σ : State) → TookAll σ.steps (performs a σ)
 took_all (Give x) σ = omega arith
 took_all (Fail why) σ = tt
+took_all NoMeaning σ = tt
 took_all (Perform act next) σ =
     follow_took (cost act) σ (perform act σ) (λ x τ. performs (next x) τ) (acted act σ) (λ x τ. took_all (next x) τ)
 
@@ -38,10 +41,12 @@ steps_fall seen a x m m' h = subst (TookAll m.state.steps) h.1 (took_all a m.sta
 abbrev TookSome : {A : Type 0} → (cost n : ℕ) → Performed A → Type 0
 TookSome cost n (Finished x w τ) = τ.steps + cost ≤ n
 TookSome cost n (Stopped why w τ) = Unit {0}
+TookSome cost n NotMeant = Unit {0}
 
 before_some : {A : Type 0} (w : List Touch) (cost n k : ℕ) (d : Performed A) → k + cost ≤ n → TookAll k d → TookSome cost n (before w d)
 before_some w cost n k (Finished x v τ) h t = omega (arith, h, t)
 before_some w cost n k (Stopped why v τ) h t = tt
+before_some w cost n k NotMeant h t = tt
 
 follow_some : {A B : Type 0} (cost : ℕ) (σ : State) (d : ActResult A) (go : A → State → Performed B) → Acted cost σ d
     → ((x : A) (τ : State) → TookAll τ.steps (go x τ)) → TookSome cost σ.steps (follow d go)

@@ -12,26 +12,26 @@ use Rattle.core_program.specs.declared.components.Components.{Components}
 use Rattle.core_program.specs.declared.scan.Scan.{Scan}
 use Rattle.core_program.specs.declared.scan.Scan.TheVariants.{Blanks, Digits}
 use Rattle.core_program.specs.declared.scan.Scanned.{Scanned}
-use Rattle.core_program.specs.Accesses.{no_row, type_accessed, with_bounds, with_components}
+use Rattle.core_program.specs.Accesses.{no_row, type_accessed, with_bounds, with_components, with_size}
 use Rattle.core_program.specs.Actions.{performs}
 use Rattle.core_program.specs.Acts.{TakeIf}
 use Rattle.core_program.specs.Input.{further, is_digit, leading, leads_on, scan_on}
 use Rattle.core_program.specs.Packing.{with_array}
-use Rattle.core_program.specs.Statements.{nothing}
-use Rattle.core_program.specs.Transfers.{of_printed, of_received, received}
+use Rattle.core_program.specs.Transfers.{of_printed, of_received, received, with_host}
 use Rattle.core_program.specs.Tree.{Here, ActTree}
 use Rattle.eval_ops.specs.Machines.{DoesAll, Moment}
-use Rattle.eval_ops.specs.Arrays.{array_in, components_in, components_of}
+use Rattle.eval_ops.specs.Arrays.{array_in, components_in, components_of, size_in}
 use Rattle.eval_ops.specs.Items.{element_in}
+use Rattle.evaluator.specs.TransferFamilies.{host_in}
 use Rattle.evaluator.proofs.StepsFall.{first_falls}
 
-pub no_printed : (p : ProgramRows) (h : Here) (r : Row) → ((i : ItemRow) → r ≡ rows.Item i → ⊥) → of_printed p h r ≡ nothing
+pub no_printed : (p : ProgramRows) (h : Here) (r : Row) → ((i : ItemRow) → r ≡ rows.Item i → ⊥) → of_printed p h r ≡ no_row
 no_printed p h (rows.Item i) f = absurd (f i refl)
 no_printed p h r f = refl
 
 abbrev pub with_element : ProgramRows → Here → Option (ℕ × ℕ) → ActTree
 with_element p h (Some (access, next)) = received p h access next (row_at p access)
-with_element p h None = nothing
+with_element p h None = no_row
 
 pub received_by : (p : ProgramRows) (h : Here) (r : Row) → of_received p h r ≡ with_element p h (element_in r)
 received_by p h (rows.Item (item.Element access next)) = refl
@@ -48,6 +48,21 @@ pub scan_falls : (s : Scan) (x : Scanned) (m m' : Moment) → DoesAll {A = Scann
 scan_falls Blanks x m m' h = first_falls {X = Scanned} (λ s. s) (TakeIf leads_on) leading x m m' h
 scan_falls (Digits minus number) x m m' h = first_falls {X = Scanned} (λ s. s) (TakeIf is_digit) (further minus number) x m m' h
 
+-- ---- hosts and sizes of types
+
+abbrev pub with_number : Option ℕ → (ℕ → ActTree) → ActTree
+with_number (Some n) go = go n
+with_number None go = no_row
+
+pub host_by : (of' : ℕ) (t : Option TypeRow) (go : ℕ → ActTree) → with_host of' t go ≡ with_number (host_in of' t) go
+host_by of' (Some (Ordinal least greatest)) go = refl
+host_by of' (Some (Subrange host least greatest)) go = refl
+host_by of' t go = refl
+
+pub sized_by : (t : Option TypeRow) (go : ℕ → ActTree) → with_size t go ≡ with_number (size_in t) go
+sized_by None go = refl
+sized_by (Some t) go = refl
+
 -- ---- arrays
 
 abbrev pub with_found : Option (ℕ × Components) → (ℕ → Components → ActTree) → ActTree
@@ -58,14 +73,18 @@ abbrev with_some : Option Components → (Components → ActTree) → ActTree
 with_some (Some components) go = go components
 with_some None go = no_row
 
-bounds_by : (size : ℕ) (t : Option TypeRow) (go : Components → ActTree)
-    → with_bounds t (λ least greatest. go (record { least = least; greatest = greatest; size = size })) ≡ with_some (components_of size t) go
-bounds_by size (Some (Ordinal least greatest)) go = refl
-bounds_by size (Some (Subrange host least greatest)) go = refl
-bounds_by size t go = refl
+bounds_by : (s t : Option TypeRow) (go : Components → ActTree)
+    → with_bounds t (λ least greatest. with_size s (λ size. go (record { least = least; greatest = greatest; size = size })))
+    ≡ with_some (components_of (size_in s) t) go
+bounds_by None (Some (Ordinal least greatest)) go = refl
+bounds_by (Some s) (Some (Ordinal least greatest)) go = refl
+bounds_by None (Some (Subrange host least greatest)) go = refl
+bounds_by (Some s) (Some (Subrange host least greatest)) go = refl
+bounds_by None t go = refl
+bounds_by (Some s) t go = refl
 
 components_by : (p : ProgramRows) (t : Option TypeRow) (go : Components → ActTree) → with_components p t go ≡ with_some (components_in p t) go
-components_by p (Some (Array packed index component cells)) go = bounds_by (size_of p component) (type_at p index) go
+components_by p (Some (Array packed index component cells)) go = bounds_by (type_at p component) (type_at p index) go
 components_by p t go = refl
 
 found_by : (cells : ℕ) (o : Option Components) (go : ℕ → Components → ActTree) → with_some o (go cells) ≡ with_found (option_map (λ c. (cells, c)) o) go

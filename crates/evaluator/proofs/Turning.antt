@@ -1,5 +1,5 @@
 -- What the turns of a body are made of.
-use Rattle.std.proofs.Common.{◌≡◌, Bool, ℕ, ◌+◌, ◌<◌, ◌≤◌, List, [], ◌∷◌, ◌++◌}
+use Rattle.std.proofs.Common.{◌≡◌, ◌==◌, Bool, true, false, ℕ, ◌+◌, ◌<◌, ◌≤◌, List, [], ◌∷◌, ◌++◌}
 use Rattle.std.proofs.Common.{Result, Ok, Err, Option, Some, None, reverse, sym, ap, subst, ◌∙◌}
 use Rattle.std.proofs.Common.{if◌then◌else◌, nat_lt}
 use Rattle.std.proofs.lemmas.Bool.{lt-ltb, le-ltb}
@@ -8,7 +8,7 @@ use Rattle.core_program.specs.ProgramRows.{ProgramRows, routine_at}
 use Rattle.core_program.specs.Acts.{Trouble, Spend, perform}
 use Rattle.core_program.specs.Actions.{Action, act, performs}
 use Rattle.core_program.specs.Tree.{Out, Part, Locate, Here, ActTree, Sub, Enter, Line, way_of, bind, doing}
-use Rattle.core_program.specs.Accesses.{spend, on_address, locate_before, no_row}
+use Rattle.core_program.specs.Accesses.{spend, on_address, locate_before, no_row, until_end}
 use Rattle.core_program.specs.Layer.{layer}
 use Rattle.core_program.proofs.ActsTakeSteps.{Acted, acted}
 use Rattle.core_program.specs.Run.{Halted}
@@ -80,6 +80,13 @@ turns_failed p t m m' line e a r g f h = subst (λ r. Turns p (configuration t m
 pub part_comes : (p : ProgramRows) (part : Part) (K : Out → ActTree) (m : Moment) (t : ActTree) → layer p part ≡ t → Comes p (Sub part K) m (bind t K) m
 part_comes p part K m t e = comes_then (begins part K m) (comes_same (ap (λ t. bind t K) e))
 
+-- a list goes on with an item, or it ends
+pub goes_on : (at : ℕ) (ended goes : ActTree) → (at == 0) ≡ false → until_end at ended goes ≡ goes
+goes_on at ended goes e = ap (λ b. if b then ended else goes) e
+
+pub ends_list : (at : ℕ) (ended goes : ActTree) → (at == 0) ≡ true → until_end at ended goes ≡ ended
+ends_list at ended goes e = ap (λ b. if b then ended else goes) e
+
 -- a step was taken
 pub spent : (p : ProgramRows) (h : Here) (t : ActTree) (K : Out → ActTree) (m m' : Moment)
     → DoesAct {X = Unit {0}} (λ _. tt) (perform (Spend 1) m.state) (Ok tt) m m' → Comes p (bind (spend h t) K) m (bind t K) m'
@@ -109,7 +116,7 @@ given seen a (Ok x) m h = ([], ap (λ a. performs a m.state) h, sym (append-nil 
 given seen a (Err (Fault kind)) m h = ([], ap (λ a. performs a m.state) h, sym (append-nil m.log))
 given seen a (Err OutOfSteps) m h = absurd h
 given seen a (Err (Limited which)) m h = absurd h
-given seen a (Err Memory) m h = absurd h
+given seen a (Err Memory) m h = tt
 
 -- a turn that failed leaves no more to do
 pub falls_failed : (r : Result (Option Pause) Halt) (e : Halt) (a b : ℕ) → r ≡ Err e → Falls r a b

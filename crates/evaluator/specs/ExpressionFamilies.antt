@@ -24,8 +24,8 @@ of_monadic p h e = no_row
 abbrev pub of_designator : ProgramRows → Here → ExpressionRow → ActTree
 of_designator p h (expressions.Apply routine levels actuals) =
     of_expression p h (expressions.Apply routine levels actuals)
-of_designator p h (expressions.ApplyFormal place levels actuals) =
-    of_expression p h (expressions.ApplyFormal place levels actuals)
+of_designator p h (expressions.ApplyFormal formal levels actuals) =
+    of_expression p h (expressions.ApplyFormal formal levels actuals)
 of_designator p h e = no_row
 
 -- an expression without a dyadic operator on values of one cell
@@ -41,6 +41,6 @@ of_other p h (expressions.Not operand) = of_expression p h (expressions.Not oper
 of_other p h (expressions.Function f operand least greatest) =
     of_expression p h (expressions.Function f operand least greatest)
 of_other p h (expressions.Apply routine levels actuals) = of_expression p h (expressions.Apply routine levels actuals)
-of_other p h (expressions.ApplyFormal place levels actuals) =
-    of_expression p h (expressions.ApplyFormal place levels actuals)
+of_other p h (expressions.ApplyFormal formal levels actuals) =
+    of_expression p h (expressions.ApplyFormal formal levels actuals)
 of_other p h e = no_row

@@ -8,7 +8,7 @@ use Rattle.core_program.specs.declared.rows.Row.{Row}
 use Rattle.core_program.specs.declared.rows.Row.TheVariants as rows
 use Rattle.core_program.specs.declared.rows.StatementRow.{StatementRow}
 use Rattle.core_program.specs.declared.rows.StatementRow.TheVariants as statements
-use Rattle.core_program.specs.ProgramRows.{ProgramRows, row_at, type_at, size_of, routine_at}
+use Rattle.core_program.specs.ProgramRows.{ProgramRows, row_at, type_at, routine_at}
 use Rattle.core_program.specs.Actions.{Action, Give, ◌>>=◌}
 use Rattle.core_program.specs.Tree.{Out, Nothing, Scalar, Cells, Address, Jump, Here}
 use Rattle.core_program.specs.Tree.{ActTree, Ret, Sub, Enter, doing, bind}
@@ -29,6 +29,8 @@ use Rattle.core_program.specs.Accesses.{
   scalar,
   address,
   with_components,
+  with_size,
+  with_formal,
   locate_field,
   value_at,
 }
@@ -48,7 +50,7 @@ use Rattle.core_program.specs.Statements.{
   line_of,
   inside,
 }
-use Rattle.core_program.specs.Output.{end_line, host_at, scalar_text, string_text}
+use Rattle.core_program.specs.Output.{end_line, scalar_text, string_text}
 use Rattle.core_program.specs.Packing.{moves}
 use Rattle.core_program.specs.Transfers.{into, on_text, print}
 use Rattle.core_program.specs.Run.{return_of}
@@ -116,7 +118,7 @@ abbrev pub declared : (routine levels base : ℕ) → Action (ℕ × ℕ)
 declared routine levels base = frame_out levels base >>= λ frame. Give (routine, frame)
 
 abbrev pub located : ProgramRows → Home → Located → List Value → (addr : ℕ) → ActTree
-located p home (locateds.Value of' line) l addr = value_at line addr (type_at p of')
+located p home (locateds.Value of' line) l addr = value_at p line addr (type_at p of')
 located p home (locateds.Index index array line) l addr = spend (here home line) (eval index (here home line) (λ v.
     with_components p (type_at p array) (λ a. doing line (component a addr v) address)))
 located p home (locateds.Field field target line) l addr =
@@ -191,8 +193,8 @@ after_transfer p home (transfers.Written of' next line) vs ls = on_text p of' (�
     print (here home line) next text None)
 after_transfer p home (transfers.Wide of' width next line) vs ls = on_text p of' (λ text.
     eval width (here home line) (λ w. print (here home line) next text (Some w)))
-after_transfer p home (transfers.Width of' next line) vs ls = on_scalar (λ w.
-    print (here home line) next (scalar_text (host_at p of') (top vs)) (Some w))
+after_transfer p home (transfers.Width host next line) vs ls = on_scalar (λ w.
+    print (here home line) next (scalar_text host (top vs)) (Some w))
 after_transfer p home (transfers.TextWidth next line) vs ls = on_scalar (λ w.
     print (here home line) next (string_text (top_list ls)) (Some w))
 
@@ -229,10 +231,10 @@ call_begun p home procedure routine levels line args = with_frame_size (routine_
     Enter routine cells (value.Frame frame ∷ args) (after_call procedure)))
 
 -- the call of a routine parameter, once its actual parameters are known
-abbrev pub called_formal : ProgramRows → Home → (procedure : Bool) → (place levels line : ℕ) → List Value → ActTree
-called_formal p home procedure place levels line args =
-    doing line (routine_out levels home.base place) (λ (routine, frame).
-    enter p routine frame args (after_call procedure))
+abbrev pub called_formal : ProgramRows → Home → (procedure : Bool) → (formal levels line : ℕ) → List Value → ActTree
+called_formal p home procedure formal levels line args = with_formal (row_at p formal) (λ place heading.
+    doing line (routine_out p heading levels home.base place) (λ (routine, frame).
+    enter p routine frame args (after_call procedure)))
 
 -- what a task does with how the part before it ended
 abbrev pub after_part : ProgramRows → Home → Task → List Value → List (List Value) → Out → ActTree
@@ -242,8 +244,8 @@ after_part p home (tasks.Actual of' next line) vs ls = on_actual p (here home li
     pass home next line (top_list ls ++ ws))
 after_part p home (tasks.Call procedure routine levels line) vs ls =
     on_cells (call_begun p home procedure routine levels line)
-after_part p home (tasks.CallFormal procedure place levels line) vs ls =
-    on_cells (called_formal p home procedure place levels line)
+after_part p home (tasks.CallFormal procedure formal levels line) vs ls =
+    on_cells (called_formal p home procedure formal levels line)
 after_part p home (tasks.Range next line) vs ls = on_scalar (λ w.
     gather (here home line) next (members_added (top (below_top vs)) (top vs) w))
 after_part p home (tasks.TextRight order right line) vs ls = on_cells (λ xs.
@@ -259,7 +261,8 @@ after_part p home (tasks.PutCells line) vs ls = on_address (λ addr.
 after_part p home (tasks.Record next body line) vs ls = on_address (λ addr.
     Sub (parts.Establish next body (inside (here home line) addr)) Ret)
 after_part p home (tasks.Point line) vs ls = on_address (λ addr. finally (here home line) (write addr (top vs)))
-after_part p home (tasks.Dispose of' line) vs ls = on_scalar (λ v. finally (here home line) (dispose (size_of p of') v))
+after_part p home (tasks.Dispose of' line) vs ls = on_scalar (λ v.
+    with_size (type_at p of') (λ cells. finally (here home line) (dispose cells v)))
 after_part p home (tasks.Next t) vs ls = after_statement p home t vs
 after_part p home tasks.Leave vs ls = Ret
 after_part p home (tasks.Transfer t) vs ls = after_transfer p home t vs ls
@@ -281,7 +284,7 @@ values_below (tasks.Put target of' line) vs = below_top vs
 values_below (tasks.Point line) vs = below_top vs
 values_below (tasks.Next (nexts.Counted row line)) vs = below_top (below_top vs)
 values_below (tasks.Transfer (transfers.Into access of' next line)) vs = below_top vs
-values_below (tasks.Transfer (transfers.Width of' next line)) vs = below_top vs
+values_below (tasks.Transfer (transfers.Width host next line)) vs = below_top vs
 values_below t vs = vs
 
 -- the lists that wait below the one that a task holds

@@ -13,8 +13,8 @@ use Rattle.evaluator.specs.declared.tasks.Home.{Home}
 abbrev pub of_procedure : ProgramRows → Home → (row : ℕ) → StatementRow → ActTree
 of_procedure p home row (statements.Call line routine levels actuals) =
     of_statement p row (here home line) (statements.Call line routine levels actuals)
-of_procedure p home row (statements.CallFormal line place levels actuals) =
-    of_statement p row (here home line) (statements.CallFormal line place levels actuals)
+of_procedure p home row (statements.CallFormal line formal levels actuals) =
+    of_statement p row (here home line) (statements.CallFormal line formal levels actuals)
 of_procedure p home row s = no_row
 
 -- a conditional statement (6.8.3.3) whose line is told

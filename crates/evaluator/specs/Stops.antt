@@ -6,7 +6,7 @@ use Rattle.cell_value.specs.declared.ways_out.WayOut.TheVariants as way
 use Rattle.cell_value.specs.declared.ways_out.Which.{Which}
 use Rattle.core_program.specs.ProgramRows.{ProgramRows}
 use Rattle.core_program.specs.Acts.{Spend, ActResult, Went, Stops, perform, limit_passed}
-use Rattle.core_program.specs.Tree.{Out, ActTree, Ret, Halt, Do, Sub, Enter, Line, way_of, bind}
+use Rattle.core_program.specs.Tree.{Out, ActTree, Ret, Halt, Meaningless, Do, Sub, Enter, Line, way_of, bind}
 use Rattle.core_program.specs.Layer.{layer}
 use Rattle.core_program.specs.Run.{End, Ended, Halted}
 use Rattle.eval_ops.specs.Machines.{Moment}
@@ -35,6 +35,7 @@ abbrev pub next_stop : ProgramRows → ℕ → ActTree → Moment → Option (St
 next_stop p zero t m = None
 next_stop p (suc n) (Ret out) m = Some (AtEnd (Ended out), m)
 next_stop p (suc n) (Halt line why) m = Some (AtEnd (Halted (way_of line why)), m)
+next_stop p (suc n) Meaningless m = None
 next_stop p (suc n) (Do line act next) m = on_act line m.log (perform act m.state) (λ x m'. next_stop p n (next x) m')
 next_stop p (suc n) (Sub part next) m = next_stop p n (bind (layer p part) next) m
 next_stop p (suc n) (Enter routine cells args next) m =

@@ -7,7 +7,7 @@ ghost use Rattle.core_program.specs.Tree.{Locate, Sub, ActTree, bind, doing};
 ghost use Rattle.core_program.specs.Cells as action;
 ghost use Rattle.core_program.specs.Cells.{cell_out, reference_out};
 ghost use Rattle.core_program.specs.Heap.{pointed_at as pointed_at_in};
-ghost use Rattle.core_program.specs.Accesses.{address, cells_at, of_access, on_address, value_at};
+ghost use Rattle.core_program.specs.Accesses.{address, cells_at, of_access, on_address, scalar, value_at};
 ghost use Rattle.core_program.specs.Accesses.{locate_field as field_in, with_record};
 ghost use Rattle.core_program.specs.Accesses.{locate_before, with_bounds, with_components, spend as spend_in};
 ghost use Rattle.evaluator.specs.Rest.{from, from_under, here, waiting};
@@ -23,7 +23,7 @@ use core_program::rows::{AccessRow, Row, TypeRow};
 use core_program::{Components, Program};
 use eval_ops::{
     Machine, cell_out, component, field_at, ordinal_at, pointed_at, pointer_at, read_cells,
-    reference_out, set_at, spend,
+    reference_out, set_at, size_of, spend,
 };
 use std::alloc::Global;
 
@@ -273,7 +273,7 @@ fn variable_value(
     addr: u32,
 ) -> Turned
     requires ready { IsReady machine.old }
-    ensures turns { Turns program.now (configuration (bind (value_at line addr kind)
+    ensures turns { Turns program.now (configuration (bind (value_at program.now line addr kind)
         (waiting program.now body.old)) (moment_of machine.old)) result body.new (moment_of machine.new) }
     ensures falls { Falls result (measure_of body.new machine.new)
         (left_with machine.old.steps (come + 1 + tasks_weight body.old)) }
@@ -291,7 +291,9 @@ fn variable_value(
                 ..
             },
         ) => { body.scalar(line, ordinal_at(machine, least, greatest, addr)) }
-        Some(TypeRow::Set { .. }) => body.scalar(line, set_at(machine, addr)),
+        Some(TypeRow::Set { base, .. }) => {
+            set_value(body, machine, program.type_row(base), line, addr)
+        }
         Some(TypeRow::Pointer { .. }) => body.scalar(line, pointer_at(machine, addr)),
         Some(TypeRow::Array { cells, .. }) => variable_cells(
             body, alloc, program, machine, cells, line, addr,
@@ -299,6 +301,38 @@ fn variable_value(
         Some(TypeRow::Record { cells, .. }) => variable_cells(
             body, alloc, program, machine, cells, line, addr,
         ),
+        _ => body.no_row(),
+    }
+}
+
+/// The value of a variable of a set type, by its base type.
+fn set_value(
+    body: &mut Body,
+    machine: &mut Machine,
+    base: Option<TypeRow>,
+    line: u32,
+    addr: u32,
+) -> Turned
+    requires ready { IsReady machine.old }
+    ensures turns { (p : ProgramRows) → Turns p (configuration (bind (with_bounds base (λ least greatest.
+        doing line (action.set_at least greatest addr) scalar)) (waiting p body.old)) (moment_of machine.old)) result
+        body.new (moment_of machine.new) }
+    ensures falls { Falls result (measure_of body.new machine.new)
+        (left_with machine.old.steps (come + 1 + tasks_weight body.old)) }
+    ensures home { body.new.home ≡ body.old.home }
+    ensures ready { IsReady machine.new }
+{
+    match base {
+        Some(TypeRow::Ordinal { least, greatest }) => {
+            body.scalar(line, set_at(machine, least, greatest, addr))
+        }
+        Some(
+            TypeRow::Subrange {
+                least,
+                greatest,
+                ..
+            },
+        ) => { body.scalar(line, set_at(machine, least, greatest, addr)) }
         _ => body.no_row(),
     }
 }
@@ -401,17 +435,18 @@ pub(crate) fn locate_component(
                 component: part,
                 ..
             },
-        ) => {
-            locate_component_in(
+        ) => match size_of(program, part) {
+            Some(size) => locate_component_in(
                 body,
                 program,
                 program.type_row(index),
-                program.size_of(part),
+                size,
                 addr,
                 line,
                 value,
-            )
-        }
+            ),
+            None => body.no_row(),
+        },
         _ => body.no_row(),
     }
 }

@@ -5,6 +5,8 @@ ghost use Rattle.cell_value.specs.declared.values.Value.{Value as CellValue};
 ghost use Rattle.eval_ops.specs.Machines.{DoesAll, IsReady, Moment, machine_state, moment_of};
 ghost use Rattle.core_program.specs.Actions.{Action, performs};
 ghost use Rattle.core_program.specs.Tree.{bind, doing};
+ghost use Rattle.core_program.specs.Accesses.{with_formal};
+ghost use Rattle.core_program.specs.Cells as action;
 ghost use Rattle.core_program.specs.Expressions as expressions;
 ghost use Rattle.evaluator.specs.Rest.{below_top, declared, from, from_under, here, lists_of, pass, resume, tasks_of};
 ghost use Rattle.evaluator.specs.Rest.{top_list, values_of};
@@ -16,8 +18,8 @@ use crate::body::{Body, Turned};
 use crate::tasks::{Located, Now, Part, Task, Way};
 use cell_value::{Cells, Value};
 use core_program::Program;
-use core_program::rows::{ItemRow, Row};
-use eval_ops::{Halt, Machine, frame_out, passed, routine_out, spend, test};
+use core_program::rows::{ItemRow, LIST_END, NameRow, Row};
+use eval_ops::{Halt, Machine, frame_out, passed_test, routine_out, spend, test};
 use std::alloc::Global;
 
 /// The actual parameters from an item on.
@@ -37,9 +39,12 @@ pub fn pass_actuals(
     ensures home { body.new.home ≡ body.old.home }
     ensures ready { IsReady machine.new }
 {
+    if at == LIST_END {
+        return body.go(Now::Came(Way::Cells));
+    }
     match program.row(at) {
         Row::Item(item) => pass_actual(body, alloc, program, machine, item, line),
-        _ => body.go(Now::Came(Way::Cells)),
+        _ => body.no_row(),
     }
 }
 
@@ -88,17 +93,54 @@ fn pass_actual(
             Err(halt) => body.fail(line, halt),
         },
         ItemRow::RoutineFormal {
-            place,
+            formal,
             levels,
             next,
-        } => match spend(machine, 1) {
+        } => pass_formal(
+            body,
+            alloc,
+            program,
+            machine,
+            program.row(formal),
+            levels,
+            next,
+            line,
+        ),
+        _ => body.no_row(),
+    }
+}
+
+/// An actual of a routine parameter that is itself one, by the row of its name.
+fn pass_formal(
+    body: &mut Body,
+    alloc: Global,
+    program: &Program,
+    machine: &mut Machine,
+    formal: Row,
+    levels: u32,
+    next: u32,
+    line: u32,
+) -> Turned
+    requires ready { IsReady machine.old }
+    ensures turns { Turns program.now (configuration (bind (with_formal formal (λ place heading.
+        expressions.pass_routine (here body.old.home line) next (top_list (lists_of body.old))
+        (action.routine_out program.now heading levels body.old.home.base place))) (resume program.now body.old.home
+        (tasks_of body.old) (values_of body.old) (below_top (lists_of body.old)))) (moment_of machine.old)) result
+        body.new (moment_of machine.new) }
+    ensures falls { Falls result (measure_of body.new machine.new)
+        (left_with machine.old.steps (come + 1 + tasks_weight body.old)) }
+    ensures home { body.new.home ≡ body.old.home }
+    ensures ready { IsReady machine.new }
+{
+    match formal {
+        Row::Name(NameRow::RoutineFormal { place, heading, .. }) => match spend(machine, 1) {
             Ok(()) => {
-                let found = routine_out(machine, levels, body.home.base, place);
+                let found = routine_out(program, machine, heading, levels, body.home.base, place);
                 add_routine(body, alloc, program, found, next, line)
             }
             Err(halt) => body.fail(line, halt),
         },
-        _ => body.go(Now::Came(Way::Cells)),
+        _ => body.no_row(),
     }
 }
 
@@ -150,7 +192,7 @@ pub fn add_actual(
         + tasks_weight body.old) }
     ensures home { body.new.home ≡ body.old.home }
 {
-    match passed(test(program, program.type_row(of), value)) {
+    match passed_test(test(program, program.type_row(of), value)) {
         Ok(tested) => add_cell(body, alloc, program, tested, next, line),
         Err(halt) => body.fail(line, halt),
     }

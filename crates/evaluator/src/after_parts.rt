@@ -107,7 +107,8 @@ fn choose_case(body: &mut Body, program: &Program, choices: u32, line: u32, valu
     match case_of(program, choices, value) {
         CaseOutcome::Statement(row) => body.go(Now::Begin(Part::Exec { row, line })),
         CaseOutcome::NoCase => body.fail(line, Halt::Fault(Kind::NoCase)),
-        CaseOutcome::NoNumber => body.no_row(),
+        CaseOutcome::NoNumber => body.fail(line, Halt::Fault(Kind::Undefined)),
+        CaseOutcome::Broken => body.no_row(),
     }
 }
 

@@ -21,7 +21,7 @@ use crate::records::Records;
 use crate::tasks::{
     ChoiceTask, Home, Located, Next, Now, OperandTask, Part, Pause, Task, TransferTask, Way,
 };
-use cell_value::{Cells, Kind, Value, WayOut};
+use cell_value::{Cells, Value, WayOut};
 use eval_ops::Halt;
 use std::alloc::Global;
 use std::mem::size_of;
@@ -135,14 +135,15 @@ impl Body {
         Err(halt)
     }
 
-    /// Stops for good, since the tables name a row that they do not have.
+    /// Stops for good, since the tables are not whole. That never comes of a program; it counts as out of memory.
     #[inline(always)]
     pub fn no_row(&mut self) -> Turned
         ensures turns { (p : ProgramRows) (m : Moment) → Turns p (configuration no_row m) result self.new m }
+        ensures fails { result ≡ Err Halt.Memory }
         ensures home { self.new.home ≡ self.old.home }
         ensures falls { Falls result (body_weight self.new) 0 }
     {
-        self.fail(0, Halt::Fault(Kind::Undefined))
+        self.fail(0, Halt::Memory)
     }
 
     /// An action on a line gave the value of an expression, or it was not done.

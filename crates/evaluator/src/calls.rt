@@ -4,9 +4,11 @@ ghost use Rattle.std.specs.Prelude.{◌≡◌, ◌+◌, ◌∷◌, [], ℕ, None
 ghost use Rattle.cell_value.specs.declared.values.Value.{Value as CellValue};
 ghost use Rattle.core_program.specs.declared.program.Routine.{Routine as RoutineRow};
 ghost use Rattle.core_program.specs.ProgramRows.{ProgramRows, routine_at};
-ghost use Rattle.eval_ops.specs.Machines.{IsReady, Moment, moment_of};
+ghost use Rattle.eval_ops.specs.Machines.{DoesAll, IsReady, Moment, moment_of};
+ghost use Rattle.core_program.specs.Actions.{Action, performs};
 ghost use Rattle.core_program.specs.Acts.{limit_passed};
-ghost use Rattle.core_program.specs.Tree.{Enter, bind};
+ghost use Rattle.core_program.specs.Expressions.{enter as entered};
+ghost use Rattle.core_program.specs.Tree.{Enter, bind, doing};
 ghost use Rattle.evaluator.specs.Rest.{left_now, below_top, from_under, lists_of, resume, after_call, tasks_of};
 ghost use Rattle.evaluator.specs.Rest.{top_list};
 ghost use Rattle.evaluator.specs.Rest.{values_of};
@@ -19,6 +21,7 @@ use crate::body::{Body, Turned};
 use crate::tasks::{Next, Now, Part, Pause, Task, Way};
 use cell_value::{Cells, Value};
 use core_program::Program;
+use core_program::rows::{NameRow, Row};
 use eval_ops::{Halt, Machine, frame_out, limit_passed, routine_out};
 use std::alloc::Global;
 
@@ -85,21 +88,50 @@ pub fn call_formal(
     program: &Program,
     machine: &mut Machine,
     procedure: bool,
-    place: u32,
+    formal: u32,
     levels: u32,
     line: u32,
 ) -> Turned
     requires ready { IsReady machine.old }
     ensures turns { Turns program.now (configuration (from_under program.now body.old (Now.Came Way.Cells)
-        (Task.CallFormal procedure place levels line))
+        (Task.CallFormal procedure formal levels line))
         (moment_of machine.old)) result body.new (moment_of machine.new) }
     ensures falls { Falls result (measure_of body.new machine.new)
-        (left_with machine.old.steps (come + task_weight (Task.CallFormal procedure place levels line)
+        (left_with machine.old.steps (come + task_weight (Task.CallFormal procedure formal levels line)
         + tasks_weight body.old)) }
     ensures home { body.new.home ≡ body.old.home }
     ensures ready { IsReady machine.new }
 {
-    match routine_out(machine, levels, body.home.base, place) {
+    match program.row(formal) {
+        Row::Name(NameRow::RoutineFormal { place, heading, .. }) => {
+            let found = routine_out(program, machine, heading, levels, body.home.base, place);
+            enter_found(body, alloc, program, machine, procedure, found, line)
+        }
+        _ => body.no_row(),
+    }
+}
+
+/// An action on a line gave the routine that a routine parameter stands for and the frame in which it was declared, or
+/// it was not done: the routine is to be entered, once its actual parameters are known.
+fn enter_found(
+    body: &mut Body,
+    alloc: Global,
+    program: &Program,
+    machine: &Machine,
+    procedure: bool,
+    found: Result<(u32, u32), Halt>,
+    line: u32,
+) -> Turned
+    requires ready { IsReady machine.now }
+    ensures turns { (a : Action (ℕ × ℕ)) (m : Moment) → DoesAll (λ x. x) (performs a m.state) found m
+        (moment_of machine.now) → Turns program.now (configuration (bind (doing line a (λ (routine, frame).
+        entered program.now routine frame (top_list (lists_of body.old)) (after_call procedure)))
+        (resume program.now body.old.home (tasks_of body.old) (values_of body.old) (below_top (lists_of body.old)))) m)
+        result body.new (moment_of machine.now) }
+    ensures falls { (left before : ℕ) → Falls result left before }
+    ensures home { body.new.home ≡ body.old.home }
+{
+    match found {
         Ok((routine, frame)) => match program.routine(routine) {
             Some(found) => {
                 enter(

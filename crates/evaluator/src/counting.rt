@@ -13,12 +13,12 @@ ghost use Rattle.evaluator.specs.Weight.{Falls, body_weight, come, measure_of, l
 
 use crate::body::{Body, Turned};
 use crate::tasks::{Next, Now, Part, Task};
-use cell_value::Value;
+use cell_value::{Kind, Value};
 use core_program::Program;
 use core_program::rows::TypeRow;
 use eval_ops::{
     Counting, ForProgress, Halt, Machine, counting_at, has_turn, is_last, last_value, moved,
-    passed, test, turn_after, turn_value, write_cell,
+    passed_test, test, turn_after, turn_value, turns_of, write_cell,
 };
 use std::alloc::Global;
 
@@ -26,8 +26,8 @@ use std::alloc::Global;
 fn bounds_tested(program: &Program, kind: Option<TypeRow>, span: ForProgress) -> Result<Value, Halt>
     ensures { Gives (λ v. v) (statements.bounds_tested program.now kind span.value span.last) result }
 {
-    passed(test(program, kind, Value::Number(span.value)))?;
-    passed(test(program, kind, Value::Number(span.last)))
+    passed_test(test(program, kind, Value::Number(span.value)))?;
+    passed_test(test(program, kind, Value::Number(span.last)))
 }
 
 /// The bounds of a for statement are known: its first turn begins, if it has one.
@@ -54,7 +54,10 @@ pub(crate) fn first_turn(
         Some((counting, span)) => {
             begin_turns(body, alloc, program, machine, turns, line, counting, span)
         }
-        None => body.no_row(),
+        None => match turns_of(program, turns) {
+            Some(_) => body.fail(line, Halt::Fault(Kind::Undefined)),
+            None => body.no_row(),
+        },
     }
 }
 

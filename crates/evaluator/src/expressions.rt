@@ -228,7 +228,7 @@ fn designator(body: &mut Body, alloc: Global, expression: ExpressionRow, line: u
             line,
         ),
         ExpressionRow::ApplyFormal {
-            place,
+            formal,
             levels,
             actuals,
         } => begin_call(
@@ -236,7 +236,7 @@ fn designator(body: &mut Body, alloc: Global, expression: ExpressionRow, line: u
             alloc,
             Task::CallFormal {
                 procedure: false,
-                place,
+                formal,
                 levels,
                 line,
             },

@@ -1,7 +1,8 @@
 //! The statements on variables of the heap (6.6.5.3).
 
 ghost use Rattle.std.specs.Prelude.{◌≡◌, ◌+◌, ℕ};
-ghost use Rattle.core_program.specs.ProgramRows.{size_of};
+ghost use Rattle.core_program.specs.Accesses.{with_size};
+ghost use Rattle.core_program.specs.ProgramRows.{ProgramRows, type_at};
 ghost use Rattle.core_program.specs.Tree.{bind, doing};
 ghost use Rattle.core_program.specs.Heap as action;
 ghost use Rattle.core_program.specs.Statements.{point};
@@ -16,7 +17,7 @@ use crate::tasks::{Now, Part, Task, Way};
 use cell_value::Value;
 use core_program::Program;
 use core_program::rows::StatementRow;
-use eval_ops::{Machine, dispose, make_variable, write_cell};
+use eval_ops::{Machine, dispose, make_variable, size_of, write_cell};
 use std::alloc::Global;
 
 /// `new` or `dispose` (6.6.5.3), whose line is told.
@@ -58,16 +59,40 @@ fn make(
     line: u32,
 ) -> Turned
     requires ready { IsReady machine.old }
-    ensures turns { Turns program.now (configuration (bind (doing line
-        (action.made_variable (size_of program.now of) of)
-        (point (here body.old.home line) access)) (waiting program.now body.old)) (moment_of machine.old)) result
-        body.new (moment_of machine.new) }
+    ensures turns { Turns program.now (configuration (bind (with_size (type_at program.now of) (λ cells. doing line
+        (action.made_variable cells of) (point (here body.old.home line) access))) (waiting program.now body.old))
+        (moment_of machine.old)) result body.new (moment_of machine.new) }
+    ensures falls { Falls result (measure_of body.new machine.new)
+        (left_with machine.old.steps (come + 1 + tasks_weight body.old)) }
+    ensures home { body.new.home ≡ body.old.home }
+    ensures ready { IsReady machine.new }
+{
+    match size_of(program, of) {
+        Some(cells) => make_of_size(body, alloc, machine, cells, access, of, line),
+        None => body.no_row(),
+    }
+}
+
+/// The same, of a variable of this many cells.
+fn make_of_size(
+    body: &mut Body,
+    alloc: Global,
+    machine: &mut Machine,
+    cells: u32,
+    access: u32,
+    of: u32,
+    line: u32,
+) -> Turned
+    requires ready { IsReady machine.old }
+    ensures turns { (p : ProgramRows) → Turns p (configuration (bind (doing line (action.made_variable cells of)
+        (point (here body.old.home line) access)) (waiting p body.old)) (moment_of machine.old)) result body.new
+        (moment_of machine.new) }
     ensures falls { Falls result (measure_of body.new machine.new)
         (left_with machine.old.steps (come + tasks_weight body.old)) }
     ensures home { body.new.home ≡ body.old.home }
     ensures ready { IsReady machine.new }
 {
-    match make_variable(alloc, machine, program.size_of(of), of) {
+    match make_variable(alloc, machine, cells, of) {
         Ok(pointer) => body.hold(
             pointer,
             Task::Point { line },
@@ -123,6 +148,11 @@ pub fn dispose_of(
     ensures home { body.new.home ≡ body.old.home }
     ensures ready { IsReady machine.new }
 {
-    let done = dispose(alloc, machine, program.size_of(of), value);
-    body.finally(line, done)
+    match size_of(program, of) {
+        Some(cells) => {
+            let done = dispose(alloc, machine, cells, value);
+            body.finally(line, done)
+        }
+        None => body.no_row(),
+    }
 }

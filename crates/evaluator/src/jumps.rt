@@ -65,8 +65,9 @@ fn land(
         Next::Sequence { first, line, .. } => {
             if base == body.home.base {
                 match labelled_in(program, first, label) {
-                    Some(at) => body.go(Now::Begin(Part::Sequence { first, at, line })),
-                    None => body.go(outward),
+                    Some(Some(at)) => body.go(Now::Begin(Part::Sequence { first, at, line })),
+                    Some(None) => body.go(outward),
+                    None => body.no_row(),
                 }
             } else {
                 body.go(outward)

@@ -1,7 +1,7 @@
 //! Read statements: their actuals, one after the other, and the rest of the line (6.9.1, 6.9.2).
 
 ghost use Rattle.std.specs.Prelude.{◌≡◌, ◌+◌, ◌==◌};
-ghost use Rattle.core_program.specs.ProgramRows.{ProgramRows, row_at};
+ghost use Rattle.core_program.specs.ProgramRows.{ProgramRows, row_at, type_at};
 ghost use Rattle.core_program.specs.Input as input;
 ghost use Rattle.core_program.specs.Output as output;
 ghost use Rattle.core_program.specs.Transfers as transfers;
@@ -16,7 +16,7 @@ use crate::body::{Body, Turned};
 use crate::tasks::{Now, Part, Task, TransferTask, Way};
 use crate::writing::{go_after, host_of};
 use cell_value::Value;
-use core_program::rows::{CHAR, Row};
+use core_program::rows::{CHAR, LIST_END, Row};
 use core_program::{Program, Scan, Scanned};
 use eval_ops::{
     Machine, assign_to, element_of, next_char, past_item, scan_on, tag_accessed, type_accessed,
@@ -39,9 +39,12 @@ pub fn receive(
     ensures home { body.new.home ≡ body.old.home }
     ensures ready { IsReady machine.new }
 {
+    if at == LIST_END {
+        return body.go(Now::Came(Way::Nothing));
+    }
     match element_of(program.row(at)) {
         Some((access, next)) => receive_actual(body, program, machine, access, next, line),
-        None => body.go(Now::Came(Way::Nothing)),
+        None => body.no_row(),
     }
 }
 
@@ -67,21 +70,14 @@ fn receive_actual(
     match program.row(access) {
         Row::Access(accessed) => {
             let of = type_accessed(accessed);
-            read_for(body, program, machine, access, of, next, line)
+            read_variable(body, program, machine, access, of, next, line)
         }
         _ => body.no_row(),
     }
 }
 
-/// Whether a type is char, or a subrange of it.
-fn is_char(program: &Program, of: u32) -> bool
-    ensures { result ≡ (output.host_at program.now of == output.char_type) }
-{
-    host_of(program, of) == CHAR
-}
-
 /// A char or an integer is read for a variable of a type.
-fn read_for(
+fn read_variable(
     body: &mut Body,
     program: &Program,
     machine: &mut Machine,
@@ -91,15 +87,48 @@ fn read_for(
     line: u32,
 ) -> Turned
     requires ready { IsReady machine.old }
-    ensures turns { Turns program.now (configuration (bind (transfers.read_for (here body.old.home line)
-        (output.host_at program.now of) (transfers.into program.now (here body.old.home line) access of next))
-        (waiting program.now body.old)) (moment_of machine.old)) result body.new (moment_of machine.new) }
+    ensures turns { Turns program.now (configuration (bind (transfers.with_host of (type_at program.now of) (λ host.
+        transfers.read_for (here body.old.home line) host
+        (transfers.into program.now (here body.old.home line) access of next))) (waiting program.now body.old))
+        (moment_of machine.old)) result body.new (moment_of machine.new) }
     ensures falls { Falls result (measure_of body.new machine.new)
         (left_with machine.old.steps (come + 1 + tasks_weight body.old)) }
     ensures home { body.new.home ≡ body.old.home }
     ensures ready { IsReady machine.new }
 {
-    if is_char(program, of) {
+    match host_of(program, of) {
+        Some(host) => read_for(body, machine, host, access, of, next, line),
+        None => body.no_row(),
+    }
+}
+
+/// Whether the host of a type is char.
+fn is_char(host: u32) -> bool
+    ensures { result ≡ (host == output.char_type) }
+{
+    host == CHAR
+}
+
+/// A char or an integer is read for a variable of a type with this host.
+fn read_for(
+    body: &mut Body,
+    machine: &mut Machine,
+    host: u32,
+    access: u32,
+    of: u32,
+    next: u32,
+    line: u32,
+) -> Turned
+    requires ready { IsReady machine.old }
+    ensures turns { (p : ProgramRows) → Turns p (configuration (bind (transfers.read_for (here body.old.home line)
+        host (transfers.into p (here body.old.home line) access of next)) (waiting p body.old))
+        (moment_of machine.old)) result body.new (moment_of machine.new) }
+    ensures falls { Falls result (measure_of body.new machine.new)
+        (left_with machine.old.steps (come + 1 + tasks_weight body.old)) }
+    ensures home { body.new.home ≡ body.old.home }
+    ensures ready { IsReady machine.new }
+{
+    if is_char(host) {
         read_char(body, machine, access, of, next, line)
     } else {
         body.wait(

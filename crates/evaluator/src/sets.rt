@@ -1,11 +1,10 @@
 //! Sets and strings.
 
-ghost use Rattle.std.specs.Prelude.{◌≡◌, ◌+◌};
-ghost use Rattle.core_program.specs.ProgramRows.{ProgramRows, text_at};
+ghost use Rattle.std.specs.Prelude.{◌≡◌, ◌+◌, slice_get};
+ghost use Rattle.core_program.specs.ProgramRows.{ProgramRows};
 ghost use Rattle.eval_ops.specs.Machines.{Moment};
-ghost use Rattle.core_program.specs.Tree.{Cells as CellsOf, Ret, Scalar, Sub, bind};
+ghost use Rattle.core_program.specs.Tree.{Ret, Scalar, Sub, bind};
 ghost use Rattle.core_program.specs.Tree as parts;
-ghost use Rattle.core_program.specs.Values as values;
 ghost use Rattle.core_program.specs.Expressions as expressions;
 ghost use Rattle.evaluator.specs.Rest.{below_top, from, from_under, here, lists_of, resume, tasks_of, top, values_of};
 ghost use Rattle.evaluator.specs.Rest.{waiting};
@@ -16,18 +15,23 @@ use crate::body::{Body, Turned};
 use crate::tasks::{Now, OperandTask, Part, Task, Way};
 use cell_value::{OpFault, Order, Value};
 use core_program::Program;
-use core_program::rows::{ItemRow, Row};
+use core_program::rows::{ItemRow, LIST_END, Row};
 use eval_ops::{add_members, compare_texts, passed, string_of};
 use std::alloc::Global;
 
 /// A string: the values of its components.
 pub(crate) fn give_string(body: &mut Body, alloc: Global, program: &Program, token: u32) -> Turned
-    ensures turns { (p : ProgramRows) (m : Moment) → Turns p (configuration (bind (Ret (CellsOf (values.string_of
-        (text_at program.now token)))) (waiting p body.old)) m) result body.new m }
+    ensures turns { (p : ProgramRows) (m : Moment) → Turns p (configuration (bind (expressions.string_in
+        (slice_get program.now.texts token)) (waiting p body.old)) m) result body.new m }
     ensures falls { Falls result (body_weight body.new) (come + 1 + tasks_weight body.old) }
     ensures home { body.new.home ≡ body.old.home }
 {
-    let cells = string_of(alloc, program.text(token))?;
+    let text = program.text(token);
+    if text.is_empty() {
+        // A string has one character at least (6.1.7), so that no string stands at the token.
+        return body.no_row();
+    }
+    let cells = string_of(alloc, text)?;
     body.give_cells(cells)
 }
 
@@ -79,9 +83,12 @@ pub fn gather(body: &mut Body, program: &Program, at: u32, line: u32) -> Turned
         (part_weight (Part.Gather at line) + tasks_weight body.old) }
     ensures home { body.new.home ≡ body.old.home }
 {
+    if at == LIST_END {
+        return give_set(body);
+    }
     match program.row(at) {
         Row::Item(item) => gather_item(body, item, line),
-        _ => give_set(body),
+        _ => body.no_row(),
     }
 }
 
@@ -102,7 +109,7 @@ fn gather_item(body: &mut Body, item: ItemRow, line: u32) -> Turned
             Task::Operand(OperandTask::First { last, next, line }),
             Now::Begin(Part::Eval { row: first, line }),
         ),
-        _ => give_set(body),
+        _ => body.no_row(),
     }
 }
 

@@ -20,7 +20,7 @@ use crate::tasks::{ChoiceTask, Next, Now, Part, Pause, Task, Way};
 use crate::transfers::transfer_statement;
 use crate::with_records::begin_record;
 use core_program::Program;
-use core_program::rows::{Row, StatementRow};
+use core_program::rows::{LIST_END, Row, StatementRow};
 use eval_ops::{Machine, element_of, frame_out, line_of, spend, turns_of};
 use std::alloc::Global;
 
@@ -251,7 +251,7 @@ fn procedure_statement(body: &mut Body, alloc: Global, statement: StatementRow) 
         ),
         StatementRow::CallFormal {
             line,
-            place,
+            formal,
             levels,
             actuals,
         } => begin_call(
@@ -259,7 +259,7 @@ fn procedure_statement(body: &mut Body, alloc: Global, statement: StatementRow) 
             alloc,
             Task::CallFormal {
                 procedure: true,
-                place,
+                formal,
                 levels,
                 line,
             },
@@ -375,6 +375,9 @@ pub fn sequence(body: &mut Body, program: &Program, first: u32, at: u32, line: u
         (now_weight (Now.Begin (Part.Sequence first at line)) + tasks_weight body.old) }
     ensures home { body.new.home ≡ body.old.home }
 {
+    if at == LIST_END {
+        return body.go(Now::Came(Way::Nothing));
+    }
     match element_of(program.row(at)) {
         Some((item, next)) => body.wait(
             Task::Next(Next::Sequence {
@@ -384,7 +387,7 @@ pub fn sequence(body: &mut Body, program: &Program, first: u32, at: u32, line: u
             }),
             Now::Begin(Part::Exec { row: item, line }),
         ),
-        None => body.go(Now::Came(Way::Nothing)),
+        None => body.no_row(),
     }
 }
 

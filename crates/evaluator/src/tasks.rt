@@ -216,9 +216,9 @@ pub enum TransferTask {
         next: u32,
         line: u32,
     },
-    /// The width of the last value that waits.
+    /// The width of the last value that waits, by the host of its type.
     Width {
-        of: u32,
+        host: u32,
         next: u32,
         line: u32,
     },
@@ -247,10 +247,11 @@ pub enum Task {
         levels: u32,
         line: u32,
     },
-    /// The call of a routine parameter, once its actual parameters are known: of a procedure, or else of a function.
+    /// The call of a routine parameter, by the row of its name, once its actual parameters are known: of a
+    /// procedure, or else of a function.
     CallFormal {
         procedure: bool,
-        place: u32,
+        formal: u32,
         levels: u32,
         line: u32,
     },

@@ -362,11 +362,11 @@ fn after_cells(
         ),
         Task::CallFormal {
             procedure,
-            place,
+            formal,
             levels,
             line,
         } => call_formal(
-            body, alloc, program, machine, procedure, place, levels, line,
+            body, alloc, program, machine, procedure, formal, levels, line,
         ),
         Task::TextRight { order, right, line } => begin_right_text(body, order, right, line),
         Task::Texts { order, line } => end_texts(body, alloc, order, line),

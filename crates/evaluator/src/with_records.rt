@@ -11,6 +11,7 @@ ghost use Rattle.evaluator.specs.Weight.{Falls, body_weight, come, part_weight, 
 use crate::body::{Body, Turned};
 use crate::tasks::{Now, Part, Task, Way};
 use core_program::Program;
+use core_program::rows::LIST_END;
 use eval_ops::element_of;
 
 /// The records of a with statement from an item on begin, or its body where there is no further one (6.8.3.10).
@@ -21,6 +22,9 @@ pub fn begin_record(body: &mut Body, program: &Program, at: u32, inner: u32, lin
         (part_weight (Part.Establish at inner line) + tasks_weight body.old) }
     ensures home { body.new.home ≡ body.old.home }
 {
+    if at == LIST_END {
+        return body.go(Now::Begin(Part::Exec { row: inner, line }));
+    }
     match element_of(program.row(at)) {
         Some((access, next)) => body.wait(
             Task::Record {
@@ -34,7 +38,7 @@ pub fn begin_record(body: &mut Body, program: &Program, at: u32, inner: u32, lin
                 line,
             }),
         ),
-        None => body.go(Now::Begin(Part::Exec { row: inner, line })),
+        None => body.no_row(),
     }
 }
 

@@ -1,7 +1,7 @@
 //! Write statements: their actuals, one after the other (6.9.3).
 
 ghost use Rattle.std.specs.Prelude.{◌≡◌, ◌+◌};
-ghost use Rattle.core_program.specs.ProgramRows.{ProgramRows};
+ghost use Rattle.core_program.specs.ProgramRows.{ProgramRows, type_at};
 ghost use Rattle.core_program.specs.Actions.{Action, performs};
 ghost use Rattle.core_program.specs.Output as output;
 ghost use Rattle.core_program.specs.Transfers as transfers;
@@ -9,6 +9,7 @@ ghost use Rattle.core_program.specs.Tree.{ActTree, bind, doing};
 ghost use Rattle.eval_ops.specs.Machines.{DoesAll, IsReady, Moment, moment_of};
 ghost use Rattle.evaluator.specs.Rest.{below_top, from, from_under, here, lists_of, resume, tasks_of, top_list};
 ghost use Rattle.evaluator.specs.Rest.{values_of, waiting};
+ghost use Rattle.evaluator.specs.TransferFamilies.{host_in};
 ghost use Rattle.evaluator.specs.Turns.{Turns, configuration};
 ghost use Rattle.evaluator.specs.Weight.{Falls, body_weight, come, measure_of, left_with, now_weight, part_weight};
 ghost use Rattle.evaluator.specs.Weight.{task_weight, tasks_weight};
@@ -18,17 +19,18 @@ use crate::reading::locate_read;
 use crate::tasks::{Now, Part, Task, TransferTask, Way};
 use cell_value::Value;
 use core_program::Program;
-use core_program::rows::{ItemRow, Row, TypeRow};
+use core_program::rows::{ItemRow, LIST_END, Row, TypeRow};
 use eval_ops::{Halt, Machine, write_scalar, write_string};
 use std::alloc::Global;
 
-/// A type itself, or that of a subrange's constants, by the number of its row.
-pub(crate) fn host_of(program: &Program, of: u32) -> u32
-    ensures { result ≡ output.host_at program.now of }
+/// The host of an ordinal type, by the number of its row: the type itself, or that of a subrange's constants.
+pub(crate) fn host_of(program: &Program, of: u32) -> Option<u32>
+    ensures { result ≡ host_in of (type_at program.now of) }
 {
     match program.type_row(of) {
-        Some(TypeRow::Subrange { host, .. }) => host,
-        _ => of,
+        Some(TypeRow::Ordinal { .. }) => Some(of),
+        Some(TypeRow::Subrange { host, .. }) => Some(host),
+        _ => None,
     }
 }
 
@@ -56,9 +58,12 @@ pub fn print(body: &mut Body, program: &Program, at: u32, line: u32) -> Turned
         (part_weight (Part.Print at line) + tasks_weight body.old) }
     ensures home { body.new.home ≡ body.old.home }
 {
+    if at == LIST_END {
+        return body.go(Now::Came(Way::Nothing));
+    }
     match program.row(at) {
         Row::Item(item) => print_item(body, item, line),
-        _ => body.go(Now::Came(Way::Nothing)),
+        _ => body.no_row(),
     }
 }
 
@@ -87,7 +92,7 @@ fn print_item(body: &mut Body, item: ItemRow, line: u32) -> Turned
             };
             evaluate(body, value, wide, line)
         }
-        _ => body.go(Now::Came(Way::Nothing)),
+        _ => body.no_row(),
     }
 }
 
@@ -107,8 +112,31 @@ fn evaluate(body: &mut Body, expression: u32, transfer: TransferTask, line: u32)
     body.wait(Task::Transfer(transfer), Now::Begin(value))
 }
 
-/// A value is written, in a width if one is given, and then comes the next actual.
+/// A value of a type with this host is written, in a width if one is given, and then comes the next actual.
 fn write(
+    body: &mut Body,
+    machine: &mut Machine,
+    host: u32,
+    next: u32,
+    line: u32,
+    value: Value,
+    width: Option<Value>,
+) -> Turned
+    requires ready { IsReady machine.old }
+    ensures turns { (p : ProgramRows) → Turns p (configuration (bind (transfers.print (here body.old.home line) next
+        (output.scalar_text host value) width) (waiting p body.old)) (moment_of machine.old)) result body.new
+        (moment_of machine.new) }
+    ensures falls { Falls result (measure_of body.new machine.new)
+        (left_with machine.old.steps (come + 2 + tasks_weight body.old)) }
+    ensures home { body.new.home ≡ body.old.home }
+    ensures ready { IsReady machine.new }
+{
+    let done = write_scalar(machine, host, value, width);
+    go_after(body, line, done, Now::Begin(Part::Print { at: next, line }))
+}
+
+/// A value of a type is written without a width, and then comes the next actual.
+fn write_plain(
     body: &mut Body,
     program: &Program,
     machine: &mut Machine,
@@ -116,44 +144,69 @@ fn write(
     next: u32,
     line: u32,
     value: Value,
-    width: Option<Value>,
 ) -> Turned
     requires ready { IsReady machine.old }
-    ensures turns { Turns program.now (configuration (bind (transfers.print (here body.old.home line) next
-        (output.scalar_text (output.host_at program.now of) value) width) (waiting program.now body.old))
+    ensures turns { Turns program.now
+        (configuration (from_under program.now body.old (Now.Came (Way.Scalar value))
+        (Task.Transfer (TransferTask.Written of next line)))
         (moment_of machine.old)) result body.new (moment_of machine.new) }
     ensures falls { Falls result (measure_of body.new machine.new)
         (left_with machine.old.steps (come + 2 + tasks_weight body.old)) }
     ensures home { body.new.home ≡ body.old.home }
     ensures ready { IsReady machine.new }
 {
-    let host = host_of(program, of);
-    let done = write_scalar(machine, host, value, width);
-    go_after(body, line, done, Now::Begin(Part::Print { at: next, line }))
+    match host_of(program, of) {
+        Some(host) => write(body, machine, host, next, line, value, None),
+        None => body.no_row(),
+    }
+}
+
+/// A value of a type waits for the width in which it is written.
+fn begin_width(
+    body: &mut Body,
+    program: &Program,
+    of: u32,
+    width: u32,
+    next: u32,
+    line: u32,
+    value: Value,
+) -> Turned
+    ensures turns { (m : Moment) → Turns program.now
+        (configuration (from_under program.now body.old (Now.Came (Way.Scalar value))
+        (Task.Transfer (TransferTask.Wide of width next line))) m) result body.new m }
+    ensures falls { Falls result (body_weight body.new) (come + 2 + tasks_weight body.old) }
+    ensures home { body.new.home ≡ body.old.home }
+{
+    match host_of(program, of) {
+        Some(host) => body.hold(
+            value,
+            Task::Transfer(TransferTask::Width { host, next, line }),
+            Now::Begin(Part::Eval { row: width, line }),
+        ),
+        None => body.no_row(),
+    }
 }
 
 /// The value that waited is written in a width, and then comes the next actual.
 fn write_waiting(
     body: &mut Body,
-    program: &Program,
     machine: &mut Machine,
-    of: u32,
+    host: u32,
     next: u32,
     line: u32,
     width: Value,
 ) -> Turned
     requires ready { IsReady machine.old }
-    ensures turns { Turns program.now
-        (configuration (from_under program.now body.old (Now.Came (Way.Scalar width))
-        (Task.Transfer (TransferTask.Width of next line)))
-        (moment_of machine.old)) result body.new (moment_of machine.new) }
+    ensures turns { (p : ProgramRows) → Turns p (configuration (from_under p body.old (Now.Came (Way.Scalar width))
+        (Task.Transfer (TransferTask.Width host next line))) (moment_of machine.old)) result body.new
+        (moment_of machine.new) }
     ensures falls { Falls result (measure_of body.new machine.new)
         (left_with machine.old.steps (come + 2 + tasks_weight body.old)) }
     ensures home { body.new.home ≡ body.old.home }
     ensures ready { IsReady machine.new }
 {
     let value = body.take_value();
-    write(body, program, machine, of, next, line, value, Some(width))
+    write(body, machine, host, next, line, value, Some(width))
 }
 
 /// The string that waited is written, in a width if one is given, and then comes the next actual.
@@ -208,20 +261,16 @@ pub fn continue_transfer(
         } => locate_read(body, access, of, next, line, value),
         TransferTask::Into { .. } => body.no_row(),
         TransferTask::Written { of, next, line } => {
-            write(body, program, machine, of, next, line, value, None)
+            write_plain(body, program, machine, of, next, line, value)
         }
         TransferTask::Wide {
             of,
             width,
             next,
             line,
-        } => body.hold(
-            value,
-            Task::Transfer(TransferTask::Width { of, next, line }),
-            Now::Begin(Part::Eval { row: width, line }),
-        ),
-        TransferTask::Width { of, next, line } => {
-            write_waiting(body, program, machine, of, next, line, value)
+        } => begin_width(body, program, of, width, next, line, value),
+        TransferTask::Width { host, next, line } => {
+            write_waiting(body, machine, host, next, line, value)
         }
         TransferTask::TextWidth { next, line } => {
             write_text(body, alloc, machine, next, line, Some(value))

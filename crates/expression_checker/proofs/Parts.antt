@@ -16,7 +16,6 @@ use Rattle.expression_checker.specs.declared.actuals.Passing.{Passing}
 use Rattle.expression_checker.specs.declared.members.MemberStart.{MemberStart}
 use Rattle.expression_checker.specs.declared.members.Gathered.{Gathered}
 use Rattle.expression_checker.specs.declared.typed.Typed.{Typed}
-use Rattle.expression_checker.specs.Actuals.{actuals_end}
 use Rattle.expression_checker.specs.Callees.{applied, called_function}
 use Rattle.expression_checker.specs.Expressions.{actual, call, expression, index_at, member, more_arguments, more_indexes, more_members}
 use Rattle.expression_checker.specs.Expressions.{next_argument, next_index, next_member, passing_to, range, range_held, some_members}
@@ -34,8 +33,7 @@ arguments_each frame _ (more_of-NextExpression n rest) p =
 pub call_out : (frame name count : ℕ) (a : Arguments) → call frame name count a ≡ (called_function frame name count
     >>= λ c. actual frame (passing_to c name) (out-Arguments a).«open» (out-Arguments a).first
     >>= λ one. each (next_argument frame) one (out-Arguments a).others.items
-    >>= λ end. actuals_end end (out-Arguments a).close
-    >>= λ last. applied name c.callee last (out-Arguments a).«open»)
+    >>= λ all. applied name c.callee all.value (out-Arguments a).«open»)
 unfolding actual
 call_out frame name count a =
     let o = out-Arguments a in
@@ -44,8 +42,7 @@ call_out frame name count a =
     >>= λ c. actual frame (passing_to c name) o.«open» o.first
     >>= λ one. (arguments_each frame _ (hidden-the_row-NextExpression-1 o.others) one
     ∙ ap (each (next_argument frame) one) (items_hidden-the_row-NextExpression-1 o.others)) i
-    >>= λ end. actuals_end end o.close
-    >>= λ last. applied name c.callee last o.«open»)
+    >>= λ all. applied name c.callee all.value o.«open»)
 
 pub next_argument_out : (frame : ℕ) (p : Passing) (n : NextExpression)
     → next_argument frame p n ≡ actual frame p (out-NextExpression n).comma (out-NextExpression n).expression

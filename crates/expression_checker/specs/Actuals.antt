@@ -18,7 +18,7 @@ use Rattle.core_program.specs.declared.rows.TextFile.{TextFile}
 use Rattle.core_program.specs.declared.rows.TextFile.TheVariants.{Input, Output}
 use Rattle.check_steps.specs.declared.regions.Found.{Found}
 use Rattle.check_steps.specs.Known.{Known, find, name_at, row_at}
-use Rattle.check_steps.specs.Items.{add_item, link}
+use Rattle.check_steps.specs.Items.{add_item}
 use Rattle.check_steps.specs.Names.{usable, use_at}
 use Rattle.check_steps.specs.Steps.{Step, give, ◌>>=◌, look, late}
 use Rattle.kind_checker.specs.declared.headings.FormalSection.{FormalSection}
@@ -184,12 +184,12 @@ lone_of k frame f name = lone.None
 abbrev pub is_congruous : Known → ℕ → Callee → Bool
 is_congruous k heading callee.Unknown = true
 is_congruous k heading (callee.Routine number levels other) = congruous k heading other
-is_congruous k heading (callee.Formal place levels other) = congruous k heading other
+is_congruous k heading (callee.Formal name levels other) = congruous k heading other
 is_congruous k heading c = false
 
 abbrev pub routine_item : Callee → Option ItemRow
 routine_item (callee.Routine number levels heading) = Some (item.Routine number levels 0)
-routine_item (callee.Formal place levels heading) = Some (item.RoutineFormal place levels 0)
+routine_item (callee.Formal name levels heading) = Some (item.RoutineFormal name levels 0)
 routine_item c = None
 
 -- rule 29: a routine actual is not the name of a routine that is not required, of that kind, with congruous formals and
@@ -244,9 +244,3 @@ actual_by frame p slot name first walk = do
   l ← look (λ k. lone_of k frame f name)
   a ← argued_as frame f l first walk
   passed p slot a
-
--- A list of actuals ends at a number.
-unfoldable pub actuals_end : Passing → ℕ → Step Typed
-actuals_end p end = do
-  _ ← link p.last end
-  give p.value

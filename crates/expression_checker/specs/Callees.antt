@@ -41,18 +41,18 @@ abbrev pub declared_routine : Known → ℕ → ℕ → Option Routine → Calle
 declared_routine k frame number None = callee.Unknown
 declared_routine k frame number (Some r) = callee.Routine number (levels_to k frame (r.level - 1)) r.heading
 
-abbrev pub callee_in : Known → ℕ → Row → Callee
-callee_in k frame (row.Name (named.Routine assigned number region)) =
+abbrev pub callee_in : Known → (frame token : ℕ) → Row → Callee
+callee_in k frame token (row.Name (named.Routine assigned number region)) =
     declared_routine k frame number (routine_at k.program number)
-callee_in k frame (row.Name (named.RoutineFormal place level heading)) =
-    callee.Formal place (levels_to k frame level) heading
-callee_in k frame (row.Name (named.Required routine)) = callee.Required routine
-callee_in k frame r = callee.Wrong
+callee_in k frame token (row.Name (named.RoutineFormal place level heading)) =
+    callee.Formal token (levels_to k frame level) heading
+callee_in k frame token (row.Name (named.Required routine)) = callee.Required routine
+callee_in k frame token r = callee.Wrong
 
 -- what a name stands for as a routine, seen from a frame
 abbrev pub callee_of : Known → ℕ → Option Found → Callee
 callee_of k frame None = callee.Unknown
-callee_of k frame (Some f) = callee_in k frame (row_at k f.definition.token)
+callee_of k frame (Some f) = callee_in k frame f.definition.token (row_at k f.definition.token)
 
 abbrev pub ordinal_function : Required → Option OrdinalFunction
 ordinal_function required.Abs = Some function.Abs
@@ -74,7 +74,7 @@ abbrev pub is_function : Known → Callee → Bool
 is_function k callee.Unknown = true
 is_function k callee.Wrong = false
 is_function k (callee.Routine number levels heading) = is_some (signature_at k heading).result
-is_function k (callee.Formal place levels heading) = is_some (signature_at k heading).result
+is_function k (callee.Formal formal levels heading) = is_some (signature_at k heading).result
 is_function k (callee.Required r) = is_required_function r
 
 -- ---- how many actuals there are
@@ -103,7 +103,7 @@ required_takes r n = nat_eq n 1
 
 abbrev pub takes_count : Known → Callee → ℕ → Bool
 takes_count k (callee.Routine number levels heading) n = has_formals k (signature_at k heading).sections n
-takes_count k (callee.Formal place levels heading) n = has_formals k (signature_at k heading).sections n
+takes_count k (callee.Formal formal levels heading) n = has_formals k (signature_at k heading).sections n
 takes_count k (callee.Required r) n = required_takes r n
 takes_count k c n = true
 
@@ -118,7 +118,7 @@ required_formals r = operand_of (ordinal_function r)
 
 abbrev pub formals_of : Known → Callee → ExpectedFormals
 formals_of k (callee.Routine number levels heading) = formals.Declared (signature_at k heading).sections 0
-formals_of k (callee.Formal place levels heading) = formals.Declared (signature_at k heading).sections 0
+formals_of k (callee.Formal formal levels heading) = formals.Declared (signature_at k heading).sections 0
 formals_of k (callee.Required r) = required_formals r
 formals_of k c = formals.Unknown
 
@@ -172,7 +172,7 @@ required_type r s = expression.Unknown
 -- A function's type is the declared one, whatever its actuals break.
 abbrev pub designator_type : Known → Callee → Typed → ExpressionType
 designator_type k (callee.Routine number levels heading) v = declared_type (signature_at k heading).result
-designator_type k (callee.Formal place levels heading) v = declared_type (signature_at k heading).result
+designator_type k (callee.Formal formal levels heading) v = declared_type (signature_at k heading).result
 designator_type k (callee.Required r) v = required_type r (shape_of k v.of)
 designator_type k c v = expression.Unknown
 
@@ -197,8 +197,8 @@ required_row k r v = required_function_row k (ordinal_function r) v
 -- the row of a designator whose last actual this is and whose list of actuals has a number
 abbrev pub designator_row : Known → Callee → Typed → ℕ → Row
 designator_row k (callee.Routine number levels heading) v actuals = row.Expression (written.Apply number levels actuals)
-designator_row k (callee.Formal place levels heading) v actuals =
-    row.Expression (written.ApplyFormal place levels actuals)
+designator_row k (callee.Formal formal levels heading) v actuals =
+    row.Expression (written.ApplyFormal formal levels actuals)
 designator_row k (callee.Required r) v actuals = required_row k r v
 designator_row k c v actuals = row.Nothing
 

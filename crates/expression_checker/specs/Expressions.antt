@@ -35,7 +35,7 @@ use Rattle.expression_checker.specs.declared.members.Gathered.{Gathered}
 use Rattle.expression_checker.specs.declared.names.Meaning.{Meaning}
 use Rattle.expression_checker.specs.declared.names.Meaning.TheVariants as meaning
 use Rattle.expression_checker.specs.declared.typed.Typed.{Typed}
-use Rattle.expression_checker.specs.Actuals.{actual_by, actuals_end, is_name, name_alone}
+use Rattle.expression_checker.specs.Actuals.{actual_by, is_name, name_alone}
 use Rattle.expression_checker.specs.Callees.{applied, called_function}
 use Rattle.expression_checker.specs.Members.{member_range, nothing_gathered, one_member, set_constructor}
 use Rattle.expression_checker.specs.Names.{accessed_as, meaning_of, variable}
@@ -50,7 +50,7 @@ use Rattle.expression_checker.specs.Typed.{bracketed, constant_at, literal, nil_
 unfoldable pub designator : ℕ → ℕ → Step Typed
 designator frame name = do
   c ← called_function frame name 0
-  applied name c.callee (unknown_at name) name
+  applied name c.callee (unknown_at name) 0
 
 abbrev pub named_as : ℕ → ℕ → Meaning → Step Typed
 named_as frame name (meaning.Constant v) = constant_at name v
@@ -145,9 +145,8 @@ abbrev mutual
     c ← called_function frame name count
     one ← actual_by frame (passing_to c name) open' (name_alone first) (first_of_expression first)
         (expression frame first)
-    end ← more_arguments frame one others
-    last ← actuals_end end close
-    applied name c.callee last open'
+    all ← more_arguments frame one others
+    applied name c.callee all.value open'
 
   pub more_arguments : ℕ → Passing → {m : _} → Row_of-NextExpression m → Step Passing
   more_arguments frame p end_of-NextExpression = give p
@@ -189,7 +188,7 @@ abbrev mutual
     indexed p comma (first_of_expression e) i
 
   pub constructor : ℕ → Members → Step Typed
-  constructor frame (Empty open' close) = set_constructor (nothing_gathered close) open' close
+  constructor frame (Empty open' close) = set_constructor (nothing_gathered close) 0 close
   constructor frame (SomeOf m) = some_members frame m
 
   pub some_members : ℕ → SomeMembers → Step Typed

@@ -14,7 +14,7 @@ use Rattle.kind_checker.specs.Shapes.{shape_of}
 use Rattle.expression_checker.specs.declared.members.MemberStart.{MemberStart}
 use Rattle.expression_checker.specs.declared.members.Gathered.{Gathered}
 use Rattle.expression_checker.specs.declared.typed.Typed.{Typed}
-use Rattle.check_steps.specs.Items.{add_item, link}
+use Rattle.check_steps.specs.Items.{add_item}
 use Rattle.expression_checker.specs.Typed.{typed_value}
 
 -- ordinal, and of the host of those before
@@ -32,7 +32,7 @@ abbrev pub host_with : Option ℕ → Shape → Option ℕ
 host_with None (shape.Ordinal h) = Some h
 host_with host s = host
 
--- before the first member
+-- before the first member, with a number at which no item stands
 abbrev pub nothing_gathered : ℕ → Gathered
 nothing_gathered last = record { last = last; host = None; known = true }
 
@@ -61,9 +61,8 @@ member_range g b v = do
 abbrev pub gathered_type : Gathered → ExpressionType
 gathered_type g = if g.known then expression.Set g.host Either else expression.Unknown
 
--- a set constructor, at its closing bracket; its members are the list at the opening one
+-- a set constructor, at its closing bracket, with the list of its members
 unfoldable pub set_constructor : Gathered → ℕ → ℕ → Step Typed
-set_constructor g open' close = do
-  _ ← link g.last close
-  _ ← put close (row.Expression (written.Set open'))
+set_constructor g members close = do
+  _ ← put close (row.Expression (written.Set members))
   give (typed_value close (gathered_type g))

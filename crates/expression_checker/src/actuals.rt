@@ -2,7 +2,7 @@
 
 ghost use Rattle.std.specs.Prelude.{◌≡◌};
 ghost use Rattle.check_steps.specs.Steps.{Does};
-ghost use Rattle.expression_checker.specs.Actuals.{access_name, after_section, argued, actuals_end, factor_name};
+ghost use Rattle.expression_checker.specs.Actuals.{access_name, after_section, argued, factor_name};
 ghost use Rattle.expression_checker.specs.Actuals.{file_argued, file_in, file_of, formal_at, formal_in, formals_after};
 ghost use Rattle.expression_checker.specs.Actuals.{is_actual, is_argument, is_congruous, is_free, is_input, is_of_type};
 ghost use Rattle.expression_checker.specs.Actuals.{is_variable_actual, item_if_any, item_of, lone_file};
@@ -13,9 +13,11 @@ ghost use Rattle.expression_checker.specs.Actuals.{threat_by};
 use crate::callees::{Callee, ExpectedFormals, callee_of};
 use crate::threats::check_threat_alone;
 use crate::typed::{Location, Typed, unknown_at};
-use check_steps::items::{put_item, put_link};
+use check_steps::items::put_item;
 use check_steps::{Found, Tables, Work};
-use core_program::rows::{INTEGER, ItemRow, Mode, NameRow, OrdinalFunction, Row, TextFile};
+use core_program::rows::{
+    INTEGER, ItemRow, LIST_END, Mode, NameRow, OrdinalFunction, Row, TextFile,
+};
 use kind_checker::headings::{FormalSection, congruous, section_at};
 use kind_checker::operators::{is_operand, is_ordinal, is_unknown_shape};
 use kind_checker::shapes::{is_assignable, is_same_type, shape_of};
@@ -199,11 +201,11 @@ fn item_of(formal: ExpectedFormal, value: Typed) -> Option<ItemRow>
         ExpectedFormal::Value(of) => Some(ItemRow::Value {
             value: value.row,
             of,
-            next: 0,
+            next: LIST_END,
         }),
         ExpectedFormal::Variable(_) => Some(ItemRow::Place {
             access: value.row,
-            next: 0,
+            next: LIST_END,
         }),
         _ => None,
     }
@@ -356,12 +358,12 @@ fn routine_item(callee: Callee) -> Option<ItemRow>
         } => Some(ItemRow::Routine {
             routine,
             levels,
-            next: 0,
+            next: LIST_END,
         }),
-        Callee::Formal { place, levels, .. } => Some(ItemRow::RoutineFormal {
-            place,
+        Callee::Formal { formal, levels, .. } => Some(ItemRow::RoutineFormal {
+            formal,
             levels,
-            next: 0,
+            next: LIST_END,
         }),
         _ => None,
     }
@@ -446,13 +448,4 @@ pub(crate) fn check_passed(
         formals,
         value: argument.value,
     }
-}
-
-/// A list of actual parameters ends at a number: what is given is the last one.
-#[tactic(auto, using(check_steps::proofs::Runs::steps), unfolding(crate::specs::Actuals::actuals_end))]
-pub fn check_closed(work: &mut Work, passing: Passing, end: u32) -> Typed
-    ensures { Does (actuals_end passing end) result work.old work.new }
-{
-    put_link(work, passing.last, end);
-    passing.value
 }

@@ -35,9 +35,10 @@ pub enum Callee {
         levels: u32,
         heading: u32,
     },
-    /// A routine parameter: its place, how many links lead to its frame, and the number of its heading.
+    /// A routine parameter: the number of its name's row, how many links lead to its frame, and the number of its
+    /// heading.
     Formal {
-        place: u32,
+        formal: u32,
         levels: u32,
         heading: u32,
     },
@@ -77,21 +78,15 @@ fn declared_routine(tables: &Tables, frame: u32, number: u32, routine: Option<Ro
     }
 }
 
-fn callee_in(tables: &Tables, frame: u32, row: Row) -> Callee
-    ensures { result ≡ callee_in tables.now frame row }
+fn callee_in(tables: &Tables, frame: u32, token: u32, row: Row) -> Callee
+    ensures { result ≡ callee_in tables.now frame token row }
 {
     match row {
         Row::Name(NameRow::Routine { number, .. }) => {
             declared_routine(tables, frame, number, tables.program().routine(number))
         }
-        Row::Name(
-            NameRow::RoutineFormal {
-                place,
-                level,
-                heading,
-            },
-        ) => Callee::Formal {
-            place,
+        Row::Name(NameRow::RoutineFormal { level, heading, .. }) => Callee::Formal {
+            formal: token,
             levels: levels_to(tables, frame, level),
             heading,
         },
@@ -106,7 +101,10 @@ pub fn callee_of(tables: &Tables, frame: u32, found: Option<Found>) -> Callee
 {
     match found {
         None => Callee::Unknown,
-        Some(found) => callee_in(tables, frame, tables.row(found.definition.token)),
+        Some(found) => {
+            let token = found.definition.token;
+            callee_in(tables, frame, token, tables.row(token))
+        }
     }
 }
 
@@ -382,8 +380,8 @@ fn designator_row(tables: &Tables, callee: Callee, last: Typed, actuals: u32) ->
             levels,
             actuals,
         }),
-        Callee::Formal { place, levels, .. } => Row::Expression(ExpressionRow::ApplyFormal {
-            place,
+        Callee::Formal { formal, levels, .. } => Row::Expression(ExpressionRow::ApplyFormal {
+            formal,
             levels,
             actuals,
         }),

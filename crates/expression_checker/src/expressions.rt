@@ -9,8 +9,8 @@ ghost use Rattle.expression_checker.specs.Expressions.{expression, factor, index
 ghost use Rattle.expression_checker.specs.Expressions.{passing_to, root_name, selector, simple, term};
 
 use crate::actuals::{
-    Argument, ExpectedFormal, Lone, Passing, check_argued, check_closed, check_file, check_passed,
-    check_routine, check_threat_by, formal_at, lone_of, name_alone,
+    Argument, ExpectedFormal, Lone, Passing, check_argued, check_file, check_passed, check_routine,
+    check_threat_by, formal_at, lone_of, name_alone,
 };
 use crate::callees::{Called, check_applied, check_called};
 use crate::members::{
@@ -26,6 +26,7 @@ use crate::typed::{
     Typed, bracketed, check_constant_at, check_nil, check_number, check_text, unknown_at,
 };
 use check_steps::Work;
+use core_program::rows::LIST_END;
 use pas_tree::expressions::{
     Access, Arguments, Expression, Factor, Index, Member, Members, Selector, Simple, Term,
 };
@@ -37,7 +38,7 @@ fn check_designator(work: &mut Work, name: u32, frame: u32) -> Typed
     ensures { Does (designator frame name) result work.old work.new }
 {
     let called = check_called(work, name, frame, 0);
-    check_applied(work, name, called.callee, unknown_at(name), name)
+    check_applied(work, name, called.callee, unknown_at(name), LIST_END)
 }
 
 #[tactic(auto, using(check_steps::proofs::Runs::steps))]
@@ -177,8 +178,7 @@ fn check_call(work: &mut Work, a: &Arguments, name: u32, frame: u32, count: usiz
     'others: for other in &a.others {
         passing = check_actual(work, &other.expression, frame, passing, other.comma);
     }
-    let last = check_closed(work, passing, a.close);
-    check_applied(work, name, called.callee, last, a.open)
+    check_applied(work, name, called.callee, passing.value, a.open)
 }
 
 /// One more actual parameter of a list, at the parenthesis or comma before it.
@@ -196,6 +196,7 @@ pub fn check_actual(
     let name = name_alone(e);
     let formal = formal_at(&work.tables, passing.formals);
     check_threat_by(work, frame, formal, name);
+    work.come_to(frame);
     let lone = lone_of(&work.tables, frame, formal, name);
     let argument = check_argument(work, e, frame, formal, lone);
     check_passed(work, passing, slot, argument)
@@ -277,7 +278,7 @@ fn check_constructor(work: &mut Work, m: &Members, frame: u32) -> Typed
     ensures { Does (constructor frame m.now) result work.old work.new }
 {
     match m {
-        Members::Empty(open, close) => { check_set(work, nothing_gathered(*close), *open, *close) }
+        Members::Empty(_, close) => check_set(work, nothing_gathered(*close), LIST_END, *close),
         Members::Some(members) => {
             let none = nothing_gathered(members.close);
             let mut gathered = check_member(work, &members.first, frame, none, members.open);

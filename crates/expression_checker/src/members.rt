@@ -7,8 +7,8 @@ ghost use Rattle.expression_checker.specs.Members.{member_range, nothing_gathere
 
 use crate::typed::{Typed, typed_value};
 use check_steps::Work;
-use check_steps::items::{put_item, put_link};
-use core_program::rows::{ExpressionRow, ItemRow, Row};
+use check_steps::items::put_item;
+use core_program::rows::{ExpressionRow, ItemRow, LIST_END, Row};
 use kind_checker::operators::is_unknown_shape;
 use kind_checker::shapes::shape_of;
 use kind_checker::{ExpressionType, Packing, Shape};
@@ -59,7 +59,7 @@ fn host_with(host: Option<u32>, shape: Shape) -> Option<u32>
     }
 }
 
-/// No members yet.
+/// No members yet: no item stands at this number.
 pub fn nothing_gathered(last: u32) -> Gathered
     ensures { result ≡ nothing_gathered last }
 {
@@ -89,7 +89,7 @@ pub fn check_one_member(work: &mut Work, gathered: Gathered, begun: MemberStart)
     work.late(31, begun.first, fits_members(gathered.host, shape));
     let item = ItemRow::Member {
         value: begun.value.row,
-        next: 0,
+        next: LIST_END,
     };
     let last = put_item(work, gathered.last, begun.slot, item);
     gathered_with(gathered, last, shape)
@@ -113,7 +113,7 @@ pub fn check_member_range(
     let item = ItemRow::Members {
         first: begun.value.row,
         last: end.row,
-        next: 0,
+        next: LIST_END,
     };
     let last = put_item(work, gathered.last, begun.slot, item);
     gathered_with(gathered_with(gathered, last, shape), last, other)
@@ -132,15 +132,11 @@ fn gathered_type(gathered: Gathered) -> ExpressionType
     }
 }
 
-/// A set constructor, at its closing bracket.
+/// A set constructor, at its closing bracket, with the list of its members.
 #[tactic(auto, using(check_steps::proofs::Runs::steps), unfolding(crate::specs::Members::set_constructor))]
-pub fn check_set(work: &mut Work, gathered: Gathered, bracket: u32, close: u32) -> Typed
-    ensures { Does (set_constructor gathered bracket close) result work.old work.new }
+pub fn check_set(work: &mut Work, gathered: Gathered, members: u32, close: u32) -> Typed
+    ensures { Does (set_constructor gathered members close) result work.old work.new }
 {
-    put_link(work, gathered.last, close);
-    work.put(
-        close,
-        Row::Expression(ExpressionRow::Set { members: bracket }),
-    );
+    work.put(close, Row::Expression(ExpressionRow::Set { members }));
     typed_value(close, gathered_type(gathered))
 }

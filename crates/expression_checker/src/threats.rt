@@ -78,6 +78,7 @@ fn check_threat_to(work: &mut Work, frame: u32, name: u32, whole: Option<Whole>)
 pub fn check_threat(work: &mut Work, frame: u32, name: u32)
     ensures { Does (threat frame name) tt work.old work.new }
 {
+    work.come_to(frame);
     let whole = whole_variable(&work.tables, frame, name);
     check_threat_to(work, frame, name, whole);
 }

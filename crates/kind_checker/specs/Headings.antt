@@ -15,13 +15,13 @@ use Rattle.kind_checker.specs.Shapes.{is_same_type}
 
 -- ---- headings and their sections by rows
 
-abbrev pub signature_in : Row → ℕ → Signature
-signature_in (row.Part (part.Heading name sections result)) n = record { sections = sections; result = result }
-signature_in r n = record { sections = n; result = None }
+abbrev pub signature_in : Row → Signature
+signature_in (row.Part (part.Heading name sections result)) = record { sections = sections; result = result }
+signature_in r = record { sections = 0; result = None }
 
 -- the parameters and the result of a heading; where none stands, those of a procedure without parameters
 abbrev pub signature_at : Known → ℕ → Signature
-signature_at k n = signature_in (row_at k n) n
+signature_at k n = signature_in (row_at k n)
 
 abbrev pub variable_type : Row → ℕ → ℕ
 variable_type (row.Name (named.Variable m of' place level)) otherwise = of'

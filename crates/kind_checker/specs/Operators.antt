@@ -1,11 +1,11 @@
 -- The operators (6.7.2): which operands fit which, and what comes of them.
 use Rattle.std.specs.Prelude.{ℕ, Bool, true, false, Option, Some, None, is_some, nat_eq, ◌&&◌, ◌||◌, if◌then◌else◌}
+use Rattle.std.specs.Prelude.{List, [], ◌∷◌}
 use Rattle.cell_value.specs.declared.arithmetic.ArithOp.{ArithOp}
 use Rattle.cell_value.specs.declared.arithmetic.ArithOp.TheVariants as arithmetic
 use Rattle.core_program.specs.declared.rows.Row.{Row}
 use Rattle.core_program.specs.declared.rows.Row.TheVariants as row
 use Rattle.core_program.specs.declared.rows.ExpressionRow.TheVariants as written
-use Rattle.core_program.specs.declared.rows.Logic.{Logic}
 use Rattle.core_program.specs.declared.rows.Logic.TheVariants as logic
 use Rattle.cell_value.specs.declared.values.Order.{Order}
 use Rattle.cell_value.specs.declared.values.Order.TheVariants as order
@@ -44,73 +44,100 @@ is_ordinal s = is_unknown_shape s
 abbrev pub is_operand : ℕ → Shape → Bool
 is_operand host s = is_unknown_shape s || is_of_host host s
 
--- ---- what an operator does with its operands
+-- ---- what an operator takes
 
--- `+ - *` `div mod`: integer
-abbrev pub on_integers : ArithOp → Shape → Shape → Option Operation
-on_integers o l r = if is_of_host 0 l && is_of_host 0 r then Some (operation.Arithmetic o) else None
+-- two operands: do they fit?
+abbrev pub Operands : Type 0
+Operands = Shape → Shape → Bool
 
--- `and or`: Boolean
-abbrev pub on_booleans : Logic → Shape → Shape → Option Operation
-on_booleans o l r = if is_of_host 1 l && is_of_host 1 r then Some (operation.Logic o) else None
+-- both are of this host type or subranges of it: 0 is integer, 1 is Boolean
+abbrev pub of_host : ℕ → Operands
+of_host host l r = is_of_host host l && is_of_host host r
+
+-- ordinals of one host type
+abbrev pub two_ordinals : Operands
+two_ordinals (shape.Ordinal a) (shape.Ordinal b) = nat_eq a b
+two_ordinals l r = false
+
+-- strings of equal length
+abbrev pub two_strings : Operands
+two_strings (shape.Text m) (shape.Text n) = nat_eq m n
+two_strings l r = false
+
+-- compatible sets
+abbrev pub two_sets : Operands
+two_sets (shape.Set a p) (shape.Set b q) = hosts_agree a b && packings_agree p q
+two_sets l r = false
+
+-- pointers of one type, or nil
+abbrev pub two_pointers : Operands
+two_pointers (shape.Pointer a) (shape.Pointer b) = nat_eq a b
+two_pointers (shape.Pointer a) shape.Nil = true
+two_pointers shape.Nil (shape.Pointer b) = true
+two_pointers shape.Nil shape.Nil = true
+two_pointers l r = false
+
+-- an ordinal, and a set whose members have its host type
+abbrev pub member_and_set : Operands
+member_and_set (shape.Ordinal h) (shape.Set host packing) = hosts_agree (Some h) host
+member_and_set l r = false
+
+-- ---- the table of operators
+
+-- A row: operands that an operator takes, and what it does with them.
+pub record OperatorRow : Type 0 where
+  pub takes : Operands
+  pub does : Shape → Shape → Operation
+
+abbrev pub on : Operands → Operation → OperatorRow
+on takes operation = record { takes = takes; does = λ l r. operation }
 
 -- The result is packed or unpacked where an operand that is no constructor is so.
 abbrev pub joined_packing : Packing → Packing → Packing
 joined_packing Either q = q
 joined_packing p q = p
 
--- `+ - *`: compatible sets; their union, difference, intersection
-abbrev pub on_sets : SetOperator → Shape → Shape → Option Operation
-on_sets o (shape.Set a p) (shape.Set b q) =
-    if hosts_agree a b && packings_agree p q then Some (operation.Sets o (or_else a b) (joined_packing p q)) else None
-on_sets o l r = None
+-- the operation on two sets
+abbrev pub set_of_both : SetOperator → Shape → Shape → Operation
+set_of_both o (shape.Set a p) (shape.Set b q) = operation.Sets o (or_else a b) (joined_packing p q)
+set_of_both o l r = operation.Sets o None Either
 
--- `= <> <= >=` are relations of sets
-abbrev pub relates_sets : Order → Bool
-relates_sets order.Less = false
-relates_sets order.Greater = false
-relates_sets o = true
+-- `+ - *`: on integers, and on sets as union, difference, intersection
+abbrev pub on_both : ArithOp → SetOperator → List OperatorRow
+on_both o s = on (of_host 0) (operation.Arithmetic o) ∷ record { takes = two_sets; does = set_of_both s } ∷ []
 
--- `= <>` are relations of pointers
-abbrev pub equality : Order → Option Bool
-equality order.Equal = Some true
-equality order.NotEqual = Some false
-equality o = None
+abbrev pub equality_rows : Order → Bool → List OperatorRow
+equality_rows o equal = on two_sets (operation.CompareSets o) ∷ on two_pointers (operation.ComparePointers equal) ∷ []
 
-abbrev pub pointers_by : Option Bool → Bool → Option Operation
-pointers_by (Some equal) true = Some (operation.ComparePointers equal)
-pointers_by e same = None
+-- `= <>` relate sets, and pointers; `<= >=` sets; `< >` neither
+abbrev pub more_related : Order → List OperatorRow
+more_related order.Equal = equality_rows order.Equal true
+more_related order.NotEqual = equality_rows order.NotEqual false
+more_related order.AtMost = on two_sets (operation.CompareSets order.AtMost) ∷ []
+more_related order.AtLeast = on two_sets (operation.CompareSets order.AtLeast) ∷ []
+more_related o = []
 
--- `= <>`: compatible ordinals, sets, strings; one pointer type or nil. `< >`: compatible ordinals, strings. `<= >=`:
--- compatible ordinals, strings; sets, included in, includes.
-abbrev pub related : Order → Shape → Shape → Option Operation
-related o (shape.Ordinal a) (shape.Ordinal b) = if nat_eq a b then Some (operation.Compare o) else None
-related o (shape.Text m) (shape.Text n) = if nat_eq m n then Some (operation.CompareTexts o) else None
-related o (shape.Set a p) (shape.Set b q) =
-    if relates_sets o && hosts_agree a b && packings_agree p q then Some (operation.CompareSets o) else None
-related o (shape.Pointer a) (shape.Pointer b) = pointers_by (equality o) (nat_eq a b)
-related o (shape.Pointer a) shape.Nil = pointers_by (equality o) true
-related o shape.Nil (shape.Pointer b) = pointers_by (equality o) true
-related o shape.Nil shape.Nil = pointers_by (equality o) true
-related o l r = None
+-- the rows of each operator
+abbrev pub rows_of : Operator → List OperatorRow
+rows_of operator.Plus = on_both arithmetic.Plus sets.Union
+rows_of operator.Minus = on_both arithmetic.Minus sets.Difference
+rows_of operator.Times = on_both arithmetic.Times sets.Intersection
+rows_of operator.Div = on (of_host 0) (operation.Arithmetic arithmetic.Div) ∷ []
+rows_of operator.Mod = on (of_host 0) (operation.Arithmetic arithmetic.Mod) ∷ []
+rows_of operator.And = on (of_host 1) (operation.Logic logic.And) ∷ []
+rows_of operator.Or = on (of_host 1) (operation.Logic logic.Or) ∷ []
+rows_of (operator.Relation o) =
+    on two_ordinals (operation.Compare o) ∷ on two_strings (operation.CompareTexts o) ∷ more_related o
+rows_of operator.In = on member_and_set operation.In ∷ []
 
--- `in`: an ordinal and a set of a compatible base
-abbrev pub member_of : Shape → Shape → Option Operation
-member_of (shape.Ordinal h) (shape.Set host packing) =
-    if hosts_agree (Some h) host then Some operation.In else None
-member_of l r = None
+-- what the first of these rows that takes the operands does with them
+abbrev pub done_by : List OperatorRow → Shape → Shape → Option Operation
+done_by [] l r = None
+done_by (row ∷ rows) l r = if row.takes l r then Some (row.does l r) else done_by rows l r
 
 -- what an operator does with operands of these types, and none where they don't fit it or one is unknown
 abbrev pub operation_of : Operator → Shape → Shape → Option Operation
-operation_of operator.Plus l r = or_else (on_integers arithmetic.Plus l r) (on_sets sets.Union l r)
-operation_of operator.Minus l r = or_else (on_integers arithmetic.Minus l r) (on_sets sets.Difference l r)
-operation_of operator.Times l r = or_else (on_integers arithmetic.Times l r) (on_sets sets.Intersection l r)
-operation_of operator.Div l r = on_integers arithmetic.Div l r
-operation_of operator.Mod l r = on_integers arithmetic.Mod l r
-operation_of operator.And l r = on_booleans logic.And l r
-operation_of operator.Or l r = on_booleans logic.Or l r
-operation_of (operator.Relation o) l r = related o l r
-operation_of operator.In l r = member_of l r
+operation_of o l r = done_by (rows_of o) l r
 
 -- rule 30: the operands do not fit the operator. An operand of unknown type breaks no further rule.
 abbrev pub fits : Operator → Shape → Shape → Bool

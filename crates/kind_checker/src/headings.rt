@@ -7,7 +7,7 @@ ghost use Rattle.kind_checker.specs.Headings.{signatures_match, variable_type};
 
 use crate::shapes::is_same_type;
 use check_steps::Tables;
-use core_program::rows::{ItemRow, Mode, NameRow, PartRow, Row};
+use core_program::rows::{ItemRow, LIST_END, Mode, NameRow, PartRow, Row};
 
 /// The parameters and the result of a heading.
 #[derive(Clone, Copy)]
@@ -27,8 +27,8 @@ pub enum FormalSection {
     Heading(u32),
 }
 
-fn signature_in(row: Row, number: u32) -> Signature
-    ensures { result ≡ signature_in row number }
+fn signature_in(row: Row) -> Signature
+    ensures { result ≡ signature_in row }
 {
     match row {
         Row::Part(
@@ -39,7 +39,7 @@ fn signature_in(row: Row, number: u32) -> Signature
             },
         ) => Signature { sections, result },
         _ => Signature {
-            sections: number,
+            sections: LIST_END,
             result: None,
         },
     }
@@ -50,7 +50,7 @@ fn signature_in(row: Row, number: u32) -> Signature
 pub fn signature_at(tables: &Tables, heading: u32) -> Signature
     ensures { result ≡ signature_at tables.now heading }
 {
-    signature_in(tables.row(heading), heading)
+    signature_in(tables.row(heading))
 }
 
 fn variable_type(row: Row, otherwise: u32) -> u32

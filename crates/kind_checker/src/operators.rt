@@ -1,10 +1,11 @@
 //! The operators (6.7.2): which operands fit which, and what comes of them.
 
-ghost use Rattle.std.specs.Prelude.{◌≡◌};
-ghost use Rattle.kind_checker.specs.Operators.{equality, fits, is_of_host, is_operand, is_ordinal, is_unknown_shape};
-ghost use Rattle.kind_checker.specs.Operators.{joined_packing};
-ghost use Rattle.kind_checker.specs.Operators.{member_of, on_booleans, on_integers, on_sets, operation_of};
-ghost use Rattle.kind_checker.specs.Operators.{operation_row, pointers_by, related, relates_sets, operation_type};
+ghost use Rattle.std.specs.Prelude.{◌≡◌, None, Some, if◌then◌else◌};
+ghost use Rattle.kind_checker.specs.Operators.{done_by, equality_rows, fits, is_of_host, is_operand, is_ordinal};
+ghost use Rattle.kind_checker.specs.Operators.{is_unknown_shape, joined_packing, member_and_set, more_related, of_host};
+ghost use Rattle.kind_checker.specs.Operators.{on_both, operation_of, operation_row, operation_type, set_of_both};
+ghost use Rattle.kind_checker.specs.Operators.{two_ordinals, two_pointers, two_sets, two_strings};
+ghost use Rattle.kind_checker.specs.declared.operators.Operator.TheVariants as operator;
 
 use crate::shapes::{ExpressionType, Packing, Shape, hosts_agree, packings_agree};
 use cell_value::{ArithOp, Order};
@@ -83,23 +84,72 @@ pub fn is_operand(host: u32, shape: Shape) -> bool
     is_unknown_shape(shape) || is_of_host(host, shape)
 }
 
-fn on_integers(operator: ArithOp, left: Shape, right: Shape) -> Option<Operation>
-    ensures { result ≡ on_integers operator left right }
+/// Whether both operands are ordinals of this host type.
+fn of_host(host: u32, left: Shape, right: Shape) -> bool
+    ensures { result ≡ of_host host left right }
 {
-    if is_of_host(INTEGER, left) && is_of_host(INTEGER, right) {
-        Some(Operation::Arithmetic(operator))
-    } else {
-        None
+    is_of_host(host, left) && is_of_host(host, right)
+}
+
+/// Whether both operands are ordinals of one host type.
+fn two_ordinals(left: Shape, right: Shape) -> bool
+    ensures { result ≡ two_ordinals left right }
+{
+    match (left, right) {
+        (Shape::Ordinal(a), Shape::Ordinal(b)) => a == b,
+        _ => false,
     }
 }
 
-fn on_booleans(operator: Logic, left: Shape, right: Shape) -> Option<Operation>
-    ensures { result ≡ on_booleans operator left right }
+/// Whether both operands are strings of equal length.
+fn two_strings(left: Shape, right: Shape) -> bool
+    ensures { result ≡ two_strings left right }
 {
-    if is_of_host(BOOLEAN, left) && is_of_host(BOOLEAN, right) {
-        Some(Operation::Logic(operator))
-    } else {
-        None
+    match (left, right) {
+        (Shape::Text(m), Shape::Text(n)) => m == n,
+        _ => false,
+    }
+}
+
+/// Whether both operands are sets, of compatible types.
+fn two_sets(left: Shape, right: Shape) -> bool
+    ensures { result ≡ two_sets left right }
+{
+    match (left, right) {
+        (
+            Shape::Set {
+                host: a,
+                packing: p,
+            },
+            Shape::Set {
+                host: b,
+                packing: q,
+            },
+        ) => hosts_agree(a, b) && packings_agree(p, q),
+        _ => false,
+    }
+}
+
+/// Whether both operands are pointers of one type, or nil.
+fn two_pointers(left: Shape, right: Shape) -> bool
+    ensures { result ≡ two_pointers left right }
+{
+    match (left, right) {
+        (Shape::Pointer(a), Shape::Pointer(b)) => a == b,
+        (Shape::Pointer(_), Shape::Nil) => true,
+        (Shape::Nil, Shape::Pointer(_)) => true,
+        (Shape::Nil, Shape::Nil) => true,
+        _ => false,
+    }
+}
+
+/// Whether the left operand is an ordinal, and the right one a set whose members have its host type.
+fn member_and_set(left: Shape, right: Shape) -> bool
+    ensures { result ≡ member_and_set left right }
+{
+    match (left, right) {
+        (Shape::Ordinal(h), Shape::Set { host, .. }) => hosts_agree(Some(h), host),
+        _ => false,
     }
 }
 
@@ -112,8 +162,9 @@ fn joined_packing(left: Packing, right: Packing) -> Packing
     }
 }
 
-fn on_sets(operator: SetOperator, left: Shape, right: Shape) -> Option<Operation>
-    ensures { result ≡ on_sets operator left right }
+/// The operation on two sets.
+fn set_of_both(operator: SetOperator, left: Shape, right: Shape) -> Operation
+    ensures { result ≡ set_of_both operator left right }
 {
     match (left, right) {
         (
@@ -125,110 +176,81 @@ fn on_sets(operator: SetOperator, left: Shape, right: Shape) -> Option<Operation
                 host: b,
                 packing: q,
             },
-        ) => {
-            if hosts_agree(a, b) && packings_agree(p, q) {
-                Some(Operation::Sets {
-                    operator,
-                    host: a.or(b),
-                    packing: joined_packing(p, q),
-                })
-            } else {
-                None
-            }
-        }
+        ) => Operation::Sets {
+            operator,
+            host: a.or(b),
+            packing: joined_packing(p, q),
+        },
+        _ => Operation::Sets {
+            operator,
+            host: None,
+            packing: Packing::Either,
+        },
+    }
+}
+
+/// What `+`, `-` or `*` does: on integers, or on sets.
+fn on_both(
+    arithmetic: ArithOp,
+    operator: SetOperator,
+    left: Shape,
+    right: Shape,
+) -> Option<Operation>
+    ensures { result ≡ done_by (on_both arithmetic operator) left right }
+{
+    if of_host(INTEGER, left, right) {
+        Some(Operation::Arithmetic(arithmetic))
+    } else if two_sets(left, right) {
+        Some(set_of_both(operator, left, right))
+    } else {
+        None
+    }
+}
+
+/// An operation where its operands fit it.
+fn where_fit(fit: bool, operation: Operation) -> Option<Operation>
+    ensures { result ≡ (if fit then Some operation else None) }
+{
+    if fit { Some(operation) } else { None }
+}
+
+/// Whether two sets or two pointers are equal, or whether they are not.
+fn equality(order: Order, equal: bool, left: Shape, right: Shape) -> Option<Operation>
+    ensures { result ≡ done_by (equality_rows order equal) left right }
+{
+    if two_sets(left, right) {
+        Some(Operation::CompareSets(order))
+    } else {
+        where_fit(
+            two_pointers(left, right),
+            Operation::ComparePointers { equal },
+        )
+    }
+}
+
+/// What a relation does with sets and pointers.
+fn more_related(order: Order, left: Shape, right: Shape) -> Option<Operation>
+    ensures { result ≡ done_by (more_related order) left right }
+{
+    match order {
+        Order::Equal => equality(order, true, left, right),
+        Order::NotEqual => equality(order, false, left, right),
+        Order::AtMost => where_fit(two_sets(left, right), Operation::CompareSets(order)),
+        Order::AtLeast => where_fit(two_sets(left, right), Operation::CompareSets(order)),
         _ => None,
     }
 }
 
-fn relates_sets(order: Order) -> bool
-    ensures { result ≡ relates_sets order }
-{
-    match order {
-        Order::Less => false,
-        Order::Greater => false,
-        _ => true,
-    }
-}
-
-fn equality(order: Order) -> Option<bool>
-    ensures { result ≡ equality order }
-{
-    match order {
-        Order::Equal => Some(true),
-        Order::NotEqual => Some(false),
-        _ => None,
-    }
-}
-
-fn pointers_by(equality: Option<bool>, same: bool) -> Option<Operation>
-    ensures { result ≡ pointers_by equality same }
-{
-    match equality {
-        Some(equal) => {
-            if same {
-                Some(Operation::ComparePointers { equal })
-            } else {
-                None
-            }
-        }
-        None => None,
-    }
-}
-
+/// What a relation does with operands of these types.
 fn related(order: Order, left: Shape, right: Shape) -> Option<Operation>
-    ensures { result ≡ related order left right }
+    ensures { result ≡ operation_of (operator.Relation order) left right }
 {
-    match (left, right) {
-        (Shape::Ordinal(a), Shape::Ordinal(b)) => {
-            if a == b {
-                Some(Operation::Compare(order))
-            } else {
-                None
-            }
-        }
-        (Shape::Text(m), Shape::Text(n)) => {
-            if m == n {
-                Some(Operation::CompareTexts(order))
-            } else {
-                None
-            }
-        }
-        (
-            Shape::Set {
-                host: a,
-                packing: p,
-            },
-            Shape::Set {
-                host: b,
-                packing: q,
-            },
-        ) => {
-            if relates_sets(order) && hosts_agree(a, b) && packings_agree(p, q) {
-                Some(Operation::CompareSets(order))
-            } else {
-                None
-            }
-        }
-        (Shape::Pointer(a), Shape::Pointer(b)) => pointers_by(equality(order), a == b),
-        (Shape::Pointer(_), Shape::Nil) => pointers_by(equality(order), true),
-        (Shape::Nil, Shape::Pointer(_)) => pointers_by(equality(order), true),
-        (Shape::Nil, Shape::Nil) => pointers_by(equality(order), true),
-        _ => None,
-    }
-}
-
-fn member_of(left: Shape, right: Shape) -> Option<Operation>
-    ensures { result ≡ member_of left right }
-{
-    match (left, right) {
-        (Shape::Ordinal(h), Shape::Set { host, .. }) => {
-            if hosts_agree(Some(h), host) {
-                Some(Operation::In)
-            } else {
-                None
-            }
-        }
-        _ => None,
+    if two_ordinals(left, right) {
+        Some(Operation::Compare(order))
+    } else if two_strings(left, right) {
+        Some(Operation::CompareTexts(order))
+    } else {
+        more_related(order, left, right)
     }
 }
 
@@ -236,30 +258,18 @@ fn member_of(left: Shape, right: Shape) -> Option<Operation>
 pub fn operation_of(operator: Operator, left: Shape, right: Shape) -> Option<Operation>
     ensures { result ≡ operation_of operator left right }
 {
+    let integers = of_host(INTEGER, left, right);
+    let booleans = of_host(BOOLEAN, left, right);
     match operator {
-        Operator::Plus => {
-            on_integers(ArithOp::Plus, left, right).or(on_sets(SetOperator::Union, left, right))
-        }
-        Operator::Minus => {
-            on_integers(ArithOp::Minus, left, right).or(on_sets(
-                SetOperator::Difference,
-                left,
-                right,
-            ))
-        }
-        Operator::Times => {
-            on_integers(ArithOp::Times, left, right).or(on_sets(
-                SetOperator::Intersection,
-                left,
-                right,
-            ))
-        }
-        Operator::Div => on_integers(ArithOp::Div, left, right),
-        Operator::Mod => on_integers(ArithOp::Mod, left, right),
-        Operator::And => on_booleans(Logic::And, left, right),
-        Operator::Or => on_booleans(Logic::Or, left, right),
+        Operator::Plus => on_both(ArithOp::Plus, SetOperator::Union, left, right),
+        Operator::Minus => on_both(ArithOp::Minus, SetOperator::Difference, left, right),
+        Operator::Times => on_both(ArithOp::Times, SetOperator::Intersection, left, right),
+        Operator::Div => where_fit(integers, Operation::Arithmetic(ArithOp::Div)),
+        Operator::Mod => where_fit(integers, Operation::Arithmetic(ArithOp::Mod)),
+        Operator::And => where_fit(booleans, Operation::Logic(Logic::And)),
+        Operator::Or => where_fit(booleans, Operation::Logic(Logic::Or)),
         Operator::Relation(order) => related(order, left, right),
-        Operator::In => member_of(left, right),
+        Operator::In => where_fit(member_and_set(left, right), Operation::In),
     }
 }
 

@@ -41,7 +41,7 @@ use Rattle.core_program.specs.Acts.{
   made_block,
   dropped_block,
 }
-use Rattle.core_program.specs.Tree.{ActTree, Ret, Halt, Do, Sub, Enter, Line, way_of, bind}
+use Rattle.core_program.specs.Tree.{ActTree, Ret, Halt, Meaningless, Do, Sub, Enter, Line, way_of, bind}
 use Rattle.core_program.specs.Layer.{layer}
 use Rattle.core_program.specs.Run.{Halted}
 use Rattle.core_program.proofs.OutcomesCompose.{some_same, none_some}
@@ -189,6 +189,7 @@ pub onward : (p : ProgramRows) (k : ℕ) (t : ActTree) (m : Moment) (stop : Stop
 onward p zero t m stop m' h = absurd (none_some h)
 onward p (suc k) (Ret out) m stop m' h = at_once _ stop m m' h
 onward p (suc k) (Halt line why) m stop m' h = at_once _ stop m m' h
+onward p (suc k) Meaningless m stop m' h = absurd (none_some h)
 onward p (suc k) (Do line act next) m stop m' h =
     onward_act line m (perform act m.state) _ stop m' (λ x m1 e. onward p k (next x) m1 stop m' e) (kept_act act m.state) h
 onward p (suc k) (Sub part next) m stop m' h = onward p k (bind (layer p part) next) m stop m' h

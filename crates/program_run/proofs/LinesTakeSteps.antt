@@ -6,7 +6,7 @@ use Rattle.cell_value.specs.declared.ways_out.Which.{Which}
 use Rattle.core_program.specs.ProgramRows.{ProgramRows}
 use Rattle.core_program.specs.State.{State}
 use Rattle.core_program.specs.Acts.{Spend, ActResult, Went, Stops, perform, limit_passed}
-use Rattle.core_program.specs.Tree.{Out, ActTree, Ret, Halt, Do, Sub, Enter, Line, way_of, bind}
+use Rattle.core_program.specs.Tree.{Out, ActTree, Ret, Halt, Meaningless, Do, Sub, Enter, Line, way_of, bind}
 use Rattle.core_program.specs.Layer.{layer}
 use Rattle.core_program.specs.Run.{Ended, Halted}
 use Rattle.core_program.proofs.ActsTakeSteps.{cost, Acted, acted}
@@ -42,6 +42,7 @@ pub left_at_stop : (p : ProgramRows) (before k : ℕ) (t : ActTree) (m : Moment)
 left_at_stop p before zero t m stop m' u e = absurd (none_some e)
 left_at_stop p before (suc k) (Ret out) m stop m' u e = at_once before (AtEnd (Ended out)) stop m m' e u
 left_at_stop p before (suc k) (Halt line why) m stop m' u e = at_once before (AtEnd (Halted (way_of line why))) stop m m' e u
+left_at_stop p before (suc k) Meaningless m stop m' u e = absurd (none_some e)
 left_at_stop p before (suc k) (Do line act next) m stop m' u e = after_act before (cost act) line m.state m.log (perform act m.state) _ stop m' u
     (acted act m.state) (λ x m1 v q. left_at_stop p before k (next x) m1 stop m' (omega (arith, v)) q) e
 left_at_stop p before (suc k) (Sub part next) m stop m' u e = left_at_stop p before k (bind (layer p part) next) m stop m' u e

@@ -153,7 +153,6 @@ module _ (p : ProgramRows) where
         told_front (length w) [] (later_by 0 r.events) (told_none l.depth l.steps) k (told_front 0 [] r.events none_told k (ran_told h l.sound))
 
     frame_told : {n f : ℕ} {args : List Value} {σ : State} {r : Result State Call} → RanFrame p n f args σ r → IsSound σ → Told σ r.after r.events
-    frame_told (ways.NoRoutine e) s = none_told
     frame_told (ways.NoRoom e t) s = none_told
     frame_told (ways.NoSteps {σ = σ} e t u) s = told_none refl (let z : 0 ≤ σ.steps = omega arith in z)
     frame_told (ways.Worked {args = args} {σ = σ} {q = q} {y = y} e t u h) s =

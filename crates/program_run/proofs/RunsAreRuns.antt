@@ -3,6 +3,7 @@ use Rattle.std.proofs.Common.{◌≡◌, ℕ, List, [], ◌∷◌, Some, length,
 use Rattle.cell_value.specs.declared.values.Value.{Value}
 use Rattle.cell_value.specs.declared.values.Value.TheVariants.{Nil}
 use Rattle.core_program.specs.ProgramRows.{ProgramRows}
+use Rattle.core_program.specs.WholeTables.{WholeTables}
 use Rattle.core_program.specs.Tree.{Ret}
 use Rattle.core_program.specs.Run.{run, start}
 use Rattle.core_program.proofs.RunAtAnyDepth.{run_is}
@@ -27,9 +28,9 @@ starts p items budget v args s e =
     (λ i. record { opens = sym s.opens i; moment = v.moment; recording = sym s.recording i })
     (at_first v.moment s.state s.log refl refl refl))
 
-module _ (p : ProgramRows) (input : List ℕ) (budget : ℕ) (m : Moment) (kept : Recording) (h : IsOver p (start input budget) m kept) where
+module _ (p : ProgramRows) (W : WholeTables p) (input : List ℕ) (budget : ℕ) (m : Moment) (kept : Recording) (h : IsOver p (start input budget) m kept) where
   is : run p input budget ≡ Some h.result
-  is = run_is p input budget h.depth h.result h.is
+  is = run_is p W input budget h.depth h.result h.is
 
   pub calls_are : kept ≡ recording_of p (run p input budget)
   calls_are = h.recording ∙ ap (recording_of p) (sym is)

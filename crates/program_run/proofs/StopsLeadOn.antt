@@ -7,7 +7,7 @@ use Rattle.cell_value.specs.declared.ways_out.Which.{Which}
 use Rattle.core_program.specs.ProgramRows.{ProgramRows}
 use Rattle.core_program.specs.State.{State}
 use Rattle.core_program.specs.Acts.{Act, Answer, Spend, ActResult, Went, Stops, perform, limit_passed}
-use Rattle.core_program.specs.Tree.{Out, ActTree, Ret, Halt, Do, Sub, Enter, Line, way_of, bind}
+use Rattle.core_program.specs.Tree.{Out, ActTree, Ret, Halt, Meaningless, Do, Sub, Enter, Line, way_of, bind}
 use Rattle.core_program.specs.Layer.{layer}
 use Rattle.core_program.specs.Run.{Ended, Halted, Result, Rules, in_front, ends, joined, on_done, if_allowed, within}
 use Rattle.core_program.proofs.MoreDepthSameResult.{Less, Grows, run_less, joined_less, less_same, in_front_less}
@@ -135,6 +135,7 @@ module _ {S E : Type 0} (rules : Rules S E) (grows : Grows rules) (lens : IsLens
       runs_stop p (Ret out) s l (AtEnd (Ended out)) stop m' n r (less_same _) (ap (λ z. Some (AtEnd (Ended out), record { state = z; log = l })) q ∙ h) f
   runs p (suc k) (Halt line why) s σ l n stop m' r q h f = runs_stop p (Halt line why) s l (AtEnd (Halted (way_of line why))) stop m' n r (less_same _)
       (ap (λ z. Some (AtEnd (Halted (way_of line why)), record { state = z; log = l })) q ∙ h) f
+  runs p (suc k) Meaningless s σ l n stop m' r q h f = absurd (none_some h)
   runs p (suc k) (Do line act next) s σ l n stop m' r q h f =
       runs_act p line act next s l k n stop m' r
       (λ x τ l1 g. runs p k (next x) (rules.with_state s τ) τ l1 n stop m' r (lens.set_get s τ) g

@@ -1,7 +1,8 @@
 //! The run of a program.
 
-ghost use Rattle.std.specs.Prelude.{◌≡◌, ◌<◌, ◌≤◌, [], IfOk, length};
+ghost use Rattle.std.specs.Prelude.{◌≡◌, ◌<◌, ◌≤◌, [], IfOk, IsSome, length};
 ghost use Rattle.core_program.specs.Run as meaning;
+ghost use Rattle.core_program.specs.ProgramRows.{routine_at};
 ghost use Rattle.eval_ops.specs.Machines.{IsReady, machine_state, moment_of};
 ghost use Rattle.program_run.specs.History.{first_state, log_of, output_of, recording_of};
 ghost use Rattle.program_run.specs.Tower.{IsOver};
@@ -41,7 +42,7 @@ fn first_machine(alloc: Global, items: Items, budget: u32) -> Machine
 
 /// Runs a program from the items of its input, until no call is open.
 fn run_items(alloc: Global, program: &Program, items: Items, budget: u32) -> Result<Runner, Memory>
-    requires block { 0 < length program.now.routines }
+    requires block { IsSome (routine_at program.now 0) }
     requires few { budget ≤ 4000000 }
     ensures over { IfOk result (λ r. IsOver program.now (first_state items budget) (moment_of r.machine) r.calls) }
 {
@@ -61,7 +62,6 @@ fn run_items(alloc: Global, program: &Program, items: Items, budget: u32) -> Res
 /// Runs a program with an input and a budget of steps. Faults, a spent budget and limits are ways out of calls; that
 /// memory ran out is the only error.
 pub fn run(alloc: Global, program: &Program, input: &[u8], budget: u32) -> Result<History, Memory>
-    requires block { 0 < length program.now.routines }
     requires steps { 0 < budget }
     requires few_steps { budget ≤ 4000000 }
     requires input { length input.now ≤ 4194304 }
@@ -71,6 +71,7 @@ pub fn run(alloc: Global, program: &Program, input: &[u8], budget: u32) -> Resul
     ensures input { IfOk result (λ h. h.input ≡ meaning.input_items input.now) }
     ensures budget { IfOk result (λ h. h.budget ≡ budget) }
 {
+    program.is_whole();
     let items = items_of(alloc, input)?;
     let runner = run_items(alloc, program, items, budget)?;
     let Runner { machine, calls, .. } = runner;

@@ -125,7 +125,15 @@ fn record_holds(alloc: Global, program: &Program, machine: &mut Machine) -> Resu
     ensures ready { IsReady machine.new }
 {
     let integer = program.type_row(INTEGER);
-    assign_to(alloc, program, machine, None, integer, 1, Value::Number(7))?;
+    assign_to(
+        alloc,
+        program,
+        machine,
+        Some(None),
+        integer,
+        1,
+        Value::Number(7),
+    )?;
     let row = program.row(T);
     let field = field_at(alloc, program, machine, true, 1, row)?;
     let held = read_cells(alloc, machine, 1, 2)?;

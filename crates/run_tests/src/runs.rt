@@ -148,7 +148,6 @@ pub fn program_of(alloc: Global, source: &str) -> Result<Program, Fail> {
 
 /// The run of a program.
 fn history_of(alloc: Global, program: &Program, input: &[u8]) -> Result<History, Memory>
-    requires block { 0 < length program.now.routines }
     requires short { length input.now ≤ most_bytes }
     ensures ran { IfOk result (λ h. (input : List ℕ) × (length input ≤ most_bytes)
         × IsOfRun program.now input h.budget h) }
@@ -280,9 +279,6 @@ fn carries_home(alloc: Global, program: &Program, history: &History) -> Result<b
 
 /// Runs the program: whether its run is that which is wanted, its calls do again what they did, and `next` carries.
 fn run_holds(alloc: Global, program: &Program) -> Result<[bool; 3], Memory> {
-    if program.routines() != 3 {
-        return Ok([false; 3]);
-    }
     let history = history_of(alloc, program, INPUT)?;
     let again = all_repeat(alloc, program, &history)?;
     let carried = carries_home(alloc, program, &history)?;

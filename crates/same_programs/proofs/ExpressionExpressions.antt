@@ -23,7 +23,7 @@ use Rattle.expression_checker.specs.declared.actuals.Passing.{Passing}
 use Rattle.expression_checker.specs.declared.members.MemberStart.{MemberStart}
 use Rattle.expression_checker.specs.declared.members.Gathered.{Gathered}
 use Rattle.expression_checker.specs.declared.typed.Typed.{Typed}
-use Rattle.expression_checker.specs.Actuals.{actual_by, actuals_end}
+use Rattle.expression_checker.specs.Actuals.{actual_by}
 use Rattle.expression_checker.specs.Callees.{applied, called_function}
 use Rattle.expression_checker.specs.Members.{member_range, nothing_gathered, set_constructor}
 use Rattle.expression_checker.specs.Names.{variable}
@@ -91,7 +91,7 @@ mutual
   call-bare frame name count (Arguments' open' first _ others close) =
       λ i. called_function frame name count
       >>= λ c. actual_by frame (passing_to c name) open' (name_alone-bare first i) (first_of_expression-bare first i) (expression-bare frame first i)
-      >>= λ one. more_arguments-bare frame one others i >>= λ end. actuals_end end close >>= λ last. applied name c.callee last open'
+      >>= λ one. more_arguments-bare frame one others i >>= λ all. applied name c.callee all.value open'
 
   pub more_arguments-bare : (frame : ℕ) (p : Passing) {m : _} (r : Row_of-NextExpression m) → more_arguments frame p (bare_expressions r)
       ≡ more_arguments frame p r

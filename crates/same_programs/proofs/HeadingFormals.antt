@@ -10,14 +10,14 @@ use Rattle.check_steps.specs.Known.{frame_at}
 use Rattle.check_steps.specs.Steps.{◌>>=◌, look, each}
 use Rattle.kind_checker.specs.declared.names.NameKind.TheVariants as kind
 use Rattle.kind_checker.specs.Names.{define_name}
-use Rattle.denoter_checker.specs.Formals.{is_function, held_formals, formals_of, result_of, is_complete, opening_parenthesis, closing_parenthesis, first_formal}
+use Rattle.denoter_checker.specs.Formals.{is_function, held_formals, formals_of, result_of, is_complete, opening_parenthesis, first_formal}
 use Rattle.denoter_checker.specs.Formals.{other_formals}
 use Rattle.denoter_checker.specs.Formals.{define_formal, define_next_formal, define_each_formal, define_held, define_formals, define_formals_at}
 use Rattle.std.proofs.Common.{◌≡◌, refl, ◌∙◌, map, option_map}
 use Rattle.same_programs.proofs.Steps.{each-bare}
 use Rattle.same_programs.proofs.BareHeadings.{bare_formal, bare_formals, bare_heading, bare_held_formals, bare_next_formal}
 use Rattle.same_programs.proofs.PlacesHeadings.{heading_name-bare}
-use Rattle.same_programs.proofs.Readers.{formals_close, formals_first, formals_open, formals_others}
+use Rattle.same_programs.proofs.Readers.{formals_first, formals_open, formals_others}
 
 pub is_function-bare : (h : Heading) → is_function (bare_heading h) ≡ is_function h
 is_function-bare (Procedure p) = refl
@@ -40,9 +40,6 @@ is_complete-bare h = λ i. not (is_function-bare h i) || is_some (result_of-bare
 
 pub opening-bare : (f : Formals) → opening_parenthesis (bare_formals f) ≡ opening_parenthesis f
 opening-bare f = formals_open f
-
-pub closing-bare : (f : Formals) → closing_parenthesis (bare_formals f) ≡ closing_parenthesis f
-closing-bare f = formals_close f
 
 pub first_formal-bare : (f : Formals) → first_formal (bare_formals f) ≡ bare_formal (first_formal f)
 first_formal-bare f = formals_first f

@@ -18,7 +18,7 @@ use Rattle.core_program.specs.declared.rows.ItemRow.TheVariants as item
 use Rattle.check_steps.specs.Known.{frame_at}
 use Rattle.check_steps.specs.Steps.{give, ◌>>=◌, look, early, put, open_region, each_back}
 use Rattle.kind_checker.specs.Sizes.{frame_capped}
-use Rattle.denoter_checker.specs.Formals.{held_formals, opening_parenthesis, closing_parenthesis, first_formal, other_formals}
+use Rattle.denoter_checker.specs.Formals.{held_formals, opening_parenthesis, first_formal, other_formals}
 use Rattle.denoter_checker.specs.Headings.{parameters, routine_formal, open_heading, count_of, section_row, put_section, put_next_section, put_sections}
 use Rattle.denoter_checker.specs.Headings.{section_list, result_or, procedure_row, function_row, signature, procedure_signature, function_signature}
 use Rattle.denoter_checker.specs.Headings.{places_held, places, more_places, formal_place}
@@ -28,7 +28,7 @@ use Rattle.same_programs.proofs.BareHeadings.{bare_formal, bare_formal_names, ba
 use Rattle.same_programs.proofs.BareHeadings.{bare_next_formal, bare_procedure}
 use Rattle.same_programs.proofs.BareNames.{bare_names}
 use Rattle.same_programs.proofs.PlacesHeadings.{heading_name-bare, heading_word-bare}
-use Rattle.same_programs.proofs.HeadingFormals.{is_complete-bare, define_formals_at-bare, closing-bare, other_formals-bare, opening-bare, first_formal-bare}
+use Rattle.same_programs.proofs.HeadingFormals.{is_complete-bare, define_formals_at-bare, other_formals-bare, opening-bare, first_formal-bare}
 use Rattle.same_programs.proofs.HeadingFormals.{held_formals-bare}
 
 pub parameters-bare : (m : Mode) (frame : ℕ) (at : ℕ) (f : FormalNames) → parameters m frame at (bare_formal_names f) ≡ parameters m frame at f
@@ -67,25 +67,25 @@ put_next_section-bare next n = λ i. put_section-bare n.semicolon n.formal next 
 pub put_sections-bare : (f : Formals) → put_sections (bare_formals f) ≡ put_sections f
 unfolding put_sections
 put_sections-bare f =
-    (λ i. each_back put_next_section (closing-bare f i) (other_formals-bare f i)
+    (λ i. each_back put_next_section 0 (other_formals-bare f i)
     >>= λ next. put_section (opening-bare f i) (first_formal-bare f i) next)
-    ∙ (λ i. each_back-bare put_next_section bare_next_formal put_next_section-bare (closing_parenthesis f) (other_formals f) i
+    ∙ (λ i. each_back-bare put_next_section bare_next_formal put_next_section-bare 0 (other_formals f) i
     >>= λ next. put_section-bare (opening_parenthesis f) (first_formal f) next i)
 
-pub section_list-bare : (word : ℕ) (f : Option Formals) → section_list word (option_map bare_formals f) ≡ section_list word f
-section_list-bare word None = refl
-section_list-bare word (Some f) = λ i. put_sections-bare f i
+pub section_list-bare : (f : Option Formals) → section_list (option_map bare_formals f) ≡ section_list f
+section_list-bare None = refl
+section_list-bare (Some f) = λ i. put_sections-bare f i
 
 pub procedure_row-bare : (word : ℕ) (name : ℕ) (formals : Option Formals) → procedure_row word name (option_map bare_formals formals)
     ≡ procedure_row word name formals
 unfolding procedure_row
-procedure_row-bare word name formals = λ i. section_list-bare word formals i >>= λ list. put word (row.Part (part.Heading name list None))
+procedure_row-bare word name formals = λ i. section_list-bare formals i >>= λ list. put word (row.Part (part.Heading name list None))
 
 pub function_row-bare : (around : ℕ) (word : ℕ) (name : ℕ) (formals : Option Formals) (result : Option ResultType)
     → function_row around word name (option_map bare_formals formals) result ≡ function_row around word name formals result
 unfolding function_row
 function_row-bare around word name formals result =
-    λ i. section_list-bare word formals i >>= λ list. result_or around name result >>= λ t. put word (row.Part (part.Heading name list (Some t)))
+    λ i. section_list-bare formals i >>= λ list. result_or around name result >>= λ t. put word (row.Part (part.Heading name list (Some t)))
 
 mutual
   pub signature-bare : (around : ℕ) (frame : ℕ) (h : Heading) → signature around frame (bare_heading h) ≡ signature around frame h

@@ -110,10 +110,6 @@ pub formals_open : (f : Formals) → (out-Formals (bare_formals f)).«open» ≡
 unfolding out-Formals out
 formals_open (Formals' open' first m others close) = refl
 
-pub formals_close : (f : Formals) → (out-Formals (bare_formals f)).close ≡ (out-Formals f).close
-unfolding out-Formals out
-formals_close (Formals' open' first m others close) = refl
-
 pub formals_first : (f : Formals) → (out-Formals (bare_formals f)).first ≡ bare_formal (out-Formals f).first
 unfolding out-Formals out
 formals_first (Formals' open' first m others close) = refl

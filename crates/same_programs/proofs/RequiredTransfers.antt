@@ -17,7 +17,7 @@ use Rattle.statement_checker.specs.Sequences.{stated}
 use Rattle.statement_checker.specs.declared.actuals.RequiredCall.{RequiredCall}
 use Rattle.statement_checker.specs.declared.transfers.Transfer.{Transfer}
 use Rattle.statement_checker.specs.declared.transfers.Transfer.TheVariants.{Reading, Writing}
-use Rattle.check_steps.specs.Items.{add_item, link}
+use Rattle.check_steps.specs.Items.{add_item}
 use Rattle.statement_checker.specs.Transfers.{is_readable, read_item, is_writable, width, written_item, put_written, write_item, item_by, next_item, is_file_of}
 use Rattle.statement_checker.specs.Transfers.{first_item, first_comma, list_of, items, transfer_row, is_enough, transfer_with, transfer_call, page_other, paged}
 use Rattle.statement_checker.specs.Transfers.{page_one, page_some, page}
@@ -66,20 +66,20 @@ pub first_item-bare : (t : Transfer) (frame : ℕ) (last : ℕ) (slot : ℕ) (a 
 first_item-bare t frame last slot a None = λ i. item_by-bare t frame last slot a i
 first_item-bare t frame last slot a (Some file) = λ i. late 32 (first_of_expression-bare a.expression i) (is_file_of t file) >>= λ _. give last
 
-pub first_comma-bare : (n : List NextActual) (close : ℕ) → first_comma (map bare_next_actual n) close ≡ first_comma n close
-first_comma-bare [] close = refl
-first_comma-bare (n ∷ ns) close = refl
+pub first_comma-bare : (n : List NextActual) → first_comma (map bare_next_actual n) ≡ first_comma n
+first_comma-bare [] = refl
+first_comma-bare (n ∷ ns) = refl
 
 pub list_of-bare : (t : Option TextFile) (a : Actuals) → list_of t (bare_actuals a) ≡ list_of t a
 list_of-bare None a = refl
-list_of-bare (Some file) a = λ i. first_comma-bare a.others.items a.close i
+list_of-bare (Some file) a = λ i. first_comma-bare a.others.items i
 
 pub items-bare : (t : Transfer) (frame : ℕ) (name : ℕ) (a : Actuals) (file : Option TextFile) → items t frame name (bare_actuals a) file
     ≡ items t frame name a file
 unfolding items
 items-bare t frame name a file =
     λ i. first_item-bare t frame name a.«open» a.first file i
-    >>= λ one. each-bare (next_item t frame) bare_next_actual (next_item-bare t frame) one a.others.items i >>= λ last. link last a.close
+    >>= λ one. each-bare (next_item t frame) bare_next_actual (next_item-bare t frame) one a.others.items i
     >>= λ _. give (list_of-bare file a i)
 
 pub is_enough-bare : (ends_line : Bool) (t : Option TextFile) (a : Actuals) → is_enough ends_line t (bare_actuals a) ≡ is_enough ends_line t a

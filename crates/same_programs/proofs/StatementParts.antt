@@ -13,7 +13,6 @@ use Rattle.expression_checker.specs.declared.actuals.Passing.{Passing}
 use Rattle.expression_checker.specs.declared.callees.Callee.{Callee}
 use Rattle.expression_checker.specs.declared.callees.Callee.TheVariants as callee
 use Rattle.expression_checker.specs.Threats.{threat_alone}
-use Rattle.expression_checker.specs.Actuals.{actuals_end}
 use Rattle.expression_checker.specs.Callees.{count_checked}
 use Rattle.expression_checker.specs.Expressions.{passing_to}
 use Rattle.statement_checker.specs.declared.assignments.Target.{Target}
@@ -96,7 +95,7 @@ pub call_with-bare : (frame : ℕ) (line : ℕ) (name : ℕ) (c : Callee) (a : A
 unfolding call_with
 call_with-bare frame line name c a =
     λ i. count_checked name c (actuals_in-bare a i) >>= λ called. passed_actual-bare frame (passing_to called name) a.«open» a.first i
-    >>= λ one. each-bare (next_passed frame) bare_next_actual (next_passed-bare frame) one a.others.items i >>= λ all. actuals_end all a.close
+    >>= λ one. each-bare (next_passed frame) bare_next_actual (next_passed-bare frame) one a.others.items i
     >>= λ _. call_row line name called.callee a.«open»
 
 pub declared_call-bare : (frame : ℕ) (line : ℕ) (name : ℕ) (c : Callee) (a : Option (Box Actuals))

@@ -42,13 +42,13 @@ mutual
       >>= λ body. for_ends label word direction b body
   plain-bare frame label (With' _ word first others do_word inner p) =
       λ i. first_record-bare frame word first i >>= λ one. each-bare next_record bare_next_access next_record-bare one others.items i
-      >>= λ all. link_element all.last do_word >>= λ _. labelled_by all.frame inner (plain-bare all.frame (label_token inner) p i)
+      >>= λ all. link_element all.last 0 >>= λ _. labelled_by all.frame inner (plain-bare all.frame (label_token inner) p i)
       >>= λ body. put_with label word do_word body
 
   pub compound-bare : (frame : ℕ) (c : Compound) → compound frame (bare_compound c) ≡ compound frame c
   compound-bare frame (CompoundTree' begin statements end) =
       λ i. reach_all-bare frame statements i >>= λ _. sequence-bare frame begin statements i >>= λ last. leave_all-bare frame statements i
-      >>= λ _. link_element last end >>= λ _. compound_row begin end
+      >>= λ _. compound_row begin last end
 
   pub sequence-bare : (frame : ℕ) (list : ℕ) (s : Statements) → sequence frame list (bare_statements s) ≡ sequence frame list s
   sequence-bare frame list (Statements' label p _ others) =
@@ -87,4 +87,4 @@ mutual
       ≡ repeat_statement frame label r
   repeat_statement-bare frame label (RepeatTree' word statements until condition) =
       λ i. reach_all-bare frame statements i >>= λ _. sequence-bare frame word statements i >>= λ last. leave_all-bare frame statements i
-      >>= λ _. link_element last until >>= λ _. tested-bare frame condition i >>= λ c. repeat_row label word until c
+      >>= λ _. link_element last 0 >>= λ _. tested-bare frame condition i >>= λ c. repeat_row label word until c

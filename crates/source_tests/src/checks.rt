@@ -86,7 +86,7 @@ const LARGE: &str = "program p; var i: array [0..65536] of char; begin end.";
 fn statements_stand(program: &Program) -> bool {
     let element = matches!(
         program.row(8),
-        Row::Item(ItemRow::Element { item: 10, next: 12 })
+        Row::Item(ItemRow::Element { item: 10, next: 0 })
     );
     let assignment = matches!(
         program.row(10),

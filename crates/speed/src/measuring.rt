@@ -35,11 +35,8 @@ fn program_of(alloc: Global, source: &[u8]) -> Result<Program> {
     Ok(check_tokens(alloc, &tokens)?)
 }
 
-/// The run of a program, without input. A program has its block as a routine.
+/// The run of a program, without input.
 fn run_of(alloc: Global, program: &Program) -> Result<History> {
-    if program.routines() == 0 {
-        bail!("the program has no block");
-    }
     Ok(run(alloc, program, b"", BUDGET)?)
 }
 

@@ -1,10 +1,12 @@
 -- Further out, past frames of one region.
-use Rattle.std.proofs.Common.{◌≡◌, ℕ, zero, suc, ◌-◌, ◌<◌, Option, Some, None, true, false, refl, ap, sym, ◌∙◌, arith}
-use Rattle.std.specs.Prelude.{◌||◌, nat_eq}
+use Rattle.std.proofs.Common.{◌≡◌, ℕ, zero, suc, ◌-◌, ◌<◌, ◌≤◌, Bool, Option, Some, None, true, false, length, if◌then◌else◌, refl, ap, sym, ◌∙◌, arith}
+use Rattle.std.proofs.lemmas.Bool.Decides.{nat_tests}
+use Rattle.std.specs.Prelude.{◌||◌, nat_eq, is_some}
+use Rattle.check_steps.specs.Around.{first_around, is_around}
 use Rattle.check_steps.specs.Frames.{Leads}
 use Rattle.check_steps.specs.Known.{Known, frame_at}
 use Rattle.check_steps.specs.Regions.{region_at}
-use Rattle.statement_checker.specs.Assignments.{begins_at, is_inside_from}
+use Rattle.statement_checker.specs.Assignments.{begins_at, is_inside, is_inside_from}
 
 pub inside-outermost : (k : Known) (n token : ℕ) → is_inside_from n k None token ≡ false
 inside-outermost k zero token = refl
@@ -47,3 +49,36 @@ inside-here k zero f token some here = absurd (omega arith)
 inside-here k (suc n) f token some here = ap (λ b. b || is_inside_from n k (frame_at k f).outer token) here
 
 pub ruleset inside_outward = (inside-outward, inside-here, inside-outermost, inside-nowhere)
+
+-- ---- a region that is known to be around
+
+or-true : (b : Bool) → b || true ≡ true
+or-true true = refl
+or-true false = refl
+
+around-turn : (k : Known) (n m f region token : ℕ) (b : Bool) (rest : Option ℕ) → (region_at k.regions region).token ≡ token
+    → nat_eq region (frame_at k f).region ≡ b → (is_some rest ≡ true → is_inside_from m k (frame_at k f).outer token ≡ true)
+    → is_some (if b then Some f else rest) ≡ true → is_inside_from (suc m) k (Some f) token ≡ true
+around-turn k n m f region token true rest begins e on some =
+    let same : (frame_at k f).region ≡ region = grind (arith, nat_tests, e) in
+    let here : begins_at k f token ≡ true =
+    let t : (region_at k.regions (frame_at k f).region).token ≡ token = ap (λ r. (region_at k.regions r).token) same ∙ begins in
+    grind (arith, nat_tests, t) in
+    ap (λ b. b || is_inside_from m k (frame_at k f).outer token) here
+around-turn k n m f region token false rest begins e on some =
+    ap (λ b. begins_at k f token || b) (on some) ∙ or-true (begins_at k f token)
+
+around-from : (k : Known) (region token : ℕ) → (region_at k.regions region).token ≡ token → (n m : ℕ) (at : Option ℕ) → n ≤ m
+    → is_some (first_around n k.frames (nat_eq region) at) ≡ true → is_inside_from m k at token ≡ true
+around-from k region token begins zero m None less some = cc
+around-from k region token begins (suc n) m None less some = cc
+around-from k region token begins zero m (Some f) less some = cc
+around-from k region token begins (suc n) zero (Some f) less some = absurd (omega (arith, less))
+around-from k region token begins (suc n) (suc m) (Some f) less some =
+    around-turn k n m f region token (nat_eq region (frame_at k f).region) (first_around n k.frames (nat_eq region) (frame_at k f).outer) begins refl
+    (around-from k region token begins n m (frame_at k f).outer (omega (arith, less))) some
+
+pub around-inside : (k : Known) (frame region token : ℕ) → (region_at k.regions region).token ≡ token → frame < length k.words
+    → is_around k.frames frame region ≡ true → is_inside k frame token ≡ true
+around-inside k frame region token begins below some =
+    around-from k region token begins (suc frame) (length k.words) (Some frame) (omega (arith, below)) some

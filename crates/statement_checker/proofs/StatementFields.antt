@@ -44,8 +44,8 @@ branches_each frame c _ (more_of-NextBranch semicolon constants colon label p re
 
 pub compound_out : (frame : ℕ) (c : Compound) → compound frame c
     ≡ (reach_all frame (out-Compound c).statements >>= λ _. sequence frame (out-Compound c).begin (out-Compound c).statements
-    >>= λ last. leave_all frame (out-Compound c).statements >>= λ _. link_element last (out-Compound c).end
-    >>= λ _. compound_row (out-Compound c).begin (out-Compound c).end)
+    >>= λ last. leave_all frame (out-Compound c).statements
+    >>= λ _. compound_row (out-Compound c).begin last (out-Compound c).end)
 compound_out frame c = ap (compound frame) (is-Compound' c)
 
 pub sequence_out : (frame list : ℕ) (s : Statements) → sequence frame list s
@@ -86,7 +86,7 @@ case_out frame label x =
 
 pub repeat_out : (frame : ℕ) (label : Option ℕ) (x : Repeat) → repeat_statement frame label x
     ≡ (reach_all frame (out-Repeat x).statements >>= λ _. sequence frame (out-Repeat x).word (out-Repeat x).statements
-    >>= λ last. leave_all frame (out-Repeat x).statements >>= λ _. link_element last (out-Repeat x).until
+    >>= λ last. leave_all frame (out-Repeat x).statements >>= λ _. link_element last 0
     >>= λ _. condition_row frame (out-Repeat x).condition >>= λ c. repeat_row label (out-Repeat x).word (out-Repeat x).until c)
 repeat_out frame label x = ap (repeat_statement frame label) (is-Repeat' x)
 

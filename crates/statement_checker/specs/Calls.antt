@@ -16,7 +16,7 @@ abbrev pub is_procedure : Known → Callee → Bool
 is_procedure k callee.Unknown = true
 is_procedure k callee.Wrong = false
 is_procedure k (callee.Routine number levels heading) = is_none (signature_at k heading).result
-is_procedure k (callee.Formal place levels heading) = is_none (signature_at k heading).result
+is_procedure k (callee.Formal formal levels heading) = is_none (signature_at k heading).result
 is_procedure k (callee.Required r) = not (is_required_function r)
 
 -- rule 3: the name stands for another kind of thing than a procedure
@@ -31,8 +31,8 @@ procedure_at frame name = do
 -- the row of a call of a procedure that the program declares, or of a parameter, whose list of actuals has a number
 abbrev pub call_in : Callee → ℕ → ℕ → Row
 call_in (callee.Routine number levels heading) line actuals = row.Statement (statement.Call line number levels actuals)
-call_in (callee.Formal place levels heading) line actuals =
-    row.Statement (statement.CallFormal line place levels actuals)
+call_in (callee.Formal formal levels heading) line actuals =
+    row.Statement (statement.CallFormal line formal levels actuals)
 call_in c line actuals = row.Nothing
 
 -- a call, at the procedure's name

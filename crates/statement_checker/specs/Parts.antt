@@ -16,7 +16,7 @@ use Rattle.expression_checker.specs.declared.callees.Callee.{Callee}
 use Rattle.expression_checker.specs.declared.callees.Callee.TheVariants as callee
 use Rattle.expression_checker.specs.declared.typed.Typed.{Typed}
 use Rattle.expression_checker.specs.Threats.{threat_alone}
-use Rattle.expression_checker.specs.Actuals.{access_name, actuals_end}
+use Rattle.expression_checker.specs.Actuals.{access_name}
 use Rattle.expression_checker.specs.Callees.{count_checked}
 use Rattle.expression_checker.specs.Expressions.{access, actual, expression, passing_to}
 use Rattle.statement_checker.specs.declared.assignments.Target.{Target}
@@ -119,15 +119,14 @@ unfoldable pub call_with : ℕ → ℕ → ℕ → Callee → Actuals → Step �
 call_with frame line name c a = do
   called ← count_checked name c (actuals_in a)
   one ← passed_actual frame (passing_to called name) a.«open» a.first
-  all ← each (next_passed frame) one a.others.items
-  _ ← actuals_end all a.close
+  _ ← each (next_passed frame) one a.others.items
   call_row line name called.callee a.«open»
 
--- a call without actual parameters: no item stands at the procedure's name
+-- a call without actual parameters
 unfoldable pub call_alone : ℕ → ℕ → Callee → Step ℕ
 call_alone line name c = do
   called ← count_checked name c 0
-  call_row line name called.callee name
+  call_row line name called.callee 0
 
 abbrev pub declared_call : ℕ → ℕ → ℕ → Callee → Option (Box Actuals) → Step ℕ
 declared_call frame line name c None = call_alone line name c

@@ -34,9 +34,6 @@ empty = do
   last ← look (λ k. length k.words - 1)
   stated last statement.Empty
 
-unfoldable pub compound_row : ℕ → ℕ → Step ℕ
-compound_row statements end = stated end (statement.Compound statements)
-
 -- an if statement without else part, once its condition and its statement are checked
 unfoldable pub if_row : Branching → Step ℕ
 if_row b = do
@@ -60,9 +57,15 @@ while_row label word condition body = do
 
 -- ---- lists
 
--- the last element of a list, which goes on or ends at a number
+-- the last element of a list, which goes on at a number; at 0 it ends
 unfoldable pub link_element : Element → ℕ → Step (Unit {0})
 link_element last next = put last.slot (row.Item (item.Element last.item next))
+
+-- a compound statement, at its `end`, with the list of its statements up to the last one
+unfoldable pub compound_row : ℕ → Element → ℕ → Step ℕ
+compound_row statements last end = do
+  _ ← link_element last 0
+  stated end (statement.Compound statements)
 
 -- one more element after the last one, at a slot
 unfoldable pub add_element : Element → ℕ → ℕ → Step Element

@@ -70,7 +70,7 @@ abbrev mutual
   plain frame label (With' _ word first others do_word inner p) = do
     one ← first_record frame word first
     all ← each next_record one others.items
-    _ ← link_element all.last do_word
+    _ ← link_element all.last 0
     body ← labelled_by all.frame inner (plain all.frame (label_token inner) p)
     put_with label word do_word body
 
@@ -80,8 +80,7 @@ abbrev mutual
     _ ← reach_all frame statements
     last ← sequence frame begin statements
     _ ← leave_all frame statements
-    _ ← link_element last end
-    compound_row begin end
+    compound_row begin last end
 
   -- statements in a list that begins at a number; the last one is given
   pub sequence : ℕ → ℕ → Statements → Step Element
@@ -130,7 +129,7 @@ abbrev mutual
     _ ← reach_all frame statements
     last ← sequence frame word statements
     _ ← leave_all frame statements
-    _ ← link_element last until
+    _ ← link_element last 0
     c ← condition_row frame condition
     repeat_row label word until c
 

@@ -31,7 +31,7 @@ use Rattle.statement_checker.specs.Sequences.{stated}
 use Rattle.statement_checker.specs.declared.actuals.RequiredCall.{RequiredCall}
 use Rattle.statement_checker.specs.declared.transfers.Transfer.{Transfer}
 use Rattle.statement_checker.specs.declared.transfers.Transfer.TheVariants.{Reading, Writing}
-use Rattle.check_steps.specs.Items.{add_item, link}
+use Rattle.check_steps.specs.Items.{add_item}
 use Rattle.statement_checker.specs.Actuals.{actual_file, plain_actual, wrong_number}
 
 -- ---- what is read
@@ -117,21 +117,20 @@ first_item t frame last slot a (Some file) = do
   _ ← late 32 (first_of_expression a.expression) (is_file_of t file)
   give last
 
-abbrev pub first_comma : List NextActual → ℕ → ℕ
-first_comma [] close = close
-first_comma (n ∷ ns) close = n.comma
+abbrev pub first_comma : List NextActual → ℕ
+first_comma [] = 0
+first_comma (n ∷ ns) = n.comma
 
--- the number of the list: the `(`, or after a text file the first comma, or the `)`
+-- The number of the list: the `(`, or after a text file the first comma. After a text file alone it is empty.
 abbrev pub list_of : Option TextFile → Actuals → ℕ
 list_of None a = a.«open»
-list_of (Some file) a = first_comma a.others.items a.close
+list_of (Some file) a = first_comma a.others.items
 
 -- the list of what is read or written, by its number
 unfoldable pub items : Transfer → ℕ → ℕ → Actuals → Option TextFile → Step ℕ
 items t frame name a file = do
   one ← first_item t frame name a.«open» a.first file
-  last ← each (next_item t frame) one a.others.items
-  _ ← link last a.close
+  _ ← each (next_item t frame) one a.others.items
   give (list_of file a)
 
 abbrev pub transfer_row : Transfer → Bool → ℕ → ℕ → StatementRow
@@ -151,11 +150,11 @@ transfer_with t ends_line frame c a = do
   list ← items t frame c.name a file
   stated c.name (transfer_row t ends_line c.line list)
 
--- the same without actuals: no item stands at the procedure's name
+-- the same without actuals
 unfoldable pub transfer_alone : Transfer → Bool → RequiredCall → Step ℕ
 transfer_alone t ends_line c = do
   _ ← late 26 c.name ends_line
-  stated c.name (transfer_row t ends_line c.line c.name)
+  stated c.name (transfer_row t ends_line c.line 0)
 
 abbrev pub transfer_call : Transfer → Bool → ℕ → RequiredCall → Option (Box Actuals) → Step ℕ
 transfer_call t ends_line frame c None = transfer_alone t ends_line c

@@ -1,6 +1,6 @@
 //! Assignments: what stands on the left, and the value (6.8.2.2).
 
-ghost use Rattle.std.specs.Prelude.{◌≡◌};
+ghost use Rattle.std.specs.Prelude.{◌≡◌, true};
 ghost use Rattle.check_steps.specs.Steps.{Does, when};
 ghost use Rattle.expression_checker.specs.Selectors.{type_number};
 ghost use Rattle.statement_checker.specs.Assignments.{assigned, assigned_in, begins_at, blockless_if, blockless_target};
@@ -128,9 +128,9 @@ fn begins_at(tables: &Tables, frame: u32, token: u32) -> bool
     tables.region_token(tables.frame(frame).region) == token
 }
 
-/// Whether a region that begins at a token is around a frame, or is its own.
+/// Whether a frame is inside of a region, by a way through all frames.
 #[tactic(auto, using(crate::proofs::Inside::inside_outward))]
-pub fn is_inside(tables: &Tables, frame: u32, token: u32) -> bool
+fn is_inside_outward(tables: &Tables, frame: u32, token: u32) -> bool
     ensures { result ≡ is_inside tables.now frame token }
 {
     let mut at = Some(frame);
@@ -147,6 +147,38 @@ pub fn is_inside(tables: &Tables, frame: u32, token: u32) -> bool
         left = (left - 1).saturating_sub(beyond.passed);
     }
     false
+}
+
+/// Whether this region begins at a token and a frame is known to be inside of it.
+fn is_region_around(tables: &Tables, frame: u32, region: u32, token: u32) -> bool
+    ensures { result ≡ true → is_inside tables.now frame token ≡ true }
+{
+    if tables.region_token(region) == token && frame < tables.tokens() {
+        tables.is_around(frame, region)
+    } else {
+        false
+    }
+}
+
+/// Whether a frame is known to be inside of the region of a routine, which is told by the name in its first heading.
+fn is_routine_around(tables: &Tables, frame: u32, name: u32) -> bool
+    ensures { result ≡ true → is_inside tables.now frame name ≡ true }
+{
+    match tables.row(name) {
+        Row::Name(NameRow::Routine { region, .. }) => is_region_around(tables, frame, region, name),
+        _ => false,
+    }
+}
+
+/// Whether a region that begins at a token is around a frame, or is its own.
+pub fn is_inside(tables: &Tables, frame: u32, token: u32) -> bool
+    ensures { result ≡ is_inside tables.now frame token }
+{
+    if is_routine_around(tables, frame, token) {
+        true
+    } else {
+        is_inside_outward(tables, frame, token)
+    }
 }
 
 fn assigned_in(row: Row) -> bool

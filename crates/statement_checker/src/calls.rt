@@ -60,9 +60,9 @@ fn call_in(callee: Callee, line: u32, actuals: u32) -> Row
             levels,
             actuals,
         }),
-        Callee::Formal { place, levels, .. } => Row::Statement(StatementRow::CallFormal {
+        Callee::Formal { formal, levels, .. } => Row::Statement(StatementRow::CallFormal {
             line,
-            place,
+            formal,
             levels,
             actuals,
         }),

@@ -93,6 +93,7 @@ fn with_ways(row: Row, ways: u32) -> Row
 pub fn reach_label(work: &mut Work, frame: u32, token: u32)
     ensures { Does (reach_label frame token) tt work.old work.new }
 {
+    work.come_to(frame);
     let declared = own_label(&work.tables, frame, token);
     let row = row_of(&work.tables, declared);
     let ways = ways_in(row).saturating_add(1);
@@ -104,6 +105,7 @@ pub fn reach_label(work: &mut Work, frame: u32, token: u32)
 pub fn leave(work: &mut Work, frame: u32, token: u32)
     ensures { Does (leave frame token) tt work.old work.new }
 {
+    work.come_to(frame);
     let declared = own_label(&work.tables, frame, token);
     let row = row_of(&work.tables, declared);
     let ways = ways_in(row).saturating_sub(1);
@@ -216,6 +218,7 @@ fn marked_label(row: Row) -> Row
 pub fn check_mark(work: &mut Work, frame: u32, token: u32)
     ensures { Does (mark frame token) tt work.old work.new }
 {
+    work.come_to(frame);
     let declared = own_label(&work.tables, frame, token);
     let row = row_of(&work.tables, declared);
     work.late(15, token, is_unmarked(row));
@@ -236,6 +239,7 @@ pub fn put_labelled(work: &mut Work, token: u32, statement: u32) -> u32
 pub fn check_goto(work: &mut Work, frame: u32, label: Option<u32>, word: u32, token: u32) -> u32
     ensures { Does (jump frame label word token) result work.old work.new }
 {
+    work.come_to(frame);
     let row = row_of(&work.tables, label_of(&work.tables, frame, token));
     work.late(16, token, 0 < ways_in(row));
     let value = work.tables.label(token);

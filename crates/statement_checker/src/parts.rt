@@ -21,8 +21,9 @@ use crate::procedures::check_required;
 use crate::records::open_record;
 use crate::sequences::{Element, add_element, line_of};
 use check_steps::Work;
+use core_program::rows::LIST_END;
 use denoter_checker::variants::Choosing;
-use expression_checker::actuals::{access_name, check_closed};
+use expression_checker::actuals::access_name;
 use expression_checker::callees::check_counted;
 use expression_checker::expressions::{check_access, check_actual, check_expression};
 use expression_checker::threats::check_threat_alone;
@@ -152,6 +153,7 @@ pub fn check_target(work: &mut Work, a: &Access, frame: u32) -> Typed
     ensures { Does (assigned_to frame a.now) result work.old work.new }
 {
     let alone = a.selectors.len() == 0;
+    work.come_to(frame);
     let target = target_at(&work.tables, frame, a.name, alone);
     check_target_as(work, a, frame, target)
 }
@@ -231,8 +233,7 @@ fn check_call_with(
     let called = check_counted(work, name, callee, actuals_in(a));
     let first = passing_to(called, name);
     let passing = check_passed_actual(work, &a.first, frame, first, a.open);
-    let passing = check_more_passed(work, &a.others, frame, passing);
-    check_closed(work, passing, a.close);
+    check_more_passed(work, &a.others, frame, passing);
     put_call(work, line, name, called.callee, a.open)
 }
 
@@ -241,7 +242,7 @@ fn check_call_alone(work: &mut Work, line: u32, name: u32, callee: Callee) -> u3
     ensures { Does (call_alone line name callee) result work.old work.new }
 {
     let called = check_counted(work, name, callee, 0);
-    put_call(work, line, name, called.callee, name)
+    put_call(work, line, name, called.callee, LIST_END)
 }
 
 #[tactic(auto, using(check_steps::proofs::Runs::steps))]

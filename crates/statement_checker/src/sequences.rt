@@ -6,7 +6,7 @@ ghost use Rattle.statement_checker.specs.Sequences.{add_element, compound_row, e
 ghost use Rattle.statement_checker.specs.Sequences.{line_of, link_element, repeat_row, stated, while_row};
 
 use check_steps::{Tables, Work};
-use core_program::rows::{ItemRow, Row, StatementRow};
+use core_program::rows::{ItemRow, LIST_END, Row, StatementRow};
 
 /// An element of a list of which it is not yet known where the next one stands.
 #[derive(Clone, Copy)]
@@ -60,11 +60,12 @@ pub fn put_empty(work: &mut Work) -> u32
     put_statement(work, last, StatementRow::Empty)
 }
 
-/// A compound statement, at its `end`, with the list of its statements.
+/// A compound statement, at its `end`, with the list of its statements up to the last one.
 #[tactic(auto, using(check_steps::proofs::Runs::steps), unfolding(crate::specs::Sequences::compound_row))]
-pub fn put_compound(work: &mut Work, statements: u32, end: u32) -> u32
-    ensures { Does (compound_row statements end) result work.old work.new }
+pub fn put_compound(work: &mut Work, statements: u32, last: Element, end: u32) -> u32
+    ensures { Does (compound_row statements last end) result work.old work.new }
 {
+    link_element(work, last, LIST_END);
     put_statement(work, end, StatementRow::Compound { statements })
 }
 
@@ -125,7 +126,7 @@ pub fn put_while(work: &mut Work, label: Option<u32>, word: u32, condition: u32,
     put_statement(work, word, row)
 }
 
-/// The last element of a list, which goes on at a number or ends there.
+/// The last element of a list, which goes on at a number; at `LIST_END` it ends.
 #[tactic(auto, using(check_steps::proofs::Runs::steps), unfolding(crate::specs::Sequences::link_element))]
 pub fn link_element(work: &mut Work, last: Element, next: u32)
     ensures { Does (link_element last next) tt work.old work.new }

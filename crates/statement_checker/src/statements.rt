@@ -20,6 +20,7 @@ use crate::sequences::{
     put_repeat, put_while,
 };
 use check_steps::Work;
+use core_program::rows::LIST_END;
 use denoter_checker::variants::{Choosing, check_choices};
 use pas_tree::statements::{
     Case, Compound, If, NextBranch, NextStatement, Plain, Repeat, Statement, Statements,
@@ -82,7 +83,7 @@ fn check_plain(
         Plain::With(w) => {
             let first = open_first_record(work, &w.first, frame, w.word)?;
             let all = open_more_records(work, &w.others, first)?;
-            link_element(work, all.last, w.do_word);
+            link_element(work, all.last, LIST_END);
             let body = check_statement(work, &w.statement, all.frame)?;
             Ok(put_with(work, label, w.word, w.do_word, body))
         }
@@ -98,8 +99,7 @@ pub fn check_compound(work: &mut Work, c: &Compound, frame: u32) -> Result<u32, 
     reach_all(work, &c.statements, frame);
     let last = check_sequence(work, &c.statements, frame, c.begin)?;
     leave_all(work, &c.statements, frame);
-    link_element(work, last, c.end);
-    Ok(put_compound(work, c.begin, c.end))
+    Ok(put_compound(work, c.begin, last, c.end))
 }
 
 #[cycle(statements)]
@@ -202,7 +202,7 @@ fn check_repeat(
     reach_all(work, &x.statements, frame);
     let last = check_sequence(work, &x.statements, frame, x.word)?;
     leave_all(work, &x.statements, frame);
-    link_element(work, last, x.until);
+    link_element(work, last, LIST_END);
     let condition = check_tested(work, &x.condition, frame);
     Ok(put_repeat(work, label, x.word, x.until, condition))
 }

@@ -10,9 +10,9 @@ ghost use Rattle.statement_checker.specs.Transfers.{write_item, written_item, wr
 
 use crate::actuals::{RequiredCall, actual_file, check_plain, check_wrong_number};
 use crate::sequences::put_statement;
-use check_steps::items::{put_item, put_link};
+use check_steps::items::put_item;
 use check_steps::{Tables, Work};
-use core_program::rows::{BOOLEAN, CHAR, INTEGER, ItemRow, StatementRow, TextFile};
+use core_program::rows::{BOOLEAN, CHAR, INTEGER, ItemRow, LIST_END, StatementRow, TextFile};
 use expression_checker::actuals::name_alone;
 use expression_checker::expressions::check_expression;
 use expression_checker::threats::check_threat_alone;
@@ -57,7 +57,7 @@ fn check_read(work: &mut Work, a: &Actual, frame: u32, last: u32, slot: u32) -> 
     work.late(32, first_of_expression(&a.expression), fine);
     let item = ItemRow::Element {
         item: value.row,
-        next: 0,
+        next: LIST_END,
     };
     put_item(work, last, slot, item)
 }
@@ -99,13 +99,13 @@ fn written_item(value: Typed, width: Option<u32>) -> ItemRow
         None => ItemRow::Written {
             value: value.row,
             of,
-            next: 0,
+            next: LIST_END,
         },
         Some(width) => ItemRow::WrittenWide {
             value: value.row,
             of,
             width,
-            next: 0,
+            next: LIST_END,
         },
     }
 }
@@ -217,11 +217,11 @@ fn check_first_item(
     }
 }
 
-fn first_comma(others: &[NextActual], close: u32) -> u32
-    ensures { result ≡ first_comma others.now close }
+fn first_comma(others: &[NextActual]) -> u32
+    ensures { result ≡ first_comma others.now }
 {
     match others {
-        [] => close,
+        [] => LIST_END,
         [next, ..] => next.comma,
     }
 }
@@ -231,7 +231,7 @@ fn list_of(file: Option<TextFile>, a: &Actuals) -> u32
 {
     match file {
         None => a.open,
-        Some(_) => first_comma(&a.others, a.close),
+        Some(_) => first_comma(&a.others),
     }
 }
 
@@ -247,8 +247,7 @@ fn check_items(
     ensures { Does (items transfer frame name a.now file) result work.old work.new }
 {
     let first = check_first_item(work, a, frame, transfer, name, file);
-    let last = check_more_items(work, &a.others, frame, transfer, first);
-    put_link(work, last, a.close);
+    check_more_items(work, &a.others, frame, transfer, first);
     list_of(file, a)
 }
 
@@ -289,6 +288,7 @@ fn check_transfer_with(
 ) -> u32
     ensures { Does (transfer_with transfer ends_line frame call a.now) result work.old work.new }
 {
+    work.come_to(frame);
     let file = actual_file(&work.tables, frame, &a.first);
     work.late(26, call.name, is_enough(ends_line, file, a));
     let list = check_items(work, a, frame, transfer, call.name, file);
@@ -312,7 +312,7 @@ fn check_transfer_alone(
     put_statement(
         work,
         call.name,
-        transfer_row(transfer, ends_line, call.line, call.name),
+        transfer_row(transfer, ends_line, call.line, LIST_END),
     )
 }
 
@@ -359,6 +359,7 @@ fn check_paged(work: &mut Work, a: &Actual, frame: u32, file: Option<TextFile>)
 fn check_page_one(work: &mut Work, a: &Actual, frame: u32, call: RequiredCall) -> u32
     ensures { Does (page_one frame call a.now) result work.old work.new }
 {
+    work.come_to(frame);
     let file = actual_file(&work.tables, frame, a);
     check_paged(work, a, frame, file);
     put_statement(work, call.name, StatementRow::Page { line: call.line })

@@ -115,7 +115,7 @@ fn history_of(alloc: Global, program: &Program, subject: &Subject) -> Result<His
     let input = lines(alloc, subject.input)?;
     let is_within = input.len() <= INPUT_BYTES && 0 < budget && budget <= GREATEST_BUDGET;
     ensure!(
-        is_within && 0 < program.routines(),
+        is_within,
         "a budget is 1 to 4,000,000 steps, and an input has at most 4,194,304 bytes"
     );
     Ok(run(alloc, program, &input, budget)?)

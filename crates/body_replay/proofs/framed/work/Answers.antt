@@ -1,4 +1,5 @@
 use Rattle.std.proofs.Common.{◌≡◌, ◌+◌, ◌∙◌, Some, ap, subst, sym}
+use Rattle.std.specs.Prelude.{IsSome}
 use Rattle.core_program.specs.ProgramRows.{routine_at}
 use Rattle.eval_ops.specs.Frames.{framing}
 use Rattle.eval_ops.specs.Machines.{IsReady, machine_state}
@@ -6,41 +7,27 @@ use Rattle.body_replay.specs.Counting.{CountsEachStep, Tally}
 use Rattle.body_replay.specs.Traces.{FrameMade, tally}
 use Rattle.body_replay.proofs.FramesAgain.{fits, made_fell}
 use Rattle.body_replay.proofs.StepsAreCounted.{counts_fell}
-use Rattle.body_replay.proofs.WorkEnds.{ends_framed, ends_unframed, ends_without, job_in_frame, none_there, rests_at_first}
+use Rattle.body_replay.proofs.WorkEnds.{ends_framed, ends_unframed, job_in_frame, rests_at_first, routine_there}
 use Rattle.body_replay.proofs.framed.work.Goals as goal
 
-pub returns-in_default-clause-ends : goal.returns-in_default-clause-ends
-returns-in_default-clause-ends g c j e n =
-    ends_without n _ (sym c.routine.ensures ∙ none_there c.routine.result c.in_default.not-Some) (record {
-      way = c.refused.ensures.way;
-      answer = c.refused.ensures.answer;
-      machine = ap machine_state c.refused.ensures.machine;
-      events = c.refused.ensures.events;
-    })
-
-pub returns-in_default-clause-ready : goal.returns-in_default-clause-ready
-returns-in_default-clause-ready g c = subst IsReady (sym c.refused.ensures.machine) c.requires.ready
-
-pub returns-in_default-clause-counts : goal.returns-in_default-clause-counts
-returns-in_default-clause-counts g c first k =
-    subst (λ (t : Tally). CountsEachStep c.args.run.now first t)
-    (λ i. tally c.args.steps.now (sym c.refused.ensures.machine i) (sym c.refused.ensures.events i)) k
+pub unwrap-routine-requires : goal.unwrap-routine-requires
+unwrap-routine-requires g c = subst (λ o. IsSome o) (sym c.routine.ensures) (routine_there c.requires.entered.2)
 
 pub count_steps-requires : goal.count_steps-requires
 count_steps-requires g c = record { fell = made_fell _ _ _ _ _ c.in_ok-halted.ensures.made }
 
 pub in_frame-requires-clause-fits : goal.in_frame-requires-clause-fits
 in_frame-requires-clause-fits g c =
-    let made = subst (λ o. FrameMade (framing c.in-Some.routine.cells c.args.row.now.args (machine_state c.args.machine)) o
+    let made = subst (λ o. FrameMade (framing c.unwrap-routine.result.cells c.args.row.now.args (machine_state c.args.machine)) o
     (machine_state c.frame_made.new.machine)) c.in-None.is c.in_ok-halted.ensures.made in
     (fits _ _ _ _ made.0 made.1).top
 
 pub in_frame-requires-clause-rests : goal.in_frame-requires-clause-rests
 in_frame-requires-clause-rests g c =
     let w = c.requires.entered in
-    let r = c.in-Some.routine in
+    let r = c.unwrap-routine.result in
     let τ = machine_state c.frame_made.new.machine in
-    let found : routine_at c.args.program.now c.args.row.now.routine ≡ Some r = sym c.routine.ensures ∙ c.in-Some.is in
+    let found : routine_at c.args.program.now c.args.row.now.routine ≡ Some r = sym c.routine.ensures ∙ c.unwrap-routine.ensures in
     let made = subst (λ o. FrameMade (framing r.cells c.args.row.now.args (machine_state c.args.machine)) o τ) c.in-None.is c.in_ok-halted.ensures.made in (
       job_in_frame w.2 r τ found made,
       rests_at_first w.2 r τ found made _ (c.new-body.ensures.begins c.args.program.now r found) _ (λ i. record {
@@ -52,9 +39,9 @@ in_frame-requires-clause-rests g c =
 
 pub returns-in_ok-ending-in-None-clause-ends : goal.returns-in_ok-ending-in-None-clause-ends
 returns-in_ok-ending-in-None-clause-ends g c j e n =
-    let r = c.in-Some.routine in
+    let r = c.unwrap-routine.result in
     let τ = machine_state c.frame_made.new.machine in
-    let found : routine_at c.args.program.now c.args.row.now.routine ≡ Some r = sym c.routine.ensures ∙ c.in-Some.is in
+    let found : routine_at c.args.program.now c.args.row.now.routine ≡ Some r = sym c.routine.ensures ∙ c.unwrap-routine.ensures in
     let made = subst (λ o. FrameMade (framing r.cells c.args.row.now.args (machine_state c.args.machine)) o τ) c.in-None.is c.in_ok-halted.ensures.made in
     ends_framed n r τ found made _ (c.in_ok-ending-in-None.ensures.ends (job_in_frame n r τ found made) (rests_at_first n r τ found made _
     (c.new-body.ensures.begins c.args.program.now r found) _ (λ i. record {
@@ -68,25 +55,24 @@ returns-in_ok-ending-in-None-clause-counts g c first k =
     c.in_ok-ending-in-None.ensures.counts first (subst (λ es. CountsEachStep c.args.run.now first (tally c.count_steps.new.steps c.frame_made.new.machine es))
     (sym c.new-events.ensures) (counts_fell k _ _ (made_fell _ _ _ _ _ c.in_ok-halted.ensures.made) c.count_steps.ensures.counted))
 
-pub returns-in-Some-halted-clause-ends : goal.returns-in-Some-halted-clause-ends
-returns-in-Some-halted-clause-ends g c j e n =
-    let r = c.in-Some.routine in
+pub returns-in-Some-clause-ends : goal.returns-in-Some-clause-ends
+returns-in-Some-clause-ends g c j e n =
+    let r = c.unwrap-routine.result in
     let τ = machine_state c.frame_made.new.machine in
-    let found : routine_at c.args.program.now c.args.row.now.routine ≡ Some r = sym c.routine.ensures ∙ c.in-Some.is in
-    let made = subst (λ o. FrameMade (framing r.cells c.args.row.now.args (machine_state c.args.machine)) o τ) c.in-Some-halted.is
-    c.in_ok-halted.ensures.made in
+    let found : routine_at c.args.program.now c.args.row.now.routine ≡ Some r = sym c.routine.ensures ∙ c.unwrap-routine.ensures in
+    let made = subst (λ o. FrameMade (framing r.cells c.args.row.now.args (machine_state c.args.machine)) o τ) c.in-Some.is c.in_ok-halted.ensures.made in
     ends_unframed n r τ _ _ found made (record {
-      way = c.refused-in-Some-halted.ensures.way;
-      answer = c.refused-in-Some-halted.ensures.answer;
-      machine = ap machine_state c.refused-in-Some-halted.ensures.machine;
-      events = c.refused-in-Some-halted.ensures.events;
+      way = c.refused.ensures.way;
+      answer = c.refused.ensures.answer;
+      machine = ap machine_state c.refused.ensures.machine;
+      events = c.refused.ensures.events;
     })
 
-pub returns-in-Some-halted-clause-ready : goal.returns-in-Some-halted-clause-ready
-returns-in-Some-halted-clause-ready g c = subst IsReady (sym c.refused-in-Some-halted.ensures.machine) c.in_ok-halted.ensures.ready
+pub returns-in-Some-clause-ready : goal.returns-in-Some-clause-ready
+returns-in-Some-clause-ready g c = subst IsReady (sym c.refused.ensures.machine) c.in_ok-halted.ensures.ready
 
-pub returns-in-Some-halted-clause-counts : goal.returns-in-Some-halted-clause-counts
-returns-in-Some-halted-clause-counts g c first k =
+pub returns-in-Some-clause-counts : goal.returns-in-Some-clause-counts
+returns-in-Some-clause-counts g c first k =
     subst (λ (t : Tally). CountsEachStep c.args.run.now first t)
-    (λ i. tally c.count_steps.new.steps (sym c.refused-in-Some-halted.ensures.machine i) (sym c.refused-in-Some-halted.ensures.events i))
+    (λ i. tally c.count_steps.new.steps (sym c.refused.ensures.machine i) (sym c.refused.ensures.events i))
     (counts_fell k _ _ (made_fell _ _ _ _ _ c.in_ok-halted.ensures.made) c.count_steps.ensures.counted)

@@ -10,34 +10,34 @@ use Rattle.body_replay.proofs.replays.work_again.Goals as goal
 pub machine_before-requires : goal.machine_before-requires
 machine_before-requires g c =
     let w = c.requires.run in
-    let run = run_of_history (kept w.1 w.2 c.requires.budget) w.2 in
+    let run = run_of_history (kept c.is_whole.ensures.whole w.1 w.2 c.requires.budget) w.2 in
     record { output = output_before run (row_of_run run c.args.number c.args.row.now c.requires.row) }
 
 pub open_call-requires-clause-ready : goal.open_call-requires-clause-ready
 open_call-requires-clause-ready g c =
     let w = c.requires.run in
-    let run = run_of_history (kept w.1 w.2 c.requires.budget) w.2 in
+    let run = run_of_history (kept c.is_whole.ensures.whole w.1 w.2 c.requires.budget) w.2 in
     ready_before run (row_of_run run c.args.number c.args.row.now c.requires.row)
     (record { state = c.in_ok-machine.ensures.before; log = c.in_ok-machine.ensures.log })
 
 pub open_call-requires-clause-room : goal.open_call-requires-clause-room
 open_call-requires-clause-room g c =
     let w = c.requires.run in
-    let run = run_of_history (kept w.1 w.2 c.requires.budget) w.2 in
+    let run = run_of_history (kept c.is_whole.ensures.whole w.1 w.2 c.requires.budget) w.2 in
     room_before run (row_of_run run c.args.number c.args.row.now c.requires.row)
     (record { state = c.in_ok-machine.ensures.before; log = c.in_ok-machine.ensures.log })
 
 pub work-requires-clause-few : goal.work-requires-clause-few
 work-requires-clause-few g c =
     let w = c.requires.run in
-    let run = run_of_history (kept w.1 w.2 c.requires.budget) w.2 in
+    let run = run_of_history (kept c.is_whole.ensures.whole w.1 w.2 c.requires.budget) w.2 in
     let row = row_of_run run c.args.number c.args.row.now c.requires.row in
     few_numbers run c.args.number row.call row.stands
 
 pub work-requires-clause-entered : goal.work-requires-clause-entered
 work-requires-clause-entered g c =
     let w = c.requires.run in
-    let run = run_of_history (kept w.1 w.2 c.requires.budget) w.2 in
+    let run = run_of_history (kept c.is_whole.ensures.whole w.1 w.2 c.requires.budget) w.2 in
     let row = row_of_run run c.args.number c.args.row.now c.requires.row in
     let items = items_few c.args.run.now c.args.row.now c.in_ok-machine.machine c.in_ok-machine.ensures.before c.in_ok-machine.ensures.few in (
       job run row items,
@@ -51,7 +51,7 @@ returns-clause-work g c input is =
     let w = c.requires.run in
     is_done (record {
       at = c.requires.row;
-      kept = kept w.1 w.2 c.requires.budget;
+      kept = kept c.is_whole.ensures.whole w.1 w.2 c.requires.budget;
       items = items_few c.args.run.now c.args.row.now c.in_ok-machine.machine c.in_ok-machine.ensures.before c.in_ok-machine.ensures.few;
       machine = c.in_ok-machine.machine;
       before = record { state = c.in_ok-machine.ensures.before; log = c.in_ok-machine.ensures.log };

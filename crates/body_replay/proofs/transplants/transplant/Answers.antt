@@ -19,7 +19,7 @@ after_effect-requires-clause-addresses c =
 pub after_effect-requires-clause-fresh : goal.after_effect-requires-clause-fresh
 after_effect-requires-clause-fresh c =
     let w = c.requires.run in
-    let k = kept w.1 w.2 c.requires.budget in
+    let k = kept c.is_whole.ensures.whole w.1 w.2 c.requires.budget in
     let run = run_of_history k w.2 in
     let r = row_of_run run c.args.call c.call-row.result.now c.call-row.ensures.found in
     let e = subst (λ o. IfSome o (λ f. IsEffectOf c.args.run.now.log c.call-row.result.now f)) c.in-Some.is c.in_ok-agreed.ensures.found in
@@ -30,7 +30,7 @@ after_effect-requires-clause-fresh c =
 pub after_effect-requires-clause-place : goal.after_effect-requires-clause-place
 after_effect-requires-clause-place c =
     let w = c.requires.run in
-    let k = kept w.1 w.2 c.requires.budget in
+    let k = kept c.is_whole.ensures.whole w.1 w.2 c.requires.budget in
     let run = run_of_history k w.2 in
     let r = row_of_run run c.args.call c.call-row.result.now c.call-row.ensures.found in
     let e = subst (λ o. IfSome o (λ f. IsEffectOf c.args.run.now.log c.call-row.result.now f)) c.in-Some.is c.in_ok-agreed.ensures.found in
@@ -41,7 +41,7 @@ after_effect-requires-clause-place c =
 pub after_effect-requires-clause-from_itself : goal.after_effect-requires-clause-from_itself
 after_effect-requires-clause-from_itself c =
     let w = c.requires.run in
-    let k = kept w.1 w.2 c.requires.budget in
+    let k = kept c.is_whole.ensures.whole w.1 w.2 c.requires.budget in
     let run = run_of_history k w.2 in
     let r = row_of_run run c.args.call c.call-row.result.now c.call-row.ensures.found in
     from_itself run r
@@ -49,7 +49,7 @@ after_effect-requires-clause-from_itself c =
 pub after_effect-requires-clause-few : goal.after_effect-requires-clause-few
 after_effect-requires-clause-few c =
     let w = c.requires.run in
-    let k = kept w.1 w.2 c.requires.budget in
+    let k = kept c.is_whole.ensures.whole w.1 w.2 c.requires.budget in
     let run = run_of_history k w.2 in
     let r = row_of_run run c.args.call c.call-row.result.now c.call-row.ensures.found in
     let last = last_there run r in
@@ -59,7 +59,7 @@ after_effect-requires-clause-few c =
 pub after_effect-requires-clause-calls : goal.after_effect-requires-clause-calls
 after_effect-requires-clause-calls c =
     let w = c.requires.run in
-    let k = kept w.1 w.2 c.requires.budget in
+    let k = kept c.is_whole.ensures.whole w.1 w.2 c.requires.budget in
     let run = run_of_history k w.2 in
     let r = row_of_run run c.args.call c.call-row.result.now c.call-row.ensures.found in
     let a = (at_call (λ d below. IsSome c.in_ok-agreed.agreed ↔ Agrees d below (kept_state c.args.at.now)) c.in_ok-agreed.ensures.agrees w.2 run r).0
@@ -70,7 +70,7 @@ after_effect-requires-clause-calls c =
 pub returns-in_ok-after-in-Some-clause-applied : goal.returns-in_ok-after-in-Some-clause-applied
 returns-in_ok-after-in-Some-clause-applied c =
     let w = c.requires.run in
-    let k = kept w.1 w.2 c.requires.budget in
+    let k = kept c.is_whole.ensures.whole w.1 w.2 c.requires.budget in
     let e = subst (λ o. IfSome o (λ f. IsEffectOf c.args.run.now.log c.call-row.result.now f)) c.in-Some.is c.in_ok-agreed.ensures.found in
     for_call (λ d below. kept_state c.in_ok-after-in-Some.after ≡ effects.apply d (kept_state c.args.at.now)) k c.call-row.ensures.found
     (λ input is g r. c.in_ok-after-in-Some.ensures ∙ applied_is g r c.args.at.now e (kept_state c.args.at.now))
@@ -78,7 +78,7 @@ returns-in_ok-after-in-Some-clause-applied c =
 pub returns-in_ok-after-in-Some-clause-stands : goal.returns-in_ok-after-in-Some-clause-stands
 returns-in_ok-after-in-Some-clause-stands c =
     let w = c.requires.run in
-    let k = kept w.1 w.2 c.requires.budget in
+    let k = kept c.is_whole.ensures.whole w.1 w.2 c.requires.budget in
     let e = subst (λ o. IfSome o (λ f. IsEffectOf c.args.run.now.log c.call-row.result.now f)) c.in-Some.is c.in_ok-agreed.ensures.found in
     let σ = kept_state c.args.at.now in
     for_call (λ d below. IsSound σ → RunsTo c.args.program.now d σ (kept_state c.in_ok-after-in-Some.after)) k c.call-row.ensures.found

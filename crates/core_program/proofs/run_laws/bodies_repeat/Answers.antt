@@ -2,4 +2,4 @@ use Rattle.core_program.proofs.LawsOfRuns.{made, body_is}
 use Rattle.core_program.proofs.run_laws.bodies_repeat.Goals as goal
 
 pub returns : goal.returns
-returns c = λ p input budget r e k d h. body_is p k d _ (made p input budget r e k d h)
+returns c = λ p input budget r e k d h W. body_is p W k d _ (made p input budget r e k d h)

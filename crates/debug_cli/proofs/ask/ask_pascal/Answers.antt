@@ -4,7 +4,7 @@ use Rattle.debug_cli.specs.declared.status.Status.TheVariants as status
 use Rattle.debug_cli.specs.Setting.{InFiles}
 use Rattle.debug_cli.proofs.StatusByCode.{either_code, no_console, no_screen, screen_code, console_counted, screen_counted}
 use Rattle.debug_cli.proofs.StatusIsRefusal.{program_refused, session_refused, no_fault_status, no_words_status}
-use Rattle.debug_cli.proofs.TranscriptIsGiven.{whole_transcript, first_part, wanted_or_memory}
+use Rattle.debug_cli.proofs.TranscriptIsGiven.{first_part, tables_are_whole, wanted_or_memory, whole_transcript}
 use Rattle.debug_cli.proofs.ask.ask_pascal.Goals as goal
 
 pub returns-clause-headline : goal.returns-clause-headline
@@ -12,13 +12,14 @@ returns-clause-headline g c = λ r t means e.
     let f = whole_transcript c.one_run.ensures c.args.words.now c.ask.ensures.gone (InFiles r means t) (sym c.code.ensures ∙ e) in
     let tokens = t.begun.run.source.tokens in
     let rows = t.begun.run.source.rows in
+    let whole = tables_are_whole c.one_run.ensures c.args.words.now c.ask.ensures.gone r means t (sym c.code.ensures ∙ e) in
     let supply : Supply = record { input = t.begun.run.input; budget = r.budget } in
     record {
       saves = f.saves;
       printed = f.gave;
       asks = c.search_is_sound.ensures.asks tokens rows supply;
       narrows = c.search_is_sound.ensures.narrows tokens rows supply;
-      finds = c.verdicts_are_found.ensures tokens rows supply;
+      finds = c.verdicts_are_found.ensures tokens rows whole supply;
     }
 
 pub returns-clause-transcript : goal.returns-clause-transcript

@@ -49,7 +49,10 @@ returns-in-Ok-clause-gone g c =
     let kept = c.in-Ok.ensures.kept ∙ ap run c.as_slice-3.ensures in
     let ran = subst (λ (h : Execution). Went (subject_of h) begins before c.converse.result after) kept c.converse.ensures.goes in
     let went = subst (λ (s' : Start). Went (subject_of (run s.input)) s' before c.converse.result after) same ran in
-    record { goes = subst (Goes (Some (Source r)) before after) (sym c.status_of.ensures) (talk_goes r before after b c.converse.result went) }
+    record {
+      goes = subst (Goes (Some (Source r)) before after) (sym c.status_of.ensures)
+          (talk_goes r before after b c.is_whole.ensures.whole c.converse.result went);
+    }
 
 pub returns-in-Ok-clause-console_faults : goal.returns-in-Ok-clause-console_faults
 returns-in-Ok-clause-console_faults g c =

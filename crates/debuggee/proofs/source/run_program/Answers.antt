@@ -40,7 +40,7 @@ invariant_of-result c =
       short = c.requires.input;
       few_steps = let few = c.requires.few_steps in let same = kept.budget in omega (arith, few, same);
       ran = history_is of_run;
-      some = some_call c.every_run_has_a_call.ensures c.every_program_runs.ensures p given history.calls kept.calls;
+      some = some_call c.every_run_has_a_call.ensures c.every_program_runs.ensures p c.is_whole.ensures.whole given history.calls kept.calls;
       told = c.calls_are_told.ensures p given.input given.budget history c.requires.input of_run;
       named = c.in_ok-names.ensures ∙ ap (λ n. finding_of p n history.log) c.len.ensures.count;
     }

@@ -6,7 +6,7 @@ use Rattle.denoter_checker.proofs.headings.put_other_sections.Given as goal
 abbrev pub invariant-others : goal.invariant-others
 invariant-others l = record {
   inside : l.left ≤ length l.others;
-  so_far : run_step (each_back put_next_section l.next (take l.left l.others)) l.work ≡ run_step (each_back put_next_section l.fn.close l.others) l.fn.work;
+  so_far : run_step (each_back put_next_section l.next (take l.left l.others)) l.work ≡ run_step (each_back put_next_section 0 l.others) l.fn.work;
 }
 
 abbrev pub decreases-others : goal.decreases-others

@@ -14,7 +14,7 @@ use Rattle.evaluator.proofs.accesses.continue_access.Goals as goal
 pub returns-in-Value-clause-turns : goal.returns-in-Value-clause-turns
 returns-in-Value-clause-turns c = turns_same c.args.program.now _ _ _ _ c.variable_value.result c.variable_value.new.body
     (ap (λ t. resume c.args.program.now c.args.body.now.home (tasks.Located t ∷ tasks_of c.args.body.now) (values_of c.args.body.now)
-    (lists_of c.args.body.now) (Address c.args.addr)) c.in-Value.is ∙ ap (λ t. bind (value_at c.in-Value.line c.args.addr t)
+    (lists_of c.args.body.now) (Address c.args.addr)) c.in-Value.is ∙ ap (λ t. bind (value_at c.args.program.now c.in-Value.line c.args.addr t)
     (waiting c.args.program.now c.args.body.now)) (sym c.type_row.ensures))
     c.variable_value.ensures.turns
 

@@ -2,9 +2,9 @@ use mir.Syntax.{w32}
 use mir.Val.{of_z, to_z}
 use Rattle.std.proofs.Common.{rules}
 use Rattle.core_program.specs.declared.rows.TypeRow.TheVariants as kinds
-use Rattle.std.proofs.Common.{◌≡◌, Some, ap, ◌∙◌, arith}
-use Rattle.core_program.specs.Tree.{bind}
-use Rattle.core_program.specs.Accesses.{value_at}
+use Rattle.std.proofs.Common.{◌≡◌, Some, sym, ap, ◌∙◌, arith}
+use Rattle.core_program.specs.Tree.{bind, doing}
+use Rattle.core_program.specs.Accesses.{scalar, value_at, with_bounds}
 use Rattle.core_program.specs.Cells as action
 use Rattle.core_program.specs.Heap.{pointer_at}
 use Rattle.eval_ops.specs.Machines.{moment_of}
@@ -21,7 +21,7 @@ returns-in-Some-Ordinal-clause-turns c =
     let l : to_z w32 (of_z w32 c.in-Some-Ordinal.least) ≡ c.in-Some-Ordinal.least = search rules in
     let g : to_z w32 (of_z w32 c.in-Some-Ordinal.greatest) ≡ c.in-Some-Ordinal.greatest = search rules in
     turns_same p _ _ _ _ c.scalar.result c.scalar.new.self
-    (ap (λ k. bind (value_at c.args.line c.args.addr k) (waiting p c.args.body.now)) e)
+    (ap (λ k. bind (value_at p c.args.line c.args.addr k) (waiting p c.args.body.now)) e)
     (c.scalar.ensures.turns p (action.ordinal_at c.in-Some-Ordinal.least c.in-Some-Ordinal.greatest c.args.addr) (moment_of c.args.machine.now)
     (moment_of c.ordinal_at.new.machine) (rw (l, g) at c.ordinal_at.ensures.action))
 
@@ -39,7 +39,7 @@ returns-in-Some-Subrange-clause-turns c =
     let l : to_z w32 (of_z w32 c.in-Some-Subrange.least) ≡ c.in-Some-Subrange.least = search rules in
     let g : to_z w32 (of_z w32 c.in-Some-Subrange.greatest) ≡ c.in-Some-Subrange.greatest = search rules in
     turns_same p _ _ _ _ c.scalar-in-Some-Subrange.result c.scalar-in-Some-Subrange.new.self
-    (ap (λ k. bind (value_at c.args.line c.args.addr k) (waiting p c.args.body.now)) e)
+    (ap (λ k. bind (value_at p c.args.line c.args.addr k) (waiting p c.args.body.now)) e)
     (c.scalar-in-Some-Subrange.ensures.turns p (action.ordinal_at c.in-Some-Subrange.least c.in-Some-Subrange.greatest c.args.addr)
     (moment_of c.args.machine.now)
     (moment_of c.ordinal_at-in-Some-Subrange.new.machine) (rw (l, g) at c.ordinal_at-in-Some-Subrange.ensures.action))
@@ -54,16 +54,12 @@ pub returns-in-Some-Set-clause-turns : goal.returns-in-Some-Set-clause-turns
 returns-in-Some-Set-clause-turns c =
     let p = c.args.program.now in
     let n = c.in-Some-Set in
-    let e : c.args.kind ≡ Some (kinds.Set n.field-0-0 n.field-0-1) = n.is ∙ ap Some (rw n.is at n.field-0-is) in
-    turns_same p _ _ _ _ c.scalar-in-Some-Set.result c.scalar-in-Some-Set.new.self
-    (ap (λ k. bind (value_at c.args.line c.args.addr k) (waiting p c.args.body.now)) e)
-    (c.scalar-in-Some-Set.ensures.turns p (action.set_at c.args.addr) (moment_of c.args.machine.now)
-    (moment_of c.set_at.new.machine) c.set_at.ensures.action)
-
-pub returns-in-Some-Set-clause-falls : goal.returns-in-Some-Set-clause-falls
-returns-in-Some-Set-clause-falls c = falls_so c.scalar-in-Some-Set.result _ _ _ _ (λ k. omega arith)
-    (c.scalar-in-Some-Set.ensures.less (action.set_at c.args.addr) (moment_of c.args.machine.now) (moment_of c.set_at.new.machine)
-    c.set_at.ensures.action)
+    let e : c.args.kind ≡ Some (kinds.Set n.field-0-0 n.base) = n.is ∙ ap Some (rw n.is at n.field-0-is) in
+    turns_same p _ _ (moment_of c.args.machine.now) _ c.set_value.result c.set_value.new.body
+    (ap (λ k. bind (value_at p c.args.line c.args.addr k) (waiting p c.args.body.now)) e
+    ∙ ap (λ t. bind (with_bounds t (λ least greatest. doing c.args.line (action.set_at least greatest c.args.addr) scalar)) (waiting p c.args.body.now))
+    (sym c.type_row.ensures))
+    (c.set_value.ensures.turns p)
 
 pub returns-in-Some-Pointer-clause-turns : goal.returns-in-Some-Pointer-clause-turns
 returns-in-Some-Pointer-clause-turns c =
@@ -71,7 +67,7 @@ returns-in-Some-Pointer-clause-turns c =
     let n = c.in-Some-Pointer in
     let e : c.args.kind ≡ Some (kinds.Pointer n.field-0-0) = n.is ∙ ap Some (rw n.is at n.field-0-is) in
     turns_same p _ _ _ _ c.scalar-in-Some-Pointer.result c.scalar-in-Some-Pointer.new.self
-    (ap (λ k. bind (value_at c.args.line c.args.addr k) (waiting p c.args.body.now)) e)
+    (ap (λ k. bind (value_at p c.args.line c.args.addr k) (waiting p c.args.body.now)) e)
     (c.scalar-in-Some-Pointer.ensures.turns p (pointer_at c.args.addr) (moment_of c.args.machine.now)
     (moment_of c.pointer_at.new.machine) c.pointer_at.ensures.action)
 

@@ -1,7 +1,7 @@
 use Rattle.cell_value.specs.declared.values.Value.{Value}
 use Rattle.std.proofs.Common.{[], ◌∷◌, ◌++◌, Ok, Err, sym, ap, ◌∙◌}
 use Rattle.core_program.specs.Tree.{bind, doing}
-use Rattle.core_program.specs.Values.{or_fault, tested}
+use Rattle.core_program.specs.Values.{as_tested, test_of}
 use Rattle.evaluator.specs.Rest.{resume, top_list, below_top, tasks_of, values_of, lists_of, pass}
 use Rattle.evaluator.proofs.Moves.{comes_then, comes_same}
 use Rattle.evaluator.proofs.Turning.{turns_after, turns_failed, fails_after, did, fails, given}
@@ -13,11 +13,11 @@ returns-in-Ok-clause-turns c m =
     let a = c.args.body.now in
     let K = resume p a.home (tasks_of a) (values_of a) (below_top (lists_of a)) in
     turns_after p _ _ _ _ _ c.add_cell.result c.add_cell.new.body
-    (comes_then (comes_same (ap (λ r. bind (doing c.args.line (or_fault r) (λ w. pass a.home c.args.next c.args.line (top_list (lists_of a) ++ w ∷ []))) K)
-    (sym (c.test.ensures ∙ ap (λ t. tested c.args.program.now t c.args.value) c.type_row.ensures))))
-    (did {X = Value} p c.args.line (or_fault c.test.result) (λ w. pass a.home c.args.next c.args.line (top_list (lists_of a) ++ w ∷ [])) K (λ v. v)
+    (comes_then (comes_same (ap (λ r. bind (doing c.args.line (as_tested r) (λ w. pass a.home c.args.next c.args.line (top_list (lists_of a) ++ w ∷ []))) K)
+    (sym (c.test.ensures ∙ ap (λ t. test_of c.args.program.now t c.args.value) c.type_row.ensures))))
+    (did {X = Value} p c.args.line (as_tested c.test.result) (λ w. pass a.home c.args.next c.args.line (top_list (lists_of a) ++ w ∷ [])) K (λ v. v)
     c.in-Ok.tested m m
-    (given {X = Value} (λ v. v) (or_fault c.test.result) (Ok c.in-Ok.tested) m c.in-Ok.ensures)))
+    (given {X = Value} (λ v. v) (as_tested c.test.result) (Ok c.in-Ok.tested) m c.in-Ok.ensures)))
     (c.add_cell.ensures.turns m)
 
 pub returns-in-Err-clause-turns : goal.returns-in-Err-clause-turns
@@ -27,8 +27,8 @@ returns-in-Err-clause-turns c m =
     let K = resume p a.home (tasks_of a) (values_of a) (below_top (lists_of a)) in
     turns_failed p _ _ _ c.args.line c.in-Err.halt c.fail.new.self c.fail.result c.fail.ensures.line c.fail.ensures.fails
     (fails_after p _ _ _ _ _ c.args.line c.in-Err.halt
-    (comes_same (ap (λ r. bind (doing c.args.line (or_fault r) (λ w. pass a.home c.args.next c.args.line (top_list (lists_of a) ++ w ∷ []))) K)
-    (sym (c.test.ensures ∙ ap (λ t. tested c.args.program.now t c.args.value) c.type_row.ensures))))
-    (fails {X = Value} p c.args.line (or_fault c.test.result) (λ w. pass a.home c.args.next c.args.line (top_list (lists_of a) ++ w ∷ [])) K (λ v. v)
+    (comes_same (ap (λ r. bind (doing c.args.line (as_tested r) (λ w. pass a.home c.args.next c.args.line (top_list (lists_of a) ++ w ∷ []))) K)
+    (sym (c.test.ensures ∙ ap (λ t. test_of c.args.program.now t c.args.value) c.type_row.ensures))))
+    (fails {X = Value} p c.args.line (as_tested c.test.result) (λ w. pass a.home c.args.next c.args.line (top_list (lists_of a) ++ w ∷ [])) K (λ v. v)
     c.in-Err.halt m m
-    (given {X = Value} (λ v. v) (or_fault c.test.result) (Err c.in-Err.halt) m c.in-Err.ensures)))
+    (given {X = Value} (λ v. v) (as_tested c.test.result) (Err c.in-Err.halt) m c.in-Err.ensures)))

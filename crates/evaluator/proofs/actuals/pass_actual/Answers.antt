@@ -1,11 +1,12 @@
-use Rattle.std.proofs.Common.{[], ◌∷◌, ◌++◌, ap, arith}
+use Rattle.std.proofs.Common.{[], ◌∷◌, ◌++◌, sym, ap, ◌∙◌, arith}
 use Rattle.cell_value.specs.declared.values.Value.TheVariants as value
 use Rattle.core_program.specs.declared.rows.Row.TheVariants as rows
 use Rattle.core_program.specs.Cells.{routine_out}
-use Rattle.core_program.specs.Expressions.{of_actual}
+use Rattle.core_program.specs.Accesses.{with_formal}
+use Rattle.core_program.specs.Expressions.{of_actual, pass_routine}
 use Rattle.core_program.specs.Tree.{bind, doing}
 use Rattle.evaluator.specs.Rest.{declared, here, pass, resume, top_list, below_top, tasks_of, values_of, lists_of}
-use Rattle.evaluator.proofs.Turning.{spent, not_spent, spent_less, turns_after, turns_failed, fails_after, falls_failed}
+use Rattle.evaluator.proofs.Turning.{spent, not_spent, spent_less, turns_after, turns_same, turns_failed, fails_after, falls_failed}
 use Rattle.evaluator.proofs.Moves.{comes_then, comes_same}
 use Rattle.evaluator.proofs.StepsFall.{falls_so}
 use Rattle.evaluator.proofs.actuals.pass_actual.Goals as goal
@@ -63,44 +64,16 @@ returns-in-Err-clause-turns c =
 pub returns-in-Err-clause-falls : goal.returns-in-Err-clause-falls
 returns-in-Err-clause-falls c = falls_failed c.fail.result c.in-Err.halt _ _ c.fail.ensures.fails
 
-pub returns-in-Ok-spend-clause-turns : goal.returns-in-Ok-spend-clause-turns
-returns-in-Ok-spend-clause-turns c =
+pub returns-in-RoutineFormal-clause-turns : goal.returns-in-RoutineFormal-clause-turns
+returns-in-RoutineFormal-clause-turns c =
     let p = c.args.program.now in
     let a = c.args.body.now in
     let h = here a.home c.args.line in
     let i = c.in-RoutineFormal in
+    let passed = top_list (lists_of a) in
     let K = resume p a.home (tasks_of a) (values_of a) (below_top (lists_of a)) in
-    let found = routine_out i.levels a.home.base i.place in
-    let m' = moment_of c.spend-in-RoutineFormal.new.machine in
-    turns_after p _ _ _ _ _ c.add_routine-in-Ok-spend.result c.add_routine-in-Ok-spend.new.body
-    (comes_then (comes_same (ap (λ i. bind (of_actual p (top_list (lists_of a)) h (rows.Item i)) K) i.is))
-    (spent p h (doing c.args.line found (λ x. pass a.home i.next c.args.line (top_list (lists_of a) ++ value.Routine x.0 x.1 ∷ []))) K
-    (moment_of c.args.machine.now) m' c.in-Ok-spend.ensures.act))
-    (c.add_routine-in-Ok-spend.ensures.turns found m' (moment_of c.routine_out-found.new.machine) c.routine_out-found.ensures.action)
-
-pub returns-in-Ok-spend-clause-falls : goal.returns-in-Ok-spend-clause-falls
-returns-in-Ok-spend-clause-falls c =
-    let i = c.in-RoutineFormal in
-    let a = c.args.body.now in
-    let m' = moment_of c.spend-in-RoutineFormal.new.machine in
-    falls_so c.add_routine-in-Ok-spend.result _ _ _ _ (λ h. omega (arith, h, spent_less (moment_of c.args.machine.now) m' c.in-Ok-spend.ensures.act))
-    (c.add_routine-in-Ok-spend.ensures.less (routine_out i.levels a.home.base i.place) m' (moment_of c.routine_out-found.new.machine)
-    c.routine_out-found.ensures.action)
-
-pub returns-in-Err-spend-clause-turns : goal.returns-in-Err-spend-clause-turns
-returns-in-Err-spend-clause-turns c =
-    let p = c.args.program.now in
-    let a = c.args.body.now in
-    let h = here a.home c.args.line in
-    let i = c.in-RoutineFormal in
-    let K = resume p a.home (tasks_of a) (values_of a) (below_top (lists_of a)) in
-    let found = routine_out i.levels a.home.base i.place in
-    turns_failed p _ _ _ c.args.line c.in-Err-spend.halt c.fail-in-Err-spend.new.self c.fail-in-Err-spend.result c.fail-in-Err-spend.ensures.line
-    c.fail-in-Err-spend.ensures.fails
-    (fails_after p _ _ _ _ _ c.args.line c.in-Err-spend.halt
-    (comes_same (ap (λ i. bind (of_actual p (top_list (lists_of a)) h (rows.Item i)) K) i.is))
-    (not_spent p h (doing c.args.line found (λ x. pass a.home i.next c.args.line (top_list (lists_of a) ++ value.Routine x.0 x.1 ∷ []))) K c.in-Err-spend.halt
-    (moment_of c.args.machine.now) (moment_of c.spend-in-RoutineFormal.new.machine) c.in-Err-spend.ensures.act))
-
-pub returns-in-Err-spend-clause-falls : goal.returns-in-Err-spend-clause-falls
-returns-in-Err-spend-clause-falls c = falls_failed c.fail-in-Err-spend.result c.in-Err-spend.halt _ _ c.fail-in-Err-spend.ensures.fails
+    turns_same p _ _ (moment_of c.args.machine.now) _ c.pass_formal.result c.pass_formal.new.body
+    (ap (λ i. bind (of_actual p passed h (rows.Item i)) K) i.is
+    ∙ ap (λ r. bind (with_formal r (λ place heading. pass_routine h i.next passed (routine_out p heading i.levels a.home.base place))) K)
+    (sym c.row.ensures))
+    c.pass_formal.ensures.turns

@@ -40,10 +40,23 @@ returns-in-NoNumber-clause-turns c m =
     let p = c.args.program.now in
     let h = here c.args.body.now.home c.args.line in
     let rest = waiting p c.args.body.now in
-    turns_same p _ _ m m c.no_row.result c.no_row.new.self
+    turns_same p _ _ m m c.fail-in-NoNumber.result c.fail-in-NoNumber.new.self
     (ap (λ t. bind t rest) (c.case_of.ensures h ∙ ap (case_tree h) c.in-NoNumber.is))
-    (c.no_row.ensures.turns p m)
+    (turns_failed p _ m m c.args.line (halts.Fault kinds.Undefined) c.fail-in-NoNumber.new.self c.fail-in-NoNumber.result c.fail-in-NoNumber.ensures.line
+    c.fail-in-NoNumber.ensures.fails (record { moves = 1; is = refl }))
 
 pub returns-in-NoNumber-clause-falls : goal.returns-in-NoNumber-clause-falls
-returns-in-NoNumber-clause-falls c =
+returns-in-NoNumber-clause-falls c = rw c.fail-in-NoNumber.ensures.fails tt
+
+pub returns-in-Broken-clause-turns : goal.returns-in-Broken-clause-turns
+returns-in-Broken-clause-turns c m =
+    let p = c.args.program.now in
+    let h = here c.args.body.now.home c.args.line in
+    let rest = waiting p c.args.body.now in
+    turns_same p _ _ m m c.no_row.result c.no_row.new.self
+    (ap (λ t. bind t rest) (c.case_of.ensures h ∙ ap (case_tree h) c.in-Broken.is))
+    (c.no_row.ensures.turns p m)
+
+pub returns-in-Broken-clause-falls : goal.returns-in-Broken-clause-falls
+returns-in-Broken-clause-falls c =
     falls_so c.no_row.result _ _ _ _ (λ h. omega (arith, h)) c.no_row.ensures.falls

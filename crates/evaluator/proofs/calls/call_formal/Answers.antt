@@ -1,60 +1,33 @@
-use Rattle.std.proofs.Common.{◌≡◌, ℕ, ◌∷◌, Some, None, refl, sym, ap, ◌∙◌, arith}
-use Rattle.cell_value.specs.declared.values.Value.TheVariants as value
-use Rattle.core_program.specs.ProgramRows.{routine_at}
+use Rattle.std.proofs.Common.{◌≡◌, sym, ap, ◌∙◌}
+use Rattle.core_program.specs.declared.rows.Row.TheVariants as rows
+use Rattle.core_program.specs.declared.rows.NameRow.TheVariants as named
+use Rattle.core_program.specs.ProgramRows.{row_at}
+use Rattle.core_program.specs.Accesses.{with_formal}
 use Rattle.core_program.specs.Cells.{routine_out}
-use Rattle.core_program.specs.Expressions.{with_frame_size, enter}
-use Rattle.core_program.specs.Tree.{Enter, bind}
+use Rattle.core_program.specs.Expressions.{enter}
+use Rattle.core_program.specs.Tree.{bind, doing}
 use Rattle.eval_ops.specs.Machines.{moment_of}
 use Rattle.evaluator.specs.Rest.{after_call, resume, top_list, below_top, tasks_of, values_of, lists_of}
-use Rattle.evaluator.proofs.Moves.{comes_then, comes_same}
-use Rattle.evaluator.proofs.StepsFall.{falls_so}
-use Rattle.evaluator.proofs.Turning.{turns_after, turns_failed, did, fails, falls_failed}
+use Rattle.evaluator.proofs.Turning.{turns_same}
 use Rattle.evaluator.proofs.calls.call_formal.Goals as goal
 
-pub returns-in-Some-clause-turns : goal.returns-in-Some-clause-turns
-returns-in-Some-clause-turns c =
+pub returns-in-Name-RoutineFormal-clause-turns : goal.returns-in-Name-RoutineFormal-clause-turns
+returns-in-Name-RoutineFormal-clause-turns c =
     let p = c.args.program.now in
     let a = c.args.body.now in
     let K = resume p a.home (tasks_of a) (values_of a) (below_top (lists_of a)) in
     let args = top_list (lists_of a) in
-    let r = c.in-Some.found in
-    let h : routine_at p c.in-Ok.routine ≡ Some r = sym c.routine.ensures ∙ c.in-Some.is in
-    turns_after p _ _ _ _ _ c.enter.result c.enter.new.body
-    (comes_then (did {X = ℕ × ℕ} p c.args.line (routine_out c.args.levels a.home.base c.args.place) (λ x. enter p x.0 x.1 args (after_call c.args.procedure))
-    K (λ x. x) (c.in-Ok.routine, c.in-Ok.frame) (moment_of c.args.machine.now) (moment_of c.routine_out.new.machine) c.in-Ok.ensures.action)
-    (comes_same (ap (λ x. bind (with_frame_size x (λ cells. Enter c.in-Ok.routine cells (value.Frame c.in-Ok.frame ∷ args)
-    (after_call c.args.procedure))) K) h)))
-    (c.enter.ensures.turns p r h refl)
+    let n = c.in-Name-RoutineFormal in
+    let e : row_at p c.args.formal ≡ rows.Name (named.RoutineFormal n.place n.field-0-1 n.heading) =
+    sym c.row.ensures ∙ n.is ∙ ap rows.Name n.field-0-is in
+    turns_same p _ _ (moment_of c.args.machine.now) _ c.enter_found.result c.enter_found.new.body
+    (ap (λ r. bind (with_formal r (λ place heading. doing c.args.line (routine_out p heading c.args.levels a.home.base place)
+    (λ x. enter p x.0 x.1 args (after_call c.args.procedure)))) K) e)
+    (c.enter_found.ensures.turns (routine_out p n.heading c.args.levels a.home.base n.place) (moment_of c.args.machine.now)
+    c.routine_out-found.ensures.action)
 
-pub returns-in-Some-clause-falls : goal.returns-in-Some-clause-falls
-returns-in-Some-clause-falls c = c.enter.ensures.falls _ _
+pub returns-in-Name-RoutineFormal-clause-falls : goal.returns-in-Name-RoutineFormal-clause-falls
+returns-in-Name-RoutineFormal-clause-falls c = c.enter_found.ensures.falls _ _
 
-pub returns-in-None-clause-turns : goal.returns-in-None-clause-turns
-returns-in-None-clause-turns c =
-    let p = c.args.program.now in
-    let a = c.args.body.now in
-    let K = resume p a.home (tasks_of a) (values_of a) (below_top (lists_of a)) in
-    let args = top_list (lists_of a) in
-    let h : routine_at p c.in-Ok.routine ≡ None = sym c.routine.ensures ∙ c.in-None.is in
-    turns_after p _ _ _ _ _ c.no_row.result c.no_row.new.self
-    (comes_then (did {X = ℕ × ℕ} p c.args.line (routine_out c.args.levels a.home.base c.args.place) (λ x. enter p x.0 x.1 args (after_call c.args.procedure))
-    K (λ x. x) (c.in-Ok.routine, c.in-Ok.frame) (moment_of c.args.machine.now) (moment_of c.routine_out.new.machine) c.in-Ok.ensures.action)
-    (comes_same (ap (λ x. bind (with_frame_size x (λ cells. Enter c.in-Ok.routine cells (value.Frame c.in-Ok.frame ∷ args)
-    (after_call c.args.procedure))) K) h)))
-    (c.no_row.ensures.turns p _)
-
-pub returns-in-None-clause-falls : goal.returns-in-None-clause-falls
-returns-in-None-clause-falls c = falls_so c.no_row.result _ _ _ _ (λ h. omega (arith, h)) c.no_row.ensures.falls
-
-pub returns-in-Err-clause-turns : goal.returns-in-Err-clause-turns
-returns-in-Err-clause-turns c =
-    let p = c.args.program.now in
-    let a = c.args.body.now in
-    let K = resume p a.home (tasks_of a) (values_of a) (below_top (lists_of a)) in
-    turns_failed p _ _ _ c.args.line c.in-Err.halt c.fail.new.self c.fail.result c.fail.ensures.line c.fail.ensures.fails
-    (fails {X = ℕ × ℕ} p c.args.line (routine_out c.args.levels a.home.base c.args.place)
-    (λ x. enter p x.0 x.1 (top_list (lists_of a)) (after_call c.args.procedure)) K (λ x. x) c.in-Err.halt (moment_of c.args.machine.now)
-    (moment_of c.routine_out.new.machine) c.in-Err.ensures.action)
-
-pub returns-in-Err-clause-falls : goal.returns-in-Err-clause-falls
-returns-in-Err-clause-falls c = falls_failed c.fail.result c.in-Err.halt _ _ c.fail.ensures.fails
+pub returns-in_default-clause-turns : goal.returns-in_default-clause-turns
+returns-in_default-clause-turns c = rw c.no_row.ensures.fails tt

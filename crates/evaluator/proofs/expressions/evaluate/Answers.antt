@@ -48,7 +48,7 @@ returns-in-Access-clause-turns c =
     let e : row_at p c.args.row ≡ rows.Access c.in-Access.access = cc in
     turns_after p _ _ _ _ _ c.wait.result c.wait.new.self
     (part_comes p (Eval c.args.row h) (waiting p c.args.body.now) (moment_of c.args.machine.now) _ (ap (expression_in p c.args.row h) e
-    ∙ ap (λ of. locate c.args.row h (λ addr. value_at c.args.line addr (type_at p of))) (sym c.type_accessed.ensures)))
+    ∙ ap (λ of. locate c.args.row h (λ addr. value_at p c.args.line addr (type_at p of))) (sym c.type_accessed.ensures)))
     (c.wait.ensures.turns p _)
 
 pub returns-in_default-clause-turns : goal.returns-in_default-clause-turns

@@ -1,46 +1,31 @@
-use Rattle.std.proofs.Common.{Ok, Err, subst, arith}
-use Rattle.cell_value.specs.declared.values.Value.{Value}
-use Rattle.core_program.specs.ProgramRows.{size_of}
+use Rattle.std.proofs.Common.{◌≡◌, ℕ, Some, ap, ◌∙◌, arith}
+use Rattle.core_program.specs.ProgramRows.{type_at}
 use Rattle.core_program.specs.Heap.{made_variable}
 use Rattle.core_program.specs.Statements.{point}
-use Rattle.core_program.specs.Actions.{performs}
-use Rattle.eval_ops.specs.Machines.{DoesAll, moment_of}
+use Rattle.core_program.specs.Tree.{ActTree, bind, doing}
+use Rattle.eval_ops.specs.Arrays.{size_in}
+use Rattle.eval_ops.specs.Machines.{moment_of}
 use Rattle.evaluator.specs.Rest.{here, waiting}
-use Rattle.evaluator.proofs.StepsFall.{steps_fall, falls_so}
-use Rattle.evaluator.proofs.Turning.{did, fails, falls_failed, turns_after, turns_failed}
+use Rattle.evaluator.proofs.StepsFall.{falls_so}
+use Rattle.evaluator.proofs.TransfersByRow.{sized_by, with_number}
+use Rattle.evaluator.proofs.Turning.{turns_same}
 use Rattle.evaluator.proofs.heap.make.Goals as goal
 
-pub returns-in-Ok-clause-turns : goal.returns-in-Ok-clause-turns
-returns-in-Ok-clause-turns c =
+pub returns-in-Some-clause-turns : goal.returns-in-Some-clause-turns
+returns-in-Some-clause-turns c =
     let p = c.args.program.now in
     let a = c.args.body.now in
-    let m = moment_of c.args.machine.now in
-    let m' = moment_of c.make_variable.new.machine in
-    turns_after p _ _ m m' m' c.hold.result c.hold.new.self
-    (did {X = Value} p c.args.line (made_variable (size_of p c.args.of) c.args.of) (point (here a.home c.args.line) c.args.access) (waiting p a)
-    (λ v. v) c.in-Ok.pointer m m'
-    (subst (λ n. DoesAll {X = Value} (λ v. v) (performs (made_variable n c.args.of) m.state) (Ok c.in-Ok.pointer) m m') c.size_of.ensures
-    c.in-Ok.ensures.action))
-    (c.hold.ensures.turns p m')
+    let go : ℕ → ActTree = λ cells. doing c.args.line (made_variable cells c.args.of) (point (here a.home c.args.line) c.args.access) in
+    let e : size_in (type_at p c.args.of) ≡ Some c.in-Some.cells = cc in
+    turns_same p _ _ (moment_of c.args.machine.now) _ c.make_of_size.result c.make_of_size.new.body
+    (ap (λ t. bind t (waiting p a)) (sized_by (type_at p c.args.of) go ∙ ap (λ o. with_number o go) e))
+    (c.make_of_size.ensures.turns p)
 
-pub returns-in-Ok-clause-falls : goal.returns-in-Ok-clause-falls
-returns-in-Ok-clause-falls c =
-    let m = moment_of c.args.machine.now in
-    let m' = moment_of c.make_variable.new.machine in
-    let l = steps_fall {X = Value} (λ v. v) (made_variable c.size_of.result c.args.of) c.in-Ok.pointer m m' c.in-Ok.ensures.action in
-    falls_so c.hold.result _ _ _ _ (λ h. omega (arith, h, l)) c.hold.ensures.falls
+pub returns-in-Some-clause-falls : goal.returns-in-Some-clause-falls
+returns-in-Some-clause-falls c = falls_so c.make_of_size.result _ _ _ _ (λ h. omega (arith, h)) c.make_of_size.ensures.falls
 
-pub returns-in-Err-clause-turns : goal.returns-in-Err-clause-turns
-returns-in-Err-clause-turns c =
-    let p = c.args.program.now in
-    let a = c.args.body.now in
-    let m = moment_of c.args.machine.now in
-    let m' = moment_of c.make_variable.new.machine in
-    turns_failed p _ m m' c.args.line c.in-Err.halt c.fail.new.self c.fail.result c.fail.ensures.line c.fail.ensures.fails
-    (fails {X = Value} p c.args.line (made_variable (size_of p c.args.of) c.args.of) (point (here a.home c.args.line) c.args.access) (waiting p a)
-    (λ v. v) c.in-Err.halt m m'
-    (subst (λ n. DoesAll {X = Value} (λ v. v) (performs (made_variable n c.args.of) m.state) (Err c.in-Err.halt) m m') c.size_of.ensures
-    c.in-Err.ensures.action))
+pub returns-in-None-clause-turns : goal.returns-in-None-clause-turns
+returns-in-None-clause-turns c = rw c.no_row.ensures.fails tt
 
-pub returns-in-Err-clause-falls : goal.returns-in-Err-clause-falls
-returns-in-Err-clause-falls c = falls_failed c.fail.result c.in-Err.halt _ _ c.fail.ensures.fails
+pub returns-in-None-clause-falls : goal.returns-in-None-clause-falls
+returns-in-None-clause-falls c = rw c.no_row.ensures.fails tt

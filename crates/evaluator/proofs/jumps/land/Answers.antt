@@ -1,4 +1,4 @@
-use Rattle.std.proofs.Common.{◌≡◌, true, false, None, sym, ap, ◌∙◌, length, ◌==◌, ◌&&◌, if◌then◌else◌, reverse, sum_by, arith}
+use Rattle.std.proofs.Common.{◌≡◌, true, false, Some, None, sym, ap, ◌∙◌, length, ◌==◌, ◌&&◌, if◌then◌else◌, reverse, sum_by, arith}
 use Rattle.std.proofs.lemmas.Bool.Decides.{nat_tests}
 use Rattle.core_program.specs.Tree.{Exec, Sub, Ret, Jump, bind}
 use Rattle.core_program.specs.Statements.{jumped, labelled_in}
@@ -14,23 +14,43 @@ use Rattle.evaluator.proofs.StepsFall.{falls_so}
 use Rattle.evaluator.proofs.Turning.{turns_same}
 use Rattle.evaluator.proofs.jumps.land.Goals as goal
 
-pub returns-in-Some-clause-turns : goal.returns-in-Some-clause-turns
-returns-in-Some-clause-turns c m =
+pub returns-in-Some-Some-clause-turns : goal.returns-in-Some-Some-clause-turns
+returns-in-Some-Some-clause-turns c m =
     let p = c.args.program.now in
     let a = c.args.body.now in
     let i = c.in-Sequence in
     let own : (c.args.base == a.home.base) ≡ true = grind (arith, nat_tests, c.if-base-body.true) in
+    let found : labelled_in p (length p.rows) i.first c.args.label ≡ Some (Some c.in-Some-Some.at) = cc in
     turns_same p _ _ m m c.go.result c.go.new.self
     (ap (λ t. from_under p a (Came (way.Jump c.args.label c.args.base)) (tasks.Next t)) i.is
     ∙ ap (λ b. bind (jumped (here a.home i.line) i.first c.args.label c.args.base
-    (if b then labelled_in p (length p.rows) i.first c.args.label else None)) (waiting p a)) own
-    ∙ ap (λ o. bind (jumped (here a.home i.line) i.first c.args.label c.args.base o) (waiting p a)) (sym c.labelled_in.ensures ∙ c.in-Some.is))
+    (if b then labelled_in p (length p.rows) i.first c.args.label else Some None)) (waiting p a)) own
+    ∙ ap (λ o. bind (jumped (here a.home i.line) i.first c.args.label c.args.base o) (waiting p a)) found)
     (c.go.ensures.turns p m)
 
-pub returns-in-Some-clause-falls : goal.returns-in-Some-clause-falls
-returns-in-Some-clause-falls c =
+pub returns-in-Some-Some-clause-falls : goal.returns-in-Some-Some-clause-falls
+returns-in-Some-Some-clause-falls c =
     let e : task_weight (tasks.Next c.args.next) ≡ 2 = ap (λ t. task_weight (tasks.Next t)) c.in-Sequence.is in
     falls_so c.go.result _ _ _ _ (λ h. omega (arith, h, e)) c.go.ensures.falls
+
+pub returns-in-Some-None-clause-turns : goal.returns-in-Some-None-clause-turns
+returns-in-Some-None-clause-turns c m =
+    let p = c.args.program.now in
+    let a = c.args.body.now in
+    let i = c.in-Sequence in
+    let own : (c.args.base == a.home.base) ≡ true = grind (arith, nat_tests, c.if-base-body.true) in
+    let found : labelled_in p (length p.rows) i.first c.args.label ≡ Some None = cc in
+    turns_same p _ _ m m c.go-in-Some-None.result c.go-in-Some-None.new.self
+    (ap (λ t. from_under p a (Came (way.Jump c.args.label c.args.base)) (tasks.Next t)) i.is
+    ∙ ap (λ b. bind (jumped (here a.home i.line) i.first c.args.label c.args.base
+    (if b then labelled_in p (length p.rows) i.first c.args.label else Some None)) (waiting p a)) own
+    ∙ ap (λ o. bind (jumped (here a.home i.line) i.first c.args.label c.args.base o) (waiting p a)) found)
+    (c.go-in-Some-None.ensures.turns p m)
+
+pub returns-in-Some-None-clause-falls : goal.returns-in-Some-None-clause-falls
+returns-in-Some-None-clause-falls c =
+    let e : task_weight (tasks.Next c.args.next) ≡ 2 = ap (λ t. task_weight (tasks.Next t)) c.in-Sequence.is in
+    falls_so c.go-in-Some-None.result _ _ _ _ (λ h. omega (arith, h, e)) c.go-in-Some-None.ensures.falls
 
 pub returns-in-None-clause-turns : goal.returns-in-None-clause-turns
 returns-in-None-clause-turns c m =
@@ -38,17 +58,18 @@ returns-in-None-clause-turns c m =
     let a = c.args.body.now in
     let i = c.in-Sequence in
     let own : (c.args.base == a.home.base) ≡ true = grind (arith, nat_tests, c.if-base-body.true) in
-    turns_same p _ _ m m c.go-in-None.result c.go-in-None.new.self
+    let found : labelled_in p (length p.rows) i.first c.args.label ≡ None = cc in
+    turns_same p _ _ m m c.no_row.result c.no_row.new.self
     (ap (λ t. from_under p a (Came (way.Jump c.args.label c.args.base)) (tasks.Next t)) i.is
     ∙ ap (λ b. bind (jumped (here a.home i.line) i.first c.args.label c.args.base
-    (if b then labelled_in p (length p.rows) i.first c.args.label else None)) (waiting p a)) own
-    ∙ ap (λ o. bind (jumped (here a.home i.line) i.first c.args.label c.args.base o) (waiting p a)) (sym c.labelled_in.ensures ∙ c.in-None.is))
-    (c.go-in-None.ensures.turns p m)
+    (if b then labelled_in p (length p.rows) i.first c.args.label else Some None)) (waiting p a)) own
+    ∙ ap (λ o. bind (jumped (here a.home i.line) i.first c.args.label c.args.base o) (waiting p a)) found)
+    (c.no_row.ensures.turns p m)
 
 pub returns-in-None-clause-falls : goal.returns-in-None-clause-falls
 returns-in-None-clause-falls c =
     let e : task_weight (tasks.Next c.args.next) ≡ 2 = ap (λ t. task_weight (tasks.Next t)) c.in-Sequence.is in
-    falls_so c.go-in-None.result _ _ _ _ (λ h. omega (arith, h, e)) c.go-in-None.ensures.falls
+    falls_so c.no_row.result _ _ _ _ (λ h. omega (arith, h, e)) c.no_row.ensures.falls
 
 pub returns-else-base-body-clause-turns : goal.returns-else-base-body-clause-turns
 returns-else-base-body-clause-turns c m =
@@ -59,7 +80,7 @@ returns-else-base-body-clause-turns c m =
     turns_same p _ _ m m c.go-else-base-body.result c.go-else-base-body.new.self
     (ap (λ t. from_under p a (Came (way.Jump c.args.label c.args.base)) (tasks.Next t)) i.is
     ∙ ap (λ b. bind (jumped (here a.home i.line) i.first c.args.label c.args.base
-    (if b then labelled_in p (length p.rows) i.first c.args.label else None)) (waiting p a)) other)
+    (if b then labelled_in p (length p.rows) i.first c.args.label else Some None)) (waiting p a)) other)
     (c.go-else-base-body.ensures.turns p m)
 
 pub returns-else-base-body-clause-falls : goal.returns-else-base-body-clause-falls

@@ -11,8 +11,7 @@ use Rattle.evaluator.proofs.Turning.{turns_same}
 use Rattle.evaluator.proofs.reading.read_for.Goals as goal
 
 pub returns-then-is_char-clause-turns : goal.returns-then-is_char-clause-turns
-returns-then-is_char-clause-turns c =
-    let p = c.args.program.now in
+returns-then-is_char-clause-turns c p =
     let h = here c.args.body.now.home c.args.line in
     let go = into p h c.args.access c.args.of c.args.next in
     turns_same p _ _ (moment_of c.args.machine.now) _ c.read_char.result c.read_char.new.body
@@ -21,8 +20,7 @@ returns-then-is_char-clause-turns c =
     (c.read_char.ensures.turns p)
 
 pub returns-else-is_char-clause-turns : goal.returns-else-is_char-clause-turns
-returns-else-is_char-clause-turns c =
-    let p = c.args.program.now in
+returns-else-is_char-clause-turns c p =
     let h = here c.args.body.now.home c.args.line in
     let go = into p h c.args.access c.args.of c.args.next in
     turns_same p _ _ (moment_of c.args.machine.now) (moment_of c.args.machine.now) c.wait.result c.wait.new.self

@@ -1,19 +1,32 @@
-use Rattle.std.proofs.Common.{◌≡◌, refl, sym, ap, ◌∙◌}
+use Rattle.std.proofs.Common.{◌≡◌, ◌==◌, true, false, refl, sym, ap, ◌∙◌, arith}
+use Rattle.std.proofs.lemmas.Bool.Decides.{nat_tests}
 use Rattle.cell_value.specs.declared.values.Value.{Value}
 use Rattle.core_program.specs.declared.rows.ItemRow.{ItemRow}
 use Rattle.core_program.specs.declared.rows.Row.{Row}
 use Rattle.core_program.specs.declared.rows.Row.TheVariants as rows
 use Rattle.core_program.specs.ProgramRows.{row_at}
 use Rattle.core_program.specs.Tree.{Here, Gather}
-use Rattle.core_program.specs.Accesses.{scalar}
+use Rattle.core_program.specs.Accesses.{no_row, scalar}
 use Rattle.core_program.specs.Expressions.{of_members}
 use Rattle.evaluator.specs.Rest.{here, resume, top, below_top, tasks_of, values_of, lists_of}
-use Rattle.evaluator.proofs.Turning.{part_comes, turns_after}
+use Rattle.evaluator.proofs.Turning.{part_comes, turns_after, goes_on, ends_list}
 use Rattle.evaluator.proofs.sets.gather.Goals as goal
 
-no_member : (set : Value) (h : Here) (r : Row) → ((i : ItemRow) → r ≡ rows.Item i → ⊥) → of_members set h r ≡ scalar set
+no_member : (set : Value) (h : Here) (r : Row) → ((i : ItemRow) → r ≡ rows.Item i → ⊥) → of_members set h r ≡ no_row
 no_member set h (rows.Item i) f = absurd (f i refl)
 no_member set h r f = refl
+
+pub returns-then-at-eq-LIST_END-clause-turns : goal.returns-then-at-eq-LIST_END-clause-turns
+returns-then-at-eq-LIST_END-clause-turns c m =
+    let p = c.args.program.now in
+    let a = c.args.body.now in
+    let h = here a.home c.args.line in
+    let set = top (values_of a) in
+    let off : (c.args.at == 0) ≡ true = grind (arith, nat_tests, c.if-at-eq-LIST_END.true) in
+    turns_after p _ _ _ _ _ c.give_set.result c.give_set.new.body
+    (part_comes p (Gather c.args.at set h) (resume p a.home (tasks_of a) (below_top (values_of a)) (lists_of a)) m _
+    (ends_list c.args.at (scalar set) (of_members set h (row_at p c.args.at)) off))
+    (c.give_set.ensures.turns p m)
 
 pub returns-in-Item-clause-turns : goal.returns-in-Item-clause-turns
 returns-in-Item-clause-turns c m =
@@ -21,9 +34,11 @@ returns-in-Item-clause-turns c m =
     let a = c.args.body.now in
     let h = here a.home c.args.line in
     let set = top (values_of a) in
+    let on : (c.args.at == 0) ≡ false = grind (arith, nat_tests, c.if-at-eq-LIST_END.false) in
     let e : row_at p c.args.at ≡ rows.Item c.in-Item.item = cc in
     turns_after p _ _ _ _ _ c.gather_item.result c.gather_item.new.body
-    (part_comes p (Gather c.args.at set h) (resume p a.home (tasks_of a) (below_top (values_of a)) (lists_of a)) m _ (ap (of_members set h) e))
+    (part_comes p (Gather c.args.at set h) (resume p a.home (tasks_of a) (below_top (values_of a)) (lists_of a)) m _
+    (goes_on c.args.at (scalar set) (of_members set h (row_at p c.args.at)) on ∙ ap (of_members set h) e))
     (c.gather_item.ensures.turns p m)
 
 pub returns-in_default-clause-turns : goal.returns-in_default-clause-turns
@@ -32,7 +47,9 @@ returns-in_default-clause-turns c m =
     let a = c.args.body.now in
     let h = here a.home c.args.line in
     let set = top (values_of a) in
-    turns_after p _ _ _ _ _ c.give_set.result c.give_set.new.body
+    let on : (c.args.at == 0) ≡ false = grind (arith, nat_tests, c.if-at-eq-LIST_END.false) in
+    turns_after p _ _ _ _ _ c.no_row.result c.no_row.new.self
     (part_comes p (Gather c.args.at set h) (resume p a.home (tasks_of a) (below_top (values_of a)) (lists_of a)) m _
-    (ap (of_members set h) (sym c.row.ensures) ∙ no_member set h c.row.result c.in_default.not-Item))
-    (c.give_set.ensures.turns p m)
+    (goes_on c.args.at (scalar set) (of_members set h (row_at p c.args.at)) on ∙ ap (of_members set h) (sym c.row.ensures)
+    ∙ no_member set h c.row.result c.in_default.not-Item))
+    (c.no_row.ensures.turns p m)

@@ -1,20 +1,37 @@
-use Rattle.std.proofs.Common.{◌≡◌, Some, None, ap, ◌∙◌, arith}
+use Rattle.std.proofs.Common.{◌≡◌, ◌==◌, true, false, Some, None, ap, ◌∙◌, arith}
+use Rattle.std.proofs.lemmas.Bool.Decides.{nat_tests}
 use Rattle.core_program.specs.ProgramRows.{row_at}
 use Rattle.core_program.specs.Tree.{Sequence}
+use Rattle.core_program.specs.Statements.{nothing, of_sequence}
 use Rattle.evaluator.specs.Rest.{here, waiting}
 use Rattle.eval_ops.specs.Items.{element_in}
 use Rattle.evaluator.proofs.StatementsByRow.{in_sequence, sequence_by}
 use Rattle.evaluator.proofs.StepsFall.{falls_so}
-use Rattle.evaluator.proofs.Turning.{part_comes, turns_after}
+use Rattle.evaluator.proofs.Turning.{part_comes, turns_after, goes_on, ends_list}
 use Rattle.evaluator.proofs.statements.sequence.Goals as goal
+
+pub returns-then-at-eq-LIST_END-clause-turns : goal.returns-then-at-eq-LIST_END-clause-turns
+returns-then-at-eq-LIST_END-clause-turns c m =
+    let p = c.args.program.now in
+    let h = here c.args.body.now.home c.args.line in
+    let off : (c.args.at == 0) ≡ true = grind (arith, nat_tests, c.if-at-eq-LIST_END.true) in
+    turns_after p _ _ m m m c.go.result c.go.new.self
+    (part_comes p (Sequence c.args.first c.args.at h) (waiting p c.args.body.now) m _
+    (ends_list c.args.at nothing (of_sequence p h c.args.first (row_at p c.args.at)) off))
+    (c.go.ensures.turns p m)
+
+pub returns-then-at-eq-LIST_END-clause-falls : goal.returns-then-at-eq-LIST_END-clause-falls
+returns-then-at-eq-LIST_END-clause-falls c = falls_so c.go.result _ _ _ _ (λ h. omega (arith, h)) c.go.ensures.falls
 
 pub returns-in-Some-clause-turns : goal.returns-in-Some-clause-turns
 returns-in-Some-clause-turns c m =
     let p = c.args.program.now in
     let h = here c.args.body.now.home c.args.line in
     let rest = waiting p c.args.body.now in
+    let on : (c.args.at == 0) ≡ false = grind (arith, nat_tests, c.if-at-eq-LIST_END.false) in
     turns_after p _ _ m m m c.wait.result c.wait.new.self
-    (part_comes p (Sequence c.args.first c.args.at h) rest m _ (sequence_by p h c.args.first (row_at p c.args.at)
+    (part_comes p (Sequence c.args.first c.args.at h) rest m _ (goes_on c.args.at nothing (of_sequence p h c.args.first (row_at p c.args.at)) on
+    ∙ sequence_by p h c.args.first (row_at p c.args.at)
     ∙ ap (in_sequence p h c.args.first) (let e : element_in (row_at p c.args.at) ≡ Some (c.in-Some.item, c.in-Some.next) = cc in e)))
     (c.wait.ensures.turns p m)
 
@@ -27,11 +44,13 @@ returns-in-None-clause-turns c m =
     let p = c.args.program.now in
     let h = here c.args.body.now.home c.args.line in
     let rest = waiting p c.args.body.now in
-    turns_after p _ _ m m m c.go.result c.go.new.self
-    (part_comes p (Sequence c.args.first c.args.at h) rest m _ (sequence_by p h c.args.first (row_at p c.args.at)
+    let on : (c.args.at == 0) ≡ false = grind (arith, nat_tests, c.if-at-eq-LIST_END.false) in
+    turns_after p _ _ m m m c.no_row.result c.no_row.new.self
+    (part_comes p (Sequence c.args.first c.args.at h) rest m _ (goes_on c.args.at nothing (of_sequence p h c.args.first (row_at p c.args.at)) on
+    ∙ sequence_by p h c.args.first (row_at p c.args.at)
     ∙ ap (in_sequence p h c.args.first) (let e : element_in (row_at p c.args.at) ≡ None = cc in e)))
-    (c.go.ensures.turns p m)
+    (c.no_row.ensures.turns p m)
 
 pub returns-in-None-clause-falls : goal.returns-in-None-clause-falls
 returns-in-None-clause-falls c =
-    falls_so c.go.result _ _ _ _ (λ h. omega (arith, h)) c.go.ensures.falls
+    falls_so c.no_row.result _ _ _ _ (λ h. omega (arith, h)) c.no_row.ensures.falls

@@ -22,23 +22,23 @@ returns-in-Into-clause-falls c =
     falls_so c.no_row.result _ _ _ _ (λ h. omega (arith, h, e)) c.no_row.ensures.falls
 
 pub returns-in-Wide-clause-turns : goal.returns-in-Wide-clause-turns
-returns-in-Wide-clause-turns c = rw c.in-Wide.is (c.hold.ensures.turns c.args.program.now (moment_of c.args.machine.now))
+returns-in-Wide-clause-turns c = rw c.in-Wide.is (c.begin_width.ensures.turns (moment_of c.args.machine.now))
 
 pub returns-in-Wide-clause-falls : goal.returns-in-Wide-clause-falls
 returns-in-Wide-clause-falls c =
     let e : task_weight (tasks.Transfer c.args.transfer) ≡ 2 = ap (λ t. task_weight (tasks.Transfer t)) c.in-Wide.is in
-    falls_so c.hold.result _ _ _ _ (λ h. omega (arith, h, e)) c.hold.ensures.falls
+    falls_so c.begin_width.result _ _ _ _ (λ h. omega (arith, h, e)) c.begin_width.ensures.falls
 
 pub returns-in-Written-clause-turns : goal.returns-in-Written-clause-turns
-returns-in-Written-clause-turns c = rw c.in-Written.is c.write.ensures.turns
+returns-in-Written-clause-turns c = rw c.in-Written.is c.write_plain.ensures.turns
 
 pub returns-in-Written-clause-falls : goal.returns-in-Written-clause-falls
 returns-in-Written-clause-falls c =
     let e : task_weight (tasks.Transfer c.args.transfer) ≡ 2 = ap (λ t. task_weight (tasks.Transfer t)) c.in-Written.is in
-    falls_so c.write.result _ _ _ _ (λ h. omega (arith, h, e)) c.write.ensures.falls
+    falls_so c.write_plain.result _ _ _ _ (λ h. omega (arith, h, e)) c.write_plain.ensures.falls
 
 pub returns-in-Width-clause-turns : goal.returns-in-Width-clause-turns
-returns-in-Width-clause-turns c = rw c.in-Width.is c.write_waiting.ensures.turns
+returns-in-Width-clause-turns c = rw c.in-Width.is (c.write_waiting.ensures.turns c.args.program.now)
 
 pub returns-in-Width-clause-falls : goal.returns-in-Width-clause-falls
 returns-in-Width-clause-falls c =

@@ -1,27 +1,42 @@
-use Rattle.std.proofs.Common.{◌≡◌, sym, ap, ◌∙◌}
+use Rattle.std.proofs.Common.{◌≡◌, ◌==◌, true, false, sym, ap, ◌∙◌, arith}
+use Rattle.std.proofs.lemmas.Bool.Decides.{nat_tests}
 use Rattle.core_program.specs.declared.rows.Row.TheVariants as rows
 use Rattle.core_program.specs.ProgramRows.{row_at}
 use Rattle.core_program.specs.Tree.{Print}
+use Rattle.core_program.specs.Statements.{nothing}
 use Rattle.core_program.specs.Transfers.{of_printed}
 use Rattle.evaluator.specs.Rest.{here, waiting}
-use Rattle.evaluator.proofs.Turning.{part_comes, turns_after}
+use Rattle.evaluator.proofs.Turning.{part_comes, turns_after, goes_on, ends_list}
 use Rattle.evaluator.proofs.TransfersByRow.{no_printed}
 use Rattle.evaluator.proofs.writing.print.Goals as goal
+
+pub returns-then-at-eq-LIST_END-clause-turns : goal.returns-then-at-eq-LIST_END-clause-turns
+returns-then-at-eq-LIST_END-clause-turns c m =
+    let p = c.args.program.now in
+    let h = here c.args.body.now.home c.args.line in
+    let off : (c.args.at == 0) ≡ true = grind (arith, nat_tests, c.if-at-eq-LIST_END.true) in
+    turns_after p _ _ _ _ _ c.go.result c.go.new.self
+    (part_comes p (Print c.args.at h) (waiting p c.args.body.now) m _ (ends_list c.args.at nothing (of_printed p h (row_at p c.args.at)) off))
+    (c.go.ensures.turns p m)
 
 pub returns-in-Item-clause-turns : goal.returns-in-Item-clause-turns
 returns-in-Item-clause-turns c m =
     let p = c.args.program.now in
     let h = here c.args.body.now.home c.args.line in
+    let on : (c.args.at == 0) ≡ false = grind (arith, nat_tests, c.if-at-eq-LIST_END.false) in
     let e : row_at p c.args.at ≡ rows.Item c.in-Item.item = cc in
     turns_after p _ _ _ _ _ c.print_item.result c.print_item.new.body
-    (part_comes p (Print c.args.at h) (waiting p c.args.body.now) m _ (ap (of_printed p h) e))
+    (part_comes p (Print c.args.at h) (waiting p c.args.body.now) m _ (goes_on c.args.at nothing (of_printed p h (row_at p c.args.at)) on
+    ∙ ap (of_printed p h) e))
     (c.print_item.ensures.turns p m)
 
 pub returns-in_default-clause-turns : goal.returns-in_default-clause-turns
 returns-in_default-clause-turns c m =
     let p = c.args.program.now in
     let h = here c.args.body.now.home c.args.line in
-    turns_after p _ _ _ _ _ c.go.result c.go.new.self
+    let on : (c.args.at == 0) ≡ false = grind (arith, nat_tests, c.if-at-eq-LIST_END.false) in
+    turns_after p _ _ _ _ _ c.no_row.result c.no_row.new.self
     (part_comes p (Print c.args.at h) (waiting p c.args.body.now) m _
-    (ap (of_printed p h) (sym c.row.ensures) ∙ no_printed p h c.row.result c.in_default.not-Item))
-    (c.go.ensures.turns p m)
+    (goes_on c.args.at nothing (of_printed p h (row_at p c.args.at)) on ∙ ap (of_printed p h) (sym c.row.ensures)
+    ∙ no_printed p h c.row.result c.in_default.not-Item))
+    (c.no_row.ensures.turns p m)

@@ -1,5 +1,5 @@
 use Rattle.std.proofs.Common.{refl, arith}
-use Rattle.core_program.specs.Output.{host_at, scalar_text, written}
+use Rattle.core_program.specs.Output.{scalar_text, written}
 use Rattle.core_program.specs.Tree.{Print, Ret, Sub}
 use Rattle.eval_ops.specs.Machines.{moment_of}
 use Rattle.evaluator.specs.Rest.{here}
@@ -7,16 +7,13 @@ use Rattle.evaluator.proofs.StepsFall.{falls_so}
 use Rattle.evaluator.proofs.writing.write.Goals as goal
 
 pub returns-clause-turns : goal.returns-clause-turns
-returns-clause-turns c =
-    let p = c.args.program.now in
+returns-clause-turns c p =
     let h = here c.args.body.now.home c.args.line in
-    c.go_after.ensures.turns p (written (scalar_text (host_at p c.args.of) c.args.value) c.args.width) (Sub (Print c.args.next h) Ret)
-    (moment_of c.args.machine.now) (moment_of c.write_scalar-done.new.machine) refl
-    (rw c.host_of-host.ensures at c.write_scalar-done.ensures.action)
+    c.go_after.ensures.turns p (written (scalar_text c.args.host c.args.value) c.args.width) (Sub (Print c.args.next h) Ret)
+    (moment_of c.args.machine.now) (moment_of c.write_scalar-done.new.machine) refl c.write_scalar-done.ensures.action
 
 pub returns-clause-falls : goal.returns-clause-falls
 returns-clause-falls c =
-    let p = c.args.program.now in
     falls_so c.go_after.result _ _ _ _ (λ h. omega (arith, h))
-    (c.go_after.ensures.less (written (scalar_text (host_at p c.args.of) c.args.value) c.args.width)
-    (moment_of c.args.machine.now) (moment_of c.write_scalar-done.new.machine) (rw c.host_of-host.ensures at c.write_scalar-done.ensures.action))
+    (c.go_after.ensures.less (written (scalar_text c.args.host c.args.value) c.args.width)
+    (moment_of c.args.machine.now) (moment_of c.write_scalar-done.new.machine) c.write_scalar-done.ensures.action)

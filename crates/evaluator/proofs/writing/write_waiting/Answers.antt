@@ -1,5 +1,5 @@
 use Rattle.std.proofs.Common.{Some, sym, ap, ◌∙◌, sum_by, arith}
-use Rattle.core_program.specs.Output.{host_at, scalar_text}
+use Rattle.core_program.specs.Output.{scalar_text}
 use Rattle.core_program.specs.Transfers.{print}
 use Rattle.core_program.specs.Tree.{bind}
 use Rattle.eval_ops.specs.Machines.{moment_of}
@@ -10,17 +10,16 @@ use Rattle.evaluator.proofs.Turning.{turns_same}
 use Rattle.evaluator.proofs.writing.write_waiting.Goals as goal
 
 pub returns-clause-turns : goal.returns-clause-turns
-returns-clause-turns c =
-    let p = c.args.program.now in
+returns-clause-turns c p =
     let a = c.args.body.now in
     let l = c.take_value-value in
     let K = resume p a.home (tasks_of a) (below_top (values_of a)) (lists_of a) in
     turns_same p _ _ (moment_of c.args.machine.now) _ c.write.result c.write.new.body
-    (ap (λ v. bind (print (here a.home c.args.line) c.args.next (scalar_text (host_at p c.args.of) v) (Some c.args.width)) K) (sym l.ensures.result)
-    ∙ ap (bind (print (here a.home c.args.line) c.args.next (scalar_text (host_at p c.args.of) l.result) (Some c.args.width))) (sym (l.ensures.waits p))
-    ∙ ap (λ o. bind (print (here o c.args.line) c.args.next (scalar_text (host_at p c.args.of) l.result) (Some c.args.width)) (waiting p l.new.self))
+    (ap (λ v. bind (print (here a.home c.args.line) c.args.next (scalar_text c.args.host v) (Some c.args.width)) K) (sym l.ensures.result)
+    ∙ ap (bind (print (here a.home c.args.line) c.args.next (scalar_text c.args.host l.result) (Some c.args.width))) (sym (l.ensures.waits p))
+    ∙ ap (λ o. bind (print (here o c.args.line) c.args.next (scalar_text c.args.host l.result) (Some c.args.width)) (waiting p l.new.self))
     (sym l.ensures.home))
-    c.write.ensures.turns
+    (c.write.ensures.turns p)
 
 pub returns-clause-falls : goal.returns-clause-falls
 returns-clause-falls c =

@@ -6,7 +6,6 @@ use Rattle.pas_tree.specs.declared.expressions.SomeMembers.{out-SomeMembers}
 use Rattle.pas_tree.specs.declared.expressions.Term.{out-Term}
 use Rattle.check_steps.specs.Steps.{◌>>=◌, run_step, each}
 use Rattle.expression_checker.specs.Members.{set_constructor}
-use Rattle.expression_checker.specs.Actuals.{actuals_end}
 use Rattle.expression_checker.specs.Callees.{applied}
 use Rattle.expression_checker.specs.Expressions.{call, constructor, index_at, simple, term}
 use Rattle.expression_checker.specs.Expressions.{next_argument, next_factor, next_index, next_member, next_term, selector}
@@ -23,8 +22,7 @@ invariant-check_term-others l =
 abbrev pub invariant-check_call-others : goal.invariant-check_call-others
 invariant-check_call-others l =
     run_step (each (next_argument l.frame) l.passing (drop l.other-index (out-Arguments l.a).others.items)
-    >>= λ end. actuals_end end (out-Arguments l.a).close
-    >>= λ last. applied l.name l.called.callee last (out-Arguments l.a).«open») l.work
+    >>= λ all. applied l.name l.called.callee all.value (out-Arguments l.a).«open») l.work
     ≡ run_step (call l.frame l.name l.fn.count l.a) l.fn.work
 
 abbrev pub invariant-check_selectors-selectors : goal.invariant-check_selectors-selectors

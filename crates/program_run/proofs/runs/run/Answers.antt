@@ -5,20 +5,23 @@ use Rattle.program_run.specs.Tower.{IsOver}
 use Rattle.program_run.proofs.RunsAreRuns.{calls_are, log_is, output_is}
 use Rattle.program_run.proofs.runs.run.Goals as goal
 
+pub run_items-requires-clause-block : goal.run_items-requires-clause-block
+run_items-requires-clause-block c = c.is_whole.ensures.whole.main
+
 pub returns-clause-calls : goal.returns-clause-calls
 returns-clause-calls c =
     let r = c.in_ok-runner.runner in
-    calls_are c.args.program.now c.args.input.now c.args.budget (moment_of r.machine) r.calls
+    calls_are c.args.program.now c.is_whole.ensures.whole c.args.input.now c.args.budget (moment_of r.machine) r.calls
     (subst (λ xs. IsOver c.args.program.now (first_state xs c.args.budget) (moment_of r.machine) r.calls) c.in_ok-items.ensures c.in_ok-runner.ensures.over)
 
 pub returns-clause-log : goal.returns-clause-log
 returns-clause-log c =
     let r = c.in_ok-runner.runner in
-    log_is c.args.program.now c.args.input.now c.args.budget (moment_of r.machine) r.calls
+    log_is c.args.program.now c.is_whole.ensures.whole c.args.input.now c.args.budget (moment_of r.machine) r.calls
     (subst (λ xs. IsOver c.args.program.now (first_state xs c.args.budget) (moment_of r.machine) r.calls) c.in_ok-items.ensures c.in_ok-runner.ensures.over)
 
 pub returns-clause-output : goal.returns-clause-output
 returns-clause-output c =
     let r = c.in_ok-runner.runner in
-    output_is c.args.program.now c.args.input.now c.args.budget (moment_of r.machine) r.calls
+    output_is c.args.program.now c.is_whole.ensures.whole c.args.input.now c.args.budget (moment_of r.machine) r.calls
     (subst (λ xs. IsOver c.args.program.now (first_state xs c.args.budget) (moment_of r.machine) r.calls) c.in_ok-items.ensures c.in_ok-runner.ensures.over)

@@ -1,0 +1,9 @@
+use Rattle.std.proofs.Common.{ap, ◌∙◌}
+use Rattle.check_steps.specs.Homes.{homes_of, regions_of}
+use Rattle.check_steps.proofs.homes.Homes.of.Goals as goal
+
+pub returns-in-Some : goal.returns-in-Some
+returns-in-Some c = c.deref.ensures.value ∙ ap regions_of c.in-Some.ensures.value ∙ ap (λ l. homes_of l c.args.number) c.self.view_is
+
+pub returns-in-None : goal.returns-in-None
+returns-in-None c = ap regions_of c.in-None.ensures.value ∙ ap (λ l. homes_of l c.args.number) c.self.view_is

@@ -1,0 +1,63 @@
+use Rattle.std.proofs.Common.{ℕ, List, ◌<◌, ◌++◌, ◌∷◌, [], length, map, nat_eq, refl, ap, sym, ◌∙◌, arith}
+use Rattle.std.specs.HashMap.{IsUnchanged}
+use Rattle.std.specs.Map.{lookup}
+use Rattle.check_steps.specs.declared.regions.Definition.{Definition}
+use Rattle.check_steps.specs.declared.regions.Region.{Region}
+use Rattle.check_steps.specs.Homes.{rows_of}
+use Rattle.check_steps.specs.Regions.{RegionRows, defined_in}
+use Rattle.check_steps.proofs.HomeLists.{changed-row, changed-same, homes-more}
+use Rattle.check_steps.proofs.Maps.{inserted_last, region_of, regions-changed}
+use Rattle.check_steps.proofs.scopes.Scopes.add_definition.Goals as goal
+
+pub invariant_of-self : goal.invariant_of-self
+invariant_of-self c =
+    let s = c.self.inside in
+    (homes-more (λ (r : RegionRows). r.names) (map rows_of s.regions.items) s.homes c.add.new.self c.self.invariant.0 c.add.ensures.kept, c.self.invariant.1)
+
+pub invariant_of-self-else-region-len : goal.invariant_of-self-else-region-len
+invariant_of-self-else-region-len c =
+    let s = c.self.inside in
+    (homes-more (λ (r : RegionRows). r.names) (map rows_of s.regions.items) s.homes c.add.new.self c.self.invariant.0 c.add.ensures.kept, c.self.invariant.1)
+
+pub invariant_of-self-in_ok-insert : goal.invariant_of-self-in_ok-insert
+invariant_of-self-in_ok-insert c =
+    let s = c.self.inside in
+    let below : c.args.region < length s.regions.items = omega (arith, c.if-region-len.true, c.len.ensures) in
+    let m = c.index_mut.result.now in
+    let n : Region = record { token = m.token; frame = m.frame; names = c.insert.new.self; labels = m.labels } in
+    let at = region_of rows_of s.regions.items c.args.region m below c.index_mut.ensures.value in
+    let none = ap (λ (g : RegionRows). lookup (nat_eq c.args.name) g.names) (sym at)
+    ∙ ap (λ (rs : List RegionRows). defined_in rs c.args.region c.args.name) c.self.view_is ∙ c.requires in
+    let made = inserted_last m.names.entries c.insert.new.self.entries c.args.name c.args.definition c.in_ok-insert.ensures.entries none in (
+      changed-row (λ (r : RegionRows). r.names) s.regions.items s.homes c.add.new.self c.args.region c.args.name m n c.args.definition below
+          c.index_mut.ensures.value made
+          c.add.ensures.kept c.in_ok-add.ensures.added c.self.invariant.0,
+      changed-same (λ (r : RegionRows). r.labels) s.regions.items s.label_homes s.label_homes c.args.region m n below c.index_mut.ensures.value refl
+          (λ k r e. e) c.self.invariant.1,
+    )
+
+pub invariant_of-self-in_err-insert : goal.invariant_of-self-in_err-insert
+invariant_of-self-in_err-insert c =
+    let s = c.self.inside in
+    let below : c.args.region < length s.regions.items = omega (arith, c.if-region-len.true, c.len.ensures) in
+    let m = c.index_mut.result.now in
+    let n : Region = record { token = m.token; frame = m.frame; names = c.insert.new.self; labels = m.labels } in (
+      changed-same (λ (r : RegionRows). r.names) s.regions.items s.homes c.add.new.self c.args.region m n below c.index_mut.ensures.value
+          c.in_err-insert.ensures.err c.add.ensures.kept c.self.invariant.0,
+      changed-same (λ (r : RegionRows). r.labels) s.regions.items s.label_homes s.label_homes c.args.region m n below c.index_mut.ensures.value refl
+          (λ k r e. e) c.self.invariant.1,
+    )
+
+pub returns-in_ok-insert-clause-added : goal.returns-in_ok-insert-clause-added
+returns-in_ok-insert-clause-added c =
+    let s = c.self.inside in
+    let below : c.args.region < length s.regions.items = omega (arith, c.if-region-len.true, c.len.ensures) in
+    let m = c.index_mut.result.now in
+    let n : Region = record { token = m.token; frame = m.frame; names = c.insert.new.self; labels = m.labels } in
+    let at = region_of rows_of s.regions.items c.args.region m below c.index_mut.ensures.value in
+    let none = ap (λ (g : RegionRows). lookup (nat_eq c.args.name) g.names) (sym at)
+    ∙ ap (λ (rs : List RegionRows). defined_in rs c.args.region c.args.name) c.self.view_is ∙ c.requires in
+    let made = inserted_last m.names.entries c.insert.new.self.entries c.args.name c.args.definition c.in_ok-insert.ensures.entries none in
+    rw (← c.self.view_is)
+    (regions-changed rows_of s.regions.items c.args.region m n (λ g. record g { names = g.names ++ (c.args.name, c.args.definition) ∷ [] }) below
+    c.index_mut.ensures.value (ap (λ (l : List (ℕ × Definition)). record { token = m.token; frame = m.frame; names = l; labels = m.labels.entries }) made))

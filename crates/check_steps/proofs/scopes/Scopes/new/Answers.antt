@@ -1,0 +1,9 @@
+use Rattle.std.proofs.Common.{refl}
+use Rattle.check_steps.specs.Regions.{RegionRows}
+use Rattle.check_steps.proofs.HomeLists.{homes-none}
+use Rattle.check_steps.proofs.scopes.Scopes.new.Goals as goal
+
+pub invariant_of-result : goal.invariant_of-result
+invariant_of-result c =
+    rw c.new.ensures.items
+    (homes-none (λ (r : RegionRows). r.names) c.new-2.result refl, homes-none (λ (r : RegionRows). r.labels) c.new-3.result refl)

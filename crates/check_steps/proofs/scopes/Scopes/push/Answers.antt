@@ -1,0 +1,16 @@
+use Rattle.std.proofs.Common.{map}
+use Rattle.std.proofs.lemmas.List.{map_push}
+use Rattle.check_steps.specs.declared.regions.Region.{Region}
+use Rattle.check_steps.specs.Homes.{rows_of}
+use Rattle.check_steps.specs.Regions.{RegionRows}
+use Rattle.check_steps.proofs.HomeLists.{homes-region}
+use Rattle.check_steps.proofs.scopes.Scopes.push.Goals as goal
+
+pub invariant_of-self-2 : goal.invariant_of-self-2
+invariant_of-self-2 c =
+    let s = c.self.inside in
+    let x : Region = record { token = c.args.token; frame = c.args.frame; names = c.new.result; labels = c.new-2.result } in
+    rw (c.in_ok-push.ensures.items, map_push rows_of s.regions.items x) (
+      homes-region (λ (r : RegionRows). r.names) (map rows_of s.regions.items) s.homes (rows_of x) c.new.ensures.empty c.self.invariant.0,
+      homes-region (λ (r : RegionRows). r.labels) (map rows_of s.regions.items) s.label_homes (rows_of x) c.new-2.ensures.empty c.self.invariant.1,
+    )

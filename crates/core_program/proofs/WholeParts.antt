@@ -1,0 +1,268 @@
+-- Where tables are whole each part does only what is meant, and ends as its place takes it.
+use Rattle.std.proofs.Common.{◌≡◌, ◌⊎◌, inl, inr, ℕ, zero, suc, ◌+◌, ◌<◌, ◌≤◌, ◌==◌, ℤ, Bool, true, false, List, [], ◌∷◌, ◌++◌, Option, Some, None, refl}
+use Rattle.std.proofs.Common.{sym, ap, subst, ◌∙◌, length, nat_lt, if◌then◌else◌, slice_get, unwrap_or, arith, is_some}
+use Rattle.std.specs.Prelude.{◌&&◌, ◌||◌, Result}
+use Rattle.std.proofs.lemmas.Bool.Decides.{nat_tests}
+use Rattle.std.specs.Ordering.{int_eq}
+use Rattle.cell_value.specs.declared.faults.OpFault.{OpFault}
+use Rattle.cell_value.specs.declared.values.Value.{Value}
+use Rattle.cell_value.specs.declared.values.Value.TheVariants as value
+use Rattle.core_program.specs.declared.program.Routine.{Routine}
+use Rattle.core_program.specs.declared.rows.Row.{Row}
+use Rattle.core_program.specs.declared.rows.Row.TheVariants as rows
+use Rattle.core_program.specs.declared.rows.TypeRow.{TypeRow}
+use Rattle.core_program.specs.declared.rows.TypeRow.TheVariants as kind
+use Rattle.core_program.specs.declared.rows.NameRow.TheVariants as named
+use Rattle.core_program.specs.declared.rows.PartRow.TheVariants as part
+use Rattle.core_program.specs.declared.rows.ItemRow.{ItemRow}
+use Rattle.core_program.specs.declared.rows.ItemRow.TheVariants as item
+use Rattle.core_program.specs.declared.rows.AccessRow.{AccessRow}
+use Rattle.core_program.specs.declared.rows.AccessRow.TheVariants as access
+use Rattle.core_program.specs.declared.rows.ExpressionRow.{ExpressionRow}
+use Rattle.core_program.specs.declared.rows.ExpressionRow.TheVariants as expression
+use Rattle.core_program.specs.declared.rows.StatementRow.{StatementRow}
+use Rattle.core_program.specs.declared.rows.StatementRow.TheVariants as statement
+use Rattle.core_program.specs.ProgramRows.{ProgramRows, row_at, type_in, type_at, routine_at}
+use Rattle.core_program.specs.declared.headings.Signature.{Signature}
+use Rattle.core_program.specs.Headings.{signature_at, heading_in}
+use Rattle.core_program.specs.WholeTables.{WholeTables, RoutineFits, RowFits, Goes, ScopedRow, ScopedRecords}
+use Rattle.core_program.specs.WholeTables.{is_end, is_list, is_element_of, is_choice_of, is_actual_item, is_written_item, is_member_item}
+use Rattle.core_program.specs.WholeTables.{is_statement, is_statement_row, is_turns_row, is_access, is_access_to, is_record_access, is_read_access}
+use Rattle.core_program.specs.WholeTables.{is_array_access}
+use Rattle.core_program.specs.WholeTables.{is_scalar, is_scalar_row, is_cells, is_cells_row, gives_one_cell, is_value_for, type_accessed, is_routine}
+use Rattle.core_program.specs.WholeTables.{is_function, is_formal}
+use Rattle.core_program.specs.WholeTables.{is_ordinal_type, is_simple_type, is_structured_type, is_array_type, is_result_type, is_record_type, has_result}
+use Rattle.core_program.specs.WholeTables.{signature_of}
+use Rattle.core_program.specs.WholeTables.{is_variant, is_variants_row, is_variant_row, is_holder_row, is_field_row}
+use Rattle.core_program.specs.declared.components.Components.{Components}
+use Rattle.core_program.specs.declared.variants.VariantPart.{VariantPart}
+use Rattle.core_program.specs.Acts.{Act, Answer, Trouble}
+use Rattle.core_program.specs.Actions.{Action, Give, Fail, NoMeaning, Perform, ◌>>=◌}
+use Rattle.core_program.specs.Tree.{Out, Nothing, Scalar, Cells, Address, Jump, Here, Part, ActTree, Ret, Halt, Meaningless, Do, Sub, Enter, Line, doing}
+use Rattle.core_program.specs.Tree.{Eval, Locate, Pass, Gather, Establish, Exec, Sequence, Turn, Count, Receive, Scanning, RestOfLine, Print, Body}
+use Rattle.core_program.specs.Accesses.{on_scalar, on_cells, on_address, eval, eval_cells, locate, locate_target, until_end, with_bounds, with_size}
+use Rattle.core_program.specs.Accesses.{with_components, with_formal}
+use Rattle.core_program.proofs.ActionsMeant.{no, Meant, IsMeant, MayStand}
+
+-- ---- what a place takes
+
+pub data Takes : Type 0 where
+  Anything : Takes
+  OneCell : Takes
+  ManyCells : Takes
+  Variable : Takes
+
+-- A jump goes on outward from each place.
+abbrev pub Fits : Takes → Out → Type 0
+Fits Anything out = Unit {0}
+Fits OneCell (Scalar v) = Unit {0}
+Fits OneCell (Jump label base) = Unit {0}
+Fits OneCell out = ⊥
+Fits ManyCells (Cells vs) = Unit {0}
+Fits ManyCells (Jump label base) = Unit {0}
+Fits ManyCells out = ⊥
+Fits Variable (Address addr) = Unit {0}
+Fits Variable (Jump label base) = Unit {0}
+Fits Variable out = ⊥
+
+pub jump_fits : (k : Takes) (label base : ℕ) → Fits k (Jump label base)
+jump_fits Anything label base = tt
+jump_fits OneCell label base = tt
+jump_fits ManyCells label base = tt
+jump_fits Variable label base = tt
+
+-- ---- parts of whole tables
+
+abbrev pub cells_if : Bool → Takes
+cells_if one = if one then OneCell else ManyCells
+
+abbrev pub gives : ProgramRows → Part → Takes
+gives p (Eval row here) = cells_if (is_scalar p row)
+gives p (Locate row target here) = Variable
+gives p (Pass at passed here) = ManyCells
+gives p (Gather at set here) = OneCell
+gives p (Scanning scan here) = OneCell
+gives p part = Anything
+
+abbrev pub result_if : Bool → Takes
+result_if function = if function then OneCell else Anything
+
+-- what a call of a routine gives
+abbrev pub gives_call : ProgramRows → ℕ → Takes
+gives_call p f = result_if (is_function (routine_at p f))
+
+abbrev pub is_value : ProgramRows → ℕ → Bool
+is_value p n = is_scalar p n || is_cells p n
+
+abbrev pub is_turn_row : Row → Bool
+is_turn_row (rows.Statement (statement.While line condition body)) = true
+is_turn_row (rows.Statement (statement.Repeat line statements condition)) = true
+is_turn_row r = false
+
+-- the fields of with statements' records in a construct belong to records that are there
+pub record Inside (p : ProgramRows) (W : WholeTables p) (w n : ℕ) : Type 0 where
+  pub there : W.around n ≤ w
+
+abbrev pub InsideRecords : (p : ProgramRows) → WholeTables p → Here → (at body : ℕ) → Type 0
+InsideRecords p W here at body = (n : ℕ) × ScopedRecords p W.around n (length here.records) at body
+
+-- the rows of a part are of the kind that it takes
+abbrev pub IsWhole : (p : ProgramRows) → WholeTables p → Part → Type 0
+IsWhole p W (Eval row here) = (is_value p row ≡ true) × Inside p W (length here.records) row
+IsWhole p W (Locate row target here) = (is_access p row ≡ true) × Inside p W (length here.records) row
+IsWhole p W (Pass at passed here) = (is_list is_actual_item p at ≡ true) × Inside p W (length here.records) at
+IsWhole p W (Gather at set here) = (is_list is_member_item p at ≡ true) × Inside p W (length here.records) at
+IsWhole p W (Exec row here) = (is_statement p row ≡ true) × Inside p W (length here.records) row
+IsWhole p W (Establish at body here) =
+    (is_list (is_element_of (is_record_access p)) p at ≡ true) × (is_statement p body ≡ true) × InsideRecords p W here at body
+IsWhole p W (Sequence first at here) = (is_list (is_element_of (is_statement p)) p first ≡ true)
+    × (is_list (is_element_of (is_statement p)) p at ≡ true) × Inside p W (length here.records) first × Inside p W (length here.records) at
+IsWhole p W (Turn row here) = (is_turn_row (row_at p row) ≡ true) × Inside p W (length here.records) row
+IsWhole p W (Count row i last here) = (is_turns_row (row_at p row) ≡ true) × Inside p W (length here.records) row
+IsWhole p W (Receive at here) = (is_list (is_element_of (is_read_access p)) p at ≡ true) × Inside p W (length here.records) at
+IsWhole p W (Scanning scan here) = Unit {0}
+IsWhole p W (RestOfLine here) = Unit {0}
+IsWhole p W (Print at here) = (is_list is_written_item p at ≡ true) × Inside p W (length here.records) at
+IsWhole p W (Body routine base) = is_routine p routine ≡ true
+
+-- ---- trees of whole tables
+
+-- A tree is meant, whatever its acts answer and however its parts and calls end, and it ends as a place takes it.
+abbrev pub Good : (p : ProgramRows) → WholeTables p → Takes → ActTree → Type 0
+Good p W k (Ret out) = Fits k out
+Good p W k (Halt line why) = Unit {0}
+Good p W k Meaningless = ⊥
+Good p W k (Do line act next) = (x : Answer act) → Good p W k (next x)
+Good p W k (Sub part next) = IsWhole p W part × ((out : Out) → Fits (gives p part) out → Good p W k (next out))
+Good p W k (Enter f cells args next) = (is_routine p f ≡ true) × ((out : Out) → Fits (gives_call p f) out → Good p W k (next out))
+Good p W k (Line line next) = Good p W k next
+
+pub good_doing : (p : ProgramRows) (W : WholeTables p) (k : Takes) {A : Type 0} (Q : A → Type 0) (line : ℕ) (a : Action A) (go : A → ActTree) → Meant Q a
+    → ((x : A) → Q x → Good p W k (go x)) → Good p W k (doing line a go)
+good_doing p W k Q line (Give x) go h g = g x h
+good_doing p W k Q line (Fail why) go h g = tt
+good_doing p W k Q line NoMeaning go h g = absurd h
+good_doing p W k Q line (Perform act next) go h g = λ x. good_doing p W k Q line (next x) go (h x) g
+
+pub good_after : (p : ProgramRows) (W : WholeTables p) (k : Takes) {A : Type 0} (line : ℕ) (a : Action A) (go : A → ActTree) → IsMeant a
+    → ((x : A) → Good p W k (go x)) → Good p W k (doing line a go)
+good_after p W k line a go h g = good_doing p W k (λ _. Unit {0}) line a go h (λ x _. g x)
+
+pub good_if : (p : ProgramRows) (W : WholeTables p) (k : Takes) (b : Bool) (t u : ActTree) → (b ≡ true → Good p W k t) → (b ≡ false → Good p W k u)
+    → Good p W k (if b then t else u)
+good_if p W k true t u h g = h refl
+good_if p W k false t u h g = g refl
+
+-- goes on with an item of a list that does not end
+pub good_until : (p : ProgramRows) (W : WholeTables p) (k : Takes) (at : ℕ) (t u : ActTree) → Good p W k t → (is_end at ≡ false → Good p W k u)
+    → Good p W k (until_end at t u)
+good_until p W k at t u h g = good_if p W k (is_end at) t u (λ _. h) g
+
+-- ---- tests
+
+pub or_left : (a b : Bool) → a ≡ true → (a || b) ≡ true
+or_left true b h = refl
+or_left false b h = no h
+
+pub or_right : (a b : Bool) → b ≡ true → (a || b) ≡ true
+or_right true b h = refl
+or_right false b h = h
+
+pub or_second : (a b : Bool) → a ≡ false → (a || b) ≡ true → b ≡ true
+or_second true b h e = no (sym h)
+or_second false b h e = e
+
+pub or_cases : (a b : Bool) → (a || b) ≡ true → (a ≡ true) ⊎ (b ≡ true)
+or_cases true b h = inl refl
+or_cases false b h = inr h
+
+pub and_both : (a b : Bool) → (a && b) ≡ true → (a ≡ true) × (b ≡ true)
+and_both true b h = (refl, h)
+and_both false b h = no h
+
+-- the item of a list that does not end
+pub listed : (is_item : Row → Bool) (p : ProgramRows) (at : ℕ) → is_end at ≡ false → is_list is_item p at ≡ true → is_item (row_at p at) ≡ true
+listed is_item p at e h = or_second (is_end at) (is_item (row_at p at)) e h
+
+-- ---- one step of scoping
+
+pub opened : (p : ProgramRows) (W : WholeTables p) (here : Here) (n : ℕ) → Inside p W (length here.records) n → Inside p W (length here.records) n
+    × ScopedRow p W.around n (row_at p n)
+opened p W here n i = (i, W.scoped n)
+
+-- a part of a construct is where that is
+pub in_part : (p : ProgramRows) (W : WholeTables p) {w n m : ℕ} → Inside p W w n → W.around m ≤ W.around n → Inside p W w m
+in_part p W i l = record { there = omega (arith, i.there, l) }
+
+module _ (p : ProgramRows) (W : WholeTables p) where
+  pub on_one : (k : Takes) (go : Value → ActTree) → ((v : Value) → Good p W k (go v)) → (out : Out) → Fits OneCell out → Good p W k (on_scalar go out)
+  on_one k go g (Scalar v) f = g v
+  on_one k go g (Jump label base) f = jump_fits k label base
+  on_one k go g out f = absurd f
+
+  pub on_many : (k : Takes) (go : List Value → ActTree) → ((vs : List Value) → Good p W k (go vs)) → (out : Out) → Fits ManyCells out
+      → Good p W k (on_cells go out)
+  on_many k go g (Cells vs) f = g vs
+  on_many k go g (Jump label base) f = jump_fits k label base
+  on_many k go g out f = absurd f
+
+  pub on_variable : (k : Takes) (go : ℕ → ActTree) → ((addr : ℕ) → Good p W k (go addr)) → (out : Out) → Fits Variable out → Good p W k (on_address go out)
+  on_variable k go g (Address addr) f = g addr
+  on_variable k go g (Jump label base) f = jump_fits k label base
+  on_variable k go g out f = absurd f
+
+  simple_not_structured : (t : Option TypeRow) → is_structured_type t ≡ true → is_simple_type t ≡ false
+  simple_not_structured (Some (kind.Array packed index component cells)) h = refl
+  simple_not_structured (Some (kind.Record packed region cells variants)) h = refl
+  simple_not_structured t h = no h
+
+  pub cells_not_scalar : (r : Row) → is_cells_row p r ≡ true → is_scalar_row p r ≡ false
+  cells_not_scalar (rows.Expression (expression.Text token)) h = refl
+  cells_not_scalar (rows.Access a) h = simple_not_structured (type_at p (type_accessed a)) h
+  cells_not_scalar r h = no h
+
+  pub good_eval : (k : Takes) (n : ℕ) (here : Here) (go : Value → ActTree) → is_scalar p n ≡ true → Inside p W (length here.records) n
+      → ((v : Value) → Good p W k (go v))
+      → Good p W k (eval n here go)
+  good_eval k n here go h s g =
+      ((or_left (is_scalar p n) (is_cells p n) h, s), λ out f. on_one k go g out (subst (λ b. Fits (cells_if b) out) h f))
+
+  pub good_cells : (k : Takes) (n : ℕ) (here : Here) (go : List Value → ActTree) → is_cells p n ≡ true → Inside p W (length here.records) n
+      → ((vs : List Value) → Good p W k (go vs)) → Good p W k (eval_cells n here go)
+  good_cells k n here go h s g = (
+    (or_right (is_scalar p n) (is_cells p n) h, s),
+    λ out f. on_many k go g out (subst (λ b. Fits (cells_if b) out) (cells_not_scalar (row_at p n) h) f),
+  )
+
+  pub good_locate : (k : Takes) (n : ℕ) (here : Here) (go : ℕ → ActTree) → is_access p n ≡ true → Inside p W (length here.records) n
+      → ((addr : ℕ) → Good p W k (go addr))
+      → Good p W k (locate n here go)
+  good_locate k n here go h s g = ((h, s), λ out f. on_variable k go g out f)
+
+  pub good_target : (k : Takes) (n : ℕ) (here : Here) (go : ℕ → ActTree) → is_access p n ≡ true → Inside p W (length here.records) n
+      → ((addr : ℕ) → Good p W k (go addr))
+      → Good p W k (locate_target n here go)
+  good_target k n here go h s g = ((h, s), λ out f. on_variable k go g out f)
+
+  pub good_bounds : (k : Takes) (t : Option TypeRow) (go : ℤ → ℤ → ActTree) → is_ordinal_type t ≡ true → ((least greatest : ℤ) → Good p W k (go least greatest))
+      → Good p W k (with_bounds t go)
+  good_bounds k (Some (kind.Ordinal least greatest)) go h g = g least greatest
+  good_bounds k (Some (kind.Subrange host least greatest)) go h g = g least greatest
+  good_bounds k t go h g = no h
+
+  pub good_size : (k : Takes) (t : Option TypeRow) (go : ℕ → ActTree) → is_some t ≡ true → ((n : ℕ) → Good p W k (go n)) → Good p W k (with_size t go)
+  good_size k None go h g = no h
+  good_size k (Some t) go h g = g _
+
+  pub good_formal : (k : Takes) (r : Row) (go : ℕ → ℕ → ActTree) → is_some (heading_in r) ≡ true
+      → ((place heading : ℕ) → heading_in r ≡ Some heading → Good p W k (go place heading)) → Good p W k (with_formal r go)
+  good_formal k (rows.Name (named.RoutineFormal place level heading)) go h g = g place heading refl
+  good_formal k r go h g = no h
+
+  -- an array type, by its row
+  pub good_components : (k : Takes) (n : ℕ) (r : Row) (go : Components → ActTree) → RowFits p n r → is_array_type (type_in r) ≡ true
+      → ((a : Components) → Good p W k (go a)) → Good p W k (with_components p (type_in r) go)
+  good_components k n (rows.Type (kind.Array packed index component cells)) go f h g =
+      good_bounds k (type_at p index) _ f.0 (λ least greatest. good_size k (type_at p component) _ f.1 (λ size. g _))
+  good_components k n (rows.Type t) go f h g = no h
+  good_components k n r go f h g = no h

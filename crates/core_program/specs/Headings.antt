@@ -1,0 +1,94 @@
+-- Headings by their rows, and which are congruous (6.6.3.6).
+use Rattle.std.specs.Prelude.{ℕ, zero, suc, Bool, true, false, Option, Some, None, nat_eq, ◌&&◌, length}
+use Rattle.core_program.specs.declared.program.Routine.{Routine}
+use Rattle.core_program.specs.declared.rows.Row.{Row}
+use Rattle.core_program.specs.declared.rows.Row.TheVariants as row
+use Rattle.core_program.specs.declared.rows.ItemRow.TheVariants as item
+use Rattle.core_program.specs.declared.rows.Mode.{Mode}
+use Rattle.core_program.specs.declared.rows.Mode.TheVariants as mode
+use Rattle.core_program.specs.declared.rows.NameRow.TheVariants as named
+use Rattle.core_program.specs.declared.rows.PartRow.TheVariants as part
+use Rattle.core_program.specs.declared.headings.Signature.{Signature}
+use Rattle.core_program.specs.declared.headings.FormalSection.{FormalSection}
+use Rattle.core_program.specs.declared.headings.FormalSection.TheVariants as section
+use Rattle.core_program.specs.ProgramRows.{ProgramRows, row_at, routine_at}
+
+-- ---- headings and their sections by rows
+
+abbrev pub signature_in : Row → Option Signature
+signature_in (row.Part (part.Heading name sections result)) = Some (record { sections = sections; result = result })
+signature_in r = None
+
+-- the parameters and the result of a heading, by its number
+abbrev pub signature_at : ProgramRows → ℕ → Option Signature
+signature_at p heading = signature_in (row_at p heading)
+
+-- the number of the heading of a routine parameter, by the row of its name
+abbrev pub heading_in : Row → Option ℕ
+heading_in (row.Name (named.RoutineFormal place level heading)) = Some heading
+heading_in r = None
+
+abbrev pub variable_type : Row → ℕ → ℕ
+variable_type (row.Name (named.Variable m of' place level)) otherwise = of'
+variable_type r otherwise = otherwise
+
+abbrev pub section_in : ProgramRows → Row → Option (FormalSection × ℕ)
+section_in p (row.Item (item.Section m first count next)) =
+    Some (section.Names m (variable_type (row_at p first) first) count, next)
+section_in p (row.Item (item.RoutineSection heading next)) = Some (section.Heading heading, next)
+section_in p r = None
+
+-- the section at a number and the number of the next one; none where the list ends
+abbrev pub section_at : ProgramRows → ℕ → Option (FormalSection × ℕ)
+section_at p at = section_in p (row_at p at)
+
+-- ---- congruous lists
+
+abbrev pub same_mode : Mode → Mode → Bool
+same_mode mode.Own mode.Own = true
+same_mode mode.Value mode.Value = true
+same_mode mode.Place mode.Place = true
+same_mode m n = false
+
+abbrev pub same_result : Option ℕ → Option ℕ → Bool
+same_result None None = true
+same_result (Some s) (Some t) = nat_eq s t
+same_result s t = false
+
+-- both are procedures, or both functions with the same result type, and their lists match
+abbrev pub signatures_match : (lists : ℕ → ℕ → Bool) → Option Signature → Option Signature → Bool
+signatures_match lists (Some g) (Some h) = same_result g.result h.result && lists g.sections h.sections
+signatures_match lists g h = false
+
+-- both by value or both `var`, with equally many names and the same type; or headings that match
+abbrev pub sections_match : ProgramRows → (lists : ℕ → ℕ → Bool) → FormalSection → FormalSection → Bool
+sections_match p lists (section.Names m a count) (section.Names n b other) =
+    same_mode m n && nat_eq count other && nat_eq a b
+sections_match p lists (section.Heading g) (section.Heading h) =
+    signatures_match lists (signature_at p g) (signature_at p h)
+sections_match p lists s t = false
+
+abbrev pub both_match : Option (FormalSection × ℕ) → Option (FormalSection × ℕ)
+    → (FormalSection → FormalSection → Bool) → (ℕ → ℕ → Bool) → Bool
+both_match None None match rest = true
+both_match (Some a) (Some b) match rest = match a.0 b.0 && rest a.1 b.1
+both_match a b match rest = false
+
+-- Two lists have equally many sections, at most this many, and these match in turn.
+abbrev pub lists_match : ℕ → ProgramRows → ℕ → ℕ → Bool
+lists_match zero p a b = false
+lists_match (suc n) p a b =
+    both_match (section_at p a) (section_at p b) (sections_match p (lists_match n p)) (lists_match n p)
+
+-- No list has more sections than there are rows.
+abbrev pub congruous : ProgramRows → ℕ → ℕ → Bool
+congruous p g h = signatures_match (lists_match (length p.rows) p) (signature_at p g) (signature_at p h)
+
+abbrev pub is_congruous : ProgramRows → (heading : ℕ) → Option Routine → Bool
+is_congruous p heading None = false
+is_congruous p heading (Some r) = congruous p heading r.heading
+
+-- Whether a routine may be an actual of a routine parameter with this heading. The program block has no heading, and
+-- may not.
+abbrev pub may_stand_for : ProgramRows → (heading routine : ℕ) → Bool
+may_stand_for p heading routine = is_congruous p heading (routine_at p routine)

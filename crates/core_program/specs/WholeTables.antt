@@ -1,0 +1,492 @@
+-- Whole tables: each number that a row names is that of a row of the kind that its place takes, lists end where they
+-- say, no two constructs share a number, and the program block is there. The tables of every checked program are whole.
+use Rattle.std.specs.Prelude.{◌≡◌, ℕ, zero, suc, ◌+◌, ◌<◌, ◌≤◌, Bool, true, false, ◌&&◌, ◌||◌, ◌==◌, nat_lt, List, []}
+use Rattle.std.specs.Prelude.{◌∷◌}
+use Rattle.std.specs.Prelude.{length}
+use Rattle.std.specs.Prelude.{Option, Some, None, is_some, IsSome, slice_get, negsuc, pos}
+use Rattle.core_program.specs.declared.program.Routine.{Routine}
+use Rattle.core_program.specs.declared.rows.Row.{Row}
+use Rattle.core_program.specs.declared.rows.Row.TheVariants as row
+use Rattle.core_program.specs.declared.rows.TypeRow.{TypeRow}
+use Rattle.core_program.specs.declared.rows.TypeRow.TheVariants as kind
+use Rattle.core_program.specs.declared.rows.NameRow.{NameRow}
+use Rattle.core_program.specs.declared.rows.NameRow.TheVariants as named
+use Rattle.core_program.specs.declared.rows.PartRow.{PartRow}
+use Rattle.core_program.specs.declared.rows.PartRow.TheVariants as part
+use Rattle.core_program.specs.declared.rows.ItemRow.{ItemRow}
+use Rattle.core_program.specs.declared.rows.ItemRow.TheVariants as item
+use Rattle.core_program.specs.declared.rows.StatementRow.{StatementRow}
+use Rattle.core_program.specs.declared.rows.StatementRow.TheVariants as statement
+use Rattle.core_program.specs.declared.rows.ExpressionRow.{ExpressionRow}
+use Rattle.core_program.specs.declared.rows.ExpressionRow.TheVariants as expression
+use Rattle.core_program.specs.declared.rows.AccessRow.{AccessRow}
+use Rattle.core_program.specs.declared.rows.AccessRow.TheVariants as access
+use Rattle.core_program.specs.ProgramRows.{ProgramRows, row_at, type_at, routine_at}
+use Rattle.core_program.specs.declared.headings.Signature.{Signature}
+use Rattle.core_program.specs.Headings.{signature_at, heading_in}
+
+abbrev Holds : Bool → Type 0
+Holds b = b ≡ true
+
+-- ---- types and names
+
+abbrev pub is_ordinal_type : Option TypeRow → Bool
+is_ordinal_type (Some (kind.Ordinal least greatest)) = true
+is_ordinal_type (Some (kind.Subrange host least greatest)) = true
+is_ordinal_type t = false
+
+-- a type whose values take one cell
+abbrev pub is_simple_type : Option TypeRow → Bool
+is_simple_type (Some (kind.Set packed base)) = true
+is_simple_type (Some (kind.Pointer domain)) = true
+is_simple_type t = is_ordinal_type t
+
+abbrev pub is_structured_type : Option TypeRow → Bool
+is_structured_type (Some (kind.Array packed index component cells)) = true
+is_structured_type (Some (kind.Record packed region cells variants)) = true
+is_structured_type t = false
+
+-- the type of a function's result
+abbrev pub is_result_type : Option TypeRow → Bool
+is_result_type (Some (kind.Pointer domain)) = true
+is_result_type t = is_ordinal_type t
+
+abbrev pub is_host_type : Option TypeRow → Bool
+is_host_type (Some (kind.Ordinal least greatest)) = true
+is_host_type t = false
+
+abbrev pub is_array_type : Option TypeRow → Bool
+is_array_type (Some (kind.Array packed index component cells)) = true
+is_array_type t = false
+
+abbrev pub is_record_type : Option TypeRow → Bool
+is_record_type (Some (kind.Record packed region cells variants)) = true
+is_record_type t = false
+
+abbrev pub is_type : ProgramRows → ℕ → Bool
+is_type p n = is_some (type_at p n)
+
+abbrev pub is_ordinal : ProgramRows → ℕ → Bool
+is_ordinal p n = is_ordinal_type (type_at p n)
+
+abbrev pub is_text : ProgramRows → ℕ → Bool
+is_text p token = is_some (slice_get p.texts token)
+
+abbrev pub is_variable_row : Row → Bool
+is_variable_row (row.Name (named.Variable mode of' place level)) = true
+is_variable_row r = false
+
+abbrev pub is_field_row : Row → Bool
+is_field_row (row.Name (named.Field of' offset holder)) = true
+is_field_row (row.Name (named.Tag of' offset holder variants)) = true
+is_field_row r = false
+
+abbrev pub is_variants_row : Row → Bool
+is_variants_row (row.Part (part.Variants hidden offset cells values holder)) = true
+is_variants_row r = false
+
+abbrev pub is_variant_row : Row → Bool
+is_variant_row (row.Part (part.Variant variants position)) = true
+is_variant_row r = false
+
+abbrev pub is_variant : ProgramRows → ℕ → Bool
+is_variant p n = is_variant_row (row_at p n)
+
+-- what holds fields: a record, or a variant
+abbrev pub is_holder_row : Row → Bool
+is_holder_row (row.Type (kind.Record packed region cells variants)) = true
+is_holder_row r = is_variant_row r
+
+-- a routine of the program that has a heading, or a routine parameter
+abbrev pub is_routine : ProgramRows → ℕ → Bool
+is_routine p number = is_some (routine_at p number)
+
+abbrev pub is_formal : ProgramRows → ℕ → Bool
+is_formal p n = is_some (heading_in (row_at p n))
+
+-- ---- statements, accesses and expressions
+
+-- a statement; the turns of a for statement are a part of one
+abbrev pub is_statement_row : Row → Bool
+is_statement_row (row.Statement (statement.Turns direction last place of' body)) = false
+is_statement_row (row.Statement s) = true
+is_statement_row r = false
+
+abbrev pub is_turns_row : Row → Bool
+is_turns_row (row.Statement (statement.Turns direction last place of' body)) = true
+is_turns_row r = false
+
+-- the type of what is accessed
+abbrev pub type_accessed : AccessRow → ℕ
+type_accessed (access.Variable place levels of') = of'
+type_accessed (access.Reference place levels of') = of'
+type_accessed (access.Within record' field of') = of'
+type_accessed (access.Index access index array of') = of'
+type_accessed (access.Field access field of') = of'
+type_accessed (access.Dereference access of') = of'
+
+-- an access of a variable of such a type
+abbrev pub is_access_to : (Option TypeRow → Bool) → ProgramRows → Row → Bool
+is_access_to fits p (row.Access a) = fits (type_at p (type_accessed a))
+is_access_to fits p r = false
+
+abbrev pub is_function : Option Routine → Bool
+is_function None = false
+is_function (Some r) = is_some r.result
+
+abbrev pub has_result : Option Signature → Bool
+has_result None = false
+has_result (Some s) = is_some s.result
+
+abbrev pub signature_of : ProgramRows → Option ℕ → Option Signature
+signature_of p None = None
+signature_of p (Some heading) = signature_at p heading
+
+-- an expression whose value takes one cell
+abbrev pub gives_one_cell : ProgramRows → ExpressionRow → Bool
+gives_one_cell p (expression.Text token) = false
+gives_one_cell p (expression.Apply routine levels actuals) = is_function (routine_at p routine)
+gives_one_cell p (expression.ApplyFormal formal levels actuals) =
+    has_result (signature_of p (heading_in (row_at p formal)))
+gives_one_cell p e = true
+
+abbrev pub is_scalar_row : ProgramRows → Row → Bool
+is_scalar_row p (row.Expression e) = gives_one_cell p e
+is_scalar_row p r = is_access_to is_simple_type p r
+
+-- an expression whose value is the cells of an array, a record or a string
+abbrev pub is_cells_row : ProgramRows → Row → Bool
+is_cells_row p (row.Expression (expression.Text token)) = true
+is_cells_row p r = is_access_to is_structured_type p r
+
+abbrev pub is_statement : ProgramRows → ℕ → Bool
+is_statement p n = is_statement_row (row_at p n)
+
+abbrev pub is_access : ProgramRows → ℕ → Bool
+is_access p n = is_access_to is_some p (row_at p n)
+
+abbrev pub is_record_access : ProgramRows → ℕ → Bool
+is_record_access p n = is_access_to is_record_type p (row_at p n)
+
+-- an access of a variable that may be read
+abbrev pub is_read_access : ProgramRows → ℕ → Bool
+is_read_access p n = is_access_to is_ordinal_type p (row_at p n)
+
+abbrev pub is_array_access : ProgramRows → ℕ → Bool
+is_array_access p n = is_access_to is_array_type p (row_at p n)
+
+abbrev pub is_scalar : ProgramRows → ℕ → Bool
+is_scalar p n = is_scalar_row p (row_at p n)
+
+abbrev pub is_cells : ProgramRows → ℕ → Bool
+is_cells p n = is_cells_row p (row_at p n)
+
+-- a value for a variable of a type: of one cell, or the cells of an array, a record or a string
+abbrev pub is_value_for : ProgramRows → Option TypeRow → ℕ → Bool
+is_value_for p t n = (is_simple_type t && is_scalar p n) || (is_structured_type t && is_cells p n)
+
+-- ---- lists
+
+-- whether a list ends here
+abbrev pub is_end : ℕ → Bool
+is_end at = at == 0
+
+-- the rest of a list from a number on: it ends there, or such an item stands there
+abbrev pub is_list : (Row → Bool) → ProgramRows → ℕ → Bool
+is_list is_item p at = is_end at || is_item (row_at p at)
+
+-- an item of a list of statements, of records or of variables that are read
+abbrev pub is_element_of : (ℕ → Bool) → Row → Bool
+is_element_of fits (row.Item (item.Element x next)) = fits x
+is_element_of fits r = false
+
+abbrev pub is_actual_item : Row → Bool
+is_actual_item (row.Item (item.Value v of' next)) = true
+is_actual_item (row.Item (item.Place a next)) = true
+is_actual_item (row.Item (item.Routine routine levels next)) = true
+is_actual_item (row.Item (item.RoutineFormal formal levels next)) = true
+is_actual_item r = false
+
+abbrev pub is_written_item : Row → Bool
+is_written_item (row.Item (item.Written v of' next)) = true
+is_written_item (row.Item (item.WrittenWide v of' width next)) = true
+is_written_item r = false
+
+abbrev pub is_member_item : Row → Bool
+is_member_item (row.Item (item.Member v next)) = true
+is_member_item (row.Item (item.Members first last next)) = true
+is_member_item r = false
+
+-- a constant, by what it chooses: a statement in a case statement, a variant in a variant part
+abbrev pub is_choice_of : (ℕ → Bool) → Row → Bool
+is_choice_of fits (row.Item (item.Choice value chosen next)) = fits chosen
+is_choice_of fits r = false
+
+abbrev pub is_section_item : Row → Bool
+is_section_item (row.Item (item.Section mode first count next)) = true
+is_section_item (row.Item (item.RoutineSection heading next)) = true
+is_section_item r = false
+
+-- ---- what each row may name
+
+-- the types that a type names
+abbrev pub TypeFits : ProgramRows → TypeRow → Type 0
+TypeFits p (kind.Ordinal least greatest) = Unit {0}
+TypeFits p (kind.Subrange host least greatest) = Holds (is_host_type (type_at p host))
+TypeFits p (kind.Set packed base) = Holds (is_ordinal p base)
+TypeFits p (kind.Pointer domain) = Holds (is_type p domain)
+TypeFits p (kind.Array packed index component cells) = Holds (is_ordinal p index) × Holds (is_type p component)
+TypeFits p (kind.Record packed region cells variants) =
+    (v : ℕ) → variants ≡ Some v → Holds (is_variants_row (row_at p v))
+
+abbrev pub NameFits : ProgramRows → NameRow → Type 0
+NameFits p (named.Constant of' value) = Holds (is_ordinal p of')
+NameFits p (named.Text token) = Holds (is_text p token)
+NameFits p (named.TypeName of') = Holds (is_type p of')
+NameFits p (named.Variable mode of' place level) = Holds (is_type p of')
+NameFits p (named.RoutineFormal place level heading) = Holds (is_some (signature_at p heading))
+NameFits p (named.Field of' offset holder) = Holds (is_type p of') × Holds (is_holder_row (row_at p holder))
+NameFits p (named.Tag of' offset holder variants) =
+    Holds (is_ordinal p of') × Holds (is_holder_row (row_at p holder)) × Holds (is_variants_row (row_at p variants))
+NameFits p (named.Routine assigned number region) = Holds (is_routine p number)
+NameFits p n = Unit {0}
+
+-- What holds something stands before it.
+abbrev pub PartFits : ProgramRows → (at : ℕ) → PartRow → Type 0
+PartFits p at (part.Variants hidden offset cells values holder) =
+    Holds (is_list (is_choice_of (is_variant p)) p values) × Holds (is_holder_row (row_at p holder))
+    × Holds (nat_lt holder at)
+PartFits p at (part.Variant variants position) =
+    Holds (is_variants_row (row_at p variants)) × Holds (nat_lt variants at)
+PartFits p at (part.Heading name sections result) =
+    Holds (is_list is_section_item p sections) × ((t : ℕ) → result ≡ Some t → Holds (is_result_type (type_at p t)))
+PartFits p at q = Unit {0}
+
+-- The statement that a label marks stands after the label.
+abbrev pub StatementFits : ProgramRows → (at : ℕ) → StatementRow → Type 0
+StatementFits p at statement.Empty = Unit {0}
+StatementFits p at (statement.Assign line target value of') =
+    Holds (is_access p target) × Holds (is_value_for p (type_at p of') value)
+StatementFits p at (statement.Call line routine levels actuals) =
+    Holds (is_routine p routine) × Holds (is_list is_actual_item p actuals)
+StatementFits p at (statement.CallFormal line formal levels actuals) =
+    Holds (is_formal p formal) × Holds (is_list is_actual_item p actuals)
+StatementFits p at (statement.Goto line label levels) = Unit {0}
+StatementFits p at (statement.Labelled label s) = Holds (is_statement p s) × Holds (nat_lt at s)
+StatementFits p at (statement.Compound statements) = Holds (is_list (is_element_of (is_statement p)) p statements)
+StatementFits p at (statement.If line condition then') = Holds (is_scalar p condition) × Holds (is_statement p then')
+StatementFits p at (statement.IfElse line condition then' otherwise) =
+    Holds (is_scalar p condition) × Holds (is_statement p then') × Holds (is_statement p otherwise)
+StatementFits p at (statement.Case line selector choices) =
+    Holds (is_scalar p selector) × Holds (is_list (is_choice_of (is_statement p)) p choices)
+StatementFits p at (statement.Repeat line statements condition) =
+    Holds (is_list (is_element_of (is_statement p)) p statements) × Holds (is_scalar p condition)
+StatementFits p at (statement.While line condition body) = Holds (is_scalar p condition) × Holds (is_statement p body)
+StatementFits p at (statement.For line initial turns) = Holds (is_scalar p initial)
+    × Holds (is_turns_row (row_at p turns))
+StatementFits p at (statement.Turns direction last place of' body) =
+    Holds (is_scalar p last) × Holds (is_ordinal p of') × Holds (is_statement p body)
+StatementFits p at (statement.With line records body) =
+    Holds (is_list (is_element_of (is_record_access p)) p records) × Holds (is_statement p body)
+StatementFits p at (statement.Read ends_line line actuals) =
+    Holds (is_list (is_element_of (is_read_access p)) p actuals)
+StatementFits p at (statement.Write ends_line line actuals) = Holds (is_list is_written_item p actuals)
+StatementFits p at (statement.Page line) = Unit {0}
+StatementFits p at (statement.New line a of') = Holds (is_access p a) × Holds (is_type p of')
+StatementFits p at (statement.Dispose line v of') = Holds (is_scalar p v) × Holds (is_type p of')
+StatementFits p at (statement.Pack packing line unpacked index packed) =
+    Holds (is_array_access p unpacked) × Holds (is_scalar p index) × Holds (is_array_access p packed)
+
+abbrev pub ExpressionFits : ProgramRows → ExpressionRow → Type 0
+ExpressionFits p (expression.Text token) = Holds (is_text p token)
+ExpressionFits p (expression.Sign minus operand) = Holds (is_scalar p operand)
+ExpressionFits p (expression.Not operand) = Holds (is_scalar p operand)
+ExpressionFits p (expression.Arithmetic operator left right) = Holds (is_scalar p left) × Holds (is_scalar p right)
+ExpressionFits p (expression.Logic operator left right) = Holds (is_scalar p left) × Holds (is_scalar p right)
+ExpressionFits p (expression.Sets operator left right) = Holds (is_scalar p left) × Holds (is_scalar p right)
+ExpressionFits p (expression.Compare order left right) = Holds (is_scalar p left) × Holds (is_scalar p right)
+ExpressionFits p (expression.CompareTexts order left right) = Holds (is_cells p left) × Holds (is_cells p right)
+ExpressionFits p (expression.CompareSets order left right) = Holds (is_scalar p left) × Holds (is_scalar p right)
+ExpressionFits p (expression.ComparePointers equal left right) = Holds (is_scalar p left) × Holds (is_scalar p right)
+ExpressionFits p (expression.In left right) = Holds (is_scalar p left) × Holds (is_scalar p right)
+ExpressionFits p (expression.Set members) = Holds (is_list is_member_item p members)
+ExpressionFits p (expression.Apply routine levels actuals) =
+    Holds (is_function (routine_at p routine)) × Holds (is_list is_actual_item p actuals)
+ExpressionFits p (expression.ApplyFormal formal levels actuals) =
+    Holds (has_result (signature_of p (heading_in (row_at p formal)))) × Holds (is_list is_actual_item p actuals)
+ExpressionFits p (expression.Function function operand least greatest) = Holds (is_scalar p operand)
+ExpressionFits p e = Unit {0}
+
+-- The access to which a selector is applied stands before the selector.
+abbrev pub AccessFits : ProgramRows → (at : ℕ) → AccessRow → Type 0
+AccessFits p at (access.Variable place levels of') = Holds (is_type p of')
+AccessFits p at (access.Reference place levels of') = Holds (is_type p of')
+AccessFits p at (access.Within record' field of') = Holds (is_field_row (row_at p field)) × Holds (is_type p of')
+AccessFits p at (access.Index inner index array of') = Holds (is_access p inner) × Holds (nat_lt inner at)
+    × Holds (is_scalar p index) × Holds (is_array_type (type_at p array)) × Holds (is_type p of')
+AccessFits p at (access.Field inner field of') = Holds (is_access p inner) × Holds (nat_lt inner at)
+    × Holds (is_field_row (row_at p field)) × Holds (is_type p of')
+AccessFits p at (access.Dereference inner of') =
+    Holds (is_access p inner) × Holds (nat_lt inner at) × Holds (is_type p of')
+
+-- what is written: of one cell by its type, or the cells of a string
+abbrev pub WrittenFits : ProgramRows → (value of' : ℕ) → Type 0
+WrittenFits p value of' =
+    Holds (is_scalar p value || is_cells p value) × (Holds (is_scalar p value) → Holds (is_ordinal p of'))
+
+-- The items of a list are of one kind, each after the one before it.
+abbrev pub Goes : (Row → Bool) → ProgramRows → (at next : ℕ) → Type 0
+Goes is_item p at next = Holds (is_list is_item p next) × Holds (is_end next || nat_lt at next)
+
+abbrev pub ItemFits : ProgramRows → (at : ℕ) → ItemRow → Type 0
+ItemFits p at (item.Element x next) = (Holds (is_statement p x) → Goes (is_element_of (is_statement p)) p at next)
+    × (Holds (is_record_access p x) → Goes (is_element_of (is_record_access p)) p at next)
+    × (Holds (is_read_access p x) → Goes (is_element_of (is_read_access p)) p at next)
+ItemFits p at (item.Value v of' next) = Holds (is_value_for p (type_at p of') v) × Goes is_actual_item p at next
+ItemFits p at (item.Place a next) = Holds (is_access p a) × Goes is_actual_item p at next
+ItemFits p at (item.Routine routine levels next) = Holds (is_routine p routine) × Goes is_actual_item p at next
+ItemFits p at (item.RoutineFormal formal levels next) = Holds (is_formal p formal) × Goes is_actual_item p at next
+ItemFits p at (item.Written v of' next) = WrittenFits p v of' × Goes is_written_item p at next
+ItemFits p at (item.WrittenWide v of' width next) =
+    WrittenFits p v of' × Holds (is_scalar p width) × Goes is_written_item p at next
+ItemFits p at (item.Member v next) = Holds (is_scalar p v) × Goes is_member_item p at next
+ItemFits p at (item.Members first last next) =
+    Holds (is_scalar p first) × Holds (is_scalar p last) × Goes is_member_item p at next
+ItemFits p at (item.Choice value chosen next) =
+    (Holds (is_statement p chosen) → Goes (is_choice_of (is_statement p)) p at next)
+    × (Holds (is_variant p chosen) → Goes (is_choice_of (is_variant p)) p at next)
+ItemFits p at (item.Section mode first count next) =
+    Holds (is_variable_row (row_at p first)) × Goes is_section_item p at next
+ItemFits p at (item.RoutineSection heading next) =
+    Holds (is_some (signature_at p heading)) × Goes is_section_item p at next
+
+abbrev pub RowFits : ProgramRows → (at : ℕ) → Row → Type 0
+RowFits p at row.Nothing = Unit {0}
+RowFits p at (row.Type t) = TypeFits p t
+RowFits p at (row.Name n) = NameFits p n
+RowFits p at (row.Part q) = PartFits p at q
+RowFits p at (row.Statement s) = StatementFits p at s
+RowFits p at (row.Expression e) = ExpressionFits p e
+RowFits p at (row.Access a) = AccessFits p at a
+RowFits p at (row.Item i) = ItemFits p at i
+
+-- A routine has its statements, and a function a place for its result as its heading says. The program block has no
+-- heading.
+pub record RoutineFits (p : ProgramRows) (r : Routine) : Type 0 where
+  pub statements : is_list (is_element_of (is_statement p)) p r.statements ≡ true
+  pub result : is_some r.result ≡ has_result (signature_at p r.heading)
+
+-- ---- constructs, by the rows that name them
+
+-- the constructs of which a construct is made, by their numbers
+abbrev pub parts_of : Row → List ℕ
+parts_of (row.Statement (statement.Assign line target value of')) = target ∷ value ∷ []
+parts_of (row.Statement (statement.Call line routine levels actuals)) = actuals ∷ []
+parts_of (row.Statement (statement.CallFormal line formal levels actuals)) = actuals ∷ []
+parts_of (row.Statement (statement.Labelled label s)) = s ∷ []
+parts_of (row.Statement (statement.Compound statements)) = statements ∷ []
+parts_of (row.Statement (statement.If line condition then')) = condition ∷ then' ∷ []
+parts_of (row.Statement (statement.IfElse line condition then' otherwise)) = condition ∷ then' ∷ otherwise ∷ []
+parts_of (row.Statement (statement.Case line selector choices)) = selector ∷ choices ∷ []
+parts_of (row.Statement (statement.Repeat line statements condition)) = statements ∷ condition ∷ []
+parts_of (row.Statement (statement.While line condition body)) = condition ∷ body ∷ []
+parts_of (row.Statement (statement.For line initial turns)) = initial ∷ turns ∷ []
+parts_of (row.Statement (statement.Turns direction last place of' body)) = last ∷ body ∷ []
+parts_of (row.Statement (statement.With line records body)) = records ∷ body ∷ []
+parts_of (row.Statement (statement.Read ends_line line actuals)) = actuals ∷ []
+parts_of (row.Statement (statement.Write ends_line line actuals)) = actuals ∷ []
+parts_of (row.Statement (statement.New line a of')) = a ∷ []
+parts_of (row.Statement (statement.Dispose line v of')) = v ∷ []
+parts_of (row.Statement (statement.Pack packing line unpacked index packed)) = unpacked ∷ index ∷ packed ∷ []
+parts_of (row.Expression (expression.Sign minus operand)) = operand ∷ []
+parts_of (row.Expression (expression.Not operand)) = operand ∷ []
+parts_of (row.Expression (expression.Arithmetic operator left right)) = left ∷ right ∷ []
+parts_of (row.Expression (expression.Logic operator left right)) = left ∷ right ∷ []
+parts_of (row.Expression (expression.Sets operator left right)) = left ∷ right ∷ []
+parts_of (row.Expression (expression.Compare order left right)) = left ∷ right ∷ []
+parts_of (row.Expression (expression.CompareTexts order left right)) = left ∷ right ∷ []
+parts_of (row.Expression (expression.CompareSets order left right)) = left ∷ right ∷ []
+parts_of (row.Expression (expression.ComparePointers equal left right)) = left ∷ right ∷ []
+parts_of (row.Expression (expression.In left right)) = left ∷ right ∷ []
+parts_of (row.Expression (expression.Set members)) = members ∷ []
+parts_of (row.Expression (expression.Apply routine levels actuals)) = actuals ∷ []
+parts_of (row.Expression (expression.ApplyFormal formal levels actuals)) = actuals ∷ []
+parts_of (row.Expression (expression.Function function operand least greatest)) = operand ∷ []
+parts_of (row.Access (access.Index inner index array of')) = inner ∷ index ∷ []
+parts_of (row.Access (access.Field inner field of')) = inner ∷ []
+parts_of (row.Access (access.Dereference inner of')) = inner ∷ []
+parts_of (row.Item (item.Element x next)) = x ∷ next ∷ []
+parts_of (row.Item (item.Value v of' next)) = v ∷ next ∷ []
+parts_of (row.Item (item.Place a next)) = a ∷ next ∷ []
+parts_of (row.Item (item.Routine routine levels next)) = next ∷ []
+parts_of (row.Item (item.RoutineFormal formal levels next)) = next ∷ []
+parts_of (row.Item (item.Written v of' next)) = v ∷ next ∷ []
+parts_of (row.Item (item.WrittenWide v of' width next)) = v ∷ width ∷ next ∷ []
+parts_of (row.Item (item.Member v next)) = v ∷ next ∷ []
+parts_of (row.Item (item.Members first last next)) = first ∷ last ∷ next ∷ []
+parts_of (row.Item (item.Choice value chosen next)) = chosen ∷ next ∷ []
+parts_of r = []
+
+-- the part at a position of a construct
+abbrev pub part_at : ProgramRows → (construct position : ℕ) → Option ℕ
+part_at p n i = slice_get (parts_of (row_at p n)) i
+
+-- What many may name: the end of lists, and the one row of all empty statements.
+abbrev pub is_common_row : Row → Bool
+is_common_row (row.Type t) = true
+is_common_row (row.Statement statement.Empty) = true
+is_common_row r = false
+
+abbrev pub is_choice_row : Row → Bool
+is_choice_row (row.Item (item.Choice value chosen next)) = true
+is_choice_row r = false
+
+-- several constants may choose one thing
+abbrev pub may_share : ProgramRows → (a b part : ℕ) → Bool
+may_share p a b n = is_common_row (row_at p n) || (is_choice_row (row_at p a) && is_choice_row (row_at p b))
+
+-- ---- the records of with statements
+
+abbrev pub Each : (ℕ → Type 0) → List ℕ → Type 0
+Each P [] = Unit {0}
+Each P (n ∷ ns) = P n × Each P ns
+
+-- Each record of a with statement is inside of those before it, and the body inside of all: none needs more records
+-- around it than are there. `n` is how many are looked at, with the end of the list.
+abbrev pub ScopedItem : (around : ℕ → ℕ) → (More : (records at : ℕ) → Type 0) → (records body : ℕ) → Row → Type 0
+ScopedItem around More w body (row.Item (item.Element a next)) = (around a ≤ w) × More (w + 1) next
+ScopedItem around More w body r = around body ≤ w
+
+abbrev pub ScopedRecords : ProgramRows → (around : ℕ → ℕ) → (n records at body : ℕ) → Type 0
+ScopedRecords p around zero w at body = ⊥
+ScopedRecords p around (suc n) w at body =
+    ScopedItem around (λ v next. ScopedRecords p around n v next body) w body (row_at p at)
+
+-- A name alone of a field needs the with statements' records around it up to the one that it belongs to, and another
+-- construct those that its parts need.
+abbrev pub ScopedRow : ProgramRows → (around : ℕ → ℕ) → (at : ℕ) → Row → Type 0
+ScopedRow p around at (row.Access (access.Within record' field of')) = record' < around at
+ScopedRow p around at (row.Statement (statement.With line records body)) =
+    ScopedRecords p around (length p.rows) (around at) records body
+ScopedRow p around at r = Each (λ n. around n ≤ around at) (parts_of r)
+
+-- ---- whole tables
+
+pub record WholeTables (p : ProgramRows) : Type 0 where
+  -- lists end at the number of the type integer
+  pub integer : type_at p 0 ≡ Some (kind.Ordinal (negsuc 2147483646) (pos 2147483647))
+  -- each number that a row names is that of a row of the kind that its place takes
+  pub rows : (at : ℕ) → RowFits p at (row_at p at)
+  pub routines : (number : ℕ) (r : Routine) → routine_at p number ≡ Some r → RoutineFits p r
+  -- each routine but the program block has a heading
+  pub headings : (number : ℕ) (r : Routine) → routine_at p (suc number) ≡ Some r
+      → is_some (signature_at p r.heading) ≡ true
+  -- the program block is there
+  pub main : IsSome (routine_at p 0)
+  -- no two constructs have a part in common, and none has one twice
+  pub once : (a i b j n : ℕ) → part_at p a i ≡ Some n → part_at p b j ≡ Some n → may_share p a b n ≡ false
+      → (a ≡ b) × (i ≡ j)
+  -- how many records of with statements each construct needs around it; the statements of a routine need none
+  pub around : ℕ → ℕ
+  pub scoped : (at : ℕ) → ScopedRow p around at (row_at p at)
+  pub outermost : (number : ℕ) (r : Routine) → routine_at p number ≡ Some r → around r.statements ≡ 0

@@ -1,0 +1,24 @@
+use Rattle.std.proofs.Common.{Ok, Err}
+use Rattle.std.proofs.lemmas.Result.{err_from_is_err_and}
+use Rattle.core_program.specs.Cells.{read_value}
+use Rattle.core_program.specs.Values.{defined_set}
+use Rattle.eval_ops.specs.Machines.{moment_of}
+use Rattle.eval_ops.proofs.ActionsCompose.{does_bind, does_given}
+use Rattle.eval_ops.proofs.Bounds.{within_bounds}
+use Rattle.eval_ops.proofs.cells.set_at.Goals as goal
+
+pub returns-in_err-value-clause-action : goal.returns-in_err-value-clause-action
+returns-in_err-value-clause-action c =
+    let p = err_from_is_err_and c.from_residual-in_err-value.result c.from_residual-in_err-value.ensures.1 in
+    rw (p.1, p.2) (does_bind (λ v. v) (read_value c.args.addr) (defined_set c.args.least c.args.greatest) c.in_ok-held.held (moment_of c.args.machine.now)
+    (moment_of c.read_cell.new.machine) (moment_of c.read_cell.new.machine) (Err _) c.in_ok-held.ensures.action
+    (does_given (λ v. v) (defined_set c.args.least c.args.greatest c.in_ok-held.held) (Err _) (moment_of c.read_cell.new.machine)
+    (within_bounds (λ a b. defined_set a b c.in_ok-held.held) c.args.least c.args.greatest (Err _) c.ranges.least c.ranges.greatest c.in_err-value.ensures)))
+
+pub returns-clause-action : goal.returns-clause-action
+returns-clause-action c = does_bind (λ v. v) (read_value c.args.addr) (defined_set c.args.least c.args.greatest) c.in_ok-held.held
+    (moment_of c.args.machine.now)
+    (moment_of c.read_cell.new.machine) (moment_of c.read_cell.new.machine) (Ok c.in_ok-value.value) c.in_ok-held.ensures.action
+    (does_given (λ v. v) (defined_set c.args.least c.args.greatest c.in_ok-held.held) (Ok c.in_ok-value.value) (moment_of c.read_cell.new.machine)
+    (within_bounds (λ a b. defined_set a b c.in_ok-held.held) c.args.least c.args.greatest (Ok c.in_ok-value.value) c.ranges.least c.ranges.greatest
+    c.in_ok-value.ensures))

@@ -1,0 +1,12 @@
+use Rattle.std.proofs.Common.{◌≡◌, length}
+use Rattle.core_program.specs.ProgramRows.{routine_at}
+use Rattle.whole_tables.specs.Fits.{all_below, routine_fits}
+use Rattle.whole_tables.proofs.whole.all_routines_fit.Given as goal
+
+abbrev pub invariant-routines : goal.invariant-routines
+invariant-routines l =
+    all_below (length l.program.routines) (λ n. routine_fits l.program n (routine_at l.program n))
+    ≡ all_below l.left (λ n. routine_fits l.program n (routine_at l.program n))
+
+abbrev pub decreases-routines : goal.decreases-routines
+decreases-routines l = l.left

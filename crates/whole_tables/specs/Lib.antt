@@ -1,0 +1,4 @@
+pub mod Fits
+pub mod Once
+pub mod Parts
+pub mod Scopes
