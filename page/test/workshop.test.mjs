@@ -20,7 +20,7 @@ class Played {
 
 globalThis.Worker = Played;
 
-test('a worker that is ended while a job waits for it takes the next job all the same', { timeout: 2000 }, async () => {
+test('a worker that is ended while a job waits for it takes the next job all the same', { timeout: 60_000 }, async () => {
   const workshop = new Workshop({ worker: '', module: '' });
   await workshop.ready;
   workshop.turn('ahead');
