@@ -11,7 +11,7 @@
 import { spawnSync } from 'node:child_process';
 import { existsSync, mkdtempSync, readFileSync, rmSync, writeFileSync } from 'node:fs';
 import { availableParallelism, tmpdir } from 'node:os';
-import { join } from 'node:path';
+import { join, resolve } from 'node:path';
 import { fileURLToPath } from 'node:url';
 import { parseArgs } from 'node:util';
 import { isMainThread, parentPort, Worker, workerData } from 'node:worker_threads';
@@ -34,7 +34,7 @@ function native(program, given) {
     words.push('--load', 'loaded.session');
   }
   for (const [name, bytes] of Object.entries(given.files)) writeFileSync(join(folder, name), bytes);
-  const { status, signal, stdout, error } = spawnSync(program, words, {
+  const { status, signal, stdout, error } = spawnSync(resolve(program), words, {
     cwd: folder, input: given.console, stdio: ['pipe', 'pipe', 'ignore'], maxBuffer: 1 << 30,
   });
   const saved = join(folder, SAVED);
